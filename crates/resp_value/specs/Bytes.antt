@@ -1,0 +1,27 @@
+-- Bytes, and lines of them.
+use Rattle.std.specs.Prelude.{◌≡◌, ℕ, ◌<◌, List, ◌∷◌, length}
+use Rattle.std.specs.List.{AllByRecursion}
+
+-- a whole number from 0 to 255
+abbrev pub IsByte : ℕ → Type 0
+IsByte byte = byte < 256
+
+-- a list of bytes
+abbrev pub IsText : List ℕ → Type 0
+IsText text = AllByRecursion IsByte text
+
+-- neither CR nor LF
+abbrev pub IsPlain : ℕ → Type 0
+IsPlain byte = (byte ≡ 13 → ⊥) × (byte ≡ 10 → ⊥)
+
+-- none of these is CR or LF
+abbrev pub IsLine : List ℕ → Type 0
+IsLine text = AllByRecursion IsPlain text
+
+-- at least one
+abbrev pub IsFull : List ℕ → Type 0
+IsFull text = 0 < length text
+
+-- CR LF, and then more
+abbrev pub crlf : List ℕ → List ℕ
+crlf more = 13 ∷ 10 ∷ more

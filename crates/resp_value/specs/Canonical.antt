@@ -1,0 +1,147 @@
+-- The one text that is written for a value in a version, and which values it is a spelling of.
+use Rattle.std.specs.Prelude.{◌≡◌, ℕ, ◌+◌, ◌/◌, ◌^◌, ◌≤◌, Bool, true, false, ℤ, pos, negsuc, ◌≤ℤ◌, ◌<ℤ◌, List, length}
+use Rattle.std.proofs.Common.{neg_ℤ}
+use Rattle.resp_value.specs.Bytes.{IsLine, IsText}
+use Rattle.resp_value.specs.Numbers.{Sign, Unsigned, Minus, decimal, IsKept}
+use Rattle.resp_value.specs.Data.{Kind, Array, Set, Map, Attr, Push, Scalar, Datum, Data, scalar, aggregate, items_of, depth, longest, most_items}
+use Rattle.resp_value.specs.Data as d
+use Rattle.resp_value.specs.Trees.{Tree, Trees, leaf, node, none, more, Leaf, line, numeral, null, truth, string, Simple, Error, Double, Int, Big, NullForm, BulkNull, PlainNull, Bulk, BulkError, Verbatim, Counted, text}
+use Rattle.resp_value.specs.Rules.{Rules}
+use Rattle.resp_value.specs.declared.version.Version.{Version}
+use Rattle.resp_value.specs.declared.version.Version.TheVariants.{Two, Three}
+
+abbrev pub null_form : Version → NullForm
+null_form Two = BulkNull
+null_form Three = PlainNull
+
+abbrev pub int_sign : ℤ → Sign
+int_sign (pos n) = Unsigned
+int_sign (negsuc n) = Minus
+
+abbrev pub int_size : ℤ → ℕ
+int_size (pos n) = n
+int_size (negsuc n) = n + 1
+
+abbrev pub minus_if : Bool → Sign
+minus_if true = Minus
+minus_if false = Unsigned
+
+abbrev pub canonical_leaf : Version → Scalar → Leaf
+canonical_leaf w d.Null = null (null_form w)
+canonical_leaf w (d.Bool b) = truth b
+canonical_leaf w (d.Int i) = numeral Int (int_sign i) (decimal (int_size i))
+canonical_leaf w (d.Simple s) = line Simple s
+canonical_leaf w (d.Error s) = line Error s
+canonical_leaf w (d.Double s) = line Double s
+canonical_leaf w (d.Bulk s) = string Bulk (decimal (length s)) s
+canonical_leaf w (d.BulkError s) = string BulkError (decimal (length s)) s
+canonical_leaf w (d.Verbatim format s) = string (Verbatim format) (decimal (length s + 4)) s
+canonical_leaf w (d.Big negative digits) = numeral Big (minus_if negative) digits
+
+abbrev mutual
+  pub canonical_tree : Version → Datum → Tree
+  canonical_tree w (scalar s) = leaf (canonical_leaf w s)
+  canonical_tree w (aggregate k xs) = node k (Counted (decimal (items_of k (d.count xs)))) (canonical_trees w xs)
+
+  pub canonical_trees : Version → Data → Trees
+  canonical_trees w d.none = none
+  canonical_trees w (d.more x xs) = more (canonical_tree w x) (canonical_trees w xs)
+
+-- the one text of a value in a version
+abbrev pub canonical_text : Version → Datum → List ℕ
+canonical_text w x = text (canonical_tree w x)
+
+-- what a scalar of the program may be
+abbrev pub IsScalarValue : Scalar → Type 0
+IsScalarValue d.Null = Unit {0}
+IsScalarValue (d.Bool b) = Unit {0}
+IsScalarValue (d.Int i) = (neg_ℤ (pos (2 ^ 63)) ≤ℤ i) × (i <ℤ pos (2 ^ 63))
+IsScalarValue (d.Simple s) = IsLine s × IsText s
+IsScalarValue (d.Error s) = IsLine s × IsText s
+IsScalarValue (d.Double s) = ⊥
+IsScalarValue (d.Bulk s) = IsText s
+IsScalarValue (d.BulkError s) = IsText s
+IsScalarValue (d.Verbatim format s) = (length format ≡ 3) × IsText format × IsText s
+IsScalarValue (d.Big negative digits) = IsKept negative digits
+
+-- a map's members are whole pairs, and an attribute's whole pairs and one value
+abbrev pub IsWhole : Kind → ℕ → Type 0
+IsWhole Array n = Unit {0}
+IsWhole Set n = Unit {0}
+IsWhole Map n = n / 2 + n / 2 ≡ n
+IsWhole Attr n = n / 2 + n / 2 + 1 ≡ n
+IsWhole Push n = Unit {0}
+
+-- what a value of the program may be
+abbrev mutual
+  pub IsValue : Datum → Type 0
+  IsValue (scalar s) = IsScalarValue s
+  IsValue (aggregate k xs) = IsWhole k (d.count xs) × AreValues xs
+
+  pub AreValues : Data → Type 0
+  AreValues d.none = Unit {0}
+  AreValues (d.more x xs) = IsValue x × AreValues xs
+
+abbrev pub IsScalarInTwo : Scalar → Type 0
+IsScalarInTwo d.Null = Unit {0}
+IsScalarInTwo (d.Bool b) = ⊥
+IsScalarInTwo (d.Int i) = Unit {0}
+IsScalarInTwo (d.Simple s) = Unit {0}
+IsScalarInTwo (d.Error s) = Unit {0}
+IsScalarInTwo (d.Double s) = ⊥
+IsScalarInTwo (d.Bulk s) = Unit {0}
+IsScalarInTwo (d.BulkError s) = ⊥
+IsScalarInTwo (d.Verbatim format s) = ⊥
+IsScalarInTwo (d.Big negative digits) = ⊥
+
+abbrev pub IsKindInTwo : Kind → Type 0
+IsKindInTwo Array = Unit {0}
+IsKindInTwo Set = ⊥
+IsKindInTwo Map = ⊥
+IsKindInTwo Attr = ⊥
+IsKindInTwo Push = ⊥
+
+-- version 2 has each type of the value
+abbrev mutual
+  pub IsInTwo : Datum → Type 0
+  IsInTwo (scalar s) = IsScalarInTwo s
+  IsInTwo (aggregate k xs) = IsKindInTwo k × AreInTwo xs
+
+  pub AreInTwo : Data → Type 0
+  AreInTwo d.none = Unit {0}
+  AreInTwo (d.more x xs) = IsInTwo x × AreInTwo xs
+
+-- the version has each type of the value
+abbrev pub HasTypes : Version → Datum → Type 0
+HasTypes Two x = IsInTwo x
+HasTypes Three x = Unit {0}
+
+abbrev pub IsKindBelow : Kind → Type 0
+IsKindBelow Array = Unit {0}
+IsKindBelow Set = Unit {0}
+IsKindBelow Map = Unit {0}
+IsKindBelow Attr = Unit {0}
+IsKindBelow Push = ⊥
+
+abbrev mutual
+  pub HasNoPush : Datum → Type 0
+  HasNoPush (scalar s) = Unit {0}
+  HasNoPush (aggregate k xs) = IsKindBelow k × HaveNoPush xs
+
+  pub HaveNoPush : Data → Type 0
+  HaveNoPush d.none = Unit {0}
+  HaveNoPush (d.more x xs) = HasNoPush x × HaveNoPush xs
+
+-- no push stands below the top
+abbrev pub HasPushAtTop : Datum → Type 0
+HasPushAtTop (scalar s) = Unit {0}
+HasPushAtTop (aggregate k xs) = HaveNoPush xs
+
+-- what makes a value's canonical text a spelling of it
+pub record Fits (rules : Rules) (x : Datum) : Type 0 where
+  pub has_types : HasTypes rules.version x
+  pub push_at_top : HasPushAtTop x
+  pub within_depth : depth x ≤ rules.limits.depth
+  pub within_length : longest x ≤ rules.limits.length
+  pub within_items : most_items x ≤ rules.limits.items
+  pub within_total : length (canonical_text rules.version x) ≤ rules.limits.total

@@ -1,0 +1,121 @@
+-- Data: what a value is apart from memory, and what a spelled tree stands for.
+use Rattle.std.specs.Prelude.{ℕ, ◌+◌, ◌/◌, ℤ, List, [], ◌∷◌, length, max}
+use Rattle.std.specs.Prelude.{Bool as Truth}
+
+-- the five kinds of aggregate
+pub data Kind : Type 0 where
+  Array : Kind
+  Set : Kind
+  Map : Kind
+  Attr : Kind
+  Push : Kind
+
+-- a value without members
+pub data Scalar : Type 0 where
+  Null : Scalar
+  Bool : Truth → Scalar
+  Int : ℤ → Scalar
+  Simple : List ℕ → Scalar
+  Error : List ℕ → Scalar
+  -- a double's line, which no value of the program holds
+  Double : List ℕ → Scalar
+  Bulk : List ℕ → Scalar
+  BulkError : List ℕ → Scalar
+  -- the format and the text
+  Verbatim : List ℕ → List ℕ → Scalar
+  -- whether it is negative, and its digits
+  Big : Truth → List ℕ → Scalar
+
+-- The members of a map are its keys and values in turn. Those of an attribute are so too, and last comes the
+-- value that it annotates.
+mutual
+  pub data Datum : Type 0 where
+    scalar : Scalar → Datum
+    aggregate : Kind → Data → Datum
+
+  pub data Data : Type 0 where
+    none : Data
+    more : Datum → Data → Data
+
+abbrev pub data_of_list : List Datum → Data
+data_of_list [] = none
+data_of_list (x ∷ xs) = more x (data_of_list xs)
+
+abbrev pub list_of_data : Data → List Datum
+list_of_data none = []
+list_of_data (more x xs) = x ∷ list_of_data xs
+
+-- keys and values in turn
+abbrev pub in_turn : List (Datum × Datum) → List Datum
+in_turn [] = []
+in_turn (pair ∷ pairs) = pair.0 ∷ pair.1 ∷ in_turn pairs
+
+abbrev pub count : Data → ℕ
+count none = 0
+count (more x xs) = count xs + 1
+
+-- how many members a head with this number has: a map's number counts pairs, and so does an attribute's
+abbrev pub members_of : Kind → ℕ → ℕ
+members_of Array n = n
+members_of Set n = n
+members_of Map n = n + n
+members_of Attr n = n + n + 1
+members_of Push n = n
+
+-- the number in the head of an aggregate with so many members
+abbrev pub items_of : Kind → ℕ → ℕ
+items_of Array n = n
+items_of Set n = n
+items_of Map n = n / 2
+items_of Attr n = n / 2
+items_of Push n = n
+
+abbrev pub content_length : Scalar → ℕ
+content_length Null = 0
+content_length (Bool b) = 0
+content_length (Int i) = 0
+content_length (Simple s) = length s
+content_length (Error s) = length s
+content_length (Double s) = 0
+content_length (Bulk s) = length s
+content_length (BulkError s) = length s
+content_length (Verbatim format s) = length s + 4
+content_length (Big negative digits) = length digits
+
+-- how many aggregates stand inside one another
+abbrev mutual
+  pub depth : Datum → ℕ
+  depth (scalar s) = 0
+  depth (aggregate k xs) = greatest_depth xs + 1
+
+  pub greatest_depth : Data → ℕ
+  greatest_depth none = 0
+  greatest_depth (more x xs) = max (depth x) (greatest_depth xs)
+
+-- the greatest content length
+abbrev mutual
+  pub longest : Datum → ℕ
+  longest (scalar s) = content_length s
+  longest (aggregate k xs) = longest_among xs
+
+  pub longest_among : Data → ℕ
+  longest_among none = 0
+  longest_among (more x xs) = max (longest x) (longest_among xs)
+
+-- the most members of one array, set or push, or pairs of one map or attribute
+abbrev mutual
+  pub most_items : Datum → ℕ
+  most_items (scalar s) = 0
+  most_items (aggregate k xs) = max (items_of k (count xs)) (most_items_among xs)
+
+  pub most_items_among : Data → ℕ
+  most_items_among none = 0
+  most_items_among (more x xs) = max (most_items x) (most_items_among xs)
+
+abbrev pub IsPush : Datum → Type 0
+IsPush (scalar s) = ⊥
+IsPush (aggregate Array xs) = ⊥
+IsPush (aggregate Set xs) = ⊥
+IsPush (aggregate Map xs) = ⊥
+IsPush (aggregate Attr xs) = ⊥
+IsPush (aggregate Push xs) = Unit {0}

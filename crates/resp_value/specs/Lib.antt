@@ -1,0 +1,10 @@
+pub mod Bytes
+pub mod Numbers
+pub mod Data
+pub mod Trees
+pub mod TreeValues
+pub mod Bounds
+pub mod Rules
+pub mod LocalRules
+pub mod Spellings
+pub mod Canonical

@@ -1,0 +1,69 @@
+-- Each rule but the one of total, as it speaks of one node and of its level below the root.
+use Rattle.std.specs.Prelude.{◌≡◌, ℕ, suc, ◌<◌, ◌≤◌, false}
+use Rattle.resp_value.specs.Data.{Kind, Array, Set, Map, Attr, Push, content_length, items_of}
+use Rattle.resp_value.specs.Trees.{Tree, Trees, leaf, node, none, more, Leaf, Form, count}
+use Rattle.resp_value.specs.TreeValues.{leaf_value}
+use Rattle.resp_value.specs.Rules.{Rules, Rule, Grammar, NoDouble, InVersion, PushAtTop, InRange, NotStreamed, WithinDepth, WithinLength, WithinItems, WithinTotal, rank, IsNoDouble, IsLeafInTwo, IsNodeInTwo, IsInRange, IsCountedLeaf, IsCountedNode}
+use Rattle.resp_value.specs.declared.version.Version.TheVariants.{Two}
+
+-- of a leaf on a level
+abbrev pub LeafRule : Type 1
+LeafRule = ℕ → Leaf → Type 0
+
+-- of a node on a level, and its number of members
+abbrev pub NodeRule : Type 1
+NodeRule = ℕ → Kind → Form → ℕ → Type 0
+
+-- the rules hold at each node of a tree whose root is on this level
+abbrev mutual
+  pub HoldsFrom : LeafRule → NodeRule → ℕ → Tree → Type 0
+  HoldsFrom L N level (leaf l) = L level l
+  HoldsFrom L N level (node k form ts) = N level k form (count ts) × HoldsFromEach L N (suc level) ts
+
+  pub HoldsFromEach : LeafRule → NodeRule → ℕ → Trees → Type 0
+  HoldsFromEach L N level none = Unit {0}
+  HoldsFromEach L N level (more t ts) = HoldsFrom L N level t × HoldsFromEach L N level ts
+
+abbrev pub IsNoPushBelow : ℕ → Kind → Type 0
+IsNoPushBelow level Array = Unit {0}
+IsNoPushBelow level Set = Unit {0}
+IsNoPushBelow level Map = Unit {0}
+IsNoPushBelow level Attr = Unit {0}
+IsNoPushBelow level Push = level ≡ 0
+
+-- what each rule says of a leaf
+abbrev pub LeafMeets : Rules → Rule → LeafRule
+LeafMeets r Grammar level l = Unit {0}
+LeafMeets r NoDouble level l = IsNoDouble l
+LeafMeets r InVersion level l = r.version ≡ Two → IsLeafInTwo l
+LeafMeets r PushAtTop level l = Unit {0}
+LeafMeets r InRange level l = IsInRange l
+LeafMeets r NotStreamed level l = r.limits.streamed ≡ false → IsCountedLeaf l
+LeafMeets r WithinDepth level l = Unit {0}
+LeafMeets r WithinLength level l = content_length (leaf_value l) ≤ r.limits.length
+LeafMeets r WithinItems level l = Unit {0}
+LeafMeets r WithinTotal level l = Unit {0}
+
+-- what each rule says of a node
+abbrev pub NodeMeets : Rules → Rule → NodeRule
+NodeMeets r Grammar level k form n = Unit {0}
+NodeMeets r NoDouble level k form n = Unit {0}
+NodeMeets r InVersion level k form n = r.version ≡ Two → IsNodeInTwo k form
+NodeMeets r PushAtTop level k form n = IsNoPushBelow level k
+NodeMeets r InRange level k form n = Unit {0}
+NodeMeets r NotStreamed level k form n = r.limits.streamed ≡ false → IsCountedNode k form
+NodeMeets r WithinDepth level k form n = level < r.limits.depth
+NodeMeets r WithinLength level k form n = Unit {0}
+NodeMeets r WithinItems level k form n = items_of k n ≤ r.limits.items
+NodeMeets r WithinTotal level k form n = Unit {0}
+
+-- one rule, at each node of the tree
+abbrev pub MeetsLocally : Rules → Rule → Tree → Type 0
+MeetsLocally r rule t = HoldsFrom (LeafMeets r rule) (NodeMeets r rule) 0 t
+
+-- each rule up to this one, of a leaf and of a node
+abbrev pub LeafKeeps : Rules → Rule → LeafRule
+LeafKeeps r rule level l = (earlier : Rule) → rank earlier ≤ rank rule → LeafMeets r earlier level l
+
+abbrev pub NodeKeeps : Rules → Rule → NodeRule
+NodeKeeps r rule level k form n = (earlier : Rule) → rank earlier ≤ rank rule → NodeMeets r earlier level k form n

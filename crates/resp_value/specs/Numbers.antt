@@ -1,0 +1,77 @@
+-- Numbers as text: decimal digits, with a sign or without.
+use Rattle.std.specs.Prelude.{◌≡◌, ℕ, ◌+◌, ◌-◌, ◌≤◌, Bool, true, false, ℤ, pos, List, [], ◌∷◌, ◌++◌, map, cond, eqb}
+use Rattle.std.proofs.Common.{neg_ℤ}
+use Rattle.std.specs.List.{AllByRecursion}
+use Rattle.std.specs.Int.Digits.{number_from_digits, digits_of}
+use Rattle.resp_value.specs.Bytes.{IsFull}
+
+-- one of the bytes `0` to `9`
+abbrev pub IsDigit : ℕ → Type 0
+IsDigit byte = (48 ≤ byte) × (byte ≤ 57)
+
+-- one or more decimal digits
+abbrev pub IsDigits : List ℕ → Type 0
+IsDigits text = IsFull text × AllByRecursion IsDigit text
+
+-- the value of decimal digits
+abbrev pub number : List ℕ → ℕ
+number digits = number_from_digits 10 (map (λ digit. digit - 48) digits)
+
+-- the text is one or more decimal digits of this value
+abbrev pub IsNumber : ℕ → List ℕ → Type 0
+IsNumber n text = IsDigits text × (number text ≡ n)
+
+-- the digits of a number, without a leading zero
+abbrev pub decimal : ℕ → List ℕ
+decimal n = map (λ digit. digit + 48) (cond (eqb n 0) (0 ∷ []) (digits_of 10 n))
+
+pub data Sign : Type 0 where
+  Unsigned : Sign
+  Plus : Sign
+  Minus : Sign
+
+abbrev pub sign_text : Sign → List ℕ
+sign_text Unsigned = []
+sign_text Plus = 43 ∷ []
+sign_text Minus = 45 ∷ []
+
+abbrev pub is_minus : Sign → Bool
+is_minus Unsigned = false
+is_minus Plus = false
+is_minus Minus = true
+
+-- the value of digits behind a sign
+abbrev pub signed : Sign → List ℕ → ℤ
+signed Unsigned digits = pos (number digits)
+signed Plus digits = pos (number digits)
+signed Minus digits = neg_ℤ (pos (number digits))
+
+-- an optional sign, and one or more digits
+abbrev pub IsSignedDigits : List ℕ → Type 0
+IsSignedDigits text = (sign : Sign) × (digits : List ℕ) × IsDigits digits × (text ≡ sign_text sign ++ digits)
+
+-- digits without leading zeros: none where all of them are zeros
+abbrev pub stripped : List ℕ → List ℕ
+stripped [] = []
+stripped (digit ∷ digits) = cond (eqb digit 48) (stripped digits) (digit ∷ digits)
+
+-- a lone zero in the place of no digit
+abbrev pub zero_if_none : List ℕ → List ℕ
+zero_if_none [] = 48 ∷ []
+zero_if_none (digit ∷ digits) = digit ∷ digits
+
+-- the digits that a big number keeps: without leading zeros, and `0` for zero
+abbrev pub kept : List ℕ → List ℕ
+kept digits = zero_if_none (stripped digits)
+
+-- whether a big number is negative: zero never is
+abbrev pub is_negative : Sign → List ℕ → Bool
+is_negative sign digits = cond (eqb (number digits) 0) false (is_minus sign)
+
+-- a sign and digits as a big number keeps them
+abbrev pub IsKept : Bool → List ℕ → Type 0
+IsKept negative digits = IsDigits digits × (kept digits ≡ digits) × (number digits ≡ 0 → negative ≡ false)
+
+-- what a big number keeps of a text that is an optional sign and digits
+abbrev pub KeepsDigits : List ℕ → Bool → List ℕ → Type 0
+KeepsDigits text negative digits = (sign : Sign) × (written : List ℕ) × IsDigits written × (text ≡ sign_text sign ++ written) × (negative ≡ is_negative sign written) × (digits ≡ kept written)

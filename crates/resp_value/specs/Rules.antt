@@ -1,0 +1,146 @@
+-- The rules of a version and limits, in their order: each leaves fewer trees than the one before.
+use Rattle.std.specs.Prelude.{◌≡◌, ℕ, ◌^◌, ◌≤◌, false, pos, ◌≤ℤ◌, ◌<ℤ◌, length}
+use Rattle.std.proofs.Common.{neg_ℤ}
+use Rattle.resp_value.specs.Numbers.{signed}
+use Rattle.resp_value.specs.Data.{Kind, Array, Set, Map, Attr, Push, depth, longest, most_items}
+use Rattle.resp_value.specs.Trees.{Tree, Trees, leaf, node, none, more, Leaf, line, numeral, null, truth, string, chunked, Simple, Error, Double, Int, Big, BulkNull, ArrayNull, PlainNull, Bulk, BulkError, Verbatim, Form, Counted, Streamed, text}
+use Rattle.resp_value.specs.TreeValues.{value}
+use Rattle.resp_value.specs.Bounds.{Bounds}
+use Rattle.resp_value.specs.declared.version.Version.{Version}
+use Rattle.resp_value.specs.declared.version.Version.TheVariants.{Two, Three}
+
+-- a version and limits
+pub record Rules : Type 0 where
+  pub version : Version
+  pub limits : Bounds
+
+pub data Rule : Type 0 where
+  Grammar : Rule
+  NoDouble : Rule
+  InVersion : Rule
+  PushAtTop : Rule
+  InRange : Rule
+  NotStreamed : Rule
+  WithinDepth : Rule
+  WithinLength : Rule
+  WithinItems : Rule
+  WithinTotal : Rule
+
+-- the place of a rule in their order
+abbrev pub rank : Rule → ℕ
+rank Grammar = 0
+rank NoDouble = 1
+rank InVersion = 2
+rank PushAtTop = 3
+rank InRange = 4
+rank NotStreamed = 5
+rank WithinDepth = 6
+rank WithinLength = 7
+rank WithinItems = 8
+rank WithinTotal = 9
+
+-- each leaf and each node of a tree is so
+abbrev mutual
+  pub Every : (Leaf → Type 0) → (Kind → Form → Type 0) → Tree → Type 0
+  Every L N (leaf l) = L l
+  Every L N (node k form ts) = N k form × EveryOf L N ts
+
+  pub EveryOf : (Leaf → Type 0) → (Kind → Form → Type 0) → Trees → Type 0
+  EveryOf L N none = Unit {0}
+  EveryOf L N (more t ts) = Every L N t × EveryOf L N ts
+
+abbrev pub IsAnyLeaf : Leaf → Type 0
+IsAnyLeaf l = Unit {0}
+
+abbrev pub IsAnyNode : Kind → Form → Type 0
+IsAnyNode k form = Unit {0}
+
+abbrev pub IsNoDouble : Leaf → Type 0
+IsNoDouble (line Double s) = ⊥
+IsNoDouble (line Simple s) = Unit {0}
+IsNoDouble (line Error s) = Unit {0}
+IsNoDouble (numeral k sign digits) = Unit {0}
+IsNoDouble (null form) = Unit {0}
+IsNoDouble (truth b) = Unit {0}
+IsNoDouble (string k digits s) = Unit {0}
+IsNoDouble (chunked chunks zeros) = Unit {0}
+
+-- the leaves of version 2
+abbrev pub IsLeafInTwo : Leaf → Type 0
+IsLeafInTwo (line Simple s) = Unit {0}
+IsLeafInTwo (line Error s) = Unit {0}
+IsLeafInTwo (line Double s) = ⊥
+IsLeafInTwo (numeral Int sign digits) = Unit {0}
+IsLeafInTwo (numeral Big sign digits) = ⊥
+IsLeafInTwo (null BulkNull) = Unit {0}
+IsLeafInTwo (null ArrayNull) = Unit {0}
+IsLeafInTwo (null PlainNull) = ⊥
+IsLeafInTwo (truth b) = ⊥
+IsLeafInTwo (string Bulk digits s) = Unit {0}
+IsLeafInTwo (string BulkError digits s) = ⊥
+IsLeafInTwo (string (Verbatim format) digits s) = ⊥
+IsLeafInTwo (chunked chunks zeros) = ⊥
+
+-- the aggregates of version 2
+abbrev pub IsNodeInTwo : Kind → Form → Type 0
+IsNodeInTwo Array (Counted digits) = Unit {0}
+IsNodeInTwo Array Streamed = ⊥
+IsNodeInTwo Set form = ⊥
+IsNodeInTwo Map form = ⊥
+IsNodeInTwo Attr form = ⊥
+IsNodeInTwo Push form = ⊥
+
+abbrev pub HasVersion : Version → Tree → Type 0
+HasVersion Two t = Every IsLeafInTwo IsNodeInTwo t
+HasVersion Three t = Unit {0}
+
+abbrev pub IsNoPush : Kind → Form → Type 0
+IsNoPush Array form = Unit {0}
+IsNoPush Set form = Unit {0}
+IsNoPush Map form = Unit {0}
+IsNoPush Attr form = Unit {0}
+IsNoPush Push form = ⊥
+
+-- no push stands below the root
+abbrev pub HasPushAtRoot : Tree → Type 0
+HasPushAtRoot (leaf l) = Unit {0}
+HasPushAtRoot (node k form ts) = EveryOf IsAnyLeaf IsNoPush ts
+
+-- an integer has 64 bits
+abbrev pub IsInRange : Leaf → Type 0
+IsInRange (line k s) = Unit {0}
+IsInRange (numeral Int sign digits) = (neg_ℤ (pos (2 ^ 63)) ≤ℤ signed sign digits) × (signed sign digits <ℤ pos (2 ^ 63))
+IsInRange (numeral Big sign digits) = Unit {0}
+IsInRange (null form) = Unit {0}
+IsInRange (truth b) = Unit {0}
+IsInRange (string k digits s) = Unit {0}
+IsInRange (chunked chunks zeros) = Unit {0}
+
+abbrev pub IsCountedLeaf : Leaf → Type 0
+IsCountedLeaf (line k s) = Unit {0}
+IsCountedLeaf (numeral k sign digits) = Unit {0}
+IsCountedLeaf (null form) = Unit {0}
+IsCountedLeaf (truth b) = Unit {0}
+IsCountedLeaf (string k digits s) = Unit {0}
+IsCountedLeaf (chunked chunks zeros) = ⊥
+
+abbrev pub IsCountedNode : Kind → Form → Type 0
+IsCountedNode k (Counted digits) = Unit {0}
+IsCountedNode k Streamed = ⊥
+
+-- what one rule says of a tree
+abbrev pub Meets : Rules → Rule → Tree → Type 0
+Meets r Grammar t = Unit {0}
+Meets r NoDouble t = Every IsNoDouble IsAnyNode t
+Meets r InVersion t = HasVersion r.version t
+Meets r PushAtTop t = HasPushAtRoot t
+Meets r InRange t = Every IsInRange IsAnyNode t
+Meets r NotStreamed t = r.limits.streamed ≡ false → Every IsCountedLeaf IsCountedNode t
+Meets r WithinDepth t = depth (value t) ≤ r.limits.depth
+Meets r WithinLength t = longest (value t) ≤ r.limits.length
+Meets r WithinItems t = most_items (value t) ≤ r.limits.items
+Meets r WithinTotal t = length (text t) ≤ r.limits.total
+
+-- the tree meets each rule up to this one
+abbrev pub Keeps : Rules → Rule → Tree → Type 0
+Keeps r rule t = (earlier : Rule) → rank earlier ≤ rank rule → Meets r earlier t

@@ -1,0 +1,193 @@
+-- Trees of spelled texts. A tree keeps what a spelling may choose: the form of a null, signs, leading zeros,
+-- chunks, and whether an aggregate is counted or streamed. So its text is a function of it.
+use Rattle.std.specs.Prelude.{◌≡◌, ℕ, ◌+◌, Bool, true, false, List, [], ◌∷◌, ◌++◌, length}
+use Rattle.std.specs.List.{AllByRecursion}
+use Rattle.resp_value.specs.Bytes.{IsText, IsLine, IsFull, crlf}
+use Rattle.resp_value.specs.Numbers.{IsDigits, IsNumber, number, Sign, sign_text}
+use Rattle.resp_value.specs.Data.{Kind, Array, Set, Map, Attr, Push, members_of}
+
+pub data LineKind : Type 0 where
+  Simple : LineKind
+  Error : LineKind
+  Double : LineKind
+
+pub data NumberKind : Type 0 where
+  Int : NumberKind
+  Big : NumberKind
+
+-- `$-1`, `*-1` or `_`
+pub data NullForm : Type 0 where
+  BulkNull : NullForm
+  ArrayNull : NullForm
+  PlainNull : NullForm
+
+-- a verbatim string has its format
+pub data StringKind : Type 0 where
+  Bulk : StringKind
+  BulkError : StringKind
+  Verbatim : List ℕ → StringKind
+
+-- one chunk of a streamed string: the digits of its length, and its content
+pub record Chunk : Type 0 where
+  pub digits : List ℕ
+  pub content : List ℕ
+
+pub data Leaf : Type 0 where
+  line : LineKind → List ℕ → Leaf
+  numeral : NumberKind → Sign → List ℕ → Leaf
+  null : NullForm → Leaf
+  truth : Bool → Leaf
+  -- the digits of its length, and its content
+  string : StringKind → List ℕ → List ℕ → Leaf
+  -- a streamed string: its chunks, and the zeros of the line that ends them
+  chunked : List Chunk → List ℕ → Leaf
+
+-- counted, by these digits, or streamed
+pub data Form : Type 0 where
+  Counted : List ℕ → Form
+  Streamed : Form
+
+mutual
+  pub data Tree : Type 0 where
+    leaf : Leaf → Tree
+    node : Kind → Form → Trees → Tree
+
+  pub data Trees : Type 0 where
+    none : Trees
+    more : Tree → Trees → Trees
+
+abbrev pub line_byte : LineKind → ℕ
+line_byte Simple = 43
+line_byte Error = 45
+line_byte Double = 44
+
+abbrev pub number_byte : NumberKind → ℕ
+number_byte Int = 58
+number_byte Big = 40
+
+abbrev pub null_line : NullForm → List ℕ
+null_line BulkNull = 36 ∷ 45 ∷ 49 ∷ []
+null_line ArrayNull = 42 ∷ 45 ∷ 49 ∷ []
+null_line PlainNull = 95 ∷ []
+
+abbrev pub truth_line : Bool → List ℕ
+truth_line true = 35 ∷ 116 ∷ []
+truth_line false = 35 ∷ 102 ∷ []
+
+abbrev pub string_byte : StringKind → ℕ
+string_byte Bulk = 36
+string_byte BulkError = 33
+string_byte (Verbatim format) = 61
+
+-- the bytes that a string's length counts
+abbrev pub payload : StringKind → List ℕ → List ℕ
+payload Bulk s = s
+payload BulkError s = s
+payload (Verbatim format) s = format ++ (58 ∷ s)
+
+abbrev pub kind_byte : Kind → ℕ
+kind_byte Array = 42
+kind_byte Set = 126
+kind_byte Map = 37
+kind_byte Attr = 124
+kind_byte Push = 62
+
+-- what follows the type byte in the head of an aggregate
+abbrev pub form_line : Form → List ℕ
+form_line (Counted digits) = digits
+form_line Streamed = 63 ∷ []
+
+-- the first line, without its CR LF
+abbrev pub leaf_line : Leaf → List ℕ
+leaf_line (line k s) = line_byte k ∷ s
+leaf_line (numeral k sign digits) = number_byte k ∷ (sign_text sign ++ digits)
+leaf_line (null form) = null_line form
+leaf_line (truth b) = truth_line b
+leaf_line (string k digits s) = string_byte k ∷ digits
+leaf_line (chunked chunks zeros) = 36 ∷ 63 ∷ []
+
+-- chunks, and then more
+abbrev pub chunks_text : List Chunk → List ℕ → List ℕ
+chunks_text [] rest = rest
+chunks_text (c ∷ cs) rest = (59 ∷ c.digits) ++ crlf (c.content ++ crlf (chunks_text cs rest))
+
+-- what follows the first line
+abbrev pub leaf_rest : Leaf → List ℕ
+leaf_rest (line k s) = []
+leaf_rest (numeral k sign digits) = []
+leaf_rest (null form) = []
+leaf_rest (truth b) = []
+leaf_rest (string k digits s) = payload k s ++ crlf []
+leaf_rest (chunked chunks zeros) = chunks_text chunks ((59 ∷ zeros) ++ crlf [])
+
+abbrev pub leaf_text : Leaf → List ℕ
+leaf_text l = leaf_line l ++ crlf (leaf_rest l)
+
+-- what closes an aggregate that is streamed
+abbrev pub close : Form → List ℕ
+close (Counted digits) = []
+close Streamed = 46 ∷ crlf []
+
+abbrev mutual
+  -- the text of a tree
+  pub text : Tree → List ℕ
+  text (leaf l) = leaf_text l
+  text (node k form ts) = (kind_byte k ∷ form_line form) ++ crlf (texts ts ++ close form)
+
+  pub texts : Trees → List ℕ
+  texts none = []
+  texts (more t ts) = text t ++ texts ts
+
+abbrev pub count : Trees → ℕ
+count none = 0
+count (more t ts) = count ts + 1
+
+-- the content of a streamed string
+abbrev pub joined : List Chunk → List ℕ
+joined [] = []
+joined (c ∷ cs) = c.content ++ joined cs
+
+-- a chunk isn't empty, and its digits say its length
+abbrev pub IsChunk : Chunk → Type 0
+IsChunk c = IsNumber (length c.content) c.digits × IsFull c.content × IsText c.content
+
+-- a format is any three bytes
+abbrev pub HasFormat : StringKind → Type 0
+HasFormat Bulk = Unit {0}
+HasFormat BulkError = Unit {0}
+HasFormat (Verbatim format) = (length format ≡ 3) × IsText format
+
+abbrev pub IsLeaf : Leaf → Type 0
+IsLeaf (line k s) = IsLine s × IsText s
+IsLeaf (numeral k sign digits) = IsDigits digits
+IsLeaf (null form) = Unit {0}
+IsLeaf (truth b) = Unit {0}
+IsLeaf (string k digits s) = IsNumber (length (payload k s)) digits × HasFormat k × IsText s
+IsLeaf (chunked chunks zeros) = AllByRecursion IsChunk chunks × IsNumber 0 zeros
+
+-- attributes and pushes aren't streamed, and a map is streamed by whole pairs
+abbrev pub CanStream : Kind → ℕ → Type 0
+CanStream Array n = Unit {0}
+CanStream Set n = Unit {0}
+CanStream Map n = (pairs : ℕ) × (pairs + pairs ≡ n)
+CanStream Attr n = ⊥
+CanStream Push n = ⊥
+
+-- an aggregate of this form may have so many members
+abbrev pub HasMembers : Kind → Form → ℕ → Type 0
+HasMembers k (Counted digits) n = IsDigits digits × (members_of k (number digits) ≡ n)
+HasMembers k Streamed n = CanStream k n
+
+abbrev mutual
+  pub IsTree : Tree → Type 0
+  IsTree (leaf l) = IsLeaf l
+  IsTree (node k form ts) = HasMembers k form (count ts) × AreTrees ts
+
+  pub AreTrees : Trees → Type 0
+  AreTrees none = Unit {0}
+  AreTrees (more t ts) = IsTree t × AreTrees ts
+
+-- the tree is one of the grammar's, and the text is its text
+pub record Spells (tree : Tree) (written : List ℕ) : Type 0 where
+  pub is_tree : IsTree tree
+  pub spelled : text tree ≡ written
