@@ -9,3 +9,5 @@ pub mod LocalRules
 pub mod Spellings
 pub mod Canonical
 pub mod Devices
+pub mod Values
+pub mod Causes

@@ -1,0 +1,156 @@
+//! The causes of refusals, each with its number and its name.
+
+ghost use Rattle.std.specs.Prelude.{◌≡◌};
+
+/// The limit that a value to be encoded breaks.
+#[derive(Clone, Copy, Debug, PartialEq, Eq)]
+pub enum Over {
+    Depth,
+    Length,
+    Items,
+    Total,
+}
+
+/// Why something was refused.
+#[derive(Clone, Copy, Debug, PartialEq, Eq)]
+pub enum Cause {
+    /// No value of any version goes on so.
+    Syntax,
+    /// The type byte of a double.
+    Double,
+    /// A form of version 3 while version 2 is read.
+    Version,
+    /// A push below the top level.
+    NestedPush,
+    /// An integer outside signed 64 bits.
+    Range,
+    /// Over the limit of depth.
+    Depth,
+    /// Over the limit of length.
+    Length,
+    /// The value can't end within the limit of total.
+    Total,
+    /// The input ended inside a value.
+    Truncated,
+    /// A growth was refused.
+    OutOfMemory,
+    /// A streamed form where these are switched off.
+    Streamed,
+    /// Over the limit of items.
+    Items,
+    /// A value that is no push came while no command waits.
+    Unasked,
+    /// A command outside the client's limits.
+    TooLarge,
+    /// No word, or a name that the client doesn't send.
+    BadCommand,
+    /// The client's number of commands is used up.
+    TooMany,
+    /// As many sessions are open as can be, or the ids are used up.
+    TooManySessions,
+    /// No session has this id.
+    NoSession,
+    /// The session takes no more output.
+    Closing,
+    /// The value holds a type that the version hasn't.
+    NotInVersion,
+    /// The value to be encoded holds a push below its top.
+    PushBelowTop,
+    /// The value to be encoded breaks a limit.
+    OverLimits(Over),
+    /// The reader failed.
+    Read,
+    /// The writer failed, or took no byte.
+    Write,
+    /// The stated number of reads and writes is used up.
+    TooManyTurns,
+    /// The reader ended while a command waits.
+    Ended,
+    /// A CR or LF stands in a line's text.
+    BadLine,
+    /// Not an optional sign and one or more digits.
+    BadDigits,
+    /// A version change in the middle of a value.
+    Busy,
+    /// A limit outside its range.
+    BadLimits,
+}
+
+impl Cause {
+    ghost use Rattle.resp_value.specs.Causes.{number_of, name_of};
+
+    /// The number of the cause.
+    pub fn number(self) -> u32
+        ensures { result ≡ number_of self }
+    {
+        match self {
+            Cause::Syntax => 1,
+            Cause::Double => 2,
+            Cause::Version => 3,
+            Cause::NestedPush => 4,
+            Cause::Range => 5,
+            Cause::Depth => 6,
+            Cause::Length => 7,
+            Cause::Total => 8,
+            Cause::Truncated => 9,
+            Cause::OutOfMemory => 10,
+            Cause::Streamed => 12,
+            Cause::Items => 13,
+            Cause::Unasked => 20,
+            Cause::TooLarge => 21,
+            Cause::BadCommand => 22,
+            Cause::TooMany => 24,
+            Cause::TooManySessions => 30,
+            Cause::NoSession => 31,
+            Cause::Closing => 32,
+            Cause::NotInVersion => 40,
+            Cause::PushBelowTop => 41,
+            Cause::OverLimits(_) => 42,
+            Cause::Read => 50,
+            Cause::Write => 51,
+            Cause::TooManyTurns => 52,
+            Cause::Ended => 53,
+            Cause::BadLine => 60,
+            Cause::BadDigits => 61,
+            Cause::Busy => 62,
+            Cause::BadLimits => 63,
+        }
+    }
+
+    /// The name of the cause, as fault lines and error replies print it.
+    pub fn name(self) -> &'static str
+        ensures { result.now ≡ name_of self }
+    {
+        match self {
+            Cause::Syntax => "Syntax",
+            Cause::Double => "Double",
+            Cause::Version => "Version",
+            Cause::NestedPush | Cause::PushBelowTop => "NestedPush",
+            Cause::Range => "Range",
+            Cause::Depth => "Depth",
+            Cause::Length => "Length",
+            Cause::Total => "Total",
+            Cause::Truncated => "Truncated",
+            Cause::OutOfMemory => "OutOfMemory",
+            Cause::Streamed => "Streamed",
+            Cause::Items => "Items",
+            Cause::Unasked => "Unasked",
+            Cause::TooLarge => "TooLarge",
+            Cause::BadCommand => "BadCommand",
+            Cause::TooMany => "TooMany",
+            Cause::TooManySessions => "TooManySessions",
+            Cause::NoSession => "NoSession",
+            Cause::Closing => "Closing",
+            Cause::NotInVersion => "NotInVersion",
+            Cause::OverLimits(_) => "OverLimits",
+            Cause::Read => "Read",
+            Cause::Write => "Write",
+            Cause::TooManyTurns => "TooManyTurns",
+            Cause::Ended => "Ended",
+            Cause::BadLine => "BadLine",
+            Cause::BadDigits => "BadDigits",
+            Cause::Busy => "Busy",
+            Cause::BadLimits => "BadLimits",
+        }
+    }
+}

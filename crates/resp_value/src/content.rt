@@ -1,0 +1,38 @@
+//! The content of a bulk string, a bulk error or a verbatim string: any bytes.
+
+ghost use Rattle.std.specs.Prelude.{◌≡◌, List};
+ghost use Rattle.std.proofs.Props.{props};
+ghost use Rattle.resp_value.specs.Bytes.{IsText};
+
+/// Any bytes.
+#[derive(Debug, PartialEq, Eq, Drop)]
+pub struct Content {
+    bytes: Vec<u8>,
+    ghost are_bytes: { IsText bytes.items } by { Prim.hlevel props },
+}
+
+impl Content {
+    ghost use Rattle.resp_value.specs.Values.{content_bytes};
+
+    /// A content of these bytes. Takes no memory.
+    pub fn new(bytes: Vec<u8>) -> Content
+        ensures { content_bytes result ≡ bytes.items }
+    {
+        Content { bytes }
+    }
+
+    /// The bytes.
+    pub fn list(&self) -> &[u8]
+        ensures { result.now ≡ content_bytes self.now }
+    {
+        self.bytes.as_slice()
+    }
+
+    /// The bytes, given back. Takes no memory.
+    pub fn into_vec(self) -> Vec<u8>
+        ensures { result.items ≡ content_bytes self }
+    {
+        let Content { bytes } = self;
+        bytes
+    }
+}

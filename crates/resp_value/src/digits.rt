@@ -1,0 +1,98 @@
+//! The digits of a big number.
+
+ghost use Rattle.std.specs.Prelude.{◌≡◌, ◌↔◌, ℕ, ◌<◌, List, length, IsTrue, IfOk, IsErrOf, All};
+ghost use Rattle.std.proofs.Props.{props};
+ghost use Rattle.resp_value.specs.Numbers.{IsDigit, IsDigits, IsKept, IsSignedDigits, KeepsDigits, kept, is_minus, sign_at, behind_sign};
+
+use std::alloc::Global;
+use thiserror::Error;
+
+/// A sign, and decimal digits without leading zeros. Zero is `0`, and never negative.
+#[derive(Debug, PartialEq, Eq, Drop)]
+pub struct Digits {
+    negative: bool,
+    digits: Vec<u8>,
+    ghost are_kept: { IsKept negative digits.items } by { Prim.hlevel props },
+}
+
+/// Why a text gives no digits.
+#[derive(Clone, Copy, Debug, PartialEq, Eq, Error)]
+pub enum DigitsError {
+    /// It isn't an optional sign and one or more decimal digits.
+    #[error("not an optional sign and one or more digits")]
+    BadDigits,
+    /// A growth was refused.
+    #[error("out of memory")]
+    OutOfMemory,
+}
+
+fn are_digits(text: &[u8]) -> bool
+    ensures { IsTrue result ↔ ((0 < length text.now) × All IsDigit text.now) }
+{
+    !text.is_empty() && text.iter().all(|byte| byte.is_ascii_digit())
+}
+
+fn kept_part(digits: &[u8]) -> &[u8]
+    requires { IsDigits digits.now }
+    ensures { result.now ≡ kept digits.now }
+{
+    let mut rest = digits;
+    while rest.len() > 1 && rest[0] == b'0' {
+        rest = &rest[1..];
+    }
+    rest
+}
+
+fn begins_with_minus(text: &[u8]) -> bool
+    ensures { result ≡ is_minus (sign_at text.now) }
+{
+    !text.is_empty() && text[0] == b'-'
+}
+
+fn behind_sign(text: &[u8]) -> &[u8]
+    ensures { result.now ≡ behind_sign text.now }
+{
+    if !text.is_empty() && (text[0] == b'-' || text[0] == b'+') {
+        &text[1..]
+    } else {
+        text
+    }
+}
+
+impl Digits {
+    ghost use Rattle.resp_value.specs.Values.{is_negative, digits_text};
+
+    /// The sign and digits of a text such as `-120` or `+007`. Refuses by `BadDigits` exactly where the text
+    /// isn't an optional sign and one or more decimal digits.
+    pub fn new(alloc: Global, text: &[u8]) -> Result<Digits, DigitsError>
+        ensures kept { IfOk result (λ digits. KeepsDigits text.now (is_negative digits) (digits_text digits)) }
+        ensures bad { IsErrOf result DigitsError.BadDigits ↔ (IsSignedDigits text.now → ⊥) }
+    {
+        let minus = begins_with_minus(text);
+        let digits = behind_sign(text);
+        if !are_digits(digits) {
+            return Err(DigitsError::BadDigits);
+        }
+        let kept = kept_part(digits);
+        let negative = minus && kept[0] != b'0';
+        match kept.to_vec(alloc) {
+            Ok(digits) => Ok(Digits { negative, digits }),
+            Err(_) => Err(DigitsError::OutOfMemory),
+        }
+    }
+
+    /// Whether the number is below zero.
+    pub fn is_negative(&self) -> bool
+        ensures { result ≡ is_negative self.now }
+    {
+        self.negative
+    }
+
+    /// The digits, without the sign.
+    pub fn digits(&self) -> &[u8]
+        ensures digits { result.now ≡ digits_text self.now }
+        ensures kept { IsKept (is_negative self.now) result.now }
+    {
+        self.digits.as_slice()
+    }
+}
