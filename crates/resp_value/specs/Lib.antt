@@ -1,5 +1,6 @@
 pub mod Bytes
 pub mod Numbers
+pub mod Signs
 pub mod Data
 pub mod Trees
 pub mod TreeValues
