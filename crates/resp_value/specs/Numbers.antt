@@ -75,13 +75,3 @@ IsKept negative digits = IsDigits digits × (kept digits ≡ digits) × (number 
 -- what a big number keeps of a text that is an optional sign and digits
 abbrev pub KeepsDigits : List ℕ → Bool → List ℕ → Type 0
 KeepsDigits text negative digits = (sign : Sign) × (written : List ℕ) × IsDigits written × (text ≡ sign_text sign ++ written) × (negative ≡ is_negative sign written) × (digits ≡ kept written)
-
--- the sign that a text begins with
-abbrev pub sign_at : List ℕ → Sign
-sign_at [] = Unsigned
-sign_at (byte ∷ bytes) = cond (eqb byte 45) Minus (cond (eqb byte 43) Plus Unsigned)
-
--- a text without the sign that it begins with
-abbrev pub behind_sign : List ℕ → List ℕ
-behind_sign [] = []
-behind_sign (byte ∷ bytes) = cond (eqb byte 45) bytes (cond (eqb byte 43) bytes (byte ∷ bytes))

@@ -2,7 +2,8 @@
 
 ghost use Rattle.std.specs.Prelude.{◌≡◌, ◌↔◌, ℕ, ◌<◌, List, length, IsTrue, IfOk, IsErrOf, All};
 ghost use Rattle.std.proofs.Props.{props};
-ghost use Rattle.resp_value.specs.Numbers.{IsDigit, IsDigits, IsKept, IsSignedDigits, KeepsDigits, kept, is_minus, sign_at, behind_sign};
+ghost use Rattle.resp_value.specs.Numbers.{IsDigit, IsDigits, IsKept, IsSignedDigits, KeepsDigits, kept, is_minus};
+ghost use Rattle.resp_value.specs.Signs.{sign_at, unsigned_part};
 
 use std::alloc::Global;
 use thiserror::Error;
@@ -49,8 +50,8 @@ fn begins_with_minus(text: &[u8]) -> bool
     !text.is_empty() && text[0] == b'-'
 }
 
-fn behind_sign(text: &[u8]) -> &[u8]
-    ensures { result.now ≡ behind_sign text.now }
+fn unsigned_part(text: &[u8]) -> &[u8]
+    ensures { result.now ≡ unsigned_part text.now }
 {
     if !text.is_empty() && (text[0] == b'-' || text[0] == b'+') {
         &text[1..]
@@ -69,13 +70,13 @@ impl Digits {
         ensures bad { IsErrOf result DigitsError.BadDigits ↔ (IsSignedDigits text.now → ⊥) }
     {
         let minus = begins_with_minus(text);
-        let digits = behind_sign(text);
+        let digits = unsigned_part(text);
         if !are_digits(digits) {
             return Err(DigitsError::BadDigits);
         }
         let kept = kept_part(digits);
         let negative = minus && kept[0] != b'0';
-        match kept.to_vec(alloc) {
+        match Vec::from_slice(alloc, kept) {
             Ok(digits) => Ok(Digits { negative, digits }),
             Err(_) => Err(DigitsError::OutOfMemory),
         }
