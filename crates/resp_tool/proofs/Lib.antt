@@ -1,0 +1,4 @@
+pub mod Runs
+pub mod Outcomes
+pub mod Integers
+pub mod Leaves
