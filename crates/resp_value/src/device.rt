@@ -5,6 +5,10 @@ ghost use Rattle.resp_value.specs.Devices.{raised, HasRisen, Reads, Writes, Appe
 
 use thiserror::Error;
 
+pub mod memory;
+
+pub use memory::{MemorySink, MemorySource};
+
 /// A read or a write failed.
 #[derive(Clone, Copy, Debug, PartialEq, Eq, Error)]
 #[error("the device failed")]
