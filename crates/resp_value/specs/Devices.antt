@@ -116,3 +116,12 @@ after_write sink text n = record sink {
 -- a sink after a write that failed
 abbrev pub after_failed_write : SinkState → SinkState
 after_failed_write sink = record sink { calls = raised 1 sink.calls; failures = raised 1 sink.failures }
+
+-- a reader or a writer of std, with its counts
+pub record DeviceState (T : Type 0) : Type 0 where
+  -- the reader or the writer
+  pub inner : T
+  -- how many reads or writes were made
+  pub calls : ℕ
+  -- how many of these failed, or took no byte of a write
+  pub failures : ℕ

@@ -6,8 +6,10 @@ ghost use Rattle.resp_value.specs.Devices.{raised, HasRisen, Reads, Writes, Appe
 use thiserror::Error;
 
 pub mod memory;
+pub mod wrapped;
 
 pub use memory::{MemorySink, MemorySource};
+pub use wrapped::Device;
 
 /// A read or a write failed.
 #[derive(Clone, Copy, Debug, PartialEq, Eq, Error)]
