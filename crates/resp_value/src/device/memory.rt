@@ -3,10 +3,9 @@
 ghost use Rattle.std.specs.Prelude.{◌≡◌, ℕ, ◌+◌, ◌<◌, ◌≤◌, ◌↔◌, ◌++◌, [], length, take, drop, Some, IfOk, IsErr, OnErr, vec_len, vec_capacity};
 ghost use Rattle.resp_value.specs.Devices.{raised, Reads, Writes, read_fails, write_fails, failures_after, SourceState, read_count, after_read, after_failed_read, SinkState, write_count, after_write, after_failed_write};
 
+use super::{DeviceFault, Sink, Source};
 use std::alloc::{AllocError, Global};
 use std::marker::Model;
-
-use super::{DeviceFault, Sink, Source};
 
 /// Reads from a slice, at most a set number of bytes a call. It can be made to fail from a set byte on.
 #[derive(Debug, Drop)]

@@ -4,10 +4,9 @@ ghost use Rattle.std.specs.Prelude.{◌≡◌, ℕ, ◌≤◌, None, length, IfO
 ghost use Rattle.std.specs.Io.KnownBytes.{ReadConsumes, WriteAppends};
 ghost use Rattle.resp_value.specs.Devices.{raised, Reads, Writes, read_fails, write_fails, failures_after, DeviceState};
 
+use super::{DeviceFault, Sink, Source};
 use std::io::{Read, Write};
 use std::marker::Model;
-
-use super::{DeviceFault, Sink, Source};
 
 /// A reader or a writer of std, with the calls and the failures counted. It claims nothing of its bytes.
 #[derive(Debug, Drop)]
