@@ -5,10 +5,13 @@ ghost use Rattle.resp_value.specs.Devices.{raised, HasRisen, Reads, Writes, Appe
 
 use thiserror::Error;
 
-pub mod memory;
-pub mod wrapped;
+mod counts;
+mod memory_sink;
+mod memory_source;
+mod wrapped;
 
-pub use memory::{MemorySink, MemorySource};
+pub use memory_sink::MemorySink;
+pub use memory_source::MemorySource;
 pub use wrapped::Device;
 
 /// A read or a write failed.

@@ -4,6 +4,7 @@ ghost use Rattle.std.specs.Prelude.{◌≡◌, ℕ, ◌≤◌, None, length, IfO
 ghost use Rattle.std.specs.Io.KnownBytes.{ReadConsumes, WriteAppends};
 ghost use Rattle.resp_value.specs.Devices.{raised, Reads, Writes, read_fails, write_fails, failures_after, DeviceState};
 
+use super::counts::Counts;
 use super::{DeviceFault, Sink, Source};
 use std::io::{Read, Write};
 use std::marker::Model;
@@ -12,14 +13,13 @@ use std::marker::Model;
 #[derive(Debug, Drop)]
 pub struct Device<T> {
     inner: T,
-    calls: u64,
-    failures: u64,
+    counts: Counts,
 }
 
 impl<T> Model for Device<T> {
     ghost Value = { DeviceState T };
 
-    ghost view = { λ d. record { inner = d.inner; calls = d.calls; failures = d.failures } };
+    ghost view = { λ d. record { inner = d.inner; calls = d.counts.calls; failures = d.counts.failures } };
 }
 
 impl<T> Device<T> {
@@ -29,8 +29,7 @@ impl<T> Device<T> {
     {
         Device {
             inner,
-            calls: 0,
-            failures: 0,
+            counts: Counts::new(),
         }
     }
 
@@ -38,11 +37,7 @@ impl<T> Device<T> {
     pub fn into_inner(self) -> T
         ensures { result ≡ self.inner }
     {
-        let Device {
-            inner,
-            calls: _,
-            failures: _,
-        } = self;
+        let Device { inner, counts: _ } = self;
         inner
     }
 
@@ -50,14 +45,14 @@ impl<T> Device<T> {
     pub fn calls(&self) -> u64
         ensures { result ≡ self.now.calls }
     {
-        self.calls
+        self.counts.calls
     }
 
     /// How many reads failed, or how many writes failed or took no byte.
     pub fn failures(&self) -> u64
         ensures { result ≡ self.now.failures }
     {
-        self.failures
+        self.counts.failures
     }
 }
 
@@ -77,11 +72,11 @@ impl<R: Read> Source for Device<R> {
         // The bytes are those that `inner` gives, where it tells them.
         ensures inner { ReadConsumes (R.remaining self.old.inner) (R.remaining self.new.inner) result into.new }
     {
-        self.calls = self.calls.saturating_add(1);
+        self.counts.add_call();
         match self.inner.read(into) {
             Ok(count) => Ok(count),
             Err(_) => {
-                self.failures = self.failures.saturating_add(1);
+                self.counts.add_failure();
                 Err(DeviceFault)
             }
         }
@@ -104,10 +99,10 @@ impl<W: Write> Sink for Device<W> {
         // The bytes go to `inner`, where it tells them.
         ensures inner { WriteAppends (W.contents self.old.inner) (W.contents self.new.inner) result from.now }
     {
-        self.calls = self.calls.saturating_add(1);
+        self.counts.add_call();
         let result = self.inner.write(from).map_err(|_| DeviceFault);
         if matches!(result, Ok(0) | Err(DeviceFault)) {
-            self.failures = self.failures.saturating_add(1);
+            self.counts.add_failure();
         }
         result
     }
