@@ -81,7 +81,11 @@ read_count source room = limited source.sound (min source.most (min room (length
 
 -- a source after a read of so many bytes
 abbrev pub after_read : SourceState → ℕ → SourceState
-after_read source n = record source { left = drop n source.left; sound = limit_after source.sound n; calls = raised 1 source.calls }
+after_read source n = record source {
+  left = drop n source.left;
+  sound = limit_after source.sound n;
+  calls = raised 1 source.calls;
+}
 
 -- a source after a read that failed
 abbrev pub after_failed_read : SourceState → SourceState

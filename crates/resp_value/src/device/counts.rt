@@ -4,23 +4,13 @@ ghost use Rattle.std.specs.Prelude.{◌≡◌};
 ghost use Rattle.resp_value.specs.Devices.{raised};
 
 /// Two counts, each of which stays at its last value.
-#[derive(Clone, Copy, Debug)]
+#[derive(Clone, Copy, Debug, Default)]
 pub struct Counts {
     pub calls: u64,
     pub failures: u64,
 }
 
 impl Counts {
-    /// No call was made.
-    pub fn new() -> Self
-        ensures { result ≡ record { calls = 0; failures = 0 } }
-    {
-        Counts {
-            calls: 0,
-            failures: 0,
-        }
-    }
-
     /// Counts a call.
     pub fn add_call(&mut self)
         ensures { self.new ≡ record self.old { calls = raised 1 self.old.calls } }

@@ -1,6 +1,6 @@
 //! A sink in memory: each byte that it takes is known, and it fails from a set byte on.
 
-ghost use Rattle.std.specs.Prelude.{◌≡◌, ◌+◌, ◌≤◌, ◌↔◌, [], length, Some, IfOk, IsErr, OnErr, vec_len, vec_capacity};
+ghost use Rattle.std.specs.Prelude.{◌≡◌, ◌+◌, ◌≤◌, ◌↔◌, [], length, Some, IfOk, IsOk, IsErr, OnErr, vec_len, vec_capacity};
 ghost use Rattle.resp_value.specs.Devices.{raised, Writes, write_fails, failures_after, SinkState, write_count, after_write, after_failed_write};
 
 use super::counts::Counts;
@@ -21,7 +21,13 @@ pub struct MemorySink {
 impl Model for MemorySink {
     ghost Value = { SinkState };
 
-    ghost view = { λ s. record { held = s.held.items; most = s.most; sound = s.sound; calls = s.counts.calls; failures = s.counts.failures } };
+    ghost view = { λ s. record {
+      held = s.held.items;
+      most = s.most;
+      sound = s.sound;
+      calls = s.counts.calls;
+      failures = s.counts.failures;
+    } };
 
     // The room for what may still be written is there, so no write takes memory.
     ghost invariant = { λ s. vec_len s.held + s.sound ≤ vec_capacity s.held };
@@ -29,16 +35,23 @@ impl Model for MemorySink {
 
 impl MemorySink {
     /// An empty sink, that moves at most `most` bytes a call and fails from byte `fails_from` on: a write that
-    /// begins before it stops there, and one that begins there fails. With 0 for `most` each write takes no byte.
-    /// The room for all that it may take is made here, and that is refused where memory is.
+    /// begins before that byte stops there, and one that begins there fails. With 0 for `most` each write before
+    /// it takes no byte. The room for all that it may take is made here, so no write takes memory.
     pub fn new(alloc: Global, most: usize, fails_from: usize) -> Result<Self, AllocError>
-        ensures { IfOk result (λ sink. sink ≡ record { held = []; most = most; sound = fails_from; calls = 0; failures = 0 }) }
+        ensures ok { IfOk result (λ sink. sink ≡ record {
+          held = [];
+          most = most;
+          sound = fails_from;
+          calls = 0;
+          failures = 0;
+        }) }
+        ensures takes_nothing { fails_from ≡ 0 → IsOk result }
     {
         Ok(MemorySink {
             held: Vec::with_capacity(alloc, fails_from)?,
             most,
             sound: fails_from,
-            counts: Counts::new(),
+            counts: Counts::default(),
         })
     }
 

@@ -20,7 +20,13 @@ pub struct MemorySource<'a> {
 impl<'a> Model for MemorySource<'a> {
     ghost Value = { SourceState };
 
-    ghost view = { λ s. record { left = s.left.now; most = s.most; sound = s.sound; calls = s.counts.calls; failures = s.counts.failures } };
+    ghost view = { λ s. record {
+      left = s.left.now;
+      most = s.most;
+      sound = s.sound;
+      calls = s.counts.calls;
+      failures = s.counts.failures;
+    } };
 
     // A source that moves no byte would seem to be at its end.
     ghost invariant = { λ s. 0 < s.most };
@@ -30,18 +36,24 @@ impl<'a> MemorySource<'a> {
     /// A source of these bytes, that moves at most `most` bytes a call and never fails.
     pub fn new(bytes: &'a [u8], most: usize) -> Self
         requires { 0 < most }
-        ensures { result ≡ record { left = bytes.now; most = most; sound = None; calls = 0; failures = 0 } }
+        ensures { result ≡ record {
+          left = bytes.now;
+          most = most;
+          sound = None;
+          calls = 0;
+          failures = 0;
+        } }
     {
         MemorySource {
             left: bytes,
             most,
             sound: None,
-            counts: Counts::new(),
+            counts: Counts::default(),
         }
     }
 
-    /// The same source, but it fails from this byte on, counted from the next byte that it reads: a read that
-    /// begins before it stops there, and one that begins there fails.
+    /// The same source, but it fails from this byte on, counted from 0 at the next byte that it reads: a read
+    /// that begins before that byte stops there, and one that begins there fails, at the end of the bytes too.
     pub fn failing_from(self, byte: usize) -> Self
         ensures { result ≡ record self.entry { sound = Some byte } }
     {

@@ -9,7 +9,8 @@ use super::{DeviceFault, Sink, Source};
 use std::io::{Read, Write};
 use std::marker::Model;
 
-/// A reader or a writer of std, with the calls and the failures counted. It claims nothing of its bytes.
+/// A reader or a writer of std, whose calls and failures are counted. As a device it claims nothing of its
+/// bytes.
 #[derive(Debug, Drop)]
 pub struct Device<T> {
     inner: T,
@@ -19,7 +20,11 @@ pub struct Device<T> {
 impl<T> Model for Device<T> {
     ghost Value = { DeviceState T };
 
-    ghost view = { λ d. record { inner = d.inner; calls = d.counts.calls; failures = d.counts.failures } };
+    ghost view = { λ d. record {
+      inner = d.inner;
+      calls = d.counts.calls;
+      failures = d.counts.failures;
+    } };
 }
 
 impl<T> Device<T> {
@@ -29,7 +34,7 @@ impl<T> Device<T> {
     {
         Device {
             inner,
-            counts: Counts::new(),
+            counts: Counts::default(),
         }
     }
 
