@@ -9,3 +9,4 @@ pub mod Rules
 pub mod LocalRules
 pub mod Spellings
 pub mod Canonical
+pub mod Laws

@@ -1,0 +1,73 @@
+//! Laws of the grammar's definitions, each the contract of a function with an empty body.
+
+ghost use Rattle.resp_value.specs.Laws.{ATextHasOneValue, NoSpellingBeginsAnother, NoSpellingIsEmpty, APushBeginsWithItsByte, ATextHasOneCut, ARestHasOneFault, VersionThreeSpellsWhatTwoDoes, CanonicalTextSpellsWhatFits, CanonicalTextTellsValuesApart, FrontsOfSpellingsAreViable, FrontsOfViableTextsAreViable, LaterRulesLeaveLess, ATextHasOneCause, AViableTextHasNoCause};
+
+/// A text is a spelling of one value alone, whatever the version and the limits.
+pub fn a_text_has_one_value()
+    ensures { ATextHasOneValue }
+{}
+
+/// Where two spellings begin one text, they are one, and so are their values and what follows them.
+pub fn no_spelling_begins_another()
+    ensures { NoSpellingBeginsAnother }
+{}
+
+/// No spelling is empty.
+pub fn no_spelling_is_empty()
+    ensures { NoSpellingIsEmpty }
+{}
+
+/// A spelling begins with `>` exactly where its value is a push.
+pub fn a_push_begins_with_its_byte()
+    ensures { APushBeginsWithItsByte }
+{}
+
+/// A text is cut into values and a rest in one way.
+pub fn a_text_has_one_cut()
+    ensures { ATextHasOneCut }
+{}
+
+/// A rest has one fault: one rule and one place.
+pub fn a_rest_has_one_fault()
+    ensures { ARestHasOneFault }
+{}
+
+/// What version 2 spells, version 3 spells too, of the same value and under the same limits.
+pub fn version_three_spells_what_two_does()
+    ensures { VersionThreeSpellsWhatTwoDoes }
+{}
+
+/// A value's canonical text is a spelling of it exactly where the value fits the version and the limits.
+pub fn canonical_text_spells_what_fits()
+    ensures { CanonicalTextSpellsWhatFits }
+{}
+
+/// Two values that a version has are equal exactly where their canonical texts are.
+pub fn canonical_text_tells_values_apart()
+    ensures { CanonicalTextTellsValuesApart }
+{}
+
+/// Every front of a spelling is viable under each rule.
+pub fn fronts_of_spellings_are_viable()
+    ensures { FrontsOfSpellingsAreViable }
+{}
+
+/// Every front of a viable text is viable.
+pub fn fronts_of_viable_texts_are_viable()
+    ensures { FrontsOfViableTextsAreViable }
+{}
+
+/// Each rule leaves no tree and no viable text that the rules before it don't.
+pub fn later_rules_leave_less()
+    ensures { LaterRulesLeaveLess }
+{}
+
+/// A text has one cause at most.
+pub fn a_text_has_one_cause()
+    ensures { ATextHasOneCause }
+{}
+
+/// A text that is viable under the last rule has no cause.
+pub fn a_viable_text_has_no_cause()
+    ensures { AViableTextHasNoCause }
+{}
