@@ -6,3 +6,5 @@ pub mod CanonicalTrees
 pub mod KeptRules
 pub mod SpellingLaws
 pub mod ViabilityLaws
+pub mod LocalRuleLemmas
+pub mod ByteLemmas

@@ -1,8 +1,10 @@
 -- What must be true of the definitions of the grammar, if they are the right ones.
-use Rattle.std.specs.Prelude.{◌≡◌, ◌↔◌, ℕ, ◌≤◌, List, [], ◌∷◌, ◌++◌}
+use Rattle.std.specs.Prelude.{◌≡◌, ◌↔◌, ℕ, ◌<◌, ◌≤◌, List, [], ◌∷◌, ◌++◌}
 use Rattle.resp_value.specs.Data.{Datum, IsPush}
-use Rattle.resp_value.specs.Trees.{Tree}
-use Rattle.resp_value.specs.Rules.{Rules, Rule, WithinTotal, rank, Keeps}
+use Rattle.resp_value.specs.Trees.{Tree, Spells}
+use Rattle.resp_value.specs.Rules.{Rules, Rule, WithinTotal, rank, Meets, Keeps}
+use Rattle.resp_value.specs.LocalRules.{MeetsLocally}
+use Rattle.resp_value.specs.Bytes.{IsText}
 use Rattle.resp_value.specs.Spellings.{IsSpelling, IsViable, IsCause, Cut, FaultOf}
 use Rattle.resp_value.specs.Canonical.{canonical_text, IsValue, HasTypes, Fits}
 use Rattle.resp_value.specs.declared.version.Version.{Version}
@@ -63,3 +65,11 @@ ATextHasOneCause = (r : Rules) (front : List ℕ) (rule rule' : Rule) → IsCaus
 -- a text that is viable under the last rule has no cause
 abbrev pub AViableTextHasNoCause : Type 0
 AViableTextHasNoCause = (r : Rules) (front : List ℕ) (rule : Rule) → IsViable r WithinTotal front → IsCause r front rule → ⊥
+
+-- each rule but the one of total holds of a tree exactly where it holds at each node on its level
+abbrev pub RulesHoldAtEachNode : Type 0
+RulesHoldAtEachNode = (r : Rules) (rule : Rule) (t : Tree) → rank rule < rank WithinTotal → Meets r rule t ↔ MeetsLocally r rule t
+
+-- every text of a tree is bytes
+abbrev pub TextsOfTreesAreBytes : Type 0
+TextsOfTreesAreBytes = (t : Tree) (written : List ℕ) → Spells t written → IsText written

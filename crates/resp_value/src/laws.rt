@@ -1,6 +1,6 @@
 //! Laws of the grammar's definitions, each the contract of a function with an empty body.
 
-ghost use Rattle.resp_value.specs.Laws.{ATextHasOneValue, NoSpellingBeginsAnother, NoSpellingIsEmpty, APushBeginsWithItsByte, ATextHasOneCut, ARestHasOneFault, VersionThreeSpellsWhatTwoDoes, CanonicalTextSpellsWhatFits, CanonicalTextTellsValuesApart, FrontsOfSpellingsAreViable, FrontsOfViableTextsAreViable, LaterRulesLeaveLess, ATextHasOneCause, AViableTextHasNoCause};
+ghost use Rattle.resp_value.specs.Laws.{ATextHasOneValue, NoSpellingBeginsAnother, NoSpellingIsEmpty, APushBeginsWithItsByte, ATextHasOneCut, ARestHasOneFault, VersionThreeSpellsWhatTwoDoes, CanonicalTextSpellsWhatFits, CanonicalTextTellsValuesApart, FrontsOfSpellingsAreViable, FrontsOfViableTextsAreViable, LaterRulesLeaveLess, ATextHasOneCause, AViableTextHasNoCause, RulesHoldAtEachNode, TextsOfTreesAreBytes};
 
 /// A text is a spelling of one value alone, whatever the version and the limits.
 pub fn a_text_has_one_value()
@@ -70,4 +70,14 @@ pub fn a_text_has_one_cause()
 /// A text that is viable under the last rule has no cause.
 pub fn a_viable_text_has_no_cause()
     ensures { AViableTextHasNoCause }
+{}
+
+/// Each rule but the one of total holds of a tree exactly where it holds at each node on its level.
+pub fn rules_hold_at_each_node()
+    ensures { RulesHoldAtEachNode }
+{}
+
+/// Every text of a tree is bytes.
+pub fn texts_of_trees_are_bytes()
+    ensures { TextsOfTreesAreBytes }
 {}
