@@ -168,7 +168,8 @@ abbrev pub byte_at_start : List ℕ → ℕ
 byte_at_start [] = 0
 byte_at_start (c ∷ cs) = c
 
-leaf_begins : (l : Leaf) → (cs : List ℕ) × (leaf_line l ≡ leaf_byte l ∷ cs)
+-- a leaf's first line begins with its type byte
+pub leaf_begins : (l : Leaf) → (cs : List ℕ) × (leaf_line l ≡ leaf_byte l ∷ cs)
 leaf_begins (line k s) = (s, refl)
 leaf_begins (numeral k sign digits) = (_, refl)
 leaf_begins (null BulkNull) = (_, refl)

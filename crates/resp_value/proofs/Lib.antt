@@ -8,3 +8,5 @@ pub mod SpellingLaws
 pub mod ViabilityLaws
 pub mod LocalRuleLemmas
 pub mod ByteLemmas
+pub mod DefaultLimits
+pub mod TypeBytes

@@ -1,8 +1,11 @@
 -- What must be true of the definitions of the grammar, if they are the right ones.
-use Rattle.std.specs.Prelude.{◌≡◌, ◌↔◌, ℕ, ◌<◌, ◌≤◌, List, [], ◌∷◌, ◌++◌}
+use Rattle.std.specs.Prelude.{◌≡◌, ◌↔◌, ℕ, ◌<◌, ◌≤◌, List, [], ◌∷◌, ◌++◌, true, codes}
+use Rattle.std.specs.List.{AllByRecursion}
+use Rattle.resp_value.specs.Bounds.{AreBounds}
+use Rattle.resp_value.specs.TreeValues.{value}
 use Rattle.resp_value.specs.Data.{Datum, IsPush}
 use Rattle.resp_value.specs.Trees.{Tree, Spells}
-use Rattle.resp_value.specs.Rules.{Rules, Rule, WithinTotal, rank, Meets, Keeps}
+use Rattle.resp_value.specs.Rules.{Rules, Rule, Grammar, NoDouble, InVersion, NotStreamed, WithinItems, WithinTotal, rank, Meets, Keeps}
 use Rattle.resp_value.specs.LocalRules.{MeetsLocally}
 use Rattle.resp_value.specs.Bytes.{IsText}
 use Rattle.resp_value.specs.Spellings.{IsSpelling, IsViable, IsCause, Cut, FaultOf}
@@ -73,3 +76,44 @@ RulesHoldAtEachNode = (r : Rules) (rule : Rule) (t : Tree) → rank rule < rank 
 -- every text of a tree is bytes
 abbrev pub TextsOfTreesAreBytes : Type 0
 TextsOfTreesAreBytes = (t : Tree) (written : List ℕ) → Spells t written → IsText written
+
+-- each rule but the limit of items and the switch for streamed forms
+abbrev pub MeetsTheOtherRules : Rules → Tree → Type 0
+MeetsTheOtherRules r t = (rule : Rule) → (rule ≡ NotStreamed → ⊥) → (rule ≡ WithinItems → ⊥) → Meets r rule t
+
+-- with streamed forms allowed and items up to the most bytes of a value, the trees and the spellings are those of the other rules
+abbrev pub DefaultItemsRefuseNothing : Type 0
+DefaultItemsRefuseNothing = (r : Rules) → r.limits.total ≤ 1099511627776 → r.limits.items ≡ 1099511627776 → r.limits.streamed ≡ true → ((t : Tree) → Keeps r WithinTotal t ↔ MeetsTheOtherRules r t) × ((x : Datum) (written : List ℕ) → IsSpelling r x written ↔ ((t : Tree) × Spells t written × MeetsTheOtherRules r t × (value t ≡ x)))
+
+-- the type bytes of both versions
+abbrev pub type_bytes : List ℕ
+type_bytes = codes "+-:$*"
+
+-- the type bytes of version 3 alone
+abbrev pub later_type_bytes : List ℕ
+later_type_bytes = codes "_#(!=~%|>"
+
+-- the type bytes of a version
+abbrev pub type_bytes_of : Version → List ℕ
+type_bytes_of Two = type_bytes
+type_bytes_of Three = type_bytes ++ later_type_bytes
+
+-- the empty text is viable under each rule
+abbrev pub TheEmptyTextIsViable : Type 0
+TheEmptyTextIsViable = (r : Rules) → AreBounds r.limits → (rule : Rule) → IsViable r rule []
+
+-- each type byte of a version is viable in it under each rule
+abbrev pub TypeBytesAreViable : Type 0
+TypeBytesAreViable = (r : Rules) → AreBounds r.limits → (rule : Rule) → AllByRecursion (λ byte. IsViable r rule (byte ∷ [])) (type_bytes_of r.version)
+
+-- in version 2 the version is the cause of a later type byte's refusal
+abbrev pub LaterTypeBytesWantVersionThree : Type 0
+LaterTypeBytesWantVersionThree = (r : Rules) → r.version ≡ Two → AllByRecursion (λ byte. IsCause r (byte ∷ []) InVersion) later_type_bytes
+
+-- a `,` begins a double in both versions, and is refused for that
+abbrev pub ACommaBeginsADouble : Type 0
+ACommaBeginsADouble = (r : Rules) → IsCause r (codes ",") NoDouble
+
+-- no tree begins with another byte
+abbrev pub NoOtherByteBeginsATree : Type 0
+NoOtherByteBeginsATree = (r : Rules) (byte : ℕ) → AllByRecursion (λ other. byte ≡ other → ⊥) (codes "," ++ type_bytes_of Three) → IsCause r (byte ∷ []) Grammar

@@ -1,6 +1,6 @@
 //! Laws of the grammar's definitions, each the contract of a function with an empty body.
 
-ghost use Rattle.resp_value.specs.Laws.{ATextHasOneValue, NoSpellingBeginsAnother, NoSpellingIsEmpty, APushBeginsWithItsByte, ATextHasOneCut, ARestHasOneFault, VersionThreeSpellsWhatTwoDoes, CanonicalTextSpellsWhatFits, CanonicalTextTellsValuesApart, FrontsOfSpellingsAreViable, FrontsOfViableTextsAreViable, LaterRulesLeaveLess, ATextHasOneCause, AViableTextHasNoCause, RulesHoldAtEachNode, TextsOfTreesAreBytes};
+ghost use Rattle.resp_value.specs.Laws.{ATextHasOneValue, NoSpellingBeginsAnother, NoSpellingIsEmpty, APushBeginsWithItsByte, ATextHasOneCut, ARestHasOneFault, VersionThreeSpellsWhatTwoDoes, CanonicalTextSpellsWhatFits, CanonicalTextTellsValuesApart, FrontsOfSpellingsAreViable, FrontsOfViableTextsAreViable, LaterRulesLeaveLess, ATextHasOneCause, AViableTextHasNoCause, RulesHoldAtEachNode, TextsOfTreesAreBytes, DefaultItemsRefuseNothing, TheEmptyTextIsViable, TypeBytesAreViable, LaterTypeBytesWantVersionThree, ACommaBeginsADouble, NoOtherByteBeginsATree};
 
 /// A text is a spelling of one value alone, whatever the version and the limits.
 pub fn a_text_has_one_value()
@@ -80,4 +80,34 @@ pub fn rules_hold_at_each_node()
 /// Every text of a tree is bytes.
 pub fn texts_of_trees_are_bytes()
     ensures { TextsOfTreesAreBytes }
+{}
+
+/// With streamed forms allowed and items up to the most bytes of a value, the trees and the spellings are those of the other rules.
+pub fn default_items_refuse_nothing()
+    ensures { DefaultItemsRefuseNothing }
+{}
+
+/// The empty text is viable under each rule.
+pub fn the_empty_text_is_viable()
+    ensures { TheEmptyTextIsViable }
+{}
+
+/// Each type byte of a version is viable in it under each rule.
+pub fn type_bytes_are_viable()
+    ensures { TypeBytesAreViable }
+{}
+
+/// In version 2 the version is the cause of a later type byte's refusal.
+pub fn later_type_bytes_want_version_three()
+    ensures { LaterTypeBytesWantVersionThree }
+{}
+
+/// A `,` begins a double in both versions, and is refused for that.
+pub fn a_comma_begins_a_double()
+    ensures { ACommaBeginsADouble }
+{}
+
+/// No tree begins with another byte.
+pub fn no_other_byte_begins_a_tree()
+    ensures { NoOtherByteBeginsATree }
 {}

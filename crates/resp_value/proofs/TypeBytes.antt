@@ -1,0 +1,365 @@
+-- Which first bytes are viable, and the cause of the others.
+use Rattle.std.proofs.Common.{◌≡◌, ◌↔◌, ℕ, ◌+◌, ◌^◌, ◌<◌, ◌≤◌, Bool, true, false, List, [], ◌∷◌, ◌++◌, length, codes, eqb, ℤ, pos, neg_ℤ, ◌≤ℤ◌, ◌<ℤ◌, refl, sym, ap, subst, ◌∙◌, arith}
+use Rattle.std.specs.List.{AllByRecursion}
+use Rattle.std.proofs.lemmas.Int.{ints}
+use Rattle.std.proofs.lemmas.Bool.{eqb-false}
+use Rattle.resp_value.specs.Bounds.{AreBounds}
+use Rattle.resp_value.specs.Numbers.{Unsigned}
+use Rattle.resp_value.specs.Data.{Kind, Array, Set, Map, Attr, Push, content_length, depth, longest, most_items}
+use Rattle.resp_value.specs.Trees.{Tree, Trees, leaf, node, none, more, Leaf, line, numeral, null, truth, string, chunked, LineKind, Simple, Error, Double, NumberKind, Int, Big, NullForm, BulkNull, ArrayNull, PlainNull, StringKind, Bulk, BulkError, Verbatim, Form, Counted, Streamed, text, kind_byte, leaf_text, IsTree, IsLeaf, Spells}
+use Rattle.resp_value.specs.TreeValues.{value, leaf_value}
+use Rattle.resp_value.specs.Rules.{Rules, Rule, Grammar, NoDouble, InVersion, PushAtTop, InRange, NotStreamed, WithinDepth, WithinLength, WithinItems, WithinTotal, rank, Meets, Keeps, Every, EveryOf, HasVersion, HasPushAtRoot, IsAnyLeaf, IsAnyNode, IsNoPush, IsNoDouble, IsInRange, IsLeafInTwo, IsNodeInTwo, IsCountedLeaf, IsCountedNode}
+use Rattle.resp_value.specs.Spellings.{IsViable, IsCause}
+use Rattle.resp_value.specs.Laws.{type_bytes, later_type_bytes, type_bytes_of, TheEmptyTextIsViable, TypeBytesAreViable, LaterTypeBytesWantVersionThree, ACommaBeginsADouble, NoOtherByteBeginsATree}
+use Rattle.resp_value.specs.declared.version.Version.{Version}
+use Rattle.resp_value.specs.declared.version.Version.TheVariants.{Two, Three}
+use Rattle.resp_value.proofs.FirstLines.{first_byte, leaf_byte, begins, first_byte_is}
+use Rattle.resp_value.proofs.ViabilityLaws.{fronts_of_viable_texts_are_viable}
+
+-- a tree that keeps every rule but the one of a version, whatever the limits
+record IsSmall (t : Tree) : Type 0 where
+  is_tree : IsTree t
+  no_double : Every IsNoDouble IsAnyNode t
+  push_at_root : HasPushAtRoot t
+  in_range : Every IsInRange IsAnyNode t
+  counted : Every IsCountedLeaf IsCountedNode t
+  depth_at_most : depth (value t) ≤ 4
+  length_at_most : longest (value t) ≤ 64
+  items_at_most : most_items (value t) ≤ 16
+  total_at_most : length (text t) ≤ 256
+
+small_meets : (r : Rules) (t : Tree) → AreBounds r.limits → IsSmall t → HasVersion r.version t → (rule : Rule) → Meets r rule t
+small_meets r t b s w Grammar = tt
+small_meets r t b s w NoDouble = s.no_double
+small_meets r t b s w InVersion = w
+small_meets r t b s w PushAtTop = s.push_at_root
+small_meets r t b s w InRange = s.in_range
+small_meets r t b s w NotStreamed = λ off. s.counted
+small_meets r t b s w WithinDepth = let h : 4 ≤ r.limits.depth = b.depth_in_range.0 in let h2 = s.depth_at_most in omega arith
+small_meets r t b s w WithinLength = let h : 64 ≤ r.limits.length = b.length_in_range.0 in let h2 = s.length_at_most in omega arith
+small_meets r t b s w WithinItems = let h : 16 ≤ r.limits.items = b.items_in_range.0 in let h2 = s.items_at_most in omega arith
+small_meets r t b s w WithinTotal = let h : 256 ≤ r.limits.total = b.total_in_range.0 in let h2 = s.total_at_most in omega arith
+
+-- a small leaf
+small_leaf : (l : Leaf) → IsLeaf l → IsNoDouble l → IsInRange l → IsCountedLeaf l → content_length (leaf_value l) ≤ 64 → length (leaf_text l) ≤ 256 → IsSmall (leaf l)
+small_leaf l p no_double in_range counted length_at_most total_at_most = record {
+  is_tree = p;
+  no_double = no_double;
+  push_at_root = tt;
+  in_range = in_range;
+  counted = counted;
+  depth_at_most = omega arith;
+  length_at_most = length_at_most;
+  items_at_most = omega arith;
+  total_at_most = total_at_most;
+}
+
+abbrev zero_digit : List ℕ
+zero_digit = codes "0"
+
+-- an aggregate without members, by the byte of its kind
+abbrev empty_node : Kind → Tree
+empty_node k = node k (Counted zero_digit) none
+
+-- a small tree for each type byte
+small_simple : IsSmall (leaf (line Simple []))
+small_simple = small_leaf (line Simple []) (tt, tt) tt tt tt (omega arith) (omega arith)
+
+small_error : IsSmall (leaf (line Error []))
+small_error = small_leaf (line Error []) (tt, tt) tt tt tt (omega arith) (omega arith)
+
+small_int : IsSmall (leaf (numeral Int Unsigned zero_digit))
+small_int = small_leaf (numeral Int Unsigned zero_digit) (omega arith, ((omega arith, omega arith), tt)) tt (omega (arith, ints), omega (arith, ints)) tt (omega arith) (omega arith)
+
+small_bulk : IsSmall (leaf (string Bulk zero_digit []))
+small_bulk = small_leaf (string Bulk zero_digit []) (((omega arith, ((omega arith, omega arith), tt)), refl), tt, tt) tt tt tt (omega arith) (omega arith)
+
+small_verbatim : IsSmall (leaf (string (Verbatim (codes "txt")) (codes "4") []))
+small_verbatim = small_leaf (string (Verbatim (codes "txt")) (codes "4") []) (((omega arith, ((omega arith, omega arith), tt)), refl), (refl, (omega arith, (omega arith, (omega arith, tt)))), tt) tt tt tt (omega arith) (omega arith)
+
+small_big : IsSmall (leaf (numeral Big Unsigned zero_digit))
+small_big = small_leaf (numeral Big Unsigned zero_digit) (omega arith, ((omega arith, omega arith), tt)) tt tt tt (omega arith) (omega arith)
+
+small_null : IsSmall (leaf (null PlainNull))
+small_null = small_leaf (null PlainNull) tt tt tt tt (omega arith) (omega arith)
+
+small_truth : IsSmall (leaf (truth true))
+small_truth = small_leaf (truth true) tt tt tt tt (omega arith) (omega arith)
+
+small_bulk_error : IsSmall (leaf (string BulkError zero_digit []))
+small_bulk_error = small_leaf (string BulkError zero_digit []) (((omega arith, ((omega arith, omega arith), tt)), refl), tt, tt) tt tt tt (omega arith) (omega arith)
+
+-- an aggregate of small leaves
+small_node : (k : Kind) (ts : Trees) → IsTree (node k (Counted zero_digit) ts) → EveryOf IsNoDouble IsAnyNode ts → EveryOf IsAnyLeaf IsNoPush ts → EveryOf IsInRange IsAnyNode ts → EveryOf IsCountedLeaf IsCountedNode ts → depth (value (node k (Counted zero_digit) ts)) ≤ 4 → longest (value (node k (Counted zero_digit) ts)) ≤ 64 → most_items (value (node k (Counted zero_digit) ts)) ≤ 16 → length (text (node k (Counted zero_digit) ts)) ≤ 256 → IsSmall (node k (Counted zero_digit) ts)
+small_node k ts p no_double no_push in_range counted depth_at_most length_at_most items_at_most total_at_most = record {
+  is_tree = p;
+  no_double = (tt, no_double);
+  push_at_root = no_push;
+  in_range = (tt, in_range);
+  counted = (tt, counted);
+  depth_at_most = depth_at_most;
+  length_at_most = length_at_most;
+  items_at_most = items_at_most;
+  total_at_most = total_at_most;
+}
+
+small_array : IsSmall (empty_node Array)
+small_array = small_node Array none (((omega arith, ((omega arith, omega arith), tt)), refl), tt) tt tt tt tt (omega arith) (omega arith) (omega arith) (omega arith)
+
+small_set : IsSmall (empty_node Set)
+small_set = small_node Set none (((omega arith, ((omega arith, omega arith), tt)), refl), tt) tt tt tt tt (omega arith) (omega arith) (omega arith) (omega arith)
+
+small_map : IsSmall (empty_node Map)
+small_map = small_node Map none (((omega arith, ((omega arith, omega arith), tt)), refl), tt) tt tt tt tt (omega arith) (omega arith) (omega arith) (omega arith)
+
+small_push : IsSmall (empty_node Push)
+small_push = small_node Push none (((omega arith, ((omega arith, omega arith), tt)), refl), tt) tt tt tt tt (omega arith) (omega arith) (omega arith) (omega arith)
+
+-- an attribute of no pairs and a value
+small_attr : IsSmall (node Attr (Counted zero_digit) (more (leaf (null PlainNull)) none))
+small_attr = small_node Attr (more (leaf (null PlainNull)) none) (((omega arith, ((omega arith, omega arith), tt)), refl), (tt, tt)) (tt, tt) (tt, tt) (tt, tt) (tt, tt) (omega arith) (omega arith) (omega arith) (omega arith)
+
+-- the type byte of a small tree of the version is viable
+small_is_viable : (r : Rules) (t : Tree) → AreBounds r.limits → IsSmall t → HasVersion r.version t → (rule : Rule) → IsViable r rule (first_byte t ∷ [])
+small_is_viable r t b s w rule =
+    let (rest, e) = begins t in
+    record { rest = rest; tree = t; spells = record { is_tree = s.is_tree; spelled = e }; keeps = λ earlier h. small_meets r t b s w earlier }
+
+abbrev AllViable : Rules → Rule → List ℕ → Type 0
+AllViable r rule bytes = AllByRecursion (λ byte. IsViable r rule (byte ∷ [])) bytes
+
+-- every version has these trees
+in_each : (w : Version) (t : Tree) → Every IsLeafInTwo IsNodeInTwo t → HasVersion w t
+in_each Two t p = p
+in_each Three t p = tt
+
+old_bytes_viable : (r : Rules) → AreBounds r.limits → (rule : Rule) → AllViable r rule type_bytes
+old_bytes_viable r b rule = (
+  small_is_viable r (leaf (line Simple [])) b small_simple (in_each r.version (leaf (line Simple [])) tt) rule,
+  (
+    small_is_viable r (leaf (line Error [])) b small_error (in_each r.version (leaf (line Error [])) tt) rule,
+    (
+      small_is_viable r (leaf (numeral Int Unsigned zero_digit)) b small_int (in_each r.version (leaf (numeral Int Unsigned zero_digit)) tt) rule,
+      (
+        small_is_viable r (leaf (string Bulk zero_digit [])) b small_bulk (in_each r.version (leaf (string Bulk zero_digit [])) tt) rule,
+        (
+          small_is_viable r (empty_node Array) b small_array (in_each r.version (empty_node Array) (tt, tt)) rule,
+          tt,
+        ),
+      ),
+    ),
+  ),
+)
+
+later_bytes_viable : (r : Rules) → r.version ≡ Three → AreBounds r.limits → (rule : Rule) → AllViable r rule later_type_bytes
+later_bytes_viable r is_three b rule = (
+  viable (leaf (null PlainNull)) small_null,
+  (
+    viable (leaf (truth true)) small_truth,
+    (
+      viable (leaf (numeral Big Unsigned zero_digit)) small_big,
+      (
+        viable (leaf (string BulkError zero_digit [])) small_bulk_error,
+        (
+          viable (leaf (string (Verbatim (codes "txt")) (codes "4") [])) small_verbatim,
+          (
+            viable (empty_node Set) small_set,
+            (
+              viable (empty_node Map) small_map,
+              (
+                viable (node Attr (Counted zero_digit) (more (leaf (null PlainNull)) none)) small_attr,
+                (
+                  viable (empty_node Push) small_push,
+                  tt,
+                ),
+              ),
+            ),
+          ),
+        ),
+      ),
+    ),
+  ),
+)
+  where
+    viable : (t : Tree) → IsSmall t → IsViable r rule (first_byte t ∷ [])
+    viable t s = small_is_viable r t b s (subst (λ w. HasVersion w t) (sym is_three) tt) rule
+
+-- what holds of each of two lists holds of one behind the other
+pub all_append : (P : ℕ → Type 0) (a b : List ℕ) → AllByRecursion P a → AllByRecursion P b → AllByRecursion P (a ++ b)
+all_append P [] b p q = q
+all_append P (c ∷ a) b p q = (p.0, all_append P a b p.1 q)
+
+-- each type byte of a version is viable in it
+pub type_bytes_are_viable : TypeBytesAreViable
+type_bytes_are_viable r b rule = cases r.version refl
+  where
+    cases : (w : Version) → r.version ≡ w → AllViable r rule (type_bytes_of w)
+    cases Two e = old_bytes_viable r b rule
+    cases Three e = all_append (λ byte. IsViable r rule (byte ∷ [])) type_bytes later_type_bytes (old_bytes_viable r b rule) (later_bytes_viable r e b rule)
+
+-- nothing has come, and all is viable
+pub the_empty_text_is_viable : TheEmptyTextIsViable
+the_empty_text_is_viable r b rule = fronts_of_viable_texts_are_viable r rule [] (codes "+") (old_bytes_viable r b rule).0
+
+at_kind_byte : (P : ℕ → Type 0) → AllByRecursion P (type_bytes_of Three) → (k : Kind) → P (kind_byte k)
+at_kind_byte P p Array = p.1.1.1.1.0
+at_kind_byte P p Set = p.1.1.1.1.1.1.1.1.1.1.0
+at_kind_byte P p Map = p.1.1.1.1.1.1.1.1.1.1.1.0
+at_kind_byte P p Attr = p.1.1.1.1.1.1.1.1.1.1.1.1.0
+at_kind_byte P p Push = p.1.1.1.1.1.1.1.1.1.1.1.1.1.0
+
+-- what holds of each type byte but `,` holds of the first byte of a leaf that is no double
+at_no_double : (P : ℕ → Type 0) → AllByRecursion P (type_bytes_of Three) → (l : Leaf) → IsNoDouble l → P (leaf_byte l)
+at_no_double P p (line Simple s) h = p.0
+at_no_double P p (line Error s) h = p.1.0
+at_no_double P p (line Double s) h = absurd h
+at_no_double P p (numeral Int sign digits) h = p.1.1.0
+at_no_double P p (numeral Big sign digits) h = p.1.1.1.1.1.1.1.0
+at_no_double P p (null BulkNull) h = p.1.1.1.0
+at_no_double P p (null ArrayNull) h = p.1.1.1.1.0
+at_no_double P p (null PlainNull) h = p.1.1.1.1.1.0
+at_no_double P p (truth b) h = p.1.1.1.1.1.1.0
+at_no_double P p (string Bulk digits s) h = p.1.1.1.0
+at_no_double P p (string BulkError digits s) h = p.1.1.1.1.1.1.1.1.0
+at_no_double P p (string (Verbatim format) digits s) h = p.1.1.1.1.1.1.1.1.1.0
+at_no_double P p (chunked chunks zeros) h = p.1.1.1.0
+
+-- what holds of each type byte and of `,` holds of a leaf's first byte
+at_leaf_byte : (P : ℕ → Type 0) → AllByRecursion P (codes "," ++ type_bytes_of Three) → (l : Leaf) → P (leaf_byte l)
+at_leaf_byte P p (line Simple s) = p.1.0
+at_leaf_byte P p (line Error s) = p.1.1.0
+at_leaf_byte P p (line Double s) = p.0
+at_leaf_byte P p (numeral k sign digits) = at_no_double P p.1 (numeral k sign digits) tt
+at_leaf_byte P p (null form) = at_no_double P p.1 (null form) tt
+at_leaf_byte P p (truth b) = at_no_double P p.1 (truth b) tt
+at_leaf_byte P p (string k digits s) = at_no_double P p.1 (string k digits s) tt
+at_leaf_byte P p (chunked chunks zeros) = at_no_double P p.1 (chunked chunks zeros) tt
+
+-- what holds of each type byte and of `,` holds of a tree's first byte
+pub at_first_byte : (P : ℕ → Type 0) → AllByRecursion P (codes "," ++ type_bytes_of Three) → (t : Tree) → P (first_byte t)
+at_first_byte P p (leaf l) = at_leaf_byte P p l
+at_first_byte P p (node k form ts) = at_kind_byte P p.1 k
+
+-- what holds of each type byte holds of the first byte of a tree without doubles
+pub at_first_byte_of_no_double : (P : ℕ → Type 0) → AllByRecursion P (type_bytes_of Three) → (t : Tree) → Every IsNoDouble IsAnyNode t → P (first_byte t)
+at_first_byte_of_no_double P p (leaf l) h = at_no_double P p l h
+at_first_byte_of_no_double P p (node k form ts) h = at_kind_byte P p k
+
+-- what holds of each type byte of version 2 holds of the first byte of a tree of it
+pub at_first_byte_of_two : (P : ℕ → Type 0) → AllByRecursion P type_bytes → (t : Tree) → Every IsLeafInTwo IsNodeInTwo t → P (first_byte t)
+at_first_byte_of_two P p (leaf (line Simple s)) h = p.0
+at_first_byte_of_two P p (leaf (line Error s)) h = p.1.0
+at_first_byte_of_two P p (leaf (line Double s)) h = absurd h
+at_first_byte_of_two P p (leaf (numeral Int sign digits)) h = p.1.1.0
+at_first_byte_of_two P p (leaf (numeral Big sign digits)) h = absurd h
+at_first_byte_of_two P p (leaf (null BulkNull)) h = p.1.1.1.0
+at_first_byte_of_two P p (leaf (null ArrayNull)) h = p.1.1.1.1.0
+at_first_byte_of_two P p (leaf (null PlainNull)) h = absurd h
+at_first_byte_of_two P p (leaf (truth b)) h = absurd h
+at_first_byte_of_two P p (leaf (string Bulk digits s)) h = p.1.1.1.0
+at_first_byte_of_two P p (leaf (string BulkError digits s)) h = absurd h
+at_first_byte_of_two P p (leaf (string (Verbatim format) digits s)) h = absurd h
+at_first_byte_of_two P p (leaf (chunked chunks zeros)) h = absurd h
+at_first_byte_of_two P p (node Array form ts) h = p.1.1.1.1.0
+at_first_byte_of_two P p (node Set form ts) h = absurd h.0
+at_first_byte_of_two P p (node Map form ts) h = absurd h.0
+at_first_byte_of_two P p (node Attr form ts) h = absurd h.0
+at_first_byte_of_two P p (node Push form ts) h = absurd h.0
+
+-- the first byte of the tree that a byte goes on to
+byte_of : (r : Rules) (rule : Rule) (byte : ℕ) (v : IsViable r rule (byte ∷ [])) → first_byte v.tree ≡ byte
+byte_of r rule byte v = first_byte_is v.tree [] (v.rest ++ []) byte (ap (λ z. z ++ []) v.spells.spelled)
+
+-- no tree begins with another byte
+pub no_other_byte_begins_a_tree : NoOtherByteBeginsATree
+no_other_byte_begins_a_tree r byte other = record {
+  viable_before = λ earlier h. absurd (omega arith);
+  not_viable = λ v. at_first_byte (λ b. byte ≡ b → ⊥) other v.tree (sym (byte_of r Grammar byte v));
+}
+
+-- no rule comes before the grammar
+first_rule : (r : Rules) (rule : Rule) (t : Tree) → rank rule < 1 → Meets r rule t
+first_rule r Grammar t h = tt
+first_rule r NoDouble t h = absurd (omega arith)
+first_rule r InVersion t h = absurd (omega arith)
+first_rule r PushAtTop t h = absurd (omega arith)
+first_rule r InRange t h = absurd (omega arith)
+first_rule r NotStreamed t h = absurd (omega arith)
+first_rule r WithinDepth t h = absurd (omega arith)
+first_rule r WithinLength t h = absurd (omega arith)
+first_rule r WithinItems t h = absurd (omega arith)
+first_rule r WithinTotal t h = absurd (omega arith)
+
+-- before the version come the grammar and doubles
+before_version : (r : Rules) (rule : Rule) (t : Tree) → Every IsNoDouble IsAnyNode t → rank rule < 2 → Meets r rule t
+before_version r Grammar t no_double h = tt
+before_version r NoDouble t no_double h = no_double
+before_version r InVersion t no_double h = absurd (omega arith)
+before_version r PushAtTop t no_double h = absurd (omega arith)
+before_version r InRange t no_double h = absurd (omega arith)
+before_version r NotStreamed t no_double h = absurd (omega arith)
+before_version r WithinDepth t no_double h = absurd (omega arith)
+before_version r WithinLength t no_double h = absurd (omega arith)
+before_version r WithinItems t no_double h = absurd (omega arith)
+before_version r WithinTotal t no_double h = absurd (omega arith)
+
+-- a `,` begins a double
+pub a_comma_begins_a_double : ACommaBeginsADouble
+a_comma_begins_a_double r = record {
+  viable_before = λ earlier h. record {
+    rest = codes "\r\n";
+    tree = leaf (line Double []);
+    spells = record { is_tree = (tt, tt); spelled = refl };
+    keeps = λ first g. first_rule r first (leaf (line Double [])) (omega arith);
+  };
+  not_viable = λ v. let no_double : Every IsNoDouble IsAnyNode v.tree = v.keeps NoDouble (omega arith) in
+      let apart : eqb (first_byte v.tree) 44 ≡ false = at_first_byte_of_no_double (λ b. eqb b 44 ≡ false) (refl, (refl, (refl, (refl, (refl, (refl, (refl, (refl, (refl, (refl, (refl, (refl, (refl, (refl, tt)))))))))))))) v.tree no_double in
+      eqb-false (first_byte v.tree) 44 apart (byte_of r NoDouble 44 v);
+}
+
+-- none of the type bytes of version 2
+abbrev IsLater : ℕ → Type 0
+IsLater byte = AllByRecursion (λ b. eqb b byte ≡ false) type_bytes
+
+-- a byte that begins a small tree and no tree of version 2
+wants_three : (r : Rules) (t : Tree) → r.version ≡ Two → IsSmall t → IsLater (first_byte t) → IsCause r (first_byte t ∷ []) InVersion
+wants_three r t is_two s later = record {
+  viable_before = λ earlier h.
+      let (rest, e) = begins t in
+      record { rest = rest; tree = t; spells = record { is_tree = s.is_tree; spelled = e }; keeps = λ first g. before_version r first t s.no_double (omega arith) };
+  not_viable = λ v.
+      let in_version : HasVersion r.version v.tree = v.keeps InVersion (omega arith) in
+      let in_two : Every IsLeafInTwo IsNodeInTwo v.tree = subst (λ w. HasVersion w v.tree) is_two in_version in
+      let apart : eqb (first_byte v.tree) (first_byte t) ≡ false = at_first_byte_of_two (λ b. eqb b (first_byte t) ≡ false) later v.tree in_two in
+      eqb-false (first_byte v.tree) (first_byte t) apart (byte_of r InVersion (first_byte t) v);
+}
+
+pub later_type_bytes_want_version_three : LaterTypeBytesWantVersionThree
+later_type_bytes_want_version_three r is_two = (
+  wants_three r (leaf (null PlainNull)) is_two small_null (refl, (refl, (refl, (refl, (refl, tt))))),
+  (
+    wants_three r (leaf (truth true)) is_two small_truth (refl, (refl, (refl, (refl, (refl, tt))))),
+    (
+      wants_three r (leaf (numeral Big Unsigned zero_digit)) is_two small_big (refl, (refl, (refl, (refl, (refl, tt))))),
+      (
+        wants_three r (leaf (string BulkError zero_digit [])) is_two small_bulk_error (refl, (refl, (refl, (refl, (refl, tt))))),
+        (
+          wants_three r (leaf (string (Verbatim (codes "txt")) (codes "4") [])) is_two small_verbatim (refl, (refl, (refl, (refl, (refl, tt))))),
+          (
+            wants_three r (empty_node Set) is_two small_set (refl, (refl, (refl, (refl, (refl, tt))))),
+            (
+              wants_three r (empty_node Map) is_two small_map (refl, (refl, (refl, (refl, (refl, tt))))),
+              (
+                wants_three r (node Attr (Counted zero_digit) (more (leaf (null PlainNull)) none)) is_two small_attr (refl, (refl, (refl, (refl, (refl, tt))))),
+                (
+                  wants_three r (empty_node Push) is_two small_push (refl, (refl, (refl, (refl, (refl, tt))))),
+                  tt,
+                ),
+              ),
+            ),
+          ),
+        ),
+      ),
+    ),
+  ),
+)
