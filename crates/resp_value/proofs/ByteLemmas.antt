@@ -6,11 +6,11 @@ use Rattle.resp_value.specs.Numbers.{IsDigit, Sign, Unsigned, Plus, Minus, sign_
 use Rattle.resp_value.specs.Data.{Kind, Array, Set, Map, Attr, Push}
 use Rattle.resp_value.specs.Trees.{Tree, Trees, leaf, node, none, more, Leaf, line, numeral, null, truth, string, chunked, LineKind, Simple, Error, Double, NumberKind, Int, Big, BulkNull, ArrayNull, PlainNull, StringKind, Bulk, BulkError, Verbatim, Form, Counted, Streamed, Chunk, text, texts, close, chunks_text, leaf_line, leaf_rest, line_byte, number_byte, string_byte, kind_byte, form_line, payload, IsTree, AreTrees, IsLeaf, HasFormat, HasMembers, IsChunk, count}
 use Rattle.resp_value.specs.Laws.{TextsOfTreesAreBytes}
+use Rattle.resp_value.proofs.FirstBytes.{all_append}
 
 -- two texts, one behind the other, are a text
 pub bytes_append : (a b : List ℕ) → IsText a → IsText b → IsText (a ++ b)
-bytes_append [] b p q = q
-bytes_append (c ∷ a) b p q = (p.0, bytes_append a b p.1 q)
+bytes_append a b p q = all_append IsByte a b p q
 
 -- CR LF and a text are a text
 pub bytes_crlf : (a : List ℕ) → IsText a → IsText (crlf a)

@@ -7,7 +7,7 @@ use Rattle.resp_value.specs.Trees.{Tree, Trees, leaf, node, none, more, text, te
 use Rattle.resp_value.specs.TreeValues.{value, values}
 use Rattle.resp_value.specs.Rules.{Rules, Rule, Grammar, NoDouble, InVersion, PushAtTop, InRange, NotStreamed, WithinDepth, WithinLength, WithinItems, WithinTotal, Meets, Keeps}
 use Rattle.resp_value.specs.Laws.{DefaultItemsRefuseNothing, MeetsTheOtherRules}
-use Rattle.resp_value.proofs.FirstLines.{leaf_byte, leaf_begins}
+use Rattle.resp_value.proofs.FirstBytes.{leaf_byte, leaf_begins}
 use Rattle.resp_value.proofs.SpellingLaws.{up_to_total}
 use Rattle.resp_value.proofs.LocalRuleLemmas.{count-values}
 

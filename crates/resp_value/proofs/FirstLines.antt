@@ -1,9 +1,10 @@
 -- What a first line says: it tells which leaf or aggregate it begins.
-use Rattle.std.proofs.Common.{◌≡◌, ℕ, ◌<◌, Bool, true, false, cond, eqb, List, [], ◌∷◌, ◌++◌, refl, sym, ap, ◌∙◌, arith, append_assoc}
-use Rattle.resp_value.specs.Bytes.{IsLine, IsPlain, crlf}
+use Rattle.std.proofs.Common.{◌≡◌, ℕ, Bool, true, false, cond, eqb, List, [], ◌∷◌, ◌++◌, refl, ap, arith, append_assoc}
+use Rattle.resp_value.specs.Bytes.{IsLine, crlf}
 use Rattle.resp_value.specs.Numbers.{IsDigits, Sign, Unsigned, Plus, Minus, sign_text}
 use Rattle.resp_value.specs.Data.{Kind, Array, Set, Map, Attr, Push}
 use Rattle.resp_value.specs.Trees.{Tree, leaf, node, Leaf, line, numeral, null, truth, string, chunked, LineKind, Simple, Error, Double, NumberKind, Int, Big, NullForm, BulkNull, ArrayNull, PlainNull, Bulk, BulkError, Verbatim, Form, Counted, Streamed, text, texts, close, leaf_line, leaf_rest, line_byte, number_byte, null_line, truth_line, string_byte, kind_byte, form_line, IsTree, IsLeaf}
+use Rattle.resp_value.proofs.FirstBytes.{leaf_byte_above, kind_byte_above}
 use Rattle.resp_value.proofs.Splitting.{line_from_digits, plain_above, digit_is_no, digit_is_no_mark}
 
 -- what the first line of a leaf says of it
@@ -144,73 +145,6 @@ unfolding first_line
 text_is (leaf l) x = append_assoc (leaf_line l) (crlf (leaf_rest l)) x
 text_is (node k form ts) x = append_assoc (kind_byte k ∷ form_line form) (crlf (texts ts ++ close form)) x
 
-abbrev null_byte : NullForm → ℕ
-null_byte BulkNull = 36
-null_byte ArrayNull = 42
-null_byte PlainNull = 95
-
--- the type byte of a leaf
-abbrev pub leaf_byte : Leaf → ℕ
-leaf_byte (line k s) = line_byte k
-leaf_byte (numeral k sign digits) = number_byte k
-leaf_byte (null form) = null_byte form
-leaf_byte (truth b) = 35
-leaf_byte (string k digits s) = string_byte k
-leaf_byte (chunked chunks zeros) = 36
-
--- the type byte of a tree
-abbrev pub first_byte : Tree → ℕ
-first_byte (leaf l) = leaf_byte l
-first_byte (node k form ts) = kind_byte k
-
--- the byte that a text begins with, and 0 where it is empty
-abbrev pub byte_at_start : List ℕ → ℕ
-byte_at_start [] = 0
-byte_at_start (c ∷ cs) = c
-
--- a leaf's first line begins with its type byte
-pub leaf_begins : (l : Leaf) → (cs : List ℕ) × (leaf_line l ≡ leaf_byte l ∷ cs)
-leaf_begins (line k s) = (s, refl)
-leaf_begins (numeral k sign digits) = (_, refl)
-leaf_begins (null BulkNull) = (_, refl)
-leaf_begins (null ArrayNull) = (_, refl)
-leaf_begins (null PlainNull) = (_, refl)
-leaf_begins (truth true) = (_, refl)
-leaf_begins (truth false) = (_, refl)
-leaf_begins (string k digits s) = (_, refl)
-leaf_begins (chunked chunks zeros) = (_, refl)
-
--- a tree's text begins with its type byte
-pub begins : (t : Tree) → (cs : List ℕ) × (text t ≡ first_byte t ∷ cs)
-begins (leaf l) = let (cs, e) = leaf_begins l in (cs ++ crlf (leaf_rest l), ap (λ z. z ++ crlf (leaf_rest l)) e)
-begins (node k form ts) = (_, refl)
-
--- where a tree's text begins with a byte, this is the tree's type byte
-pub first_byte_is : (t : Tree) (x r : List ℕ) (byte : ℕ) → text t ++ x ≡ byte ∷ r → first_byte t ≡ byte
-first_byte_is t x r byte e = let (cs, h) = begins t in sym (ap (λ z. byte_at_start (z ++ x)) h) ∙ ap byte_at_start e
-
--- a leaf's type byte is above CR, and neither `.` nor `>`
-pub record IsLeafByte (byte : ℕ) : Type 0 where
-  pub above : 13 < byte
-  pub no_stop : byte ≡ 46 → ⊥
-  pub no_push : byte ≡ 62 → ⊥
-
--- what is known of a leaf's type byte
-pub leaf_byte_is : (l : Leaf) → IsLeafByte (leaf_byte l)
-leaf_byte_is (line Simple s) = record { above = omega arith; no_stop = λ e. omega arith; no_push = λ e. omega arith }
-leaf_byte_is (line Error s) = record { above = omega arith; no_stop = λ e. omega arith; no_push = λ e. omega arith }
-leaf_byte_is (line Double s) = record { above = omega arith; no_stop = λ e. omega arith; no_push = λ e. omega arith }
-leaf_byte_is (numeral Int sign digits) = record { above = omega arith; no_stop = λ e. omega arith; no_push = λ e. omega arith }
-leaf_byte_is (numeral Big sign digits) = record { above = omega arith; no_stop = λ e. omega arith; no_push = λ e. omega arith }
-leaf_byte_is (null BulkNull) = record { above = omega arith; no_stop = λ e. omega arith; no_push = λ e. omega arith }
-leaf_byte_is (null ArrayNull) = record { above = omega arith; no_stop = λ e. omega arith; no_push = λ e. omega arith }
-leaf_byte_is (null PlainNull) = record { above = omega arith; no_stop = λ e. omega arith; no_push = λ e. omega arith }
-leaf_byte_is (truth b) = record { above = omega arith; no_stop = λ e. omega arith; no_push = λ e. omega arith }
-leaf_byte_is (string Bulk digits s) = record { above = omega arith; no_stop = λ e. omega arith; no_push = λ e. omega arith }
-leaf_byte_is (string BulkError digits s) = record { above = omega arith; no_stop = λ e. omega arith; no_push = λ e. omega arith }
-leaf_byte_is (string (Verbatim format) digits s) = record { above = omega arith; no_stop = λ e. omega arith; no_push = λ e. omega arith }
-leaf_byte_is (chunked chunks zeros) = record { above = omega arith; no_stop = λ e. omega arith; no_push = λ e. omega arith }
-
 sign_line : (sign : Sign) (digits : List ℕ) → IsDigits digits → IsLine (sign_text sign ++ digits)
 sign_line Unsigned digits p = line_from_digits digits p
 sign_line Plus digits p = (plain_above 43 (omega arith), line_from_digits digits p)
@@ -226,35 +160,16 @@ truth_is_line true = (plain_above 35 (omega arith), (plain_above 116 (omega arit
 truth_is_line false = (plain_above 35 (omega arith), (plain_above 102 (omega arith), tt))
 
 leaf_is_line : (l : Leaf) → IsLeaf l → IsLine (leaf_line l)
-leaf_is_line (line k s) p = let b = leaf_byte_is (line k s) in (plain_above (line_byte k) b.above, p.0)
-leaf_is_line (numeral k sign digits) p = let b = leaf_byte_is (numeral k sign digits) in (plain_above (number_byte k) b.above, sign_line sign digits p)
+leaf_is_line (line k s) p = (plain_above (line_byte k) (leaf_byte_above (line k s)), p.0)
+leaf_is_line (numeral k sign digits) p = (plain_above (number_byte k) (leaf_byte_above (numeral k sign digits)), sign_line sign digits p)
 leaf_is_line (null form) p = null_is_line form
 leaf_is_line (truth b) p = truth_is_line b
-leaf_is_line (string k digits s) p = let b = leaf_byte_is (string k digits s) in (plain_above (string_byte k) b.above, line_from_digits digits p.0.0)
+leaf_is_line (string k digits s) p = (plain_above (string_byte k) (leaf_byte_above (string k digits s)), line_from_digits digits p.0.0)
 leaf_is_line (chunked chunks zeros) p = (plain_above 36 (omega arith), (plain_above 63 (omega arith), tt))
-
-kind_is_plain : (k : Kind) → IsPlain (kind_byte k)
-kind_is_plain Array = plain_above 42 (omega arith)
-kind_is_plain Set = plain_above 126 (omega arith)
-kind_is_plain Map = plain_above 37 (omega arith)
-kind_is_plain Attr = plain_above 124 (omega arith)
-kind_is_plain Push = plain_above 62 (omega arith)
 
 -- a tree's first line has no CR or LF in it
 pub first_is_line : (t : Tree) → IsTree t → IsLine (first_line t)
 unfolding first_line
 first_is_line (leaf l) p = leaf_is_line l p
-first_is_line (node k (Counted digits) ts) p = (kind_is_plain k, line_from_digits digits p.0.0)
-first_is_line (node k Streamed ts) p = (kind_is_plain k, (plain_above 63 (omega arith), tt))
-
-kind_is_no_stop : (k : Kind) → kind_byte k ≡ 46 → ⊥
-kind_is_no_stop Array e = omega arith
-kind_is_no_stop Set e = omega arith
-kind_is_no_stop Map e = omega arith
-kind_is_no_stop Attr e = omega arith
-kind_is_no_stop Push e = omega arith
-
--- a tree's type byte is no `.`, which closes an aggregate
-pub no_stop : (t : Tree) → first_byte t ≡ 46 → ⊥
-no_stop (leaf l) e = (leaf_byte_is l).no_stop e
-no_stop (node k form ts) e = kind_is_no_stop k e
+first_is_line (node k (Counted digits) ts) p = (plain_above (kind_byte k) (kind_byte_above k), line_from_digits digits p.0.0)
+first_is_line (node k Streamed ts) p = (plain_above (kind_byte k) (kind_byte_above k), (plain_above 63 (omega arith), tt))

@@ -1,5 +1,6 @@
 pub mod KeptDigits
 pub mod Splitting
+pub mod FirstBytes
 pub mod FirstLines
 pub mod Unique
 pub mod CanonicalTrees

@@ -9,7 +9,7 @@ use Rattle.resp_value.specs.Spellings.{IsSpelling, AreSpellings}
 use Rattle.resp_value.specs.Canonical.{canonical_tree, canonical_text, IsValue, Fits}
 use Rattle.resp_value.specs.Laws.{ATextHasOneValue, NoSpellingBeginsAnother, NoSpellingIsEmpty, APushBeginsWithItsByte, ATextHasOneCut, VersionThreeSpellsWhatTwoDoes, CanonicalTextSpellsWhatFits, CanonicalTextTellsValuesApart}
 use Rattle.resp_value.specs.declared.version.Version.TheVariants.{Three}
-use Rattle.resp_value.proofs.FirstLines.{first_byte, begins, first_byte_is, leaf_byte_is}
+use Rattle.resp_value.proofs.FirstBytes.{first_byte, begins, first_byte_is, leaf_is_no_push}
 use Rattle.resp_value.proofs.Unique.{same_tree}
 use Rattle.resp_value.proofs.CanonicalTrees.{value-canonical_tree, canonical_spells}
 use Rattle.resp_value.proofs.KeptRules.{canonical_no_double, canonical_in_range, canonical_counted, canonical_version, canonical_push}
@@ -32,7 +32,7 @@ pub no_spelling_is_empty : NoSpellingIsEmpty
 no_spelling_is_empty r x m = text_not_empty m.tree m.spells.spelled
 
 push_by_byte : (t : Tree) → first_byte t ≡ 62 → IsPush (value t)
-push_by_byte (leaf l) e = absurd ((leaf_byte_is l).no_push e)
+push_by_byte (leaf l) e = absurd (leaf_is_no_push l e)
 push_by_byte (node Array form ts) e = absurd (omega arith)
 push_by_byte (node Set form ts) e = absurd (omega arith)
 push_by_byte (node Map form ts) e = absurd (omega arith)

@@ -1,19 +1,19 @@
 -- Which first bytes are viable, and the cause of the others.
-use Rattle.std.proofs.Common.{◌≡◌, ◌↔◌, ℕ, ◌+◌, ◌^◌, ◌<◌, ◌≤◌, Bool, true, false, List, [], ◌∷◌, ◌++◌, length, codes, eqb, ℤ, pos, neg_ℤ, ◌≤ℤ◌, ◌<ℤ◌, refl, sym, ap, subst, ◌∙◌, arith}
+use Rattle.std.proofs.Common.{◌≡◌, ℕ, ◌<◌, ◌≤◌, true, false, List, [], ◌∷◌, ◌++◌, length, codes, eqb, refl, sym, ap, subst, arith}
 use Rattle.std.specs.List.{AllByRecursion}
 use Rattle.std.proofs.lemmas.Int.{ints}
 use Rattle.std.proofs.lemmas.Bool.{eqb-false}
 use Rattle.resp_value.specs.Bounds.{AreBounds}
 use Rattle.resp_value.specs.Numbers.{Unsigned}
 use Rattle.resp_value.specs.Data.{Kind, Array, Set, Map, Attr, Push, content_length, depth, longest, most_items}
-use Rattle.resp_value.specs.Trees.{Tree, Trees, leaf, node, none, more, Leaf, line, numeral, null, truth, string, chunked, LineKind, Simple, Error, Double, NumberKind, Int, Big, NullForm, BulkNull, ArrayNull, PlainNull, StringKind, Bulk, BulkError, Verbatim, Form, Counted, Streamed, text, kind_byte, leaf_text, IsTree, IsLeaf, Spells}
+use Rattle.resp_value.specs.Trees.{Tree, Trees, leaf, node, none, more, Leaf, line, numeral, null, truth, string, Simple, Error, Double, Int, Big, PlainNull, Bulk, BulkError, Verbatim, Counted, text, leaf_text, IsTree, IsLeaf}
 use Rattle.resp_value.specs.TreeValues.{value, leaf_value}
-use Rattle.resp_value.specs.Rules.{Rules, Rule, Grammar, NoDouble, InVersion, PushAtTop, InRange, NotStreamed, WithinDepth, WithinLength, WithinItems, WithinTotal, rank, Meets, Keeps, Every, EveryOf, HasVersion, HasPushAtRoot, IsAnyLeaf, IsAnyNode, IsNoPush, IsNoDouble, IsInRange, IsLeafInTwo, IsNodeInTwo, IsCountedLeaf, IsCountedNode}
+use Rattle.resp_value.specs.Rules.{Rules, Rule, Grammar, NoDouble, InVersion, PushAtTop, InRange, NotStreamed, WithinDepth, WithinLength, WithinItems, WithinTotal, rank, Meets, Every, EveryOf, HasVersion, HasPushAtRoot, IsAnyLeaf, IsAnyNode, IsNoPush, IsNoDouble, IsInRange, IsLeafInTwo, IsNodeInTwo, IsCountedLeaf, IsCountedNode}
 use Rattle.resp_value.specs.Spellings.{IsViable, IsCause}
 use Rattle.resp_value.specs.Laws.{type_bytes, later_type_bytes, type_bytes_of, TheEmptyTextIsViable, TypeBytesAreViable, LaterTypeBytesWantVersionThree, ACommaBeginsADouble, NoOtherByteBeginsATree}
 use Rattle.resp_value.specs.declared.version.Version.{Version}
 use Rattle.resp_value.specs.declared.version.Version.TheVariants.{Two, Three}
-use Rattle.resp_value.proofs.FirstLines.{first_byte, leaf_byte, begins, first_byte_is}
+use Rattle.resp_value.proofs.FirstBytes.{first_byte, begins, first_byte_is, all_append, at_first_byte, at_first_byte_of_no_double, at_first_byte_of_two}
 use Rattle.resp_value.proofs.ViabilityLaws.{fronts_of_viable_texts_are_viable}
 
 -- a tree that keeps every rule but the one of a version, whatever the limits
@@ -184,11 +184,6 @@ later_bytes_viable r is_three b rule = (
     viable : (t : Tree) → IsSmall t → IsViable r rule (first_byte t ∷ [])
     viable t s = small_is_viable r t b s (subst (λ w. HasVersion w t) (sym is_three) tt) rule
 
--- what holds of each of two lists holds of one behind the other
-pub all_append : (P : ℕ → Type 0) (a b : List ℕ) → AllByRecursion P a → AllByRecursion P b → AllByRecursion P (a ++ b)
-all_append P [] b p q = q
-all_append P (c ∷ a) b p q = (p.0, all_append P a b p.1 q)
-
 -- each type byte of a version is viable in it
 pub type_bytes_are_viable : TypeBytesAreViable
 type_bytes_are_viable r b rule = cases r.version refl
@@ -200,71 +195,6 @@ type_bytes_are_viable r b rule = cases r.version refl
 -- nothing has come, and all is viable
 pub the_empty_text_is_viable : TheEmptyTextIsViable
 the_empty_text_is_viable r b rule = fronts_of_viable_texts_are_viable r rule [] (codes "+") (old_bytes_viable r b rule).0
-
-at_kind_byte : (P : ℕ → Type 0) → AllByRecursion P (type_bytes_of Three) → (k : Kind) → P (kind_byte k)
-at_kind_byte P p Array = p.1.1.1.1.0
-at_kind_byte P p Set = p.1.1.1.1.1.1.1.1.1.1.0
-at_kind_byte P p Map = p.1.1.1.1.1.1.1.1.1.1.1.0
-at_kind_byte P p Attr = p.1.1.1.1.1.1.1.1.1.1.1.1.0
-at_kind_byte P p Push = p.1.1.1.1.1.1.1.1.1.1.1.1.1.0
-
--- what holds of each type byte but `,` holds of the first byte of a leaf that is no double
-at_no_double : (P : ℕ → Type 0) → AllByRecursion P (type_bytes_of Three) → (l : Leaf) → IsNoDouble l → P (leaf_byte l)
-at_no_double P p (line Simple s) h = p.0
-at_no_double P p (line Error s) h = p.1.0
-at_no_double P p (line Double s) h = absurd h
-at_no_double P p (numeral Int sign digits) h = p.1.1.0
-at_no_double P p (numeral Big sign digits) h = p.1.1.1.1.1.1.1.0
-at_no_double P p (null BulkNull) h = p.1.1.1.0
-at_no_double P p (null ArrayNull) h = p.1.1.1.1.0
-at_no_double P p (null PlainNull) h = p.1.1.1.1.1.0
-at_no_double P p (truth b) h = p.1.1.1.1.1.1.0
-at_no_double P p (string Bulk digits s) h = p.1.1.1.0
-at_no_double P p (string BulkError digits s) h = p.1.1.1.1.1.1.1.1.0
-at_no_double P p (string (Verbatim format) digits s) h = p.1.1.1.1.1.1.1.1.1.0
-at_no_double P p (chunked chunks zeros) h = p.1.1.1.0
-
--- what holds of each type byte and of `,` holds of a leaf's first byte
-at_leaf_byte : (P : ℕ → Type 0) → AllByRecursion P (codes "," ++ type_bytes_of Three) → (l : Leaf) → P (leaf_byte l)
-at_leaf_byte P p (line Simple s) = p.1.0
-at_leaf_byte P p (line Error s) = p.1.1.0
-at_leaf_byte P p (line Double s) = p.0
-at_leaf_byte P p (numeral k sign digits) = at_no_double P p.1 (numeral k sign digits) tt
-at_leaf_byte P p (null form) = at_no_double P p.1 (null form) tt
-at_leaf_byte P p (truth b) = at_no_double P p.1 (truth b) tt
-at_leaf_byte P p (string k digits s) = at_no_double P p.1 (string k digits s) tt
-at_leaf_byte P p (chunked chunks zeros) = at_no_double P p.1 (chunked chunks zeros) tt
-
--- what holds of each type byte and of `,` holds of a tree's first byte
-pub at_first_byte : (P : ℕ → Type 0) → AllByRecursion P (codes "," ++ type_bytes_of Three) → (t : Tree) → P (first_byte t)
-at_first_byte P p (leaf l) = at_leaf_byte P p l
-at_first_byte P p (node k form ts) = at_kind_byte P p.1 k
-
--- what holds of each type byte holds of the first byte of a tree without doubles
-pub at_first_byte_of_no_double : (P : ℕ → Type 0) → AllByRecursion P (type_bytes_of Three) → (t : Tree) → Every IsNoDouble IsAnyNode t → P (first_byte t)
-at_first_byte_of_no_double P p (leaf l) h = at_no_double P p l h
-at_first_byte_of_no_double P p (node k form ts) h = at_kind_byte P p k
-
--- what holds of each type byte of version 2 holds of the first byte of a tree of it
-pub at_first_byte_of_two : (P : ℕ → Type 0) → AllByRecursion P type_bytes → (t : Tree) → Every IsLeafInTwo IsNodeInTwo t → P (first_byte t)
-at_first_byte_of_two P p (leaf (line Simple s)) h = p.0
-at_first_byte_of_two P p (leaf (line Error s)) h = p.1.0
-at_first_byte_of_two P p (leaf (line Double s)) h = absurd h
-at_first_byte_of_two P p (leaf (numeral Int sign digits)) h = p.1.1.0
-at_first_byte_of_two P p (leaf (numeral Big sign digits)) h = absurd h
-at_first_byte_of_two P p (leaf (null BulkNull)) h = p.1.1.1.0
-at_first_byte_of_two P p (leaf (null ArrayNull)) h = p.1.1.1.1.0
-at_first_byte_of_two P p (leaf (null PlainNull)) h = absurd h
-at_first_byte_of_two P p (leaf (truth b)) h = absurd h
-at_first_byte_of_two P p (leaf (string Bulk digits s)) h = p.1.1.1.0
-at_first_byte_of_two P p (leaf (string BulkError digits s)) h = absurd h
-at_first_byte_of_two P p (leaf (string (Verbatim format) digits s)) h = absurd h
-at_first_byte_of_two P p (leaf (chunked chunks zeros)) h = absurd h
-at_first_byte_of_two P p (node Array form ts) h = p.1.1.1.1.0
-at_first_byte_of_two P p (node Set form ts) h = absurd h.0
-at_first_byte_of_two P p (node Map form ts) h = absurd h.0
-at_first_byte_of_two P p (node Attr form ts) h = absurd h.0
-at_first_byte_of_two P p (node Push form ts) h = absurd h.0
 
 -- the first byte of the tree that a byte goes on to
 byte_of : (r : Rules) (rule : Rule) (byte : ℕ) (v : IsViable r rule (byte ∷ [])) → first_byte v.tree ≡ byte

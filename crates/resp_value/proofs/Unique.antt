@@ -6,7 +6,8 @@ use Rattle.resp_value.specs.Numbers.{IsDigits, IsNumber, number}
 use Rattle.resp_value.specs.Data.{members_of}
 use Rattle.resp_value.specs.Trees.{Tree, Trees, leaf, node, none, more, Leaf, line, numeral, null, truth, string, chunked, StringKind, Bulk, BulkError, Verbatim, Form, Counted, Streamed, Chunk, text, texts, close, chunks_text, count, leaf_rest, string_byte, payload, IsTree, AreTrees, IsLeaf, HasFormat, IsChunk, Spells}
 use Rattle.resp_value.proofs.Splitting.{line_split, length_split, line_from_digits, plain_above}
-use Rattle.resp_value.proofs.FirstLines.{leaf_of, node_of, leaf_sort, sort, sort_of, sort_is, first_line, first_is_line, after_line, text_is, first_byte_is, no_stop}
+use Rattle.resp_value.proofs.FirstLines.{leaf_of, node_of, leaf_sort, sort, sort_of, sort_is, first_line, first_is_line, after_line, text_is}
+use Rattle.resp_value.proofs.FirstBytes.{first_byte_is, no_stop}
 
 -- two texts that begin one text begin with one line
 pub same_line : (t u : Tree) (x y : List ℕ) → IsTree t → IsTree u → text t ++ x ≡ text u ++ y → (sort_of t ≡ sort_of u) × (after_line t ++ x ≡ after_line u ++ y)
