@@ -3,10 +3,10 @@ use Rattle.std.proofs.Common.{ℕ, true, false, List, [], ◌∷◌, ◌++◌, s
 use Rattle.std.specs.List.{AllByRecursion}
 use Rattle.resp_value.specs.Bytes.{IsByte, IsText, crlf}
 use Rattle.resp_value.specs.Numbers.{IsDigit, Sign, Unsigned, Plus, Minus, sign_text}
-use Rattle.resp_value.specs.Data.{Kind, Array, Set, Map, Attr, Push}
-use Rattle.resp_value.specs.Trees.{Tree, Trees, leaf, node, none, more, Leaf, line, numeral, null, truth, string, chunked, LineKind, Simple, Error, Double, NumberKind, Int, Big, BulkNull, ArrayNull, PlainNull, StringKind, Bulk, BulkError, Verbatim, Form, Counted, Streamed, Chunk, text, texts, close, chunks_text, leaf_line, leaf_rest, line_byte, number_byte, string_byte, kind_byte, form_line, payload, IsTree, AreTrees, IsLeaf, HasFormat, HasMembers, IsChunk, count}
+use Rattle.resp_value.specs.Data.{Kind}
+use Rattle.resp_value.specs.Trees.{Tree, Trees, leaf, node, none, more, Leaf, line, numeral, null, truth, string, chunked, BulkNull, ArrayNull, PlainNull, StringKind, Bulk, BulkError, Verbatim, Form, Counted, Streamed, Chunk, text, texts, close, chunks_text, leaf_line, leaf_rest, kind_byte, form_line, payload, IsTree, AreTrees, IsLeaf, HasFormat, HasMembers, IsChunk, count}
 use Rattle.resp_value.specs.Laws.{TextsOfTreesAreBytes}
-use Rattle.resp_value.proofs.FirstBytes.{all_append}
+use Rattle.resp_value.proofs.FirstBytes.{all_append, first_byte_is_byte}
 
 -- two texts, one behind the other, are a text
 pub bytes_append : (a b : List ℕ) → IsText a → IsText b → IsText (a ++ b)
@@ -21,41 +21,20 @@ pub bytes_from_each : (digits : List ℕ) → AllByRecursion IsDigit digits → 
 bytes_from_each [] p = tt
 bytes_from_each (d ∷ ds) p = (omega arith, bytes_from_each ds p.1)
 
-line_byte_is_byte : (k : LineKind) → IsByte (line_byte k)
-line_byte_is_byte Simple = omega arith
-line_byte_is_byte Error = omega arith
-line_byte_is_byte Double = omega arith
-
-number_byte_is_byte : (k : NumberKind) → IsByte (number_byte k)
-number_byte_is_byte Int = omega arith
-number_byte_is_byte Big = omega arith
-
-string_byte_is_byte : (k : StringKind) → IsByte (string_byte k)
-string_byte_is_byte Bulk = omega arith
-string_byte_is_byte BulkError = omega arith
-string_byte_is_byte (Verbatim format) = omega arith
-
-kind_byte_is_byte : (k : Kind) → IsByte (kind_byte k)
-kind_byte_is_byte Array = omega arith
-kind_byte_is_byte Set = omega arith
-kind_byte_is_byte Map = omega arith
-kind_byte_is_byte Attr = omega arith
-kind_byte_is_byte Push = omega arith
-
 sign_is_bytes : (sign : Sign) → IsText (sign_text sign)
 sign_is_bytes Unsigned = tt
 sign_is_bytes Plus = (omega arith, tt)
 sign_is_bytes Minus = (omega arith, tt)
 
 leaf_line_is_bytes : (l : Leaf) → IsLeaf l → IsText (leaf_line l)
-leaf_line_is_bytes (line k s) p = (line_byte_is_byte k, p.1)
-leaf_line_is_bytes (numeral k sign digits) p = (number_byte_is_byte k, bytes_append (sign_text sign) digits (sign_is_bytes sign) (bytes_from_each digits p.1))
+leaf_line_is_bytes (line k s) p = (first_byte_is_byte (leaf (line k s)), p.1)
+leaf_line_is_bytes (numeral k sign digits) p = (first_byte_is_byte (leaf (numeral k sign digits)), bytes_append (sign_text sign) digits (sign_is_bytes sign) (bytes_from_each digits p.1))
 leaf_line_is_bytes (null BulkNull) p = (omega arith, (omega arith, (omega arith, tt)))
 leaf_line_is_bytes (null ArrayNull) p = (omega arith, (omega arith, (omega arith, tt)))
 leaf_line_is_bytes (null PlainNull) p = (omega arith, tt)
 leaf_line_is_bytes (truth true) p = (omega arith, (omega arith, tt))
 leaf_line_is_bytes (truth false) p = (omega arith, (omega arith, tt))
-leaf_line_is_bytes (string k digits s) p = (string_byte_is_byte k, bytes_from_each digits p.0.0.1)
+leaf_line_is_bytes (string k digits s) p = (first_byte_is_byte (leaf (string k digits s)), bytes_from_each digits p.0.0.1)
 leaf_line_is_bytes (chunked chunks zeros) p = (omega arith, (omega arith, tt))
 
 payload_is_bytes : (k : StringKind) (s : List ℕ) → HasFormat k → IsText s → IsText (payload k s)
@@ -92,7 +71,7 @@ mutual
   text_is_bytes (leaf l) p = bytes_append (leaf_line l) (crlf (leaf_rest l)) (leaf_line_is_bytes l p) (bytes_crlf (leaf_rest l) (leaf_rest_is_bytes l p))
   text_is_bytes (node k form ts) p =
       let rest = bytes_append (texts ts) (close form) (texts_are_bytes ts p.1) (close_is_bytes form) in
-      bytes_append (kind_byte k ∷ form_line form) (crlf (texts ts ++ close form)) (kind_byte_is_byte k, form_is_bytes k form (count ts) p.0) (bytes_crlf (texts ts ++ close form) rest)
+      bytes_append (kind_byte k ∷ form_line form) (crlf (texts ts ++ close form)) (first_byte_is_byte (node k form ts), form_is_bytes k form (count ts) p.0) (bytes_crlf (texts ts ++ close form) rest)
 
   pub texts_are_bytes : (ts : Trees) → AreTrees ts → IsText (texts ts)
   texts_are_bytes none p = tt

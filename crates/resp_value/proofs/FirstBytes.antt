@@ -1,7 +1,7 @@
 -- The byte that a tree's text begins with.
 use Rattle.std.proofs.Common.{◌≡◌, ℕ, ◌<◌, true, false, List, [], ◌∷◌, ◌++◌, codes, refl, sym, ap, ◌∙◌, arith}
 use Rattle.std.specs.List.{AllByRecursion}
-use Rattle.resp_value.specs.Bytes.{crlf}
+use Rattle.resp_value.specs.Bytes.{IsByte, crlf}
 use Rattle.resp_value.specs.Data.{Kind, Array, Set, Map, Attr, Push}
 use Rattle.resp_value.specs.Trees.{Tree, leaf, node, Leaf, line, numeral, null, truth, string, chunked, Simple, Error, Double, Int, Big, NullForm, BulkNull, ArrayNull, PlainNull, Bulk, BulkError, Verbatim, text, leaf_line, leaf_rest, line_byte, number_byte, string_byte, kind_byte}
 use Rattle.resp_value.specs.Rules.{Every, IsAnyNode, IsNoDouble, IsLeafInTwo, IsNodeInTwo}
@@ -132,21 +132,17 @@ at_first_byte_of_two P p (node Map form ts) h = absurd h.0
 at_first_byte_of_two P p (node Attr form ts) h = absurd h.0
 at_first_byte_of_two P p (node Push form ts) h = absurd h.0
 
--- a leaf's first byte is above CR
-pub leaf_byte_above : (l : Leaf) → 13 < leaf_byte l
-leaf_byte_above l = at_leaf_byte (λ b. 13 < b) (omega arith, (omega arith, (omega arith, (omega arith, (omega arith, (omega arith, (omega arith, (omega arith, (omega arith, (omega arith, (omega arith, tt))))))))))) l
+-- a tree's first byte is above CR
+pub first_byte_above : (t : Tree) → 13 < first_byte t
+first_byte_above t = at_first_byte (λ b. 13 < b) (omega arith, (omega arith, (omega arith, (omega arith, (omega arith, (omega arith, (omega arith, (omega arith, (omega arith, (omega arith, (omega arith, (omega arith, (omega arith, (omega arith, (omega arith, tt))))))))))))))) t
+
+-- a tree's first byte is a byte
+pub first_byte_is_byte : (t : Tree) → IsByte (first_byte t)
+first_byte_is_byte t = at_first_byte IsByte (omega arith, (omega arith, (omega arith, (omega arith, (omega arith, (omega arith, (omega arith, (omega arith, (omega arith, (omega arith, (omega arith, (omega arith, (omega arith, (omega arith, (omega arith, tt))))))))))))))) t
 
 -- a leaf doesn't begin with `>`
 pub leaf_is_no_push : (l : Leaf) → leaf_byte l ≡ 62 → ⊥
 leaf_is_no_push l = at_leaf_byte (λ b. b ≡ 62 → ⊥) (λ e. omega arith, (λ e. omega arith, (λ e. omega arith, (λ e. omega arith, (λ e. omega arith, (λ e. omega arith, (λ e. omega arith, (λ e. omega arith, (λ e. omega arith, (λ e. omega arith, (λ e. omega arith, tt))))))))))) l
-
--- an aggregate's first byte is above CR
-pub kind_byte_above : (k : Kind) → 13 < kind_byte k
-kind_byte_above Array = omega arith
-kind_byte_above Set = omega arith
-kind_byte_above Map = omega arith
-kind_byte_above Attr = omega arith
-kind_byte_above Push = omega arith
 
 -- a tree's first byte is no `.`, which closes an aggregate
 pub no_stop : (t : Tree) → first_byte t ≡ 46 → ⊥

@@ -4,7 +4,7 @@ use Rattle.resp_value.specs.Bytes.{IsLine, crlf}
 use Rattle.resp_value.specs.Numbers.{IsDigits, Sign, Unsigned, Plus, Minus, sign_text}
 use Rattle.resp_value.specs.Data.{Kind, Array, Set, Map, Attr, Push}
 use Rattle.resp_value.specs.Trees.{Tree, leaf, node, Leaf, line, numeral, null, truth, string, chunked, LineKind, Simple, Error, Double, NumberKind, Int, Big, NullForm, BulkNull, ArrayNull, PlainNull, Bulk, BulkError, Verbatim, Form, Counted, Streamed, text, texts, close, leaf_line, leaf_rest, line_byte, number_byte, null_line, truth_line, string_byte, kind_byte, form_line, IsTree, IsLeaf}
-use Rattle.resp_value.proofs.FirstBytes.{leaf_byte_above, kind_byte_above}
+use Rattle.resp_value.proofs.FirstBytes.{first_byte_above}
 use Rattle.resp_value.proofs.Splitting.{line_from_digits, plain_above, digit_is_no, digit_is_no_mark}
 
 -- what the first line of a leaf says of it
@@ -160,16 +160,16 @@ truth_is_line true = (plain_above 35 (omega arith), (plain_above 116 (omega arit
 truth_is_line false = (plain_above 35 (omega arith), (plain_above 102 (omega arith), tt))
 
 leaf_is_line : (l : Leaf) → IsLeaf l → IsLine (leaf_line l)
-leaf_is_line (line k s) p = (plain_above (line_byte k) (leaf_byte_above (line k s)), p.0)
-leaf_is_line (numeral k sign digits) p = (plain_above (number_byte k) (leaf_byte_above (numeral k sign digits)), sign_line sign digits p)
+leaf_is_line (line k s) p = (plain_above (line_byte k) (first_byte_above (leaf (line k s))), p.0)
+leaf_is_line (numeral k sign digits) p = (plain_above (number_byte k) (first_byte_above (leaf (numeral k sign digits))), sign_line sign digits p)
 leaf_is_line (null form) p = null_is_line form
 leaf_is_line (truth b) p = truth_is_line b
-leaf_is_line (string k digits s) p = (plain_above (string_byte k) (leaf_byte_above (string k digits s)), line_from_digits digits p.0.0)
+leaf_is_line (string k digits s) p = (plain_above (string_byte k) (first_byte_above (leaf (string k digits s))), line_from_digits digits p.0.0)
 leaf_is_line (chunked chunks zeros) p = (plain_above 36 (omega arith), (plain_above 63 (omega arith), tt))
 
 -- a tree's first line has no CR or LF in it
 pub first_is_line : (t : Tree) → IsTree t → IsLine (first_line t)
 unfolding first_line
 first_is_line (leaf l) p = leaf_is_line l p
-first_is_line (node k (Counted digits) ts) p = (plain_above (kind_byte k) (kind_byte_above k), line_from_digits digits p.0.0)
-first_is_line (node k Streamed ts) p = (plain_above (kind_byte k) (kind_byte_above k), (plain_above 63 (omega arith), tt))
+first_is_line (node k (Counted digits) ts) p = (plain_above (kind_byte k) (first_byte_above (node k (Counted digits) ts)), line_from_digits digits p.0.0)
+first_is_line (node k Streamed ts) p = (plain_above (kind_byte k) (first_byte_above (node k Streamed ts)), (plain_above 63 (omega arith), tt))
