@@ -10,4 +10,5 @@ pub mod ViabilityLaws
 pub mod LocalRuleLemmas
 pub mod ByteLemmas
 pub mod DefaultLimits
+pub mod SmallTrees
 pub mod TypeBytes

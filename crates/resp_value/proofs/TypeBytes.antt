@@ -4,172 +4,131 @@ use Rattle.std.specs.List.{AllByRecursion}
 use Rattle.std.proofs.lemmas.Int.{ints}
 use Rattle.std.proofs.lemmas.Bool.{eqb-false}
 use Rattle.resp_value.specs.Bounds.{AreBounds}
-use Rattle.resp_value.specs.Numbers.{Unsigned}
-use Rattle.resp_value.specs.Data.{Kind, Array, Set, Map, Attr, Push, content_length, depth, longest, most_items}
-use Rattle.resp_value.specs.Trees.{Tree, Trees, leaf, node, none, more, Leaf, line, numeral, null, truth, string, Simple, Error, Double, Int, Big, PlainNull, Bulk, BulkError, Verbatim, Counted, text, leaf_text, IsTree, IsLeaf}
-use Rattle.resp_value.specs.TreeValues.{value, leaf_value}
-use Rattle.resp_value.specs.Rules.{Rules, Rule, Grammar, NoDouble, InVersion, PushAtTop, InRange, NotStreamed, WithinDepth, WithinLength, WithinItems, WithinTotal, rank, Meets, Every, EveryOf, HasVersion, HasPushAtRoot, IsAnyLeaf, IsAnyNode, IsNoPush, IsNoDouble, IsInRange, IsLeafInTwo, IsNodeInTwo, IsCountedLeaf, IsCountedNode}
+use Rattle.resp_value.specs.Numbers.{Unsigned, IsDigits}
+use Rattle.resp_value.specs.Data.{Kind, Array, Set, Map, Attr, Push, members_of, items_of}
+use Rattle.resp_value.specs.Trees.{Tree, leaf, node, none, more, Leaf, line, numeral, null, truth, string, Simple, Error, Double, Int, Big, PlainNull, Bulk, BulkError, Verbatim, Counted, text}
+use Rattle.resp_value.specs.Rules.{Rules, Rule, Grammar, NoDouble, InVersion, PushAtTop, InRange, NotStreamed, WithinDepth, WithinLength, WithinItems, WithinTotal, rank, Meets, Every, HasVersion, IsAnyNode, IsNoDouble, IsLeafInTwo, IsNodeInTwo, IsCountedLeaf, IsCountedNode}
 use Rattle.resp_value.specs.Spellings.{IsViable, IsCause}
 use Rattle.resp_value.specs.Laws.{type_bytes, later_type_bytes, type_bytes_of, TheEmptyTextIsViable, TypeBytesAreViable, LaterTypeBytesWantVersionThree, ACommaBeginsADouble, NoOtherByteBeginsATree}
 use Rattle.resp_value.specs.declared.version.Version.{Version}
 use Rattle.resp_value.specs.declared.version.Version.TheVariants.{Two, Three}
+use Rattle.resp_value.proofs.SmallTrees.{IsSmall, small_meets, small_leaf, small_node, one_digit, in_each_version, if_counted}
 use Rattle.resp_value.proofs.FirstBytes.{first_byte, begins, first_byte_is, all_append, at_first_byte, at_first_byte_of_no_double, at_first_byte_of_two}
 use Rattle.resp_value.proofs.ViabilityLaws.{fronts_of_viable_texts_are_viable}
-
--- a tree that keeps every rule but the one of a version, whatever the limits
-record IsSmall (t : Tree) : Type 0 where
-  is_tree : IsTree t
-  no_double : Every IsNoDouble IsAnyNode t
-  push_at_root : HasPushAtRoot t
-  in_range : Every IsInRange IsAnyNode t
-  counted : Every IsCountedLeaf IsCountedNode t
-  depth_at_most : depth (value t) ≤ 4
-  length_at_most : longest (value t) ≤ 64
-  items_at_most : most_items (value t) ≤ 16
-  total_at_most : length (text t) ≤ 256
-
-small_meets : (r : Rules) (t : Tree) → AreBounds r.limits → IsSmall t → HasVersion r.version t → (rule : Rule) → Meets r rule t
-small_meets r t b s w Grammar = tt
-small_meets r t b s w NoDouble = s.no_double
-small_meets r t b s w InVersion = w
-small_meets r t b s w PushAtTop = s.push_at_root
-small_meets r t b s w InRange = s.in_range
-small_meets r t b s w NotStreamed = λ off. s.counted
-small_meets r t b s w WithinDepth = let h : 4 ≤ r.limits.depth = b.depth_in_range.0 in let h2 = s.depth_at_most in omega arith
-small_meets r t b s w WithinLength = let h : 64 ≤ r.limits.length = b.length_in_range.0 in let h2 = s.length_at_most in omega arith
-small_meets r t b s w WithinItems = let h : 16 ≤ r.limits.items = b.items_in_range.0 in let h2 = s.items_at_most in omega arith
-small_meets r t b s w WithinTotal = let h : 256 ≤ r.limits.total = b.total_in_range.0 in let h2 = s.total_at_most in omega arith
-
--- a small leaf
-small_leaf : (l : Leaf) → IsLeaf l → IsNoDouble l → IsInRange l → IsCountedLeaf l → content_length (leaf_value l) ≤ 64 → length (leaf_text l) ≤ 256 → IsSmall (leaf l)
-small_leaf l p no_double in_range counted length_at_most total_at_most = record {
-  is_tree = p;
-  no_double = no_double;
-  push_at_root = tt;
-  in_range = in_range;
-  counted = counted;
-  depth_at_most = omega arith;
-  length_at_most = length_at_most;
-  items_at_most = omega arith;
-  total_at_most = total_at_most;
-}
 
 abbrev zero_digit : List ℕ
 zero_digit = codes "0"
 
--- an aggregate without members, by the byte of its kind
+zero_is_digits : IsDigits zero_digit
+zero_is_digits = one_digit 48 (omega arith) (omega arith)
+
+-- an aggregate without members
 abbrev empty_node : Kind → Tree
 empty_node k = node k (Counted zero_digit) none
 
--- a small tree for each type byte
+-- an empty verbatim string
+abbrev empty_verbatim : Leaf
+empty_verbatim = string (Verbatim (codes "txt")) (codes "4") []
+
+-- an attribute of no pairs, and its value
+abbrev bare_attribute : Tree
+bare_attribute = node Attr (Counted zero_digit) (more (leaf (null PlainNull)) none)
+
 small_simple : IsSmall (leaf (line Simple []))
-small_simple = small_leaf (line Simple []) (tt, tt) tt tt tt (omega arith) (omega arith)
+small_simple = small_leaf (line Simple []) (tt, tt) tt tt (omega arith) (omega arith)
 
 small_error : IsSmall (leaf (line Error []))
-small_error = small_leaf (line Error []) (tt, tt) tt tt tt (omega arith) (omega arith)
+small_error = small_leaf (line Error []) (tt, tt) tt tt (omega arith) (omega arith)
 
 small_int : IsSmall (leaf (numeral Int Unsigned zero_digit))
-small_int = small_leaf (numeral Int Unsigned zero_digit) (omega arith, ((omega arith, omega arith), tt)) tt (omega (arith, ints), omega (arith, ints)) tt (omega arith) (omega arith)
+small_int = small_leaf (numeral Int Unsigned zero_digit) zero_is_digits tt (omega (arith, ints), omega (arith, ints)) (omega arith) (omega arith)
 
 small_bulk : IsSmall (leaf (string Bulk zero_digit []))
-small_bulk = small_leaf (string Bulk zero_digit []) (((omega arith, ((omega arith, omega arith), tt)), refl), tt, tt) tt tt tt (omega arith) (omega arith)
+small_bulk = small_leaf (string Bulk zero_digit []) ((zero_is_digits, refl), tt, tt) tt tt (omega arith) (omega arith)
 
-small_verbatim : IsSmall (leaf (string (Verbatim (codes "txt")) (codes "4") []))
-small_verbatim = small_leaf (string (Verbatim (codes "txt")) (codes "4") []) (((omega arith, ((omega arith, omega arith), tt)), refl), (refl, (omega arith, (omega arith, (omega arith, tt)))), tt) tt tt tt (omega arith) (omega arith)
+small_verbatim : IsSmall (leaf empty_verbatim)
+small_verbatim = small_leaf empty_verbatim ((one_digit 52 (omega arith) (omega arith), refl), (refl, (omega arith, (omega arith, (omega arith, tt)))), tt) tt tt (omega arith) (omega arith)
 
 small_big : IsSmall (leaf (numeral Big Unsigned zero_digit))
-small_big = small_leaf (numeral Big Unsigned zero_digit) (omega arith, ((omega arith, omega arith), tt)) tt tt tt (omega arith) (omega arith)
+small_big = small_leaf (numeral Big Unsigned zero_digit) zero_is_digits tt tt (omega arith) (omega arith)
 
 small_null : IsSmall (leaf (null PlainNull))
-small_null = small_leaf (null PlainNull) tt tt tt tt (omega arith) (omega arith)
+small_null = small_leaf (null PlainNull) tt tt tt (omega arith) (omega arith)
 
 small_truth : IsSmall (leaf (truth true))
-small_truth = small_leaf (truth true) tt tt tt tt (omega arith) (omega arith)
+small_truth = small_leaf (truth true) tt tt tt (omega arith) (omega arith)
 
 small_bulk_error : IsSmall (leaf (string BulkError zero_digit []))
-small_bulk_error = small_leaf (string BulkError zero_digit []) (((omega arith, ((omega arith, omega arith), tt)), refl), tt, tt) tt tt tt (omega arith) (omega arith)
+small_bulk_error = small_leaf (string BulkError zero_digit []) ((zero_is_digits, refl), tt, tt) tt tt (omega arith) (omega arith)
 
--- an aggregate of small leaves
-small_node : (k : Kind) (ts : Trees) → IsTree (node k (Counted zero_digit) ts) → EveryOf IsNoDouble IsAnyNode ts → EveryOf IsAnyLeaf IsNoPush ts → EveryOf IsInRange IsAnyNode ts → EveryOf IsCountedLeaf IsCountedNode ts → depth (value (node k (Counted zero_digit) ts)) ≤ 4 → longest (value (node k (Counted zero_digit) ts)) ≤ 64 → most_items (value (node k (Counted zero_digit) ts)) ≤ 16 → length (text (node k (Counted zero_digit) ts)) ≤ 256 → IsSmall (node k (Counted zero_digit) ts)
-small_node k ts p no_double no_push in_range counted depth_at_most length_at_most items_at_most total_at_most = record {
-  is_tree = p;
-  no_double = (tt, no_double);
-  push_at_root = no_push;
-  in_range = (tt, in_range);
-  counted = (tt, counted);
-  depth_at_most = depth_at_most;
-  length_at_most = length_at_most;
-  items_at_most = items_at_most;
-  total_at_most = total_at_most;
-}
+small_empty : (k : Kind) → members_of k 0 ≡ 0 → items_of k 0 ≤ 16 → length (text (empty_node k)) ≤ 256 → IsSmall (empty_node k)
+small_empty k no_members items total = small_node k (Counted zero_digit) none ((zero_is_digits, no_members), tt) tt tt tt (omega arith) (omega arith) (omega arith) total
 
 small_array : IsSmall (empty_node Array)
-small_array = small_node Array none (((omega arith, ((omega arith, omega arith), tt)), refl), tt) tt tt tt tt (omega arith) (omega arith) (omega arith) (omega arith)
+small_array = small_empty Array refl (omega arith) (omega arith)
 
 small_set : IsSmall (empty_node Set)
-small_set = small_node Set none (((omega arith, ((omega arith, omega arith), tt)), refl), tt) tt tt tt tt (omega arith) (omega arith) (omega arith) (omega arith)
+small_set = small_empty Set refl (omega arith) (omega arith)
 
 small_map : IsSmall (empty_node Map)
-small_map = small_node Map none (((omega arith, ((omega arith, omega arith), tt)), refl), tt) tt tt tt tt (omega arith) (omega arith) (omega arith) (omega arith)
+small_map = small_empty Map refl (omega arith) (omega arith)
 
 small_push : IsSmall (empty_node Push)
-small_push = small_node Push none (((omega arith, ((omega arith, omega arith), tt)), refl), tt) tt tt tt tt (omega arith) (omega arith) (omega arith) (omega arith)
+small_push = small_empty Push refl (omega arith) (omega arith)
 
--- an attribute of no pairs and a value
-small_attr : IsSmall (node Attr (Counted zero_digit) (more (leaf (null PlainNull)) none))
-small_attr = small_node Attr (more (leaf (null PlainNull)) none) (((omega arith, ((omega arith, omega arith), tt)), refl), (tt, tt)) (tt, tt) (tt, tt) (tt, tt) (tt, tt) (omega arith) (omega arith) (omega arith) (omega arith)
+small_attribute : IsSmall bare_attribute
+small_attribute = small_node Attr (Counted zero_digit) (more (leaf (null PlainNull)) none) ((zero_is_digits, refl), (tt, tt)) (tt, tt) (tt, tt) (tt, tt) (omega arith) (omega arith) (omega arith) (omega arith)
 
--- the type byte of a small tree of the version is viable
-small_is_viable : (r : Rules) (t : Tree) → AreBounds r.limits → IsSmall t → HasVersion r.version t → (rule : Rule) → IsViable r rule (first_byte t ∷ [])
-small_is_viable r t b s w rule =
+-- the type byte of a small counted tree of the version is viable
+small_is_viable : (r : Rules) (t : Tree) → AreBounds r.limits → IsSmall t → Every IsCountedLeaf IsCountedNode t → HasVersion r.version t → (rule : Rule) → IsViable r rule (first_byte t ∷ [])
+small_is_viable r t b s c w rule =
     let (rest, e) = begins t in
-    record { rest = rest; tree = t; spells = record { is_tree = s.is_tree; spelled = e }; keeps = λ earlier h. small_meets r t b s w earlier }
+    record { rest = rest; tree = t; spells = record { is_tree = s.is_tree; spelled = e }; keeps = λ earlier h. small_meets r t b s w (if_counted r t c) earlier }
 
+-- each of these bytes is viable
 abbrev AllViable : Rules → Rule → List ℕ → Type 0
 AllViable r rule bytes = AllByRecursion (λ byte. IsViable r rule (byte ∷ [])) bytes
 
--- every version has these trees
-in_each : (w : Version) (t : Tree) → Every IsLeafInTwo IsNodeInTwo t → HasVersion w t
-in_each Two t p = p
-in_each Three t p = tt
-
 old_bytes_viable : (r : Rules) → AreBounds r.limits → (rule : Rule) → AllViable r rule type_bytes
 old_bytes_viable r b rule = (
-  small_is_viable r (leaf (line Simple [])) b small_simple (in_each r.version (leaf (line Simple [])) tt) rule,
+  viable (leaf (line Simple [])) small_simple tt tt,
   (
-    small_is_viable r (leaf (line Error [])) b small_error (in_each r.version (leaf (line Error [])) tt) rule,
+    viable (leaf (line Error [])) small_error tt tt,
     (
-      small_is_viable r (leaf (numeral Int Unsigned zero_digit)) b small_int (in_each r.version (leaf (numeral Int Unsigned zero_digit)) tt) rule,
+      viable (leaf (numeral Int Unsigned zero_digit)) small_int tt tt,
       (
-        small_is_viable r (leaf (string Bulk zero_digit [])) b small_bulk (in_each r.version (leaf (string Bulk zero_digit [])) tt) rule,
+        viable (leaf (string Bulk zero_digit [])) small_bulk tt tt,
         (
-          small_is_viable r (empty_node Array) b small_array (in_each r.version (empty_node Array) (tt, tt)) rule,
+          viable (empty_node Array) small_array (tt, tt) (tt, tt),
           tt,
         ),
       ),
     ),
   ),
 )
+  where
+    viable : (t : Tree) → IsSmall t → Every IsCountedLeaf IsCountedNode t → Every IsLeafInTwo IsNodeInTwo t → IsViable r rule (first_byte t ∷ [])
+    viable t s c w = small_is_viable r t b s c (in_each_version r.version t w) rule
 
 later_bytes_viable : (r : Rules) → r.version ≡ Three → AreBounds r.limits → (rule : Rule) → AllViable r rule later_type_bytes
 later_bytes_viable r is_three b rule = (
-  viable (leaf (null PlainNull)) small_null,
+  viable (leaf (null PlainNull)) small_null tt,
   (
-    viable (leaf (truth true)) small_truth,
+    viable (leaf (truth true)) small_truth tt,
     (
-      viable (leaf (numeral Big Unsigned zero_digit)) small_big,
+      viable (leaf (numeral Big Unsigned zero_digit)) small_big tt,
       (
-        viable (leaf (string BulkError zero_digit [])) small_bulk_error,
+        viable (leaf (string BulkError zero_digit [])) small_bulk_error tt,
         (
-          viable (leaf (string (Verbatim (codes "txt")) (codes "4") [])) small_verbatim,
+          viable (leaf empty_verbatim) small_verbatim tt,
           (
-            viable (empty_node Set) small_set,
+            viable (empty_node Set) small_set (tt, tt),
             (
-              viable (empty_node Map) small_map,
+              viable (empty_node Map) small_map (tt, tt),
               (
-                viable (node Attr (Counted zero_digit) (more (leaf (null PlainNull)) none)) small_attr,
+                viable bare_attribute small_attribute (tt, (tt, tt)),
                 (
-                  viable (empty_node Push) small_push,
+                  viable (empty_node Push) small_push (tt, tt),
                   tt,
                 ),
               ),
@@ -181,8 +140,8 @@ later_bytes_viable r is_three b rule = (
   ),
 )
   where
-    viable : (t : Tree) → IsSmall t → IsViable r rule (first_byte t ∷ [])
-    viable t s = small_is_viable r t b s (subst (λ w. HasVersion w t) (sym is_three) tt) rule
+    viable : (t : Tree) → IsSmall t → Every IsCountedLeaf IsCountedNode t → IsViable r rule (first_byte t ∷ [])
+    viable t s c = small_is_viable r t b s c (subst (λ w. HasVersion w t) (sym is_three) tt) rule
 
 -- each type byte of a version is viable in it
 pub type_bytes_are_viable : TypeBytesAreViable
@@ -274,13 +233,13 @@ later_type_bytes_want_version_three r is_two = (
       (
         wants_three r (leaf (string BulkError zero_digit [])) is_two small_bulk_error (refl, (refl, (refl, (refl, (refl, tt))))),
         (
-          wants_three r (leaf (string (Verbatim (codes "txt")) (codes "4") [])) is_two small_verbatim (refl, (refl, (refl, (refl, (refl, tt))))),
+          wants_three r (leaf empty_verbatim) is_two small_verbatim (refl, (refl, (refl, (refl, (refl, tt))))),
           (
             wants_three r (empty_node Set) is_two small_set (refl, (refl, (refl, (refl, (refl, tt))))),
             (
               wants_three r (empty_node Map) is_two small_map (refl, (refl, (refl, (refl, (refl, tt))))),
               (
-                wants_three r (node Attr (Counted zero_digit) (more (leaf (null PlainNull)) none)) is_two small_attr (refl, (refl, (refl, (refl, (refl, tt))))),
+                wants_three r bare_attribute is_two small_attribute (refl, (refl, (refl, (refl, (refl, tt))))),
                 (
                   wants_three r (empty_node Push) is_two small_push (refl, (refl, (refl, (refl, (refl, tt))))),
                   tt,
