@@ -1,11 +1,11 @@
 -- What a first line says: it tells which leaf or aggregate it begins.
-use Rattle.std.proofs.Common.{◌≡◌, ℕ, Bool, true, false, cond, eqb, List, [], ◌∷◌, ◌++◌, refl, ap, arith, append_assoc}
+use Rattle.std.proofs.Common.{◌≡◌, ℕ, Bool, true, false, cond, eqb, List, [], ◌∷◌, ◌++◌, refl, sym, ap, ◌∙◌, arith, append_assoc}
 use Rattle.resp_value.specs.Bytes.{IsLine, crlf}
 use Rattle.resp_value.specs.Numbers.{IsDigits, Sign, Unsigned, Plus, Minus, sign_text}
 use Rattle.resp_value.specs.Data.{Kind, Array, Set, Map, Attr, Push}
 use Rattle.resp_value.specs.Trees.{Tree, leaf, node, Leaf, line, numeral, null, truth, string, chunked, LineKind, Simple, Error, Double, NumberKind, Int, Big, NullForm, BulkNull, ArrayNull, PlainNull, Bulk, BulkError, Verbatim, Form, Counted, Streamed, text, texts, close, leaf_line, leaf_rest, line_byte, number_byte, null_line, truth_line, string_byte, kind_byte, form_line, IsTree, IsLeaf}
 use Rattle.resp_value.proofs.FirstBytes.{first_byte_above}
-use Rattle.resp_value.proofs.Splitting.{line_from_digits, plain_above, digit_is_no, digit_is_no_mark}
+use Rattle.resp_value.proofs.Splitting.{line_split, line_from_digits, plain_above, digit_is_no, digit_is_no_mark}
 
 -- what the first line of a leaf says of it
 pub data LeafSort : Type 0 where
@@ -173,3 +173,9 @@ unfolding first_line
 first_is_line (leaf l) p = leaf_is_line l p
 first_is_line (node k (Counted digits) ts) p = (plain_above (kind_byte k) (first_byte_above (node k (Counted digits) ts)), line_from_digits digits p.0.0)
 first_is_line (node k Streamed ts) p = (plain_above (kind_byte k) (first_byte_above (node k Streamed ts)), (plain_above 63 (omega arith), tt))
+
+-- a text's bytes up to its first CR LF decide what tree it can be of
+pub line_decides : (t : Tree) (first rest x : List ℕ) → IsTree t → IsLine first → text t ++ x ≡ first ++ crlf rest → (first_line t ≡ first) × (sort first ≡ sort_of t) × (after_line t ++ x ≡ rest)
+line_decides t first rest x p no_break e =
+    let split = line_split (first_line t) first (after_line t ++ x) rest (first_is_line t p) no_break (sym (text_is t x) ∙ e) in
+    (split.0, sym (ap sort split.0) ∙ sort_is t p, split.1)

@@ -12,3 +12,4 @@ pub mod ByteLemmas
 pub mod DefaultLimits
 pub mod SmallTrees
 pub mod TypeBytes
+pub mod Examples

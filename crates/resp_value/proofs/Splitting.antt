@@ -1,5 +1,5 @@
 -- Where a line and a counted part of a text end.
-use Rattle.std.proofs.Common.{◌≡◌, ℕ, ◌<◌, false, List, [], ◌∷◌, ◌++◌, length, refl, arith, eqb}
+use Rattle.std.proofs.Common.{◌≡◌, ℕ, ◌<◌, false, List, [], ◌∷◌, ◌++◌, length, get_or, ap, refl, arith, eqb}
 use Rattle.std.specs.List.{AllByRecursion}
 use Rattle.std.proofs.lemmas.Bool.{ne_eqb}
 use Rattle.resp_value.specs.Bytes.{IsLine, IsPlain, crlf}
@@ -15,6 +15,15 @@ line_split (c ∷ a) (d ∷ b) x y p q e =
     let r = line_split a b x y p.1 q.1 t in
     let h : a ≡ b = r.0 in
     (cc, r.1)
+
+-- where a lone LF comes before the first CR LF, there is no line
+pub no_newline_in_line : (a b x y : List ℕ) → IsLine a → IsLine b → a ++ crlf x ≡ b ++ 10 ∷ y → ⊥
+no_newline_in_line [] [] x y p q e = omega (arith, ap (λ z. get_or z 0 0) e)
+no_newline_in_line [] (d ∷ b) x y p q e = let h : d ≡ 13 = cc in q.0.0 h
+no_newline_in_line (c ∷ a) [] x y p q e = let h : c ≡ 10 = cc in p.0.1 h
+no_newline_in_line (c ∷ a) (d ∷ b) x y p q e =
+    let t : a ++ crlf x ≡ b ++ 10 ∷ y = cc in
+    no_newline_in_line a b x y p.1 q.1 t
 
 -- parts of one length end at the same place
 pub length_split : (a b x y : List ℕ) → length a ≡ length b → a ++ x ≡ b ++ y → (a ≡ b) × (x ≡ y)

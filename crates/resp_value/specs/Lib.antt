@@ -10,3 +10,4 @@ pub mod LocalRules
 pub mod Spellings
 pub mod Canonical
 pub mod Laws
+pub mod Examples

@@ -1,5 +1,10 @@
 //! Laws of the grammar's definitions, each the contract of a function with an empty body.
 
+ghost use Rattle.std.specs.Prelude.{◌≡◌, codes, true, false, pos, negsuc};
+ghost use Rattle.resp_value.specs.Canonical.{canonical_text};
+ghost use Rattle.resp_value.specs.Data.{scalar, aggregate, none, more, Array, Map, Attr, Null, Bool, Int, Simple, Bulk, Verbatim, Big};
+ghost use Rattle.resp_value.specs.Examples.{IsSpelled, IsSpelledInThree, IsSpelledStreamed, SpellsNothing, SpellsNothingInTwo};
+ghost use Rattle.resp_value.specs.declared.version.Version.TheVariants.{Two, Three};
 ghost use Rattle.resp_value.specs.Laws.{ATextHasOneValue, NoSpellingBeginsAnother, NoSpellingIsEmpty, APushBeginsWithItsByte, ATextHasOneCut, ARestHasOneFault, VersionThreeSpellsWhatTwoDoes, CanonicalTextSpellsWhatFits, CanonicalTextTellsValuesApart, FrontsOfSpellingsAreViable, FrontsOfViableTextsAreViable, LaterRulesLeaveLess, ATextHasOneCause, AViableTextHasNoCause, RulesHoldAtEachNode, TextsOfTreesAreBytes, DefaultItemsRefuseNothing, TheEmptyTextIsViable, TypeBytesAreViable, LaterTypeBytesWantVersionThree, ACommaBeginsADouble, NoOtherByteBeginsATree};
 
 /// A text is a spelling of one value alone, whatever the version and the limits.
@@ -110,4 +115,61 @@ pub fn a_comma_begins_a_double()
 /// No tree begins with another byte.
 pub fn no_other_byte_begins_a_tree()
     ensures { NoOtherByteBeginsATree }
+{}
+
+/// Texts and the values that they spell.
+pub fn texts_and_their_values()
+    // A sign may stand, and leading zeros.
+    ensures plus_and_zeros { IsSpelled (codes ":+007\r\n") (scalar (Int (pos 7))) }
+    ensures minus_zero { IsSpelled (codes ":-0\r\n") (scalar (Int (pos 0))) }
+    ensures length_with_zero { IsSpelled (codes "$01\r\na\r\n") (scalar (Bulk (codes "a"))) }
+
+    // A null has three forms.
+    ensures bulk_null { IsSpelled (codes "$-1\r\n") (scalar Null) }
+    ensures array_null { IsSpelled (codes "*-1\r\n") (scalar Null) }
+    ensures plain_null { IsSpelledInThree (codes "_\r\n") (scalar Null) }
+
+    // A big zero has no sign, and no digit but one.
+    ensures big_minus_zero { IsSpelledInThree (codes "(-00\r\n") (scalar (Big false (codes "0"))) }
+    ensures verbatim { IsSpelledInThree (codes "=6\r\ntxt:hi\r\n") (scalar (Verbatim (codes "txt") (codes "hi"))) }
+
+    // A streamed string is its chunks' joining.
+    ensures chunks { IsSpelledStreamed (codes "$?\r\n;2\r\nab\r\n;1\r\nc\r\n;0\r\n") (scalar (Bulk (codes "abc"))) }
+    ensures streamed_map { IsSpelledStreamed (codes "%?\r\n+a\r\n:1\r\n.\r\n")
+        (aggregate Map (more (scalar (Simple (codes "a"))) (more (scalar (Int (pos 1))) none))) }
+
+    // An attribute and the value that it annotates are one member.
+    ensures attribute { IsSpelledInThree (codes "*1\r\n|1\r\n+a\r\n:1\r\n+b\r\n")
+        (aggregate Array
+        (more
+        (aggregate Attr
+        (more (scalar (Simple (codes "a")))
+        (more (scalar (Int (pos 1))) (more (scalar (Simple (codes "b"))) none))))
+        none)) }
+{}
+
+/// Values and their canonical texts.
+pub fn values_and_their_canonical_texts()
+    ensures null_in_two { canonical_text Two (scalar Null) ≡ codes "$-1\r\n" }
+    ensures null_in_three { canonical_text Three (scalar Null) ≡ codes "_\r\n" }
+    ensures integer { canonical_text Two (scalar (Int (negsuc 41))) ≡ codes ":-42\r\n" }
+    ensures big_zero { canonical_text Three (scalar (Big false (codes "0"))) ≡ codes "(0\r\n" }
+    ensures map { canonical_text Three
+        (aggregate Map (more (scalar (Bulk (codes "key"))) (more (scalar (Bool true)) none)))
+        ≡ codes "%1\r\n$3\r\nkey\r\n#t\r\n" }
+{}
+
+/// Texts that spell nothing.
+pub fn texts_without_a_value()
+    // A map closes behind whole pairs alone.
+    ensures map_closed_after_a_key { SpellsNothing (codes "%?\r\n+a\r\n.\r\n") }
+    // An attribute wants a value.
+    ensures attribute_alone { SpellsNothing (codes "|0\r\n") }
+    ensures push_below_the_top { SpellsNothing (codes "*1\r\n>0\r\n") }
+    ensures double { SpellsNothing (codes ",1.5\r\n") }
+    ensures newline_in_a_line { SpellsNothing (codes "+a\nb\r\n") }
+    ensures no_digits { SpellsNothing (codes ":\r\n") }
+    ensures more_than_64_bits { SpellsNothing (codes ":9223372036854775808\r\n") }
+    // Version 2 has no streamed forms.
+    ensures streamed_in_two { SpellsNothingInTwo (codes "*?\r\n.\r\n") }
 {}
