@@ -1,9 +1,9 @@
 //! Laws of the grammar's definitions, each the contract of a function with an empty body.
 
-ghost use Rattle.std.specs.Prelude.{◌≡◌, codes, true, false, pos, negsuc};
+ghost use Rattle.std.specs.Prelude.{[], ◌∷◌, ◌≡◌, codes, true, false, pos, negsuc};
 ghost use Rattle.resp_value.specs.Canonical.{canonical_text};
-ghost use Rattle.resp_value.specs.Data.{scalar, aggregate, none, more, Array, Map, Attr, Null, Bool, Int, Simple, Bulk, Verbatim, Big};
-ghost use Rattle.resp_value.specs.Examples.{IsSpelled, IsSpelledInThree, IsSpelledStreamed, SpellsNothing, SpellsNothingInTwo};
+ghost use Rattle.resp_value.specs.Data.{scalar, Array, Map, Attr, Null, Bool, Bulk, Verbatim, Big};
+ghost use Rattle.resp_value.specs.Examples.{integer, simple, aggregate_of, IsSpelled, IsSpelledInThree, IsSpelledStreamed, SpellsNothing, SpellsNothingInTwo};
 ghost use Rattle.resp_value.specs.declared.version.Version.TheVariants.{Two, Three};
 ghost use Rattle.resp_value.specs.Laws.{ATextHasOneValue, NoSpellingBeginsAnother, NoSpellingIsEmpty, APushBeginsWithItsByte, ATextHasOneCut, ARestHasOneFault, VersionThreeSpellsWhatTwoDoes, CanonicalTextSpellsWhatFits, CanonicalTextTellsValuesApart, FrontsOfSpellingsAreViable, FrontsOfViableTextsAreViable, LaterRulesLeaveLess, ATextHasOneCause, AViableTextHasNoCause, RulesHoldAtEachNode, TextsOfTreesAreBytes, DefaultItemsRefuseNothing, TheEmptyTextIsViable, TypeBytesAreViable, LaterTypeBytesWantVersionThree, ACommaBeginsADouble, NoOtherByteBeginsATree};
 
@@ -119,9 +119,9 @@ pub fn no_other_byte_begins_a_tree()
 
 /// Texts and the values that they spell.
 pub fn texts_and_their_values()
-    // A sign may stand, and leading zeros.
-    ensures plus_and_zeros { IsSpelled (codes ":+007\r\n") (scalar (Int (pos 7))) }
-    ensures minus_zero { IsSpelled (codes ":-0\r\n") (scalar (Int (pos 0))) }
+    // An integer may have a sign and leading zeros, and so may a length have zeros.
+    ensures plus_and_zeros { IsSpelled (codes ":+007\r\n") (integer (pos 7)) }
+    ensures minus_zero { IsSpelled (codes ":-0\r\n") (integer (pos 0)) }
     ensures length_with_zero { IsSpelled (codes "$01\r\na\r\n") (scalar (Bulk (codes "a"))) }
 
     // A null has three forms.
@@ -129,46 +129,51 @@ pub fn texts_and_their_values()
     ensures array_null { IsSpelled (codes "*-1\r\n") (scalar Null) }
     ensures plain_null { IsSpelledInThree (codes "_\r\n") (scalar Null) }
 
-    // A big zero has no sign, and no digit but one.
+    // A big zero is not negative, and keeps one digit.
     ensures big_minus_zero { IsSpelledInThree (codes "(-00\r\n") (scalar (Big false (codes "0"))) }
-    ensures verbatim { IsSpelledInThree (codes "=6\r\ntxt:hi\r\n") (scalar (Verbatim (codes "txt") (codes "hi"))) }
+
+    // The length of a verbatim string counts its format and the `:`.
+    ensures verbatim { IsSpelledInThree (codes "=6\r\ntxt:hi\r\n")
+        (scalar (Verbatim (codes "txt") (codes "hi"))) }
 
     // A streamed string is its chunks' joining.
-    ensures chunks { IsSpelledStreamed (codes "$?\r\n;2\r\nab\r\n;1\r\nc\r\n;0\r\n") (scalar (Bulk (codes "abc"))) }
+    ensures chunks { IsSpelledStreamed (codes "$?\r\n;2\r\nab\r\n;1\r\nc\r\n;0\r\n")
+        (scalar (Bulk (codes "abc"))) }
     ensures streamed_map { IsSpelledStreamed (codes "%?\r\n+a\r\n:1\r\n.\r\n")
-        (aggregate Map (more (scalar (Simple (codes "a"))) (more (scalar (Int (pos 1))) none))) }
+        (aggregate_of Map (simple (codes "a") ∷ integer (pos 1) ∷ [])) }
 
     // An attribute and the value that it annotates are one member.
     ensures attribute { IsSpelledInThree (codes "*1\r\n|1\r\n+a\r\n:1\r\n+b\r\n")
-        (aggregate Array
-        (more
-        (aggregate Attr
-        (more (scalar (Simple (codes "a")))
-        (more (scalar (Int (pos 1))) (more (scalar (Simple (codes "b"))) none))))
-        none)) }
+        (aggregate_of Array
+        (aggregate_of Attr (simple (codes "a") ∷ integer (pos 1) ∷ simple (codes "b") ∷ []) ∷ [])) }
 {}
 
 /// Values and their canonical texts.
 pub fn values_and_their_canonical_texts()
     ensures null_in_two { canonical_text Two (scalar Null) ≡ codes "$-1\r\n" }
     ensures null_in_three { canonical_text Three (scalar Null) ≡ codes "_\r\n" }
-    ensures integer { canonical_text Two (scalar (Int (negsuc 41))) ≡ codes ":-42\r\n" }
+    ensures negative { canonical_text Two (integer (negsuc 41)) ≡ codes ":-42\r\n" }
     ensures big_zero { canonical_text Three (scalar (Big false (codes "0"))) ≡ codes "(0\r\n" }
     ensures map { canonical_text Three
-        (aggregate Map (more (scalar (Bulk (codes "key"))) (more (scalar (Bool true)) none)))
+        (aggregate_of Map (scalar (Bulk (codes "key")) ∷ scalar (Bool true) ∷ []))
         ≡ codes "%1\r\n$3\r\nkey\r\n#t\r\n" }
 {}
 
 /// Texts that spell nothing.
 pub fn texts_without_a_value()
-    // A map closes behind whole pairs alone.
+    // A streamed map closes behind whole pairs alone.
     ensures map_closed_after_a_key { SpellsNothing (codes "%?\r\n+a\r\n.\r\n") }
-    // An attribute wants a value.
+    // An attribute wants the value that it annotates.
     ensures attribute_alone { SpellsNothing (codes "|0\r\n") }
+    // A push stands at the top alone.
     ensures push_below_the_top { SpellsNothing (codes "*1\r\n>0\r\n") }
+    // No value is a double.
     ensures double { SpellsNothing (codes ",1.5\r\n") }
+    // A line has no LF in it.
     ensures newline_in_a_line { SpellsNothing (codes "+a\nb\r\n") }
+    // A number has a digit.
     ensures no_digits { SpellsNothing (codes ":\r\n") }
+    // An integer has 64 bits.
     ensures more_than_64_bits { SpellsNothing (codes ":9223372036854775808\r\n") }
     // Version 2 has no streamed forms.
     ensures streamed_in_two { SpellsNothingInTwo (codes "*?\r\n.\r\n") }
