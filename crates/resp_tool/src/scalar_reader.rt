@@ -9,6 +9,7 @@ ghost use Rattle.resp_tool.specs.Scalars.{scalar_data, scalar_datum, SaysInteger
 
 use memchr::memchr2;
 use resp_value::cause::Cause;
+use resp_value::laws;
 use resp_value::limits::Limits;
 use resp_value::version::Version;
 
@@ -263,6 +264,8 @@ pub fn read_scalar<'a>(
         Ok((value, rest)) => {
             let taken = (input.len() - rest.len()) as u64;
             if taken > limits.total() {
+                // No spelling begins another, so there is no shorter one.
+                laws::no_spelling_begins_another();
                 return Err(Fault {
                     cause: Cause::Total,
                     at: limits.total(),
