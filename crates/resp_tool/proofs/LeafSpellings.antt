@@ -69,7 +69,7 @@ no_scalar_past_total r x input rest law (l, old, in_range, is_leaf, value, short
     let spelled : leaf_text m ≡ front = spells.spelled in
     let total : length (leaf_text m) ≤ r.limits.total = keeps WithinTotal (omega arith) in
     let same = law wide wide (scalar x) (scalar (leaf_value m)) (leaf_text l) (leaf_text m) rest behind
-        (leaf_spells wide l x old in_range is_leaf value (subst (λ y. content_length y ≤ r.limits.length) (sym value) short) (omega arith))
-        (leaf_spells wide m (leaf_value m) old' (keeps InRange (omega arith)) spells.is_tree refl (keeps WithinLength (omega arith)) (omega arith))
-        (sym whole ∙ e ∙ ap (λ text. text ++ behind) (sym spelled)) in
+    (leaf_spells wide l x old in_range is_leaf value (subst (λ y. content_length y ≤ r.limits.length) (sym value) short) (omega arith))
+    (leaf_spells wide m (leaf_value m) old' (keeps InRange (omega arith)) spells.is_tree refl (keeps WithinLength (omega arith)) (omega arith))
+    (sym whole ∙ e ∙ ap (λ text. text ++ behind) (sym spelled)) in
     omega (arith, ap length same.1)

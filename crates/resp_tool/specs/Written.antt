@@ -9,7 +9,7 @@ pub record AppendsPart (before after : Option (List ℕ)) (text : List ℕ) : Ty
   pub whole : text ≡ part ++ behind
   pub appended : Appends before after part
 
--- the whole text was appended and no write failed; or, where the writer failed, a first part of it was
+-- The whole text was appended and no write failed; or a write failed, and a first part of the text was appended.
 abbrev pub WritesText : {X E : Type 0} → Option (List ℕ) → Option (List ℕ) → ℕ → ℕ → Result X E → List ℕ → Type 0
 WritesText before after failures failures' (Ok x) text = Appends before after text × (failures' ≡ failures)
 WritesText before after failures failures' (Err e) text = AppendsPart before after text × HasRisen failures failures'

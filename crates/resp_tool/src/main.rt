@@ -2,5 +2,6 @@
 #![tactic(auto)]
 
 mod scalar_reader;
+mod text;
 
 fn main() {}

@@ -70,6 +70,7 @@ pub struct WriteFault {
 /// first bytes were written, as many as it says.
 pub fn write_all<W: Sink>(sink: &mut W, bytes: &[u8]) -> Result<(), WriteFault>
     ensures ok { OnOk result (Appends (W.written sink.old) (W.written sink.new) bytes.now) }
+    ensures none_failed { OnOk result (W.failures sink.new ≡ W.failures sink.old) }
     ensures within { IfErr result (λ fault. fault.written < length bytes.now) }
     ensures part { IfErr result (λ fault. Appends (W.written sink.old) (W.written sink.new) (take fault.written bytes.now)) }
     ensures failed { IfErr result (λ fault. HasRisen (W.failures sink.old) (W.failures sink.new)) }

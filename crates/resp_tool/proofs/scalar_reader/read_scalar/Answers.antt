@@ -13,11 +13,12 @@ returns-then-taken-total-clause-refused c =
 
 pub returns-else-taken-total-clause-found : goal.returns-else-taken-total-clause-found
 returns-else-taken-total-clause-found c =
-    let (l, old, in_range, is_leaf, value, short, whole) = c.in-Ok.ensures.found in
-    (leaf_text l,
-     leaf_spells _ l _ old in_range is_leaf value (subst (λ y. content_length y ≤ c.args.limits.now.length) (sym value) (omega (arith, short, c.length.ensures.length)))
-     (omega (arith, ap length whole, length-append (leaf_text l) c.in-Ok.rest.now, c.total.ensures.total, c.if-taken-total.false)),
-     whole)
+    let (l, old, in_range, is_leaf, value, short, whole) = c.in-Ok.ensures.found in (
+      leaf_text l,
+      leaf_spells _ l _ old in_range is_leaf value (subst (λ y. content_length y ≤ c.args.limits.now.length) (sym value) (omega (arith, short, c.length.ensures.length)))
+          (omega (arith, ap length whole, length-append (leaf_text l) c.in-Ok.rest.now, c.total.ensures.total, c.if-taken-total.false)),
+      whole,
+    )
 
 pub returns-in-Err-clause-refused : goal.returns-in-Err-clause-refused
 returns-in-Err-clause-refused c =

@@ -1,0 +1,92 @@
+//! Text to a writer: plain pieces, numbers, and quoted bytes.
+
+ghost use Rattle.std.specs.Prelude.{◌≡◌, ◌++◌, ◌<◌, ◌≤◌, false, length, take, slice_index};
+ghost use Rattle.resp_tool.specs.Shown.{is_plain, hex_digit, escaped, quoted};
+ghost use Rattle.resp_tool.specs.Written.{WritesText};
+
+use itoa::{Buffer, Integer};
+use resp_value::device::{Sink, WriteFault, write_all};
+
+/// Writes a text.
+pub fn write_text<W: Sink>(writer: &mut W, text: &[u8]) -> Result<(), WriteFault>
+    ensures { WritesText (W.written writer.old) (W.written writer.new) (W.failures writer.old) (W.failures writer.new) result text.now }
+{
+    write_all(writer, text)
+}
+
+/// Writes a text, an integer, and another text.
+pub fn write_number<W: Sink, N: Integer + Drop>(
+    writer: &mut W,
+    before: &[u8],
+    number: N,
+    behind: &[u8],
+) -> Result<(), WriteFault>
+    ensures { WritesText (W.written writer.old) (W.written writer.new) (W.failures writer.old) (W.failures writer.new) result (before.now ++ N.text number ++ behind.now) }
+{
+    let mut buffer = Buffer::new();
+    write_text(writer, before)?;
+    write_text(writer, buffer.format(number).as_bytes())?;
+    write_text(writer, behind)
+}
+
+fn is_plain(byte: u8) -> bool
+    ensures { result ≡ is_plain byte }
+{
+    32 <= byte && byte <= 126 && byte != b'"' && byte != b'\\'
+}
+
+fn hex_digit(n: u8) -> u8
+    requires { n < 16 }
+    ensures { result ≡ hex_digit n }
+{
+    if n < 10 { n + b'0' } else { n - 10 + b'a' }
+}
+
+/// Writes a byte that doesn't stand for itself inside quotes.
+fn write_escaped<W: Sink>(writer: &mut W, byte: u8) -> Result<(), WriteFault>
+    ensures { WritesText (W.written writer.old) (W.written writer.new) (W.failures writer.old) (W.failures writer.new) result (escaped byte) }
+{
+    match byte {
+        b'"' => write_text(writer, b"\\\""),
+        b'\\' => write_text(writer, b"\\\\"),
+        b'\r' => write_text(writer, b"\\r"),
+        b'\n' => write_text(writer, b"\\n"),
+        b'\t' => write_text(writer, b"\\t"),
+        _ => write_text(
+            writer,
+            &[b'\\', b'x', hex_digit(byte / 16), hex_digit(byte % 16)],
+        ),
+    }
+}
+
+/// How many bytes stand before the first that doesn't stand for itself inside quotes.
+fn plain_length(text: &[u8]) -> usize
+    ensures within { result ≤ length text.now }
+    ensures plain { quoted (take result text.now) ≡ take result text.now }
+    ensures whole { result < length text.now → is_plain (slice_index text.now result) ≡ false }
+{
+    for (index, byte) in text.iter().enumerate() {
+        if !is_plain(*byte) {
+            return index;
+        }
+    }
+    text.len()
+}
+
+/// Writes a text as it stands inside quotes.
+pub fn write_quoted<W: Sink>(writer: &mut W, text: &[u8]) -> Result<(), WriteFault>
+    ensures { WritesText (W.written writer.old) (W.written writer.new) (W.failures writer.old) (W.failures writer.new) result (quoted text.now) }
+{
+    let mut rest = text;
+    while let Some((byte, behind)) = rest.split_first() {
+        let (plain, other) = rest.split_at(plain_length(rest));
+        if plain.is_empty() {
+            write_escaped(writer, *byte)?;
+            rest = behind;
+        } else {
+            write_text(writer, plain)?;
+            rest = other;
+        }
+    }
+    Ok(())
+}
