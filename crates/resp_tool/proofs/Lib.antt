@@ -6,3 +6,4 @@ pub mod LeafSpellings
 pub mod WrittenLemmas
 pub mod Quoted
 pub mod QuotedWrites
+pub mod ReadLemmas

@@ -43,3 +43,7 @@ writes_part (Err e) before after failures failures' text next is_err written = (
   },
   written.1,
 )
+
+-- a line of two pieces and of a number between two more, piece by piece
+pub line_parts : (first second before number behind : List ℕ) → (((first ++ second) ++ before) ++ number) ++ behind ≡ first ++ (second ++ ((before ++ number) ++ behind))
+line_parts first second before number behind = simp append_assoc

@@ -1,3 +1,5 @@
 pub mod Shown
 pub mod Written
 pub mod Scalars
+pub mod Faults
+pub mod Reads

@@ -1,5 +1,5 @@
 -- What was written of a text.
-use Rattle.std.specs.Prelude.{◌≡◌, ℕ, List, ◌++◌, Option, Result, Ok, Err}
+use Rattle.std.specs.Prelude.{◌≡◌, ℕ, List, ◌++◌, Option, Result, Ok, Err, codes, decimal}
 use Rattle.resp_value.specs.Devices.{Appends, HasRisen}
 
 -- a first part of the text was appended
@@ -13,3 +13,7 @@ pub record AppendsPart (before after : Option (List ℕ)) (text : List ℕ) : Ty
 abbrev pub WritesText : {X E : Type 0} → Option (List ℕ) → Option (List ℕ) → ℕ → ℕ → Result X E → List ℕ → Type 0
 WritesText before after failures failures' (Ok x) text = Appends before after text × (failures' ≡ failures)
 WritesText before after failures failures' (Err e) text = AppendsPart before after text × HasRisen failures failures'
+
+-- the line of a value that was refused: its number, the cause's name, and the byte
+abbrev pub refusal_line : ℕ → List ℕ → ℕ → List ℕ
+refusal_line value name at = codes "value " ++ decimal value ++ codes ": " ++ name ++ codes " at byte " ++ decimal at ++ codes "\n"

@@ -1,0 +1,24 @@
+-- The line and the status of each reason to stop.
+use Rattle.std.specs.Prelude.{ℕ, List, ◌++◌, codes, decimal}
+use Rattle.resp_value.specs.Causes.{name_of}
+use Rattle.resp_tool.specs.Written.{refusal_line}
+use Rattle.resp_tool.specs.declared.tool_error.ToolError.{ToolError}
+use Rattle.resp_tool.specs.declared.tool_error.ToolError.TheVariants.{Refused, OverLimits, TooManyValues, Read, Write, TooManyTurns, Memory}
+
+abbrev pub fault_line : ToolError → List ℕ
+fault_line (Refused value cause at) = refusal_line value (name_of cause) at
+fault_line (OverLimits value) = codes "value " ++ decimal value ++ codes ": OverLimits\n"
+fault_line TooManyValues = codes "value 1000000001: TooManyValues at byte 0\n"
+fault_line Read = codes "read failed\n"
+fault_line Write = codes "write failed\n"
+fault_line TooManyTurns = codes "too many turns\n"
+fault_line Memory = codes "out of memory\n"
+
+abbrev pub status_of : ToolError → ℕ
+status_of (Refused value cause at) = 1
+status_of (OverLimits value) = 1
+status_of TooManyValues = 1
+status_of Read = 3
+status_of Write = 3
+status_of TooManyTurns = 3
+status_of Memory = 3

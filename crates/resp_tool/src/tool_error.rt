@@ -1,0 +1,105 @@
+//! Why the program stops, the line that it prints then, and its status.
+
+ghost use Rattle.std.specs.Prelude.{◌≡◌};
+ghost use Rattle.resp_tool.specs.Written.{WritesText, refusal_line};
+ghost use Rattle.resp_tool.specs.declared.tool_error.ToolError.TheVariants.{Memory, Write};
+
+use crate::text::{write_number, write_text};
+use resp_value::cause::Cause;
+use resp_value::device::{Sink, WriteFault};
+use std::alloc::AllocError;
+use thiserror::Error;
+
+/// The most values of one run.
+pub const MOST_VALUES: u64 = 1_000_000_000;
+
+/// Why a stream was not shown, checked or rewritten to its end.
+#[derive(Clone, Copy, Debug, PartialEq, Eq, Error)]
+pub enum ToolError {
+    /// The value with this number, counted from 1, was refused at this byte of it, counted from 0.
+    #[error("a value was refused")]
+    Refused { value: u64, cause: Cause, at: u64 },
+    /// The canonical text of the value with this number is over the limits.
+    #[error("a value's canonical text is over the limits")]
+    OverLimits { value: u64 },
+    /// More values came than one run takes.
+    #[error("too many values")]
+    TooManyValues,
+    /// The reader failed.
+    #[error("the reader failed")]
+    Read,
+    /// The writer failed, or took no byte.
+    #[error("the writer failed")]
+    Write,
+    /// The input didn't end within the most reads of one run.
+    #[error("too many reads")]
+    TooManyTurns,
+    /// A growth was refused.
+    #[error("out of memory")]
+    Memory,
+}
+
+impl From<AllocError> for ToolError {
+    ghost from_gives = { λ _ error. error ≡ Memory };
+
+    fn from(_: AllocError) -> ToolError {
+        ToolError::Memory
+    }
+}
+
+impl From<WriteFault> for ToolError {
+    ghost from_gives = { λ _ error. error ≡ Write };
+
+    fn from(_: WriteFault) -> ToolError {
+        ToolError::Write
+    }
+}
+
+/// Writes the line of a refused value.
+fn write_refusal<W: Sink>(
+    writer: &mut W,
+    value: u64,
+    name: &[u8],
+    at: u64,
+) -> Result<(), WriteFault>
+    ensures { WritesText (W.written writer.old) (W.written writer.new) (W.failures writer.old) (W.failures writer.new) result (refusal_line value name.now at) }
+{
+    write_number(writer, b"value ", value, b": ")?;
+    write_text(writer, name)?;
+    write_number(writer, b" at byte ", at, b"\n")
+}
+
+impl ToolError {
+    ghost use Rattle.resp_tool.specs.Faults.{fault_line, status_of};
+
+    /// Writes the line that says what was refused, with an LF.
+    pub fn line<W: Sink>(&self, writer: &mut W) -> Result<(), WriteFault>
+        ensures { WritesText (W.written writer.old) (W.written writer.new) (W.failures writer.old) (W.failures writer.new) result (fault_line self.now) }
+    {
+        match self {
+            ToolError::Refused { value, cause, at } => {
+                write_refusal(writer, *value, cause.name().as_bytes(), *at)
+            }
+            ToolError::OverLimits { value } => {
+                write_number(writer, b"value ", *value, b": OverLimits\n")
+            }
+            ToolError::TooManyValues => {
+                write_text(writer, b"value 1000000001: TooManyValues at byte 0\n")
+            }
+            ToolError::Read => write_text(writer, b"read failed\n"),
+            ToolError::Write => write_text(writer, b"write failed\n"),
+            ToolError::TooManyTurns => write_text(writer, b"too many turns\n"),
+            ToolError::Memory => write_text(writer, b"out of memory\n"),
+        }
+    }
+
+    /// The status that the program ends with: 1 for a refused input, 3 for a device or memory that failed.
+    pub fn status(&self) -> u8
+        ensures { result ≡ status_of self.now }
+    {
+        match self {
+            ToolError::Refused { .. } | ToolError::OverLimits { .. } | ToolError::TooManyValues => 1,
+            ToolError::Read | ToolError::Write | ToolError::TooManyTurns | ToolError::Memory => 3,
+        }
+    }
+}
