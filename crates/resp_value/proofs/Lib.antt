@@ -13,3 +13,4 @@ pub mod DefaultLimits
 pub mod SmallTrees
 pub mod TypeBytes
 pub mod Examples
+pub mod RefusedExamples

@@ -3,7 +3,8 @@
 ghost use Rattle.std.specs.Prelude.{[], ◌∷◌, ◌≡◌, codes, true, false, pos, negsuc};
 ghost use Rattle.resp_value.specs.Canonical.{canonical_text};
 ghost use Rattle.resp_value.specs.Data.{scalar, Array, Map, Attr, Null, Bool, Bulk, Verbatim, Big};
-ghost use Rattle.resp_value.specs.Examples.{integer, simple, aggregate_of, IsSpelled, IsSpelledInThree, IsSpelledStreamed, SpellsNothing, SpellsNothingInTwo};
+ghost use Rattle.resp_value.specs.Examples.{integer, simple, aggregate_of, IsSpelled, IsSpelledInThree, IsSpelledStreamed, SpellsNothing, SpellsNothingInTwo, HasCause, HasCauseInThree, IsCutWithFault};
+ghost use Rattle.resp_value.specs.Rules.{Grammar, PushAtTop};
 ghost use Rattle.resp_value.specs.declared.version.Version.TheVariants.{Two, Three};
 ghost use Rattle.resp_value.specs.Laws.{ATextHasOneValue, NoSpellingBeginsAnother, NoSpellingIsEmpty, APushBeginsWithItsByte, ATextHasOneCut, ARestHasOneFault, VersionThreeSpellsWhatTwoDoes, CanonicalTextSpellsWhatFits, CanonicalTextTellsValuesApart, FrontsOfSpellingsAreViable, FrontsOfViableTextsAreViable, LaterRulesLeaveLess, ATextHasOneCause, AViableTextHasNoCause, RulesHoldAtEachNode, TextsOfTreesAreBytes, DefaultItemsRefuseNothing, TheEmptyTextIsViable, TypeBytesAreViable, LaterTypeBytesWantVersionThree, ACommaBeginsADouble, NoOtherByteBeginsATree};
 
@@ -161,20 +162,32 @@ pub fn values_and_their_canonical_texts()
 
 /// Texts that spell nothing.
 pub fn texts_without_a_value()
-    // A streamed map closes behind whole pairs alone.
-    ensures map_closed_after_a_key { SpellsNothing (codes "%?\r\n+a\r\n.\r\n") }
     // An attribute wants the value that it annotates.
     ensures attribute_alone { SpellsNothing (codes "|0\r\n") }
-    // A push stands at the top alone.
-    ensures push_below_the_top { SpellsNothing (codes "*1\r\n>0\r\n") }
     // No value is a double.
     ensures double { SpellsNothing (codes ",1.5\r\n") }
-    // A line has no LF in it.
-    ensures newline_in_a_line { SpellsNothing (codes "+a\nb\r\n") }
-    // A number has a digit.
-    ensures no_digits { SpellsNothing (codes ":\r\n") }
     // An integer has 64 bits.
     ensures more_than_64_bits { SpellsNothing (codes ":9223372036854775808\r\n") }
     // Version 2 has no streamed forms.
     ensures streamed_in_two { SpellsNothingInTwo (codes "*?\r\n.\r\n") }
+{}
+
+/// Texts that are refused at their last byte, and why.
+pub fn texts_and_their_causes()
+    // A line has no LF in it.
+    ensures newline_in_a_line { HasCause (codes "+a\n") Grammar }
+    // A number has a digit.
+    ensures no_digits { HasCause (codes ":\r") Grammar }
+    // A streamed map closes behind whole pairs alone.
+    ensures map_closed_after_a_key { HasCause (codes "%?\r\n+a\r\n.") Grammar }
+    // Pushes and attributes aren't streamed.
+    ensures streamed_push { HasCause (codes ">?") Grammar }
+    ensures streamed_attribute { HasCause (codes "|?") Grammar }
+    // A push stands at the top alone.
+    ensures push_below_the_top { HasCauseInThree (codes "*1\r\n>") PushAtTop }
+{}
+
+/// A text is cut into its values and a rest, whose fault has a place and a cause.
+pub fn a_cut_and_its_fault()
+    ensures { IsCutWithFault (codes "+a\r\n+b\n+c\r\n") (simple (codes "a") ∷ []) (codes "+b\n+c\r\n") Grammar 2 }
 {}
