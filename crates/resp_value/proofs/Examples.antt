@@ -11,7 +11,8 @@ use Rattle.resp_value.specs.Rules.{Rules, NotStreamed, Meets, Every, HasVersion,
 use Rattle.resp_value.specs.Spellings.{IsSpelling}
 use Rattle.resp_value.specs.Examples.{simple, IsSpelled, IsSpelledInThree, IsSpelledStreamed}
 use Rattle.resp_value.proofs.Splitting.{plain_above}
-use Rattle.resp_value.proofs.SmallTrees.{IsSmall, small_meets, small_leaf, small_node, one_digit, digits_by_test, in_each_version, if_counted}
+use Rattle.resp_value.proofs.ByTests.{bytes_by_test, digits_by_test}
+use Rattle.resp_value.proofs.SmallTrees.{IsSmall, small_meets, small_leaf, small_node, one_digit, in_each_version, if_counted}
 
 -- a small tree's text is a spelling of its value in the tree's version
 small_spells : (r : Rules) (t : Tree) → AreBounds r.limits → IsSmall t → HasVersion r.version t → Meets r NotStreamed t → IsSpelling r (value t) (text t)
@@ -58,7 +59,7 @@ big_minus_zero =
 pub verbatim : IsSpelledInThree (codes "=6\r\ntxt:hi\r\n") (scalar (d.Verbatim (codes "txt") (codes "hi")))
 verbatim =
     let t = string (Verbatim (codes "txt")) (codes "6") (codes "hi") in
-    in_three (leaf t) (small_leaf t ((one_digit 54 (omega arith) (omega arith), refl), (refl, (omega arith, (omega arith, (omega arith, tt)))), (omega arith, (omega arith, tt))) tt tt (omega arith) (omega arith)) tt
+    in_three (leaf t) (small_leaf t ((one_digit 54 (omega arith) (omega arith), refl), (refl, bytes_by_test (codes "txt") refl), (omega arith, (omega arith, tt))) tt tt (omega arith) (omega arith)) tt
 
 pub chunks : IsSpelledStreamed (codes "$?\r\n;2\r\nab\r\n;1\r\nc\r\n;0\r\n") (scalar (d.Bulk (codes "abc")))
 chunks =

@@ -1,4 +1,5 @@
 pub mod KeptDigits
+pub mod ByTests
 pub mod Splitting
 pub mod FirstBytes
 pub mod FirstLines

@@ -1,6 +1,5 @@
 -- Worked examples of texts that spell nothing, and of the cause.
-use Rattle.std.proofs.Common.{◌≡◌, ℕ, ◌<◌, List, [], ◌∷◌, ◌++◌, length, codes, refl, sym, ap, subst, ◌∙◌, arith, length-append, append_assoc}
-use Rattle.std.specs.List.{AllByRecursion}
+use Rattle.std.proofs.Common.{◌≡◌, ℕ, ◌<◌, List, [], ◌∷◌, ◌++◌, length, codes, refl, sym, ap, subst, ◌∙◌, arith, length-append, append_assoc, not, eqb, true}
 use Rattle.std.proofs.lemmas.Int.{ints}
 use Rattle.std.proofs.lemmas.List.{append-nil}
 use Rattle.resp_value.specs.Bytes.{IsLine, crlf}
@@ -17,7 +16,8 @@ use Rattle.resp_value.proofs.Unique.{same_tree, streamed_unique}
 use Rattle.resp_value.proofs.SpellingLaws.{up_to_total}
 use Rattle.resp_value.proofs.ViabilityLaws.{fault_at_last, fronts_of_spellings_are_viable}
 use Rattle.resp_value.proofs.DefaultLimits.{text_at_least}
-use Rattle.resp_value.proofs.SmallTrees.{digits_by_test, one_digit}
+use Rattle.resp_value.proofs.ByTests.{each_passes, apart_by_test, line_by_test, bytes_by_test, digits_by_test}
+use Rattle.resp_value.proofs.SmallTrees.{one_digit}
 use Rattle.resp_value.proofs.Examples.{simple_is_line, small_line}
 
 -- a tree that no rules admit is the only one of its text
@@ -27,7 +27,7 @@ refused t rule p never r x s =
     never r (subst (Meets r rule) same.0 (s.keeps rule (up_to_total rule)))
 
 pub double : SpellsNothing (codes ",1.5\r\n")
-double = refused (leaf (line Double (codes "1.5"))) NoDouble ((plain_above 49 (omega arith), (plain_above 46 (omega arith), (plain_above 53 (omega arith), tt))), (omega arith, (omega arith, (omega arith, tt)))) (λ r h. h)
+double = refused (leaf (line Double (codes "1.5"))) NoDouble (line_by_test (codes "1.5") refl, bytes_by_test (codes "1.5") refl) (λ r h. h)
 
 pub more_than_64_bits : SpellsNothing (codes ":9223372036854775808\r\n")
 more_than_64_bits = refused (leaf (numeral Int Unsigned (codes "9223372036854775808"))) InRange (digits_by_test (codes "9223372036854775808") (omega arith) refl) (λ r h. omega (arith, ints, h.1))
@@ -68,7 +68,7 @@ no_bare_attribute (node k (Counted digits) (more t ts)) p e a =
 
 pub attribute_alone : SpellsNothing (codes "|0\r\n")
 attribute_alone r x s =
-    let known = decided r x (codes "|0") [] s (plain_above 124 (omega arith), (plain_above 48 (omega arith), tt)) in
+    let known = decided r x (codes "|0") [] s (line_by_test (codes "|0") refl) in
     no_bare_attribute s.tree s.spells.is_tree known.0 known.1
 
 -- a text that no tree goes on with is refused by the grammar
@@ -92,7 +92,7 @@ newline_in_a_line r b = newline_cause 97 (omega arith) r
 -- a CR where a number has no digit yet
 no_digit : (t : Tree) (rest : List ℕ) → Spells t (codes ":\r" ++ rest) → ⊥
 no_digit t rest s =
-    let split = return_split (first_line t) (codes ":") (10 ∷ (after_line t ++ [])) rest (first_is_line t s.is_tree) (plain_above 58 (omega arith), tt) (sym (text_is t []) ∙ append-nil (text t) ∙ s.spelled) in
+    let split = return_split (first_line t) (codes ":") (10 ∷ (after_line t ++ [])) rest (first_is_line t s.is_tree) (line_by_test (codes ":") refl) (sym (text_is t []) ∙ append-nil (text t) ∙ s.spelled) in
     no_sort_of_tree t (sym (ap sort split.0) ∙ sort_is t s.is_tree)
 
 pub no_digits : HasCause (codes ":\r") Grammar
@@ -113,7 +113,7 @@ no_lone_key (node k Streamed ts) rest p e a =
 
 no_closed_key : (t : Tree) (rest : List ℕ) → Spells t (codes "%?\r\n+a\r\n." ++ rest) → ⊥
 no_closed_key t rest s =
-    let known = line_decides t (codes "%?") (codes "+a\r\n." ++ rest) [] s.is_tree (plain_above 37 (omega arith), (plain_above 63 (omega arith), tt)) (append-nil (text t) ∙ s.spelled) in
+    let known = line_decides t (codes "%?") (codes "+a\r\n." ++ rest) [] s.is_tree (line_by_test (codes "%?") refl) (append-nil (text t) ∙ s.spelled) in
     no_lone_key t rest s.is_tree known.1 known.2
 
 pub map_closed_after_a_key : HasCause (codes "%?\r\n+a\r\n.") Grammar
@@ -129,8 +129,8 @@ kind_of_byte Push Push e = refl
 kind_of_byte _ _ e = absurd (omega arith)
 
 -- a kind that no leaf shares its byte with, and that isn't streamed
-no_mark : (k : Kind) → AllByRecursion (λ b. b ≡ kind_byte k → ⊥) (codes "," ++ leaf_bytes) → ((n : ℕ) → CanStream k n → ⊥) → (t : Tree) (rest : List ℕ) → IsTree t → text t ≡ kind_byte k ∷ 63 ∷ rest → ⊥
-no_mark k no_leaf never (leaf l) rest p e = at_leaf_byte (λ b. b ≡ kind_byte k → ⊥) no_leaf l (first_byte_is (leaf l) [] (63 ∷ rest) (kind_byte k) (append-nil (text (leaf l)) ∙ e))
+no_mark : (k : Kind) → each_passes (λ b. not (eqb b (kind_byte k))) (codes "," ++ leaf_bytes) ≡ true → ((n : ℕ) → CanStream k n → ⊥) → (t : Tree) (rest : List ℕ) → IsTree t → text t ≡ kind_byte k ∷ 63 ∷ rest → ⊥
+no_mark k no_leaf never (leaf l) rest p e = at_leaf_byte (λ b. b ≡ kind_byte k → ⊥) (apart_by_test (kind_byte k) (codes "," ++ leaf_bytes) no_leaf) l (first_byte_is (leaf l) [] (63 ∷ rest) (kind_byte k) (append-nil (text (leaf l)) ∙ e))
 no_mark k no_leaf never (node j (Counted []) ts) rest p e = absurd (omega (arith, p.0.0.0))
 no_mark k no_leaf never (node j (Counted (d ∷ digits)) ts) rest p e = let mark : d ≡ 63 = cc in absurd (omega (arith, p.0.0.1.0.1))
 no_mark k no_leaf never (node j Streamed ts) rest p e =
@@ -138,10 +138,10 @@ no_mark k no_leaf never (node j Streamed ts) rest p e =
     never (count ts) (subst (λ i. CanStream i (count ts)) same p.0)
 
 pub streamed_push : HasCause (codes ">?") Grammar
-streamed_push r b = by_grammar (codes ">?") (λ t rest s. no_mark Push (λ e. omega arith, (λ e. omega arith, (λ e. omega arith, (λ e. omega arith, (λ e. omega arith, (λ e. omega arith, (λ e. omega arith, (λ e. omega arith, (λ e. omega arith, (λ e. omega arith, (λ e. omega arith, tt))))))))))) (λ n h. h) t rest s.is_tree s.spelled) r
+streamed_push r b = by_grammar (codes ">?") (λ t rest s. no_mark Push refl (λ n h. h) t rest s.is_tree s.spelled) r
 
 pub streamed_attribute : HasCause (codes "|?") Grammar
-streamed_attribute r b = by_grammar (codes "|?") (λ t rest s. no_mark Attr (λ e. omega arith, (λ e. omega arith, (λ e. omega arith, (λ e. omega arith, (λ e. omega arith, (λ e. omega arith, (λ e. omega arith, (λ e. omega arith, (λ e. omega arith, (λ e. omega arith, (λ e. omega arith, tt))))))))))) (λ n h. h) t rest s.is_tree s.spelled) r
+streamed_attribute r b = by_grammar (codes "|?") (λ t rest s. no_mark Attr refl (λ n h. h) t rest s.is_tree s.spelled) r
 
 -- before pushes come the grammar, doubles and the version
 before_push : (r : Rules) (rule : Rule) (t : Tree) → Every IsNoDouble IsAnyNode t → HasVersion r.version t → rank rule < 3 → Meets r rule t
@@ -182,7 +182,7 @@ push_below_the_top r b is_three = record {
     keeps = λ first g. before_push r first push_in_array (tt, ((tt, tt), tt)) (subst (λ w. HasVersion w push_in_array) (sym is_three) tt) (omega arith);
   };
   not_viable = λ v.
-      let known = line_decides v.tree (codes "*1") (62 ∷ v.rest) [] v.spells.is_tree (plain_above 42 (omega arith), (plain_above 49 (omega arith), tt)) (append-nil (text v.tree) ∙ v.spells.spelled) in
+      let known = line_decides v.tree (codes "*1") (62 ∷ v.rest) [] v.spells.is_tree (line_by_test (codes "*1") refl) (append-nil (text v.tree) ∙ v.spells.spelled) in
       no_push_member v.tree v.rest known.1 known.2 (v.keeps PushAtTop (omega arith));
 }
 
