@@ -1,5 +1,5 @@
 -- The byte that a tree's text begins with.
-use Rattle.std.proofs.Common.{◌≡◌, ℕ, ◌<◌, true, false, List, [], ◌∷◌, ◌++◌, codes, refl, sym, ap, ◌∙◌}
+use Rattle.std.proofs.Common.{◌≡◌, ℕ, ◌<◌, true, false, List, [], ◌∷◌, ◌++◌, codes, refl, sym, ap, ◌∙◌, arith}
 use Rattle.std.specs.List.{AllByRecursion}
 use Rattle.resp_value.specs.Bytes.{IsByte, crlf}
 use Rattle.resp_value.specs.Data.{Kind, Array, Set, Map, Attr, Push}
@@ -148,3 +148,12 @@ leaf_is_no_push l = at_leaf_byte (λ b. b ≡ 62 → ⊥) (apart_by_test 62 (cod
 -- a tree's first byte is no `.`, which closes an aggregate
 pub no_stop : (t : Tree) → first_byte t ≡ 46 → ⊥
 no_stop t = at_first_byte (λ b. b ≡ 46 → ⊥) (apart_by_test 46 (codes "," ++ type_bytes_of Three) refl) t
+
+-- no two kinds have one type byte
+pub kind_of_byte : (k j : Kind) → kind_byte k ≡ kind_byte j → k ≡ j
+kind_of_byte Array Array e = refl
+kind_of_byte Set Set e = refl
+kind_of_byte Map Map e = refl
+kind_of_byte Attr Attr e = refl
+kind_of_byte Push Push e = refl
+kind_of_byte _ _ e = absurd (omega arith)

@@ -4,17 +4,17 @@ use Rattle.std.proofs.lemmas.Int.{ints}
 use Rattle.std.proofs.lemmas.List.{append-nil}
 use Rattle.resp_value.specs.Bytes.{IsLine, crlf}
 use Rattle.resp_value.specs.Numbers.{Unsigned, number}
-use Rattle.resp_value.specs.Data.{Datum, Kind, Array, Set, Map, Attr, Push, members_of}
+use Rattle.resp_value.specs.Data.{Datum, Kind, Array, Map, Attr, Push, members_of}
 use Rattle.resp_value.specs.Trees.{Tree, leaf, node, none, more, line, numeral, Simple, Double, Int, Counted, Streamed, text, texts, count, kind_byte, CanStream, IsTree, Spells}
-use Rattle.resp_value.specs.Rules.{Rules, Rule, Grammar, NoDouble, InVersion, PushAtTop, InRange, NotStreamed, WithinDepth, WithinLength, WithinItems, WithinTotal, rank, Meets, Every, HasVersion, HasPushAtRoot, IsAnyLeaf, IsAnyNode, IsNoPush, IsNoDouble, IsLeafInTwo, IsNodeInTwo}
+use Rattle.resp_value.specs.Rules.{Rules, Rule, Grammar, NoDouble, InVersion, PushAtTop, InRange, WithinTotal, Meets, Every, HasVersion, HasPushAtRoot, IsAnyLeaf, IsNoPush, IsLeafInTwo, IsNodeInTwo}
 use Rattle.resp_value.specs.Spellings.{IsSpelling, IsCause}
 use Rattle.resp_value.specs.Examples.{simple, SpellsNothing, SpellsNothingInTwo, HasCause, HasCauseInThree, IsCutWithFault}
 use Rattle.resp_value.proofs.Splitting.{plain_above, return_split, no_newline_in_line}
-use Rattle.resp_value.proofs.FirstBytes.{first_byte, first_byte_is, leaf_bytes, at_leaf_byte, leaf_is_no_push}
+use Rattle.resp_value.proofs.FirstBytes.{kind_of_byte, first_byte, first_byte_is, leaf_bytes, at_leaf_byte, leaf_is_no_push}
 use Rattle.resp_value.proofs.FirstLines.{node_of, no_sort, sort, sort_of, sort_is, first_line, first_is_line, after_line, text_is, line_decides}
 use Rattle.resp_value.proofs.Unique.{same_tree, streamed_unique}
 use Rattle.resp_value.proofs.SpellingLaws.{up_to_total}
-use Rattle.resp_value.proofs.ViabilityLaws.{fault_at_last, fronts_of_spellings_are_viable}
+use Rattle.resp_value.proofs.ViabilityLaws.{at_first_rules, fault_at_last, fronts_of_spellings_are_viable}
 use Rattle.resp_value.proofs.DefaultLimits.{text_at_least}
 use Rattle.resp_value.proofs.ByTests.{each_passes, apart_by_test, line_by_test, bytes_by_test, digits_by_test}
 use Rattle.resp_value.proofs.SmallTrees.{one_digit}
@@ -119,15 +119,6 @@ no_closed_key t rest s =
 pub map_closed_after_a_key : HasCause (codes "%?\r\n+a\r\n.") Grammar
 map_closed_after_a_key r b = by_grammar (codes "%?\r\n+a\r\n.") no_closed_key r
 
--- no two kinds have one type byte
-kind_of_byte : (k j : Kind) → kind_byte k ≡ kind_byte j → k ≡ j
-kind_of_byte Array Array e = refl
-kind_of_byte Set Set e = refl
-kind_of_byte Map Map e = refl
-kind_of_byte Attr Attr e = refl
-kind_of_byte Push Push e = refl
-kind_of_byte _ _ e = absurd (omega arith)
-
 -- a kind that no leaf shares its byte with, and that isn't streamed
 no_mark : (k : Kind) → each_passes (λ b. not (eqb b (kind_byte k))) (codes "," ++ leaf_bytes) ≡ true → ((n : ℕ) → CanStream k n → ⊥) → (t : Tree) (rest : List ℕ) → IsTree t → text t ≡ kind_byte k ∷ 63 ∷ rest → ⊥
 no_mark k no_leaf never (leaf l) rest p e = at_leaf_byte (λ b. b ≡ kind_byte k → ⊥) (apart_by_test (kind_byte k) (codes "," ++ leaf_bytes) no_leaf) l (first_byte_is (leaf l) [] (63 ∷ rest) (kind_byte k) (append-nil (text (leaf l)) ∙ e))
@@ -142,19 +133,6 @@ streamed_push r b = by_grammar (codes ">?") (λ t rest s. no_mark Push refl (λ 
 
 pub streamed_attribute : HasCause (codes "|?") Grammar
 streamed_attribute r b = by_grammar (codes "|?") (λ t rest s. no_mark Attr refl (λ n h. h) t rest s.is_tree s.spelled) r
-
--- before pushes come the grammar, doubles and the version
-before_push : (r : Rules) (rule : Rule) (t : Tree) → Every IsNoDouble IsAnyNode t → HasVersion r.version t → rank rule < 3 → Meets r rule t
-before_push r Grammar t no_double w h = tt
-before_push r NoDouble t no_double w h = no_double
-before_push r InVersion t no_double w h = w
-before_push r PushAtTop t no_double w h = absurd (omega arith)
-before_push r InRange t no_double w h = absurd (omega arith)
-before_push r NotStreamed t no_double w h = absurd (omega arith)
-before_push r WithinDepth t no_double w h = absurd (omega arith)
-before_push r WithinLength t no_double w h = absurd (omega arith)
-before_push r WithinItems t no_double w h = absurd (omega arith)
-before_push r WithinTotal t no_double w h = absurd (omega arith)
 
 -- what begins with `>` is a push
 no_push_by_byte : (t : Tree) → first_byte t ≡ 62 → Every IsAnyLeaf IsNoPush t → ⊥
@@ -179,7 +157,7 @@ push_below_the_top r b is_three = record {
     rest = codes "0\r\n";
     tree = push_in_array;
     spells = record { is_tree = ((one_digit 49 (omega arith) (omega arith), refl), (((one_digit 48 (omega arith) (omega arith), refl), tt), tt)); spelled = refl };
-    keeps = λ first g. before_push r first push_in_array (tt, ((tt, tt), tt)) (subst (λ w. HasVersion w push_in_array) (sym is_three) tt) (omega arith);
+    keeps = λ first g. at_first_rules (λ rule. Meets r rule push_in_array) tt (tt, ((tt, tt), tt)) (subst (λ w. HasVersion w push_in_array) (sym is_three) tt) first (omega arith);
   };
   not_viable = λ v.
       let known = line_decides v.tree (codes "*1") (62 ∷ v.rest) [] v.spells.is_tree (line_by_test (codes "*1") refl) (append-nil (text v.tree) ∙ v.spells.spelled) in

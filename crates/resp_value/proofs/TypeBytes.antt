@@ -6,7 +6,7 @@ use Rattle.resp_value.specs.Bounds.{AreBounds}
 use Rattle.resp_value.specs.Numbers.{Unsigned, IsDigits}
 use Rattle.resp_value.specs.Data.{Kind, Array, Set, Map, Attr, Push, members_of, items_of}
 use Rattle.resp_value.specs.Trees.{Tree, leaf, node, none, more, Leaf, line, numeral, null, truth, string, Simple, Error, Double, Int, Big, PlainNull, Bulk, BulkError, Verbatim, Counted, text}
-use Rattle.resp_value.specs.Rules.{Rules, Rule, Grammar, NoDouble, InVersion, PushAtTop, InRange, NotStreamed, WithinDepth, WithinLength, WithinItems, WithinTotal, rank, Meets, Every, HasVersion, IsAnyNode, IsNoDouble, IsLeafInTwo, IsNodeInTwo, IsCountedLeaf, IsCountedNode}
+use Rattle.resp_value.specs.Rules.{Rules, Rule, Grammar, NoDouble, InVersion, rank, Meets, Every, HasVersion, IsAnyNode, IsNoDouble, IsLeafInTwo, IsNodeInTwo, IsCountedLeaf, IsCountedNode}
 use Rattle.resp_value.specs.Spellings.{IsViable, IsCause}
 use Rattle.resp_value.specs.Laws.{type_bytes, later_type_bytes, type_bytes_of, TheEmptyTextIsViable, TypeBytesAreViable, LaterTypeBytesWantVersionThree, ACommaBeginsADouble, NoOtherByteBeginsATree}
 use Rattle.resp_value.specs.declared.version.Version.{Version}
@@ -14,7 +14,7 @@ use Rattle.resp_value.specs.declared.version.Version.TheVariants.{Two, Three}
 use Rattle.resp_value.proofs.ByTests.{each_passes, apart_by_test, bytes_by_test}
 use Rattle.resp_value.proofs.SmallTrees.{IsSmall, small_meets, small_leaf, small_node, one_digit, in_each_version, if_counted}
 use Rattle.resp_value.proofs.FirstBytes.{first_byte, begins, first_byte_is, all_append, at_first_byte, at_first_byte_of_no_double, at_first_byte_of_two}
-use Rattle.resp_value.proofs.ViabilityLaws.{fronts_of_viable_texts_are_viable}
+use Rattle.resp_value.proofs.ViabilityLaws.{at_first_rules, fronts_of_viable_texts_are_viable}
 
 abbrev zero_digit : List ℕ
 zero_digit = codes "0"
@@ -174,29 +174,11 @@ no_other_byte_begins_a_tree r byte other = record {
 
 -- no rule comes before the grammar
 first_rule : (r : Rules) (rule : Rule) (t : Tree) → rank rule < 1 → Meets r rule t
-first_rule r Grammar t h = tt
-first_rule r NoDouble t h = absurd (omega arith)
-first_rule r InVersion t h = absurd (omega arith)
-first_rule r PushAtTop t h = absurd (omega arith)
-first_rule r InRange t h = absurd (omega arith)
-first_rule r NotStreamed t h = absurd (omega arith)
-first_rule r WithinDepth t h = absurd (omega arith)
-first_rule r WithinLength t h = absurd (omega arith)
-first_rule r WithinItems t h = absurd (omega arith)
-first_rule r WithinTotal t h = absurd (omega arith)
+first_rule r rule t h = at_first_rules (λ u. rank u < 1 → Meets r u t) (λ g. tt) (λ g. absurd (omega arith)) (λ g. absurd (omega arith)) rule (omega arith) h
 
 -- before the version come the grammar and doubles
 before_version : (r : Rules) (rule : Rule) (t : Tree) → Every IsNoDouble IsAnyNode t → rank rule < 2 → Meets r rule t
-before_version r Grammar t no_double h = tt
-before_version r NoDouble t no_double h = no_double
-before_version r InVersion t no_double h = absurd (omega arith)
-before_version r PushAtTop t no_double h = absurd (omega arith)
-before_version r InRange t no_double h = absurd (omega arith)
-before_version r NotStreamed t no_double h = absurd (omega arith)
-before_version r WithinDepth t no_double h = absurd (omega arith)
-before_version r WithinLength t no_double h = absurd (omega arith)
-before_version r WithinItems t no_double h = absurd (omega arith)
-before_version r WithinTotal t no_double h = absurd (omega arith)
+before_version r rule t no_double h = at_first_rules (λ u. rank u < 2 → Meets r u t) (λ g. tt) (λ g. no_double) (λ g. absurd (omega arith)) rule (omega arith) h
 
 -- a `,` begins a double
 pub a_comma_begins_a_double : ACommaBeginsADouble

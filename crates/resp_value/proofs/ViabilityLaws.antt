@@ -8,6 +8,13 @@ use Rattle.std.proofs.lemmas.Bool.{cases_order}
 use Rattle.resp_value.proofs.Splitting.{length_split}
 use Rattle.resp_value.proofs.SpellingLaws.{up_to_total}
 
+-- what holds of the first three rules holds of a rule that is one of them
+pub at_first_rules : (P : Rule → Type 0) → P Grammar → P NoDouble → P InVersion → (rule : Rule) → rank rule < 3 → P rule
+at_first_rules P grammar no_double version Grammar h = grammar
+at_first_rules P grammar no_double version NoDouble h = no_double
+at_first_rules P grammar no_double version InVersion h = version
+at_first_rules P grammar no_double version _ h = absurd (omega arith)
+
 -- what keeps a rule keeps the ones before it
 pub keeps_earlier : (r : Rules) (rule earlier : Rule) (t : Tree) → rank earlier ≤ rank rule → Keeps r rule t → Keeps r earlier t
 keeps_earlier r rule earlier t h keeps first g = keeps first (omega arith)
