@@ -5,10 +5,10 @@ use Rattle.std.proofs.lemmas.List.{append-nil}
 use Rattle.resp_value.specs.Bytes.{IsLine, crlf}
 use Rattle.resp_value.specs.Numbers.{Unsigned, number}
 use Rattle.resp_value.specs.Data.{Datum, Kind, Array, Map, Attr, Push, members_of}
-use Rattle.resp_value.specs.Trees.{Tree, leaf, node, none, more, line, numeral, Simple, Double, Int, Counted, Streamed, text, texts, count, kind_byte, CanStream, IsTree, Spells}
-use Rattle.resp_value.specs.Rules.{Rules, Rule, Grammar, NoDouble, InVersion, PushAtTop, InRange, WithinTotal, Meets, Every, HasVersion, HasPushAtRoot, IsAnyLeaf, IsNoPush, IsLeafInTwo, IsNodeInTwo}
+use Rattle.resp_value.specs.Trees.{Tree, leaf, node, none, more, line, numeral, Simple, Double, Int, Counted, Streamed, text, texts, count, kind_byte, CanStream, IsTree, Spells, chunked}
+use Rattle.resp_value.specs.Rules.{Rules, Rule, Grammar, NoDouble, InVersion, PushAtTop, InRange, WithinTotal, Meets, Every, HasVersion, HasPushAtRoot, IsAnyLeaf, IsNoPush, NotStreamed}
 use Rattle.resp_value.specs.Spellings.{IsSpelling, IsCause}
-use Rattle.resp_value.specs.Examples.{simple, SpellsNothing, SpellsNothingInTwo, HasCause, HasCauseInThree, IsCutWithFault}
+use Rattle.resp_value.specs.Examples.{simple, SpellsNothing, SpellsNothingInTwo, SpellsNothingSwitchedOff, HasCause, HasCauseInThree, IsCutWithFault}
 use Rattle.resp_value.proofs.Splitting.{plain_above, return_split, no_newline_in_line}
 use Rattle.resp_value.proofs.FirstBytes.{kind_of_byte, first_byte, first_byte_is, leaf_bytes, at_leaf_byte, leaf_is_no_push}
 use Rattle.resp_value.proofs.FirstLines.{node_of, no_sort, sort, sort_of, sort_is, first_line, first_is_line, after_line, text_is, line_decides}
@@ -20,11 +20,15 @@ use Rattle.resp_value.proofs.ByTests.{each_passes, apart_by_test, line_by_test, 
 use Rattle.resp_value.proofs.SmallTrees.{one_digit}
 use Rattle.resp_value.proofs.Examples.{simple_is_line, small_line}
 
+-- what a rule says of the one tree of a text
+said : (t : Tree) (rule : Rule) → IsTree t → (r : Rules) (x : Datum) → IsSpelling r x (text t) → Meets r rule t
+said t rule p r x s =
+    let same = same_tree s.tree t _ _ [] [] s.spells (record { is_tree = p; spelled = refl }) refl in
+    subst (Meets r rule) same.0 (s.keeps rule (up_to_total rule))
+
 -- a tree that no rules admit is the only one of its text
 refused : (t : Tree) (rule : Rule) → IsTree t → ((r : Rules) → Meets r rule t → ⊥) → SpellsNothing (text t)
-refused t rule p never r x s =
-    let same = same_tree s.tree t _ _ [] [] s.spells (record { is_tree = p; spelled = refl }) refl in
-    never r (subst (Meets r rule) same.0 (s.keeps rule (up_to_total rule)))
+refused t rule p never r x s = never r (said t rule p r x s)
 
 pub double : SpellsNothing (codes ",1.5\r\n")
 double = refused (leaf (line Double (codes "1.5"))) NoDouble (line_by_test (codes "1.5") refl, bytes_by_test (codes "1.5") refl) (λ r h. h)
@@ -33,11 +37,13 @@ pub more_than_64_bits : SpellsNothing (codes ":9223372036854775808\r\n")
 more_than_64_bits = refused (leaf (numeral Int Unsigned (codes "9223372036854775808"))) InRange (digits_by_test (codes "9223372036854775808") (omega arith) refl) (λ r h. omega (arith, ints, h.1))
 
 pub streamed_in_two : SpellsNothingInTwo (codes "*?\r\n.\r\n")
-streamed_in_two r x is_two s =
-    let same = same_tree s.tree (node Array Streamed none) _ _ [] [] s.spells (record { is_tree = (tt, tt); spelled = refl }) refl in
-    let in_version : HasVersion r.version s.tree = s.keeps InVersion (omega arith) in
-    let in_two : Every IsLeafInTwo IsNodeInTwo s.tree = subst (λ w. HasVersion w s.tree) is_two in_version in
-    (subst (Every IsLeafInTwo IsNodeInTwo) same.0 in_two).0
+streamed_in_two r x is_two s = (subst (λ w. HasVersion w (node Array Streamed none)) is_two (said (node Array Streamed none) InVersion (tt, tt) r x s)).0
+
+pub array_switched_off : SpellsNothingSwitchedOff (codes "*?\r\n.\r\n")
+array_switched_off r x off s = (said (node Array Streamed none) NotStreamed (tt, tt) r x s off).0
+
+pub string_switched_off : SpellsNothingSwitchedOff (codes "$?\r\n;0\r\n")
+string_switched_off r x off s = said (leaf (chunked [] (codes "0"))) NotStreamed (tt, (one_digit 48 (omega arith) (omega arith), refl)) r x s off
 
 -- what the first line of the text says of the tree
 decided : (r : Rules) (x : Datum) (first rest : List ℕ) (s : IsSpelling r x (first ++ crlf rest)) → IsLine first → (sort first ≡ sort_of s.tree) × (after_line s.tree ++ [] ≡ rest)

@@ -1,5 +1,5 @@
 -- Words of the worked examples.
-use Rattle.std.specs.Prelude.{◌≡◌, true, ℕ, ℤ, List}
+use Rattle.std.specs.Prelude.{◌≡◌, true, false, ℕ, ℤ, List}
 use Rattle.resp_value.specs.Bounds.{AreBounds}
 use Rattle.resp_value.specs.Data.{Kind, Datum, scalar, aggregate, data_of_list, Int, Simple}
 use Rattle.resp_value.specs.Rules.{Rules, Rule}
@@ -37,6 +37,10 @@ SpellsNothing text = (r : Rules) (x : Datum) → IsSpelling r x text → ⊥
 -- the text is a spelling of no value in version 2, under no limits
 abbrev pub SpellsNothingInTwo : List ℕ → Type 0
 SpellsNothingInTwo text = (r : Rules) (x : Datum) → r.version ≡ Two → IsSpelling r x text → ⊥
+
+-- the text is a spelling of no value where streamed forms are switched off
+abbrev pub SpellsNothingSwitchedOff : List ℕ → Type 0
+SpellsNothingSwitchedOff text = (r : Rules) (x : Datum) → r.limits.streamed ≡ false → IsSpelling r x text → ⊥
 
 -- under all limits, the text is refused for this rule first
 abbrev pub HasCause : List ℕ → Rule → Type 0

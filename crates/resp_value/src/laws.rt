@@ -2,8 +2,8 @@
 
 ghost use Rattle.std.specs.Prelude.{[], ◌∷◌, ◌≡◌, codes, true, false, pos, negsuc};
 ghost use Rattle.resp_value.specs.Canonical.{canonical_text};
-ghost use Rattle.resp_value.specs.Data.{scalar, Array, Map, Attr, Null, Bool, Bulk, Verbatim, Big};
-ghost use Rattle.resp_value.specs.Examples.{integer, simple, aggregate_of, IsSpelled, IsSpelledInThree, IsSpelledStreamed, SpellsNothing, SpellsNothingInTwo, HasCause, HasCauseInThree, IsCutWithFault};
+ghost use Rattle.resp_value.specs.Data.{depth, longest, most_items, scalar, Array, Set, Map, Attr, Null, Bool, Bulk, Verbatim, Big};
+ghost use Rattle.resp_value.specs.Examples.{integer, simple, aggregate_of, IsSpelled, IsSpelledInThree, IsSpelledStreamed, SpellsNothing, SpellsNothingInTwo, SpellsNothingSwitchedOff, HasCause, HasCauseInThree, IsCutWithFault};
 ghost use Rattle.resp_value.specs.Rules.{Grammar, PushAtTop};
 ghost use Rattle.resp_value.specs.declared.version.Version.TheVariants.{Two, Three};
 ghost use Rattle.resp_value.specs.Laws.{ATextHasOneValue, NoSpellingBeginsAnother, NoSpellingIsEmpty, APushBeginsWithItsByte, ATextHasOneCut, ARestHasOneFault, VersionThreeSpellsWhatTwoDoes, CanonicalTextSpellsWhatFits, CanonicalTextTellsValuesApart, FrontsOfSpellingsAreViable, FrontsOfViableTextsAreViable, LaterRulesLeaveLess, ATextHasOneCause, AViableTextHasNoCause, RulesHoldAtEachNode, TextsOfTreesAreBytes, DefaultItemsRefuseNothing, TheEmptyTextIsViable, TypeBytesAreViable, LaterTypeBytesWantVersionThree, ACommaBeginsADouble, NoOtherByteBeginsATree};
@@ -168,8 +168,25 @@ pub fn texts_without_a_value()
     ensures double { SpellsNothing (codes ",1.5\r\n") }
     // An integer has 64 bits.
     ensures more_than_64_bits { SpellsNothing (codes ":9223372036854775808\r\n") }
-    // Version 2 has no streamed forms.
+    // Version 2 has no streamed forms, and version 3 none where they are switched off.
     ensures streamed_in_two { SpellsNothingInTwo (codes "*?\r\n.\r\n") }
+    ensures array_switched_off { SpellsNothingSwitchedOff (codes "*?\r\n.\r\n") }
+    ensures string_switched_off { SpellsNothingSwitchedOff (codes "$?\r\n;0\r\n") }
+{}
+
+/// Values, and what the limits count of them.
+pub fn values_and_their_measures()
+    // The content of an integer counts nothing, and a big number's digits count without the sign.
+    ensures integer { longest (integer (pos 123456)) ≡ 0 }
+    ensures big { longest (scalar (Big true (codes "12"))) ≡ 2 }
+    // A verbatim string counts its format and the `:`.
+    ensures verbatim { longest (scalar (Verbatim (codes "txt") (codes "hi"))) ≡ 6 }
+    ensures nested { depth (aggregate_of Array (aggregate_of Set [] ∷ simple (codes "a") ∷ [])) ≡ 2 }
+    // Items are members, or pairs of a map or an attribute.
+    ensures members { most_items (aggregate_of Array (scalar Null ∷ scalar Null ∷ [])) ≡ 2 }
+    ensures pairs { most_items (aggregate_of Map (scalar Null ∷ scalar Null ∷ [])) ≡ 1 }
+    ensures annotation { most_items
+        (aggregate_of Attr (scalar Null ∷ scalar Null ∷ simple (codes "a") ∷ [])) ≡ 1 }
 {}
 
 /// Texts that are refused at their last byte, and why.
