@@ -43,7 +43,8 @@ pub fn version_three_spells_what_two_does()
     ensures { VersionThreeSpellsWhatTwoDoes }
 {}
 
-/// A value's canonical text is a spelling of it exactly where the value fits the version and the limits.
+/// A value's canonical text is a spelling of it exactly where the value fits the version and the
+/// limits.
 pub fn canonical_text_spells_what_fits()
     ensures { CanonicalTextSpellsWhatFits }
 {}
@@ -88,7 +89,8 @@ pub fn texts_of_trees_are_bytes()
     ensures { TextsOfTreesAreBytes }
 {}
 
-/// With streamed forms allowed and items up to the most bytes of a value, the trees and the spellings are those of the other rules.
+/// With streamed forms allowed and items up to the most bytes of a value, the trees and the
+/// spellings are those of the other rules.
 pub fn default_items_refuse_nothing()
     ensures { DefaultItemsRefuseNothing }
 {}
@@ -206,5 +208,6 @@ pub fn texts_and_their_causes()
 
 /// A text is cut into its values and a rest, whose fault has a place and a cause.
 pub fn a_cut_and_its_fault()
-    ensures { IsCutWithFault (codes "+a\r\n+b\n+c\r\n") (simple (codes "a") ∷ []) (codes "+b\n+c\r\n") Grammar 2 }
+    ensures { IsCutWithFault (codes "+a\r\n+b\n+c\r\n")
+        (simple (codes "a") ∷ []) (codes "+b\n+c\r\n") Grammar 2 }
 {}
