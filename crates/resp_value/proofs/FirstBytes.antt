@@ -6,6 +6,7 @@ use Rattle.resp_value.specs.Data.{Kind, Array, Set, Map, Attr, Push}
 use Rattle.resp_value.specs.Trees.{Tree, leaf, node, Leaf, line, numeral, null, truth, string, chunked, Simple, Error, Double, Int, Big, NullForm, BulkNull, ArrayNull, PlainNull, Bulk, BulkError, Verbatim, text, leaf_line, leaf_rest, line_byte, number_byte, string_byte, kind_byte}
 use Rattle.resp_value.specs.Rules.{Every, IsAnyNode, IsNoDouble, IsLeafInTwo, IsNodeInTwo}
 use Rattle.resp_value.specs.Laws.{type_bytes, type_bytes_of}
+use Rattle.resp_value.proofs.ByTests.{above_by_test, bytes_by_test, apart_by_test}
 use Rattle.resp_value.specs.declared.version.Version.TheVariants.{Three}
 
 abbrev null_byte : NullForm → ℕ
@@ -134,16 +135,25 @@ at_first_byte_of_two P p (node Push form ts) h = absurd h.0
 
 -- a tree's first byte is above CR
 pub first_byte_above : (t : Tree) → 13 < first_byte t
-first_byte_above t = at_first_byte (λ b. 13 < b) (omega arith, (omega arith, (omega arith, (omega arith, (omega arith, (omega arith, (omega arith, (omega arith, (omega arith, (omega arith, (omega arith, (omega arith, (omega arith, (omega arith, (omega arith, tt))))))))))))))) t
+first_byte_above t = at_first_byte (λ b. 13 < b) (above_by_test (codes "," ++ type_bytes_of Three) refl) t
 
 -- a tree's first byte is a byte
 pub first_byte_is_byte : (t : Tree) → IsByte (first_byte t)
-first_byte_is_byte t = at_first_byte IsByte (omega arith, (omega arith, (omega arith, (omega arith, (omega arith, (omega arith, (omega arith, (omega arith, (omega arith, (omega arith, (omega arith, (omega arith, (omega arith, (omega arith, (omega arith, tt))))))))))))))) t
+first_byte_is_byte t = at_first_byte IsByte (bytes_by_test (codes "," ++ type_bytes_of Three) refl) t
 
 -- a leaf doesn't begin with `>`
 pub leaf_is_no_push : (l : Leaf) → leaf_byte l ≡ 62 → ⊥
-leaf_is_no_push l = at_leaf_byte (λ b. b ≡ 62 → ⊥) (λ e. omega arith, (λ e. omega arith, (λ e. omega arith, (λ e. omega arith, (λ e. omega arith, (λ e. omega arith, (λ e. omega arith, (λ e. omega arith, (λ e. omega arith, (λ e. omega arith, (λ e. omega arith, tt))))))))))) l
+leaf_is_no_push l = at_leaf_byte (λ b. b ≡ 62 → ⊥) (apart_by_test 62 (codes "," ++ leaf_bytes) refl) l
 
 -- a tree's first byte is no `.`, which closes an aggregate
 pub no_stop : (t : Tree) → first_byte t ≡ 46 → ⊥
-no_stop t = at_first_byte (λ b. b ≡ 46 → ⊥) (λ e. omega arith, (λ e. omega arith, (λ e. omega arith, (λ e. omega arith, (λ e. omega arith, (λ e. omega arith, (λ e. omega arith, (λ e. omega arith, (λ e. omega arith, (λ e. omega arith, (λ e. omega arith, (λ e. omega arith, (λ e. omega arith, (λ e. omega arith, (λ e. omega arith, tt))))))))))))))) t
+no_stop t = at_first_byte (λ b. b ≡ 46 → ⊥) (apart_by_test 46 (codes "," ++ type_bytes_of Three) refl) t
+
+-- no two kinds have one type byte
+pub kind_of_byte : (k j : Kind) → kind_byte k ≡ kind_byte j → k ≡ j
+kind_of_byte Array Array e = refl
+kind_of_byte Set Set e = refl
+kind_of_byte Map Map e = refl
+kind_of_byte Attr Attr e = refl
+kind_of_byte Push Push e = refl
+kind_of_byte _ _ e = absurd (omega arith)

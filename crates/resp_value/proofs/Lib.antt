@@ -1,4 +1,5 @@
 pub mod KeptDigits
+pub mod ByTests
 pub mod Splitting
 pub mod FirstBytes
 pub mod FirstLines
@@ -13,3 +14,4 @@ pub mod DefaultLimits
 pub mod SmallTrees
 pub mod TypeBytes
 pub mod Examples
+pub mod RefusedExamples

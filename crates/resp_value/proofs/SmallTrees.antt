@@ -1,39 +1,13 @@
 -- Small trees, which the limits never refuse.
-use Rattle.std.proofs.Common.{◌≡◌, ◌⊎◌, inl, inr, ℕ, ◌<◌, ◌≤◌, Bool, true, false, cond, leb, List, [], ◌∷◌, length, sym, ap, ◌∙◌, arith}
-use Rattle.std.specs.List.{AllByRecursion}
-use Rattle.std.proofs.lemmas.Bool.Decides.{leb_tells}
+use Rattle.std.proofs.Common.{ℕ, ◌≤◌, [], ◌∷◌, length, arith}
 use Rattle.resp_value.specs.Bounds.{AreBounds}
-use Rattle.resp_value.specs.Numbers.{IsDigit, IsDigits}
+use Rattle.resp_value.specs.Numbers.{IsDigits}
 use Rattle.resp_value.specs.Data.{Kind, content_length, depth, longest, most_items}
 use Rattle.resp_value.specs.Trees.{Tree, Trees, leaf, node, Leaf, Form, text, leaf_text, IsTree, IsLeaf}
 use Rattle.resp_value.specs.TreeValues.{value, leaf_value}
 use Rattle.resp_value.specs.Rules.{Rules, Rule, Grammar, NoDouble, InVersion, PushAtTop, InRange, NotStreamed, WithinDepth, WithinLength, WithinItems, WithinTotal, Meets, Every, EveryOf, HasVersion, HasPushAtRoot, IsAnyLeaf, IsAnyNode, IsNoPush, IsNoDouble, IsInRange, IsLeafInTwo, IsNodeInTwo, IsCountedLeaf, IsCountedNode}
 use Rattle.resp_value.specs.declared.version.Version.{Version}
 use Rattle.resp_value.specs.declared.version.Version.TheVariants.{Two, Three}
-
--- whether each byte is a digit
-abbrev pub each_is_digit : List ℕ → Bool
-each_is_digit [] = true
-each_is_digit (d ∷ ds) = cond (leb 48 d) (cond (leb d 57) (each_is_digit ds) false) false
-
--- what a test of an order tells
-abbrev Told : ℕ → ℕ → Type 0
-Told a b = ((leb a b ≡ true) × (a ≤ b)) ⊎ ((leb a b ≡ false) × (b < a))
-
-digit_from_test : (digit : ℕ) (others : Bool) → Told 48 digit → Told digit 57 → cond (leb 48 digit) (cond (leb digit 57) others false) false ≡ true → IsDigit digit × (others ≡ true)
-digit_from_test digit others (inl p) (inl q) tested = ((p.1, q.1), sym (ap (λ b. cond b (cond (leb digit 57) others false) false) p.0 ∙ ap (λ b. cond b others false) q.0) ∙ tested)
-digit_from_test digit others (inl p) (inr q) tested = let no : false ≡ true = sym (ap (λ b. cond b (cond (leb digit 57) others false) false) p.0 ∙ ap (λ b. cond b others false) q.0) ∙ tested in absurd (cc)
-digit_from_test digit others (inr p) q tested = let no : false ≡ true = sym (ap (λ b. cond b (cond (leb digit 57) others false) false) p.0) ∙ tested in absurd (cc)
-
-each_from_test : (digits : List ℕ) → each_is_digit digits ≡ true → AllByRecursion IsDigit digits
-each_from_test [] tested = tt
-each_from_test (d ∷ ds) tested =
-    let here = digit_from_test d (each_is_digit ds) (leb_tells 48 d) (leb_tells d 57) tested in
-    (here.0, each_from_test ds here.1)
-
--- digits are such where a test finds each to be one
-pub digits_by_test : (digits : List ℕ) → 0 < length digits → each_is_digit digits ≡ true → IsDigits digits
-digits_by_test digits full tested = (full, each_from_test digits tested)
 
 -- one digit
 pub one_digit : (digit : ℕ) → 48 ≤ digit → digit ≤ 57 → IsDigits (digit ∷ [])

@@ -1,15 +1,15 @@
 -- Spellings of values, cuts of texts, and canonical texts.
 use Rattle.std.proofs.Common.{◌≡◌, ℕ, ◌≤◌, List, [], ◌∷◌, ◌++◌, refl, sym, ap, subst, ◌∙◌, arith, append_assoc}
-use Rattle.resp_value.specs.Data.{Datum, IsPush, depth, longest, most_items}
+use Rattle.resp_value.specs.Data.{Datum, aggregate, IsPush, depth, longest, most_items}
 use Rattle.resp_value.specs.Trees.{Tree, leaf, node, text}
 use Rattle.resp_value.specs.Data.{Array, Set, Map, Attr, Push}
-use Rattle.resp_value.specs.TreeValues.{value}
+use Rattle.resp_value.specs.TreeValues.{value, values}
 use Rattle.resp_value.specs.Rules.{Rules, Rule, Grammar, NoDouble, InVersion, PushAtTop, InRange, NotStreamed, WithinDepth, WithinLength, WithinItems, WithinTotal, rank, Meets}
 use Rattle.resp_value.specs.Spellings.{IsSpelling, AreSpellings}
 use Rattle.resp_value.specs.Canonical.{canonical_tree, canonical_text, IsValue, Fits}
 use Rattle.resp_value.specs.Laws.{ATextHasOneValue, NoSpellingBeginsAnother, NoSpellingIsEmpty, APushBeginsWithItsByte, ATextHasOneCut, VersionThreeSpellsWhatTwoDoes, CanonicalTextSpellsWhatFits, CanonicalTextTellsValuesApart}
 use Rattle.resp_value.specs.declared.version.Version.TheVariants.{Three}
-use Rattle.resp_value.proofs.FirstBytes.{first_byte, begins, first_byte_is, leaf_is_no_push}
+use Rattle.resp_value.proofs.FirstBytes.{kind_of_byte, first_byte, begins, first_byte_is, leaf_is_no_push}
 use Rattle.resp_value.proofs.Unique.{same_tree}
 use Rattle.resp_value.proofs.CanonicalTrees.{value-canonical_tree, canonical_spells}
 use Rattle.resp_value.proofs.KeptRules.{canonical_no_double, canonical_in_range, canonical_counted, canonical_version, canonical_push}
@@ -33,11 +33,7 @@ no_spelling_is_empty r x m = text_not_empty m.tree m.spells.spelled
 
 push_by_byte : (t : Tree) → first_byte t ≡ 62 → IsPush (value t)
 push_by_byte (leaf l) e = absurd (leaf_is_no_push l e)
-push_by_byte (node Array form ts) e = absurd (omega arith)
-push_by_byte (node Set form ts) e = absurd (omega arith)
-push_by_byte (node Map form ts) e = absurd (omega arith)
-push_by_byte (node Attr form ts) e = absurd (omega arith)
-push_by_byte (node Push form ts) e = tt
+push_by_byte (node k form ts) e = subst (λ j. IsPush (aggregate j (values ts))) (sym (kind_of_byte k Push e)) tt
 
 byte_of_push : (t : Tree) → IsPush (value t) → (rest : List ℕ) × (text t ≡ 62 ∷ rest)
 byte_of_push (leaf l) h = absurd h

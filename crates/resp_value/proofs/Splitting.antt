@@ -5,16 +5,23 @@ use Rattle.std.proofs.lemmas.Bool.{ne_eqb}
 use Rattle.resp_value.specs.Bytes.{IsLine, IsPlain, crlf}
 use Rattle.resp_value.specs.Numbers.{IsDigits, IsDigit}
 
--- a line ends at the first CR LF
-pub line_split : (a b x y : List ℕ) → IsLine a → IsLine b → a ++ crlf x ≡ b ++ crlf y → (a ≡ b) × (x ≡ y)
-line_split [] [] x y p q e = (refl, cc)
-line_split [] (d ∷ b) x y p q e = let h : d ≡ 13 = cc in absurd (q.0.0 h)
-line_split (c ∷ a) [] x y p q e = let h : c ≡ 13 = cc in absurd (p.0.0 h)
-line_split (c ∷ a) (d ∷ b) x y p q e =
-    let t : a ++ crlf x ≡ b ++ crlf y = cc in
-    let r = line_split a b x y p.1 q.1 t in
+-- a line ends at the first CR
+pub return_split : (a b x y : List ℕ) → IsLine a → IsLine b → a ++ 13 ∷ x ≡ b ++ 13 ∷ y → (a ≡ b) × (x ≡ y)
+return_split [] [] x y p q e = (refl, cc)
+return_split [] (d ∷ b) x y p q e = let h : d ≡ 13 = cc in absurd (q.0.0 h)
+return_split (c ∷ a) [] x y p q e = let h : c ≡ 13 = cc in absurd (p.0.0 h)
+return_split (c ∷ a) (d ∷ b) x y p q e =
+    let t : a ++ 13 ∷ x ≡ b ++ 13 ∷ y = cc in
+    let r = return_split a b x y p.1 q.1 t in
     let h : a ≡ b = r.0 in
     (cc, r.1)
+
+-- a line ends at the first CR LF
+pub line_split : (a b x y : List ℕ) → IsLine a → IsLine b → a ++ crlf x ≡ b ++ crlf y → (a ≡ b) × (x ≡ y)
+line_split a b x y p q e =
+    let r = return_split a b (10 ∷ x) (10 ∷ y) p q e in
+    let h : 10 ∷ x ≡ 10 ∷ y = r.1 in
+    (r.0, cc)
 
 -- where a lone LF comes before the first CR LF, there is no line
 pub no_newline_in_line : (a b x y : List ℕ) → IsLine a → IsLine b → a ++ crlf x ≡ b ++ 10 ∷ y → ⊥

@@ -1,20 +1,20 @@
 -- Which first bytes are viable, and the cause of the others.
-use Rattle.std.proofs.Common.{◌≡◌, ℕ, ◌<◌, ◌≤◌, true, false, List, [], ◌∷◌, ◌++◌, length, codes, eqb, refl, sym, ap, subst, arith}
+use Rattle.std.proofs.Common.{◌≡◌, ℕ, ◌<◌, ◌≤◌, true, List, [], ◌∷◌, ◌++◌, length, codes, eqb, refl, sym, ap, subst, arith, not}
 use Rattle.std.specs.List.{AllByRecursion}
 use Rattle.std.proofs.lemmas.Int.{ints}
-use Rattle.std.proofs.lemmas.Bool.{eqb-false}
 use Rattle.resp_value.specs.Bounds.{AreBounds}
 use Rattle.resp_value.specs.Numbers.{Unsigned, IsDigits}
 use Rattle.resp_value.specs.Data.{Kind, Array, Set, Map, Attr, Push, members_of, items_of}
 use Rattle.resp_value.specs.Trees.{Tree, leaf, node, none, more, Leaf, line, numeral, null, truth, string, Simple, Error, Double, Int, Big, PlainNull, Bulk, BulkError, Verbatim, Counted, text}
-use Rattle.resp_value.specs.Rules.{Rules, Rule, Grammar, NoDouble, InVersion, PushAtTop, InRange, NotStreamed, WithinDepth, WithinLength, WithinItems, WithinTotal, rank, Meets, Every, HasVersion, IsAnyNode, IsNoDouble, IsLeafInTwo, IsNodeInTwo, IsCountedLeaf, IsCountedNode}
+use Rattle.resp_value.specs.Rules.{Rules, Rule, Grammar, NoDouble, InVersion, rank, Meets, Every, HasVersion, IsAnyNode, IsNoDouble, IsLeafInTwo, IsNodeInTwo, IsCountedLeaf, IsCountedNode}
 use Rattle.resp_value.specs.Spellings.{IsViable, IsCause}
 use Rattle.resp_value.specs.Laws.{type_bytes, later_type_bytes, type_bytes_of, TheEmptyTextIsViable, TypeBytesAreViable, LaterTypeBytesWantVersionThree, ACommaBeginsADouble, NoOtherByteBeginsATree}
 use Rattle.resp_value.specs.declared.version.Version.{Version}
 use Rattle.resp_value.specs.declared.version.Version.TheVariants.{Two, Three}
+use Rattle.resp_value.proofs.ByTests.{each_passes, apart_by_test, bytes_by_test}
 use Rattle.resp_value.proofs.SmallTrees.{IsSmall, small_meets, small_leaf, small_node, one_digit, in_each_version, if_counted}
 use Rattle.resp_value.proofs.FirstBytes.{first_byte, begins, first_byte_is, all_append, at_first_byte, at_first_byte_of_no_double, at_first_byte_of_two}
-use Rattle.resp_value.proofs.ViabilityLaws.{fronts_of_viable_texts_are_viable}
+use Rattle.resp_value.proofs.ViabilityLaws.{at_first_rules, fronts_of_viable_texts_are_viable}
 
 abbrev zero_digit : List ℕ
 zero_digit = codes "0"
@@ -47,7 +47,7 @@ small_bulk : IsSmall (leaf (string Bulk zero_digit []))
 small_bulk = small_leaf (string Bulk zero_digit []) ((zero_is_digits, refl), tt, tt) tt tt (omega arith) (omega arith)
 
 small_verbatim : IsSmall (leaf empty_verbatim)
-small_verbatim = small_leaf empty_verbatim ((one_digit 52 (omega arith) (omega arith), refl), (refl, (omega arith, (omega arith, (omega arith, tt)))), tt) tt tt (omega arith) (omega arith)
+small_verbatim = small_leaf empty_verbatim ((one_digit 52 (omega arith) (omega arith), refl), (refl, bytes_by_test (codes "txt") refl), tt) tt tt (omega arith) (omega arith)
 
 small_big : IsSmall (leaf (numeral Big Unsigned zero_digit))
 small_big = small_leaf (numeral Big Unsigned zero_digit) zero_is_digits tt tt (omega arith) (omega arith)
@@ -110,25 +110,30 @@ old_bytes_viable r b rule = (
     viable : (t : Tree) → IsSmall t → Every IsCountedLeaf IsCountedNode t → Every IsLeafInTwo IsNodeInTwo t → IsViable r rule (first_byte t ∷ [])
     viable t s c w = small_is_viable r t b s c (in_each_version r.version t w) rule
 
-later_bytes_viable : (r : Rules) → r.version ≡ Three → AreBounds r.limits → (rule : Rule) → AllViable r rule later_type_bytes
-later_bytes_viable r is_three b rule = (
-  viable (leaf (null PlainNull)) small_null tt,
+-- no tree of version 2 begins with this byte
+abbrev IsLater : ℕ → Type 0
+IsLater byte = each_passes (λ b. not (eqb b byte)) type_bytes ≡ true
+
+-- each later type byte begins a small counted tree
+at_later_bytes : (P : ℕ → Type 0) → ((t : Tree) → IsSmall t → Every IsCountedLeaf IsCountedNode t → IsLater (first_byte t) → P (first_byte t)) → AllByRecursion P later_type_bytes
+at_later_bytes P at_tree = (
+  at_tree (leaf (null PlainNull)) small_null tt refl,
   (
-    viable (leaf (truth true)) small_truth tt,
+    at_tree (leaf (truth true)) small_truth tt refl,
     (
-      viable (leaf (numeral Big Unsigned zero_digit)) small_big tt,
+      at_tree (leaf (numeral Big Unsigned zero_digit)) small_big tt refl,
       (
-        viable (leaf (string BulkError zero_digit [])) small_bulk_error tt,
+        at_tree (leaf (string BulkError zero_digit [])) small_bulk_error tt refl,
         (
-          viable (leaf empty_verbatim) small_verbatim tt,
+          at_tree (leaf empty_verbatim) small_verbatim tt refl,
           (
-            viable (empty_node Set) small_set (tt, tt),
+            at_tree (empty_node Set) small_set (tt, tt) refl,
             (
-              viable (empty_node Map) small_map (tt, tt),
+              at_tree (empty_node Map) small_map (tt, tt) refl,
               (
-                viable bare_attribute small_attribute (tt, (tt, tt)),
+                at_tree bare_attribute small_attribute (tt, (tt, tt)) refl,
                 (
-                  viable (empty_node Push) small_push (tt, tt),
+                  at_tree (empty_node Push) small_push (tt, tt) refl,
                   tt,
                 ),
               ),
@@ -139,9 +144,10 @@ later_bytes_viable r is_three b rule = (
     ),
   ),
 )
-  where
-    viable : (t : Tree) → IsSmall t → Every IsCountedLeaf IsCountedNode t → IsViable r rule (first_byte t ∷ [])
-    viable t s c = small_is_viable r t b s c (subst (λ w. HasVersion w t) (sym is_three) tt) rule
+
+later_bytes_viable : (r : Rules) → r.version ≡ Three → AreBounds r.limits → (rule : Rule) → AllViable r rule later_type_bytes
+later_bytes_viable r is_three b rule =
+    at_later_bytes (λ byte. IsViable r rule (byte ∷ [])) (λ t s c later. small_is_viable r t b s c (subst (λ w. HasVersion w t) (sym is_three) tt) rule)
 
 -- each type byte of a version is viable in it
 pub type_bytes_are_viable : TypeBytesAreViable
@@ -168,29 +174,11 @@ no_other_byte_begins_a_tree r byte other = record {
 
 -- no rule comes before the grammar
 first_rule : (r : Rules) (rule : Rule) (t : Tree) → rank rule < 1 → Meets r rule t
-first_rule r Grammar t h = tt
-first_rule r NoDouble t h = absurd (omega arith)
-first_rule r InVersion t h = absurd (omega arith)
-first_rule r PushAtTop t h = absurd (omega arith)
-first_rule r InRange t h = absurd (omega arith)
-first_rule r NotStreamed t h = absurd (omega arith)
-first_rule r WithinDepth t h = absurd (omega arith)
-first_rule r WithinLength t h = absurd (omega arith)
-first_rule r WithinItems t h = absurd (omega arith)
-first_rule r WithinTotal t h = absurd (omega arith)
+first_rule r rule t h = at_first_rules (λ u. rank u < 1 → Meets r u t) (λ g. tt) (λ g. absurd (omega arith)) (λ g. absurd (omega arith)) rule (omega arith) h
 
 -- before the version come the grammar and doubles
 before_version : (r : Rules) (rule : Rule) (t : Tree) → Every IsNoDouble IsAnyNode t → rank rule < 2 → Meets r rule t
-before_version r Grammar t no_double h = tt
-before_version r NoDouble t no_double h = no_double
-before_version r InVersion t no_double h = absurd (omega arith)
-before_version r PushAtTop t no_double h = absurd (omega arith)
-before_version r InRange t no_double h = absurd (omega arith)
-before_version r NotStreamed t no_double h = absurd (omega arith)
-before_version r WithinDepth t no_double h = absurd (omega arith)
-before_version r WithinLength t no_double h = absurd (omega arith)
-before_version r WithinItems t no_double h = absurd (omega arith)
-before_version r WithinTotal t no_double h = absurd (omega arith)
+before_version r rule t no_double h = at_first_rules (λ u. rank u < 2 → Meets r u t) (λ g. tt) (λ g. no_double) (λ g. absurd (omega arith)) rule (omega arith) h
 
 -- a `,` begins a double
 pub a_comma_begins_a_double : ACommaBeginsADouble
@@ -202,13 +190,8 @@ a_comma_begins_a_double r = record {
     keeps = λ first g. first_rule r first (leaf (line Double [])) (omega arith);
   };
   not_viable = λ v. let no_double : Every IsNoDouble IsAnyNode v.tree = v.keeps NoDouble (omega arith) in
-      let apart : eqb (first_byte v.tree) 44 ≡ false = at_first_byte_of_no_double (λ b. eqb b 44 ≡ false) (refl, (refl, (refl, (refl, (refl, (refl, (refl, (refl, (refl, (refl, (refl, (refl, (refl, (refl, tt)))))))))))))) v.tree no_double in
-      eqb-false (first_byte v.tree) 44 apart (byte_of r NoDouble 44 v);
+      at_first_byte_of_no_double (λ b. b ≡ 44 → ⊥) (apart_by_test 44 (type_bytes_of Three) refl) v.tree no_double (byte_of r NoDouble 44 v);
 }
-
--- none of the type bytes of version 2
-abbrev IsLater : ℕ → Type 0
-IsLater byte = AllByRecursion (λ b. eqb b byte ≡ false) type_bytes
 
 -- a byte that begins a small tree and no tree of version 2
 wants_three : (r : Rules) (t : Tree) → r.version ≡ Two → IsSmall t → IsLater (first_byte t) → IsCause r (first_byte t ∷ []) InVersion
@@ -219,36 +202,9 @@ wants_three r t is_two s later = record {
   not_viable = λ v.
       let in_version : HasVersion r.version v.tree = v.keeps InVersion (omega arith) in
       let in_two : Every IsLeafInTwo IsNodeInTwo v.tree = subst (λ w. HasVersion w v.tree) is_two in_version in
-      let apart : eqb (first_byte v.tree) (first_byte t) ≡ false = at_first_byte_of_two (λ b. eqb b (first_byte t) ≡ false) later v.tree in_two in
-      eqb-false (first_byte v.tree) (first_byte t) apart (byte_of r InVersion (first_byte t) v);
+      at_first_byte_of_two (λ b. b ≡ first_byte t → ⊥) (apart_by_test (first_byte t) type_bytes later) v.tree in_two (byte_of r InVersion (first_byte t) v);
 }
 
 pub later_type_bytes_want_version_three : LaterTypeBytesWantVersionThree
-later_type_bytes_want_version_three r is_two = (
-  wants_three r (leaf (null PlainNull)) is_two small_null (refl, (refl, (refl, (refl, (refl, tt))))),
-  (
-    wants_three r (leaf (truth true)) is_two small_truth (refl, (refl, (refl, (refl, (refl, tt))))),
-    (
-      wants_three r (leaf (numeral Big Unsigned zero_digit)) is_two small_big (refl, (refl, (refl, (refl, (refl, tt))))),
-      (
-        wants_three r (leaf (string BulkError zero_digit [])) is_two small_bulk_error (refl, (refl, (refl, (refl, (refl, tt))))),
-        (
-          wants_three r (leaf empty_verbatim) is_two small_verbatim (refl, (refl, (refl, (refl, (refl, tt))))),
-          (
-            wants_three r (empty_node Set) is_two small_set (refl, (refl, (refl, (refl, (refl, tt))))),
-            (
-              wants_three r (empty_node Map) is_two small_map (refl, (refl, (refl, (refl, (refl, tt))))),
-              (
-                wants_three r bare_attribute is_two small_attribute (refl, (refl, (refl, (refl, (refl, tt))))),
-                (
-                  wants_three r (empty_node Push) is_two small_push (refl, (refl, (refl, (refl, (refl, tt))))),
-                  tt,
-                ),
-              ),
-            ),
-          ),
-        ),
-      ),
-    ),
-  ),
-)
+later_type_bytes_want_version_three r is_two =
+    at_later_bytes (λ byte. IsCause r (byte ∷ []) InVersion) (λ t s c later. wants_three r t is_two s later)

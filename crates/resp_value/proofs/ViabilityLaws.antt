@@ -1,5 +1,5 @@
 -- What may still become a spelling, the cause of a refusal, and the fault of a rest.
-use Rattle.std.proofs.Common.{◌≡◌, ◌⊎◌, inl, inr, ℕ, ◌+◌, ◌<◌, ◌≤◌, List, [], ◌∷◌, ◌++◌, length, refl, sym, ap, subst, ◌∙◌, arith, append_assoc, get_or}
+use Rattle.std.proofs.Common.{◌≡◌, ◌⊎◌, inl, inr, ℕ, ◌+◌, ◌<◌, ◌≤◌, List, [], ◌∷◌, ◌++◌, length, refl, sym, ap, subst, ◌∙◌, arith, append_assoc, get_or, length-append}
 use Rattle.resp_value.specs.Trees.{Tree, Spells}
 use Rattle.resp_value.specs.Rules.{Rules, Rule, Grammar, NoDouble, InVersion, PushAtTop, InRange, NotStreamed, WithinDepth, WithinLength, WithinItems, WithinTotal, rank, Keeps}
 use Rattle.resp_value.specs.Spellings.{IsViable, IsCause, FaultOf}
@@ -7,6 +7,13 @@ use Rattle.resp_value.specs.Laws.{ARestHasOneFault, FrontsOfSpellingsAreViable, 
 use Rattle.std.proofs.lemmas.Bool.{cases_order}
 use Rattle.resp_value.proofs.Splitting.{length_split}
 use Rattle.resp_value.proofs.SpellingLaws.{up_to_total}
+
+-- what holds of the first three rules holds of a rule that is one of them
+pub at_first_rules : (P : Rule → Type 0) → P Grammar → P NoDouble → P InVersion → (rule : Rule) → rank rule < 3 → P rule
+at_first_rules P grammar no_double version Grammar h = grammar
+at_first_rules P grammar no_double version NoDouble h = no_double
+at_first_rules P grammar no_double version InVersion h = version
+at_first_rules P grammar no_double version _ h = absurd (omega arith)
 
 -- what keeps a rule keeps the ones before it
 pub keeps_earlier : (r : Rules) (rule earlier : Rule) (t : Tree) → rank earlier ≤ rank rule → Keeps r rule t → Keeps r earlier t
@@ -78,6 +85,31 @@ shorter_front (c ∷ a) (d ∷ b) x y e h =
     let longer = shorter_front a b x y t (omega arith) in
     let goes_on : b ≡ a ++ longer.0 ∷ longer.1 = longer.2 in
     (longer.0, longer.1, cc)
+
+-- a front that isn't the whole is a front of all but the last byte
+pub front_but_last : (a before after : List ℕ) (last byte : ℕ) → a ++ last ∷ [] ≡ before ++ byte ∷ after → (rest : List ℕ) × (a ≡ before ++ rest)
+front_but_last a [] after last byte e = (a, refl)
+front_but_last [] (d ∷ before) after last byte e =
+    let empty : [] ≡ before ++ byte ∷ after = cc in
+    absurd (omega (arith, simp length-append at (ap length empty)))
+front_but_last (c ∷ a) (d ∷ before) after last byte e =
+    let tails : a ++ last ∷ [] ≡ before ++ byte ∷ after = cc in
+    let shorter = front_but_last a before after last byte tails in
+    let goes_on : a ≡ before ++ shorter.0 = shorter.1 in
+    (shorter.0, cc)
+
+-- a rest that is viable up to its last byte has its fault there
+pub fault_at_last : (r : Rules) (front behind : List ℕ) (last : ℕ) (rule : Rule) → IsViable r WithinTotal front → IsCause r (front ++ last ∷ []) rule → FaultOf r ((front ++ last ∷ []) ++ behind) rule (length front)
+fault_at_last r front behind last rule v cause = record {
+  front = front ++ last ∷ [];
+  behind = behind;
+  whole = refl;
+  place = sym (length-append front (last ∷ []));
+  cause = cause;
+  first = λ before byte after e.
+      let shorter = front_but_last front before after last byte e in
+      fronts_of_viable_texts_are_viable r WithinTotal before shorter.0 (subst (IsViable r WithinTotal) shorter.1 v);
+}
 
 -- no fault lies before another
 no_earlier_fault : (r : Rules) (rest : List ℕ) (rule rule' : Rule) (at at' : ℕ) → FaultOf r rest rule at → FaultOf r rest rule' at' → at < at' → ⊥

@@ -1,9 +1,9 @@
 -- Words of the worked examples.
-use Rattle.std.specs.Prelude.{◌≡◌, true, ℕ, ℤ, List}
+use Rattle.std.specs.Prelude.{◌≡◌, true, false, ℕ, ℤ, List}
 use Rattle.resp_value.specs.Bounds.{AreBounds}
 use Rattle.resp_value.specs.Data.{Kind, Datum, scalar, aggregate, data_of_list, Int, Simple}
-use Rattle.resp_value.specs.Rules.{Rules}
-use Rattle.resp_value.specs.Spellings.{IsSpelling}
+use Rattle.resp_value.specs.Rules.{Rules, Rule}
+use Rattle.resp_value.specs.Spellings.{IsSpelling, IsCause, Cut, FaultOf}
 use Rattle.resp_value.specs.declared.version.Version.TheVariants.{Two, Three}
 
 -- an integer
@@ -37,3 +37,19 @@ SpellsNothing text = (r : Rules) (x : Datum) → IsSpelling r x text → ⊥
 -- the text is a spelling of no value in version 2, under no limits
 abbrev pub SpellsNothingInTwo : List ℕ → Type 0
 SpellsNothingInTwo text = (r : Rules) (x : Datum) → r.version ≡ Two → IsSpelling r x text → ⊥
+
+-- the text is a spelling of no value where streamed forms are switched off
+abbrev pub SpellsNothingSwitchedOff : List ℕ → Type 0
+SpellsNothingSwitchedOff text = (r : Rules) (x : Datum) → r.limits.streamed ≡ false → IsSpelling r x text → ⊥
+
+-- under all limits, the text is refused for this rule first
+abbrev pub HasCause : List ℕ → Rule → Type 0
+HasCause text rule = (r : Rules) → AreBounds r.limits → IsCause r text rule
+
+-- the same in version 3
+abbrev pub HasCauseInThree : List ℕ → Rule → Type 0
+HasCauseInThree text rule = (r : Rules) → AreBounds r.limits → r.version ≡ Three → IsCause r text rule
+
+-- under all limits, the text is cut into these values and a rest, which is refused at this place for this rule
+abbrev pub IsCutWithFault : List ℕ → List Datum → List ℕ → Rule → ℕ → Type 0
+IsCutWithFault text xs rest rule at = (r : Rules) → AreBounds r.limits → Cut r text xs rest × FaultOf r rest rule at

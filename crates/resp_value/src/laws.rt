@@ -2,8 +2,9 @@
 
 ghost use Rattle.std.specs.Prelude.{[], ◌∷◌, ◌≡◌, codes, true, false, pos, negsuc};
 ghost use Rattle.resp_value.specs.Canonical.{canonical_text};
-ghost use Rattle.resp_value.specs.Data.{scalar, Array, Map, Attr, Null, Bool, Bulk, Verbatim, Big};
-ghost use Rattle.resp_value.specs.Examples.{integer, simple, aggregate_of, IsSpelled, IsSpelledInThree, IsSpelledStreamed, SpellsNothing, SpellsNothingInTwo};
+ghost use Rattle.resp_value.specs.Data.{depth, longest, most_items, scalar, Array, Set, Map, Attr, Null, Bool, Bulk, Verbatim, Big};
+ghost use Rattle.resp_value.specs.Examples.{integer, simple, aggregate_of, IsSpelled, IsSpelledInThree, IsSpelledStreamed, SpellsNothing, SpellsNothingInTwo, SpellsNothingSwitchedOff, HasCause, HasCauseInThree, IsCutWithFault};
+ghost use Rattle.resp_value.specs.Rules.{Grammar, PushAtTop};
 ghost use Rattle.resp_value.specs.declared.version.Version.TheVariants.{Two, Three};
 ghost use Rattle.resp_value.specs.Laws.{ATextHasOneValue, NoSpellingBeginsAnother, NoSpellingIsEmpty, APushBeginsWithItsByte, ATextHasOneCut, ARestHasOneFault, VersionThreeSpellsWhatTwoDoes, CanonicalTextSpellsWhatFits, CanonicalTextTellsValuesApart, FrontsOfSpellingsAreViable, FrontsOfViableTextsAreViable, LaterRulesLeaveLess, ATextHasOneCause, AViableTextHasNoCause, RulesHoldAtEachNode, TextsOfTreesAreBytes, DefaultItemsRefuseNothing, TheEmptyTextIsViable, TypeBytesAreViable, LaterTypeBytesWantVersionThree, ACommaBeginsADouble, NoOtherByteBeginsATree};
 
@@ -42,7 +43,8 @@ pub fn version_three_spells_what_two_does()
     ensures { VersionThreeSpellsWhatTwoDoes }
 {}
 
-/// A value's canonical text is a spelling of it exactly where the value fits the version and the limits.
+/// A value's canonical text is a spelling of it exactly where the value fits the version and the
+/// limits.
 pub fn canonical_text_spells_what_fits()
     ensures { CanonicalTextSpellsWhatFits }
 {}
@@ -87,7 +89,8 @@ pub fn texts_of_trees_are_bytes()
     ensures { TextsOfTreesAreBytes }
 {}
 
-/// With streamed forms allowed and items up to the most bytes of a value, the trees and the spellings are those of the other rules.
+/// With streamed forms allowed and items up to the most bytes of a value, the trees and the
+/// spellings are those of the other rules.
 pub fn default_items_refuse_nothing()
     ensures { DefaultItemsRefuseNothing }
 {}
@@ -161,20 +164,50 @@ pub fn values_and_their_canonical_texts()
 
 /// Texts that spell nothing.
 pub fn texts_without_a_value()
-    // A streamed map closes behind whole pairs alone.
-    ensures map_closed_after_a_key { SpellsNothing (codes "%?\r\n+a\r\n.\r\n") }
     // An attribute wants the value that it annotates.
     ensures attribute_alone { SpellsNothing (codes "|0\r\n") }
-    // A push stands at the top alone.
-    ensures push_below_the_top { SpellsNothing (codes "*1\r\n>0\r\n") }
     // No value is a double.
     ensures double { SpellsNothing (codes ",1.5\r\n") }
-    // A line has no LF in it.
-    ensures newline_in_a_line { SpellsNothing (codes "+a\nb\r\n") }
-    // A number has a digit.
-    ensures no_digits { SpellsNothing (codes ":\r\n") }
     // An integer has 64 bits.
     ensures more_than_64_bits { SpellsNothing (codes ":9223372036854775808\r\n") }
-    // Version 2 has no streamed forms.
+    // Version 2 has no streamed forms, and version 3 none where they are switched off.
     ensures streamed_in_two { SpellsNothingInTwo (codes "*?\r\n.\r\n") }
+    ensures array_switched_off { SpellsNothingSwitchedOff (codes "*?\r\n.\r\n") }
+    ensures string_switched_off { SpellsNothingSwitchedOff (codes "$?\r\n;0\r\n") }
+{}
+
+/// Values, and what the limits count of them.
+pub fn values_and_their_measures()
+    // The content of an integer counts nothing, and a big number's digits count without the sign.
+    ensures integer { longest (integer (pos 123456)) ≡ 0 }
+    ensures big { longest (scalar (Big true (codes "12"))) ≡ 2 }
+    // A verbatim string counts its format and the `:`.
+    ensures verbatim { longest (scalar (Verbatim (codes "txt") (codes "hi"))) ≡ 6 }
+    ensures nested { depth (aggregate_of Array (aggregate_of Set [] ∷ simple (codes "a") ∷ [])) ≡ 2 }
+    // Items are members, or pairs of a map or an attribute.
+    ensures members { most_items (aggregate_of Array (scalar Null ∷ scalar Null ∷ [])) ≡ 2 }
+    ensures pairs { most_items (aggregate_of Map (scalar Null ∷ scalar Null ∷ [])) ≡ 1 }
+    ensures annotation { most_items
+        (aggregate_of Attr (scalar Null ∷ scalar Null ∷ simple (codes "a") ∷ [])) ≡ 1 }
+{}
+
+/// Texts that are refused at their last byte, and why.
+pub fn texts_and_their_causes()
+    // A line has no LF in it.
+    ensures newline_in_a_line { HasCause (codes "+a\n") Grammar }
+    // A number has a digit.
+    ensures no_digits { HasCause (codes ":\r") Grammar }
+    // A streamed map closes behind whole pairs alone.
+    ensures map_closed_after_a_key { HasCause (codes "%?\r\n+a\r\n.") Grammar }
+    // Pushes and attributes aren't streamed.
+    ensures streamed_push { HasCause (codes ">?") Grammar }
+    ensures streamed_attribute { HasCause (codes "|?") Grammar }
+    // A push stands at the top alone.
+    ensures push_below_the_top { HasCauseInThree (codes "*1\r\n>") PushAtTop }
+{}
+
+/// A text is cut into its values and a rest, whose fault has a place and a cause.
+pub fn a_cut_and_its_fault()
+    ensures { IsCutWithFault (codes "+a\r\n+b\n+c\r\n")
+        (simple (codes "a") ∷ []) (codes "+b\n+c\r\n") Grammar 2 }
 {}
