@@ -2,9 +2,9 @@
 use Rattle.std.proofs.Common.{◌≡◌, ℕ, ◌+◌, ◌<◌, ◌≤◌, List, ◌++◌, length, refl, sym, ap, subst, ◌∙◌, arith, length-append}
 use Rattle.resp_value.specs.Data.{scalar, content_length}
 use Rattle.resp_value.specs.Data as d
-use Rattle.resp_value.specs.Trees.{Leaf, leaf, line, numeral, null, truth, string, chunked, LineKind, Simple, Error, Double, Int, Big, BulkNull, ArrayNull, PlainNull, Bulk, BulkError, Verbatim, IsLeaf, leaf_text, Spells}
+use Rattle.resp_value.specs.Trees.{Leaf, leaf, line, numeral, null, truth, string, chunked, Simple, Error, Double, IsLeaf, leaf_text}
 use Rattle.resp_value.specs.TreeValues.{leaf_value}
-use Rattle.resp_value.specs.Rules.{Rules, Rule, Grammar, NoDouble, InVersion, PushAtTop, InRange, NotStreamed, WithinDepth, WithinLength, WithinItems, WithinTotal, Keeps, HasVersion, IsLeafInTwo, IsInRange, IsNoDouble, IsCountedLeaf}
+use Rattle.resp_value.specs.Rules.{Rules, Grammar, NoDouble, InVersion, PushAtTop, InRange, NotStreamed, WithinDepth, WithinLength, WithinItems, WithinTotal, Keeps, HasVersion, IsLeafInTwo, IsInRange, IsNoDouble, IsCountedLeaf}
 use Rattle.resp_value.specs.Spellings.{IsSpelling}
 use Rattle.resp_value.specs.Laws.{NoSpellingBeginsAnother}
 use Rattle.resp_value.specs.declared.version.Version.{Version}

@@ -7,3 +7,4 @@ pub mod WrittenLemmas
 pub mod Quoted
 pub mod QuotedWrites
 pub mod ReadLemmas
+pub mod ShowLemmas

@@ -1,7 +1,7 @@
 -- What was read so far.
-use Rattle.std.proofs.Common.{◌≡◌, ℕ, zero, suc, ◌+◌, ◌<◌, ◌≤◌, List, [], ◌++◌, length, take, drop, min, Option, None, Some, Result, Ok, Err, refl, sym, ap, ◌∙◌, arith, append_assoc, append-nil, take-append-drop}
+use Rattle.std.proofs.Common.{◌≡◌, ℕ, zero, suc, ◌+◌, ◌<◌, ◌≤◌, List, [], ◌++◌, length, take, drop, Option, None, Some, Ok, refl, sym, ap, ◌∙◌, arith, append_assoc, append-nil, take-append-drop}
+use Rattle.std.proofs.lemmas.List.{take-take, take-append-le}
 use Rattle.resp_value.specs.Devices.{Reads, raised}
-use Rattle.resp_value.specs.declared.device.DeviceFault.{DeviceFault}
 use Rattle.resp_tool.specs.Reads.{ReadsAll}
 
 -- so many bytes were read, and the rest is left
@@ -19,10 +19,11 @@ pub reads_on : (before mid after : Option (List ℕ)) (bytes into : List ℕ) (n
 reads_on None mid after bytes into n so_far read = tt
 reads_on (Some left) None after bytes into n (rest, e, is) read = absurd (cc)
 reads_on (Some left) (Some now) after bytes into n (rest, e, is) read =
-    let same : now ≡ rest = cc in
-    (drop n now,
-     e ∙ ap (λ more. bytes ++ more) (sym same ∙ sym (take-append-drop n now) ∙ ap (λ front. front ++ drop n now) (sym read.bytes)) ∙ sym (append_assoc bytes (take n into) (drop n now)),
-     read.behind)
+    let same : now ≡ rest = cc in (
+      drop n now,
+      e ∙ ap (λ more. bytes ++ more) (sym same ∙ sym (take-append-drop n now) ∙ ap (λ front. front ++ drop n now) (sym read.bytes)) ∙ sym (append_assoc bytes (take n into) (drop n now)),
+      read.behind,
+    )
 
 -- a read of no byte is the end
 pub reads_to_end : (before mid after : Option (List ℕ)) (bytes into : List ℕ) → 0 < length into → HasRead before mid bytes → Reads mid after into (Ok 0) → ReadsAll before after bytes
@@ -30,9 +31,10 @@ reads_to_end None mid after bytes into room so_far read = tt
 reads_to_end (Some left) None after bytes into room (rest, e, is) read = absurd (cc)
 reads_to_end (Some left) (Some now) after bytes into room (rest, e, is) read =
     let same : now ≡ rest = cc in
-    let none : now ≡ [] = read.at_end refl room in
-    (sym (e ∙ ap (λ more. bytes ++ more) (sym same ∙ none) ∙ append-nil bytes),
-     read.behind ∙ ap Some none)
+    let none : now ≡ [] = read.at_end refl room in (
+      sym (e ∙ ap (λ more. bytes ++ more) (sym same ∙ none) ∙ append-nil bytes),
+      read.behind ∙ ap Some none,
+    )
 
 -- how many calls were made, since a count was this
 pub record HasCalled (n before after : ℕ) : Type 0 where
@@ -53,3 +55,8 @@ called_again zero before mid after so_far e =
 called_again (suc n) before mid after so_far e =
     let some : mid ≡ raised (suc n) before = so_far.some (omega arith) in
     record { none = λ h. absurd (omega arith); some = λ _. omega arith }
+
+-- the front of a buffer that was read into
+pub take-into : (into buffer : List ℕ) (size n : ℕ) → n ≤ length into → length into ≤ size → take n (take size (into ++ drop (length into) buffer)) ≡ take n into
+take-into into buffer size n within room =
+    take-take n size (into ++ drop (length into) buffer) (omega arith) ∙ take-append-le n into (drop (length into) buffer) within

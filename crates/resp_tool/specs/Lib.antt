@@ -3,3 +3,4 @@ pub mod Written
 pub mod Scalars
 pub mod Faults
 pub mod Reads
+pub mod Shows

@@ -3,6 +3,7 @@
 
 mod input;
 mod scalar_reader;
+mod show;
 mod shown;
 mod text;
 mod tool_error;

@@ -98,7 +98,8 @@ impl ToolError {
         ensures { result ≡ status_of self.now }
     {
         match self {
-            ToolError::Refused { .. } | ToolError::OverLimits { .. } | ToolError::TooManyValues => 1,
+            ToolError::Refused { .. } | ToolError::OverLimits { .. } | ToolError::TooManyValues =>
+                1,
             ToolError::Read | ToolError::Write | ToolError::TooManyTurns | ToolError::Memory => 3,
         }
     }

@@ -1,4 +1,3 @@
-use Rattle.std.proofs.Common.{◌++◌, codes, decimal, length}
 use Rattle.resp_tool.specs.Shown.{quoted}
 use Rattle.resp_tool.proofs.WrittenLemmas.{writes_next, writes_part, line_parts}
 use Rattle.resp_tool.proofs.shown.write_string.Goals as goal

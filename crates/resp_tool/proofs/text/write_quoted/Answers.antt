@@ -1,4 +1,4 @@
-use Rattle.std.proofs.Common.{◌≡◌, ◌∙◌, ◌∷◌, [], sym, ap, nat_eq, length, arith}
+use Rattle.std.proofs.Common.{◌≡◌, ◌∙◌, ◌∷◌, [], sym, ap, length}
 use Rattle.std.proofs.lemmas.Bool.{eqb-true}
 use Rattle.resp_tool.specs.Shown.{escaped, quoted}
 use Rattle.resp_tool.proofs.QuotedWrites.{front_goes_on, front_fails}
