@@ -1,6 +1,7 @@
-//! The program `resp`: shows, checks and rewrites streams of the Redis wire protocol.
+//! The program `resp`: shows streams of the Redis wire protocol.
 #![tactic(auto)]
 
+mod command_line;
 mod input;
 mod scalar_reader;
 mod show;
@@ -8,4 +9,30 @@ mod shown;
 mod text;
 mod tool_error;
 
-fn main() {}
+use resp_value::device::Device;
+use std::io::{self, BufWriter, Write};
+use std::process::ExitCode;
+
+/// The status of a failed device.
+const DEVICE_FAILED: u8 = 3;
+
+fn main(rt: HostRuntime) -> io::Result<ExitCode> {
+    let alloc = rt.alloc();
+    let words: Vec<String> = std::env::args(&rt)?.collect(alloc)?;
+    let mut reader = Device::new(rt.stdin());
+    let mut writer = Device::new(BufWriter::new(alloc, rt.stdout())?);
+    let mut faults = Device::new(rt.stderr());
+    let status = command_line::command(
+        alloc,
+        words.as_slice(),
+        &mut reader,
+        &mut writer,
+        &mut faults,
+    );
+    let mut output = writer.into_inner();
+    if output.flush().is_err() {
+        let _ = faults.into_inner().write_all(b"write failed\n");
+        return Ok(ExitCode::from(DEVICE_FAILED));
+    }
+    Ok(ExitCode::from(status))
+}

@@ -1,0 +1,99 @@
+//! The command line of the program.
+
+ghost use Rattle.std.specs.Prelude.{◌≤◌};
+
+use crate::show::show;
+use crate::text::write_text;
+use crate::tool_error::ToolError;
+use clap::error::ErrorKind;
+use clap::{Arg, ArgMatches, Command};
+use resp_value::device::{Sink, Source};
+use resp_value::limits::Limits;
+use resp_value::version::Version;
+use std::alloc::Global;
+use std::convert::AsStr;
+
+/// How many bytes one read asks for.
+const PIECE: usize = 4_096;
+
+/// The status of bad arguments.
+const BAD_ARGUMENTS: u8 = 2;
+
+fn parse<'a, S: AsStr>(alloc: Global, words: &'a [S]) -> Result<ArgMatches<'a>, clap::Error> {
+    let proto = Arg::new(alloc, "proto")
+        .long("proto")
+        .value_name("VERSION")
+        .help("The version of the protocol")
+        .value_parser(["2"].as_slice())
+        .default_value("2");
+    let show = Command::new(alloc, "show")
+        .about("Prints each value of the stream on standard input as a line of text")
+        .arg(proto)?;
+    Command::new(alloc, "resp")
+        .bin_name("resp")?
+        .about("Reads streams of the Redis wire protocol")
+        .subcommand_required(true)
+        .subcommand(show)?
+        .try_get_matches_from(words)
+}
+
+/// Says what is wrong with the words, or helps, and answers the status.
+fn explain<W: Sink, F: Sink>(
+    alloc: Global,
+    error: &clap::Error,
+    writer: &mut W,
+    faults: &mut F,
+) -> u8
+    ensures { result ≤ 3 }
+{
+    let text = match format!(in alloc; "{error}") {
+        Ok(text) => text,
+        Err(_) => return stop(&ToolError::Memory, faults),
+    };
+    if error.kind() == ErrorKind::OutOfMemory {
+        stop(&ToolError::Memory, faults)
+    } else if error.use_stderr() {
+        let _ = write_text(faults, text.as_str().as_bytes());
+        BAD_ARGUMENTS
+    } else if write_text(writer, text.as_str().as_bytes()).is_err() {
+        stop(&ToolError::Write, faults)
+    } else {
+        0
+    }
+}
+
+/// Says why the program stops, and answers the status.
+fn stop<F: Sink>(error: &ToolError, faults: &mut F) -> u8
+    ensures { result ≤ 3 }
+{
+    let _ = error.line(faults);
+    error.status()
+}
+
+/// Does what the words say, the program's name first among them, and answers the status: 0 where all is well or
+/// help was asked for, 1 where the input was refused, 2 where the words are bad, and 3 where a device or memory
+/// failed. What is wrong is said on `faults`, whether or not that takes it.
+pub fn command<S: AsStr, R: Source, W: Sink, F: Sink>(
+    alloc: Global,
+    words: &[S],
+    reader: &mut R,
+    writer: &mut W,
+    faults: &mut F,
+) -> u8
+    ensures { result ≤ 3 }
+{
+    if let Err(error) = parse(alloc, words) {
+        return explain(alloc, &error, writer, faults);
+    }
+    match show(
+        alloc,
+        Version::Two,
+        &Limits::standard(),
+        PIECE,
+        reader,
+        writer,
+    ) {
+        Ok(()) => 0,
+        Err(error) => stop(&error, faults),
+    }
+}
