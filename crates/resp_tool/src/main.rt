@@ -9,6 +9,9 @@ mod shown;
 mod text;
 mod tool_error;
 
+#[cfg(test)]
+mod tests;
+
 use resp_value::device::Device;
 use std::io::{self, BufWriter, Write};
 use std::process::ExitCode;

@@ -1,0 +1,184 @@
+//! Tests of the program's calls: readers that give few bytes, and devices that fail.
+
+use crate::command_line::command;
+use crate::show::show;
+use crate::tool_error::ToolError;
+use resp_value::cause::Cause;
+use resp_value::device::{MemorySink, MemorySource};
+use resp_value::limits::Limits;
+use resp_value::version::Version;
+use std::test::Fail;
+
+const STREAM: &[u8] = b"+OK\r\n:+007\r\n$3\r\nfoo\r\n$-1\r\n-ERR no\r\n";
+const LINES: &[u8] = b"simple \"OK\" 2\nint 7\nbulk \"foo\" 3\nnull\nerror \"ERR no\" 6\n";
+
+#[test]
+fn shows_the_same_whatever_a_read_gives(rt: HostRuntime) -> Result<(), Fail> {
+    for piece in [1, 2, 3, 4_096] {
+        for most in [1, 2, 3, 4_096] {
+            let mut reader = MemorySource::new(STREAM, most);
+            let mut writer = MemorySink::new(rt.alloc(), 4_096, 256)?;
+            let shown = show(
+                rt.alloc(),
+                Version::Two,
+                &Limits::standard(),
+                piece,
+                &mut reader,
+                &mut writer,
+            );
+            assert_eq!(rt; shown, Ok(()), "by reads of {piece} of {most}");
+            assert_eq!(rt; writer.bytes(), LINES, "by reads of {piece} of {most}");
+        }
+    }
+    Ok(())
+}
+
+#[test]
+fn shows_what_came_before_a_refused_value(rt: HostRuntime) -> Result<(), Fail> {
+    let mut reader = MemorySource::new(b":1\r\n+a\rb", 4_096);
+    let mut writer = MemorySink::new(rt.alloc(), 4_096, 256)?;
+    let shown = show(
+        rt.alloc(),
+        Version::Two,
+        &Limits::standard(),
+        1,
+        &mut reader,
+        &mut writer,
+    );
+    let refused = ToolError::Refused {
+        value: 2,
+        cause: Cause::Syntax,
+        at: 3,
+    };
+    assert_eq!(rt; shown, Err(refused));
+    assert_eq!(rt; writer.bytes(), b"int 1\n".as_slice());
+    Ok(())
+}
+
+#[test]
+fn stops_where_the_reader_fails(rt: HostRuntime) -> Result<(), Fail> {
+    for byte in [0, 7] {
+        let mut reader = MemorySource::new(STREAM, 2).failing_from(byte);
+        let mut writer = MemorySink::new(rt.alloc(), 4_096, 256)?;
+        let shown = show(
+            rt.alloc(),
+            Version::Two,
+            &Limits::standard(),
+            4_096,
+            &mut reader,
+            &mut writer,
+        );
+        assert_eq!(rt; shown, Err(ToolError::Read), "at byte {byte}");
+        assert_eq!(rt; writer.bytes(), b"".as_slice(), "at byte {byte}");
+    }
+    Ok(())
+}
+
+#[test]
+fn stops_where_the_writer_fails(rt: HostRuntime) -> Result<(), Fail> {
+    for most in [1, 4_096] {
+        let mut reader = MemorySource::new(STREAM, 4_096);
+        let mut writer = MemorySink::new(rt.alloc(), most, 20)?;
+        let shown = show(
+            rt.alloc(),
+            Version::Two,
+            &Limits::standard(),
+            4_096,
+            &mut reader,
+            &mut writer,
+        );
+        assert_eq!(rt; shown, Err(ToolError::Write), "by writes of {most}");
+        assert_eq!(rt; writer.bytes(), b"simple \"OK\" 2\nint 7\n".as_slice(), "by writes of {most}");
+    }
+    Ok(())
+}
+
+#[test]
+fn stops_where_the_writer_takes_nothing(rt: HostRuntime) -> Result<(), Fail> {
+    let mut reader = MemorySource::new(STREAM, 4_096);
+    let mut writer = MemorySink::new(rt.alloc(), 0, 20)?;
+    let shown = show(
+        rt.alloc(),
+        Version::Two,
+        &Limits::standard(),
+        4_096,
+        &mut reader,
+        &mut writer,
+    );
+    assert_eq!(rt; shown, Err(ToolError::Write));
+    assert_eq!(rt; writer.bytes(), b"".as_slice());
+    Ok(())
+}
+
+#[test]
+fn reads_within_smaller_limits(rt: HostRuntime) -> Result<(), Fail> {
+    let limits = Limits::new(4, 64, 256)?;
+    for (length, is_read) in [(64, true), (65, false)] {
+        let mut stream = vec![in rt.alloc(); b'+']?;
+        for _ in 0..length {
+            stream.push(b'a')?;
+        }
+        stream.extend_from_slice(b"\r\n")?;
+        let mut reader = MemorySource::new(stream.as_slice(), 4_096);
+        let mut writer = MemorySink::new(rt.alloc(), 4_096, 256)?;
+        let shown = show(rt.alloc(), Version::Two, &limits, 4_096, &mut reader, &mut writer);
+        let too_long = ToolError::Refused {
+            value: 1,
+            cause: Cause::Length,
+            at: 65,
+        };
+        let wanted = if is_read { Ok(()) } else { Err(too_long) };
+        assert_eq!(rt; shown, wanted, "a line of {length} bytes");
+    }
+    Ok(())
+}
+
+#[test]
+fn says_the_fault_and_its_status(rt: HostRuntime) -> Result<(), Fail> {
+    let faults = [
+        (ToolError::OverLimits { value: 3 }, "value 3: OverLimits\n", 1),
+        (ToolError::TooManyValues, "value 1000000001: TooManyValues at byte 0\n", 1),
+        (ToolError::Read, "read failed\n", 3),
+        (ToolError::Write, "write failed\n", 3),
+        (ToolError::TooManyTurns, "too many turns\n", 3),
+        (ToolError::Memory, "out of memory\n", 3),
+    ];
+    for (fault, line, status) in faults {
+        let mut writer = MemorySink::new(rt.alloc(), 4_096, 64)?;
+        assert!(rt; fault.line(&mut writer).is_ok(), "{line}");
+        assert_eq!(rt; writer.bytes(), line.as_bytes(), "{line}");
+        assert_eq!(rt; fault.status(), status, "{line}");
+    }
+    Ok(())
+}
+
+#[test]
+fn answers_the_status_of_a_run(rt: HostRuntime) -> Result<(), Fail> {
+    let runs = [
+        (["resp", "show", "--proto", "2"], b"+OK\r\n".as_slice(), "simple \"OK\" 2\n", "", 0),
+        (["resp", "show", "--proto", "2"], b"+a".as_slice(), "", "value 1: Truncated at byte 2\n", 1),
+    ];
+    for (words, stream, lines, fault, status) in runs {
+        let mut reader = MemorySource::new(stream, 4_096);
+        let mut writer = MemorySink::new(rt.alloc(), 4_096, 256)?;
+        let mut faults = MemorySink::new(rt.alloc(), 4_096, 256)?;
+        let got = command(rt.alloc(), words.as_slice(), &mut reader, &mut writer, &mut faults);
+        assert_eq!(rt; got, status);
+        assert_eq!(rt; writer.bytes(), lines.as_bytes());
+        assert_eq!(rt; faults.bytes(), fault.as_bytes());
+    }
+    Ok(())
+}
+
+#[test]
+fn answers_the_status_though_nothing_can_be_said(rt: HostRuntime) -> Result<(), Fail> {
+    for (word, status) in [("show", 1), ("play", 2)] {
+        let mut reader = MemorySource::new(b"+a", 4_096);
+        let mut writer = MemorySink::new(rt.alloc(), 4_096, 0)?;
+        let mut faults = MemorySink::new(rt.alloc(), 4_096, 0)?;
+        let words = ["resp", word];
+        let got = command(rt.alloc(), words.as_slice(), &mut reader, &mut writer, &mut faults);
+        assert_eq!(rt; got, status, "{word}");
+    }
+    Ok(())
+}
