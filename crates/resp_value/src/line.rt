@@ -6,7 +6,8 @@ ghost use Rattle.resp_value.specs.Bytes.{IsText, IsLine, IsPlain};
 
 use thiserror::Error;
 
-/// Bytes none of which is CR or LF.
+/// Bytes none of which is CR or LF: what a simple string and a simple error hold (Redis serialization protocol
+/// specification, "Simple strings" and "Simple errors").
 #[derive(Debug, PartialEq, Eq, Drop)]
 pub struct Line {
     text: Vec<u8>,
@@ -14,11 +15,11 @@ pub struct Line {
     ghost is_line: { IsLine text.items } by { Prim.hlevel props },
 }
 
-/// A CR or LF stands in these bytes.
+/// The refusal of a line: a CR or an LF stands in its bytes.
 #[derive(Debug, PartialEq, Eq, Drop, Error)]
 #[error("a CR or LF stands in a line")]
 pub struct BadLine {
-    /// The bytes that were handed in.
+    /// The bytes that were handed in, unchanged.
     pub bytes: Vec<u8>,
 }
 
@@ -31,7 +32,9 @@ fn is_line(bytes: &[u8]) -> bool
 impl Line {
     ghost use Rattle.resp_value.specs.Values.{line_text};
 
-    /// A line of these bytes. It refuses exactly where a CR or LF stands in them, and hands them back.
+    /// A line of these bytes, of which there may be none. Takes no memory.
+    ///
+    /// Refuses exactly where a CR or an LF stands in them, and hands them back.
     pub fn new(bytes: Vec<u8>) -> Result<Line, BadLine>
         ensures ok { IsOk result ↔ IsLine bytes.items }
         ensures kept { IfOk result (λ line. line_text line ≡ bytes.items) }
@@ -44,7 +47,7 @@ impl Line {
         }
     }
 
-    /// The bytes.
+    /// The bytes of the line, without the CR LF that ends it on the wire.
     pub fn text(&self) -> &[u8]
         ensures text { result.now ≡ line_text self.now }
         ensures is_line { IsLine result.now }

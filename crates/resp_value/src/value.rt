@@ -1,4 +1,4 @@
-//! Values of the protocol.
+//! Values of the protocol, and the lists that they hold.
 
 ghost use Rattle.std.specs.Prelude.{◌≡◌};
 ghost use Rattle.resp_value.specs.Values.{list_of, pairs_of};
@@ -7,7 +7,7 @@ use crate::content::Content;
 use crate::digits::Digits;
 use crate::line::Line;
 
-/// The members of an array, a set or a push, in their order.
+/// The members of an array, a set or a push, in their order. One may stand there more than once, in a set too.
 #[derive(Debug, PartialEq, Eq, Drop)]
 #[cycle(value)]
 pub struct Members {
@@ -21,25 +21,41 @@ pub struct PairList {
     pairs: Vec<(Value, Value)>,
 }
 
-/// A value of the protocol. Two values are equal where they have the same shape and content, in the same order.
+/// A value of the protocol. It says nothing of how it was spelled, and no value is a double.
+///
+/// Two values are equal where they have the same shape and content, in the same order. Behind each shape stands its
+/// section of the Redis serialization protocol specification; version 2 has nulls, integers, simple strings and
+/// errors, bulk strings and arrays, and version 3 has all.
 #[derive(Debug, PartialEq, Eq, Drop)]
 #[cycle(value)]
 pub enum Value {
+    /// No value ("Nulls").
     Null,
+    /// A truth value ("Booleans").
     Bool(bool),
+    /// A signed number of 64 bits ("Integers").
     Int(i64),
+    /// A line ("Simple strings").
     Simple(Line),
+    /// A line that says what failed ("Simple errors").
     Error(Line),
+    /// Any bytes ("Bulk strings").
     Bulk(Content),
+    /// Any bytes that say what failed ("Bulk errors").
     BulkError(Content),
-    /// A format of three bytes, and the text.
+    /// A format of three bytes, and the text ("Verbatim strings").
     Verbatim([u8; 3], Content),
+    /// A whole number of any size ("Big numbers").
     Big(Digits),
+    /// Members in order ("Arrays").
     Array(Members),
+    /// Members, whose order counts here too ("Sets").
     Set(Members),
+    /// Pairs of a key and a value ("Maps").
     Map(PairList),
-    /// The pairs of an attribute, and the value that it annotates.
+    /// The pairs of an attribute, and the value that it annotates ("Attributes").
     Attr(PairList, Box<Value>),
+    /// Members that were sent unasked ("Pushes"). It stands at the top alone: encoding refuses one below it.
     Push(Members),
 }
 
@@ -51,7 +67,7 @@ impl Members {
         Members { items }
     }
 
-    /// The members.
+    /// The members, lent.
     pub fn list(&self) -> &[Value]
         ensures { result.now ≡ list_of self.now }
     {
@@ -75,7 +91,7 @@ impl PairList {
         PairList { pairs }
     }
 
-    /// The pairs.
+    /// The pairs, lent.
     pub fn list(&self) -> &[(Value, Value)]
         ensures { result.now ≡ pairs_of self.now }
     {
