@@ -1,5 +1,5 @@
 -- What a value of the program is, apart from memory.
-use Rattle.std.specs.Prelude.{ℕ, List, map}
+use Rattle.std.specs.Prelude.{ℕ, List}
 use Rattle.std.specs.Prelude.{Bool as Truth}
 use Rattle.resp_value.specs.Data.{Datum, Data, scalar, aggregate}
 use Rattle.resp_value.specs.Data as d

@@ -2,12 +2,16 @@
 
 ghost use Rattle.std.specs.Prelude.{◌≡◌};
 
-/// The limit that a value to be encoded breaks.
+/// The first limit that a value to be encoded breaks, in this order.
 #[derive(Clone, Copy, Debug, PartialEq, Eq)]
 pub enum Over {
+    /// It has more aggregates inside one another.
     Depth,
+    /// It has a longer content.
     Length,
+    /// It has an aggregate of more members or pairs.
     Items,
+    /// Its canonical text is longer.
     Total,
 }
 
@@ -16,7 +20,7 @@ pub enum Over {
 pub enum Cause {
     /// No value of any version goes on so.
     Syntax,
-    /// The type byte of a double.
+    /// The type byte of a double, which no version reads here.
     Double,
     /// A form of version 3 while version 2 is read.
     Version,
@@ -79,7 +83,9 @@ pub enum Cause {
 impl Cause {
     ghost use Rattle.resp_value.specs.Causes.{number_of, name_of};
 
-    /// The number of the cause.
+    /// The number of the cause: 1 to 10, 12 and 13 for what is read, 20 to 24 at a client, 30 to 32 at a server, 40 to 42
+    /// for what is encoded, 50 to 53 for devices, 60 to 63 for what is handed in. Each cause has its own, whatever
+    /// the limit of `OverLimits`.
     pub fn number(self) -> u32
         ensures { result ≡ number_of self }
     {
@@ -117,7 +123,7 @@ impl Cause {
         }
     }
 
-    /// The name of the cause, as fault lines and error replies print it.
+    /// The name of the cause, as fault lines and error replies print it. `NestedPush` and `PushBelowTop` share one.
     pub fn name(self) -> &'static str
         ensures { result.now ≡ name_of self }
     {
@@ -151,6 +157,53 @@ impl Cause {
             Cause::BadDigits => "BadDigits",
             Cause::Busy => "Busy",
             Cause::BadLimits => "BadLimits",
+        }
+    }
+}
+
+#[cfg(test)]
+mod tests {
+    use super::{Cause, Over};
+
+    #[test]
+    fn numbers_and_names(rt: HostRuntime) {
+        for (cause, number, name) in [
+            (Cause::Syntax, 1, "Syntax"),
+            (Cause::Double, 2, "Double"),
+            (Cause::Version, 3, "Version"),
+            (Cause::NestedPush, 4, "NestedPush"),
+            (Cause::Range, 5, "Range"),
+            (Cause::Depth, 6, "Depth"),
+            (Cause::Length, 7, "Length"),
+            (Cause::Total, 8, "Total"),
+            (Cause::Truncated, 9, "Truncated"),
+            (Cause::OutOfMemory, 10, "OutOfMemory"),
+            (Cause::Streamed, 12, "Streamed"),
+            (Cause::Items, 13, "Items"),
+            (Cause::Unasked, 20, "Unasked"),
+            (Cause::TooLarge, 21, "TooLarge"),
+            (Cause::BadCommand, 22, "BadCommand"),
+            (Cause::TooMany, 24, "TooMany"),
+            (Cause::TooManySessions, 30, "TooManySessions"),
+            (Cause::NoSession, 31, "NoSession"),
+            (Cause::Closing, 32, "Closing"),
+            (Cause::NotInVersion, 40, "NotInVersion"),
+            (Cause::PushBelowTop, 41, "NestedPush"),
+            (Cause::OverLimits(Over::Depth), 42, "OverLimits"),
+            (Cause::OverLimits(Over::Length), 42, "OverLimits"),
+            (Cause::OverLimits(Over::Items), 42, "OverLimits"),
+            (Cause::OverLimits(Over::Total), 42, "OverLimits"),
+            (Cause::Read, 50, "Read"),
+            (Cause::Write, 51, "Write"),
+            (Cause::TooManyTurns, 52, "TooManyTurns"),
+            (Cause::Ended, 53, "Ended"),
+            (Cause::BadLine, 60, "BadLine"),
+            (Cause::BadDigits, 61, "BadDigits"),
+            (Cause::Busy, 62, "Busy"),
+            (Cause::BadLimits, 63, "BadLimits"),
+        ] {
+            assert_eq!(rt; cause.number(), number, "number of {cause:?}");
+            assert_eq!(rt; cause.name(), name, "name of {cause:?}");
         }
     }
 }

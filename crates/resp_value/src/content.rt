@@ -4,7 +4,10 @@ ghost use Rattle.std.specs.Prelude.{◌≡◌, List};
 ghost use Rattle.std.proofs.Props.{props};
 ghost use Rattle.resp_value.specs.Bytes.{IsText};
 
-/// Any bytes.
+/// Any bytes, CR and LF among them: what a bulk string and a bulk error hold, and a verbatim string behind its format
+/// (Redis serialization protocol specification, "Bulk strings", "Bulk errors" and "Verbatim strings").
+///
+/// It has no limit of its own: that of length is met where a value is read or written.
 #[derive(Debug, PartialEq, Eq, Drop)]
 pub struct Content {
     bytes: Vec<u8>,
@@ -14,14 +17,14 @@ pub struct Content {
 impl Content {
     ghost use Rattle.resp_value.specs.Values.{content_bytes};
 
-    /// A content of these bytes. Takes no memory.
+    /// A content of these bytes, of which there may be none. Takes no memory.
     pub fn new(bytes: Vec<u8>) -> Content
         ensures { content_bytes result ≡ bytes.items }
     {
         Content { bytes }
     }
 
-    /// The bytes.
+    /// The bytes, lent.
     pub fn list(&self) -> &[u8]
         ensures { result.now ≡ content_bytes self.now }
     {
@@ -34,5 +37,21 @@ impl Content {
     {
         let Content { bytes } = self;
         bytes
+    }
+}
+
+#[cfg(test)]
+mod tests {
+    use super::Content;
+    use std::test::Fail;
+
+    #[test]
+    fn keeps_any_bytes(rt: HostRuntime) -> Result<(), Fail> {
+        for bytes in [b"".as_slice(), b"foo", b"a\r\n\0\xff"] {
+            let content = Content::new(bytes.to_vec(rt.alloc())?);
+            assert_eq!(rt; content.list(), bytes);
+            assert_eq!(rt; content.into_vec().as_slice(), bytes);
+        }
+        Ok(())
     }
 }

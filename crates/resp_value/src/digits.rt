@@ -1,4 +1,4 @@
-//! The digits of a big number.
+//! The sign and digits of a big number.
 
 ghost use Rattle.std.specs.Prelude.{◌≡◌, ◌↔◌, ℕ, ◌<◌, List, length, IsTrue, IfOk, IsErrOf, All};
 ghost use Rattle.std.proofs.Props.{props};
@@ -8,7 +8,8 @@ ghost use Rattle.resp_value.specs.Signs.{sign_at, unsigned_part};
 use std::alloc::Global;
 use thiserror::Error;
 
-/// A sign, and decimal digits without leading zeros. Zero is `0`, and never negative.
+/// A whole number of any size: a sign, and decimal digits without leading zeros (Redis serialization protocol
+/// specification, "Big numbers"). Zero is `0`, and never negative.
 #[derive(Debug, PartialEq, Eq, Drop)]
 pub struct Digits {
     negative: bool,
@@ -19,7 +20,7 @@ pub struct Digits {
 /// Why a text gives no digits.
 #[derive(Clone, Copy, Debug, PartialEq, Eq, Error)]
 pub enum DigitsError {
-    /// It isn't an optional sign and one or more decimal digits.
+    /// It isn't an optional `+` or `-` and one or more decimal digits.
     #[error("not an optional sign and one or more digits")]
     BadDigits,
     /// A growth was refused.
@@ -63,11 +64,15 @@ fn unsigned_part(text: &[u8]) -> &[u8]
 impl Digits {
     ghost use Rattle.resp_value.specs.Values.{is_negative, digits_text};
 
-    /// The sign and digits of a text such as `-120` or `+007`. Refuses by `BadDigits` exactly where the text
-    /// isn't an optional sign and one or more decimal digits.
+    /// The sign and digits of a text such as `-120` or `+007`: an optional `+` or `-`, and one or more decimal
+    /// digits. Leading zeros go, and so does the sign of a zero; that a text may have them is a leniency of our own.
+    ///
+    /// Refuses by `BadDigits` exactly where the text isn't of that form. For a text of that form memory for the
+    /// digits is asked for, and `OutOfMemory` is the refusal where there is none.
     pub fn new(alloc: Global, text: &[u8]) -> Result<Digits, DigitsError>
         ensures kept { IfOk result (λ digits. KeepsDigits text.now (is_negative digits) (digits_text digits)) }
         ensures bad { IsErrOf result DigitsError.BadDigits ↔ (IsSignedDigits text.now → ⊥) }
+        ensures memory_last { IsErrOf result DigitsError.OutOfMemory → IsSignedDigits text.now }
     {
         let minus = begins_with_minus(text);
         let digits = unsigned_part(text);
@@ -82,18 +87,67 @@ impl Digits {
         }
     }
 
-    /// Whether the number is below zero.
+    /// Whether the number is below zero. Never for `0`.
     pub fn is_negative(&self) -> bool
         ensures { result ≡ is_negative self.now }
     {
         self.negative
     }
 
-    /// The digits, without the sign.
+    /// The digits, without a sign and without leading zeros: one at least, and `0` alone for zero.
     pub fn digits(&self) -> &[u8]
         ensures digits { result.now ≡ digits_text self.now }
         ensures kept { IsKept (is_negative self.now) result.now }
     {
         self.digits.as_slice()
+    }
+}
+
+#[cfg(test)]
+mod tests {
+    use super::{Digits, DigitsError};
+    use std::test::Fail;
+
+    #[test]
+    fn keeps_sign_and_digits(rt: HostRuntime) -> Result<(), Fail> {
+        for (text, negative, digits) in [
+            (b"7".as_slice(), false, b"7".as_slice()),
+            (b"+007", false, b"7"),
+            (b"-00120", true, b"120"),
+            (b"-0", false, b"0"),
+            (b"+0", false, b"0"),
+            (b"000", false, b"0"),
+            (b"-000", false, b"0"),
+            (b"100", false, b"100"),
+            (b"-98765432109876543210", true, b"98765432109876543210"),
+        ] {
+            let kept = Digits::new(rt.alloc(), text)?;
+            assert_eq!(rt; kept.is_negative(), negative, "sign of {text:?}");
+            assert_eq!(rt; kept.digits(), digits, "digits of {text:?}");
+        }
+        Ok(())
+    }
+
+    #[test]
+    fn refuses_other_texts(rt: HostRuntime) {
+        for text in [
+            b"".as_slice(),
+            b"+",
+            b"-",
+            b"--1",
+            b"+-1",
+            b"1a",
+            b"a1",
+            b"1-",
+            b" 1",
+            b"1.0",
+            b"0x1",
+            b"1\r\n",
+            b"/",
+            b":",
+        ] {
+            let refused = Digits::new(rt.alloc(), text);
+            assert_eq!(rt; refused, Err(DigitsError::BadDigits), "{text:?}");
+        }
     }
 }

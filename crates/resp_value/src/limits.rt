@@ -6,15 +6,22 @@ ghost use Rattle.resp_value.specs.Bounds.{IsDepth, IsLength, IsTotal, IsItems, A
 use std::marker::Model;
 use thiserror::Error;
 
-const DEPTH: u64 = 32;
-
-const LENGTH: u64 = 536_870_912;
-
-const TOTAL: u64 = 1_073_741_824;
-
+/// The default of items: no value within the greatest total has more.
 const ITEMS: u64 = 1_099_511_627_776;
 
-/// How deep, long and large a value may be.
+/// How deep, long and large a value may be, and whether it may be streamed. Each number is within its range.
+///
+/// | Limit | From | To | Default | What it counts |
+/// |---|---|---|---|---|
+/// | depth | 4 | 128 | 32 | aggregates inside one another |
+/// | length | 64 | 1,073,741,824 | 536,870,912 | bytes of one content |
+/// | total | 256 | 1,099,511,627,776 | 1,073,741,824 | bytes of one value at the top, as spelled |
+/// | items | 16 | 1,099,511,627,776 | 1,099,511,627,776 | members of one array, set or push |
+///
+/// Empty aggregates and attributes count for depth too, and the value that an attribute annotates is inside it. A
+/// verbatim string is four bytes longer than its text, and a big number as long as its digits. The items of a map
+/// or an attribute are its pairs. The default of length is the standard's (Redis serialization protocol
+/// specification, "Bulk strings"); the other limits are our own.
 #[derive(Clone, Copy, Debug, PartialEq, Eq)]
 pub struct Limits {
     depth: u64,
@@ -29,26 +36,50 @@ impl Model for Limits {
 
     ghost Value = { Bounds };
 
-    ghost view = { λ limits. record { depth = limits.depth; length = limits.length; total = limits.total; items = limits.items; streamed = limits.streamed } };
+    ghost view = { λ limits. record {
+      depth = limits.depth;
+      length = limits.length;
+      total = limits.total;
+      items = limits.items;
+      streamed = limits.streamed;
+    } };
 
-    ghost invariant = { λ limits. AreBounds (record { depth = limits.depth; length = limits.length; total = limits.total; items = limits.items; streamed = limits.streamed }) };
+    ghost invariant = { λ limits. AreBounds (record {
+      depth = limits.depth;
+      length = limits.length;
+      total = limits.total;
+      items = limits.items;
+      streamed = limits.streamed;
+    }) };
 
-    ghost inverse = { λ bounds. record { depth = bounds.depth; length = bounds.length; total = bounds.total; items = bounds.items; streamed = bounds.streamed } };
+    ghost inverse = { λ bounds. record {
+      depth = bounds.depth;
+      length = bounds.length;
+      total = bounds.total;
+      items = bounds.items;
+      streamed = bounds.streamed;
+    } };
 }
 
-/// A limit is outside its range.
+/// The refusal of limits: one is outside its range.
 #[derive(Clone, Copy, Debug, PartialEq, Eq, Error)]
 #[error("a limit is outside its range")]
 pub struct BadLimits;
 
 impl Limits {
     /// Limits of depth (4 to 128), of the bytes of one content (64 to 1,073,741,824) and of the bytes of one value
-    /// (256 to 1,099,511,627,776), with the default of items and with streamed forms. Refuses exactly outside
-    /// these ranges.
+    /// (256 to 1,099,511,627,776), with the default of items and with streamed forms.
+    ///
+    /// Refuses exactly where one of the three is outside its range.
     pub fn new(depth: u64, length: u64, total: u64) -> Result<Limits, BadLimits>
         ensures ok { IsOk result ↔ (IsDepth depth × IsLength length × IsTotal total) }
-        ensures kept { IfOk result (λ limits. (limits.depth ≡ depth) × (limits.length ≡ length) × (limits.total ≡ total)) }
-        ensures defaults { IfOk result (λ limits. (limits.items ≡ ITEMS) × (limits.streamed ≡ true)) }
+        ensures kept { IfOk result (λ limits. limits ≡ record {
+          depth = depth;
+          length = length;
+          total = total;
+          items = 1_099_511_627_776;
+          streamed = true;
+        }) }
     {
         let is_depth = 4 <= depth && depth <= 128;
         let is_length = 64 <= length && length <= 1_073_741_824;
@@ -69,19 +100,27 @@ impl Limits {
     /// The defaults: depth 32, contents of 536,870,912 bytes, values of 1,073,741,824 bytes, 1,099,511,627,776
     /// items, and streamed forms.
     pub fn standard() -> Limits
-        ensures { result ≡ record { depth = DEPTH; length = LENGTH; total = TOTAL; items = ITEMS; streamed = true } }
+        ensures { result ≡ record {
+          depth = 32;
+          length = 536_870_912;
+          total = 1_073_741_824;
+          items = 1_099_511_627_776;
+          streamed = true;
+        } }
     {
         Limits {
-            depth: DEPTH,
-            length: LENGTH,
-            total: TOTAL,
+            depth: 32,
+            length: 536_870_912,
+            total: 1_073_741_824,
             items: ITEMS,
             streamed: true,
         }
     }
 
     /// The same limits with this limit of items: the members of one array, set or push, or the pairs of one map
-    /// or attribute. Refuses exactly outside 16 to 1,099,511,627,776.
+    /// or attribute (16 to 1,099,511,627,776).
+    ///
+    /// Refuses exactly where it is outside that range.
     pub fn with_items(self, items: u64) -> Result<Limits, BadLimits>
         ensures ok { IsOk result ↔ IsItems items }
         ensures kept { IfOk result (λ limits. limits ≡ record self { items = items }) }
@@ -93,7 +132,7 @@ impl Limits {
         }
     }
 
-    /// The same limits with streamed forms allowed or not.
+    /// The same limits with streamed strings and aggregates allowed or not.
     pub fn with_streamed(self, allowed: bool) -> Limits
         ensures { result ≡ record self { streamed = allowed } }
     {
@@ -103,7 +142,7 @@ impl Limits {
         }
     }
 
-    /// The most aggregates inside one another.
+    /// The most aggregates inside one another, 4 to 128.
     pub fn depth(&self) -> u64
         ensures depth { result ≡ self.now.depth }
         ensures in_range { IsDepth result }
@@ -111,7 +150,7 @@ impl Limits {
         self.depth
     }
 
-    /// The most bytes of one content.
+    /// The most bytes of one content, 64 to 1,073,741,824.
     pub fn length(&self) -> u64
         ensures length { result ≡ self.now.length }
         ensures in_range { IsLength result }
@@ -119,7 +158,7 @@ impl Limits {
         self.length
     }
 
-    /// The most bytes of one value as spelled.
+    /// The most bytes of one value as spelled, 256 to 1,099,511,627,776.
     pub fn total(&self) -> u64
         ensures total { result ≡ self.now.total }
         ensures in_range { IsTotal result }
@@ -127,7 +166,7 @@ impl Limits {
         self.total
     }
 
-    /// The most members of one array, set or push, or pairs of one map or attribute.
+    /// The most members of one array, set or push, or pairs of one map or attribute, 16 to 1,099,511,627,776.
     pub fn items(&self) -> u64
         ensures items { result ≡ self.now.items }
         ensures in_range { IsItems result }
@@ -135,10 +174,76 @@ impl Limits {
         self.items
     }
 
-    /// Whether streamed forms are allowed.
+    /// Whether streamed strings and aggregates are allowed.
     pub fn streamed(&self) -> bool
         ensures { result ≡ self.now.streamed }
     {
         self.streamed
+    }
+}
+
+#[cfg(test)]
+mod tests {
+    use super::Limits;
+    use std::test::Fail;
+
+    #[test]
+    fn keeps_each_limit(rt: HostRuntime) -> Result<(), Fail> {
+        let limits = Limits::new(5, 100, 300)?;
+        assert_eq!(rt; limits.items(), 1_099_511_627_776);
+        assert!(rt; limits.streamed());
+        let limits = limits.with_items(17)?.with_streamed(false);
+        assert_eq!(rt; limits.depth(), 5);
+        assert_eq!(rt; limits.length(), 100);
+        assert_eq!(rt; limits.total(), 300);
+        assert_eq!(rt; limits.items(), 17);
+        assert!(rt; !limits.streamed());
+        assert!(rt; limits.with_streamed(true).streamed());
+        Ok(())
+    }
+
+    #[test]
+    fn standard_limits(rt: HostRuntime) {
+        let limits = Limits::standard();
+        assert_eq!(rt; limits.depth(), 32);
+        assert_eq!(rt; limits.length(), 536_870_912);
+        assert_eq!(rt; limits.total(), 1_073_741_824);
+        assert_eq!(rt; limits.items(), 1_099_511_627_776);
+        assert!(rt; limits.streamed());
+    }
+
+    #[test]
+    fn ranges_hold_both_their_ends(rt: HostRuntime) {
+        for (depth, taken) in [(0, false), (3, false), (4, true), (128, true), (129, false)] {
+            let limits = Limits::new(depth, 64, 256);
+            assert_eq!(rt; limits.is_ok(), taken, "depth {depth}");
+        }
+        for (length, taken) in [
+            (63, false),
+            (64, true),
+            (1_073_741_824, true),
+            (1_073_741_825, false),
+        ] {
+            let limits = Limits::new(4, length, 256);
+            assert_eq!(rt; limits.is_ok(), taken, "length {length}");
+        }
+        for (total, taken) in [
+            (255, false),
+            (256, true),
+            (1_099_511_627_776, true),
+            (1_099_511_627_777, false),
+        ] {
+            let limits = Limits::new(4, 64, total);
+            assert_eq!(rt; limits.is_ok(), taken, "total {total}");
+        }
+        for (items, taken) in [
+            (15, false),
+            (16, true),
+            (1_099_511_627_776, true),
+            (1_099_511_627_777, false),
+        ] {
+            let limits = Limits::standard().with_items(items);
+            assert_eq!(rt; limits.is_ok(), taken, "items {items}");
+        }
     }
 }

@@ -6,7 +6,8 @@ ghost use Rattle.resp_value.specs.Bytes.{IsText, IsLine, IsPlain};
 
 use thiserror::Error;
 
-/// Bytes none of which is CR or LF.
+/// Bytes none of which is CR or LF: what a simple string and a simple error hold (Redis serialization protocol
+/// specification, "Simple strings" and "Simple errors").
 #[derive(Debug, PartialEq, Eq, Drop)]
 pub struct Line {
     text: Vec<u8>,
@@ -14,11 +15,11 @@ pub struct Line {
     ghost is_line: { IsLine text.items } by { Prim.hlevel props },
 }
 
-/// A CR or LF stands in these bytes.
+/// The refusal of a line: a CR or an LF stands in its bytes.
 #[derive(Debug, PartialEq, Eq, Drop, Error)]
 #[error("a CR or LF stands in a line")]
 pub struct BadLine {
-    /// The bytes that were handed in.
+    /// The bytes that were handed in, unchanged.
     pub bytes: Vec<u8>,
 }
 
@@ -31,7 +32,9 @@ fn is_line(bytes: &[u8]) -> bool
 impl Line {
     ghost use Rattle.resp_value.specs.Values.{line_text};
 
-    /// A line of these bytes. It refuses exactly where a CR or LF stands in them, and hands them back.
+    /// A line of these bytes, of which there may be none. Takes no memory.
+    ///
+    /// Refuses exactly where a CR or an LF stands in them, and hands them back.
     pub fn new(bytes: Vec<u8>) -> Result<Line, BadLine>
         ensures ok { IsOk result ↔ IsLine bytes.items }
         ensures kept { IfOk result (λ line. line_text line ≡ bytes.items) }
@@ -44,11 +47,36 @@ impl Line {
         }
     }
 
-    /// The bytes.
+    /// The bytes of the line, without the CR LF that ends it on the wire.
     pub fn text(&self) -> &[u8]
         ensures text { result.now ≡ line_text self.now }
         ensures is_line { IsLine result.now }
     {
         self.text.as_slice()
+    }
+}
+
+#[cfg(test)]
+mod tests {
+    use super::{BadLine, Line};
+    use std::test::Fail;
+
+    #[test]
+    fn keeps_bytes_without_cr_and_lf(rt: HostRuntime) -> Result<(), Fail> {
+        for bytes in [b"".as_slice(), b"OK", b"a\tb\0\x0b\x0c\xff"] {
+            let line = Line::new(bytes.to_vec(rt.alloc())?)?;
+            assert_eq!(rt; line.text(), bytes);
+        }
+        Ok(())
+    }
+
+    #[test]
+    fn hands_back_bytes_with_cr_or_lf(rt: HostRuntime) -> Result<(), Fail> {
+        for bytes in [b"\r".as_slice(), b"\n", b"a\rb", b"a\nb", b"OK\r\n"] {
+            let refused = Line::new(bytes.to_vec(rt.alloc())?);
+            let handed_in = bytes.to_vec(rt.alloc())?;
+            assert_eq!(rt; refused, Err(BadLine { bytes: handed_in }));
+        }
+        Ok(())
     }
 }

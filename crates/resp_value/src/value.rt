@@ -1,4 +1,4 @@
-//! Values of the protocol.
+//! Values of the protocol, and the lists that they hold.
 
 ghost use Rattle.std.specs.Prelude.{◌≡◌};
 ghost use Rattle.resp_value.specs.Values.{list_of, pairs_of};
@@ -7,7 +7,7 @@ use crate::content::Content;
 use crate::digits::Digits;
 use crate::line::Line;
 
-/// The members of an array, a set or a push, in their order.
+/// The members of an array, a set or a push, in their order. One may stand there more than once, in a set too.
 #[derive(Debug, PartialEq, Eq, Drop)]
 #[cycle(value)]
 pub struct Members {
@@ -21,25 +21,41 @@ pub struct PairList {
     pairs: Vec<(Value, Value)>,
 }
 
-/// A value of the protocol. Two values are equal where they have the same shape and content, in the same order.
+/// A value of the protocol. It says nothing of how it was spelled, and no value is a double.
+///
+/// Two values are equal where they have the same shape and content, in the same order. Behind each shape stands its
+/// section of the Redis serialization protocol specification; version 2 has nulls, integers, simple strings and
+/// errors, bulk strings and arrays, and version 3 has all.
 #[derive(Debug, PartialEq, Eq, Drop)]
 #[cycle(value)]
 pub enum Value {
+    /// No value ("Nulls").
     Null,
+    /// A truth value ("Booleans").
     Bool(bool),
+    /// A signed number of 64 bits ("Integers").
     Int(i64),
+    /// A line ("Simple strings").
     Simple(Line),
+    /// A line that says what failed ("Simple errors").
     Error(Line),
+    /// Any bytes ("Bulk strings").
     Bulk(Content),
+    /// Any bytes that say what failed ("Bulk errors").
     BulkError(Content),
-    /// A format of three bytes, and the text.
+    /// A format of three bytes, and the text ("Verbatim strings").
     Verbatim([u8; 3], Content),
+    /// A whole number of any size ("Big numbers").
     Big(Digits),
+    /// Members in order ("Arrays").
     Array(Members),
+    /// Members, whose order counts here too ("Sets").
     Set(Members),
+    /// Pairs of a key and a value ("Maps").
     Map(PairList),
-    /// The pairs of an attribute, and the value that it annotates.
+    /// The pairs of an attribute, and the value that it annotates ("Attributes").
     Attr(PairList, Box<Value>),
+    /// Members that were sent unasked ("Pushes"). It stands at the top alone: encoding refuses one below it.
     Push(Members),
 }
 
@@ -51,7 +67,7 @@ impl Members {
         Members { items }
     }
 
-    /// The members.
+    /// The members, lent.
     pub fn list(&self) -> &[Value]
         ensures { result.now ≡ list_of self.now }
     {
@@ -75,7 +91,7 @@ impl PairList {
         PairList { pairs }
     }
 
-    /// The pairs.
+    /// The pairs, lent.
     pub fn list(&self) -> &[(Value, Value)]
         ensures { result.now ≡ pairs_of self.now }
     {
@@ -88,5 +104,122 @@ impl PairList {
     {
         let PairList { pairs } = self;
         pairs
+    }
+}
+
+#[cfg(test)]
+mod tests {
+    use super::{Members, PairList, Value};
+    use crate::content::Content;
+    use crate::digits::Digits;
+    use crate::line::Line;
+    use std::alloc::Global;
+    use std::process::Abort;
+    use std::test::Fail;
+
+    fn line(alloc: Global, text: &[u8]) -> Result<Line, Fail> {
+        Ok(Line::new(text.to_vec(alloc)?)?)
+    }
+
+    fn content(alloc: Global, bytes: &[u8]) -> Result<Content, Fail> {
+        Ok(Content::new(bytes.to_vec(alloc)?))
+    }
+
+    fn members(alloc: Global, numbers: &[i64]) -> Result<Members, Fail> {
+        let mut items = Vec::new(alloc);
+        for number in numbers {
+            items.push(Value::Int(*number))?;
+        }
+        Ok(Members::new(items))
+    }
+
+    fn pairs(alloc: Global, numbers: &[(i64, i64)]) -> Result<PairList, Fail> {
+        let mut pairs = Vec::new(alloc);
+        for (key, value) in numbers {
+            pairs.push((Value::Int(*key), Value::Int(*value)))?;
+        }
+        Ok(PairList::new(pairs))
+    }
+
+    fn scalars(alloc: Global) -> Result<Vec<Value>, Fail> {
+        Ok(vec![in alloc;
+            Value::Null,
+            Value::Bool(false),
+            Value::Bool(true),
+            Value::Int(7),
+            Value::Int(-7),
+            Value::Simple(line(alloc, b"7")?),
+            Value::Simple(line(alloc, b"")?),
+            Value::Error(line(alloc, b"7")?),
+            Value::Bulk(content(alloc, b"7")?),
+            Value::Bulk(content(alloc, b"7\r")?),
+            Value::BulkError(content(alloc, b"7")?),
+            Value::Verbatim(*b"txt", content(alloc, b"7")?),
+            Value::Verbatim(*b"mkd", content(alloc, b"7")?),
+            Value::Big(Digits::new(alloc, b"7")?),
+            Value::Big(Digits::new(alloc, b"-7")?),
+        ]?)
+    }
+
+    fn aggregates(alloc: Global) -> Result<Vec<Value>, Fail> {
+        let nested = vec![in alloc; Value::Array(members(alloc, &[1, 2])?)]?;
+        Ok(vec![in alloc;
+            Value::Array(members(alloc, &[])?),
+            Value::Array(members(alloc, &[1])?),
+            Value::Array(members(alloc, &[1, 2])?),
+            Value::Array(members(alloc, &[2, 1])?),
+            Value::Array(Members::new(nested)),
+            Value::Set(members(alloc, &[1, 2])?),
+            Value::Set(members(alloc, &[2, 1])?),
+            Value::Push(members(alloc, &[1, 2])?),
+            Value::Map(pairs(alloc, &[(1, 2)])?),
+            Value::Map(pairs(alloc, &[(1, 2), (3, 4)])?),
+            Value::Map(pairs(alloc, &[(3, 4), (1, 2)])?),
+            Value::Map(pairs(alloc, &[(1, 2), (1, 2)])?),
+            Value::Attr(pairs(alloc, &[(1, 2)])?, Box::new(alloc, Value::Int(3))?),
+            Value::Attr(pairs(alloc, &[(1, 2)])?, Box::new(alloc, Value::Int(4))?),
+            Value::Attr(pairs(alloc, &[])?, Box::new(alloc, Value::Int(3))?),
+        ]?)
+    }
+
+    fn each_equals_itself_alone(rt: &impl Abort, values: &[Value], again: &[Value]) {
+        for (i, value) in values.iter().enumerate() {
+            for (j, other) in again.iter().enumerate() {
+                assert_eq!(rt; value == other, i == j, "{i} and {j}");
+            }
+        }
+    }
+
+    #[test]
+    fn equal_where_shape_and_content_are(rt: HostRuntime) -> Result<(), Fail> {
+        let alloc = rt.alloc();
+        each_equals_itself_alone(&rt, scalars(alloc)?.as_slice(), scalars(alloc)?.as_slice());
+        each_equals_itself_alone(
+            &rt,
+            aggregates(alloc)?.as_slice(),
+            aggregates(alloc)?.as_slice(),
+        );
+        Ok(())
+    }
+
+    #[test]
+    fn members_keep_their_list(rt: HostRuntime) -> Result<(), Fail> {
+        let kept = members(rt.alloc(), &[1, 2, 1])?;
+        let wanted = [Value::Int(1), Value::Int(2), Value::Int(1)];
+        assert_eq!(rt; kept.list(), wanted.as_slice());
+        assert_eq!(rt; kept.into_vec().as_slice(), wanted.as_slice());
+        Ok(())
+    }
+
+    #[test]
+    fn pairs_keep_their_list(rt: HostRuntime) -> Result<(), Fail> {
+        let kept = pairs(rt.alloc(), &[(1, 2), (1, 3)])?;
+        let wanted = [
+            (Value::Int(1), Value::Int(2)),
+            (Value::Int(1), Value::Int(3)),
+        ];
+        assert_eq!(rt; kept.list(), wanted.as_slice());
+        assert_eq!(rt; kept.into_vec().as_slice(), wanted.as_slice());
+        Ok(())
     }
 }
