@@ -1,12 +1,14 @@
 -- What `show` writes of an input.
-use Rattle.std.specs.Prelude.{◌≡◌, ℕ, ◌+◌, List, [], ◌++◌, length, Option}
+use Rattle.std.specs.Prelude.{◌≡◌, ◌≢◌, ℕ, ◌+◌, true, List, [], ◌++◌, length, Option, None, Some}
 use Rattle.resp_value.specs.Data.{Datum}
 use Rattle.resp_value.specs.Bounds.{Bounds}
 use Rattle.resp_value.specs.Rules.{Rules}
 use Rattle.resp_value.specs.Spellings.{AreSpellings, Cut}
 use Rattle.resp_value.specs.Devices.{Appends}
 use Rattle.resp_value.specs.declared.version.Version.{Version}
+use Rattle.resp_value.specs.declared.version.Version.TheVariants.{Two}
 use Rattle.resp_value.specs.declared.cause.Cause.{Cause}
+use Rattle.resp_tool.specs.Scalars.{BeginsWithNoScalar}
 use Rattle.resp_tool.specs.Shown.{shown_texts}
 use Rattle.resp_tool.specs.Written.{AppendsPart}
 use Rattle.resp_tool.specs.declared.tool_error.ToolError.{ToolError}
@@ -42,6 +44,14 @@ pub record ShowsPart (rules : Rules) (input : List ℕ) (before after : Option (
   pub spelled : AreSpellings rules values front
   pub whole : input ≡ front ++ rest
   pub shown : AppendsPart before after (shown_texts values)
+
+-- a rest that isn't the end
+abbrev pub IsSomeRest : List ℕ → Type 0
+IsSomeRest rest = rest ≢ []
+
+-- a rest that isn't the end, and of which no front is a scalar's spelling
+abbrev pub IsRefusedRest : Rules → List ℕ → Type 0
+IsRefusedRest rules rest = IsSomeRest rest × BeginsWithNoScalar rules rest
 
 -- a fact of a refused value
 abbrev pub OnRefused : ToolError → (ℕ → Cause → ℕ → Type 0) → Type 0
@@ -82,3 +92,26 @@ IsShowingError Read = ⊥
 IsShowingError Write = Unit {0}
 IsShowingError TooManyTurns = ⊥
 IsShowingError Memory = ⊥
+
+-- version 2 under the default limits, which a run of the program has
+abbrev pub default_rules : Rules
+default_rules = record {
+  version = Two;
+  limits = record {
+    depth = 32;
+    length = 536870912;
+    total = 1073741824;
+    items = 1099511627776;
+    streamed = true;
+  };
+}
+
+-- the whole stream was shown, where the reader tells it
+abbrev pub ShowsStream : Option (List ℕ) → Option (List ℕ) → Option (List ℕ) → Type 0
+ShowsStream None before after = Unit {0}
+ShowsStream (Some input) before after = ShowsAll default_rules input before after
+
+-- the values before one with some number were shown, where the reader tells the stream
+abbrev pub ShowsStreamFront : Option (List ℕ) → Option (List ℕ) → Option (List ℕ) → Type 0
+ShowsStreamFront None before after = Unit {0}
+ShowsStreamFront (Some input) before after = (number : ℕ) × ShowsFront default_rules input before after number IsSomeRest

@@ -1,6 +1,8 @@
 //! The command line of the program.
 
-ghost use Rattle.std.specs.Prelude.{◌≤◌};
+ghost use Rattle.std.specs.Prelude.{◌≡◌, ◌⊎◌, ◌≤◌, ◌<◌, ℕ};
+ghost use Rattle.resp_tool.specs.Faults.{status_of};
+ghost use Rattle.resp_tool.specs.Shows.{ShowsStream, ShowsStreamFront};
 
 use crate::show::show;
 use crate::text::write_text;
@@ -44,7 +46,8 @@ fn explain<W: Sink, F: Sink>(
     writer: &mut W,
     faults: &mut F,
 ) -> u8
-    ensures { result ≤ 3 }
+    ensures statuses { (result ≡ 0) ⊎ (2 ≤ result) × (result ≤ 3) }
+    ensures bad_arguments { result ≡ 2 → writer.new ≡ writer.old }
 {
     let text = match format!(in alloc; "{error}") {
         Ok(text) => text,
@@ -64,7 +67,7 @@ fn explain<W: Sink, F: Sink>(
 
 /// Says why the program stops, and answers the status.
 fn stop<F: Sink>(error: &ToolError, faults: &mut F) -> u8
-    ensures { result ≤ 3 }
+    ensures { result ≡ status_of error.now }
 {
     let _ = error.line(faults);
     error.status()
@@ -80,7 +83,10 @@ pub fn command<S: AsStr, R: Source, W: Sink, F: Sink>(
     writer: &mut W,
     faults: &mut F,
 ) -> u8
-    ensures { result ≤ 3 }
+    ensures statuses { result ≤ 3 }
+    ensures well { result ≡ 0 → (reader.new ≡ reader.old) ⊎ ShowsStream (R.remaining reader.old) (W.written writer.old) (W.written writer.new) }
+    ensures refused { result ≡ 1 → ShowsStreamFront (R.remaining reader.old) (W.written writer.old) (W.written writer.new) }
+    ensures bad_arguments { result ≡ 2 → (reader.new ≡ reader.old) × (writer.new ≡ writer.old) }
 {
     if let Err(error) = parse(alloc, words) {
         return explain(alloc, &error, writer, faults);

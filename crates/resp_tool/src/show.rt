@@ -1,9 +1,8 @@
 //! `show`: each value of a stream as a line of text.
 
-ghost use Rattle.std.specs.Prelude.{◌≡◌, ◌≢◌, ◌+◌, ◌≤◌, [], Some, OnOk, IfErr, IfSome, IsErrOf};
+ghost use Rattle.std.specs.Prelude.{◌≡◌, ◌+◌, ◌≤◌, [], Some, OnOk, IfErr, IfSome, IsErrOf};
 ghost use Rattle.resp_value.specs.Devices.{raised, HasRisen};
-ghost use Rattle.resp_tool.specs.Shows.{ShowsAll, ShowsFront, ShowsPart, OnRefused, OnUnread, IsShowError, IsShowingError, stream_rules};
-ghost use Rattle.resp_tool.specs.Scalars.{BeginsWithNoScalar};
+ghost use Rattle.resp_tool.specs.Shows.{ShowsAll, ShowsFront, ShowsPart, OnRefused, OnUnread, IsRefusedRest, IsSomeRest, IsShowError, IsShowingError, stream_rules};
 
 use crate::input::{MOST_READS, read_all};
 use crate::scalar_reader::{Fault, read_scalar};
@@ -24,9 +23,9 @@ fn show_all<W: Sink>(
 ) -> Result<(), ToolError>
     ensures ok { OnOk result (ShowsAll (stream_rules version limits.now) input.now (W.written writer.old) (W.written writer.new)) }
     ensures refused { IfErr result (λ error. OnRefused error (λ value cause at.
-        ShowsFront (stream_rules version limits.now) input.now (W.written writer.old) (W.written writer.new) value (BeginsWithNoScalar (stream_rules version limits.now)))) }
+        ShowsFront (stream_rules version limits.now) input.now (W.written writer.old) (W.written writer.new) value (IsRefusedRest (stream_rules version limits.now)))) }
     ensures too_many { IsErrOf result ToolError.TooManyValues →
-        ShowsFront (stream_rules version limits.now) input.now (W.written writer.old) (W.written writer.new) (MOST_VALUES + 1) (λ rest. rest ≢ []) }
+        ShowsFront (stream_rules version limits.now) input.now (W.written writer.old) (W.written writer.new) (MOST_VALUES + 1) IsSomeRest }
     ensures write { IsErrOf result ToolError.Write → HasRisen (W.failures writer.old) (W.failures writer.new) }
     ensures part { IsErrOf result ToolError.Write → ShowsPart (stream_rules version limits.now) input.now (W.written writer.old) (W.written writer.new) }
     ensures others { IfErr result IsShowingError }
@@ -74,9 +73,9 @@ pub fn show<R: Source, W: Sink>(
     ensures ok { OnOk result (IfSome (R.remaining reader.old) (λ input.
         ShowsAll (stream_rules version limits.now) input (W.written writer.old) (W.written writer.new) × (R.remaining reader.new ≡ Some []))) }
     ensures refused { IfErr result (λ error. OnRefused error (λ value cause at. IfSome (R.remaining reader.old) (λ input.
-        ShowsFront (stream_rules version limits.now) input (W.written writer.old) (W.written writer.new) value (BeginsWithNoScalar (stream_rules version limits.now))))) }
+        ShowsFront (stream_rules version limits.now) input (W.written writer.old) (W.written writer.new) value (IsRefusedRest (stream_rules version limits.now))))) }
     ensures too_many { IsErrOf result ToolError.TooManyValues → IfSome (R.remaining reader.old) (λ input.
-        ShowsFront (stream_rules version limits.now) input (W.written writer.old) (W.written writer.new) (MOST_VALUES + 1) (λ rest. rest ≢ [])) }
+        ShowsFront (stream_rules version limits.now) input (W.written writer.old) (W.written writer.new) (MOST_VALUES + 1) IsSomeRest) }
 
     // A device or memory that failed.
     ensures read { IsErrOf result ToolError.Read → HasRisen (R.failures reader.old) (R.failures reader.new) }
