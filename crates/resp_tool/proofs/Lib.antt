@@ -8,3 +8,4 @@ pub mod Quoted
 pub mod QuotedWrites
 pub mod ReadLemmas
 pub mod ShowLemmas
+pub mod Statuses

@@ -6,11 +6,10 @@ mod input;
 mod scalar_reader;
 mod show;
 mod shown;
-mod text;
-mod tool_error;
-
 #[cfg(test)]
 mod tests;
+mod text;
+mod tool_error;
 
 use resp_value::device::Device;
 use std::io::{self, BufWriter, Write};

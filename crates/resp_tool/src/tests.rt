@@ -10,6 +10,7 @@ use resp_value::version::Version;
 use std::test::Fail;
 
 const STREAM: &[u8] = b"+OK\r\n:+007\r\n$3\r\nfoo\r\n$-1\r\n-ERR no\r\n";
+
 const LINES: &[u8] = b"simple \"OK\" 2\nint 7\nbulk \"foo\" 3\nnull\nerror \"ERR no\" 6\n";
 
 #[test]
@@ -88,7 +89,11 @@ fn stops_where_the_writer_fails(rt: HostRuntime) -> Result<(), Fail> {
             &mut writer,
         );
         assert_eq!(rt; shown, Err(ToolError::Write), "by writes of {most}");
-        assert_eq!(rt; writer.bytes(), b"simple \"OK\" 2\nint 7\n".as_slice(), "by writes of {most}");
+        assert_eq!(rt;
+            writer.bytes(),
+            b"simple \"OK\" 2\nint 7\n".as_slice(),
+            "by writes of {most}"
+        );
     }
     Ok(())
 }
@@ -121,7 +126,14 @@ fn reads_within_smaller_limits(rt: HostRuntime) -> Result<(), Fail> {
         stream.extend_from_slice(b"\r\n")?;
         let mut reader = MemorySource::new(stream.as_slice(), 4_096);
         let mut writer = MemorySink::new(rt.alloc(), 4_096, 256)?;
-        let shown = show(rt.alloc(), Version::Two, &limits, 4_096, &mut reader, &mut writer);
+        let shown = show(
+            rt.alloc(),
+            Version::Two,
+            &limits,
+            4_096,
+            &mut reader,
+            &mut writer,
+        );
         let too_long = ToolError::Refused {
             value: 1,
             cause: Cause::Length,
@@ -136,8 +148,16 @@ fn reads_within_smaller_limits(rt: HostRuntime) -> Result<(), Fail> {
 #[test]
 fn says_the_fault_and_its_status(rt: HostRuntime) -> Result<(), Fail> {
     let faults = [
-        (ToolError::OverLimits { value: 3 }, "value 3: OverLimits\n", 1),
-        (ToolError::TooManyValues, "value 1000000001: TooManyValues at byte 0\n", 1),
+        (
+            ToolError::OverLimits { value: 3 },
+            "value 3: OverLimits\n",
+            1,
+        ),
+        (
+            ToolError::TooManyValues,
+            "value 1000000001: TooManyValues at byte 0\n",
+            1,
+        ),
         (ToolError::Read, "read failed\n", 3),
         (ToolError::Write, "write failed\n", 3),
         (ToolError::TooManyTurns, "too many turns\n", 3),
@@ -155,14 +175,32 @@ fn says_the_fault_and_its_status(rt: HostRuntime) -> Result<(), Fail> {
 #[test]
 fn answers_the_status_of_a_run(rt: HostRuntime) -> Result<(), Fail> {
     let runs = [
-        (["resp", "show", "--proto", "2"], b"+OK\r\n".as_slice(), "simple \"OK\" 2\n", "", 0),
-        (["resp", "show", "--proto", "2"], b"+a".as_slice(), "", "value 1: Truncated at byte 2\n", 1),
+        (
+            ["resp", "show", "--proto", "2"],
+            b"+OK\r\n".as_slice(),
+            "simple \"OK\" 2\n",
+            "",
+            0,
+        ),
+        (
+            ["resp", "show", "--proto", "2"],
+            b"+a".as_slice(),
+            "",
+            "value 1: Truncated at byte 2\n",
+            1,
+        ),
     ];
     for (words, stream, lines, fault, status) in runs {
         let mut reader = MemorySource::new(stream, 4_096);
         let mut writer = MemorySink::new(rt.alloc(), 4_096, 256)?;
         let mut faults = MemorySink::new(rt.alloc(), 4_096, 256)?;
-        let got = command(rt.alloc(), words.as_slice(), &mut reader, &mut writer, &mut faults);
+        let got = command(
+            rt.alloc(),
+            words.as_slice(),
+            &mut reader,
+            &mut writer,
+            &mut faults,
+        );
         assert_eq!(rt; got, status);
         assert_eq!(rt; writer.bytes(), lines.as_bytes());
         assert_eq!(rt; faults.bytes(), fault.as_bytes());
@@ -177,7 +215,13 @@ fn answers_the_status_though_nothing_can_be_said(rt: HostRuntime) -> Result<(), 
         let mut writer = MemorySink::new(rt.alloc(), 4_096, 0)?;
         let mut faults = MemorySink::new(rt.alloc(), 4_096, 0)?;
         let words = ["resp", word];
-        let got = command(rt.alloc(), words.as_slice(), &mut reader, &mut writer, &mut faults);
+        let got = command(
+            rt.alloc(),
+            words.as_slice(),
+            &mut reader,
+            &mut writer,
+            &mut faults,
+        );
         assert_eq!(rt; got, status, "{word}");
     }
     Ok(())

@@ -5,7 +5,7 @@ use Rattle.resp_value.specs.Bounds.{AreBounds}
 use Rattle.resp_value.specs.Numbers.{Unsigned, Plus, Minus}
 use Rattle.resp_value.specs.Data.{Datum, scalar, aggregate, Kind, Array, Set, Map, Attr, Push, members_of}
 use Rattle.resp_value.specs.Data as d
-use Rattle.resp_value.specs.Trees.{Tree, leaf, node, none, more, line, numeral, null, string, chunked, Simple, Int, Big, BulkNull, ArrayNull, PlainNull, Bulk, Verbatim, Counted, Streamed, Chunk, text, IsLeaf}
+use Rattle.resp_value.specs.Trees.{Tree, leaf, node, none, more, line, numeral, null, truth, string, chunked, Simple, Error, Int, Big, BulkNull, ArrayNull, PlainNull, Bulk, BulkError, Verbatim, Counted, Streamed, Chunk, text, IsLeaf}
 use Rattle.resp_value.specs.TreeValues.{value}
 use Rattle.resp_value.specs.Rules.{Rules, NotStreamed, Meets, Every, HasVersion, IsLeafInTwo, IsNodeInTwo, IsCountedLeaf, IsCountedNode}
 use Rattle.resp_value.specs.Spellings.{IsSpelling}
@@ -51,6 +51,16 @@ array_null = in_both (leaf (null ArrayNull)) (small_leaf (null ArrayNull) tt tt 
 pub plain_null : IsSpelledInThree (codes "_\r\n") (scalar d.Null)
 plain_null = in_three (leaf (null PlainNull)) (small_leaf (null PlainNull) tt tt tt (omega arith) (omega arith)) tt
 
+pub error : IsSpelled (codes "-a\r\n") (scalar (d.Error (codes "a")))
+error =
+    let t = line Error (codes "a") in
+    in_both (leaf t) (small_leaf t ((plain_above 97 (omega arith), tt), (omega arith, tt)) tt tt (omega arith) (omega arith)) tt tt
+
+pub bulk_error : IsSpelledInThree (codes "!1\r\na\r\n") (scalar (d.BulkError (codes "a")))
+bulk_error =
+    let t = string BulkError (codes "1") (codes "a") in
+    in_three (leaf t) (small_leaf t ((one_digit 49 (omega arith) (omega arith), refl), tt, (omega arith, tt)) tt tt (omega arith) (omega arith)) tt
+
 pub big_minus_zero : IsSpelledInThree (codes "(-00\r\n") (scalar (d.Big false (codes "0")))
 big_minus_zero =
     let t = numeral Big Minus (codes "00") in
@@ -76,6 +86,21 @@ pub streamed_map : IsSpelledStreamed (codes "%?\r\n+a\r\n:1\r\n.\r\n") (aggregat
 streamed_map =
     let ts = more (leaf (line Simple (codes "a"))) (more (leaf (numeral Int Unsigned (codes "1"))) none) in
     streamed (node Map Streamed ts) (small_node Map Streamed ts ((1, refl), (simple_is_line 97 (omega arith) (omega arith), (one_digit 49 (omega arith) (omega arith), tt))) (tt, (tt, tt)) (tt, (tt, tt)) (tt, ((omega (arith, ints), omega (arith, ints)), tt)) (omega arith) (omega arith) (omega arith) (omega arith))
+
+pub set : IsSpelledInThree (codes "~1\r\n#f\r\n") (aggregate Set (d.more (scalar (d.Bool false)) d.none))
+set =
+    let ts = more (leaf (truth false)) none in
+    in_three (node Set (Counted (codes "1")) ts) (small_node Set (Counted (codes "1")) ts ((one_digit 49 (omega arith) (omega arith), refl), (tt, tt)) (tt, tt) (tt, tt) (tt, tt) (omega arith) (omega arith) (omega arith) (omega arith)) (tt, (tt, tt))
+
+pub streamed_array : IsSpelledStreamed (codes "*?\r\n_\r\n.\r\n") (aggregate Array (d.more (scalar d.Null) d.none))
+streamed_array =
+    let ts = more (leaf (null PlainNull)) none in
+    streamed (node Array Streamed ts) (small_node Array Streamed ts (tt, (tt, tt)) (tt, tt) (tt, tt) (tt, tt) (omega arith) (omega arith) (omega arith) (omega arith))
+
+pub streamed_set : IsSpelledStreamed (codes "~?\r\n_\r\n.\r\n") (aggregate Set (d.more (scalar d.Null) d.none))
+streamed_set =
+    let ts = more (leaf (null PlainNull)) none in
+    streamed (node Set Streamed ts) (small_node Set Streamed ts (tt, (tt, tt)) (tt, tt) (tt, tt) (tt, tt) (omega arith) (omega arith) (omega arith) (omega arith))
 
 pub attribute : IsSpelledInThree (codes "*1\r\n|1\r\n+a\r\n:1\r\n+b\r\n") (aggregate Array (d.more (aggregate Attr (d.more (scalar (d.Simple (codes "a"))) (d.more (scalar (d.Int (pos 1))) (d.more (scalar (d.Simple (codes "b"))) d.none)))) d.none))
 attribute =

@@ -3,7 +3,7 @@ use Rattle.std.proofs.Common.{◌≡◌, ℕ, ◌<◌, List, [], ◌∷◌, ◌+
 use Rattle.std.proofs.lemmas.Int.{ints}
 use Rattle.std.proofs.lemmas.List.{append-nil}
 use Rattle.resp_value.specs.Bytes.{IsLine, crlf}
-use Rattle.resp_value.specs.Numbers.{Unsigned, number}
+use Rattle.resp_value.specs.Numbers.{Unsigned, Minus, number}
 use Rattle.resp_value.specs.Data.{Datum, Kind, Array, Map, Attr, Push, members_of}
 use Rattle.resp_value.specs.Trees.{Tree, leaf, node, none, more, line, numeral, Simple, Double, Int, Counted, Streamed, text, texts, count, kind_byte, CanStream, IsTree, Spells, chunked}
 use Rattle.resp_value.specs.Rules.{Rules, Rule, Grammar, NoDouble, InVersion, PushAtTop, InRange, WithinTotal, Meets, Every, HasVersion, HasPushAtRoot, IsAnyLeaf, IsNoPush, NotStreamed}
@@ -35,6 +35,12 @@ double = refused (leaf (line Double (codes "1.5"))) NoDouble (line_by_test (code
 
 pub more_than_64_bits : SpellsNothing (codes ":9223372036854775808\r\n")
 more_than_64_bits = refused (leaf (numeral Int Unsigned (codes "9223372036854775808"))) InRange (digits_by_test (codes "9223372036854775808") (omega arith) refl) (λ r h. omega (arith, ints, h.1))
+
+pub below_64_bits : SpellsNothing (codes ":-9223372036854775809\r\n")
+below_64_bits = refused (leaf (numeral Int Minus (codes "9223372036854775809"))) InRange (digits_by_test (codes "9223372036854775809") (omega arith) refl) (λ r h. omega (arith, ints, h.0))
+
+pub streamed_string_in_two : SpellsNothingInTwo (codes "$?\r\n;0\r\n")
+streamed_string_in_two r x is_two s = subst (λ w. HasVersion w (leaf (chunked [] (codes "0")))) is_two (said (leaf (chunked [] (codes "0"))) InVersion (tt, (one_digit 48 (omega arith) (omega arith), refl)) r x s)
 
 pub streamed_in_two : SpellsNothingInTwo (codes "*?\r\n.\r\n")
 streamed_in_two r x is_two s = (subst (λ w. HasVersion w (node Array Streamed none)) is_two (said (node Array Streamed none) InVersion (tt, tt) r x s)).0

@@ -2,7 +2,7 @@
 
 ghost use Rattle.std.specs.Prelude.{[], ◌∷◌, ◌≡◌, codes, true, false, pos, negsuc};
 ghost use Rattle.resp_value.specs.Canonical.{canonical_text};
-ghost use Rattle.resp_value.specs.Data.{depth, longest, most_items, scalar, Array, Set, Map, Attr, Null, Bool, Bulk, Verbatim, Big};
+ghost use Rattle.resp_value.specs.Data.{depth, longest, most_items, scalar, Array, Set, Map, Attr, Null, Bool, Error, Bulk, BulkError, Verbatim, Big};
 ghost use Rattle.resp_value.specs.Examples.{integer, simple, aggregate_of, IsSpelled, IsSpelledInThree, IsSpelledStreamed, SpellsNothing, SpellsNothingInTwo, SpellsNothingSwitchedOff, HasCause, HasCauseInThree, IsCutWithFault};
 ghost use Rattle.resp_value.specs.Rules.{Grammar, PushAtTop};
 ghost use Rattle.resp_value.specs.declared.version.Version.TheVariants.{Two, Three};
@@ -139,9 +139,19 @@ pub fn texts_and_their_values()
     ensures verbatim { IsSpelledInThree (codes "=6\r\ntxt:hi\r\n")
         (scalar (Verbatim (codes "txt") (codes "hi"))) }
 
+    // Each other type byte has its kind.
+    ensures error { IsSpelled (codes "-a\r\n") (scalar (Error (codes "a"))) }
+    ensures bulk_error { IsSpelledInThree (codes "!1\r\na\r\n") (scalar (BulkError (codes "a"))) }
+    ensures set { IsSpelledInThree (codes "~1\r\n#f\r\n")
+        (aggregate_of Set (scalar (Bool false) ∷ [])) }
+
     // A streamed string is its chunks' joining.
     ensures chunks { IsSpelledStreamed (codes "$?\r\n;2\r\nab\r\n;1\r\nc\r\n;0\r\n")
         (scalar (Bulk (codes "abc"))) }
+    ensures streamed_array { IsSpelledStreamed (codes "*?\r\n_\r\n.\r\n")
+        (aggregate_of Array (scalar Null ∷ [])) }
+    ensures streamed_set { IsSpelledStreamed (codes "~?\r\n_\r\n.\r\n")
+        (aggregate_of Set (scalar Null ∷ [])) }
     ensures streamed_map { IsSpelledStreamed (codes "%?\r\n+a\r\n:1\r\n.\r\n")
         (aggregate_of Map (simple (codes "a") ∷ integer (pos 1) ∷ [])) }
 
@@ -170,7 +180,9 @@ pub fn texts_without_a_value()
     ensures double { SpellsNothing (codes ",1.5\r\n") }
     // An integer has 64 bits.
     ensures more_than_64_bits { SpellsNothing (codes ":9223372036854775808\r\n") }
+    ensures below_64_bits { SpellsNothing (codes ":-9223372036854775809\r\n") }
     // Version 2 has no streamed forms, and version 3 none where they are switched off.
+    ensures streamed_string_in_two { SpellsNothingInTwo (codes "$?\r\n;0\r\n") }
     ensures streamed_in_two { SpellsNothingInTwo (codes "*?\r\n.\r\n") }
     ensures array_switched_off { SpellsNothingSwitchedOff (codes "*?\r\n.\r\n") }
     ensures string_switched_off { SpellsNothingSwitchedOff (codes "$?\r\n;0\r\n") }

@@ -1,4 +1,4 @@
-use Rattle.resp_value.proofs.Examples.{plus_and_zeros, minus_zero, length_with_zero, bulk_null, array_null, plain_null, big_minus_zero, verbatim, chunks, streamed_map, attribute}
+use Rattle.resp_value.proofs.Examples.{plus_and_zeros, minus_zero, length_with_zero, bulk_null, array_null, plain_null, big_minus_zero, verbatim, chunks, streamed_map, attribute, error, bulk_error, set, streamed_array, streamed_set}
 use Rattle.resp_value.proofs.laws.texts_and_their_values.Goals as goal
 
 pub returns-clause-plus_and_zeros : goal.returns-clause-plus_and_zeros
@@ -33,3 +33,18 @@ returns-clause-streamed_map c = streamed_map
 
 pub returns-clause-attribute : goal.returns-clause-attribute
 returns-clause-attribute c = attribute
+
+pub returns-clause-error : goal.returns-clause-error
+returns-clause-error c = error
+
+pub returns-clause-bulk_error : goal.returns-clause-bulk_error
+returns-clause-bulk_error c = bulk_error
+
+pub returns-clause-set : goal.returns-clause-set
+returns-clause-set c = set
+
+pub returns-clause-streamed_array : goal.returns-clause-streamed_array
+returns-clause-streamed_array c = streamed_array
+
+pub returns-clause-streamed_set : goal.returns-clause-streamed_set
+returns-clause-streamed_set c = streamed_set
