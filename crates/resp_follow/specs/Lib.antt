@@ -1,0 +1,4 @@
+pub mod Frames
+pub mod LeastCompletions
+pub mod MayFollow
+pub mod Laws
