@@ -5,3 +5,14 @@ pub mod KeptNodes
 pub mod FrontLaws
 pub mod BegunLines
 pub mod Levels
+pub mod SimpleLinesAndCounts
+pub mod LevelsAlone
+pub mod FirstLineRows
+pub mod MoreFirstLineRows
+pub mod CountedContent
+pub mod RefusedFronts
+pub mod IntegerRange
+pub mod BigNumberLength
+pub mod RefusedBytes
+pub mod StreamedStrings
+pub mod ContentLength
