@@ -33,10 +33,10 @@ pub big_too_long : (r : Rules) (k : ℕ) (g : Sign) (d : ℕ) (ds : List ℕ) �
 unfolding first_line
 big_too_long r k g d ds p h n = record {
   dead = λ c t. (let u = completes_line (LeafKeeps r WithinLength) (NodeKeeps r WithinLength) k (40 ∷ (sign_text g ++ d ∷ ds)) c (number_line Big g (d ∷ ds) p.1) t in
-                let e = tree_of_numeral u.tree Big g (d ∷ ds ++ u.line) (sym (sort_is u.tree u.is_tree) ∙ ap sort u.begins ∙ big_sort g d ds u.line p.1.0) in
-                let a : HoldsFrom (LeafKeeps r WithinLength) (NodeKeeps r WithinLength) k (leaf (numeral Big g (d ∷ ds ++ u.line))) = subst (HoldsFrom (LeafKeeps r WithinLength) (NodeKeeps r WithinLength) k) e u.keep in
-                let m : length (kept (d ∷ ds ++ u.line)) ≤ r.limits.length = a WithinLength (omega arith) in
-                omega (arith, kept-more (d ∷ ds) u.line));
+      let e = tree_of_numeral u.tree Big g (d ∷ ds ++ u.line) (sym (sort_is u.tree u.is_tree) ∙ ap sort u.begins ∙ big_sort g d ds u.line p.1.0) in
+      let a : HoldsFrom (LeafKeeps r WithinLength) (NodeKeeps r WithinLength) k (leaf (numeral Big g (d ∷ ds ++ u.line))) = subst (HoldsFrom (LeafKeeps r WithinLength) (NodeKeeps r WithinLength) k) e u.keep in
+      let m : length (kept (d ∷ ds ++ u.line)) ≤ r.limits.length = a WithinLength (omega arith) in
+      omega (arith, kept-more (d ∷ ds) u.line));
   rest = crlf [];
   alive = record { tree = leaf (numeral Big g (d ∷ ds)); is_tree = p; keep = h; whole = refl };
   some = omega arith;

@@ -1,5 +1,5 @@
 -- Content past the limit of length, and chunks' content.
-use Rattle.std.proofs.Common.{◌++◌, ◌+◌, ◌<◌, ◌∙◌, ◌∷◌, ◌≡◌, ◌≤◌, List, [], ap, append_assoc, arith, length, length-append, refl, subst, sym, zero, ℕ}
+use Rattle.std.proofs.Common.{◌++◌, ◌+◌, ◌<◌, ◌∙◌, ◌∷◌, ◌≡◌, ◌≤◌, List, [], ap, append_assoc, arith, length, length-append, refl, subst, sym, ℕ}
 use Rattle.std.specs.List.{AllByRecursion}
 use Rattle.resp_value.specs.Bytes.{IsText, crlf}
 use Rattle.resp_value.specs.Data.{content_length}
@@ -29,11 +29,11 @@ string_too_long r k K d ds s p f x n h l =
     let row = string_row (LeafKeeps r WithinDepth) (NodeKeeps r WithinDepth) k K d ds s p f x n h in
     record {
       dead = λ c t. (let u = completes_line (LeafKeeps r WithinLength) (NodeKeeps r WithinLength) k (string_byte K ∷ d ∷ ds) c (string_line K (d ∷ ds) p.1) t in
-                    let w = is_string u.tree K d (ds ++ u.line) p.1.0 (sym (sort_is u.tree u.is_tree) ∙ ap sort u.begins) in
-                    let i2 : IsTree (leaf (string w.0 (d ∷ ds ++ u.line) w.1)) = subst IsTree w.3 u.is_tree in
-                    let a : HoldsFrom (LeafKeeps r WithinLength) (NodeKeeps r WithinLength) k (leaf (string w.0 (d ∷ ds ++ u.line) w.1)) = subst (HoldsFrom (LeafKeeps r WithinLength) (NodeKeeps r WithinLength) k) w.3 u.keep in
-                    let m : content_length (leaf_value (string w.0 (d ∷ ds ++ u.line) w.1)) ≤ r.limits.length = a WithinLength (omega arith) in
-                    omega (arith, string_content w.0 (d ∷ ds ++ u.line) w.1 i2.1, i2.0.1, number-more (d ∷ ds) u.line));
+          let w = is_string u.tree K d (ds ++ u.line) p.1.0 (sym (sort_is u.tree u.is_tree) ∙ ap sort u.begins) in
+          let i2 : IsTree (leaf (string w.0 (d ∷ ds ++ u.line) w.1)) = subst IsTree w.3 u.is_tree in
+          let a : HoldsFrom (LeafKeeps r WithinLength) (NodeKeeps r WithinLength) k (leaf (string w.0 (d ∷ ds ++ u.line) w.1)) = subst (HoldsFrom (LeafKeeps r WithinLength) (NodeKeeps r WithinLength) k) w.3 u.keep in
+          let m : content_length (leaf_value (string w.0 (d ∷ ds ++ u.line) w.1)) ≤ r.limits.length = a WithinLength (omega arith) in
+          omega (arith, string_content w.0 (d ∷ ds ++ u.line) w.1 i2.1, i2.0.1, number-more (d ∷ ds) u.line));
       rest = row.some;
       alive = row.holds;
       some = omega (arith, row.size);
@@ -61,8 +61,8 @@ chunk_holds (d ∷ cs) z es c p q y i e =
 pub chunk_too_long : (r : Rules) (k : ℕ) (ds : List Chunk) (es rest : List ℕ) → AllByRecursion IsChunk ds → IsDigits es → CompletesUnder r WithinDepth k (36 ∷ 63 ∷ crlf (chunks_text ds (59 ∷ es))) rest → 0 < length rest → r.limits.length < length (joined ds) + number es → IsRefusedHere r WithinLength WithinDepth k (36 ∷ 63 ∷ crlf (chunks_text ds (59 ∷ es)))
 chunk_too_long r k ds es rest p i a o l = record {
   dead = λ c t. (let u = completes_chunks (LeafKeeps r WithinLength) (NodeKeeps r WithinLength) k ds (59 ∷ es) c p t in
-                let m : length (joined (with_chunks ds u.more)) ≤ r.limits.length = u.keep WithinLength (omega arith) in
-                omega (arith, joined-with ds u.more, chunk_holds u.more u.zeros es c u.are_chunks u.digits u.zero i u.whole));
+      let m : length (joined (with_chunks ds u.more)) ≤ r.limits.length = u.keep WithinLength (omega arith) in
+      omega (arith, joined-with ds u.more, chunk_holds u.more u.zeros es c u.are_chunks u.digits u.zero i u.whole));
   rest = rest;
   alive = a;
   some = o;
@@ -88,8 +88,15 @@ chunk_content_row L N k ds es p q a b n h =
     let says : number es ≡ length (p ++ q) = b.0.1 in
     record {
       some = c;
-      holds = chunks_complete L N k ds ((59 ∷ es) ++ crlf p) c a (record { more = record { digits = es; content = p ++ q } ∷ []; zeros = 48 ∷ []; are_chunks = (b, tt); digits = (omega arith, ((omega arith, omega arith), tt)); zero = refl; keep = h;
-        whole = ap (λ w. (59 ∷ es) ++ crlf w) (append_assoc p q (crlf (last (48 ∷ [])))) ∙ sym (append_assoc (59 ∷ es) (crlf p) c) });
+      holds = chunks_complete L N k ds ((59 ∷ es) ++ crlf p) c a (record {
+        more = record { digits = es; content = p ++ q } ∷ [];
+        zeros = 48 ∷ [];
+        are_chunks = (b, tt);
+        digits = (omega arith, ((omega arith, omega arith), tt));
+        zero = refl;
+        keep = h;
+        whole = ap (λ w. (59 ∷ es) ++ crlf w) (append_assoc p q (crlf (last (48 ∷ [])))) ∙ sym (append_assoc (59 ∷ es) (crlf p) c);
+      });
       size = length-append q (crlf (last (48 ∷ [])));
       least = λ d t. (let u = completes_chunks L N k ds ((59 ∷ es) ++ crlf p) d a t in omega (arith, chunk_left u.more u.zeros es p d u.are_chunks u.digits u.zero b.0.0 n u.whole, length-append p q));
     }

@@ -41,12 +41,16 @@ content_row L N k K d ds p q s i f t n e h =
     let b = string_byte K ∷ d ∷ ds in
     record {
       some = q ++ crlf [];
-      holds = record { tree = leaf (string K (d ∷ ds) s); is_tree = ((i, n), f, t); keep = h;
-        whole = ap (λ z. b ++ crlf (z ++ crlf [])) e ∙ ap (λ z. b ++ crlf z) (append_assoc p q (crlf [])) ∙ sym (append_assoc b (crlf p) (q ++ crlf [])) };
+      holds = record {
+        tree = leaf (string K (d ∷ ds) s);
+        is_tree = ((i, n), f, t);
+        keep = h;
+        whole = ap (λ z. b ++ crlf (z ++ crlf [])) e ∙ ap (λ z. b ++ crlf z) (append_assoc p q (crlf [])) ∙ sym (append_assoc b (crlf p) (q ++ crlf []));
+      };
       size = length-append q (crlf []);
       least = λ c w. (let u = completes_content L N k K d ds p c i w in
-                     let m : number (d ∷ ds) ≡ length (payload u.kind u.content) = u.is_leaf.0.1 in
-                     omega (arith, ap length u.whole, length-append (payload u.kind u.content) (crlf []), length-append p c, ap length e, length-append p q));
+          let m : number (d ∷ ds) ≡ length (payload u.kind u.content) = u.is_leaf.0.1 in
+          omega (arith, ap length u.whole, length-append (payload u.kind u.content) (crlf []), length-append p c, ap length e, length-append p q));
     }
 
 -- whole content is followed by CR alone

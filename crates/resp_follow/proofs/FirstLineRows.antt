@@ -82,8 +82,8 @@ pub number_begin_row : (L : LeafRule) (N : NodeRule) (k : ℕ) (K : NumberKind) 
 unfolding first_line
 number_begin_row L N k K g h =
     line_row L N k (number_byte K ∷ (sign_text g ++ [])) (48 ∷ []) (leaf (numeral K g (48 ∷ []))) 1 (number_line K g [] tt) zero_digits h
-      (ap (λ z. number_byte K ∷ z) (sym (append_assoc (sign_text g) [] (48 ∷ [])))) refl
-      (λ u l i j e. omega (arith, number_more_digits K g u l i e))
+    (ap (λ z. number_byte K ∷ z) (sym (append_assoc (sign_text g) [] (48 ∷ [])))) refl
+    (λ u l i j e. omega (arith, number_more_digits K g u l i e))
 
 -- digits of a number: 2
 pub number_row : (L : LeafRule) (N : NodeRule) (k : ℕ) (K : NumberKind) (g : Sign) (ds : List ℕ) → IsDigits ds → L k (numeral K g ds) → HasLeast (CompletesValue L N k (number_byte K ∷ (sign_text g ++ ds))) 2
@@ -164,22 +164,22 @@ pub string_row : (L : LeafRule) (N : NodeRule) (k : ℕ) (K : StringKind) (d : �
 unfolding first_line
 string_row L N k K d ds s p x y n h =
     line_row L N k (string_byte K ∷ d ∷ ds) [] (leaf (string K (d ∷ ds) s)) (number (d ∷ ds) + 2) (string_line K (d ∷ ds) p.1) ((p, n), x, y) h
-      (sym (append-nil (string_byte K ∷ d ∷ ds))) (omega (arith, length-append (payload K s) (crlf [])))
-      (λ u l i j e. (let w = is_string u K d (ds ++ l) p.1.0 e in
-                    let i2 : IsTree (leaf (string w.0 (d ∷ ds ++ l) w.1)) = subst IsTree w.3 i in
-                    let c : number (d ∷ ds ++ l) ≡ length (payload w.0 w.1) = i2.0.1 in
-                    let a : length (after_line u) ≡ length (payload w.0 w.1 ++ crlf []) = ap (λ z. length (after_line z)) w.3 in
-                    omega (arith, number-more (d ∷ ds) l, length-append (payload w.0 w.1) (crlf []))))
+    (sym (append-nil (string_byte K ∷ d ∷ ds))) (omega (arith, length-append (payload K s) (crlf [])))
+    (λ u l i j e. (let w = is_string u K d (ds ++ l) p.1.0 e in
+    let i2 : IsTree (leaf (string w.0 (d ∷ ds ++ l) w.1)) = subst IsTree w.3 i in
+    let c : number (d ∷ ds ++ l) ≡ length (payload w.0 w.1) = i2.0.1 in
+    let a : length (after_line u) ≡ length (payload w.0 w.1 ++ crlf []) = ap (λ z. length (after_line z)) w.3 in
+    omega (arith, number-more (d ∷ ds) l, length-append (payload w.0 w.1) (crlf []))))
 
 -- `$?`: 6
 pub chunked_row : (L : LeafRule) (N : NodeRule) (k : ℕ) → L k (chunked [] (48 ∷ [])) → HasLeast (CompletesValue L N k (36 ∷ 63 ∷ [])) 6
 unfolding first_line
 chunked_row L N k h = line_row L N k (36 ∷ 63 ∷ []) [] (leaf (chunked [] (48 ∷ []))) 4 ((λ e. omega arith, λ e. omega arith), ((λ e. omega arith, λ e. omega arith), tt)) (tt, (zero_digits, refl)) h refl refl
     (λ u l i j e. (let w = tree_of_chunked u e in
-                  let i2 : IsTree (leaf (chunked w.0 w.1)) = subst IsTree w.2 i in
-                  let n : 0 < length w.1 = i2.1.0.0 in
-                  let a : length (after_line u) ≡ length (chunks_text w.0 ((59 ∷ w.1) ++ crlf [])) = ap (λ z. length (after_line z)) w.2 in
-                  omega (arith, chunks_least w.0 w.1 n)))
+    let i2 : IsTree (leaf (chunked w.0 w.1)) = subst IsTree w.2 i in
+    let n : 0 < length w.1 = i2.1.0.0 in
+    let a : length (after_line u) ≡ length (chunks_text w.0 ((59 ∷ w.1) ++ crlf [])) = ap (λ z. length (after_line z)) w.2 in
+    omega (arith, chunks_least w.0 w.1 n)))
   where
     chunks_least : (cs : List Chunk) (z : List ℕ) → 0 < length z → 4 ≤ length (chunks_text cs ((59 ∷ z) ++ crlf []))
     chunks_least [] z n = omega (arith, length-append z (crlf []))

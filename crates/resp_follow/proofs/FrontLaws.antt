@@ -1,12 +1,11 @@
 -- The laws of what has come and what may follow, in words of texts and trees.
-use Rattle.std.proofs.Common.{◌≡◌, ◌↔◌, ℕ, ◌+◌, ◌<◌, ◌≤◌, List, ◌∷◌, ◌++◌, length, ap, sym, subst, arith, length-append}
+use Rattle.std.proofs.Common.{ℕ, ◌+◌, ◌<◌, ◌≤◌, List, ◌∷◌, ◌++◌, length, ap, sym, subst, arith, length-append}
 use Rattle.resp_value.specs.Trees.{Tree, text}
 use Rattle.resp_value.specs.Rules.{Rules, Rule, Grammar, NoDouble, InVersion, PushAtTop, InRange, NotStreamed, WithinDepth, WithinLength, WithinItems, WithinTotal, rank, Keeps}
 use Rattle.resp_value.specs.LocalRules.{LeafKeeps, NodeKeeps}
-use Rattle.resp_value.specs.Spellings.{IsViable}
 use Rattle.resp_value.proofs.LocalRuleLemmas.{keeps_locally}
-use Rattle.resp_follow.specs.Frames.{Frame, around}
-use Rattle.resp_follow.specs.LeastCompletions.{HasLeast, Continues, IsLeast}
+use Rattle.resp_follow.specs.Frames.{around}
+use Rattle.resp_follow.specs.LeastCompletions.{HasLeast, Continues}
 use Rattle.resp_follow.specs.MayFollow.{IsWholeText, frames_needed}
 use Rattle.resp_follow.specs.Laws.{WhatMayFollowContinues, WhatContinuesMayFollow, LeastCompletionSplits, ViableWhereLeastFits}
 use Rattle.resp_follow.proofs.Composition as c

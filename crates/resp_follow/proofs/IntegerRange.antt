@@ -50,9 +50,9 @@ pub int_too_far : (r : Rules) (k : ℕ) (g : Sign) (d : ℕ) (ds : List ℕ) →
 unfolding first_line
 int_too_far r k g d ds p n = record {
   dead = λ c t. (let u = completes_line (LeafKeeps r InRange) (NodeKeeps r InRange) k (58 ∷ (sign_text g ++ d ∷ ds)) c (number_line Int g (d ∷ ds) p.1) t in
-                let e = tree_of_numeral u.tree Int g (d ∷ ds ++ u.line) (sym (sort_is u.tree u.is_tree) ∙ ap sort u.begins ∙ more_sort g d ds u.line p.1.0) in
-                let a : HoldsFrom (LeafKeeps r InRange) (NodeKeeps r InRange) k (leaf (numeral Int g (d ∷ ds ++ u.line))) = subst (HoldsFrom (LeafKeeps r InRange) (NodeKeeps r InRange) k) e u.keep in
-                omega (arith, in_range g (d ∷ ds ++ u.line) (a InRange (omega arith)), number-more (d ∷ ds) u.line));
+      let e = tree_of_numeral u.tree Int g (d ∷ ds ++ u.line) (sym (sort_is u.tree u.is_tree) ∙ ap sort u.begins ∙ more_sort g d ds u.line p.1.0) in
+      let a : HoldsFrom (LeafKeeps r InRange) (NodeKeeps r InRange) k (leaf (numeral Int g (d ∷ ds ++ u.line))) = subst (HoldsFrom (LeafKeeps r InRange) (NodeKeeps r InRange) k) e u.keep in
+      omega (arith, in_range g (d ∷ ds ++ u.line) (a InRange (omega arith)), number-more (d ∷ ds) u.line));
   rest = crlf [];
   alive = record { tree = leaf (numeral Int g (d ∷ ds)); is_tree = p; keep = λ h e. numeral_before r k g (d ∷ ds) h (omega arith); whole = refl };
   some = omega arith;

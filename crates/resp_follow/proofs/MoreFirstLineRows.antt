@@ -26,7 +26,7 @@ dollar_row L N k h = record {
   holds = record { tree = leaf (null BulkNull); is_tree = tt; keep = h; whole = refl };
   size = refl;
   least = λ c w. (let u = completes_line L N k (36 ∷ []) c ((λ e. omega arith, λ e. omega arith), tt) w in
-                 omega (arith, dollar_more u.tree u.line u.is_tree (sym (sort_is u.tree u.is_tree) ∙ ap sort u.begins) u.begins, ap length u.whole, length-append u.line (crlf (after_line u.tree))));
+      omega (arith, dollar_more u.tree u.line u.is_tree (sym (sort_is u.tree u.is_tree) ∙ ap sort u.begins) u.begins, ap length u.whole, length-append u.line (crlf (after_line u.tree))));
 }
 
 -- what strings of this byte have
@@ -73,9 +73,9 @@ short_verbatim_row L N k d ds p p2 n m h =
     let s = zeros (v * 10 - 4) in
     let a : length s ≡ v * 10 - 4 = length-zeros (v * 10 - 4) in
     line_row L N k (61 ∷ d ∷ ds) (48 ∷ []) (leaf (string (Verbatim (zeros 3)) ((d ∷ ds) ++ 48 ∷ []) s)) (v * 10 + 3) (string_line (Verbatim []) (d ∷ ds) p.1)
-      ((p2, omega (arith, number-digit (d ∷ ds) 48, length-zeros (v * 10 - 4))), (refl, are_zeros 3), are_zeros (v * 10 - 4)) h refl
-      (omega (arith, length-append s (crlf []), length-zeros (v * 10 - 4)))
-      (λ u l i j e. short_verbatim d ds l u p.1.0 i n m e)
+    ((p2, omega (arith, number-digit (d ∷ ds) 48, length-zeros (v * 10 - 4))), (refl, are_zeros 3), are_zeros (v * 10 - 4)) h refl
+    (omega (arith, length-append s (crlf []), length-zeros (v * 10 - 4)))
+    (λ u l i j e. short_verbatim d ds l u p.1.0 i n m e)
 
 attr_size : (u : Tree) (f : Form) → IsTree u → sort_of u ≡ node_of Attr f → 3 ≤ length (after_line u)
 attr_size (leaf x) f i e = absurd (cc)

@@ -23,6 +23,7 @@ no_newline_goes_on L N k b c p t =
     plain_part : (a l : List ℕ) → IsLine (a ++ 10 ∷ l) → ⊥
     plain_part [] l q = q.0.1 refl
     plain_part (x ∷ a) l q = plain_part a l q.1
+
     cases : (l y : List ℕ) → IsLine (b ++ l) → (z : List ℕ) → y ≡ crlf z → 10 ∷ c ≡ l ++ y → ⊥
     cases [] y q z e w = cc
     cases (x ∷ l) y q z e w = let h : x ≡ 10 = cc in plain_part b l (subst (λ v. IsLine (b ++ v ∷ l)) h q)
@@ -64,9 +65,9 @@ kind_refused r g h k j o n q =
     let e = count_ends r h k j 48 [] zero_digits q in
     record {
       dead = λ c t. (let u = completes_line (LeafKeeps r g) (NodeKeeps r g) k (kind_byte j ∷ []) c (byte_line j) t in
-                    let w = tree_of_node u.tree j (form_of u.line) (sym (sort_is u.tree u.is_tree) ∙ ap sort u.begins ∙ sort_other j u.line o) in
-                    let a : HoldsFrom (LeafKeeps r g) (NodeKeeps r g) k (node j (form_of u.line) w.0) = subst (HoldsFrom (LeafKeeps r g) (NodeKeeps r g) k) w.1 u.keep in
-                    n (form_of u.line) (count w.0) (a.0 g (omega arith)));
+          let w = tree_of_node u.tree j (form_of u.line) (sym (sort_is u.tree u.is_tree) ∙ ap sort u.begins ∙ sort_other j u.line o) in
+          let a : HoldsFrom (LeafKeeps r g) (NodeKeeps r g) k (node j (form_of u.line) w.0) = subst (HoldsFrom (LeafKeeps r g) (NodeKeeps r g) k) w.1 u.keep in
+          n (form_of u.line) (count w.0) (a.0 g (omega arith)));
       rest = 48 ∷ crlf (texts (shortest_trees (members_of j 0)));
       alive = record { tree = e.tree; is_tree = e.is_tree; keep = e.keep; whole = e.whole };
       some = omega arith;
@@ -87,10 +88,10 @@ array_too_deep r k d p l q =
     let e = count_ends r NotStreamed k Array d [] i q in
     record {
       dead = λ c t. (let u = completes_line (LeafKeeps r WithinDepth) (NodeKeeps r WithinDepth) k (42 ∷ d ∷ []) c (kind_line Array (d ∷ []) i) t in
-                    let w = counted_is u.tree Array d u.line u.is_tree p u.begins in
-                    let a : HoldsFrom (LeafKeeps r WithinDepth) (NodeKeeps r WithinDepth) k (node Array (Counted (d ∷ u.line)) w.0) = subst (HoldsFrom (LeafKeeps r WithinDepth) (NodeKeeps r WithinDepth) k) w.1 u.keep in
-                    let m : k < r.limits.depth = a.0 WithinDepth (omega arith) in
-                    omega arith);
+          let w = counted_is u.tree Array d u.line u.is_tree p u.begins in
+          let a : HoldsFrom (LeafKeeps r WithinDepth) (NodeKeeps r WithinDepth) k (node Array (Counted (d ∷ u.line)) w.0) = subst (HoldsFrom (LeafKeeps r WithinDepth) (NodeKeeps r WithinDepth) k) w.1 u.keep in
+          let m : k < r.limits.depth = a.0 WithinDepth (omega arith) in
+          omega arith);
       rest = crlf (texts (shortest_trees (number (d ∷ []))));
       alive = e;
       some = omega arith;
@@ -100,9 +101,9 @@ array_too_deep r k d p l q =
 pub double_refused : (r : Rules) (k : ℕ) → IsRefusedHere r NoDouble Grammar k (44 ∷ [])
 double_refused r k = record {
   dead = λ c t. (let u = completes_line (LeafKeeps r NoDouble) (NodeKeeps r NoDouble) k (44 ∷ []) c ((λ e. omega arith, λ e. omega arith), tt) t in
-                let e = tree_of_line u.tree Double u.line (sym (sort_is u.tree u.is_tree) ∙ ap sort u.begins) in
-                let a : HoldsFrom (LeafKeeps r NoDouble) (NodeKeeps r NoDouble) k (leaf (line Double u.line)) = subst (HoldsFrom (LeafKeeps r NoDouble) (NodeKeeps r NoDouble) k) e u.keep in
-                a NoDouble (omega arith));
+      let e = tree_of_line u.tree Double u.line (sym (sort_is u.tree u.is_tree) ∙ ap sort u.begins) in
+      let a : HoldsFrom (LeafKeeps r NoDouble) (NodeKeeps r NoDouble) k (leaf (line Double u.line)) = subst (HoldsFrom (LeafKeeps r NoDouble) (NodeKeeps r NoDouble) k) e u.keep in
+      a NoDouble (omega arith));
   rest = crlf [];
   alive = record { tree = leaf (line Double []); is_tree = (tt, tt); keep = λ h e. only h e; whole = refl };
   some = omega arith;

@@ -3,7 +3,7 @@ use Rattle.std.proofs.Common.{◌++◌, ◌+◌, ◌<◌, ◌↔◌, ◌∙◌, 
 use Rattle.resp_value.specs.Data.{Array, Attr, Kind, Map, Push, Set, items_of, members_of}
 use Rattle.resp_value.specs.LocalRules.{HoldsFrom, LeafKeeps, LeafRule, NodeKeeps, NodeRule}
 use Rattle.resp_value.specs.Numbers.{number}
-use Rattle.resp_value.specs.Rules.{Rule, Rules, WithinItems, WithinTotal, rank}
+use Rattle.resp_value.specs.Rules.{Rule, Rules, WithinItems, rank}
 use Rattle.resp_value.specs.Trees.{Counted, Form, HasMembers, Simple, Streamed, Tree, Trees, close, count, line, more, none, text, texts}
 use Rattle.resp_value.proofs.LocalRuleLemmas.{weaker, weaker_each}
 use Rattle.resp_value.proofs.Unique.{not_close}
@@ -30,10 +30,12 @@ fewer_rules r g h k t e = weaker (LeafKeeps r g) (LeafKeeps r h) (NodeKeeps r g)
 
 pub fewer_rules_can_end : (r : Rules) (g h : Rule) (fs : List Frame) → rank h ≤ rank g → CanAllEnd (LeafKeeps r g) (NodeKeeps r g) fs → CanAllEnd (LeafKeeps r h) (NodeKeeps r h) fs
 fewer_rules_can_end r g h [] e p = tt
-fewer_rules_can_end r g h (f ∷ fs) e p =
-    ((p.0.0, λ x y. p.0.1 x (omega arith)), p.1,
-     weaker_each (LeafKeeps r g) (LeafKeeps r h) (NodeKeeps r g) (NodeKeeps r h) (suc (length fs)) f.done (λ i l q x y. q x (omega arith)) (λ i j w n q x y. q x (omega arith)) p.2,
-     fewer_rules_can_end r g h fs e p.3)
+fewer_rules_can_end r g h (f ∷ fs) e p = (
+  (p.0.0, λ x y. p.0.1 x (omega arith)),
+  p.1,
+  weaker_each (LeafKeeps r g) (LeafKeeps r h) (NodeKeeps r g) (NodeKeeps r h) (suc (length fs)) f.done (λ i l q x y. q x (omega arith)) (λ i j w n q x y. q x (omega arith)) p.2,
+  fewer_rules_can_end r g h fs e p.3,
+)
 
 pub shortest_is : (r : Rules) (g : Rule) (k : ℕ) → LeafKeeps r g k (line Simple [])
 shortest_is r g k h e = simple_keeps r k [] (omega arith) h
@@ -48,7 +50,7 @@ refuse r g h fs x b n o w =
       dead = λ c v. (let m = follow_parts (LeafKeeps r g) (NodeKeeps r g) fs x b c p n u (determine (LeafKeeps r g) (NodeKeeps r g) fs ((x ∷ b) ++ c) p (subst (IsWholeText (LeafKeeps r g) (NodeKeeps r g)) (around-append fs (x ∷ b) c) v)) in w.dead m.here m.tail);
       rest = w.rest ++ a.some;
       alive = subst (IsWholeText (LeafKeeps r h) (NodeKeeps r h)) (sym (around-append fs (x ∷ b) (w.rest ++ a.some))) (compose (LeafKeeps r h) (NodeKeeps r h) fs ((x ∷ b) ++ (w.rest ++ a.some)) (are_kept (LeafKeeps r h) (NodeKeeps r h) fs o)
-        (parts_follow (LeafKeeps r h) (NodeKeeps r h) fs (x ∷ b) (w.rest ++ a.some) (record { here = w.rest; behind = a.some; tail = w.alive; after = a.holds; whole = refl })));
+          (parts_follow (LeafKeeps r h) (NodeKeeps r h) fs (x ∷ b) (w.rest ++ a.some) (record { here = w.rest; behind = a.some; tail = w.alive; after = a.holds; whole = refl })));
     }
 
 -- a byte on the shortest way lowers the least by one
@@ -57,9 +59,10 @@ lower P x m c l p e = record { some = c; holds = p; size = e; least = λ d q. om
 
 -- the total: a front is viable within it exactly where the least completion is
 pub total_viable : (P : List ℕ → Type 0) (p : List ℕ) (m total : ℕ) → HasLeast P m → ((c : List ℕ) × P c × (length (p ++ c) ≤ total)) ↔ (length p + m ≤ total)
-total_viable P p m total l =
-    (λ w. omega (arith, l.least w.0 w.1, length-append p w.0, w.2),
-     λ h. (l.some, l.holds, omega (arith, length-append p l.some, l.size)))
+total_viable P p m total l = (
+  λ w. omega (arith, l.least w.0 w.1, length-append p w.0, w.2),
+  λ h. (l.some, l.holds, omega (arith, length-append p l.some, l.size)),
+)
 
 -- a member too many in a streamed aggregate
 pub full_node : (r : Rules) (f : Frame) (fs : List Frame) (x : ℕ) (c : List ℕ) → AreOpen (f ∷ fs) → (x ≡ 46 → ⊥) → (n : ℕ) → ((m : ℕ) → HasMembers f.kind f.form (suc (count f.done) + m) → r.limits.items < items_of f.kind (suc (count f.done) + m)) → MayFollowFrames (LeafKeeps r WithinItems) (NodeKeeps r WithinItems) (f ∷ fs) (x ∷ c) → ⊥

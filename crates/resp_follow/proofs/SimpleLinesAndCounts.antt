@@ -59,10 +59,10 @@ pub simple_too_long : (r : Rules) (k : ℕ) (s : List ℕ) → IsLine s → IsTe
 unfolding first_line
 simple_too_long r k s p q l = record {
   dead = λ c t. (let u = completes_line (LeafKeeps r WithinLength) (NodeKeeps r WithinLength) k (43 ∷ s) c ((λ e. omega arith, λ e. omega arith), p) t in
-                let e = simple_is u.tree (s ++ u.line) u.is_tree u.begins in
-                let k2 : HoldsFrom (LeafKeeps r WithinLength) (NodeKeeps r WithinLength) k (leaf (line Simple (s ++ u.line))) = subst (HoldsFrom (LeafKeeps r WithinLength) (NodeKeeps r WithinLength) k) e u.keep in
-                let m : length (s ++ u.line) ≤ r.limits.length = k2 WithinLength (omega arith) in
-                omega (arith, length-append s u.line));
+      let e = simple_is u.tree (s ++ u.line) u.is_tree u.begins in
+      let k2 : HoldsFrom (LeafKeeps r WithinLength) (NodeKeeps r WithinLength) k (leaf (line Simple (s ++ u.line))) = subst (HoldsFrom (LeafKeeps r WithinLength) (NodeKeeps r WithinLength) k) e u.keep in
+      let m : length (s ++ u.line) ≤ r.limits.length = k2 WithinLength (omega arith) in
+      omega (arith, length-append s u.line));
   rest = crlf [];
   alive = record { tree = leaf (line Simple s); is_tree = (p, q); keep = λ h e. simple_before r k s h (omega arith); whole = refl };
   some = omega arith;
@@ -89,15 +89,15 @@ count_row r g k j d ds p q =
     let ts = shortest_trees n in
     let t = node j (Counted (d ∷ ds)) ts in
     line_least (LeafKeeps r g) (NodeKeeps r g) k t (3 * n)
-      ((p, sym (count-shortest_trees n)), are_shortest_trees n)
-      (subst (NodeKeeps r g k j (Counted (d ∷ ds))) (sym (count-shortest_trees n)) q, shortest_trees_hold (LeafKeeps r g) (NodeKeeps r g) (suc k) n (shortest_keeps r g (suc k)))
-      (omega (arith, length-shortest_trees n, ap length (append-nil (texts ts))))
-      (λ u l i e b. (let w = counted_is u j d (ds ++ l) i p.1.0 b in
-                    let i2 : IsTree (node j (Counted (d ∷ ds ++ l)) w.0) = subst IsTree w.1 i in
-                    let c : members_of j (number (d ∷ ds ++ l)) ≡ count w.0 = i2.0.1 in
-                    let h : length (after_line u) ≡ length (texts w.0 ++ []) = ap (λ z. length (after_line z)) w.1 in
-                    let m = members-more j (number (d ∷ ds)) (number (d ∷ ds ++ l)) (number-more (d ∷ ds) l) in
-                    omega (arith, texts_least w.0, length-append (texts w.0) [])))
+    ((p, sym (count-shortest_trees n)), are_shortest_trees n)
+    (subst (NodeKeeps r g k j (Counted (d ∷ ds))) (sym (count-shortest_trees n)) q, shortest_trees_hold (LeafKeeps r g) (NodeKeeps r g) (suc k) n (shortest_keeps r g (suc k)))
+    (omega (arith, length-shortest_trees n, ap length (append-nil (texts ts))))
+    (λ u l i e b. (let w = counted_is u j d (ds ++ l) i p.1.0 b in
+    let i2 : IsTree (node j (Counted (d ∷ ds ++ l)) w.0) = subst IsTree w.1 i in
+    let c : members_of j (number (d ∷ ds ++ l)) ≡ count w.0 = i2.0.1 in
+    let h : length (after_line u) ≡ length (texts w.0 ++ []) = ap (λ z. length (after_line z)) w.1 in
+    let m = members-more j (number (d ∷ ds)) (number (d ∷ ds ++ l)) (number-more (d ∷ ds) l) in
+    omega (arith, texts_least w.0, length-append (texts w.0) [])))
 
 pub count_ends : (r : Rules) (g : Rule) (k : ℕ) (j : Kind) (d : ℕ) (ds : List ℕ) → IsDigits (d ∷ ds) → NodeKeeps r g k j (Counted (d ∷ ds)) (members_of j (number (d ∷ ds))) → CompletesUnder r g k (kind_byte j ∷ d ∷ ds) (crlf (texts (shortest_trees (members_of j (number (d ∷ ds))))))
 count_ends r g k j d ds p q =
@@ -151,13 +151,13 @@ pub count_too_many : (r : Rules) (k : ℕ) (j : Kind) (d : ℕ) (ds : List ℕ) 
 unfolding first_line
 count_too_many r k j d ds p q l = record {
   dead = λ c t. (let u = completes_line (LeafKeeps r WithinItems) (NodeKeeps r WithinItems) k (kind_byte j ∷ d ∷ ds) c (kind_line j (d ∷ ds) p) t in
-                let w = counted_is u.tree j d (ds ++ u.line) u.is_tree p.1.0 u.begins in
-                let i2 : IsTree (node j (Counted (d ∷ ds ++ u.line)) w.0) = subst IsTree w.1 u.is_tree in
-                let k2 : HoldsFrom (LeafKeeps r WithinItems) (NodeKeeps r WithinItems) k (node j (Counted (d ∷ ds ++ u.line)) w.0) = subst (HoldsFrom (LeafKeeps r WithinItems) (NodeKeeps r WithinItems) k) w.1 u.keep in
-                let n : items_of j (count w.0) ≤ r.limits.items = k2.0 WithinItems (omega arith) in
-                let c : members_of j (number (d ∷ ds ++ u.line)) ≡ count w.0 = i2.0.1 in
-                let m = members-more j (number (d ∷ ds)) (number (d ∷ ds ++ u.line)) (number-more (d ∷ ds) u.line) in
-                omega (arith, items-more j (members_of j (number (d ∷ ds))) (count w.0) (omega arith)));
+      let w = counted_is u.tree j d (ds ++ u.line) u.is_tree p.1.0 u.begins in
+      let i2 : IsTree (node j (Counted (d ∷ ds ++ u.line)) w.0) = subst IsTree w.1 u.is_tree in
+      let k2 : HoldsFrom (LeafKeeps r WithinItems) (NodeKeeps r WithinItems) k (node j (Counted (d ∷ ds ++ u.line)) w.0) = subst (HoldsFrom (LeafKeeps r WithinItems) (NodeKeeps r WithinItems) k) w.1 u.keep in
+      let n : items_of j (count w.0) ≤ r.limits.items = k2.0 WithinItems (omega arith) in
+      let c : members_of j (number (d ∷ ds ++ u.line)) ≡ count w.0 = i2.0.1 in
+      let m = members-more j (number (d ∷ ds)) (number (d ∷ ds ++ u.line)) (number-more (d ∷ ds) u.line) in
+      omega (arith, items-more j (members_of j (number (d ∷ ds))) (count w.0) (omega arith)));
   rest = _;
   alive = (count_row r WithinLength k j d ds p q).holds;
   some = omega (arith, (count_row r WithinLength k j d ds p q).size);
@@ -168,8 +168,8 @@ pub set_too_deep : (r : Rules) (k : ℕ) → r.limits.depth ≤ k → NodeKeeps 
 unfolding first_line
 set_too_deep r k l q = record {
   dead = λ c t. (let u = completes_line (LeafKeeps r WithinDepth) (NodeKeeps r WithinDepth) k (126 ∷ []) c ((λ e. omega arith, λ e. omega arith), tt) t in
-                let e : sort_of u.tree ≡ node_of Set (form_of u.line) = sym (sort_is u.tree u.is_tree) ∙ ap sort u.begins in
-                no_set u.tree (form_of u.line) e u.keep);
+      let e : sort_of u.tree ≡ node_of Set (form_of u.line) = sym (sort_is u.tree u.is_tree) ∙ ap sort u.begins in
+      no_set u.tree (form_of u.line) e u.keep);
   rest = 48 ∷ crlf [];
   alive = record { tree = node Set (Counted (48 ∷ [])) none; is_tree = (((omega arith, ((omega arith, omega arith), tt)), refl), tt); keep = (q, tt); whole = refl };
   some = omega arith;
@@ -244,5 +244,5 @@ star_row r k j q z = record {
   holds = record { tree = node j (Counted (48 ∷ [])) none; is_tree = (((omega arith, ((omega arith, omega arith), tt)), z), tt); keep = (q, tt); whole = refl };
   size = refl;
   least = λ c t. (let u = completes_line (LeafKeeps r WithinItems) (NodeKeeps r WithinItems) k (kind_byte j ∷ []) c (byte_line j) t in
-                 omega (arith, line_after u.tree j u.line u.is_tree (sym (sort_is u.tree u.is_tree) ∙ ap sort u.begins), ap length u.whole, length-append u.line (crlf (after_line u.tree))));
+      omega (arith, line_after u.tree j u.line u.is_tree (sym (sort_is u.tree u.is_tree) ∙ ap sort u.begins), ap length u.whole, length-append u.line (crlf (after_line u.tree))));
 }
