@@ -31,7 +31,7 @@ abbrev pub MayFollowLevels : LeafRule → NodeRule → List Level → List ℕ �
 MayFollowLevels L N [] x = x ≡ []
 MayFollowLevels L N (v ∷ vs) x = LaterMembers L N (length vs) v (MayFollowLevels L N vs) x
 
-same_length : (vs : List Level) (fs : List Frame) → AreLevelsOf vs fs → length vs ≡ length fs
+pub same_length : (vs : List Level) (fs : List Frame) → AreLevelsOf vs fs → length vs ≡ length fs
 same_length [] [] h = refl
 same_length [] (f ∷ fs) h = absurd h
 same_length (v ∷ vs) [] h = absurd h

@@ -21,3 +21,4 @@ pub mod BetweenValues
 pub mod RefusedBetweenValues
 pub mod FirstRuleBroken
 pub mod OneStep
+pub mod BegunFronts
