@@ -49,7 +49,8 @@ tree_of_chunked (leaf (null f)) e = absurd (cc)
 tree_of_chunked (leaf (truth c)) e = absurd (cc)
 tree_of_chunked (node j f ts) e = absurd (cc)
 
-no_other : (t : Tree) → sort_of t ≡ no_sort → ⊥
+-- a tree has a sort
+pub no_other : (t : Tree) → sort_of t ≡ no_sort → ⊥
 no_other (leaf l) e = cc
 no_other (node j f ts) e = cc
 
@@ -68,7 +69,8 @@ zero_digits = (omega arith, ((omega arith, omega arith), tt))
 no_digits : (t : Tree) (K : NumberKind) (g : Sign) → IsTree t → sort_of t ≡ leaf_of (numeral_sort K g []) → ⊥
 no_digits t K g p e = let q : IsTree (leaf (numeral K g [])) = subst IsTree (tree_of_numeral t K g [] e) p in let n : 0 < 0 = q.0 in omega arith
 
-number_more_digits : (K : NumberKind) (g : Sign) (t : Tree) (l : List ℕ) → IsTree t → sort_of t ≡ sort (number_byte K ∷ (sign_text g ++ []) ++ l) → 0 < length l
+-- a number has a digit
+pub number_more_digits : (K : NumberKind) (g : Sign) (t : Tree) (l : List ℕ) → IsTree t → sort_of t ≡ sort (number_byte K ∷ (sign_text g ++ []) ++ l) → 0 < length l
 number_more_digits K g t (c ∷ l) p e = omega arith
 number_more_digits Int Unsigned t [] p e = absurd (no_other t e)
 number_more_digits Int Plus t [] p e = absurd (no_digits t Int Plus p e)

@@ -22,3 +22,4 @@ pub mod RefusedBetweenValues
 pub mod FirstRuleBroken
 pub mod OneStep
 pub mod BegunFronts
+pub mod BrokenLines

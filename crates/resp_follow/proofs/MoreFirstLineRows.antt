@@ -30,7 +30,7 @@ dollar_row L N k h = record {
 }
 
 -- what strings of this byte have
-string_size : (u : Tree) (b : ℕ) (ds : List ℕ) → IsTree u → sort_of u ≡ leaf_of (string_sort b ds) → (J : StringKind) × (s : List ℕ) × (string_byte J ≡ b) × HasFormat J × IsDigits ds × (number ds ≡ length (payload J s)) × (length (after_line u) ≡ length (payload J s) + 2)
+pub string_size : (u : Tree) (b : ℕ) (ds : List ℕ) → IsTree u → sort_of u ≡ leaf_of (string_sort b ds) → (J : StringKind) × (s : List ℕ) × (string_byte J ≡ b) × HasFormat J × IsDigits ds × (number ds ≡ length (payload J s)) × (length (after_line u) ≡ length (payload J s) + 2)
 string_size u b ds i e =
     let w = tree_of_string u b ds e in
     let i2 : IsTree (leaf (string w.0 ds w.1)) = subst IsTree w.3 i in
@@ -43,7 +43,7 @@ unfolding first_line
 bulk_error_row L N k h = line_row L N k (33 ∷ []) (48 ∷ []) (leaf (string BulkError (48 ∷ []) [])) 3 ((λ e. omega arith, λ e. omega arith), tt) (((omega arith, ((omega arith, omega arith), tt)), refl), tt, tt) h refl refl
     (λ u l i j e. (let w = string_size u 33 l i e in let n : 0 < length l = w.4.0 in omega (arith, w.6)))
 
-verbatim_least : (J : StringKind) (s : List ℕ) → string_byte J ≡ 61 → HasFormat J → 4 ≤ length (payload J s)
+pub verbatim_least : (J : StringKind) (s : List ℕ) → string_byte J ≡ 61 → HasFormat J → 4 ≤ length (payload J s)
 verbatim_least J s e p = let v = verbatim_kind J e p s in omega (arith, ap length v.2, length-append v.0 (58 ∷ s), v.1)
 
 -- `=`: 9
@@ -98,7 +98,7 @@ mark_size (leaf x) j i e = absurd (cc)
 mark_size (node k (Counted ds) ts) j i e = absurd (cc)
 mark_size (node k Streamed ts) j i e = omega (arith, length-append (texts ts) (46 ∷ crlf []))
 
-sort_mark : (j : Kind) (l : List ℕ) → sort (kind_byte j ∷ 63 ∷ l) ≡ node_of j Streamed
+pub sort_mark : (j : Kind) (l : List ℕ) → sort (kind_byte j ∷ 63 ∷ l) ≡ node_of j Streamed
 sort_mark Array l = refl
 sort_mark Set l = refl
 sort_mark Map l = refl

@@ -29,7 +29,8 @@ no_newline_goes_on L N k b c p t =
     cases (x ∷ l) y q z e w = let h : x ≡ 10 = cc in plain_part b l (subst (λ v. IsLine (b ++ v ∷ l)) h q)
 
 -- digits are followed by digits and CR alone
-digits_hold : (a l : List ℕ) (x : ℕ) → AllByRecursion IsDigit (a ++ x ∷ l) → IsDigit x
+-- a byte of digits is a digit
+pub digits_hold : (a l : List ℕ) (x : ℕ) → AllByRecursion IsDigit (a ++ x ∷ l) → IsDigit x
 digits_hold [] l x p = p.0
 digits_hold (c ∷ a) l x p = digits_hold a l x p.1
 
