@@ -75,7 +75,7 @@ value_ends r T levels front more f last =
     let w = last (length f.frames) f.bytes (at_level f) f.took in
     let e : front ++ more ≡ around f.frames (text w.tree) = longer f.frames front f.bytes more f.whole ∙ ap (around f.frames) (sym w.whole) in
     subst (IsEnded (LeafKeeps r WithinItems) (NodeKeeps r WithinItems) (finish levels)) (sym e)
-      (ended (LeafKeeps r WithinItems) (NodeKeeps r WithinItems) levels f.frames w.tree f.of_levels f.can_end w.is_tree w.keep)
+    (ended (LeafKeeps r WithinItems) (NodeKeeps r WithinItems) levels f.frames w.tree f.of_levels f.can_end w.is_tree w.keep)
 
 -- the bytes make the head of an aggregate that has members to come
 pub record Opens (r : Rules) (level : ℕ) (k : Kind) (shape : Shape) (bytes : List ℕ) : Type 0 where
@@ -89,7 +89,7 @@ head_opens r T levels front more k shape f opens =
     let w = opens (length f.frames) f.bytes (at_level f) f.took in
     let e : front ++ more ≡ around f.frames ((kind_byte k ∷ form_line w.form) ++ crlf []) = longer f.frames front f.bytes more f.whole ∙ ap (around f.frames) w.head in
     subst (IsEnded (LeafKeeps r WithinItems) (NodeKeeps r WithinItems) (within_frames (record { kind = k; shape = shape } ∷ levels))) (sym e)
-      (opened (LeafKeeps r WithinItems) (NodeKeeps r WithinItems) levels f.frames k w.form shape f.of_levels f.can_end w.shaped w.can_end)
+    (opened (LeafKeeps r WithinItems) (NodeKeeps r WithinItems) levels f.frames k w.form shape f.of_levels f.can_end w.shaped w.can_end)
 
 -- the least completion is the token's part and the levels' part
 pub begun_least : (r : Rules) (T : ℕ → List ℕ → Type 0) (levels : List Level) (front : List ℕ) (n : ℕ) → FollowsBy r T levels front → ((level : ℕ) (bytes : List ℕ) → level ≡ length levels → T level bytes → IsBegunBy r level bytes n) → HasLeast (CompletesFront r WithinItems front) (n + levels_needed levels)
@@ -108,8 +108,8 @@ begun_refused r T rule before levels front more e before_total f refused =
     let (head, tail, parts, w) = refused (length f.frames) f.bytes (at_level f) f.took in
     let whole : around f.frames (head ∷ tail) ≡ front ++ more = sym (longer f.frames front f.bytes more f.whole ∙ ap (around f.frames) parts) in
     refused_cause r rule before (front ++ more) e before_total
-      (subst (IsRefused r rule before) whole
-        (refuse r rule before f.frames head tail (value_no_stop w.alive.tree head (tail ++ w.rest) w.alive.whole) (fewer_rules_can_end r WithinItems before f.frames (omega arith) f.can_end) w))
+    (subst (IsRefused r rule before) whole
+    (refuse r rule before f.frames head tail (value_no_stop w.alive.tree head (tail ++ w.rest) w.alive.whole) (fewer_rules_can_end r WithinItems before f.frames (omega arith) f.can_end) w))
 
 -- a byte that no spelling has there
 pub begun_broken : (r : Rules) (T : ℕ → List ℕ → Type 0) (levels : List Level) (front : List ℕ) (n byte : ℕ) → FollowsBy r T levels front → ((level : ℕ) (bytes : List ℕ) → level ≡ length levels → T level bytes → IsBegunBy r level bytes n) → ((level : ℕ) (bytes rest : List ℕ) → level ≡ length levels → T level bytes → CompletesUnder r Grammar level bytes (byte ∷ rest) → ⊥) → IsCause r (front ++ byte ∷ []) Grammar
@@ -119,10 +119,10 @@ begun_broken r T levels front n byte f row dead =
     let begun : IsBegun (b.head ∷ b.tail) = record { tree = h.tree; more = b.least.some; is_tree = h.is_tree; whole = h.whole; some = omega (arith, b.least.size, b.some) } in
     let e : front ≡ around f.frames (b.head ∷ b.tail) = f.whole ∙ ap (around f.frames) b.parts in
     grammar_cause r (front ++ byte ∷ []) (λ rest. subst (λ q. CompletesFront r Grammar (q ++ byte ∷ []) rest → ⊥) (sym e)
-      (hopeless r Grammar f.frames b.head b.tail byte (value_no_stop h.tree b.head (b.tail ++ b.least.some) h.whole) (are_open (LeafKeeps r WithinItems) (NodeKeeps r WithinItems) f.frames f.can_end) begun
-        (λ c w. unfinished b Grammar c (subst (λ z. CompletesUnder r Grammar (length f.frames) z c) (sym b.parts) w))
-        (λ c w. dead (length f.frames) f.bytes c (at_level f) f.took (subst (λ z. CompletesUnder r Grammar (length f.frames) z (byte ∷ c)) (sym b.parts) w))
-        rest))
+    (hopeless r Grammar f.frames b.head b.tail byte (value_no_stop h.tree b.head (b.tail ++ b.least.some) h.whole) (are_open (LeafKeeps r WithinItems) (NodeKeeps r WithinItems) f.frames f.can_end) begun
+    (λ c w. unfinished b Grammar c (subst (λ z. CompletesUnder r Grammar (length f.frames) z c) (sym b.parts) w))
+    (λ c w. dead (length f.frames) f.bytes c (at_level f) f.took (subst (λ z. CompletesUnder r Grammar (length f.frames) z (byte ∷ c)) (sym b.parts) w))
+    rest))
 
 -- a value begins where the innermost frame has room for it
 pub value_begins : (r : Rules) (T : ℕ → List ℕ → Type 0) (levels : List Level) (front more : List ℕ) → IsBetween r levels front → ((v : Level) (outer : List Level) → levels ≡ v ∷ outer → HasRoom r v) → ((level : ℕ) → level ≡ length levels → T level more) → FollowsBy r T levels (front ++ more)

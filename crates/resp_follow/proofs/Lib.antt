@@ -23,3 +23,4 @@ pub mod FirstRuleBroken
 pub mod OneStep
 pub mod BegunFronts
 pub mod BrokenLines
+pub mod BrokenHeads
