@@ -24,3 +24,5 @@ pub mod OneStep
 pub mod BegunFronts
 pub mod BrokenLines
 pub mod BrokenHeads
+pub mod TextLines
+pub mod ShortRows
