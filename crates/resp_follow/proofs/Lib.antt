@@ -26,3 +26,4 @@ pub mod BrokenLines
 pub mod BrokenHeads
 pub mod TextLines
 pub mod ShortRows
+pub mod FirstByteCauses

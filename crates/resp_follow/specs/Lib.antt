@@ -1,4 +1,5 @@
 pub mod Frames
 pub mod LeastCompletions
 pub mod MayFollow
+pub mod FirstByteRefusals
 pub mod Laws
