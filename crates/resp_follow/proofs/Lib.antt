@@ -27,3 +27,4 @@ pub mod BrokenHeads
 pub mod TextLines
 pub mod ShortRows
 pub mod FirstByteCauses
+pub mod BegunBetweenValues
