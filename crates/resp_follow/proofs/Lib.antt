@@ -28,3 +28,4 @@ pub mod TextLines
 pub mod ShortRows
 pub mod FirstByteCauses
 pub mod BegunBetweenValues
+pub mod EventsAround

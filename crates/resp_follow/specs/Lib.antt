@@ -1,5 +1,6 @@
 pub mod Frames
 pub mod LeastCompletions
 pub mod MayFollow
+pub mod Events
 pub mod FirstByteRefusals
 pub mod Laws
