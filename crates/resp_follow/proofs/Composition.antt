@@ -34,22 +34,26 @@ joined_is L N k f us n p q p2 q2 e i g =
     let m : n ≡ count (joined_trees f.done us) = omega (arith, count-joined_trees f.done us) in
     ((subst (HasMembers f.kind f.form) m i, are_joined f.done us p p2), (subst (N k f.kind f.form) m g, joined_trees_hold L N (suc k) f.done us q q2))
 
-pub compose_member : (L : LeafRule) (N : NodeRule) (fs : List Frame) (x : List ℕ) → AreKept L N fs → ValueThen L N fs x → IsWholeText L N (around fs x)
-compose_member L N [] x h m = record { tree = m.tree; is_tree = m.is_tree; keep = m.keep; whole = sym (append-nil (text m.tree)) ∙ ap (λ z. text m.tree ++ z) (sym m.after) ∙ m.whole }
-compose_member L N (f ∷ fs) x h m =
+-- a value that follows in a frame makes the frame a value that follows outside it
+unfoldable pub frame_value : (L : LeafRule) (N : NodeRule) (f : Frame) (fs : List Frame) (x : List ℕ) → AreTrees f.done → HoldsFromEach L N (suc (length fs)) f.done → ValueThen L N (f ∷ fs) x → ValueThen L N fs (open_text f ++ x)
+frame_value L N f fs x p q m =
     let a : MembersThen L N (length fs) f.kind f.form (suc (count f.done)) (MayFollowValue L N fs) m.rest = m.after in
     let us : Trees = more m.tree a.members in
-    let w = joined_is L N (length fs) f us (suc (count f.done) + count a.members) h.0 h.1 (m.is_tree, a.are_trees) (m.keep, a.keep) (omega arith) a.is_form a.is_kept in
-    let e : (texts us ++ close f.form) ++ a.rest ≡ x =
-    ap (λ z. z ++ a.rest) (append_assoc (text m.tree) (texts a.members) (close f.form)) ∙ append_assoc (text m.tree) (texts a.members ++ close f.form) a.rest ∙ ap (λ z. text m.tree ++ z) a.whole ∙ m.whole in
-    compose_member L N fs (open_text f ++ x) h.2 (record {
+    let w = joined_is L N (length fs) f us (suc (count f.done) + count a.members) p q (m.is_tree, a.are_trees) (m.keep, a.keep) (omega arith) a.is_form a.is_kept in
+    let e : (texts us ++ close f.form) ++ a.rest ≡ x = ap (λ z. z ++ a.rest) (append_assoc (text m.tree) (texts a.members) (close f.form)) ∙ append_assoc (text m.tree) (texts a.members ++ close f.form) a.rest ∙ ap (λ z. text m.tree ++ z) a.whole ∙ m.whole in
+    record {
       tree = node f.kind f.form (joined_trees f.done us);
       rest = a.rest;
       is_tree = w.0;
       keep = w.1;
       whole = text-node f us a.rest ∙ ap (λ z. open_text f ++ z) e;
       after = a.after;
-    })
+    }
+
+-- a value, and what may follow it, within the frames
+unfoldable pub compose_member : (L : LeafRule) (N : NodeRule) (fs : List Frame) (x : List ℕ) → AreKept L N fs → ValueThen L N fs x → IsWholeText L N (around fs x)
+compose_member L N [] x h m = record { tree = m.tree; is_tree = m.is_tree; keep = m.keep; whole = sym (append-nil (text m.tree)) ∙ ap (λ z. text m.tree ++ z) (sym m.after) ∙ m.whole }
+compose_member L N (f ∷ fs) x h m = compose_member L N fs (open_text f ++ x) h.2 (frame_value L N f fs x h.0 h.1 m)
 
 -- composition
 pub compose : (L : LeafRule) (N : NodeRule) (fs : List Frame) (x : List ℕ) → AreKept L N fs → MayFollowFrames L N fs x → IsWholeText L N (around fs x)

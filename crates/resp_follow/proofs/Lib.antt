@@ -29,3 +29,4 @@ pub mod ShortRows
 pub mod FirstByteCauses
 pub mod BegunBetweenValues
 pub mod EventsAround
+pub mod EventPlaces
