@@ -30,3 +30,6 @@ pub mod FirstByteCauses
 pub mod BegunBetweenValues
 pub mod EventsAround
 pub mod EventPlaces
+pub mod EventsDue
+pub mod LineTokens
+pub mod NumberTokens
