@@ -33,3 +33,4 @@ pub mod EventPlaces
 pub mod EventsDue
 pub mod LineTokens
 pub mod NumberTokens
+pub mod HeadTokens
