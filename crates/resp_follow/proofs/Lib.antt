@@ -34,3 +34,4 @@ pub mod EventsDue
 pub mod LineTokens
 pub mod NumberTokens
 pub mod HeadTokens
+pub mod StreamedHeads
