@@ -9,17 +9,12 @@ use Rattle.resp_value.proofs.FirstBytes.{byte_at_start}
 use Rattle.resp_value.proofs.Unique.{unique}
 use Rattle.resp_follow.specs.Frames.{Frame, open_text, around}
 use Rattle.resp_follow.specs.MayFollow.{MembersThen, MayFollowValue, IsWholeText, ValueThen, AreKept, AreOpen}
-use Rattle.resp_follow.specs.Events.{Event, Timed, events, events_each, close_event, events_around, due, last_of}
+use Rattle.resp_follow.specs.Events.{Event, Timed, events, events_each, close_event, events_around, due, given, last_of}
 use Rattle.resp_follow.proofs.OpenFrames.{joined_trees}
 use Rattle.resp_follow.proofs.Composition.{around-append, text-node, frame_value, compose_member, determine, first_member}
 use Rattle.resp_follow.proofs.LeastAround.{text_least}
 use Rattle.resp_follow.proofs.EventsAround.{events-node, length-around}
 use Rattle.resp_follow.proofs.EventPlaces.{AreWithin, within_wider, each_within, around_within}
-
--- the events, without their places
-abbrev pub given : List Timed → List Event
-given [] = []
-given (e ∷ es) = e.event ∷ given es
 
 -- each event comes at this byte or behind it
 abbrev pub AreFrom : ℕ → List Timed → Type 0

@@ -35,3 +35,4 @@ pub mod LineTokens
 pub mod NumberTokens
 pub mod HeadTokens
 pub mod StreamedHeads
+pub mod MoreFrontLaws

@@ -108,6 +108,11 @@ abbrev mutual
 abbrev pub all_events : Tree → List Timed
 all_events t = events 0 t ++ record { at = last_of 0 (text t); event = Done } ∷ []
 
+-- the events, without their places
+abbrev pub given : List Timed → List Event
+given [] = []
+given (e ∷ es) = e.event ∷ given es
+
 -- the events that come at the first so many bytes
 abbrev pub due : ℕ → List Timed → List Event
 due n [] = []

@@ -1,9 +1,13 @@
 -- What has come and what may follow, for the rules up to one before total.
-use Rattle.std.specs.Prelude.{◌≡◌, ◌↔◌, ℕ, ◌+◌, ◌<◌, ◌≤◌, List, ◌∷◌, length}
-use Rattle.resp_value.specs.Rules.{Rules, Rule, WithinTotal, rank}
+use Rattle.std.specs.Prelude.{◌≡◌, ◌↔◌, ℕ, ◌+◌, ◌<◌, ◌≤◌, Option, None, Some, List, [], ◌∷◌, ◌++◌, length}
+use Rattle.resp_value.specs.Bounds.{AreBounds}
+use Rattle.resp_value.specs.Trees.{Tree, Spells, text, IsTree}
+use Rattle.resp_value.specs.Rules.{Rules, Rule, WithinItems, WithinTotal, rank}
 use Rattle.resp_value.specs.LocalRules.{LeafKeeps, NodeKeeps}
-use Rattle.resp_value.specs.Spellings.{IsViable}
+use Rattle.resp_value.specs.Spellings.{IsViable, IsCause}
 use Rattle.resp_follow.specs.Frames.{Frame, around}
+use Rattle.resp_follow.specs.Events.{events, events_around, due, given}
+use Rattle.resp_follow.specs.FirstByteRefusals.{first_byte_refusal}
 use Rattle.resp_follow.specs.LeastCompletions.{HasLeast, Continues, IsLeast}
 use Rattle.resp_follow.specs.MayFollow.{MayFollow, CompletesValue, AreKept, AreOpen, CanAllEnd, frames_needed}
 
@@ -22,3 +26,12 @@ LeastCompletionSplits = (r : Rules) (rule : Rule) (frames : List Frame) (byte : 
 -- a front is viable under all rules exactly where it and its least completion are within total
 abbrev pub ViableWhereLeastFits : Type 0
 ViableWhereLeastFits = (r : Rules) (front : List ℕ) (n : ℕ) → IsLeast r front n → IsViable r WithinTotal front ↔ (length front + n ≤ r.limits.total)
+
+-- a first byte has the cause that the function of first bytes names, and is viable where it names none
+abbrev pub AFirstByteHasItsCause : Type 0
+AFirstByteHasItsCause = (r : Rules) (byte : ℕ) → AreBounds r.limits → ((rule : Rule) → first_byte_refusal r 0 byte ≡ Some rule → IsCause r (byte ∷ []) rule) × (first_byte_refusal r 0 byte ≡ None → IsViable r WithinItems (byte ∷ []))
+
+-- a spelled tree that a front begins has a value where the frames leave off, and while this value is unfinished the
+-- events due are those of what the frames have taken, and those due of the value
+abbrev pub EventsDueSplit : Type 0
+EventsDueSplit = (frames : List Frame) (begun rest : List ℕ) (whole : Tree) → AreOpen frames → ((behind : List ℕ) → begun ++ rest ≡ 46 ∷ behind → ⊥) → Spells whole (around frames begun ++ rest) → (value : Tree) × (behind : List ℕ) × IsTree value × (text value ++ behind ≡ begun ++ rest) × (length begun < length (text value) → due (length (around frames begun)) (events 0 whole) ≡ given (events_around frames) ++ due (length (around frames begun)) (events (length (around frames [])) value))

@@ -1,6 +1,6 @@
 //! Laws of what may follow a front, each the contract of a function with an empty body.
 
-ghost use Rattle.resp_follow.specs.Laws.{WhatMayFollowContinues, WhatContinuesMayFollow, LeastCompletionSplits, ViableWhereLeastFits};
+ghost use Rattle.resp_follow.specs.Laws.{WhatMayFollowContinues, WhatContinuesMayFollow, LeastCompletionSplits, ViableWhereLeastFits, AFirstByteHasItsCause, EventsDueSplit};
 
 /// What has come, and what may follow it, spell a tree within the rules.
 pub fn compose()
@@ -20,4 +20,16 @@ pub fn follow_least()
 /// A front is viable under all rules exactly where it and its least completion are within total.
 pub fn viable_in_all()
     ensures { ViableWhereLeastFits }
+{}
+
+/// A first byte has the cause that the function of first bytes names, and is viable where it names
+/// none.
+pub fn first_byte()
+    ensures { AFirstByteHasItsCause }
+{}
+
+/// The events due of a front are those of what its frames have taken, and those due of the value
+/// that it begins.
+pub fn events_due()
+    ensures { EventsDueSplit }
 {}
