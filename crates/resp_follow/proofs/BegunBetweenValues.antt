@@ -1,25 +1,24 @@
 -- The first byte behind a front that is between values: its cause, or that a value goes on behind it.
-use Rattle.std.proofs.Common.{◌≡◌, ◌≢◌, ◌⊎◌, inl, inr, ℕ, zero, suc, ◌+◌, ◌<◌, ◌≤◌, Bool, true, false, eqb, Option, None, Some, List, [], ◌∷◌, ◌++◌, length, refl, sym, ap, subst, ◌∙◌, arith, append_assoc}
+use Rattle.std.proofs.Common.{◌≡◌, ◌⊎◌, inl, inr, ℕ, zero, suc, ◌<◌, ◌≤◌, true, false, Option, None, Some, List, [], ◌∷◌, ◌++◌, length, refl, sym, ap, subst, ◌∙◌, arith, append_assoc}
 use Rattle.std.proofs.lemmas.Bool.Decides.{leb_tells}
 use Rattle.std.specs.Prelude.{leb}
 use Rattle.resp_value.specs.Data.{items_of}
-use Rattle.resp_value.specs.Trees.{Tree, IsTree, text}
+use Rattle.resp_value.specs.Trees.{Tree, text}
 use Rattle.resp_value.specs.Rules.{Rules, Rule, Grammar, NoDouble, InVersion, PushAtTop, InRange, NotStreamed, WithinDepth, WithinLength, WithinItems, WithinTotal, rank}
 use Rattle.resp_value.specs.LocalRules.{LeafKeeps, NodeKeeps}
 use Rattle.resp_value.specs.Bounds.{AreBounds}
-use Rattle.resp_value.specs.Spellings.{IsViable, IsCause}
+use Rattle.resp_value.specs.Spellings.{IsCause}
 use Rattle.resp_value.specs.declared.version.Version.{Version}
 use Rattle.resp_value.specs.declared.version.Version.TheVariants.{Two, Three}
 use Rattle.resp_value.proofs.FirstBytes.{begins, first_byte_is}
-use Rattle.resp_follow.specs.Frames.{Frame, around}
+use Rattle.resp_follow.specs.Frames.{around}
 use Rattle.resp_follow.specs.MayFollow.{IsWholeText, MayFollowFrames}
-use Rattle.resp_follow.specs.FirstByteRefusals.{answer_beside, in_three, aggregate_on, push_on, first_byte_answers, first_byte_refusal}
+use Rattle.resp_follow.specs.FirstByteRefusals.{in_three, aggregate_on, push_on, first_byte_answers, first_byte_refusal}
 use Rattle.resp_follow.proofs.Composition.{around-append, determine, first_member}
 use Rattle.resp_follow.proofs.Levels.{Level, taken}
 use Rattle.resp_follow.proofs.LevelsAlone.{same_length}
 use Rattle.resp_follow.proofs.SimpleLinesAndCounts.{CompletesUnder}
-use Rattle.resp_follow.proofs.RefusedFronts.{CompletesFront}
-use Rattle.resp_follow.proofs.BetweenValues.{IsBetween, HasRoom, room, ready_open}
+use Rattle.resp_follow.proofs.BetweenValues.{IsBetween, room, ready_open}
 use Rattle.resp_follow.proofs.RefusedBetweenValues.{refuse_first, refuse_member}
 use Rattle.resp_follow.proofs.FirstRuleBroken.{refused_cause, grammar_cause}
 use Rattle.resp_follow.proofs.FirstByteCauses.{GoesOn, IsAnswered, goes_on_before, at_answer, first_byte_answered}

@@ -1,16 +1,16 @@
 -- A front that ends in a begun value, of whose bytes T holds: what one byte more makes of it. Each token of a
 -- scanner is such a T, and owes facts about its own bytes alone.
-use Rattle.std.proofs.Common.{◌≡◌, ℕ, suc, ◌+◌, ◌<◌, ◌≤◌, List, [], ◌∷◌, ◌++◌, length, refl, sym, ap, subst, ◌∙◌, arith, append_assoc, append-nil, length-append}
+use Rattle.std.proofs.Common.{◌≡◌, ℕ, suc, ◌+◌, ◌<◌, List, [], ◌∷◌, ◌++◌, length, sym, ap, subst, ◌∙◌, arith, append-nil}
 use Rattle.resp_value.specs.Bytes.{crlf}
 use Rattle.resp_value.specs.Data.{Kind}
-use Rattle.resp_value.specs.Trees.{Tree, Form, IsTree, text, kind_byte, form_line}
+use Rattle.resp_value.specs.Trees.{Tree, Form, text, kind_byte, form_line}
 use Rattle.resp_value.specs.Rules.{Rules, Rule, Grammar, WithinItems, WithinTotal, rank}
-use Rattle.resp_value.specs.LocalRules.{HoldsFrom, LeafKeeps, NodeKeeps}
-use Rattle.resp_value.specs.Spellings.{IsViable, IsCause}
+use Rattle.resp_value.specs.LocalRules.{LeafKeeps, NodeKeeps}
+use Rattle.resp_value.specs.Spellings.{IsCause}
 use Rattle.resp_value.proofs.Unique.{unique, not_close}
 use Rattle.resp_follow.specs.Frames.{Frame, around}
-use Rattle.resp_follow.specs.LeastCompletions.{HasLeast, IsLeast}
-use Rattle.resp_follow.specs.MayFollow.{CanEnd, CanAllEnd, CompletesValue, frames_needed}
+use Rattle.resp_follow.specs.LeastCompletions.{HasLeast}
+use Rattle.resp_follow.specs.MayFollow.{CanEnd, CanAllEnd, frames_needed}
 use Rattle.resp_follow.proofs.Composition.{around-append}
 use Rattle.resp_follow.proofs.LeastAround as l
 use Rattle.resp_follow.proofs.LeastAround.{IsBegun, are_open}
@@ -20,7 +20,7 @@ use Rattle.resp_follow.proofs.Levels.{Level, Shape, AreLevelsOf, HasShape, IsEnd
 use Rattle.resp_follow.proofs.LevelsAlone.{same_length}
 use Rattle.resp_follow.proofs.RefusedFronts.{CompletesFront, IsRefused, refuse, hopeless, fewer_rules_can_end}
 use Rattle.resp_follow.proofs.BetweenValues.{IsBetween, HasRoom, begun_can_end}
-use Rattle.resp_follow.proofs.FirstRuleBroken.{refused_cause, grammar_cause, least_viable}
+use Rattle.resp_follow.proofs.FirstRuleBroken.{refused_cause, grammar_cause}
 
 -- bytes of one value, with their least completion on a level
 pub record IsBegunBy (r : Rules) (level : ℕ) (bytes : List ℕ) (n : ℕ) : Type 0 where

@@ -7,7 +7,7 @@ use Rattle.resp_value.specs.Bytes.{IsLine, crlf}
 use Rattle.resp_value.specs.Data.{Array, Attr, Kind, Map, Push, Set, members_of}
 use Rattle.resp_value.specs.LocalRules.{HoldsFrom, LeafRule, NodeRule}
 use Rattle.resp_value.specs.Numbers.{IsDigit, number}
-use Rattle.resp_value.specs.Trees.{Counted, Form, IsTree, LineKind, Simple, Tree, Trees, chunked, kind_byte, leaf, line, node, null, numeral, string, text, truth}
+use Rattle.resp_value.specs.Trees.{Counted, Form, IsTree, LineKind, Tree, Trees, chunked, kind_byte, leaf, line, node, null, numeral, string, text, truth}
 use Rattle.resp_value.proofs.FirstLines.{after_line, first_is_line, first_line, leaf_of, line_sort, node_of, sort, sort_is, sort_of, text_is}
 use Rattle.resp_value.proofs.Splitting.{digit_is_no, digit_is_no_mark}
 use Rattle.resp_follow.specs.LeastCompletions.{HasLeast}
@@ -50,9 +50,6 @@ completes_line L N k b c p t =
     let w = line_begins (first_line t.tree) b (after_line t.tree) c p (sym (text_first t.tree) ∙ t.whole) in
     record { tree = t.tree; line = w.0; is_tree = t.is_tree; keep = t.keep; begins = w.1; whole = w.2 }
 
-pub line_completes : (L : LeafRule) (N : NodeRule) (k : ℕ) (b c : List ℕ) → CompletesLine L N k b c → CompletesValue L N k b c
-line_completes L N k b c t = record { tree = t.tree; is_tree = t.is_tree; keep = t.keep; whole = text_first t.tree ∙ ap (λ z. z ++ crlf (after_line t.tree)) t.begins ∙ append_assoc b t.line (crlf (after_line t.tree)) ∙ ap (λ z. b ++ z) (sym t.whole) }
-
 -- after the first line's CR
 pub record CompletesReturn (L : LeafRule) (N : NodeRule) (k : ℕ) (a c : List ℕ) : Type 0 where
   pub tree : Tree
@@ -65,22 +62,6 @@ pub completes_return : (L : LeafRule) (N : NodeRule) (k : ℕ) (a c : List ℕ) 
 completes_return L N k a c p t =
     let w = return_split (first_line t.tree) a (10 ∷ after_line t.tree) c (first_is_line t.tree t.is_tree) p (sym (text_first t.tree) ∙ t.whole ∙ append_assoc a (13 ∷ []) c) in
     record { tree = t.tree; is_tree = t.is_tree; keep = t.keep; line = w.0; whole = sym w.1 }
-
--- CR is followed by LF alone
-pub no_byte_behind_return : (L : LeafRule) (N : NodeRule) (k : ℕ) (a c : List ℕ) (x : ℕ) → IsLine a → (x ≡ 10 → ⊥) → CompletesValue L N k ((a ++ 13 ∷ []) ++ x ∷ []) c → ⊥
-no_byte_behind_return L N k a c x p n t =
-    let u = completes_return L N k a (x ∷ c) p (record { tree = t.tree; is_tree = t.is_tree; keep = t.keep; whole = t.whole ∙ append_assoc (a ++ 13 ∷ []) (x ∷ []) c }) in
-    let e : x ∷ c ≡ 10 ∷ after_line u.tree = u.whole in
-    n (cc)
-
--- a line that is one line of a tree can end there
-pub end_least : (L : LeafRule) (N : NodeRule) (k : ℕ) (t : Tree) (m : ℕ) → IsTree t → HoldsFrom L N k t → m ≡ length (after_line t) → ((u : Tree) → IsTree u → HoldsFrom L N k u → first_line u ≡ first_line t → m ≤ length (after_line u)) → HasLeast (CompletesValue L N k (first_line t ++ 13 ∷ [])) (m + 1)
-end_least L N k t m p q e f = record {
-  some = 10 ∷ after_line t;
-  holds = record { tree = t; is_tree = p; keep = q; whole = text_first t ∙ sym (append_assoc (first_line t) (13 ∷ []) (10 ∷ after_line t)) };
-  size = omega arith;
-  least = λ c w. (let u = completes_return L N k (first_line t) c (first_is_line t p) w in omega (arith, f u.tree u.is_tree u.keep u.line, ap length u.whole));
-}
 
 -- a begun line that can end at once, and no other completes it sooner
 pub line_least : (L : LeafRule) (N : NodeRule) (k : ℕ) (t : Tree) (m : ℕ) → IsTree t → HoldsFrom L N k t → m ≡ length (after_line t) → ((u : Tree) (l : List ℕ) → IsTree u → HoldsFrom L N k u → first_line u ≡ first_line t ++ l → m ≤ length l + length (after_line u)) → HasLeast (CompletesValue L N k (first_line t)) (m + 2)
@@ -115,9 +96,6 @@ sort_counted Push d cs p = rw (digit_is_no_mark d p)
 -- a count that begins so
 pub counted_is : (t : Tree) (k : Kind) (d : ℕ) (cs : List ℕ) → IsTree t → IsDigit d → first_line t ≡ kind_byte k ∷ d ∷ cs → (ts : Trees) × (t ≡ node k (Counted (d ∷ cs)) ts)
 counted_is t k d cs p q e = tree_of_node t k (Counted (d ∷ cs)) (sym (sort_is t p) ∙ ap sort e ∙ sort_counted k d cs q)
-
-pub simple_is : (t : Tree) (s : List ℕ) → IsTree t → first_line t ≡ 43 ∷ s → t ≡ leaf (line Simple s)
-simple_is t s p e = tree_of_line t Simple s (sym (sort_is t p) ∙ ap sort e)
 
 -- more digits make a number no less
 pub number-more : (ds l : List ℕ) → number ds ≤ number (ds ++ l)

@@ -1,5 +1,5 @@
 -- Between values: a scanner that waits for a member or a close.
-use Rattle.std.proofs.Common.{◌%◌, ◌++◌, ◌+◌, ◌/◌, ◌<◌, ◌∙◌, ◌∷◌, ◌≡◌, ◌≤◌, List, [], ap, arith, length, refl, subst, suc, sym, ℕ}
+use Rattle.std.proofs.Common.{◌%◌, ◌+◌, ◌/◌, ◌<◌, ◌∙◌, ◌∷◌, ◌≡◌, ◌≤◌, List, [], ap, arith, length, refl, subst, suc, sym, ℕ}
 use Rattle.resp_value.specs.Data.{Array, Attr, Kind, Map, Push, Set, items_of, members_of}
 use Rattle.resp_value.specs.LocalRules.{LeafKeeps, LeafRule, NodeKeeps, NodeRule}
 use Rattle.resp_value.specs.Numbers.{number}
@@ -8,12 +8,12 @@ use Rattle.resp_value.specs.Trees.{CanStream, Counted, Form, HasMembers, Streame
 use Rattle.resp_follow.specs.Frames.{Frame, around}
 use Rattle.resp_follow.specs.LeastCompletions.{HasLeast}
 use Rattle.resp_follow.specs.MayFollow.{AreKept, AreOpen, CanAllEnd, CanEnd, IsWholeText, MayFollowFrames, MayFollowValue, frames_needed, members_needed, missing}
-use Rattle.resp_follow.proofs.BegunTokens.{Follows, simple}
 use Rattle.resp_follow.proofs.Composition.{around-append, compose, determine}
 use Rattle.resp_follow.proofs.LeastAround.{after_least, are_kept, are_open, members_least, text_least}
 use Rattle.resp_follow.proofs.Levels.{AreLevelsOf, AreReady, HasShape, IsEnded, Level, Shape, left, levels_needed, levels_needed_is, shape_needed, shape_needed_is, taken, within_frames}
 use Rattle.resp_follow.proofs.OpenFrames.{shortest_tree}
-use Rattle.resp_follow.proofs.RefusedFronts.{CompletesFront, shortest_is}
+use Rattle.resp_follow.proofs.RefusedFronts.{CompletesFront}
+use Rattle.resp_follow.proofs.KeptNodes.{shortest_keeps}
 
 -- a value or a close may come next
 abbrev pub IsBetween : Rules → List Level → List ℕ → Type 0
@@ -53,7 +53,7 @@ ready_kept L N (f ∷ fs) o = (o.1, o.2, are_kept L N fs o.3)
 rest_least : (r : Rules) (vs : List Level) (fs : List Frame) → AreLevelsOf vs fs → AreReady (LeafKeeps r WithinItems) (NodeKeeps r WithinItems) fs → HasLeast (MayFollowFrames (LeafKeeps r WithinItems) (NodeKeeps r WithinItems) fs) (between_needed vs)
 rest_least r [] [] a o = record {
   some = text shortest_tree;
-  holds = record { tree = shortest_tree; is_tree = (tt, tt); keep = shortest_is r WithinItems 0; whole = refl };
+  holds = record { tree = shortest_tree; is_tree = (tt, tt); keep = shortest_keeps r WithinItems 0; whole = refl };
   size = refl;
   least = λ c w. omega (arith, text_least w.tree, ap length w.whole);
 }
@@ -63,7 +63,7 @@ rest_least r (v ∷ vs) (f ∷ fs) a o =
     let e : shape_needed v.kind v.shape ≡ shape_needed f.kind v.shape = ap (λ z. shape_needed z v.shape) a.0 in
     let n : members_needed f.kind f.form (count f.done) (frames_needed fs) ≡ between_needed (v ∷ vs) = omega (arith, shape_needed_is f.kind v.shape f.form (count f.done) a.1, levels_needed_is vs fs a.2) in
     subst (HasLeast (MayFollowFrames (LeafKeeps r WithinItems) (NodeKeeps r WithinItems) (f ∷ fs))) n
-    (members_least (LeafKeeps r WithinItems) (NodeKeeps r WithinItems) (length fs) f.kind f.form (count f.done) (frames_needed fs) (MayFollowValue (LeafKeeps r WithinItems) (NodeKeeps r WithinItems) fs) (shortest_is r WithinItems (suc (length fs))) o.0 (after_least (LeafKeeps r WithinItems) (NodeKeeps r WithinItems) fs (shortest_is r WithinItems) o.3))
+    (members_least (LeafKeeps r WithinItems) (NodeKeeps r WithinItems) (length fs) f.kind f.form (count f.done) (frames_needed fs) (MayFollowValue (LeafKeeps r WithinItems) (NodeKeeps r WithinItems) fs) (shortest_keeps r WithinItems (suc (length fs))) o.0 (after_least (LeafKeeps r WithinItems) (NodeKeeps r WithinItems) fs (shortest_keeps r WithinItems) o.3))
 
 -- what is needed between values
 pub between_least : (r : Rules) (vs : List Level) (p : List ℕ) → IsBetween r vs p → HasLeast (CompletesFront r WithinItems p) (between_needed vs)
@@ -141,9 +141,3 @@ begun_can_end r (v ∷ vs) [] a o h = absurd a
 begun_can_end r (v ∷ vs) (f ∷ fs) a o h =
     let k : v.kind ≡ f.kind = a.0 in
     (can_end_with_more r WithinItems (length fs) f.kind v.shape f.form (count f.done) a.1 (λ m e x y. node_resizes r WithinItems (length fs) f.kind f.form x (room f.kind m) y (subst (λ z. items_of z (room z m) ≤ r.limits.items) k (h v vs refl m e))) o.0, o.1, o.2, o.3)
-
--- `+` begins a value
-pub step_begin_simple : (r : Rules) (vs : List Level) (p : List ℕ) → IsBetween r vs p → ((v : Level) (us : List Level) → vs ≡ v ∷ us → HasRoom r v) → Follows r (simple 0) vs (p ++ 43 ∷ [])
-step_begin_simple r vs p w h =
-    let (fs, a, o, e) = w in
-    record { frames = fs; bytes = 43 ∷ []; levels = a; hopes = begun_can_end r vs fs a o h; took = ([], refl, tt, tt, refl, omega arith); whole = ap (λ z. z ++ 43 ∷ []) e ∙ around-append fs [] (43 ∷ []) }

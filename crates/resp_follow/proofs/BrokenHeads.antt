@@ -1,14 +1,12 @@
 -- Bytes that no number, length or count has behind its type byte, its sign and its digits.
-use Rattle.std.proofs.Common.{◌≡◌, ◌≢◌, ◌⊎◌, inl, inr, true, ℕ, ◌+◌, ◌<◌, ◌≤◌, Bool, false, cond, eqb, List, [], ◌∷◌, ◌++◌, length, refl, sym, ap, subst, ◌∙◌, arith, append_assoc, append-nil}
-use Rattle.std.specs.List.{AllByRecursion}
+use Rattle.std.proofs.Common.{◌≡◌, ◌≢◌, ◌⊎◌, inl, inr, true, ℕ, ◌<◌, Bool, false, eqb, List, [], ◌∷◌, ◌++◌, refl, sym, ap, subst, ◌∙◌, arith, append_assoc, append-nil}
 use Rattle.std.proofs.lemmas.Bool.{ne_eqb}
 use Rattle.std.proofs.lemmas.Bool.Decides.{eqb_tells}
 use Rattle.resp_value.specs.Numbers.{IsDigit, IsDigits, Sign, Unsigned, Plus, Minus, sign_text, number}
 use Rattle.resp_value.specs.Data.{Kind, Array, Set, Map, Attr, Push}
-use Rattle.resp_value.specs.Trees.{Tree, leaf, node, numeral, string, NumberKind, Int, Big, StringKind, Bulk, BulkError, Verbatim, Counted, Streamed, number_byte, string_byte, kind_byte, payload, count, CanStream, IsTree}
-use Rattle.resp_value.proofs.Splitting.{digit_is_no, digit_is_no_mark}
+use Rattle.resp_value.specs.Trees.{Tree, leaf, node, string, NumberKind, Int, Big, StringKind, Bulk, BulkError, Verbatim, Counted, Streamed, number_byte, string_byte, kind_byte, count, CanStream, IsTree}
 use Rattle.resp_value.proofs.FirstLines.{numeral_sort, string_sort, leaf_of, node_of, sort, sort_of, sort_is, first_line}
-use Rattle.resp_follow.proofs.BegunLines.{counted_is, tree_of_node, number-more}
+use Rattle.resp_follow.proofs.BegunLines.{counted_is, tree_of_node}
 use Rattle.resp_follow.proofs.FirstLineRows.{tree_of_numeral, no_other, number_more_digits, is_string}
 use Rattle.resp_follow.proofs.MoreFirstLineRows.{string_size, verbatim_least, sort_mark}
 use Rattle.resp_follow.proofs.SimpleLinesAndCounts.{line_after}

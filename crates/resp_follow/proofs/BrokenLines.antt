@@ -1,19 +1,14 @@
 -- Bytes that no first line has behind those that it begins with.
-use Rattle.std.proofs.Common.{◌≡◌, ℕ, ◌+◌, ◌<◌, Bool, true, false, cond, eqb, List, [], ◌∷◌, ◌++◌, length, get_or, refl, sym, ap, subst, ◌∙◌, arith, append_assoc, append-nil}
-use Rattle.std.specs.List.{AllByRecursion}
-use Rattle.std.proofs.lemmas.Bool.{ne_eqb}
+use Rattle.std.proofs.Common.{◌≡◌, ℕ, Bool, true, false, eqb, List, [], ◌∷◌, ◌++◌, length, get_or, refl, sym, ap, subst, ◌∙◌, arith, append-nil}
 use Rattle.resp_value.specs.Bytes.{IsLine, crlf}
-use Rattle.resp_value.specs.Numbers.{IsDigit, IsDigits, Sign, Unsigned, Plus, Minus, sign_text, number}
-use Rattle.resp_value.specs.Data.{Kind, Array, Set, Map, Attr, Push}
-use Rattle.resp_value.specs.Trees.{Tree, leaf, node, Leaf, line, numeral, null, truth, string, chunked, NumberKind, Int, Big, NullForm, BulkNull, ArrayNull, PlainNull, StringKind, Bulk, BulkError, Verbatim, Form, Counted, Streamed, number_byte, string_byte, kind_byte, null_line, truth_line, leaf_line, IsTree}
+use Rattle.resp_value.specs.Data.{Kind}
+use Rattle.resp_value.specs.Trees.{Tree, leaf, node, line, numeral, null, truth, string, chunked, NullForm, BulkNull, ArrayNull, PlainNull, Streamed, kind_byte, null_line, truth_line, IsTree}
 use Rattle.resp_value.specs.LocalRules.{LeafRule, NodeRule}
-use Rattle.resp_value.proofs.FirstLines.{LeafSort, null_sort, truth_sort, string_sort, chunked_sort, numeral_sort, leaf_of, node_of, no_sort, sort, sort_of, sort_is, form_of, first_line, first_is_line, after_line}
+use Rattle.resp_value.proofs.FirstLines.{null_sort, truth_sort, chunked_sort, leaf_of, node_of, sort, sort_of, sort_is, first_line, first_is_line, after_line}
 use Rattle.resp_follow.specs.MayFollow.{CompletesValue}
-use Rattle.resp_follow.proofs.BegunLines.{CompletesLine, completes_line, completes_return, tree_of_node}
-use Rattle.resp_follow.proofs.FirstLineRows.{tree_of_numeral, tree_of_string, tree_of_chunked, no_other, number_more_digits, is_string}
-use Rattle.resp_follow.proofs.MoreFirstLineRows.{string_size, verbatim_least, sort_mark}
-use Rattle.resp_follow.proofs.SimpleLinesAndCounts.{line_after}
-use Rattle.resp_follow.proofs.RefusedBytes.{digits_hold}
+use Rattle.resp_follow.proofs.BegunLines.{completes_line, completes_return, tree_of_node}
+use Rattle.resp_follow.proofs.FirstLineRows.{tree_of_chunked, no_other}
+use Rattle.resp_follow.proofs.MoreFirstLineRows.{sort_mark}
 
 -- no tree's first line begins with these bytes and this one
 abbrev pub NoLineGoesOn : List ℕ → ℕ → Type 0
@@ -96,12 +91,6 @@ first_of_streamed t k a p e s = let w = tree_of_node t k Streamed (sort_behind_l
 first_of_chunked : (t : Tree) (a : List ℕ) → IsTree t → first_line t ≡ a → sort a ≡ leaf_of chunked_sort → a ≡ 36 ∷ 63 ∷ []
 unfolding first_line
 first_of_chunked t a p e s = let w = tree_of_chunked t (sort_behind_line t a p e ∙ s) in sym e ∙ ap first_line w.2
-
--- the byte of a dollar's or a star's null
-abbrev pub CountedNull : NullForm → Type 0
-CountedNull BulkNull = Unit {0}
-CountedNull ArrayNull = Unit {0}
-CountedNull PlainNull = ⊥
 
 -- behind `$-` and `*-` comes `1`, and nothing behind that
 pub null_begun_broken : (f : NullForm) (first byte : ℕ) → null_line f ≡ first ∷ 45 ∷ 49 ∷ [] → (byte ≡ 49 → ⊥) → NoLineGoesOn (first ∷ 45 ∷ []) byte

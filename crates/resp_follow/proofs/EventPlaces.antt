@@ -1,13 +1,13 @@
 -- Where the events of a tree come: at bytes of its text.
-use Rattle.std.proofs.Common.{◌≡◌, ℕ, ◌+◌, ◌-◌, ◌<◌, ◌≤◌, Bool, true, false, cond, eqb, List, [], ◌∷◌, ◌++◌, length, refl, sym, ap, arith, length-append}
+use Rattle.std.proofs.Common.{◌≡◌, ℕ, ◌+◌, ◌-◌, ◌<◌, ◌≤◌, Bool, true, false, cond, eqb, List, [], ◌∷◌, ◌++◌, length, arith, length-append}
 use Rattle.std.specs.List.{AllByRecursion}
 use Rattle.resp_value.specs.Bytes.{crlf}
-use Rattle.resp_value.specs.Numbers.{Sign, sign_text, signed, stripped, is_negative}
+use Rattle.resp_value.specs.Numbers.{sign_text, stripped, is_negative}
 use Rattle.resp_value.specs.Trees as t
 use Rattle.resp_value.specs.Trees.{Tree, Trees, leaf, node, none, more, Leaf, line, numeral, null, truth, string, chunked, Form, Chunk, chunks_text, text, texts, close, kind_byte, form_line, leaf_text, leaf_rest, leaf_line, payload, number_byte, null_line, truth_line}
-use Rattle.resp_follow.specs.Frames.{Frame, open_text, around}
-use Rattle.resp_follow.specs.Events.{TextKind, Simple, Error, Bulk, BulkError, Verbatim, Big, Timed, bytes_from, text_events, last_of, line_events, big_events, number_events, string_events, chunk_events, leaf_events, open_event, close_event, events, events_each, frame_events, events_around}
-use Rattle.resp_follow.proofs.EventsAround.{length-around, length-open_text, next_member_at}
+use Rattle.resp_follow.specs.Frames.{Frame, around}
+use Rattle.resp_follow.specs.Events.{TextKind, Simple, Error, Bulk, BulkError, Verbatim, Big, Timed, bytes_from, text_events, last_of, big_events, chunk_events, leaf_events, events, events_each, frame_events, events_around}
+use Rattle.resp_follow.proofs.EventsAround.{next_member_at}
 use Rattle.resp_follow.proofs.LeastAround.{text_least}
 
 -- each event comes at one of the bytes from here to there

@@ -1,11 +1,11 @@
 -- Events of what open frames have taken: as a head opens one, as a member of it ends, and as it closes.
-use Rattle.std.proofs.Common.{◌≡◌, ℕ, suc, ◌+◌, ◌-◌, ◌<◌, ◌≤◌, List, [], ◌∷◌, ◌++◌, length, refl, sym, ap, subst, ◌∙◌, arith, append_assoc, append-nil, length-append}
+use Rattle.std.proofs.Common.{◌≡◌, ℕ, ◌+◌, List, [], ◌∷◌, ◌++◌, length, refl, sym, ap, ◌∙◌, arith, append_assoc, append-nil, length-append}
 use Rattle.resp_value.specs.Bytes.{crlf}
 use Rattle.resp_value.specs.Data.{Kind}
-use Rattle.resp_value.specs.Trees.{Tree, Trees, leaf, node, none, more, Form, text, texts, close, kind_byte, form_line}
+use Rattle.resp_value.specs.Trees.{Tree, Trees, node, none, more, Form, text, texts, kind_byte, form_line}
 use Rattle.resp_follow.specs.Frames.{Frame, open_text, around}
-use Rattle.resp_follow.specs.Events.{Timed, events, events_each, open_event, close_event, frame_events, events_around, last_of}
-use Rattle.resp_follow.proofs.OpenFrames.{joined_trees, texts-joined_trees}
+use Rattle.resp_follow.specs.Events.{events, events_each, open_event, close_event, frame_events, events_around}
+use Rattle.resp_follow.proofs.OpenFrames.{joined_trees}
 use Rattle.resp_follow.proofs.Composition.{around-append}
 use Rattle.resp_follow.proofs.Levels.{with_member}
 

@@ -2,14 +2,13 @@
 use Rattle.std.proofs.Common.{◌≡◌, ℕ, suc, ◌+◌, ◌<◌, ◌≤◌, Bool, true, false, cond, ltb, List, [], ◌∷◌, ◌++◌, length, refl, sym, ap, subst, ◌∙◌, arith, append_assoc, append-nil, length-append}
 use Rattle.std.specs.List.{AllByRecursion}
 use Rattle.std.proofs.lemmas.Bool.{lt-ltb, le-ltb}
-use Rattle.resp_value.specs.Data.{Kind}
-use Rattle.resp_value.specs.Trees.{Tree, Trees, leaf, node, none, more, Leaf, Form, text, texts, count, close, form_line, IsTree, AreTrees, HasMembers}
+use Rattle.resp_value.specs.Trees.{Tree, Trees, leaf, node, none, more, text, texts, count, close, IsTree, AreTrees}
 use Rattle.resp_value.specs.LocalRules.{LeafRule, NodeRule, HoldsFrom, HoldsFromEach}
 use Rattle.resp_value.proofs.FirstBytes.{byte_at_start}
 use Rattle.resp_value.proofs.Unique.{unique}
 use Rattle.resp_follow.specs.Frames.{Frame, open_text, around}
-use Rattle.resp_follow.specs.MayFollow.{MembersThen, MayFollowValue, IsWholeText, ValueThen, AreKept, AreOpen}
-use Rattle.resp_follow.specs.Events.{Event, Timed, events, events_each, close_event, events_around, due, given, last_of}
+use Rattle.resp_follow.specs.MayFollow.{MembersThen, MayFollowValue, ValueThen, AreKept, AreOpen}
+use Rattle.resp_follow.specs.Events.{Timed, events, events_each, close_event, events_around, due, given}
 use Rattle.resp_follow.proofs.OpenFrames.{joined_trees}
 use Rattle.resp_follow.proofs.Composition.{around-append, text-node, frame_value, compose_member, determine, first_member}
 use Rattle.resp_follow.proofs.LeastAround.{text_least}

@@ -1,5 +1,5 @@
 -- Why a first byte is refused on a level, or how a value goes on behind it.
-use Rattle.std.proofs.Common.{◌≡◌, ◌≢◌, ◌⊎◌, inl, inr, ℕ, zero, suc, ◌<◌, ◌≤◌, Bool, true, false, cond, eqb, Option, None, Some, List, [], ◌∷◌, ◌++◌, length, refl, sym, ap, subst, ◌∙◌, arith, append-nil}
+use Rattle.std.proofs.Common.{◌≡◌, ◌≢◌, ◌⊎◌, inl, inr, ℕ, zero, suc, ◌<◌, ◌≤◌, Bool, true, false, eqb, Option, None, Some, List, [], ◌∷◌, ◌++◌, length, refl, sym, subst, ◌∙◌, arith, append-nil}
 use Rattle.std.specs.Prelude.{leb, codes}
 use Rattle.std.specs.List.{AllByRecursion}
 use Rattle.std.proofs.lemmas.Bool.Decides.{eqb_tells, leb_tells}
@@ -7,8 +7,8 @@ use Rattle.resp_value.specs.Bytes.{crlf}
 use Rattle.resp_value.specs.Numbers.{Unsigned}
 use Rattle.resp_value.specs.Data.{Kind, Array, Set, Map, Attr, Push, content_length, members_of, items_of}
 use Rattle.resp_value.specs.TreeValues.{leaf_value}
-use Rattle.resp_value.specs.Trees.{Tree, Trees, leaf, node, none, more, Leaf, line, numeral, null, truth, string, Simple, Error, Int, Big, BulkNull, ArrayNull, PlainNull, BulkError, Verbatim, Counted, text, kind_byte, IsLeaf, leaf_text}
-use Rattle.resp_value.specs.Rules.{Rules, Rule, Grammar, NoDouble, InVersion, PushAtTop, InRange, NotStreamed, WithinDepth, WithinLength, WithinItems, WithinTotal, rank, IsNoDouble, IsLeafInTwo, IsInRange, IsCountedLeaf}
+use Rattle.resp_value.specs.Trees.{Tree, leaf, node, none, Leaf, line, numeral, null, truth, string, Simple, Error, Int, Big, BulkNull, ArrayNull, PlainNull, BulkError, Verbatim, Counted, text, kind_byte, IsLeaf, leaf_text}
+use Rattle.resp_value.specs.Rules.{Rules, Rule, Grammar, NoDouble, InVersion, PushAtTop, NotStreamed, WithinDepth, WithinItems, rank, IsNoDouble, IsLeafInTwo, IsInRange, IsCountedLeaf}
 use Rattle.resp_value.specs.LocalRules.{HoldsFrom, LeafKeeps, NodeKeeps, LeafMeets, NodeMeets, IsNoPushBelow}
 use Rattle.resp_value.specs.Bounds.{AreBounds}
 use Rattle.resp_value.specs.Laws.{type_bytes, type_bytes_of}
@@ -17,7 +17,7 @@ use Rattle.resp_value.specs.declared.version.Version.TheVariants.{Two, Three}
 use Rattle.resp_value.proofs.ByTests.{apart_by_test}
 use Rattle.resp_value.proofs.FirstBytes.{first_byte, first_byte_is, at_first_byte, at_first_byte_of_two}
 use Rattle.resp_follow.specs.FirstByteRefusals.{answer_beside, in_three, aggregate_on, push_on, first_byte_answers, first_byte_refusal}
-use Rattle.resp_follow.proofs.KeptNodes.{at_each_rule, leaf_keeps, node_keeps, shortest_keeps}
+use Rattle.resp_follow.proofs.KeptNodes.{at_each_rule, leaf_keeps, node_keeps}
 use Rattle.resp_follow.proofs.FirstLineRows.{zeros, are_zeros, zero_digits}
 use Rattle.resp_follow.proofs.IntegerRange.{range_in}
 use Rattle.resp_follow.proofs.RefusedFronts.{fewer_rules}

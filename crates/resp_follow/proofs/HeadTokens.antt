@@ -1,11 +1,9 @@
 -- Tokens of heads: counts of aggregates and lengths of strings.
-use Rattle.std.proofs.Common.{◌≡◌, ℕ, suc, ◌+◌, ◌-◌, ◌*◌, ◌<◌, ◌≤◌, List, [], ◌∷◌, ◌++◌, length, refl, sym, ap, subst, ◌∙◌, arith, append_assoc, append-nil, length-append}
-use Rattle.std.specs.List.{AllByRecursion}
-use Rattle.resp_value.specs.Bytes.{IsLine, IsText, crlf}
-use Rattle.resp_value.specs.Numbers.{IsDigit, IsDigits, IsNumber, number}
-use Rattle.resp_value.specs.Data.{Kind, Array, Set, Map, Attr, Push, members_of, items_of}
-use Rattle.resp_value.specs.Trees.{leaf, node, none, string, StringKind, Bulk, BulkError, Verbatim, Counted, string_byte, kind_byte, payload, texts, HasFormat}
-use Rattle.resp_value.specs.Rules.{Rules, Rule, Grammar, InVersion, WithinDepth, WithinLength, WithinItems, rank}
+use Rattle.std.proofs.Common.{◌≡◌, ℕ, suc, ◌+◌, ◌-◌, ◌*◌, ◌<◌, ◌≤◌, List, [], ◌∷◌, ◌++◌, length, refl, sym, ap, subst, ◌∙◌, arith, append_assoc, length-append}
+use Rattle.resp_value.specs.Numbers.{IsDigit, IsDigits, number}
+use Rattle.resp_value.specs.Data.{Kind, members_of, items_of}
+use Rattle.resp_value.specs.Trees.{node, none, string, StringKind, Bulk, BulkError, Verbatim, Counted, string_byte, kind_byte, payload, texts, HasFormat}
+use Rattle.resp_value.specs.Rules.{Rules, Rule, Grammar, WithinLength, WithinItems}
 use Rattle.resp_value.specs.LocalRules.{LeafKeeps, NodeKeeps}
 use Rattle.resp_value.specs.declared.version.Version.TheVariants.{Two}
 use Rattle.resp_value.proofs.FirstBytes.{all_append}
@@ -19,8 +17,8 @@ use Rattle.resp_follow.proofs.SimpleLinesAndCounts.{CompletesUnder, IsRefusedHer
 use Rattle.resp_follow.proofs.FirstLineRows.{string_row, zeros, length-zeros, are_zeros}
 use Rattle.resp_follow.proofs.MoreFirstLineRows.{short_verbatim_row}
 use Rattle.resp_follow.proofs.ShortRows.{next_row, zero_verbatim_row}
-use Rattle.resp_follow.proofs.BrokenLines.{byte_broken, return_broken, newline_broken, behind_return_broken}
-use Rattle.resp_follow.proofs.BrokenHeads.{count_broken, length_broken, verbatim_short}
+use Rattle.resp_follow.proofs.BrokenLines.{byte_broken, behind_return_broken}
+use Rattle.resp_follow.proofs.BrokenHeads.{count_broken}
 use Rattle.resp_follow.proofs.BegunFronts.{IsBegunBy, Opens}
 
 more_digits : (digits : List ℕ) (digit : ℕ) → IsDigits digits → IsDigit digit → IsDigits (digits ++ digit ∷ [])

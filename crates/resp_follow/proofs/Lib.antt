@@ -16,11 +16,9 @@ pub mod BigNumberLength
 pub mod RefusedBytes
 pub mod StreamedStrings
 pub mod ContentLength
-pub mod BegunTokens
 pub mod BetweenValues
 pub mod RefusedBetweenValues
 pub mod FirstRuleBroken
-pub mod OneStep
 pub mod BegunFronts
 pub mod BrokenLines
 pub mod BrokenHeads

@@ -1,10 +1,8 @@
 -- Tokens that are one line: texts, numbers, nulls and truth values, and what stands behind their CR.
-use Rattle.std.proofs.Common.{◌≡◌, ℕ, suc, ◌+◌, ◌-◌, ◌*◌, ◌<◌, ◌≤◌, Bool, false, List, [], ◌∷◌, ◌++◌, length, refl, sym, ap, subst, ◌∙◌, arith, append_assoc, append-nil, length-append}
-use Rattle.std.specs.List.{AllByRecursion}
+use Rattle.std.proofs.Common.{◌≡◌, ℕ, ◌+◌, ◌≤◌, List, [], ◌∷◌, ◌++◌, length, refl, sym, ap, subst, ◌∙◌, arith, append_assoc, append-nil, length-append}
 use Rattle.resp_value.specs.Bytes.{IsLine, IsPlain, IsByte, IsText, crlf}
-use Rattle.resp_value.specs.Numbers.{IsDigit, IsDigits, Sign, sign_text, number, kept}
-use Rattle.resp_value.specs.Trees.{Tree, leaf, Leaf, line, numeral, LineKind, NumberKind, Int, Big, line_byte, number_byte, leaf_line, leaf_rest, leaf_text, IsLeaf}
-use Rattle.resp_value.specs.Rules.{Rules, Rule, Grammar, InRange, PushAtTop, WithinDepth, WithinLength, WithinItems}
+use Rattle.resp_value.specs.Trees.{leaf, Leaf, line, LineKind, line_byte, leaf_line, leaf_rest, leaf_text, IsLeaf}
+use Rattle.resp_value.specs.Rules.{Rules, Grammar, WithinDepth, WithinLength, WithinItems}
 use Rattle.resp_value.specs.LocalRules.{LeafKeeps, NodeKeeps}
 use Rattle.resp_value.proofs.FirstBytes.{leaf_begins, leaf_byte, all_append}
 use Rattle.resp_value.proofs.FirstLines.{first_line, first_is_line}
@@ -13,7 +11,7 @@ use Rattle.resp_follow.proofs.SimpleLinesAndCounts.{CompletesUnder, IsRefusedHer
 use Rattle.resp_follow.proofs.FirstLineRows.{line_row}
 use Rattle.resp_follow.proofs.ShortRows.{next_row}
 use Rattle.resp_follow.proofs.BrokenLines.{behind_return_broken, newline_broken}
-use Rattle.resp_follow.proofs.TextLines.{IsTextLine, text_line_keeps, text_line_too_long, line_has_no_break}
+use Rattle.resp_follow.proofs.TextLines.{IsTextLine, text_line_keeps, text_line_too_long}
 use Rattle.resp_follow.proofs.BegunFronts.{IsBegunBy}
 
 -- the bytes are the line of a leaf that has nothing behind its line

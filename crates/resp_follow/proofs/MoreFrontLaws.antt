@@ -1,8 +1,7 @@
 -- The laws of first bytes and of the events due.
-use Rattle.std.proofs.Common.{◌≡◌, ◌≢◌, ◌⊎◌, inl, inr, ℕ, ◌<◌, Bool, true, false, eqb, Option, None, Some, List, [], ◌∷◌, ◌++◌, length, refl, sym, ap, subst, ◌∙◌, arith, append-nil}
+use Rattle.std.proofs.Common.{◌≡◌, ◌≢◌, ◌⊎◌, inl, inr, ℕ, true, false, eqb, None, Some, List, [], ◌∷◌, ◌++◌, refl, sym, ap, subst, ◌∙◌, arith, append-nil}
 use Rattle.std.proofs.lemmas.Bool.Decides.{eqb_tells}
-use Rattle.resp_value.specs.Bounds.{AreBounds}
-use Rattle.resp_value.specs.Trees.{Tree, text}
+use Rattle.resp_value.specs.Trees.{text}
 use Rattle.resp_value.specs.Rules.{Rules, Rule, Grammar, WithinItems}
 use Rattle.resp_value.specs.Spellings.{IsViable, IsCause}
 use Rattle.resp_value.proofs.FirstBytes.{byte_at_start}

@@ -1,18 +1,15 @@
 -- Tokens of integers, big numbers, nulls and truth values.
-use Rattle.std.proofs.Common.{◌≡◌, ℕ, ◌+◌, ◌-◌, ◌*◌, ◌<◌, ◌≤◌, Bool, true, false, List, [], ◌∷◌, ◌++◌, length, refl, sym, ap, subst, ◌∙◌, arith, append_assoc, length-append}
-use Rattle.std.specs.List.{AllByRecursion}
+use Rattle.std.proofs.Common.{◌≡◌, ℕ, ◌<◌, ◌≤◌, Bool, true, List, [], ◌∷◌, ◌++◌, length, refl, sym, ap, subst, ◌∙◌, arith, append_assoc, length-append}
 use Rattle.resp_value.specs.Numbers.{IsDigit, IsDigits, Sign, sign_text, number, kept}
-use Rattle.resp_value.specs.Trees.{leaf, Leaf, numeral, null, truth, NumberKind, Int, Big, NullForm, BulkNull, ArrayNull, PlainNull, number_byte, null_line, truth_line, leaf_line}
-use Rattle.resp_value.specs.Rules.{Rules, Rule, InRange, PushAtTop, WithinDepth, WithinLength, WithinItems}
+use Rattle.resp_value.specs.Trees.{numeral, null, truth, NumberKind, Int, Big, NullForm, BulkNull, ArrayNull, PlainNull, number_byte, null_line, truth_line}
+use Rattle.resp_value.specs.Rules.{Rules, Rule, InRange, PushAtTop, WithinItems}
 use Rattle.resp_value.specs.LocalRules.{LeafKeeps, NodeKeeps}
 use Rattle.resp_value.specs.declared.version.Version.TheVariants.{Two}
 use Rattle.resp_value.proofs.FirstBytes.{all_append}
 use Rattle.resp_follow.specs.LeastCompletions.{HasLeast}
 use Rattle.resp_follow.proofs.KeptNodes.{leaf_keeps}
-use Rattle.resp_follow.proofs.BegunLines.{number-digit}
 use Rattle.resp_follow.proofs.IntegerRange.{greatest, range_in, int_too_far}
-use Rattle.resp_follow.proofs.BigNumberLength.{big_too_long}
-use Rattle.resp_follow.proofs.FirstLineRows.{number_begin_row, truth_begin_row, zero_digits}
+use Rattle.resp_follow.proofs.FirstLineRows.{number_begin_row, truth_begin_row}
 use Rattle.resp_follow.proofs.ShortRows.{null_begun_row}
 use Rattle.resp_follow.proofs.SimpleLinesAndCounts.{CompletesUnder, IsRefusedHere}
 use Rattle.resp_follow.proofs.BegunFronts.{IsBegunBy}

@@ -38,12 +38,6 @@ pub are_shortest_trees : (n : ℕ) → AreTrees (shortest_trees n)
 are_shortest_trees zero = tt
 are_shortest_trees (suc n) = ((tt, tt), are_shortest_trees n)
 
-pub record CompletesFront (p : List ℕ) : Type 0 where
-  pub rest : List ℕ
-  pub tree : Tree
-  pub is_tree : IsTree tree
-  pub whole : text tree ≡ p ++ rest
-
 first_node : (k : Kind) (f : Form) (ds : Trees) → first_line (node k f ds) ≡ kind_byte k ∷ form_line f
 unfolding first_line
 first_node k f ds = refl

@@ -14,8 +14,9 @@ use Rattle.resp_follow.proofs.BetweenValues.{IsBetween, can_end_with_more, ready
 use Rattle.resp_follow.proofs.Composition.{around-append, compose, determine}
 use Rattle.resp_follow.proofs.LeastAround.{after_least, are_kept, parts_follow}
 use Rattle.resp_follow.proofs.Levels.{AreLevelsOf, AreReady, HasShape, IsEnded, Level, Shape, finish, left, shape_needed, shape_needed_is, stopped, taken}
-use Rattle.resp_follow.proofs.RefusedFronts.{CompletesFront, IsRefused, fewer_rules_can_end, full_node, no_stop, no_stop_top, refuse, shortest_is}
-use Rattle.resp_follow.proofs.SimpleLinesAndCounts.{CompletesUnder, IsRefusedHere, set_too_deep}
+use Rattle.resp_follow.proofs.RefusedFronts.{CompletesFront, IsRefused, fewer_rules_can_end, full_node, no_stop, no_stop_top, refuse}
+use Rattle.resp_follow.proofs.SimpleLinesAndCounts.{CompletesUnder, IsRefusedHere}
+use Rattle.resp_follow.proofs.KeptNodes.{shortest_keeps}
 
 -- a byte on the shortest way
 pub lower_front : (r : Rules) (g : Rule) (p : List ℕ) (x m : ℕ) (c : List ℕ) → HasLeast (CompletesFront r g p) (suc m) → CompletesFront r g (p ++ x ∷ []) c → length c ≡ m → HasLeast (CompletesFront r g (p ++ x ∷ [])) m
@@ -66,10 +67,6 @@ refuse_first r g h vs p x w z n b =
     let e : p ++ x ∷ [] ≡ around w.0 (x ∷ []) = ap (λ q. q ++ x ∷ []) w.3 ∙ around-append w.0 [] (x ∷ []) in
     subst (IsRefused r g h) (sym e) (refuse r g h w.0 x [] n (can_end_before r h vs w.0 z w.1 w.2) b)
 
--- as a set's at full depth
-pub refuse_set : (r : Rules) (vs : List Level) (p : List ℕ) (w : IsBetween r vs p) → r.limits.depth ≤ length w.0 → NodeKeeps r NotStreamed (length w.0) Set (Counted (48 ∷ [])) 0 → IsRefused r WithinDepth NotStreamed (p ++ 126 ∷ [])
-refuse_set r vs p w d q = refuse_first r WithinDepth NotStreamed vs p 126 w (omega arith) (λ e. omega arith) (set_too_deep r (length w.0) d q)
-
 -- a member too many, whose first byte every earlier rule lets begin a value
 pub refuse_member : (r : Rules) (v : Level) (vs : List Level) (p : List ℕ) (x : ℕ) (rest : List ℕ) (w : IsBetween r (v ∷ vs) p) → (m : ℕ) → v.shape ≡ taken m → r.limits.items < items_of v.kind (room v.kind m) → (x ≡ 46 → ⊥) → CompletesUnder r WithinLength (length w.0) (x ∷ []) rest → IsRefused r WithinItems WithinLength (p ++ x ∷ [])
 refuse_member r v vs p x rest ([], a, o, e) m s l n t = absurd a
@@ -78,7 +75,7 @@ refuse_member r v vs p x rest ((f ∷ fs), a, o, e) m s l n t =
     let hs : CanAllEnd (LeafKeeps r WithinLength) (NodeKeeps r WithinLength) (f ∷ fs) = can_end_before r WithinLength (v ∷ vs) (f ∷ fs) (omega arith) a o in
     let h : HasShape f.kind (taken m) f.form (count f.done) = subst (λ z. HasShape f.kind z f.form (count f.done)) s a.1 in
     let e2 : p ++ x ∷ [] ≡ around (f ∷ fs) (x ∷ []) = ap (λ q. q ++ x ∷ []) e ∙ around-append (f ∷ fs) [] (x ∷ []) in
-    let af = after_least (LeafKeeps r WithinLength) (NodeKeeps r WithinLength) (f ∷ fs) (shortest_is r WithinLength) hs in
+    let af = after_least (LeafKeeps r WithinLength) (NodeKeeps r WithinLength) (f ∷ fs) (shortest_keeps r WithinLength) hs in
     let big : r.limits.items < items_of f.kind (room f.kind m) = subst (λ z. r.limits.items < items_of z (room z m)) k l in
     let op = ready_open (LeafKeeps r WithinItems) (NodeKeeps r WithinItems) (v ∷ vs) (f ∷ fs) a o in
     subst (IsRefused r WithinItems WithinLength) (sym e2) (record {

@@ -1,50 +1,23 @@
 -- Bytes that begun lines refuse, by class.
-use Rattle.std.proofs.Common.{◌++◌, ◌<◌, ◌∙◌, ◌∷◌, ◌≡◌, ◌≤◌, List, [], ap, append_assoc, arith, refl, subst, sym, ℕ}
+use Rattle.std.proofs.Common.{◌++◌, ◌<◌, ◌∙◌, ◌∷◌, ◌≡◌, ◌≤◌, List, [], ap, arith, refl, subst, sym, ℕ}
 use Rattle.std.specs.List.{AllByRecursion}
-use Rattle.resp_value.specs.Bytes.{IsLine, IsPlain, crlf}
+use Rattle.resp_value.specs.Bytes.{crlf}
 use Rattle.resp_value.specs.Data.{Array, Attr, Kind, Map, Push, Set, members_of}
-use Rattle.resp_value.specs.LocalRules.{HoldsFrom, LeafKeeps, LeafMeets, LeafRule, NodeKeeps, NodeMeets, NodeRule}
+use Rattle.resp_value.specs.LocalRules.{HoldsFrom, LeafKeeps, LeafMeets, NodeKeeps, NodeMeets}
 use Rattle.resp_value.specs.Numbers.{IsDigit, IsDigits, number}
 use Rattle.resp_value.specs.Rules.{Grammar, InRange, InVersion, NoDouble, NotStreamed, PushAtTop, Rule, Rules, WithinDepth, WithinItems, WithinTotal, WithinLength, rank}
-use Rattle.resp_value.specs.Trees.{Counted, Double, Form, IsTree, count, kind_byte, leaf, line, node, texts}
-use Rattle.resp_value.proofs.FirstLines.{after_line, first_is_line, form_of, node_of, sort, sort_is}
-use Rattle.resp_follow.specs.MayFollow.{CompletesValue}
+use Rattle.resp_value.specs.Trees.{Counted, Double, Form, count, kind_byte, leaf, line, node, texts}
+use Rattle.resp_value.proofs.FirstLines.{form_of, node_of, sort, sort_is}
 use Rattle.resp_follow.proofs.BegunLines.{completes_line, counted_is, tree_of_line, tree_of_node}
 use Rattle.resp_follow.proofs.OpenFrames.{shortest_trees}
 use Rattle.resp_follow.proofs.SimpleLinesAndCounts.{IsRefusedHere, byte_line, count_ends, kind_line}
 use Rattle.resp_follow.proofs.FirstLineRows.{zero_digits}
-
--- a line holds no LF
-pub no_newline_goes_on : (L : LeafRule) (N : NodeRule) (k : ℕ) (b c : List ℕ) → IsLine b → CompletesValue L N k b (10 ∷ c) → ⊥
-no_newline_goes_on L N k b c p t =
-    let u = completes_line L N k b (10 ∷ c) p t in
-    cases u.line (crlf (after_line u.tree)) (subst IsLine u.begins (first_is_line u.tree u.is_tree)) (after_line u.tree) refl u.whole
-  where
-    plain_part : (a l : List ℕ) → IsLine (a ++ 10 ∷ l) → ⊥
-    plain_part [] l q = q.0.1 refl
-    plain_part (x ∷ a) l q = plain_part a l q.1
-
-    cases : (l y : List ℕ) → IsLine (b ++ l) → (z : List ℕ) → y ≡ crlf z → 10 ∷ c ≡ l ++ y → ⊥
-    cases [] y q z e w = cc
-    cases (x ∷ l) y q z e w = let h : x ≡ 10 = cc in plain_part b l (subst (λ v. IsLine (b ++ v ∷ l)) h q)
 
 -- digits are followed by digits and CR alone
 -- a byte of digits is a digit
 pub digits_hold : (a l : List ℕ) (x : ℕ) → AllByRecursion IsDigit (a ++ x ∷ l) → IsDigit x
 digits_hold [] l x p = p.0
 digits_hold (c ∷ a) l x p = digits_hold a l x p.1
-
-pub count_byte_dead : (L : LeafRule) (N : NodeRule) (k : ℕ) (j : Kind) (d : ℕ) (ds c : List ℕ) (x : ℕ) → IsDigits (d ∷ ds) → IsPlain x → (IsDigit x → ⊥) → CompletesValue L N k (kind_byte j ∷ d ∷ (ds ++ x ∷ [])) c → ⊥
-count_byte_dead L N k j d ds c x p q n t =
-    let b = kind_line j (d ∷ ds) p in
-    let u = completes_line L N k (kind_byte j ∷ d ∷ (ds ++ x ∷ [])) c (b.0, (b.1.0, line_more ds b.1.1)) t in
-    let w = counted_is u.tree j d ((ds ++ x ∷ []) ++ u.line) u.is_tree p.1.0 u.begins in
-    let i : IsTree (node j (Counted (d ∷ ((ds ++ x ∷ []) ++ u.line))) w.0) = subst IsTree w.1 u.is_tree in
-    n (digits_hold ds u.line x (subst (AllByRecursion IsDigit) (append_assoc ds (x ∷ []) u.line) i.0.0.1.1))
-  where
-    line_more : (s : List ℕ) → IsLine s → IsLine (s ++ x ∷ [])
-    line_more [] p = (q, tt)
-    line_more (c ∷ s) p = (p.0, line_more s p.1)
 
 abbrev pub IsOther : Kind → Type 0
 IsOther Array = ⊥

@@ -1,18 +1,18 @@
 -- Viable fronts, the cause of a refusal and the least completion, from the innermost token and the open aggregates.
-use Rattle.std.proofs.Common.{◌++◌, ◌+◌, ◌<◌, ◌↔◌, ◌∙◌, ◌∷◌, ◌≡◌, ◌≤◌, List, [], ap, append-nil, append_assoc, arith, length, length-append, refl, subst, suc, sym, ℕ}
+use Rattle.std.proofs.Common.{◌++◌, ◌+◌, ◌<◌, ◌∙◌, ◌∷◌, ◌≡◌, ◌≤◌, List, [], ap, append-nil, append_assoc, arith, length, refl, subst, suc, sym, ℕ}
 use Rattle.resp_value.specs.Data.{Array, Attr, Kind, Map, Push, Set, items_of, members_of}
 use Rattle.resp_value.specs.LocalRules.{HoldsFrom, LeafKeeps, LeafRule, NodeKeeps, NodeRule}
 use Rattle.resp_value.specs.Numbers.{number}
 use Rattle.resp_value.specs.Rules.{Rule, Rules, WithinItems, rank}
-use Rattle.resp_value.specs.Trees.{Counted, Form, HasMembers, Simple, Streamed, Tree, Trees, close, count, line, more, none, text, texts}
+use Rattle.resp_value.specs.Trees.{Counted, Form, HasMembers, Streamed, Tree, Trees, close, count, more, none, text, texts}
 use Rattle.resp_value.proofs.LocalRuleLemmas.{weaker, weaker_each}
 use Rattle.resp_value.proofs.Unique.{not_close}
 use Rattle.resp_follow.specs.Frames.{Frame, around}
-use Rattle.resp_follow.specs.LeastCompletions.{HasLeast}
 use Rattle.resp_follow.specs.MayFollow.{AreOpen, CanAllEnd, IsWholeText, MayFollowFrames, MayFollowValue, MembersThen, missing}
 use Rattle.resp_follow.proofs.Composition.{around-append, compose, determine, first_member}
 use Rattle.resp_follow.proofs.LeastAround.{IsBegun, after_least, are_kept, are_open, follow_parts, parts_follow}
-use Rattle.resp_follow.proofs.SimpleLinesAndCounts.{CompletesUnder, IsRefusedHere, simple_keeps}
+use Rattle.resp_follow.proofs.SimpleLinesAndCounts.{CompletesUnder, IsRefusedHere}
+use Rattle.resp_follow.proofs.KeptNodes.{shortest_keeps}
 
 -- c completes the front p within the rules up to g
 abbrev pub CompletesFront : Rules → Rule → List ℕ → List ℕ → Type 0
@@ -37,13 +37,10 @@ fewer_rules_can_end r g h (f ∷ fs) e p = (
   fewer_rules_can_end r g h fs e p.3,
 )
 
-pub shortest_is : (r : Rules) (g : Rule) (k : ℕ) → LeafKeeps r g k (line Simple [])
-shortest_is r g k h e = simple_keeps r k [] (omega arith) h
-
 -- a byte of a begun value is refused, within aggregates that the last rule but it lets end
 pub refuse : (r : Rules) (g h : Rule) (fs : List Frame) (x : ℕ) (b : List ℕ) → (x ≡ 46 → ⊥) → CanAllEnd (LeafKeeps r h) (NodeKeeps r h) fs → IsRefusedHere r g h (length fs) (x ∷ b) → IsRefused r g h (around fs (x ∷ b))
 refuse r g h fs x b n o w =
-    let a = after_least (LeafKeeps r h) (NodeKeeps r h) fs (shortest_is r h) o in
+    let a = after_least (LeafKeeps r h) (NodeKeeps r h) fs (shortest_keeps r h) o in
     let u : IsBegun (x ∷ b) = record { tree = w.alive.tree; more = w.rest; is_tree = w.alive.is_tree; whole = w.alive.whole; some = w.some } in
     let p = are_open (LeafKeeps r h) (NodeKeeps r h) fs o in
     record {
@@ -52,17 +49,6 @@ refuse r g h fs x b n o w =
       alive = subst (IsWholeText (LeafKeeps r h) (NodeKeeps r h)) (sym (around-append fs (x ∷ b) (w.rest ++ a.some))) (compose (LeafKeeps r h) (NodeKeeps r h) fs ((x ∷ b) ++ (w.rest ++ a.some)) (are_kept (LeafKeeps r h) (NodeKeeps r h) fs o)
           (parts_follow (LeafKeeps r h) (NodeKeeps r h) fs (x ∷ b) (w.rest ++ a.some) (record { here = w.rest; behind = a.some; tail = w.alive; after = a.holds; whole = refl })));
     }
-
--- a byte on the shortest way lowers the least by one
-pub lower : (P : List ℕ → Type 0) (x m : ℕ) (c : List ℕ) → HasLeast P (suc m) → P (x ∷ c) → length c ≡ m → HasLeast (λ d. P (x ∷ d)) m
-lower P x m c l p e = record { some = c; holds = p; size = e; least = λ d q. omega (arith, l.least (x ∷ d) q) }
-
--- the total: a front is viable within it exactly where the least completion is
-pub total_viable : (P : List ℕ → Type 0) (p : List ℕ) (m total : ℕ) → HasLeast P m → ((c : List ℕ) × P c × (length (p ++ c) ≤ total)) ↔ (length p + m ≤ total)
-total_viable P p m total l = (
-  λ w. omega (arith, l.least w.0 w.1, length-append p w.0, w.2),
-  λ h. (l.some, l.holds, omega (arith, length-append p l.some, l.size)),
-)
 
 -- a member too many in a streamed aggregate
 pub full_node : (r : Rules) (f : Frame) (fs : List Frame) (x : ℕ) (c : List ℕ) → AreOpen (f ∷ fs) → (x ≡ 46 → ⊥) → (n : ℕ) → ((m : ℕ) → HasMembers f.kind f.form (suc (count f.done) + m) → r.limits.items < items_of f.kind (suc (count f.done) + m)) → MayFollowFrames (LeafKeeps r WithinItems) (NodeKeeps r WithinItems) (f ∷ fs) (x ∷ c) → ⊥

@@ -3,7 +3,7 @@ use Rattle.std.proofs.Common.{◌≡◌, ℕ, suc, ◌+◌, ◌*◌, ◌<◌, �
 use Rattle.std.specs.List.{AllByRecursion}
 use Rattle.resp_value.specs.Bytes.{IsLine, crlf}
 use Rattle.resp_value.specs.Numbers.{IsDigits, IsNumber, number}
-use Rattle.resp_value.specs.Trees.{Tree, leaf, null, string, chunked, NullForm, BulkNull, ArrayNull, PlainNull, Verbatim, Chunk, IsChunk, chunks_text, null_line, text, IsTree}
+use Rattle.resp_value.specs.Trees.{Tree, leaf, null, string, chunked, NullForm, Verbatim, Chunk, IsChunk, chunks_text, null_line, IsTree}
 use Rattle.resp_value.specs.LocalRules.{LeafRule, NodeRule}
 use Rattle.resp_value.proofs.Splitting.{plain_above}
 use Rattle.resp_value.proofs.FirstLines.{sort, sort_of, first_line, first_is_line, after_line}
@@ -11,7 +11,7 @@ use Rattle.resp_value.proofs.Unique.{chunk_line}
 use Rattle.resp_follow.specs.LeastCompletions.{HasLeast}
 use Rattle.resp_follow.specs.MayFollow.{CompletesValue}
 use Rattle.resp_follow.proofs.BegunLines.{line_begins, completes_line, number-digit}
-use Rattle.resp_follow.proofs.FirstLineRows.{line_row, zeros, length-zeros, are_zeros, zero_digits, string_line}
+use Rattle.resp_follow.proofs.FirstLineRows.{line_row, zeros, are_zeros, zero_digits, string_line}
 use Rattle.resp_follow.proofs.MoreFirstLineRows.{string_size, verbatim_least}
 use Rattle.resp_follow.proofs.StreamedStrings.{with_chunks, last, completes_chunks, chunks_complete}
 use Rattle.resp_follow.proofs.BrokenLines.{null_short}

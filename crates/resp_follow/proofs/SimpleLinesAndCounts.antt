@@ -1,18 +1,19 @@
 -- Rows of the table of least completions, and the bytes that begun tokens refuse.
 use Rattle.std.proofs.Common.{◌*◌, ◌++◌, ◌+◌, ◌<◌, ◌∙◌, ◌∷◌, ◌≡◌, ◌≤◌, List, [], ap, append-nil, arith, false, length, length-append, refl, subst, suc, sym, true, ℕ}
-use Rattle.resp_value.specs.Bytes.{IsLine, IsText, crlf}
+use Rattle.resp_value.specs.Bytes.{IsLine, crlf}
 use Rattle.resp_value.specs.Data.{Array, Attr, Kind, Map, Push, Set, items_of, members_of}
 use Rattle.resp_value.specs.LocalRules.{HoldsFrom, LeafKeeps, LeafMeets, NodeKeeps, NodeMeets}
 use Rattle.resp_value.specs.Numbers.{IsDigits, number}
 use Rattle.resp_value.specs.Rules.{Grammar, InRange, InVersion, NoDouble, NotStreamed, PushAtTop, Rule, Rules, WithinDepth, WithinItems, WithinTotal, WithinLength, rank}
-use Rattle.resp_value.specs.Trees.{ArrayNull, Big, Bulk, BulkError, BulkNull, Counted, Double, Error, Form, Int, IsTree, PlainNull, Simple, Streamed, Tree, Trees, Verbatim, chunked, count, kind_byte, leaf, line, node, none, null, numeral, string, texts, truth}
+use Rattle.resp_value.specs.Trees.{ArrayNull, Big, Bulk, BulkError, BulkNull, Counted, Double, Error, Int, IsTree, PlainNull, Simple, Streamed, Tree, Trees, Verbatim, chunked, count, kind_byte, leaf, line, node, none, null, numeral, string, texts, truth}
 use Rattle.resp_value.proofs.FirstBytes.{byte_at_start}
-use Rattle.resp_value.proofs.FirstLines.{after_line, first_is_line, first_line, form_of, node_of, sort, sort_is, sort_of}
+use Rattle.resp_value.proofs.FirstLines.{after_line, first_is_line, first_line, sort, sort_is, sort_of}
 use Rattle.resp_follow.specs.LeastCompletions.{HasLeast}
 use Rattle.resp_follow.specs.MayFollow.{CompletesValue}
-use Rattle.resp_follow.proofs.BegunLines.{completes_line, counted_is, line_least, members-more, number-more, simple_is}
+use Rattle.resp_follow.proofs.BegunLines.{completes_line, counted_is, line_least, members-more, number-more}
 use Rattle.resp_follow.proofs.LeastAround.{length-shortest_trees, shortest_trees_hold, texts_least}
 use Rattle.resp_follow.proofs.OpenFrames.{are_shortest_trees, count-shortest_trees, shortest_trees}
+use Rattle.resp_follow.proofs.KeptNodes.{shortest_keeps}
 
 -- completes b under the rules up to g
 abbrev pub CompletesUnder : Rules → Rule → ℕ → List ℕ → List ℕ → Type 0
@@ -24,52 +25,6 @@ pub record IsRefusedHere (r : Rules) (g h : Rule) (k : ℕ) (b : List ℕ) : Typ
   pub rest : List ℕ
   pub alive : CompletesUnder r h k b rest
   pub some : 0 < length rest
-
-simple_before : (r : Rules) (k : ℕ) (s : List ℕ) (h : Rule) → rank h ≤ 6 → LeafMeets r h k (line Simple s)
-simple_before r k s Grammar e = tt
-simple_before r k s NoDouble e = tt
-simple_before r k s InVersion e = λ v. tt
-simple_before r k s PushAtTop e = tt
-simple_before r k s InRange e = tt
-simple_before r k s NotStreamed e = λ v. tt
-simple_before r k s WithinDepth e = tt
-simple_before r k s WithinLength e = absurd (omega arith)
-simple_before r k s WithinItems e = tt
-simple_before r k s WithinTotal e = tt
-
-pub simple_keeps : (r : Rules) (k : ℕ) (s : List ℕ) → length s ≤ r.limits.length → (h : Rule) → LeafMeets r h k (line Simple s)
-simple_keeps r k s p Grammar = tt
-simple_keeps r k s p NoDouble = tt
-simple_keeps r k s p InVersion = λ v. tt
-simple_keeps r k s p PushAtTop = tt
-simple_keeps r k s p InRange = tt
-simple_keeps r k s p NotStreamed = λ v. tt
-simple_keeps r k s p WithinDepth = tt
-simple_keeps r k s p WithinLength = p
-simple_keeps r k s p WithinItems = tt
-simple_keeps r k s p WithinTotal = tt
-
--- a simple string's line: 2
-pub simple_row : (r : Rules) (g : Rule) (k : ℕ) (s : List ℕ) → IsLine s → IsText s → length s ≤ r.limits.length → HasLeast (CompletesUnder r g k (43 ∷ s)) 2
-unfolding first_line
-simple_row r g k s p q l = line_least (LeafKeeps r g) (NodeKeeps r g) k (leaf (line Simple s)) 0 (p, q) (λ h e. simple_keeps r k s l h) refl (λ u l i j e. omega arith)
-
--- a byte too many
-pub simple_too_long : (r : Rules) (k : ℕ) (s : List ℕ) → IsLine s → IsText s → r.limits.length < length s → IsRefusedHere r WithinLength WithinDepth k (43 ∷ s)
-unfolding first_line
-simple_too_long r k s p q l = record {
-  dead = λ c t. (let u = completes_line (LeafKeeps r WithinLength) (NodeKeeps r WithinLength) k (43 ∷ s) c ((λ e. omega arith, λ e. omega arith), p) t in
-      let e = simple_is u.tree (s ++ u.line) u.is_tree u.begins in
-      let k2 : HoldsFrom (LeafKeeps r WithinLength) (NodeKeeps r WithinLength) k (leaf (line Simple (s ++ u.line))) = subst (HoldsFrom (LeafKeeps r WithinLength) (NodeKeeps r WithinLength) k) e u.keep in
-      let m : length (s ++ u.line) ≤ r.limits.length = k2 WithinLength (omega arith) in
-      omega (arith, length-append s u.line));
-  rest = crlf [];
-  alive = record { tree = leaf (line Simple s); is_tree = (p, q); keep = λ h e. simple_before r k s h (omega arith); whole = refl };
-  some = omega arith;
-}
-
-pub shortest_keeps : (r : Rules) (g : Rule) (k : ℕ) → LeafKeeps r g k (line Simple [])
-shortest_keeps r g k h e = simple_keeps r k [] (omega arith) h
 
 pub first_counted : (k : Kind) (ds : List ℕ) (ts : Trees) → first_line (node k (Counted ds) ts) ≡ kind_byte k ∷ ds
 unfolding first_line
@@ -162,22 +117,6 @@ count_too_many r k j d ds p q l = record {
   alive = (count_row r WithinLength k j d ds p q).holds;
   some = omega (arith, (count_row r WithinLength k j d ds p q).size);
 }
-
--- at full depth an aggregate's type byte is one too many
-pub set_too_deep : (r : Rules) (k : ℕ) → r.limits.depth ≤ k → NodeKeeps r NotStreamed k Set (Counted (48 ∷ [])) 0 → IsRefusedHere r WithinDepth NotStreamed k (126 ∷ [])
-unfolding first_line
-set_too_deep r k l q = record {
-  dead = λ c t. (let u = completes_line (LeafKeeps r WithinDepth) (NodeKeeps r WithinDepth) k (126 ∷ []) c ((λ e. omega arith, λ e. omega arith), tt) t in
-      let e : sort_of u.tree ≡ node_of Set (form_of u.line) = sym (sort_is u.tree u.is_tree) ∙ ap sort u.begins in
-      no_set u.tree (form_of u.line) e u.keep);
-  rest = 48 ∷ crlf [];
-  alive = record { tree = node Set (Counted (48 ∷ [])) none; is_tree = (((omega arith, ((omega arith, omega arith), tt)), refl), tt); keep = (q, tt); whole = refl };
-  some = omega arith;
-}
-  where
-    no_set : (t : Tree) (f : Form) → sort_of t ≡ node_of Set f → HoldsFrom (LeafKeeps r WithinDepth) (NodeKeeps r WithinDepth) k t → ⊥
-    no_set (leaf x) f e a = cc
-    no_set (node j g ts) f e a = let m : k < r.limits.depth = a.0 WithinDepth (omega arith) in omega arith
 
 -- `*` at full depth: only the null is left
 star_deep : (r : Rules) (k : ℕ) (t : Tree) (l : List ℕ) → r.limits.depth ≤ k → HoldsFrom (LeafKeeps r WithinItems) (NodeKeeps r WithinItems) k t → first_line t ≡ 42 ∷ l → 2 ≤ length l

@@ -1,20 +1,18 @@
 -- The `?` of streamed forms: what refuses it, its least completion, and how it opens an aggregate.
-use Rattle.std.proofs.Common.{◌≡◌, ℕ, ◌+◌, ◌<◌, ◌≤◌, false, List, [], ◌∷◌, ◌++◌, length, refl, sym, ap, subst, ◌∙◌, arith, append_assoc}
+use Rattle.std.proofs.Common.{◌≡◌, ℕ, ◌+◌, ◌<◌, ◌≤◌, false, List, [], ◌∷◌, ◌++◌, refl, sym, ap, subst, ◌∙◌, arith}
 use Rattle.resp_value.specs.Bytes.{IsLine, crlf}
-use Rattle.resp_value.specs.Data.{Kind, Array, Set, Map, Attr, Push, items_of, content_length}
-use Rattle.resp_value.specs.TreeValues.{leaf_value}
-use Rattle.resp_value.specs.Trees.{leaf, node, none, Chunk, chunked, Streamed, kind_byte, count, CanStream, IsTree, HasFormat, payload}
-use Rattle.resp_value.specs.Rules.{Rules, Rule, Grammar, NoDouble, InVersion, PushAtTop, InRange, NotStreamed, WithinDepth, WithinLength, WithinItems, rank, IsNodeInTwo}
+use Rattle.resp_value.specs.Data.{Kind, Array, Set, Map, Attr, Push, items_of}
+use Rattle.resp_value.specs.Trees.{leaf, node, none, Chunk, chunked, Streamed, kind_byte, count, CanStream}
+use Rattle.resp_value.specs.Rules.{Rules, Rule, NoDouble, InVersion, InRange, NotStreamed, WithinDepth, WithinItems, rank}
 use Rattle.resp_value.specs.LocalRules.{HoldsFrom, LeafKeeps, NodeKeeps, LeafMeets, NodeMeets, IsNoPushBelow}
 use Rattle.resp_value.specs.declared.version.Version.TheVariants.{Two}
 use Rattle.resp_value.proofs.Splitting.{plain_above}
 use Rattle.resp_value.proofs.FirstLines.{sort, sort_is}
-use Rattle.resp_follow.specs.LeastCompletions.{HasLeast}
 use Rattle.resp_follow.specs.MayFollow.{missing}
 use Rattle.resp_follow.proofs.KeptNodes.{at_each_rule, leaf_keeps, node_keeps}
 use Rattle.resp_follow.proofs.BegunLines.{completes_line, tree_of_node}
 use Rattle.resp_follow.proofs.Levels.{taken}
-use Rattle.resp_follow.proofs.SimpleLinesAndCounts.{CompletesUnder, IsRefusedHere, byte_line}
+use Rattle.resp_follow.proofs.SimpleLinesAndCounts.{IsRefusedHere, byte_line}
 use Rattle.resp_follow.proofs.FirstLineRows.{tree_of_chunked, chunked_row, zero_digits}
 use Rattle.resp_follow.proofs.MoreFirstLineRows.{sort_mark, mark_row}
 use Rattle.resp_follow.proofs.BegunFronts.{IsBegunBy, Opens}

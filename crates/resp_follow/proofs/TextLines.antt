@@ -3,8 +3,8 @@ use Rattle.std.proofs.Common.{◌≡◌, ℕ, ◌<◌, ◌≤◌, List, [], ◌�
 use Rattle.resp_value.specs.Bytes.{IsLine, IsText, crlf}
 use Rattle.resp_value.specs.Data.{content_length}
 use Rattle.resp_value.specs.TreeValues.{leaf_value}
-use Rattle.resp_value.specs.Trees.{Tree, leaf, line, LineKind, Simple, Error, Double, line_byte, IsTree}
-use Rattle.resp_value.specs.Rules.{Rules, Rule, WithinDepth, WithinLength, WithinTotal, rank, IsNoDouble, IsLeafInTwo}
+use Rattle.resp_value.specs.Trees.{leaf, line, LineKind, Simple, Error, Double, line_byte}
+use Rattle.resp_value.specs.Rules.{Rules, Rule, WithinDepth, WithinLength, rank}
 use Rattle.resp_value.specs.LocalRules.{HoldsFrom, LeafKeeps, NodeKeeps, LeafMeets}
 use Rattle.resp_value.proofs.Splitting.{plain_above}
 use Rattle.resp_value.proofs.FirstLines.{line_sort, leaf_of, sort, sort_is, first_line}

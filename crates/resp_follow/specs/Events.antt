@@ -1,7 +1,7 @@
 -- The events of a spelled tree, each with the index of the byte at which it comes.
-use Rattle.std.specs.Prelude.{ℕ, ◌+◌, ◌-◌, ◌<◌, ℤ, Option, None, Some, List, [], ◌∷◌, ◌++◌, length, cond, ltb}
+use Rattle.std.specs.Prelude.{ℕ, ◌+◌, ◌-◌, ℤ, Option, None, Some, List, [], ◌∷◌, ◌++◌, length, cond, ltb}
 use Rattle.std.specs.Prelude.{Bool as Truth}
-use Rattle.resp_value.specs.Numbers.{number, Sign, sign_text, signed, stripped, is_negative}
+use Rattle.resp_value.specs.Numbers.{number, Sign, signed, stripped, is_negative}
 use Rattle.resp_value.specs.Data.{Kind}
 use Rattle.resp_value.specs.Trees as t
 use Rattle.resp_value.specs.Trees.{Tree, Trees, leaf, node, none, more, Leaf, line, numeral, null, truth, string, chunked, LineKind, NumberKind, StringKind, Form, Counted, Streamed, Chunk, text, form_line, leaf_text}

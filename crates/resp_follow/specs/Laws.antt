@@ -1,5 +1,5 @@
 -- What has come and what may follow, for the rules up to one before total.
-use Rattle.std.specs.Prelude.{◌≡◌, ◌↔◌, ℕ, ◌+◌, ◌<◌, ◌≤◌, Option, None, Some, List, [], ◌∷◌, ◌++◌, length}
+use Rattle.std.specs.Prelude.{◌≡◌, ◌↔◌, ℕ, ◌+◌, ◌<◌, ◌≤◌, None, Some, List, [], ◌∷◌, ◌++◌, length}
 use Rattle.resp_value.specs.Bounds.{AreBounds}
 use Rattle.resp_value.specs.Trees.{Tree, Spells, text, IsTree}
 use Rattle.resp_value.specs.Rules.{Rules, Rule, WithinItems, WithinTotal, rank}
