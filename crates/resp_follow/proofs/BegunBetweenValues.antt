@@ -17,7 +17,7 @@ use Rattle.resp_follow.specs.FirstByteRefusals.{in_three, aggregate_on, push_on,
 use Rattle.resp_follow.proofs.Composition.{around-append, determine, first_member}
 use Rattle.resp_follow.proofs.Levels.{Level, taken}
 use Rattle.resp_follow.proofs.LevelsAlone.{same_length}
-use Rattle.resp_follow.proofs.SimpleLinesAndCounts.{CompletesUnder}
+use Rattle.resp_follow.proofs.CountRows.{CompletesUnder}
 use Rattle.resp_follow.proofs.BetweenValues.{IsBetween, room, ready_open}
 use Rattle.resp_follow.proofs.RefusedBetweenValues.{refuse_first, refuse_member}
 use Rattle.resp_follow.proofs.FirstRuleBroken.{refused_cause, grammar_cause}

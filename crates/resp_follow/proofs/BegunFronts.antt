@@ -15,7 +15,7 @@ use Rattle.resp_follow.proofs.Composition.{around-append}
 use Rattle.resp_follow.proofs.LeastAround as l
 use Rattle.resp_follow.proofs.LeastAround.{IsBegun, are_open}
 use Rattle.resp_follow.proofs.KeptNodes.{shortest_keeps}
-use Rattle.resp_follow.proofs.SimpleLinesAndCounts.{CompletesUnder, IsRefusedHere}
+use Rattle.resp_follow.proofs.CountRows.{CompletesUnder, IsRefusedHere}
 use Rattle.resp_follow.proofs.Levels.{Level, Shape, AreLevelsOf, HasShape, IsEnded, finish, within_frames, levels_needed, levels_needed_is, ended, opened}
 use Rattle.resp_follow.proofs.LevelsAlone.{same_length}
 use Rattle.resp_follow.proofs.RefusedFronts.{CompletesFront, IsRefused, refuse, hopeless, fewer_rules_can_end}
@@ -84,6 +84,7 @@ pub record Opens (r : Rules) (level : ℕ) (k : Kind) (shape : Shape) (bytes : L
   pub shaped : HasShape k shape form 0
   pub can_end : CanEnd (NodeKeeps r WithinItems) level k form 0
 
+-- and so a frame more is open
 pub head_opens : (r : Rules) (T : ℕ → List ℕ → Type 0) (levels : List Level) (front more : List ℕ) (k : Kind) (shape : Shape) → FollowsBy r T levels front → ((level : ℕ) (bytes : List ℕ) → level ≡ length levels → T level bytes → Opens r level k shape (bytes ++ more)) → IsEnded (LeafKeeps r WithinItems) (NodeKeeps r WithinItems) (within_frames (record { kind = k; shape = shape } ∷ levels)) (front ++ more)
 head_opens r T levels front more k shape f opens =
     let w = opens (length f.frames) f.bytes (at_level f) f.took in

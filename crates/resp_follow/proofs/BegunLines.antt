@@ -13,6 +13,7 @@ use Rattle.resp_value.proofs.Splitting.{digit_is_no, digit_is_no_mark}
 use Rattle.resp_follow.specs.LeastCompletions.{HasLeast}
 use Rattle.resp_follow.specs.MayFollow.{CompletesValue}
 
+-- a text that begins with a line and then breaks goes on with the rest of a first line
 pub line_begins : (a b y c : List ℕ) → IsLine b → a ++ crlf y ≡ b ++ c → (l : List ℕ) × (a ≡ b ++ l) × (c ≡ l ++ crlf y)
 line_begins a [] y c p e = (a, refl, sym e)
 line_begins [] (d ∷ b) y c p e = let h : d ≡ 13 = cc in absurd (p.0.0 h)
@@ -23,6 +24,7 @@ line_begins (x ∷ a) (d ∷ b) y c p e =
     let h0 : a ≡ b ++ l = h in
     (l, cc, w)
 
+-- two texts with a CR behind a line each have one line
 pub return_split : (a b y c : List ℕ) → IsLine a → IsLine b → a ++ 13 ∷ y ≡ b ++ 13 ∷ c → (a ≡ b) × (y ≡ c)
 return_split [] [] y c p q e = (refl, cc)
 return_split [] (d ∷ b) y c p q e = let h : d ≡ 13 = cc in absurd (q.0.0 h)
@@ -33,6 +35,7 @@ return_split (x ∷ a) (d ∷ b) y c p q e =
     let h : a ≡ b = r.0 in
     (cc, r.1)
 
+-- a tree's text, by its first line
 pub text_first : (t : Tree) → text t ≡ first_line t ++ crlf (after_line t)
 text_first t = sym (append-nil (text t)) ∙ text_is t [] ∙ ap (λ z. first_line t ++ crlf z) (append-nil (after_line t))
 
@@ -45,6 +48,7 @@ pub record CompletesLine (L : LeafRule) (N : NodeRule) (k : ℕ) (b c : List ℕ
   pub begins : first_line tree ≡ b ++ line
   pub whole : c ≡ line ++ crlf (after_line tree)
 
+-- what completes a line completes it to a first line, and then comes what follows that
 pub completes_line : (L : LeafRule) (N : NodeRule) (k : ℕ) (b c : List ℕ) → IsLine b → CompletesValue L N k b c → CompletesLine L N k b c
 completes_line L N k b c p t =
     let w = line_begins (first_line t.tree) b (after_line t.tree) c p (sym (text_first t.tree) ∙ t.whole) in
@@ -58,6 +62,7 @@ pub record CompletesReturn (L : LeafRule) (N : NodeRule) (k : ℕ) (a c : List �
   pub line : first_line tree ≡ a
   pub whole : c ≡ 10 ∷ after_line tree
 
+-- behind the CR of a first line comes an LF, and what follows the line
 pub completes_return : (L : LeafRule) (N : NodeRule) (k : ℕ) (a c : List ℕ) → IsLine a → CompletesValue L N k (a ++ 13 ∷ []) c → CompletesReturn L N k a c
 completes_return L N k a c p t =
     let w = return_split (first_line t.tree) a (10 ∷ after_line t.tree) c (first_is_line t.tree t.is_tree) p (sym (text_first t.tree) ∙ t.whole ∙ append_assoc a (13 ∷ []) c) in
@@ -82,10 +87,12 @@ tree_of_line (leaf (string j ds r)) k s e = absurd (cc)
 tree_of_line (leaf (chunked cs z)) k s e = absurd (cc)
 tree_of_line (node j f ts) k s e = absurd (cc)
 
+-- a tree of this sort is such a node
 pub tree_of_node : (t : Tree) (k : Kind) (f : Form) → sort_of t ≡ node_of k f → (ts : Trees) × (t ≡ node k f ts)
 tree_of_node (leaf l) k f e = absurd (cc)
 tree_of_node (node j g ts) k f e = let j0 : j ≡ k = cc in let g0 : g ≡ f = cc in (ts, cc)
 
+-- an aggregate's type byte and a digit say that it is counted
 pub sort_counted : (k : Kind) (d : ℕ) (cs : List ℕ) → IsDigit d → sort (kind_byte k ∷ d ∷ cs) ≡ node_of k (Counted (d ∷ cs))
 sort_counted Array d cs p = rw (digit_is_no d 45 p (omega arith), digit_is_no_mark d p)
 sort_counted Set d cs p = rw (digit_is_no_mark d p)
@@ -103,9 +110,11 @@ number-more ds l =
     let e : number (ds ++ l) ≡ number_from_digits_after 10 (number ds) (map (λ c. c - 48) l) = ap (number_from_digits 10) (map-append (λ c. c - 48) ds l) ∙ number_after_append 10 0 (map (λ c. c - 48) ds) (map (λ c. c - 48) l) in
     omega (arith, number_after_ge 10 (number ds) (map (λ c. c - 48) l))
 
+-- a digit more
 pub number-digit : (ds : List ℕ) (x : ℕ) → number (ds ++ x ∷ []) ≡ number ds * 10 + (x - 48)
 number-digit ds x = ap (number_from_digits 10) (map-append (λ c. c - 48) ds (x ∷ [])) ∙ number_after_append 10 0 (map (λ c. c - 48) ds) ((x - 48) ∷ [])
 
+-- a greater number in a head is no fewer members
 pub members-more : (k : Kind) (m n : ℕ) → m ≤ n → members_of k m ≤ members_of k n
 members-more Array m n h = h
 members-more Set m n h = h

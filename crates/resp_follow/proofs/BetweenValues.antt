@@ -19,6 +19,7 @@ use Rattle.resp_follow.proofs.KeptNodes.{shortest_keeps}
 abbrev pub IsBetween : Rules → List Level → List ℕ → Type 0
 IsBetween r vs p = IsEnded (LeafKeeps r WithinItems) (NodeKeeps r WithinItems) (within_frames vs) p
 
+-- the bytes that are needed between values
 abbrev pub between_needed : List Level → ℕ
 between_needed [] = 3
 between_needed (v ∷ vs) = shape_needed v.kind v.shape + levels_needed vs
@@ -40,6 +41,7 @@ open_in N l k Streamed (left m) n h c = let e : Streamed ≡ Counted h.0 = h.1 i
 open_in N l k (Counted ds) (taken m) n h c = let e : Counted ds ≡ Streamed = h.0 in absurd (cc)
 open_in N l k Streamed (taken m) n h c = (n + missing k Streamed n + 2, can_stream_more k (n + missing k Streamed n) c.0, omega arith)
 
+-- frames that wait for a member have room for one
 pub ready_open : (L : LeafRule) (N : NodeRule) (vs : List Level) (fs : List Frame) → AreLevelsOf vs fs → AreReady L N fs → AreOpen fs
 ready_open L N [] [] a o = tt
 ready_open L N [] (f ∷ fs) a o = absurd a
@@ -86,9 +88,11 @@ room Map m = m + 1 + (m + 1) % 2
 room Attr m = m + 1
 room Push m = m + 1
 
+-- room for a member more, where the frame is streamed
 abbrev pub HasRoom : Rules → Level → Type 0
 HasRoom r v = (m : ℕ) → v.shape ≡ taken m → items_of v.kind (room v.kind m) ≤ r.limits.items
 
+-- what a streamed frame with one member more has at least
 pub room_is : (k : Kind) (n : ℕ) → suc n + missing k Streamed (suc n) ≡ room k n
 room_is Array n = omega arith
 room_is Set n = omega arith
@@ -119,6 +123,7 @@ node_resizes r g k j f m n p l WithinLength e = tt
 node_resizes r g k j f m n p l WithinItems e = l
 node_resizes r g k j f m n p l WithinTotal e = tt
 
+-- a frame that can end can end with one member more, where it has room
 pub can_end_with_more : (r : Rules) (g : Rule) (k : ℕ) (j : Kind) (s : Shape) (f : Form) (n : ℕ) → HasShape j s f n → ((m : ℕ) → s ≡ taken m → (x : ℕ) → NodeKeeps r g k j f x → NodeKeeps r g k j f (room j m)) → CanEnd (NodeKeeps r g) k j f n → CanEnd (NodeKeeps r g) k j f (suc n)
 can_end_with_more r g k j (left m) (Counted ds) n h q c =
     let e : Counted ds ≡ Counted h.0 = h.1 in

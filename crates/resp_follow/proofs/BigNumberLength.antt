@@ -9,7 +9,7 @@ use Rattle.resp_value.proofs.FirstLines.{first_line, leaf_of, numeral_sort, sort
 use Rattle.resp_value.proofs.Splitting.{digit_is_no}
 use Rattle.resp_follow.proofs.BegunLines.{completes_line}
 use Rattle.resp_follow.proofs.FirstLineRows.{number_line, tree_of_numeral}
-use Rattle.resp_follow.proofs.SimpleLinesAndCounts.{IsRefusedHere}
+use Rattle.resp_follow.proofs.CountRows.{IsRefusedHere}
 
 some_kept : (s : List ℕ) → 1 ≤ length (zero_if_none s)
 some_kept [] = omega arith
@@ -29,6 +29,7 @@ big_sort Plus d ds l p = refl
 big_sort Minus d ds l p = refl
 big_sort Unsigned d ds l p = rw (digit_is_no d 43 p (omega arith), digit_is_no d 45 p (omega arith))
 
+-- a digit of a big number past the limit of length
 pub big_too_long : (r : Rules) (k : ℕ) (g : Sign) (d : ℕ) (ds : List ℕ) → IsDigits (d ∷ ds) → LeafKeeps r WithinDepth k (numeral Big g (d ∷ ds)) → r.limits.length < length (kept (d ∷ ds)) → IsRefusedHere r WithinLength WithinDepth k (40 ∷ (sign_text g ++ d ∷ ds))
 unfolding first_line
 big_too_long r k g d ds p h n = record {

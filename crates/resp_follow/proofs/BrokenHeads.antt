@@ -9,7 +9,7 @@ use Rattle.resp_value.proofs.FirstLines.{numeral_sort, string_sort, leaf_of, nod
 use Rattle.resp_follow.proofs.BegunLines.{counted_is, tree_of_node}
 use Rattle.resp_follow.proofs.FirstLineRows.{tree_of_numeral, no_other, number_more_digits, is_string}
 use Rattle.resp_follow.proofs.MoreFirstLineRows.{string_size, verbatim_least, sort_mark}
-use Rattle.resp_follow.proofs.SimpleLinesAndCounts.{line_after}
+use Rattle.resp_follow.proofs.CountRows.{line_after}
 use Rattle.resp_follow.proofs.RefusedBytes.{digits_hold}
 use Rattle.resp_follow.proofs.BrokenLines.{NoLineGoesOn, NoLineEnds}
 

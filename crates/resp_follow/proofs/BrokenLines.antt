@@ -122,10 +122,12 @@ truth_begun_broken byte no_true no_false t behind p e = cases (eqb byte 116) (fi
     cases true h = no_true (ap (λ z. get_or z 1 0) h)
     cases false h = no_false (ap (λ z. get_or z 1 0) h)
 
+-- and nothing behind its letter
 pub truth_broken : (b : Bool) (byte : ℕ) → NoLineGoesOn (truth_line b) byte
 truth_broken true byte t behind p e = omega (arith, ap length (first_of_truth t true (35 ∷ 116 ∷ byte ∷ behind) p e refl))
 truth_broken false byte t behind p e = omega (arith, ap length (first_of_truth t false (35 ∷ 102 ∷ byte ∷ behind) p e refl))
 
+-- `#` alone is no line
 pub truth_short : NoLineEnds (35 ∷ [])
 truth_short t p e = no_other t (sort_behind_line t (35 ∷ []) p e)
 
@@ -133,5 +135,6 @@ truth_short t p e = no_other t (sort_behind_line t (35 ∷ []) p e)
 pub streamed_broken : (k : Kind) (byte : ℕ) → NoLineGoesOn (kind_byte k ∷ 63 ∷ []) byte
 streamed_broken k byte t behind p e = omega (arith, ap length (first_of_streamed t k (kind_byte k ∷ 63 ∷ byte ∷ behind) p e (sort_mark k (byte ∷ behind))))
 
+-- nor behind that of a string
 pub chunked_broken : (byte : ℕ) → NoLineGoesOn (36 ∷ 63 ∷ []) byte
 chunked_broken byte t behind p e = omega (arith, ap length (first_of_chunked t (36 ∷ 63 ∷ byte ∷ behind) p e refl))

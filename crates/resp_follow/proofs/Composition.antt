@@ -1,4 +1,4 @@
--- What has come and what may still follow make a spelling, and only that may follow.
+-- What has come and what may follow make a spelling, and only that may follow.
 use Rattle.std.proofs.Common.{◌++◌, ◌+◌, ◌<◌, ◌∙◌, ◌∷◌, ◌≡◌, ◌≤◌, List, [], ap, append-nil, append_assoc, arith, length, refl, subst, suc, sym, ℕ}
 use Rattle.resp_value.specs.Bytes.{crlf}
 use Rattle.resp_value.specs.Data.{Array, Attr, Kind, Map, Push, Set, members_of}
@@ -11,10 +11,12 @@ use Rattle.resp_follow.specs.Frames.{Frame, around, open_text}
 use Rattle.resp_follow.specs.MayFollow.{AreKept, AreOpen, IsWholeText, MayFollowFrames, MayFollowValue, MembersThen, ValueThen}
 use Rattle.resp_follow.proofs.OpenFrames.{are_joined, count-joined_trees, is_node, joined_trees, texts-joined_trees}
 
+-- what the frames have taken goes on with what follows
 pub around-append : (fs : List Frame) (a b : List ℕ) → around fs a ++ b ≡ around fs (a ++ b)
 around-append [] a b = refl
 around-append (f ∷ fs) a b = around-append fs (open_text f ++ a) b ∙ ap (around fs) (append_assoc (open_text f) a b)
 
+-- the text of a node whose first members a frame has
 pub text-node : (f : Frame) (us : Trees) (z : List ℕ) → text (node f.kind f.form (joined_trees f.done us)) ++ z ≡ open_text f ++ ((texts us ++ close f.form) ++ z)
 text-node f us z =
     let h = kind_byte f.kind ∷ form_line f.form in
@@ -24,6 +26,7 @@ text-node f us z =
     ∙ ap (λ w. h ++ crlf w) (append_assoc (texts f.done) (texts us ++ close f.form) z)
     ∙ sym (append_assoc h (crlf (texts f.done)) ((texts us ++ close f.form) ++ z))
 
+-- rules that hold of two lists of trees hold of one behind the other
 pub joined_trees_hold : (L : LeafRule) (N : NodeRule) (k : ℕ) (ts us : Trees) → HoldsFromEach L N k ts → HoldsFromEach L N k us → HoldsFromEach L N k (joined_trees ts us)
 joined_trees_hold L N k none us p q = q
 joined_trees_hold L N k (more t ts) us p q = (p.0, joined_trees_hold L N k ts us p.1 q)

@@ -15,7 +15,7 @@ use Rattle.resp_follow.specs.LeastCompletions.{HasLeast}
 use Rattle.resp_follow.specs.MayFollow.{CompletesValue}
 use Rattle.resp_follow.proofs.BegunLines.{completes_line, line_begins, number-more}
 use Rattle.resp_follow.proofs.FirstLineRows.{is_string, string_line, string_row}
-use Rattle.resp_follow.proofs.SimpleLinesAndCounts.{CompletesUnder, IsRefusedHere}
+use Rattle.resp_follow.proofs.CountRows.{CompletesUnder, IsRefusedHere}
 use Rattle.resp_follow.proofs.StreamedStrings.{chunks_complete, chunks_least, completes_chunks, last, with_chunks}
 
 string_content : (K : StringKind) (ds s : List ℕ) → HasFormat K → content_length (leaf_value (string K ds s)) ≡ length (payload K s)
@@ -82,6 +82,7 @@ chunk_left (d ∷ cs) z es p c q y v i n e =
     let says : number d.digits ≡ length d.content = q.0.0.1 in
     omega (arith, ap number k, ap length s.1, length-append p c, length-append d.content (crlf (chunks_text cs (last z))), chunks_least cs z y)
 
+-- a chunk's content: what is left, and 6
 pub chunk_content_row : (L : LeafRule) (N : NodeRule) (k : ℕ) (ds : List Chunk) (es p q : List ℕ) → AllByRecursion IsChunk ds → IsChunk (record { digits = es; content = p ++ q }) → 0 < number es → L k (chunked (with_chunks ds (record { digits = es; content = p ++ q } ∷ [])) (48 ∷ [])) → HasLeast (CompletesValue L N k (36 ∷ 63 ∷ crlf (chunks_text ds ((59 ∷ es) ++ crlf p)))) (length q + 6)
 chunk_content_row L N k ds es p q a b n h =
     let c = q ++ crlf (last (48 ∷ [])) in

@@ -20,6 +20,7 @@ pub record CompletesContent (L : LeafRule) (k : ℕ) (b : ℕ) (ds p c : List �
   pub keep : L k (string kind ds content)
   pub whole : payload kind content ++ crlf [] ≡ p ++ c
 
+-- what completes content completes the content of a string
 pub completes_content : (L : LeafRule) (N : NodeRule) (k : ℕ) (K : StringKind) (d : ℕ) (ds p c : List ℕ) → IsDigits (d ∷ ds) → CompletesValue L N k ((string_byte K ∷ d ∷ ds) ++ crlf p) c → CompletesContent L k (string_byte K) (d ∷ ds) p c
 completes_content L N k K d ds p c q t =
     let b = string_byte K ∷ d ∷ ds in
@@ -62,6 +63,7 @@ content_end_dead L N k K d ds p c x i n h t =
     let e : crlf [] ≡ x ∷ c = s.1 in
     h (cc)
 
+-- a string with the type byte of a verbatim string is one
 pub verbatim_kind : (J : StringKind) → string_byte J ≡ 61 → HasFormat J → (s : List ℕ) → (f : List ℕ) × (length f ≡ 3) × (payload J s ≡ f ++ 58 ∷ s)
 verbatim_kind Bulk e p s = absurd (omega arith)
 verbatim_kind BulkError e p s = absurd (omega arith)

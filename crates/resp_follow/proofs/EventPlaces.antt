@@ -14,10 +14,12 @@ use Rattle.resp_follow.proofs.LeastAround.{text_least}
 abbrev pub AreWithin : ℕ → ℕ → List Timed → Type 0
 AreWithin from to es = AllByRecursion (λ e. (from ≤ e.at) × (e.at < to)) es
 
+-- one list behind another
 pub within-append : (from to : ℕ) (a b : List Timed) → AreWithin from to a → AreWithin from to b → AreWithin from to (a ++ b)
 within-append from to [] b p q = q
 within-append from to (e ∷ a) b p q = (p.0, within-append from to a b p.1 q)
 
+-- a wider place
 pub within_wider : (from to from' to' : ℕ) (es : List Timed) → from' ≤ from → to ≤ to' → AreWithin from to es → AreWithin from' to' es
 within_wider from to from' to' [] l g p = tt
 within_wider from to from' to' (e ∷ es) l g p = ((omega (arith, p.0.0), omega (arith, p.0.1)), within_wider from to from' to' es l g p.1)

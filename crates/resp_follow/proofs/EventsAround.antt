@@ -9,9 +9,11 @@ use Rattle.resp_follow.proofs.OpenFrames.{joined_trees}
 use Rattle.resp_follow.proofs.Composition.{around-append}
 use Rattle.resp_follow.proofs.Levels.{with_member}
 
+-- the bytes that frames have taken, and then more
 pub length-around : (frames : List Frame) (begun : List ℕ) → length (around frames begun) ≡ length (around frames []) + length begun
 length-around frames begun = sym (ap length (around-append frames [] begun)) ∙ length-append (around frames []) begun
 
+-- the bytes of a frame's head and members
 pub length-open_text : (frame : Frame) → length (open_text frame) ≡ length (form_line frame.form) + 3 + length (texts frame.done)
 length-open_text frame = omega (arith, length-append (kind_byte frame.kind ∷ form_line frame.form) (crlf (texts frame.done)))
 
@@ -19,6 +21,7 @@ length-open_text frame = omega (arith, length-append (kind_byte frame.kind ∷ f
 pub next_member_at : (frame : Frame) (frames : List Frame) → length (around (frame ∷ frames) []) ≡ length (around frames []) + length (form_line frame.form) + 3 + length (texts frame.done)
 next_member_at frame frames = omega (arith, length-around frames (open_text frame ++ []), ap length (append-nil (open_text frame)), length-open_text frame)
 
+-- the events of trees, one list behind another
 pub events_each-joined : (from : ℕ) (ts us : Trees) → events_each from (joined_trees ts us) ≡ events_each from ts ++ events_each (from + length (texts ts)) us
 events_each-joined from none us = let e : from ≡ from + 0 = omega arith in ap (λ n. events_each n us) e
 events_each-joined from (more t ts) us =

@@ -19,6 +19,7 @@ use Rattle.resp_follow.proofs.EventPlaces.{AreWithin, within_wider, each_within,
 abbrev pub AreFrom : ℕ → List Timed → Type 0
 AreFrom from es = AllByRecursion (λ e. from ≤ e.at) es
 
+-- one list behind another
 pub due-append : (n : ℕ) (a b : List Timed) → due n (a ++ b) ≡ due n a ++ due n b
 due-append n [] b = refl
 due-append n (e ∷ a) b = cases (ltb e.at n) (due-append n a b)

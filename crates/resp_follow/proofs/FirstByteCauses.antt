@@ -22,7 +22,7 @@ use Rattle.resp_follow.proofs.FirstLineRows.{zeros, are_zeros, zero_digits}
 use Rattle.resp_follow.proofs.IntegerRange.{range_in}
 use Rattle.resp_follow.proofs.RefusedFronts.{fewer_rules}
 use Rattle.resp_follow.proofs.RefusedBytes.{IsOther, kind_too_deep, push_below, double_refused}
-use Rattle.resp_follow.proofs.SimpleLinesAndCounts.{CompletesUnder, IsRefusedHere, count_ends}
+use Rattle.resp_follow.proofs.CountRows.{CompletesUnder, IsRefusedHere, count_ends}
 
 abbrev Tells : Bool → Type 0 → Type 0 → Type 0
 Tells b A B = ((b ≡ true) × A) ⊎ ((b ≡ false) × B)

@@ -1,4 +1,4 @@
--- The rows of the table of least completions for first lines, under any rules by node.
+-- Least completions of begun first lines: numbers, `_`, `#`, `$` and the lengths of strings.
 use Rattle.std.proofs.Common.{◌++◌, ◌+◌, ◌<◌, ◌∙◌, ◌∷◌, ◌≡◌, ◌≤◌, Bool, List, [], ap, append-nil, append_assoc, arith, false, length, length-append, refl, subst, suc, sym, true, zero, ℕ}
 use Rattle.std.specs.List.{AllByRecursion}
 use Rattle.resp_value.specs.Bytes.{IsLine, IsText, crlf}
@@ -22,6 +22,7 @@ line_row L N k b l0 t m z p q e h f = record {
   least = λ c w. (let u = completes_line L N k b c z w in omega (arith, f u.tree u.line u.is_tree u.keep (sym (sort_is u.tree u.is_tree) ∙ ap sort u.begins), ap length u.whole, length-append u.line (crlf (after_line u.tree))));
 }
 
+-- a tree of this sort is such a number
 pub tree_of_numeral : (t : Tree) (k : NumberKind) (g : Sign) (ds : List ℕ) → sort_of t ≡ leaf_of (numeral_sort k g ds) → t ≡ leaf (numeral k g ds)
 tree_of_numeral (leaf (numeral j h r)) k g ds e = cc
 tree_of_numeral (leaf (line j r)) k g ds e = absurd (cc)
@@ -31,6 +32,7 @@ tree_of_numeral (leaf (string j es r)) k g ds e = absurd (cc)
 tree_of_numeral (leaf (chunked cs z)) k g ds e = absurd (cc)
 tree_of_numeral (node j f ts) k g ds e = absurd (cc)
 
+-- a tree of this sort is such a string
 pub tree_of_string : (t : Tree) (b : ℕ) (ds : List ℕ) → sort_of t ≡ leaf_of (string_sort b ds) → (k : StringKind) × (s : List ℕ) × (string_byte k ≡ b) × (t ≡ leaf (string k ds s))
 tree_of_string (leaf (string j es r)) b ds e = let h : es ≡ ds = cc in (j, r, cc, cc)
 tree_of_string (leaf (line j r)) b ds e = absurd (cc)
@@ -40,6 +42,7 @@ tree_of_string (leaf (truth c)) b ds e = absurd (cc)
 tree_of_string (leaf (chunked cs z)) b ds e = absurd (cc)
 tree_of_string (node j f ts) b ds e = absurd (cc)
 
+-- a tree of this sort is a streamed string
 pub tree_of_chunked : (t : Tree) → sort_of t ≡ leaf_of chunked_sort → (cs : List Chunk) × (z : List ℕ) × (t ≡ leaf (chunked cs z))
 tree_of_chunked (leaf (chunked cs z)) e = (cs, z, refl)
 tree_of_chunked (leaf (string j es r)) e = absurd (cc)
@@ -54,6 +57,7 @@ pub no_other : (t : Tree) → sort_of t ≡ no_sort → ⊥
 no_other (leaf l) e = cc
 no_other (node j f ts) e = cc
 
+-- a number's line has no break in it
 pub number_line : (K : NumberKind) (g : Sign) (ds : List ℕ) → AllByRecursion IsDigit ds → IsLine (number_byte K ∷ (sign_text g ++ ds))
 number_line Int Unsigned ds p = ((λ e. omega arith, λ e. omega arith), line_from_each ds p)
 number_line Int Plus ds p = ((λ e. omega arith, λ e. omega arith), ((λ e. omega arith, λ e. omega arith), line_from_each ds p))
@@ -106,19 +110,23 @@ truth_begin_row L N k h = line_row L N k (35 ∷ []) (116 ∷ []) (leaf (truth t
     more_truth u [] e = absurd (no_other u e)
     more_truth u (c ∷ l) e = omega arith
 
+-- `#t` and `#f`: 2
 pub truth_row : (L : LeafRule) (N : NodeRule) (k : ℕ) (b : Bool) → L k (truth b) → HasLeast (CompletesValue L N k (truth_line b)) 2
 unfolding first_line
 truth_row L N k true h = line_row L N k (35 ∷ 116 ∷ []) [] (leaf (truth true)) 0 ((λ e. omega arith, λ e. omega arith), ((λ e. omega arith, λ e. omega arith), tt)) tt h refl refl (λ u l i j e. omega arith)
 truth_row L N k false h = line_row L N k (35 ∷ 102 ∷ []) [] (leaf (truth false)) 0 ((λ e. omega arith, λ e. omega arith), ((λ e. omega arith, λ e. omega arith), tt)) tt h refl refl (λ u l i j e. omega arith)
 
+-- so many zeros
 abbrev pub zeros : ℕ → List ℕ
 zeros zero = []
 zeros (suc n) = 48 ∷ zeros n
 
+-- so many they are
 pub length-zeros : (n : ℕ) → length (zeros n) ≡ n
 length-zeros zero = refl
 length-zeros (suc n) = omega (arith, length-zeros n)
 
+-- and bytes
 pub are_zeros : (n : ℕ) → IsText (zeros n)
 are_zeros zero = tt
 are_zeros (suc n) = (omega arith, are_zeros n)
@@ -148,6 +156,7 @@ dollar_more (node Map f ts) l p e b = omega (arith, ap byte_at_start b)
 dollar_more (node Attr f ts) l p e b = omega (arith, ap byte_at_start b)
 dollar_more (node Push f ts) l p e b = omega (arith, ap byte_at_start b)
 
+-- a string's first line has no break in it
 pub string_line : (K : StringKind) (ds : List ℕ) → AllByRecursion IsDigit ds → IsLine (string_byte K ∷ ds)
 string_line Bulk ds p = ((λ e. omega arith, λ e. omega arith), line_from_each ds p)
 string_line BulkError ds p = ((λ e. omega arith, λ e. omega arith), line_from_each ds p)
@@ -158,6 +167,7 @@ sort_string Bulk d cs p = rw (digit_is_no d 45 p (omega arith), digit_is_no_mark
 sort_string BulkError d cs p = refl
 sort_string (Verbatim f) d cs p = refl
 
+-- a first line with a string's type byte and a digit is a string's
 pub is_string : (t : Tree) (K : StringKind) (d : ℕ) (cs : List ℕ) → IsDigit d → sort_of t ≡ sort (string_byte K ∷ d ∷ cs) → (J : StringKind) × (s : List ℕ) × (string_byte J ≡ string_byte K) × (t ≡ leaf (string J (d ∷ cs) s))
 is_string t K d cs q e = tree_of_string t (string_byte K) (d ∷ cs) (e ∙ sort_string K d cs q)
 

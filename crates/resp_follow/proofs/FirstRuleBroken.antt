@@ -1,4 +1,4 @@
--- A refusal under a rule, and none under the rule before, is a cause; and what is begun and followed is viable.
+-- A refusal under a rule, and none under the rule before, is a cause; and what total leaves.
 use Rattle.std.proofs.Common.{◌≡◌, ◌↔◌, ℕ, suc, ◌+◌, ◌<◌, ◌≤◌, List, length, arith}
 use Rattle.resp_value.specs.Rules.{Rules, Rule, Grammar, WithinItems, WithinTotal, rank}
 use Rattle.resp_value.specs.Spellings.{IsViable, IsCause}

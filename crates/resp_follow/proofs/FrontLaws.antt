@@ -21,10 +21,12 @@ continues r rule front rest before_total w = record { tree = w.tree; spells = re
 pub whole_text : (r : Rules) (rule : Rule) (front rest : List ℕ) → rank rule < rank WithinTotal → Continues r rule front rest → IsWholeText (LeafKeeps r rule) (NodeKeeps r rule) (front ++ rest)
 whole_text r rule front rest before_total w = record { tree = w.tree; is_tree = w.spells.is_tree; keep = (keeps_locally r rule w.tree before_total).0 w.keeps; whole = w.spells.spelled }
 
+-- what has come, and what may follow it
 pub compose : WhatMayFollowContinues
 compose r rule frames begun rest before_total kept follows =
     continues r rule (around frames begun) rest before_total (subst (IsWholeText (LeafKeeps r rule) (NodeKeeps r rule)) (sym (around-append frames begun rest)) (c.compose (LeafKeeps r rule) (NodeKeeps r rule) frames (begun ++ rest) kept follows))
 
+-- what continues a front may follow it
 pub determine : WhatContinuesMayFollow
 determine r rule frames begun rest before_total are_open goes_on =
     c.determine (LeafKeeps r rule) (NodeKeeps r rule) frames (begun ++ rest) are_open (subst (IsWholeText (LeafKeeps r rule) (NodeKeeps r rule)) (around-append frames begun rest) (whole_text r rule (around frames begun) rest before_total goes_on))
@@ -38,6 +40,7 @@ least_continues r rule front n before_total h = record {
   least = λ rest w. h.least rest (whole_text r rule front rest before_total w);
 }
 
+-- the least completion is the begun value's, and then what the frames need
 pub follow_least : LeastCompletionSplits
 follow_least r rule frames byte begun n before_total can_end no_stop some h =
     least_continues r rule (around frames (byte ∷ begun)) (n + frames_needed frames) before_total
@@ -57,6 +60,7 @@ all_rules r t keeps fits WithinLength e = keeps WithinLength (omega arith)
 all_rules r t keeps fits WithinItems e = keeps WithinItems (omega arith)
 all_rules r t keeps fits WithinTotal e = fits
 
+-- a front is viable where it and its least completion are within total
 pub viable_in_all : ViableWhereLeastFits
 viable_in_all r front n h = (
   λ v.

@@ -13,7 +13,7 @@ use Rattle.resp_follow.proofs.OpenFrames.{shortest_trees}
 use Rattle.resp_follow.proofs.LeastAround.{length-shortest_trees}
 use Rattle.resp_follow.proofs.Levels.{left}
 use Rattle.resp_follow.proofs.KeptNodes.{leaf_keeps}
-use Rattle.resp_follow.proofs.SimpleLinesAndCounts.{CompletesUnder, IsRefusedHere, kind_line, count_row, count_ends, node_counts, node_recounts, count_too_many}
+use Rattle.resp_follow.proofs.CountRows.{CompletesUnder, IsRefusedHere, kind_line, count_row, count_ends, node_counts, node_recounts, count_too_many}
 use Rattle.resp_follow.proofs.FirstLineRows.{string_row, zeros, length-zeros, are_zeros}
 use Rattle.resp_follow.proofs.MoreFirstLineRows.{short_verbatim_row}
 use Rattle.resp_follow.proofs.ShortRows.{next_row, zero_verbatim_row}
@@ -66,6 +66,7 @@ pub record IsCountReturned (r : Rules) (k : Kind) (first : ℕ) (digits : List �
   pub count : IsCountToken r k first digits level begun
   pub returned : bytes ≡ begun ++ 13 ∷ []
 
+-- one less than before it
 pub count_returned_begun : (r : Rules) (k : Kind) (first : ℕ) (digits : List ℕ) (level : ℕ) (bytes : List ℕ) → IsCountReturned r k first digits level bytes → IsBegunBy r level bytes (3 * members_of k (number (first ∷ digits)) + 1)
 count_returned_begun r k first digits level bytes w =
     let n = members_of k (number (first ∷ digits)) in
@@ -135,6 +136,7 @@ bulk_length_begun r first digits level bytes w =
     let size = length-zeros n in
     length_least r Bulk first digits level (n + 2 + 2) bytes w (omega arith) (string_row (LeafKeeps r WithinItems) (NodeKeeps r WithinItems) level Bulk first digits (zeros n) w.are_digits tt (are_zeros n) (sym size) (string_keeps r WithinItems level Bulk (first ∷ digits) (zeros n) tt tt (omega (arith, w.fits))))
 
+-- so also of a bulk error
 pub error_length_begun : (r : Rules) (first : ℕ) (digits : List ℕ) (level : ℕ) (bytes : List ℕ) → IsLengthToken r BulkError first digits level bytes → IsBegunBy r level bytes (number (first ∷ digits) + 2 + 2)
 error_length_begun r first digits level bytes w =
     let n = number (first ∷ digits) in

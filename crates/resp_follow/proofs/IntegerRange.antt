@@ -10,7 +10,7 @@ use Rattle.resp_value.proofs.FirstLines.{first_line, leaf_of, numeral_sort, sort
 use Rattle.resp_value.proofs.Splitting.{digit_is_no}
 use Rattle.resp_follow.proofs.BegunLines.{completes_line, number-more}
 use Rattle.resp_follow.proofs.FirstLineRows.{number_line, tree_of_numeral}
-use Rattle.resp_follow.proofs.SimpleLinesAndCounts.{IsRefusedHere}
+use Rattle.resp_follow.proofs.CountRows.{IsRefusedHere}
 
 -- the greatest digits of a sign
 abbrev pub greatest : Sign → ℕ
@@ -23,6 +23,7 @@ in_range Unsigned ds p = omega (arith, ints, p.0, p.1)
 in_range Plus ds p = omega (arith, ints, p.0, p.1)
 in_range Minus ds p = omega (arith, ints, p.0, p.1)
 
+-- digits up to the greatest are within range
 pub range_in : (g : Sign) (ds : List ℕ) → number ds ≤ greatest g → IsInRange (numeral Int g ds)
 range_in Unsigned ds p = (omega (arith, ints), omega (arith, ints))
 range_in Plus ds p = (omega (arith, ints), omega (arith, ints))

@@ -13,6 +13,7 @@ use Rattle.resp_follow.specs.MayFollow.{AreKept, AreOpen, CanAllEnd, CanEnd, Com
 use Rattle.resp_follow.proofs.Composition.{around-append, compose, determine, first_member, member_rest}
 use Rattle.resp_follow.proofs.OpenFrames.{are_shortest_trees, count-shortest_trees, shortest_trees}
 
+-- a begins with b, and what follows b is the rest of a, and what follows a
 abbrev pub BeginsBy : List ℕ → List ℕ → List ℕ → List ℕ → Type 0
 BeginsBy a b x y = (z : List ℕ) × (a ≡ b ++ z) × (y ≡ z ++ x)
 
@@ -26,6 +27,7 @@ one_begins (c ∷ a) (d ∷ b) x y e = cases (one_begins a b x y cc)
     cases (inl w) = let h : a ≡ b ++ w.0 = w.1 in inl (w.0, cc, w.2)
     cases (inr w) = let h : b ≡ a ++ w.0 = w.1 in inr (w.0, cc, w.2)
 
+-- what may follow begun bytes: what completes their value, and what follows that
 pub record ValueParts (L : LeafRule) (N : NodeRule) (fs : List Frame) (b c : List ℕ) : Type 0 where
   pub here : List ℕ
   pub behind : List ℕ
@@ -41,6 +43,7 @@ pub record IsBegun (b : List ℕ) : Type 0 where
   pub whole : text tree ≡ b ++ more
   pub some : 0 < length more
 
+-- a value that begins with the begun bytes, in parts
 pub member_parts : (L : LeafRule) (N : NodeRule) (fs : List Frame) (b c : List ℕ) → IsBegun b → ValueThen L N fs (b ++ c) → ValueParts L N fs b c
 member_parts L N fs b c g m = cases (one_begins (text m.tree) b m.rest c m.whole)
   where
@@ -52,6 +55,7 @@ member_parts L N fs b c g m = cases (one_begins (text m.tree) b m.rest c m.whole
         let s : 0 < length g.more = g.some in
         absurd (omega (arith, length-append w.0 g.more))
 
+-- and the parts together
 pub parts_member : (L : LeafRule) (N : NodeRule) (fs : List Frame) (b c : List ℕ) → ValueParts L N fs b c → ValueThen L N fs (b ++ c)
 parts_member L N fs b c p = record {
   tree = p.tail.tree;
@@ -86,23 +90,28 @@ unfolding first_line
 first_length (leaf l) = leaf_length l
 first_length (node k f ts) = omega arith
 
+-- a text has three bytes at least
 pub text_least : (t : Tree) → 3 ≤ length (text t)
 text_least t =
     let e : length (text t ++ []) ≡ length (first_line t ++ crlf (after_line t ++ [])) = ap length (text_is t []) in
     omega (arith, length-append (text t) [], length-append (first_line t) (crlf (after_line t ++ [])), first_length t)
 
+-- so texts have three bytes each
 pub texts_least : (ts : Trees) → 3 * count ts ≤ length (texts ts)
 texts_least none = omega arith
 texts_least (more t ts) = omega (arith, texts_least ts, text_least t, length-append (text t) (texts ts))
 
+-- the shortest trees have three bytes each
 pub length-shortest_trees : (n : ℕ) → length (texts (shortest_trees n)) ≡ 3 * n
 length-shortest_trees zero = refl
 length-shortest_trees (suc n) = omega (arith, length-shortest_trees n)
 
+-- what holds of the shortest value holds of each of them
 pub shortest_trees_hold : (L : LeafRule) (N : NodeRule) (k n : ℕ) → L k (line Simple []) → HoldsFromEach L N k (shortest_trees n)
 shortest_trees_hold L N k zero h = tt
 shortest_trees_hold L N k (suc n) h = (h, shortest_trees_hold L N k n h)
 
+-- the least that may follow within a frame: the shortest members that are missing, its close, and the rest's least
 pub members_least : (L : LeafRule) (N : NodeRule) (k : ℕ) (j : Kind) (f : Form) (n q : ℕ) (P : List ℕ → Type 0) → L (suc k) (line Simple []) → CanEnd N k j f n → HasLeast P q → HasLeast (MembersThen L N k j f n P) (members_needed j f n q)
 members_least L N k j f n q P s h l =
     let m = missing j f n in
@@ -124,21 +133,26 @@ members_least L N k j f n q P s h l =
       least = λ c w. omega (arith, missing_least j f n (count w.members) w.is_form, texts_least w.members, l.least w.rest w.after, ap length w.whole, length-append (texts w.members ++ close f) w.rest, length-append (texts w.members) (close f));
     }
 
+-- the least that may follow a whole value within frames
 pub after_least : (L : LeafRule) (N : NodeRule) (fs : List Frame) → ((k : ℕ) → L k (line Simple [])) → CanAllEnd L N fs → HasLeast (MayFollowValue L N fs) (frames_needed fs)
 after_least L N [] s h = record { some = []; holds = refl; size = refl; least = λ c w. omega arith }
 after_least L N (f ∷ fs) s h = members_least L N (length fs) f.kind f.form (suc (count f.done)) (frames_needed fs) (MayFollowValue L N fs) (s (suc (length fs))) h.0 (after_least L N fs s h.3)
 
+-- frames that can end have room
 pub are_open : (L : LeafRule) (N : NodeRule) (fs : List Frame) → CanAllEnd L N fs → AreOpen fs
 are_open L N [] h = tt
 are_open L N (f ∷ fs) h = (_, h.0.0, omega arith, h.1, are_open L N fs h.3)
 
+-- and their members are within the rules
 pub are_kept : (L : LeafRule) (N : NodeRule) (fs : List Frame) → CanAllEnd L N fs → AreKept L N fs
 are_kept L N [] h = tt
 are_kept L N (f ∷ fs) h = (h.1, h.2, are_kept L N fs h.3)
 
+-- what may follow a begun value, in parts
 pub follow_parts : (L : LeafRule) (N : NodeRule) (fs : List Frame) (x : ℕ) (b c : List ℕ) → AreOpen fs → (x ≡ 46 → ⊥) → IsBegun (x ∷ b) → MayFollow L N fs (x ∷ b) c → ValueParts L N fs (x ∷ b) c
 follow_parts L N fs x b c o n g m = member_parts L N fs (x ∷ b) c g (first_member L N fs ((x ∷ b) ++ c) o n m)
 
+-- and the parts together
 pub parts_follow : (L : LeafRule) (N : NodeRule) (fs : List Frame) (b c : List ℕ) → ValueParts L N fs b c → MayFollow L N fs b c
 parts_follow L N fs b c p = member_rest L N fs (b ++ c) (parts_member L N fs b c p)
 

@@ -15,6 +15,7 @@ pub data Shape : Type 0 where
   left : ℕ → Shape
   taken : ℕ → Shape
 
+-- an aggregate that is open, as a scanner counts it
 pub record Level : Type 0 where
   pub kind : Kind
   pub shape : Shape
@@ -24,6 +25,7 @@ abbrev pub HasShape : Kind → Shape → Form → ℕ → Type 0
 HasShape k (left m) f n = (ds : List ℕ) × (f ≡ Counted ds) × IsDigits ds × (members_of k (number ds) ≡ n + m) × (0 < m)
 HasShape k (taken m) f n = (f ≡ Streamed) × (m ≡ n)
 
+-- the levels count these frames
 abbrev pub AreLevelsOf : List Level → List Frame → Type 0
 AreLevelsOf [] [] = Unit {0}
 AreLevelsOf [] (f ∷ fs) = ⊥
@@ -44,10 +46,12 @@ abbrev pub shape_after : Shape → Shape
 shape_after (left m) = left (m - 1)
 shape_after (taken m) = taken (m + 1)
 
+-- what the levels need once the open member is whole
 abbrev pub levels_needed : List Level → ℕ
 levels_needed [] = 0
 levels_needed (v ∷ vs) = shape_needed v.kind (shape_after v.shape) + levels_needed vs
 
+-- that is three bytes for each missing member, and the close
 pub shape_needed_is : (k : Kind) (s : Shape) (f : Form) (n : ℕ) → HasShape k s f n → shape_needed k s ≡ 3 * missing k f n + length (close f)
 shape_needed_is k (left m) (Counted ds) n h =
     let e : Counted ds ≡ Counted h.0 = h.1 in
@@ -74,6 +78,7 @@ shape_later k (left m) Streamed n h = let e : Streamed ≡ Counted h.0 = h.1 in 
 shape_later k (taken m) (Counted ds) n h = let e : Counted ds ≡ Streamed = h.0 in absurd (cc)
 shape_later k (taken m) Streamed n h = let e : m + 1 ≡ suc n = omega (arith, h.1) in shape_needed_is k (taken (m + 1)) Streamed (suc n) (refl, e)
 
+-- what the levels need is what the frames need
 pub levels_needed_is : (vs : List Level) (fs : List Frame) → AreLevelsOf vs fs → levels_needed vs ≡ frames_needed fs
 levels_needed_is [] [] h = refl
 levels_needed_is [] (f ∷ fs) h = absurd h
@@ -87,11 +92,13 @@ levels_needed_is (v ∷ vs) (f ∷ fs) h =
 abbrev pub with_member : Frame → Tree → Frame
 with_member f t = record { kind = f.kind; form = f.form; done = joined_trees f.done (more t none) }
 
+-- the text of a frame with one member more
 pub open-with : (f : Frame) (t : Tree) → open_text (with_member f t) ≡ open_text f ++ text t
 open-with f t =
     let h = kind_byte f.kind ∷ form_line f.form in
     ap (λ z. h ++ crlf z) (texts-joined_trees f.done (more t none) ∙ ap (λ z. texts f.done ++ z) (append-nil (text t))) ∙ sym (append_assoc h (crlf (texts f.done)) (text t))
 
+-- and of the frames around it
 pub around-with : (f : Frame) (fs : List Frame) (t : Tree) → around (f ∷ fs) (text t) ≡ around (with_member f t ∷ fs) []
 around-with f fs t = ap (around fs) (sym (open-with f t) ∙ sym (append-nil (open_text (with_member f t))))
 
@@ -121,12 +128,14 @@ pub data Ended : Type 0 where
   all_ended : Ended
   within_frames : List Level → Ended
 
+-- a level whose open member has ended
 abbrev pub finish_in : Kind → Shape → List Level → Ended → Ended
 finish_in k (left zero) vs e = e
 finish_in k (left (suc zero)) vs e = e
 finish_in k (left (suc (suc m))) vs e = within_frames (record { kind = k; shape = left (suc m) } ∷ vs)
 finish_in k (taken m) vs e = within_frames (record { kind = k; shape = taken (m + 1) } ∷ vs)
 
+-- the levels once a value has ended: each that it fills ends too
 abbrev pub finish : List Level → Ended
 finish [] = all_ended
 finish (v ∷ vs) = finish_in v.kind v.shape vs (finish vs)
@@ -165,6 +174,7 @@ ended_in L N k (taken m) vs f fs t e h a o p q ih =
       around-with f fs t,
     )
 
+-- a value that is whole ends each frame that it fills
 pub ended : (L : LeafRule) (N : NodeRule) (vs : List Level) (fs : List Frame) (t : Tree) → AreLevelsOf vs fs → CanAllEnd L N fs → IsTree t → HoldsFrom L N (length fs) t → IsEnded L N (finish vs) (around fs (text t))
 ended L N [] [] t a o p q = record { tree = t; is_tree = p; keep = q; whole = refl }
 ended L N [] (f ∷ fs) t a o p q = absurd a

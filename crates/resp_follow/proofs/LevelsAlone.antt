@@ -14,10 +14,12 @@ abbrev pub MayCount : NodeRule → ℕ → Kind → Shape → ℕ → Type 0
 MayCount N l k (left m) c = suc c ≡ m
 MayCount N l k (taken m) c = CanStream k (suc m + c) × N l k Streamed (suc m + c)
 
+-- what closes an aggregate of this shape
 abbrev pub shape_close : Shape → List ℕ
 shape_close (left m) = []
 shape_close (taken m) = 46 ∷ crlf []
 
+-- the members behind the open one, the close, and a rest of which P holds
 pub record LaterMembers (L : LeafRule) (N : NodeRule) (l : ℕ) (v : Level) (P : List ℕ → Type 0) (x : List ℕ) : Type 0 where
   pub members : Trees
   pub rest : List ℕ
@@ -27,10 +29,12 @@ pub record LaterMembers (L : LeafRule) (N : NodeRule) (l : ℕ) (v : Level) (P :
   pub whole : (texts members ++ shape_close v.shape) ++ rest ≡ x
   pub after : P rest
 
+-- what may follow a whole value, by the levels alone
 abbrev pub MayFollowLevels : LeafRule → NodeRule → List Level → List ℕ → Type 0
 MayFollowLevels L N [] x = x ≡ []
 MayFollowLevels L N (v ∷ vs) x = LaterMembers L N (length vs) v (MayFollowLevels L N vs) x
 
+-- there are as many levels as frames
 pub same_length : (vs : List Level) (fs : List Frame) → AreLevelsOf vs fs → length vs ≡ length fs
 same_length [] [] h = refl
 same_length [] (f ∷ fs) h = absurd h

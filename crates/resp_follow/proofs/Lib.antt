@@ -5,7 +5,7 @@ pub mod KeptNodes
 pub mod FrontLaws
 pub mod BegunLines
 pub mod Levels
-pub mod SimpleLinesAndCounts
+pub mod CountRows
 pub mod LevelsAlone
 pub mod FirstLineRows
 pub mod MoreFirstLineRows

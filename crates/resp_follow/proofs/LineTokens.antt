@@ -7,7 +7,7 @@ use Rattle.resp_value.specs.LocalRules.{LeafKeeps, NodeKeeps}
 use Rattle.resp_value.proofs.FirstBytes.{leaf_begins, leaf_byte, all_append}
 use Rattle.resp_value.proofs.FirstLines.{first_line, first_is_line}
 use Rattle.resp_follow.specs.LeastCompletions.{HasLeast}
-use Rattle.resp_follow.proofs.SimpleLinesAndCounts.{CompletesUnder, IsRefusedHere}
+use Rattle.resp_follow.proofs.CountRows.{CompletesUnder, IsRefusedHere}
 use Rattle.resp_follow.proofs.FirstLineRows.{line_row}
 use Rattle.resp_follow.proofs.ShortRows.{next_row}
 use Rattle.resp_follow.proofs.BrokenLines.{behind_return_broken, newline_broken}
@@ -27,6 +27,7 @@ pub record IsReturned (r : Rules) (l : Leaf) (level : ℕ) (bytes : List ℕ) : 
   pub line_of : IsLineOf r l level begun
   pub returned : bytes ≡ begun ++ 13 ∷ []
 
+-- it has no break in it
 pub no_break_in_line : (r : Rules) (l : Leaf) (level : ℕ) (bytes : List ℕ) → IsLineOf r l level bytes → IsLine bytes
 unfolding first_line
 no_break_in_line r l level bytes w = subst IsLine (sym w.is_line) (first_is_line (leaf l) w.is_leaf)
@@ -87,6 +88,7 @@ pub record IsTextToken (r : Rules) (k : LineKind) (n : ℕ) (level : ℕ) (bytes
   pub fits : n ≤ r.limits.length
   pub are : bytes ≡ line_byte k ∷ content
 
+-- it is a line that may end
 pub text_token_line : (r : Rules) (k : LineKind) (n level : ℕ) (bytes : List ℕ) → (w : IsTextToken r k n level bytes) → IsLineOf r (line k w.content) level bytes
 text_token_line r k n level bytes w = record { is_leaf = (w.is_line, w.is_text); keeps = text_line_keeps r WithinItems level k w.content w.is_text_line (omega (arith, w.size, w.fits)); is_line = w.are; no_rest = refl }
 

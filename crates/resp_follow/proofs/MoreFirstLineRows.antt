@@ -1,4 +1,4 @@
--- More rows of the table: `$`, `!`, `=`, `|` and marks.
+-- Least completions of begun first lines: `$`, `!`, `=`, `|`, and the `?` of streamed aggregates.
 use Rattle.std.proofs.Common.{◌*◌, ◌++◌, ◌+◌, ◌-◌, ◌<◌, ◌∙◌, ◌∷◌, ◌≡◌, ◌≤◌, List, [], ap, append-nil, arith, length, length-append, map, refl, subst, suc, sym, ℕ}
 use Rattle.std.proofs.lemmas.Int.Digits.{number_after_append, number_after_ge}
 use Rattle.std.proofs.lemmas.List.{map-append}
@@ -16,7 +16,7 @@ use Rattle.resp_follow.proofs.CountedContent.{verbatim_kind}
 use Rattle.resp_follow.proofs.FirstLineRows.{are_zeros, dollar_more, length-zeros, line_row, string_line, tree_of_string, zeros}
 use Rattle.resp_follow.proofs.LeastAround.{texts_least}
 use Rattle.resp_follow.proofs.OpenFrames.{shortest_trees}
-use Rattle.resp_follow.proofs.SimpleLinesAndCounts.{byte_line, line_after}
+use Rattle.resp_follow.proofs.CountRows.{byte_line, line_after}
 
 -- `$`: 4
 pub dollar_row : (L : LeafRule) (N : NodeRule) (k : ℕ) → L k (null BulkNull) → HasLeast (CompletesValue L N k (36 ∷ [])) 4
@@ -43,6 +43,7 @@ unfolding first_line
 bulk_error_row L N k h = line_row L N k (33 ∷ []) (48 ∷ []) (leaf (string BulkError (48 ∷ []) [])) 3 ((λ e. omega arith, λ e. omega arith), tt) (((omega arith, ((omega arith, omega arith), tt)), refl), tt, tt) h refl refl
     (λ u l i j e. (let w = string_size u 33 l i e in let n : 0 < length l = w.4.0 in omega (arith, w.6)))
 
+-- a verbatim string counts four bytes at least
 pub verbatim_least : (J : StringKind) (s : List ℕ) → string_byte J ≡ 61 → HasFormat J → 4 ≤ length (payload J s)
 verbatim_least J s e p = let v = verbatim_kind J e p s in omega (arith, ap length v.2, length-append v.0 (58 ∷ s), v.1)
 
@@ -98,6 +99,7 @@ mark_size (leaf x) j i e = absurd (cc)
 mark_size (node k (Counted ds) ts) j i e = absurd (cc)
 mark_size (node k Streamed ts) j i e = omega (arith, length-append (texts ts) (46 ∷ crlf []))
 
+-- `?` behind an aggregate's type byte says that it is streamed
 pub sort_mark : (j : Kind) (l : List ℕ) → sort (kind_byte j ∷ 63 ∷ l) ≡ node_of j Streamed
 sort_mark Array l = refl
 sort_mark Set l = refl

@@ -16,6 +16,7 @@ use Rattle.resp_follow.proofs.EventsDue.{front_events, events_due}
 stop_cause : (r : Rules) → IsCause r (46 ∷ []) Grammar
 stop_cause r = grammar_cause r (46 ∷ []) (λ rest w. not_close w.tree [] rest (append-nil (text w.tree) ∙ w.whole))
 
+-- a first byte has its cause
 pub first_byte : AFirstByteHasItsCause
 first_byte r byte bounds = cases (eqb_tells byte 46)
   where
@@ -31,6 +32,7 @@ first_byte r byte bounds = cases (eqb_tells byte 46)
           λ e. let g = subst (IsFrontAnswered r [] [] byte) e answered in viable r WithinItems (byte ∷ []) g.rest (omega arith) (record { tree = g.completes.tree; is_tree = g.completes.is_tree; keep = g.completes.keep; whole = g.completes.whole }),
         )
 
+-- the events due of a front
 pub events_due_split : EventsDueSplit
 events_due_split frames begun rest whole are_open no_stop spells =
     let b = front_events frames begun rest whole are_open (no_stop_first (begun ++ rest) no_stop) spells.is_tree spells.spelled in

@@ -11,7 +11,7 @@ use Rattle.resp_follow.proofs.KeptNodes.{leaf_keeps}
 use Rattle.resp_follow.proofs.IntegerRange.{greatest, range_in, int_too_far}
 use Rattle.resp_follow.proofs.FirstLineRows.{number_begin_row, truth_begin_row}
 use Rattle.resp_follow.proofs.ShortRows.{null_begun_row}
-use Rattle.resp_follow.proofs.SimpleLinesAndCounts.{CompletesUnder, IsRefusedHere}
+use Rattle.resp_follow.proofs.CountRows.{CompletesUnder, IsRefusedHere}
 use Rattle.resp_follow.proofs.BegunFronts.{IsBegunBy}
 use Rattle.resp_follow.proofs.LineTokens.{IsLineOf}
 
@@ -20,6 +20,7 @@ abbrev pub MayBe : Rules → NumberKind → Sign → List ℕ → Type 0
 MayBe r Int sign digits = number digits ≤ greatest sign
 MayBe r Big sign digits = (r.version ≡ Two → ⊥) × (length (kept digits) ≤ r.limits.length)
 
+-- such a number is within every rule
 pub number_keeps : (r : Rules) (rule : Rule) (level : ℕ) (k : NumberKind) (sign : Sign) (digits : List ℕ) → MayBe r k sign digits → LeafKeeps r rule level (numeral k sign digits)
 number_keeps r rule level Int sign digits p = leaf_keeps r rule level (numeral Int sign digits) tt (λ is_two. tt) (range_in sign digits p) (λ off. tt) (omega arith)
 number_keeps r rule level Big sign digits p = leaf_keeps r rule level (numeral Big sign digits) tt (λ is_two. absurd (p.0 is_two)) tt (λ off. tt) p.1
@@ -44,6 +45,7 @@ pub record IsNumberToken (r : Rules) (k : NumberKind) (sign : Sign) (digits : Li
   pub may_be : MayBe r k sign digits
   pub are : bytes ≡ number_byte k ∷ (sign_text sign ++ digits)
 
+-- it is a line that may end
 pub number_token_line : (r : Rules) (k : NumberKind) (sign : Sign) (digits : List ℕ) (level : ℕ) (bytes : List ℕ) → IsNumberToken r k sign digits level bytes → IsLineOf r (numeral k sign digits) level bytes
 number_token_line r k sign digits level bytes w = record { is_leaf = w.are_digits; keeps = number_keeps r WithinItems level k sign digits w.may_be; is_line = w.are; no_rest = refl }
 
@@ -76,6 +78,7 @@ null_token_line r PlainNull level p = record { is_leaf = tt; keeps = leaf_keeps 
 pub dollar_null_begun : (r : Rules) (level : ℕ) → IsBegunBy r level (36 ∷ 45 ∷ []) 3
 dollar_null_begun r level = record { head = 36; tail = 45 ∷ []; parts = refl; some = omega arith; least = null_begun_row (LeafKeeps r WithinItems) (NodeKeeps r WithinItems) level BulkNull 36 refl (omega arith) (null_token_line r BulkNull level (λ is_two e. absurd (cc))).keeps }
 
+-- 3
 pub star_null_begun : (r : Rules) (level : ℕ) → IsBegunBy r level (42 ∷ 45 ∷ []) 3
 star_null_begun r level = record { head = 42; tail = 45 ∷ []; parts = refl; some = omega arith; least = null_begun_row (LeafKeeps r WithinItems) (NodeKeeps r WithinItems) level ArrayNull 42 refl (omega arith) (null_token_line r ArrayNull level (λ is_two e. absurd (cc))).keeps }
 

@@ -1,4 +1,4 @@
--- Open aggregates: what a scanner's stack stands for, what completes it, and what every spelling that goes on so has.
+-- Lists of trees as frames hold them, and that a head tells its aggregate.
 use Rattle.std.proofs.Common.{◌++◌, ◌+◌, ◌∙◌, ◌∷◌, ◌≡◌, List, [], ap, append_assoc, arith, refl, subst, suc, sym, zero, ℕ}
 use Rattle.resp_value.specs.Bytes.{crlf}
 use Rattle.resp_value.specs.Data.{Kind}
@@ -6,18 +6,22 @@ use Rattle.resp_value.specs.Trees.{AreTrees, Form, HasMembers, IsTree, Simple, T
 use Rattle.resp_value.proofs.FirstLines.{first_is_line, first_line, leaf_of, leaf_sort, node_of, sort, sort_is, text_is}
 use Rattle.resp_value.proofs.Splitting.{line_split}
 
+-- one list of trees behind another
 abbrev pub joined_trees : Trees → Trees → Trees
 joined_trees none us = us
 joined_trees (more t ts) us = more t (joined_trees ts us)
 
+-- its texts
 pub texts-joined_trees : (ts us : Trees) → texts (joined_trees ts us) ≡ texts ts ++ texts us
 texts-joined_trees none us = refl
 texts-joined_trees (more t ts) us = ap (λ z. text t ++ z) (texts-joined_trees ts us) ∙ sym (append_assoc (text t) (texts ts) (texts us))
 
+-- its count
 pub count-joined_trees : (ts us : Trees) → count (joined_trees ts us) ≡ count ts + count us
 count-joined_trees none us = omega arith
 count-joined_trees (more t ts) us = omega (arith, count-joined_trees ts us)
 
+-- its trees are the grammar's
 pub are_joined : (ts us : Trees) → AreTrees ts → AreTrees us → AreTrees (joined_trees ts us)
 are_joined none us p q = q
 are_joined (more t ts) us p q = (p.0, are_joined ts us p.1 q)
@@ -26,14 +30,17 @@ are_joined (more t ts) us p q = (p.0, are_joined ts us p.1 q)
 abbrev pub shortest_tree : Tree
 shortest_tree = leaf (line Simple [])
 
+-- so many shortest values
 abbrev pub shortest_trees : ℕ → Trees
 shortest_trees zero = none
 shortest_trees (suc n) = more shortest_tree (shortest_trees n)
 
+-- so many they are
 pub count-shortest_trees : (n : ℕ) → count (shortest_trees n) ≡ n
 count-shortest_trees zero = refl
 count-shortest_trees (suc n) = omega (arith, count-shortest_trees n)
 
+-- and trees of the grammar
 pub are_shortest_trees : (n : ℕ) → AreTrees (shortest_trees n)
 are_shortest_trees zero = tt
 are_shortest_trees (suc n) = ((tt, tt), are_shortest_trees n)

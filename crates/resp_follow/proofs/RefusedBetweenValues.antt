@@ -15,7 +15,7 @@ use Rattle.resp_follow.proofs.Composition.{around-append, compose, determine}
 use Rattle.resp_follow.proofs.LeastAround.{after_least, are_kept, parts_follow}
 use Rattle.resp_follow.proofs.Levels.{AreLevelsOf, AreReady, HasShape, IsEnded, Level, Shape, finish, left, shape_needed, shape_needed_is, stopped, taken}
 use Rattle.resp_follow.proofs.RefusedFronts.{CompletesFront, IsRefused, fewer_rules_can_end, full_node, no_stop, no_stop_top, refuse}
-use Rattle.resp_follow.proofs.SimpleLinesAndCounts.{CompletesUnder, IsRefusedHere}
+use Rattle.resp_follow.proofs.CountRows.{CompletesUnder, IsRefusedHere}
 use Rattle.resp_follow.proofs.KeptNodes.{shortest_keeps}
 
 -- a byte on the shortest way

@@ -1,4 +1,4 @@
--- Bytes that begun lines refuse, by class.
+-- What refuses a type byte: the version, a push below the top, depth, and that no double is read.
 use Rattle.std.proofs.Common.{◌++◌, ◌<◌, ◌∙◌, ◌∷◌, ◌≡◌, ◌≤◌, List, [], ap, arith, refl, subst, sym, ℕ}
 use Rattle.std.specs.List.{AllByRecursion}
 use Rattle.resp_value.specs.Bytes.{crlf}
@@ -10,15 +10,15 @@ use Rattle.resp_value.specs.Trees.{Counted, Double, Form, count, kind_byte, leaf
 use Rattle.resp_value.proofs.FirstLines.{form_of, node_of, sort, sort_is}
 use Rattle.resp_follow.proofs.BegunLines.{completes_line, counted_is, tree_of_line, tree_of_node}
 use Rattle.resp_follow.proofs.OpenFrames.{shortest_trees}
-use Rattle.resp_follow.proofs.SimpleLinesAndCounts.{IsRefusedHere, byte_line, count_ends, kind_line}
+use Rattle.resp_follow.proofs.CountRows.{IsRefusedHere, byte_line, count_ends, kind_line}
 use Rattle.resp_follow.proofs.FirstLineRows.{zero_digits}
 
--- digits are followed by digits and CR alone
 -- a byte of digits is a digit
 pub digits_hold : (a l : List ℕ) (x : ℕ) → AllByRecursion IsDigit (a ++ x ∷ l) → IsDigit x
 digits_hold [] l x p = p.0
 digits_hold (c ∷ a) l x p = digits_hold a l x p.1
 
+-- an aggregate but an array
 abbrev pub IsOther : Kind → Type 0
 IsOther Array = ⊥
 IsOther Set = Unit {0}

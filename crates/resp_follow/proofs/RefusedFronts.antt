@@ -1,4 +1,4 @@
--- Viable fronts, the cause of a refusal and the least completion, from the innermost token and the open aggregates.
+-- What completes a front, what refuses it, and bytes after which nothing is spelled.
 use Rattle.std.proofs.Common.{◌++◌, ◌+◌, ◌<◌, ◌∙◌, ◌∷◌, ◌≡◌, ◌≤◌, List, [], ap, append-nil, append_assoc, arith, length, refl, subst, suc, sym, ℕ}
 use Rattle.resp_value.specs.Data.{Array, Attr, Kind, Map, Push, Set, items_of, members_of}
 use Rattle.resp_value.specs.LocalRules.{HoldsFrom, LeafKeeps, LeafRule, NodeKeeps, NodeRule}
@@ -11,7 +11,7 @@ use Rattle.resp_follow.specs.Frames.{Frame, around}
 use Rattle.resp_follow.specs.MayFollow.{AreOpen, CanAllEnd, IsWholeText, MayFollowFrames, MayFollowValue, MembersThen, missing}
 use Rattle.resp_follow.proofs.Composition.{around-append, compose, determine, first_member}
 use Rattle.resp_follow.proofs.LeastAround.{IsBegun, after_least, are_kept, are_open, follow_parts, parts_follow}
-use Rattle.resp_follow.proofs.SimpleLinesAndCounts.{CompletesUnder, IsRefusedHere}
+use Rattle.resp_follow.proofs.CountRows.{CompletesUnder, IsRefusedHere}
 use Rattle.resp_follow.proofs.KeptNodes.{shortest_keeps}
 
 -- c completes the front p within the rules up to g
@@ -28,6 +28,7 @@ pub record IsRefused (r : Rules) (g h : Rule) (p : List ℕ) : Type 0 where
 pub fewer_rules : (r : Rules) (g h : Rule) (k : ℕ) (t : Tree) → rank h ≤ rank g → HoldsFrom (LeafKeeps r g) (NodeKeeps r g) k t → HoldsFrom (LeafKeeps r h) (NodeKeeps r h) k t
 fewer_rules r g h k t e = weaker (LeafKeeps r g) (LeafKeeps r h) (NodeKeeps r g) (NodeKeeps r h) k t (λ i l p x y. p x (omega arith)) (λ i j f n p x y. p x (omega arith))
 
+-- frames that can end within more rules can end within fewer
 pub fewer_rules_can_end : (r : Rules) (g h : Rule) (fs : List Frame) → rank h ≤ rank g → CanAllEnd (LeafKeeps r g) (NodeKeeps r g) fs → CanAllEnd (LeafKeeps r h) (NodeKeeps r h) fs
 fewer_rules_can_end r g h [] e p = tt
 fewer_rules_can_end r g h (f ∷ fs) e p = (

@@ -1,4 +1,4 @@
--- Rows of the least completions for nulls, for the heads of chunks, and for short lengths of verbatim strings.
+-- Least completions of nulls, of the heads of chunks, and of short lengths of verbatim strings.
 use Rattle.std.proofs.Common.{◌≡◌, ℕ, suc, ◌+◌, ◌*◌, ◌<◌, ◌≤◌, List, [], ◌∷◌, ◌++◌, length, refl, sym, ap, subst, ◌∙◌, arith, append_assoc, append-nil, length-append}
 use Rattle.std.specs.List.{AllByRecursion}
 use Rattle.resp_value.specs.Bytes.{IsLine, crlf}

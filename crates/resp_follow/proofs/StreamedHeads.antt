@@ -12,7 +12,7 @@ use Rattle.resp_follow.specs.MayFollow.{missing}
 use Rattle.resp_follow.proofs.KeptNodes.{at_each_rule, leaf_keeps, node_keeps}
 use Rattle.resp_follow.proofs.BegunLines.{completes_line, tree_of_node}
 use Rattle.resp_follow.proofs.Levels.{taken}
-use Rattle.resp_follow.proofs.SimpleLinesAndCounts.{IsRefusedHere, byte_line}
+use Rattle.resp_follow.proofs.CountRows.{IsRefusedHere, byte_line}
 use Rattle.resp_follow.proofs.FirstLineRows.{tree_of_chunked, chunked_row, zero_digits}
 use Rattle.resp_follow.proofs.MoreFirstLineRows.{sort_mark, mark_row}
 use Rattle.resp_follow.proofs.BegunFronts.{IsBegunBy, Opens}

@@ -14,9 +14,11 @@ use Rattle.resp_follow.proofs.BegunLines.{line_begins, number-more, text_first}
 use Rattle.resp_follow.proofs.FirstLineRows.{are_zeros, length-zeros, tree_of_chunked, zeros}
 use Rattle.resp_follow.proofs.FirstLineRows.{zero_digits}
 
+-- the line that ends a streamed string
 abbrev pub last : List ℕ → List ℕ
 last z = (59 ∷ z) ++ crlf []
 
+-- one list of chunks behind another
 abbrev pub with_chunks : List Chunk → List Chunk → List Chunk
 with_chunks [] es = es
 with_chunks (c ∷ cs) es = c ∷ with_chunks cs es
@@ -66,6 +68,7 @@ pub record CompletesChunks (L : LeafRule) (k : ℕ) (ds : List Chunk) (w c : Lis
   pub keep : L k (chunked (with_chunks ds more) zeros)
   pub whole : chunks_text more (last zeros) ≡ w ++ c
 
+-- what completes a streamed string are chunks, and the line that ends it
 pub completes_chunks : (L : LeafRule) (N : NodeRule) (k : ℕ) (ds : List Chunk) (w c : List ℕ) → AllByRecursion IsChunk ds → CompletesValue L N k (36 ∷ 63 ∷ crlf (chunks_text ds w)) c → CompletesChunks L k ds w c
 completes_chunks L N k ds w c p t =
     let s = line_split (first_line t.tree) (36 ∷ 63 ∷ []) (after_line t.tree) (chunks_text ds w ++ c) (first_is_line t.tree t.is_tree) ((λ e. omega arith, λ e. omega arith), ((λ e. omega arith, λ e. omega arith), tt)) (sym (text_first t.tree) ∙ t.whole) in
@@ -77,6 +80,7 @@ completes_chunks L N k ds w c p t =
     let x0 : u.0 ≡ with_chunks ds es = x in
     record { more = es; zeros = u.1; are_chunks = y; digits = i.1.0; zero = i.1.1; keep = subst (λ v. L k (chunked v u.1)) x0 a; whole = f }
 
+-- and the other way
 pub chunks_complete : (L : LeafRule) (N : NodeRule) (k : ℕ) (ds : List Chunk) (w c : List ℕ) → AllByRecursion IsChunk ds → CompletesChunks L k ds w c → CompletesValue L N k (36 ∷ 63 ∷ crlf (chunks_text ds w)) c
 chunks_complete L N k ds w c p t = record {
   tree = leaf (chunked (with_chunks ds t.more) t.zeros);
@@ -85,6 +89,7 @@ chunks_complete L N k ds w c p t = record {
   whole = ap (λ z. 36 ∷ 63 ∷ crlf z) (chunks_text-with ds t.more (last t.zeros) ∙ ap (chunks_text ds) t.whole ∙ sym (chunks_text-append ds w c));
 }
 
+-- that is four bytes at least
 pub chunks_least : (cs : List Chunk) (z : List ℕ) → IsDigits z → 4 ≤ length (chunks_text cs (last z))
 chunks_least [] z p = omega (arith, length-append (59 ∷ z) (crlf []), p.0)
 chunks_least (c ∷ cs) z p = let m = chunks_least cs z p in omega (arith, length-append (59 ∷ c.digits) (crlf (c.content ++ crlf (chunks_text cs (last z)))), length-append c.content (crlf (chunks_text cs (last z))))
@@ -112,6 +117,7 @@ chunk_more (d ∷ cs) z ds c p q y i n e =
     let says : number d.digits ≡ length d.content = p.0.0.1 in
     omega (arith, ap number a1, number-more ds l, ap length b, chunks_least cs z q, length-append l (crlf (d.content ++ crlf (chunks_text cs (last z)))), length-append d.content (crlf (chunks_text cs (last z))))
 
+-- a chunk's digits, not of zero: its length, and 8
 pub chunk_row : (L : LeafRule) (N : NodeRule) (k : ℕ) (ds : List Chunk) (es : List ℕ) → AllByRecursion IsChunk ds → IsDigits es → 0 < number es → L k (chunked (with_chunks ds (record { digits = es; content = zeros (number es) } ∷ [])) (48 ∷ [])) → HasLeast (CompletesValue L N k (36 ∷ 63 ∷ crlf (chunks_text ds (59 ∷ es)))) (number es + 8)
 chunk_row L N k ds es p i n h =
     let s = zeros (number es) in

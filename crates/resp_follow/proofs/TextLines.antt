@@ -11,7 +11,7 @@ use Rattle.resp_value.proofs.FirstLines.{line_sort, leaf_of, sort, sort_is, firs
 use Rattle.resp_follow.specs.LeastCompletions.{HasLeast}
 use Rattle.resp_follow.proofs.BegunLines.{line_least, completes_line, tree_of_line}
 use Rattle.resp_follow.proofs.KeptNodes.{at_each_rule, leaf_keeps}
-use Rattle.resp_follow.proofs.SimpleLinesAndCounts.{CompletesUnder, IsRefusedHere}
+use Rattle.resp_follow.proofs.CountRows.{CompletesUnder, IsRefusedHere}
 
 -- a simple string or an error
 abbrev pub IsTextLine : LineKind → Type 0
@@ -31,6 +31,7 @@ text_line_before r level Simple s p earlier = at_each_rule (λ a. rank a ≤ 6 �
 text_line_before r level Error s p earlier = at_each_rule (λ a. rank a ≤ 6 → LeafMeets r a level (line Error s)) (λ e. tt) (λ e. tt) (λ e. λ is_two. tt) (λ e. tt) (λ e. tt) (λ e. λ off. tt) (λ e. tt) (λ e. absurd (omega arith)) (λ e. tt) (λ e. tt) earlier
 text_line_before r level Double s p earlier = absurd p
 
+-- such a line has no break in it
 pub line_has_no_break : (k : LineKind) (s : List ℕ) → IsLine s → IsLine (line_byte k ∷ s)
 line_has_no_break Simple s p = (plain_above 43 (omega arith), p)
 line_has_no_break Error s p = (plain_above 45 (omega arith), p)

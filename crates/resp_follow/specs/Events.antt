@@ -7,6 +7,7 @@ use Rattle.resp_value.specs.Trees as t
 use Rattle.resp_value.specs.Trees.{Tree, Trees, leaf, node, none, more, Leaf, line, numeral, null, truth, string, chunked, LineKind, NumberKind, StringKind, Form, Counted, Streamed, Chunk, text, form_line, leaf_text}
 use Rattle.resp_follow.specs.Frames.{Frame, around}
 
+-- the kinds of text
 pub data TextKind : Type 0 where
   Simple : TextKind
   Error : TextKind
@@ -17,6 +18,7 @@ pub data TextKind : Type 0 where
   -- whether it is negative
   Big : Truth → TextKind
 
+-- what a scanner tells of a value
 pub data Event : Type 0 where
   Null : Event
   Bool : Truth → Event
@@ -48,6 +50,7 @@ text_events kind begins from content ends = record { at = begins; event = Text k
 abbrev pub last_of : ℕ → List ℕ → ℕ
 last_of from whole = from + length whole - 1
 
+-- a text begins at its type byte and ends at its last byte
 abbrev pub line_events : LineKind → ℕ → List ℕ → ℕ → List Timed
 line_events t.Simple from s last = text_events Simple from (from + 1) s last
 line_events t.Error from s last = text_events Error from (from + 1) s last
@@ -58,6 +61,7 @@ abbrev pub big_events : Truth → List ℕ → ℕ → List Timed
 big_events negative [] last = text_events (Big negative) last last [] last
 big_events negative (digit ∷ digits) last = text_events (Big negative) (last - 2 - length digits) (last - 2 - length digits) (digit ∷ digits) last
 
+-- a number comes at its last byte, and a big one from its first digit that is no zero on
 abbrev pub number_events : NumberKind → Sign → List ℕ → ℕ → List Timed
 number_events t.Int sign digits last = record { at = last; event = Int (signed sign digits) } ∷ []
 number_events t.Big sign digits last = big_events (is_negative sign digits) (stripped digits) last
@@ -73,6 +77,7 @@ abbrev pub chunk_events : ℕ → List Chunk → List Timed
 chunk_events at [] = []
 chunk_events at (c ∷ cs) = bytes_from (at + length c.digits + 3) c.content ++ chunk_events (at + length c.digits + length c.content + 5) cs
 
+-- the events of a leaf whose first byte has this index
 abbrev pub leaf_events : ℕ → Leaf → List Timed
 leaf_events from (line k s) = line_events k from s (last_of from (leaf_text (line k s)))
 leaf_events from (numeral k sign digits) = number_events k sign digits (last_of from (leaf_text (numeral k sign digits)))

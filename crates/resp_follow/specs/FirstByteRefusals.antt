@@ -24,6 +24,7 @@ abbrev pub push_on : Rules → ℕ → Option Rule
 push_on r zero = aggregate_on r 0
 push_on r (suc level) = Some PushAtTop
 
+-- each type byte with its answer, and `,`
 abbrev pub first_byte_answers : Rules → ℕ → List (ℕ × Option Rule)
 first_byte_answers r level =
     (44, Some NoDouble)

@@ -1,4 +1,4 @@
--- Rows of the table of least completions, and the bytes that begun tokens refuse.
+-- Least completions of an aggregate's type byte and of its count, and what refuses a count.
 use Rattle.std.proofs.Common.{◌*◌, ◌++◌, ◌+◌, ◌<◌, ◌∙◌, ◌∷◌, ◌≡◌, ◌≤◌, List, [], ap, append-nil, arith, false, length, length-append, refl, subst, suc, sym, true, ℕ}
 use Rattle.resp_value.specs.Bytes.{IsLine, crlf}
 use Rattle.resp_value.specs.Data.{Array, Attr, Kind, Map, Push, Set, items_of, members_of}
@@ -26,13 +26,16 @@ pub record IsRefusedHere (r : Rules) (g h : Rule) (k : ℕ) (b : List ℕ) : Typ
   pub alive : CompletesUnder r h k b rest
   pub some : 0 < length rest
 
+-- a counted aggregate's first line
 pub first_counted : (k : Kind) (ds : List ℕ) (ts : Trees) → first_line (node k (Counted ds) ts) ≡ kind_byte k ∷ ds
 unfolding first_line
 first_counted k ds ts = refl
 
+-- a count's line has no break in it
 pub kind_line : (k : Kind) (ds : List ℕ) → IsDigits ds → IsLine (kind_byte k ∷ ds)
 kind_line k ds p = subst IsLine (first_counted k ds (shortest_trees (members_of k (number ds)))) (first_is_line (node k (Counted ds) (shortest_trees (members_of k (number ds)))) ((p, sym (count-shortest_trees _)), are_shortest_trees _))
 
+-- nor has an aggregate's type byte
 pub byte_line : (k : Kind) → IsLine (kind_byte k ∷ [])
 byte_line k = let l = kind_line k (48 ∷ []) ((omega arith, ((omega arith, omega arith), tt))) in (l.0, tt)
 
@@ -54,6 +57,7 @@ count_row r g k j d ds p q =
     let m = members-more j (number (d ∷ ds)) (number (d ∷ ds ++ l)) (number-more (d ∷ ds) l) in
     omega (arith, texts_least w.0, length-append (texts w.0) [])))
 
+-- what completes a count's line the shortest way
 pub count_ends : (r : Rules) (g : Rule) (k : ℕ) (j : Kind) (d : ℕ) (ds : List ℕ) → IsDigits (d ∷ ds) → NodeKeeps r g k j (Counted (d ∷ ds)) (members_of j (number (d ∷ ds))) → CompletesUnder r g k (kind_byte j ∷ d ∷ ds) (crlf (texts (shortest_trees (members_of j (number (d ∷ ds))))))
 count_ends r g k j d ds p q =
     let n = members_of j (number (d ∷ ds)) in
@@ -65,6 +69,7 @@ count_ends r g k j d ds p q =
       whole = ap (λ z. (kind_byte j ∷ d ∷ ds) ++ crlf z) (append-nil (texts ts));
     }
 
+-- the rules of a node before items do not look at its number
 pub node_counts : (r : Rules) (k : ℕ) (j : Kind) (ds es : List ℕ) (m n : ℕ) → NodeKeeps r WithinItems k j (Counted ds) m → (h : Rule) → rank h ≤ 7 → NodeMeets r h k j (Counted es) n
 node_counts r k j ds es m n p Grammar e = tt
 node_counts r k j ds es m n p NoDouble e = tt
@@ -137,6 +142,7 @@ star_deep r k (leaf (string BulkError ds s)) l d a b = omega (arith, ap byte_at_
 star_deep r k (leaf (string (Verbatim f) ds s)) l d a b = omega (arith, ap byte_at_start b)
 star_deep r k (leaf (chunked cs z)) l d a b = omega (arith, ap byte_at_start b)
 
+-- the null of `*` is within every rule
 pub null_keeps : (r : Rules) (k : ℕ) (h : Rule) → LeafMeets r h k (null ArrayNull)
 null_keeps r k Grammar = tt
 null_keeps r k NoDouble = tt
@@ -149,6 +155,7 @@ null_keeps r k WithinLength = omega arith
 null_keeps r k WithinItems = tt
 null_keeps r k WithinTotal = tt
 
+-- `*` at full depth: 4
 pub star_row_deep : (r : Rules) (k : ℕ) → r.limits.depth ≤ k → HasLeast (CompletesUnder r WithinItems k (42 ∷ [])) 4
 star_row_deep r k d = record {
   some = 45 ∷ 49 ∷ crlf [];
@@ -157,6 +164,7 @@ star_row_deep r k d = record {
   least = λ c t. (let u = completes_line (LeafKeeps r WithinItems) (NodeKeeps r WithinItems) k (42 ∷ []) c ((λ e. omega arith, λ e. omega arith), tt) t in omega (arith, star_deep r k u.tree u.line d u.keep u.begins, ap length u.whole, length-append u.line (crlf (after_line u.tree))));
 }
 
+-- behind an aggregate's type byte the line goes on
 pub line_after : (t : Tree) (j : Kind) (l : List ℕ) → IsTree t → sort_of t ≡ sort (kind_byte j ∷ l) → 0 < length l
 line_after t j (c ∷ l) p e = omega arith
 line_after (leaf x) Array [] p e = absurd (cc)
