@@ -1,5 +1,6 @@
 //! Laws of what may follow a front, each the contract of a function with an empty body.
 
+ghost use Rattle.resp_follow.specs.EventExamples.{AnArray, AnAttribute, AStreamedArray, AVerbatimString, ABigNumber, ABigZero, AStreamedString};
 ghost use Rattle.resp_follow.specs.Laws.{WhatMayFollowContinues, WhatContinuesMayFollow, LeastCompletionSplits, ViableWhereLeastFits, AFirstByteHasItsCause, EventsDueSplit};
 
 /// What has come, and what may follow it, spell a tree within the rules.
@@ -32,4 +33,15 @@ pub fn first_byte()
 /// that it begins.
 pub fn events_due()
     ensures { EventsDueSplit }
+{}
+
+/// Trees and their events, each with the index of the byte at which it comes.
+pub fn trees_and_their_events()
+    ensures array { AnArray }
+    ensures attribute { AnAttribute }
+    ensures streamed_array { AStreamedArray }
+    ensures verbatim { AVerbatimString }
+    ensures big { ABigNumber }
+    ensures big_zero { ABigZero }
+    ensures chunks { AStreamedString }
 {}
