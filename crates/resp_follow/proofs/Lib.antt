@@ -34,3 +34,4 @@ pub mod NumberTokens
 pub mod HeadTokens
 pub mod StreamedHeads
 pub mod MoreFrontLaws
+pub mod ContentTokens

@@ -1,10 +1,10 @@
 -- Trees and their events, worked out by hand.
 use Rattle.std.specs.Prelude.{◌≡◌, ℕ, false, true, Some, None, List, [], ◌∷◌, codes}
 use Rattle.resp_value.specs.Numbers.{Minus}
-use Rattle.resp_value.specs.Data.{Array, Map, Attr}
+use Rattle.resp_value.specs.Data.{Array, Attr}
 use Rattle.resp_value.specs.Trees as t
 use Rattle.resp_value.specs.Trees.{Tree, leaf, node, none, more, line, numeral, null, string, chunked, PlainNull, Counted, Streamed, text}
-use Rattle.resp_follow.specs.Events.{Event, Null, Int, Text, Byte, TextEnd, Open, Close, Done, Simple, Bulk, Verbatim, Big, Timed, all_events}
+use Rattle.resp_follow.specs.Events.{Event, Null, Text, Byte, TextEnd, Open, Close, Done, Simple, Bulk, Verbatim, Big, Timed, all_events}
 
 abbrev comes : ℕ → Event → Timed
 comes at event = record { at = at; event = event }

@@ -1,0 +1,133 @@
+-- Tokens of counted content: the bytes still to come, and its end.
+use Rattle.std.proofs.Common.{◌≡◌, ℕ, ◌+◌, ◌-◌, ◌≤◌, List, [], ◌∷◌, ◌++◌, length, refl, sym, ap, subst, ◌∙◌, arith, append_assoc, append-nil, length-append}
+use Rattle.resp_value.specs.Bytes.{IsByte, IsText, crlf}
+use Rattle.resp_value.specs.Numbers.{IsDigits, number}
+use Rattle.resp_value.specs.Trees.{leaf, string, StringKind, Bulk, BulkError, Verbatim, string_byte, payload, HasFormat}
+use Rattle.resp_value.specs.Rules.{Rules, Grammar, WithinItems}
+use Rattle.resp_value.specs.LocalRules.{LeafKeeps, NodeKeeps}
+use Rattle.resp_value.proofs.FirstBytes.{all_append, all_front}
+use Rattle.resp_follow.specs.LeastCompletions.{HasLeast}
+use Rattle.resp_follow.proofs.CountRows.{CompletesUnder}
+use Rattle.resp_follow.proofs.FirstLineRows.{zeros, length-zeros, are_zeros}
+use Rattle.resp_follow.proofs.CountedContent.{content_row, content_end_dead}
+use Rattle.resp_follow.proofs.ShortRows.{next_row}
+use Rattle.resp_follow.proofs.HeadTokens.{HasString, string_keeps, IsLengthToken}
+use Rattle.resp_follow.proofs.BegunFronts.{IsBegunBy}
+
+-- behind a length's line, begun bytes of a payload of which so many are left
+pub record IsContentToken (r : Rules) (k : StringKind) (first : ℕ) (digits begun : List ℕ) (left : ℕ) (level : ℕ) (bytes : List ℕ) : Type 0 where
+  pub are_digits : IsDigits (first ∷ digits)
+  pub has_string : HasString r k
+  pub has_format : HasFormat k
+  pub fits : number (first ∷ digits) ≤ r.limits.length
+  -- one content that begins so
+  pub content : List ℕ
+  pub is_text : IsText content
+  pub size : number (first ∷ digits) ≡ length (payload k content)
+  pub rest : List ℕ
+  pub split : payload k content ≡ begun ++ rest
+  pub rest_size : length rest ≡ left
+  pub are : bytes ≡ (string_byte k ∷ first ∷ digits) ++ crlf begun
+
+-- the bytes that are left, and 2
+pub content_begun : (r : Rules) (k : StringKind) (first : ℕ) (digits begun : List ℕ) (left level : ℕ) (bytes : List ℕ) → IsContentToken r k first digits begun left level bytes → IsBegunBy r level bytes (left + 2)
+content_begun r k first digits begun left level bytes w =
+    let keeps = string_keeps r WithinItems level k (first ∷ digits) w.content w.has_string w.has_format (omega (arith, w.size, w.fits)) in
+    let least = content_row (LeafKeeps r WithinItems) (NodeKeeps r WithinItems) level k first digits begun w.rest w.content w.are_digits w.has_format w.is_text w.size w.split keeps in
+    record {
+      head = string_byte k;
+      tail = (first ∷ digits) ++ crlf begun;
+      parts = w.are;
+      some = omega arith;
+      least = subst (λ z. HasLeast (CompletesUnder r WithinItems level z) (left + 2)) (sym w.are) (subst (HasLeast (CompletesUnder r WithinItems level ((string_byte k ∷ first ∷ digits) ++ crlf begun))) (ap (λ n. n + 2) w.rest_size) least);
+    }
+
+-- whole content is followed by CR LF, which ends the value
+pub content_ends : (r : Rules) (k : StringKind) (first : ℕ) (digits begun : List ℕ) (level : ℕ) (bytes : List ℕ) → IsContentToken r k first digits begun 0 level bytes → CompletesUnder r WithinItems level bytes (13 ∷ 10 ∷ [])
+content_ends r k first digits begun level bytes w = record {
+  tree = leaf (string k (first ∷ digits) w.content);
+  is_tree = ((w.are_digits, w.size), w.has_format, w.is_text);
+  keep = string_keeps r WithinItems level k (first ∷ digits) w.content w.has_string w.has_format (omega (arith, w.size, w.fits));
+  whole = ap (λ z. (string_byte k ∷ first ∷ digits) ++ crlf (z ++ crlf [])) (w.split ∙ ap (λ z. begun ++ z) (no_rest w.rest w.rest_size) ∙ append-nil begun) ∙ sym (append_assoc (string_byte k ∷ first ∷ digits) (crlf begun) (crlf [])) ∙ ap (λ z. z ++ crlf []) (sym w.are);
+}
+  where
+    no_rest : (rest : List ℕ) → length rest ≡ 0 → rest ≡ []
+    no_rest [] e = refl
+    no_rest (c ∷ cs) e = absurd (omega arith)
+
+-- behind its CR one byte is needed
+pub content_returned_begun : (r : Rules) (k : StringKind) (first : ℕ) (digits begun : List ℕ) (level : ℕ) (bytes : List ℕ) → IsContentToken r k first digits begun 0 level bytes → IsBegunBy r level (bytes ++ 13 ∷ []) 1
+content_returned_begun r k first digits begun level bytes w =
+    let b = content_begun r k first digits begun 0 level bytes w in
+    record {
+      head = b.head;
+      tail = b.tail ++ 13 ∷ [];
+      parts = ap (λ z. z ++ 13 ∷ []) b.parts;
+      some = omega arith;
+      least = next_row (LeafKeeps r WithinItems) (NodeKeeps r WithinItems) level bytes 13 1 (10 ∷ []) b.least (content_ends r k first digits begun level bytes w) refl;
+    }
+
+-- and no other byte than CR goes on
+pub content_broken : (r : Rules) (k : StringKind) (first : ℕ) (digits begun : List ℕ) (level : ℕ) (bytes rest : List ℕ) (byte : ℕ) → (byte ≡ 13 → ⊥) → IsContentToken r k first digits begun 0 level bytes → CompletesUnder r Grammar level bytes (byte ∷ rest) → ⊥
+content_broken r k first digits begun level bytes rest byte no_return w c =
+    let whole : number (first ∷ digits) ≡ length begun = omega (arith, w.size, ap length w.split, w.rest_size, length-append begun w.rest) in
+    content_end_dead (LeafKeeps r Grammar) (NodeKeeps r Grammar) level k first digits begun rest byte w.are_digits whole no_return (record {
+      tree = c.tree;
+      is_tree = c.is_tree;
+      keep = c.keep;
+      whole = c.whole ∙ ap (λ z. z ++ byte ∷ rest) w.are ∙ append_assoc (string_byte k ∷ first ∷ digits) (crlf begun) (byte ∷ rest) ∙ ap (λ z. (string_byte k ∷ first ∷ digits) ++ crlf z) (sym (append_assoc begun (byte ∷ []) rest)) ∙ sym (append_assoc (string_byte k ∷ first ∷ digits) (crlf (begun ++ byte ∷ [])) rest);
+    })
+
+-- a string whose payload is its content
+abbrev pub IsPlainString : StringKind → Type 0
+IsPlainString Bulk = Unit {0}
+IsPlainString BulkError = Unit {0}
+IsPlainString (Verbatim format) = ⊥
+
+plain_payload : (k : StringKind) (s : List ℕ) → IsPlainString k → payload k s ≡ s
+plain_payload Bulk s p = refl
+plain_payload BulkError s p = refl
+plain_payload (Verbatim format) s p = absurd p
+
+plain_format : (k : StringKind) → IsPlainString k → HasFormat k
+plain_format Bulk p = tt
+plain_format BulkError p = tt
+plain_format (Verbatim format) p = absurd p
+
+-- the CR LF of a length's line
+pub content_begins : (r : Rules) (k : StringKind) (first : ℕ) (digits : List ℕ) (level : ℕ) (bytes : List ℕ) → IsPlainString k → IsLengthToken r k first digits level bytes → IsContentToken r k first digits [] (number (first ∷ digits)) level (bytes ++ crlf [])
+content_begins r k first digits level bytes p w =
+    let n = number (first ∷ digits) in record {
+      are_digits = w.are_digits;
+      has_string = w.has_string;
+      has_format = plain_format k p;
+      fits = w.fits;
+      content = zeros n;
+      is_text = are_zeros n;
+      size = sym (length-zeros n) ∙ ap length (sym (plain_payload k (zeros n) p));
+      rest = zeros n;
+      split = plain_payload k (zeros n) p;
+      rest_size = length-zeros n;
+      are = ap (λ z. z ++ crlf []) w.are;
+    }
+
+-- content more, up to what is left
+pub content_more : (r : Rules) (k : StringKind) (first : ℕ) (digits begun part : List ℕ) (left level : ℕ) (bytes : List ℕ) → IsPlainString k → IsText part → length part ≤ left → IsContentToken r k first digits begun left level bytes → IsContentToken r k first digits (begun ++ part) (left - length part) level (bytes ++ part)
+content_more r k first digits begun part left level bytes p is_text fits w =
+    let rest = zeros (left - length part) in
+    let whole = (begun ++ part) ++ rest in
+    let plain = plain_payload k w.content p in
+    let begun_text : IsText begun = all_front IsByte begun w.rest (subst IsText (sym plain ∙ w.split) w.is_text) in
+    record {
+      are_digits = w.are_digits;
+      has_string = w.has_string;
+      has_format = w.has_format;
+      fits = w.fits;
+      content = whole;
+      is_text = all_append IsByte (begun ++ part) rest (all_append IsByte begun part begun_text is_text) (are_zeros (left - length part));
+      size = omega (arith, w.size, ap length w.split, w.rest_size, length-append begun w.rest, ap length (plain_payload k whole p), length-append (begun ++ part) rest, length-append begun part, length-zeros (left - length part));
+      rest = rest;
+      split = plain_payload k whole p;
+      rest_size = length-zeros (left - length part);
+      are = ap (λ z. z ++ part) w.are ∙ append_assoc (string_byte k ∷ first ∷ digits) (crlf begun) part;
+    }
