@@ -21,7 +21,8 @@ use Rattle.resp_follow.proofs.BrokenLines.{byte_broken, behind_return_broken}
 use Rattle.resp_follow.proofs.BrokenHeads.{count_broken}
 use Rattle.resp_follow.proofs.BegunFronts.{IsBegunBy, Opens}
 
-more_digits : (digits : List ℕ) (digit : ℕ) → IsDigits digits → IsDigit digit → IsDigits (digits ++ digit ∷ [])
+-- a digit more
+pub more_digits : (digits : List ℕ) (digit : ℕ) → IsDigits digits → IsDigit digit → IsDigits (digits ++ digit ∷ [])
 more_digits digits digit p q = (omega (arith, length-append digits (digit ∷ [])), all_append IsDigit digits (digit ∷ []) p.1 (q, tt))
 
 -- an aggregate's type byte and the digits of its count

@@ -35,3 +35,4 @@ pub mod HeadTokens
 pub mod StreamedHeads
 pub mod MoreFrontLaws
 pub mod ContentTokens
+pub mod BegunTypeBytes
