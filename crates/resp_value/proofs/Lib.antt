@@ -1,1 +1,2 @@
 pub mod KeptDigits
+pub mod DatumOf
