@@ -1,0 +1,13 @@
+use Rattle.resp_encode.proofs.words.write_words.Goals as goal
+
+pub loop-word-init : goal.loop-word-init
+loop-word-init c = ?
+
+pub write_string-requires : goal.write_string-requires
+write_string-requires c = ?
+
+pub loop-word-preserved : goal.loop-word-preserved
+loop-word-preserved c = ?
+
+pub returns : goal.returns
+returns c = ?
