@@ -1,2 +1,16 @@
 pub mod KeptDigits
 pub mod DatumOf
+pub mod Splitting
+pub mod FirstBytes
+pub mod FirstLines
+pub mod Unique
+pub mod CanonicalTrees
+pub mod KeptRules
+pub mod SpellingLaws
+pub mod ViabilityLaws
+pub mod LocalRuleLemmas
+pub mod ByteLemmas
+pub mod DefaultLimits
+pub mod SmallTrees
+pub mod TypeBytes
+pub mod Examples

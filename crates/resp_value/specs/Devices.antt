@@ -1,5 +1,5 @@
 -- What a device tells of its bytes, and how its counts rise.
-use Rattle.std.specs.Prelude.{◌≡◌, ℕ, ◌+◌, ◌<◌, ◌≤◌, Bool, true, false, ◌==◌, List, [], ◌++◌, length, take, drop, min, Option, None, Some, Result, Ok, Err, ◌⊎◌}
+use Rattle.std.specs.Prelude.{◌≡◌, ℕ, ◌+◌, ◌-◌, ◌<◌, ◌≤◌, Bool, true, false, ◌==◌, List, [], ◌++◌, length, take, drop, min, Option, None, Some, Result, Ok, Err, ◌⊎◌}
 use Rattle.resp_value.specs.declared.device.DeviceFault.{DeviceFault}
 
 -- the last value of a count
@@ -51,3 +51,81 @@ write_fails (Err fault) = true
 abbrev pub failures_after : Bool → ℕ → ℕ
 failures_after true failures = raised 1 failures
 failures_after false failures = failures
+
+-- what a source over memory has still to give
+pub record SourceState : Type 0 where
+  -- the bytes that are not yet read
+  pub left : List ℕ
+  -- how many of them a read moves at most
+  pub most : ℕ
+  -- how many of them may be read before reads fail, if reads fail at all
+  pub sound : Option ℕ
+  -- how many reads were made
+  pub calls : ℕ
+  -- how many of these failed
+  pub failures : ℕ
+
+-- a number, or the limit where that is less
+abbrev pub limited : Option ℕ → ℕ → ℕ
+limited None n = n
+limited (Some limit) n = min limit n
+
+-- a limit, after so much of it was used
+abbrev pub limit_after : Option ℕ → ℕ → Option ℕ
+limit_after None n = None
+limit_after (Some limit) n = Some (limit - n)
+
+-- how many bytes a read moves into so much room
+abbrev pub read_count : SourceState → ℕ → ℕ
+read_count source room = limited source.sound (min source.most (min room (length source.left)))
+
+-- a source after a read of so many bytes
+abbrev pub after_read : SourceState → ℕ → SourceState
+after_read source n = record source {
+  left = drop n source.left;
+  sound = limit_after source.sound n;
+  calls = raised 1 source.calls;
+}
+
+-- a source after a read that failed
+abbrev pub after_failed_read : SourceState → SourceState
+after_failed_read source = record source { calls = raised 1 source.calls; failures = raised 1 source.failures }
+
+-- what a sink over memory holds, and what it still takes
+pub record SinkState : Type 0 where
+  -- the bytes that were written
+  pub held : List ℕ
+  -- how many bytes a write moves at most
+  pub most : ℕ
+  -- how many bytes may be written before writes fail
+  pub sound : ℕ
+  -- how many writes were made
+  pub calls : ℕ
+  -- how many of these failed, or took no byte
+  pub failures : ℕ
+
+-- how many bytes of a text a write moves
+abbrev pub write_count : SinkState → List ℕ → ℕ
+write_count sink text = min sink.sound (min sink.most (length text))
+
+-- a sink after a write that took so many bytes of a text
+abbrev pub after_write : SinkState → List ℕ → ℕ → SinkState
+after_write sink text n = record sink {
+  held = sink.held ++ take n text;
+  sound = sink.sound - n;
+  calls = raised 1 sink.calls;
+  failures = failures_after (n == 0) sink.failures;
+}
+
+-- a sink after a write that failed
+abbrev pub after_failed_write : SinkState → SinkState
+after_failed_write sink = record sink { calls = raised 1 sink.calls; failures = raised 1 sink.failures }
+
+-- a reader or a writer of std, with its counts
+pub record DeviceState (T : Type 0) : Type 0 where
+  -- the reader or the writer
+  pub inner : T
+  -- how many reads or writes were made
+  pub calls : ℕ
+  -- how many of these failed, or took no byte of a write
+  pub failures : ℕ

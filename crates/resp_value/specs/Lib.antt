@@ -12,3 +12,5 @@ pub mod Canonical
 pub mod Devices
 pub mod Values
 pub mod Causes
+pub mod Laws
+pub mod Examples

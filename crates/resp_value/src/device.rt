@@ -5,6 +5,15 @@ ghost use Rattle.resp_value.specs.Devices.{raised, HasRisen, Reads, Writes, Appe
 
 use thiserror::Error;
 
+mod counts;
+mod memory_sink;
+mod memory_source;
+mod wrapped;
+
+pub use memory_sink::MemorySink;
+pub use memory_source::MemorySource;
+pub use wrapped::Device;
+
 /// A read or a write failed.
 #[derive(Clone, Copy, Debug, PartialEq, Eq, Error)]
 #[error("the device failed")]
@@ -74,3 +83,6 @@ pub fn write_all<W: Sink>(sink: &mut W, bytes: &[u8]) -> Result<(), WriteFault>
     }
     Ok(())
 }
+
+#[cfg(test)]
+mod tests;

@@ -1,0 +1,5 @@
+pub mod Runs
+pub mod Outcomes
+pub mod Integers
+pub mod Leaves
+pub mod LeafSpellings

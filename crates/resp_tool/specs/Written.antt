@@ -1,0 +1,15 @@
+-- What was written of a text.
+use Rattle.std.specs.Prelude.{◌≡◌, ℕ, List, ◌++◌, Option, Result, Ok, Err}
+use Rattle.resp_value.specs.Devices.{Appends, HasRisen}
+
+-- a first part of the text was appended
+pub record AppendsPart (before after : Option (List ℕ)) (text : List ℕ) : Type 0 where
+  pub part : List ℕ
+  pub behind : List ℕ
+  pub whole : text ≡ part ++ behind
+  pub appended : Appends before after part
+
+-- the whole text was appended and no write failed; or, where the writer failed, a first part of it was
+abbrev pub WritesText : {X E : Type 0} → Option (List ℕ) → Option (List ℕ) → ℕ → ℕ → Result X E → List ℕ → Type 0
+WritesText before after failures failures' (Ok x) text = Appends before after text × (failures' ≡ failures)
+WritesText before after failures failures' (Err e) text = AppendsPart before after text × HasRisen failures failures'

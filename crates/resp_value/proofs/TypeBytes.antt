@@ -1,0 +1,254 @@
+-- Which first bytes are viable, and the cause of the others.
+use Rattle.std.proofs.Common.{◌≡◌, ℕ, ◌<◌, ◌≤◌, true, false, List, [], ◌∷◌, ◌++◌, length, codes, eqb, refl, sym, ap, subst, arith}
+use Rattle.std.specs.List.{AllByRecursion}
+use Rattle.std.proofs.lemmas.Int.{ints}
+use Rattle.std.proofs.lemmas.Bool.{eqb-false}
+use Rattle.resp_value.specs.Bounds.{AreBounds}
+use Rattle.resp_value.specs.Numbers.{Unsigned, IsDigits}
+use Rattle.resp_value.specs.Data.{Kind, Array, Set, Map, Attr, Push, members_of, items_of}
+use Rattle.resp_value.specs.Trees.{Tree, leaf, node, none, more, Leaf, line, numeral, null, truth, string, Simple, Error, Double, Int, Big, PlainNull, Bulk, BulkError, Verbatim, Counted, text}
+use Rattle.resp_value.specs.Rules.{Rules, Rule, Grammar, NoDouble, InVersion, PushAtTop, InRange, NotStreamed, WithinDepth, WithinLength, WithinItems, WithinTotal, rank, Meets, Every, HasVersion, IsAnyNode, IsNoDouble, IsLeafInTwo, IsNodeInTwo, IsCountedLeaf, IsCountedNode}
+use Rattle.resp_value.specs.Spellings.{IsViable, IsCause}
+use Rattle.resp_value.specs.Laws.{type_bytes, later_type_bytes, type_bytes_of, TheEmptyTextIsViable, TypeBytesAreViable, LaterTypeBytesWantVersionThree, ACommaBeginsADouble, NoOtherByteBeginsATree}
+use Rattle.resp_value.specs.declared.version.Version.{Version}
+use Rattle.resp_value.specs.declared.version.Version.TheVariants.{Two, Three}
+use Rattle.resp_value.proofs.SmallTrees.{IsSmall, small_meets, small_leaf, small_node, one_digit, in_each_version, if_counted}
+use Rattle.resp_value.proofs.FirstBytes.{first_byte, begins, first_byte_is, all_append, at_first_byte, at_first_byte_of_no_double, at_first_byte_of_two}
+use Rattle.resp_value.proofs.ViabilityLaws.{fronts_of_viable_texts_are_viable}
+
+abbrev zero_digit : List ℕ
+zero_digit = codes "0"
+
+zero_is_digits : IsDigits zero_digit
+zero_is_digits = one_digit 48 (omega arith) (omega arith)
+
+-- an aggregate without members
+abbrev empty_node : Kind → Tree
+empty_node k = node k (Counted zero_digit) none
+
+-- an empty verbatim string
+abbrev empty_verbatim : Leaf
+empty_verbatim = string (Verbatim (codes "txt")) (codes "4") []
+
+-- an attribute of no pairs, and its value
+abbrev bare_attribute : Tree
+bare_attribute = node Attr (Counted zero_digit) (more (leaf (null PlainNull)) none)
+
+small_simple : IsSmall (leaf (line Simple []))
+small_simple = small_leaf (line Simple []) (tt, tt) tt tt (omega arith) (omega arith)
+
+small_error : IsSmall (leaf (line Error []))
+small_error = small_leaf (line Error []) (tt, tt) tt tt (omega arith) (omega arith)
+
+small_int : IsSmall (leaf (numeral Int Unsigned zero_digit))
+small_int = small_leaf (numeral Int Unsigned zero_digit) zero_is_digits tt (omega (arith, ints), omega (arith, ints)) (omega arith) (omega arith)
+
+small_bulk : IsSmall (leaf (string Bulk zero_digit []))
+small_bulk = small_leaf (string Bulk zero_digit []) ((zero_is_digits, refl), tt, tt) tt tt (omega arith) (omega arith)
+
+small_verbatim : IsSmall (leaf empty_verbatim)
+small_verbatim = small_leaf empty_verbatim ((one_digit 52 (omega arith) (omega arith), refl), (refl, (omega arith, (omega arith, (omega arith, tt)))), tt) tt tt (omega arith) (omega arith)
+
+small_big : IsSmall (leaf (numeral Big Unsigned zero_digit))
+small_big = small_leaf (numeral Big Unsigned zero_digit) zero_is_digits tt tt (omega arith) (omega arith)
+
+small_null : IsSmall (leaf (null PlainNull))
+small_null = small_leaf (null PlainNull) tt tt tt (omega arith) (omega arith)
+
+small_truth : IsSmall (leaf (truth true))
+small_truth = small_leaf (truth true) tt tt tt (omega arith) (omega arith)
+
+small_bulk_error : IsSmall (leaf (string BulkError zero_digit []))
+small_bulk_error = small_leaf (string BulkError zero_digit []) ((zero_is_digits, refl), tt, tt) tt tt (omega arith) (omega arith)
+
+small_empty : (k : Kind) → members_of k 0 ≡ 0 → items_of k 0 ≤ 16 → length (text (empty_node k)) ≤ 256 → IsSmall (empty_node k)
+small_empty k no_members items total = small_node k (Counted zero_digit) none ((zero_is_digits, no_members), tt) tt tt tt (omega arith) (omega arith) (omega arith) total
+
+small_array : IsSmall (empty_node Array)
+small_array = small_empty Array refl (omega arith) (omega arith)
+
+small_set : IsSmall (empty_node Set)
+small_set = small_empty Set refl (omega arith) (omega arith)
+
+small_map : IsSmall (empty_node Map)
+small_map = small_empty Map refl (omega arith) (omega arith)
+
+small_push : IsSmall (empty_node Push)
+small_push = small_empty Push refl (omega arith) (omega arith)
+
+small_attribute : IsSmall bare_attribute
+small_attribute = small_node Attr (Counted zero_digit) (more (leaf (null PlainNull)) none) ((zero_is_digits, refl), (tt, tt)) (tt, tt) (tt, tt) (tt, tt) (omega arith) (omega arith) (omega arith) (omega arith)
+
+-- the type byte of a small counted tree of the version is viable
+small_is_viable : (r : Rules) (t : Tree) → AreBounds r.limits → IsSmall t → Every IsCountedLeaf IsCountedNode t → HasVersion r.version t → (rule : Rule) → IsViable r rule (first_byte t ∷ [])
+small_is_viable r t b s c w rule =
+    let (rest, e) = begins t in
+    record { rest = rest; tree = t; spells = record { is_tree = s.is_tree; spelled = e }; keeps = λ earlier h. small_meets r t b s w (if_counted r t c) earlier }
+
+-- each of these bytes is viable
+abbrev AllViable : Rules → Rule → List ℕ → Type 0
+AllViable r rule bytes = AllByRecursion (λ byte. IsViable r rule (byte ∷ [])) bytes
+
+old_bytes_viable : (r : Rules) → AreBounds r.limits → (rule : Rule) → AllViable r rule type_bytes
+old_bytes_viable r b rule = (
+  viable (leaf (line Simple [])) small_simple tt tt,
+  (
+    viable (leaf (line Error [])) small_error tt tt,
+    (
+      viable (leaf (numeral Int Unsigned zero_digit)) small_int tt tt,
+      (
+        viable (leaf (string Bulk zero_digit [])) small_bulk tt tt,
+        (
+          viable (empty_node Array) small_array (tt, tt) (tt, tt),
+          tt,
+        ),
+      ),
+    ),
+  ),
+)
+  where
+    viable : (t : Tree) → IsSmall t → Every IsCountedLeaf IsCountedNode t → Every IsLeafInTwo IsNodeInTwo t → IsViable r rule (first_byte t ∷ [])
+    viable t s c w = small_is_viable r t b s c (in_each_version r.version t w) rule
+
+later_bytes_viable : (r : Rules) → r.version ≡ Three → AreBounds r.limits → (rule : Rule) → AllViable r rule later_type_bytes
+later_bytes_viable r is_three b rule = (
+  viable (leaf (null PlainNull)) small_null tt,
+  (
+    viable (leaf (truth true)) small_truth tt,
+    (
+      viable (leaf (numeral Big Unsigned zero_digit)) small_big tt,
+      (
+        viable (leaf (string BulkError zero_digit [])) small_bulk_error tt,
+        (
+          viable (leaf empty_verbatim) small_verbatim tt,
+          (
+            viable (empty_node Set) small_set (tt, tt),
+            (
+              viable (empty_node Map) small_map (tt, tt),
+              (
+                viable bare_attribute small_attribute (tt, (tt, tt)),
+                (
+                  viable (empty_node Push) small_push (tt, tt),
+                  tt,
+                ),
+              ),
+            ),
+          ),
+        ),
+      ),
+    ),
+  ),
+)
+  where
+    viable : (t : Tree) → IsSmall t → Every IsCountedLeaf IsCountedNode t → IsViable r rule (first_byte t ∷ [])
+    viable t s c = small_is_viable r t b s c (subst (λ w. HasVersion w t) (sym is_three) tt) rule
+
+-- each type byte of a version is viable in it
+pub type_bytes_are_viable : TypeBytesAreViable
+type_bytes_are_viable r b rule = cases r.version refl
+  where
+    cases : (w : Version) → r.version ≡ w → AllViable r rule (type_bytes_of w)
+    cases Two e = old_bytes_viable r b rule
+    cases Three e = all_append (λ byte. IsViable r rule (byte ∷ [])) type_bytes later_type_bytes (old_bytes_viable r b rule) (later_bytes_viable r e b rule)
+
+-- nothing has come, and all is viable
+pub the_empty_text_is_viable : TheEmptyTextIsViable
+the_empty_text_is_viable r b rule = fronts_of_viable_texts_are_viable r rule [] (codes "+") (old_bytes_viable r b rule).0
+
+-- the first byte of the tree that a byte goes on to
+byte_of : (r : Rules) (rule : Rule) (byte : ℕ) (v : IsViable r rule (byte ∷ [])) → first_byte v.tree ≡ byte
+byte_of r rule byte v = first_byte_is v.tree [] (v.rest ++ []) byte (ap (λ z. z ++ []) v.spells.spelled)
+
+-- no tree begins with another byte
+pub no_other_byte_begins_a_tree : NoOtherByteBeginsATree
+no_other_byte_begins_a_tree r byte other = record {
+  viable_before = λ earlier h. absurd (omega arith);
+  not_viable = λ v. at_first_byte (λ b. byte ≡ b → ⊥) other v.tree (sym (byte_of r Grammar byte v));
+}
+
+-- no rule comes before the grammar
+first_rule : (r : Rules) (rule : Rule) (t : Tree) → rank rule < 1 → Meets r rule t
+first_rule r Grammar t h = tt
+first_rule r NoDouble t h = absurd (omega arith)
+first_rule r InVersion t h = absurd (omega arith)
+first_rule r PushAtTop t h = absurd (omega arith)
+first_rule r InRange t h = absurd (omega arith)
+first_rule r NotStreamed t h = absurd (omega arith)
+first_rule r WithinDepth t h = absurd (omega arith)
+first_rule r WithinLength t h = absurd (omega arith)
+first_rule r WithinItems t h = absurd (omega arith)
+first_rule r WithinTotal t h = absurd (omega arith)
+
+-- before the version come the grammar and doubles
+before_version : (r : Rules) (rule : Rule) (t : Tree) → Every IsNoDouble IsAnyNode t → rank rule < 2 → Meets r rule t
+before_version r Grammar t no_double h = tt
+before_version r NoDouble t no_double h = no_double
+before_version r InVersion t no_double h = absurd (omega arith)
+before_version r PushAtTop t no_double h = absurd (omega arith)
+before_version r InRange t no_double h = absurd (omega arith)
+before_version r NotStreamed t no_double h = absurd (omega arith)
+before_version r WithinDepth t no_double h = absurd (omega arith)
+before_version r WithinLength t no_double h = absurd (omega arith)
+before_version r WithinItems t no_double h = absurd (omega arith)
+before_version r WithinTotal t no_double h = absurd (omega arith)
+
+-- a `,` begins a double
+pub a_comma_begins_a_double : ACommaBeginsADouble
+a_comma_begins_a_double r = record {
+  viable_before = λ earlier h. record {
+    rest = codes "\r\n";
+    tree = leaf (line Double []);
+    spells = record { is_tree = (tt, tt); spelled = refl };
+    keeps = λ first g. first_rule r first (leaf (line Double [])) (omega arith);
+  };
+  not_viable = λ v. let no_double : Every IsNoDouble IsAnyNode v.tree = v.keeps NoDouble (omega arith) in
+      let apart : eqb (first_byte v.tree) 44 ≡ false = at_first_byte_of_no_double (λ b. eqb b 44 ≡ false) (refl, (refl, (refl, (refl, (refl, (refl, (refl, (refl, (refl, (refl, (refl, (refl, (refl, (refl, tt)))))))))))))) v.tree no_double in
+      eqb-false (first_byte v.tree) 44 apart (byte_of r NoDouble 44 v);
+}
+
+-- none of the type bytes of version 2
+abbrev IsLater : ℕ → Type 0
+IsLater byte = AllByRecursion (λ b. eqb b byte ≡ false) type_bytes
+
+-- a byte that begins a small tree and no tree of version 2
+wants_three : (r : Rules) (t : Tree) → r.version ≡ Two → IsSmall t → IsLater (first_byte t) → IsCause r (first_byte t ∷ []) InVersion
+wants_three r t is_two s later = record {
+  viable_before = λ earlier h.
+      let (rest, e) = begins t in
+      record { rest = rest; tree = t; spells = record { is_tree = s.is_tree; spelled = e }; keeps = λ first g. before_version r first t s.no_double (omega arith) };
+  not_viable = λ v.
+      let in_version : HasVersion r.version v.tree = v.keeps InVersion (omega arith) in
+      let in_two : Every IsLeafInTwo IsNodeInTwo v.tree = subst (λ w. HasVersion w v.tree) is_two in_version in
+      let apart : eqb (first_byte v.tree) (first_byte t) ≡ false = at_first_byte_of_two (λ b. eqb b (first_byte t) ≡ false) later v.tree in_two in
+      eqb-false (first_byte v.tree) (first_byte t) apart (byte_of r InVersion (first_byte t) v);
+}
+
+pub later_type_bytes_want_version_three : LaterTypeBytesWantVersionThree
+later_type_bytes_want_version_three r is_two = (
+  wants_three r (leaf (null PlainNull)) is_two small_null (refl, (refl, (refl, (refl, (refl, tt))))),
+  (
+    wants_three r (leaf (truth true)) is_two small_truth (refl, (refl, (refl, (refl, (refl, tt))))),
+    (
+      wants_three r (leaf (numeral Big Unsigned zero_digit)) is_two small_big (refl, (refl, (refl, (refl, (refl, tt))))),
+      (
+        wants_three r (leaf (string BulkError zero_digit [])) is_two small_bulk_error (refl, (refl, (refl, (refl, (refl, tt))))),
+        (
+          wants_three r (leaf empty_verbatim) is_two small_verbatim (refl, (refl, (refl, (refl, (refl, tt))))),
+          (
+            wants_three r (empty_node Set) is_two small_set (refl, (refl, (refl, (refl, (refl, tt))))),
+            (
+              wants_three r (empty_node Map) is_two small_map (refl, (refl, (refl, (refl, (refl, tt))))),
+              (
+                wants_three r bare_attribute is_two small_attribute (refl, (refl, (refl, (refl, (refl, tt))))),
+                (
+                  wants_three r (empty_node Push) is_two small_push (refl, (refl, (refl, (refl, (refl, tt))))),
+                  tt,
+                ),
+              ),
+            ),
+          ),
+        ),
+      ),
+    ),
+  ),
+)

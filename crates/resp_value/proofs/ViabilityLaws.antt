@@ -1,0 +1,100 @@
+-- What may still become a spelling, the cause of a refusal, and the fault of a rest.
+use Rattle.std.proofs.Common.{◌≡◌, ◌⊎◌, inl, inr, ℕ, ◌+◌, ◌<◌, ◌≤◌, List, [], ◌∷◌, ◌++◌, length, refl, sym, ap, subst, ◌∙◌, arith, append_assoc, get_or}
+use Rattle.resp_value.specs.Trees.{Tree, Spells}
+use Rattle.resp_value.specs.Rules.{Rules, Rule, Grammar, NoDouble, InVersion, PushAtTop, InRange, NotStreamed, WithinDepth, WithinLength, WithinItems, WithinTotal, rank, Keeps}
+use Rattle.resp_value.specs.Spellings.{IsViable, IsCause, FaultOf}
+use Rattle.resp_value.specs.Laws.{ARestHasOneFault, FrontsOfSpellingsAreViable, FrontsOfViableTextsAreViable, LaterRulesLeaveLess, ATextHasOneCause, AViableTextHasNoCause}
+use Rattle.std.proofs.lemmas.Bool.{cases_order}
+use Rattle.resp_value.proofs.Splitting.{length_split}
+use Rattle.resp_value.proofs.SpellingLaws.{up_to_total}
+
+-- what keeps a rule keeps the ones before it
+pub keeps_earlier : (r : Rules) (rule earlier : Rule) (t : Tree) → rank earlier ≤ rank rule → Keeps r rule t → Keeps r earlier t
+keeps_earlier r rule earlier t h keeps first g = keeps first (omega arith)
+
+-- what is viable under a rule is viable under the ones before it
+pub viable_earlier : (r : Rules) (rule earlier : Rule) (front : List ℕ) → rank earlier ≤ rank rule → IsViable r rule front → IsViable r earlier front
+viable_earlier r rule earlier front h v = record { rest = v.rest; tree = v.tree; spells = v.spells; keeps = keeps_earlier r rule earlier v.tree h v.keeps }
+
+-- what is viable under the last rule is viable under each
+pub viable_under_each : (r : Rules) (rule : Rule) (front : List ℕ) → IsViable r WithinTotal front → IsViable r rule front
+viable_under_each r rule front v = viable_earlier r WithinTotal rule front (up_to_total rule) v
+
+-- the rule of a rank
+abbrev rule_at : ℕ → Rule
+rule_at n = get_or (Grammar ∷ NoDouble ∷ InVersion ∷ PushAtTop ∷ InRange ∷ NotStreamed ∷ WithinDepth ∷ WithinLength ∷ WithinItems ∷ []) n WithinTotal
+
+rule_at-rank : (rule : Rule) → rule_at (rank rule) ≡ rule
+rule_at-rank Grammar = refl
+rule_at-rank NoDouble = refl
+rule_at-rank InVersion = refl
+rule_at-rank PushAtTop = refl
+rule_at-rank InRange = refl
+rule_at-rank NotStreamed = refl
+rule_at-rank WithinDepth = refl
+rule_at-rank WithinLength = refl
+rule_at-rank WithinItems = refl
+rule_at-rank WithinTotal = refl
+
+-- no two rules stand at one place
+pub same_rank : (rule rule' : Rule) → rank rule ≡ rank rule' → rule ≡ rule'
+same_rank rule rule' e = sym (rule_at-rank rule) ∙ ap rule_at e ∙ rule_at-rank rule'
+
+-- what goes on to a spelling is viable
+pub fronts_of_spellings_are_viable : FrontsOfSpellingsAreViable
+fronts_of_spellings_are_viable r x front rest s rule =
+    viable_under_each r rule front (record { rest = rest; tree = s.tree; spells = s.spells; keeps = s.keeps })
+
+-- a front of a viable text is viable
+pub fronts_of_viable_texts_are_viable : FrontsOfViableTextsAreViable
+fronts_of_viable_texts_are_viable r rule front rest v = record {
+  rest = rest ++ v.rest;
+  tree = v.tree;
+  spells = subst (Spells v.tree) (append_assoc front rest v.rest) v.spells;
+  keeps = v.keeps;
+}
+
+pub later_rules_leave_less : LaterRulesLeaveLess
+later_rules_leave_less r rule earlier h = (λ t. keeps_earlier r rule earlier t h, λ front. viable_earlier r rule earlier front h)
+
+-- a text with a cause isn't viable under the last rule
+pub a_viable_text_has_no_cause : AViableTextHasNoCause
+a_viable_text_has_no_cause r front rule v cause = cause.not_viable (viable_under_each r rule front v)
+
+pub a_text_has_one_cause : ATextHasOneCause
+a_text_has_one_cause r front rule rule' p q = cases (cases_order (rank rule) (rank rule'))
+  where
+    cases : (rank rule ≡ rank rule') ⊎ ((rank rule < rank rule') ⊎ (rank rule' < rank rule)) → rule ≡ rule'
+    cases (inl e) = same_rank rule rule' e
+    cases (inr (inl h)) = absurd (p.not_viable (q.viable_before rule h))
+    cases (inr (inr h)) = absurd (q.not_viable (p.viable_before rule' h))
+
+-- of two fronts of one text the shorter one begins the longer one
+pub shorter_front : (a b x y : List ℕ) → a ++ x ≡ b ++ y → length a < length b → (c : ℕ) × (cs : List ℕ) × (b ≡ a ++ c ∷ cs)
+shorter_front a [] x y e h = absurd (omega arith)
+shorter_front [] (d ∷ b) x y e h = (d, b, refl)
+shorter_front (c ∷ a) (d ∷ b) x y e h =
+    let t : a ++ x ≡ b ++ y = cc in
+    let longer = shorter_front a b x y t (omega arith) in
+    let goes_on : b ≡ a ++ longer.0 ∷ longer.1 = longer.2 in
+    (longer.0, longer.1, cc)
+
+-- no fault lies before another
+no_earlier_fault : (r : Rules) (rest : List ℕ) (rule rule' : Rule) (at at' : ℕ) → FaultOf r rest rule at → FaultOf r rest rule' at' → at < at' → ⊥
+no_earlier_fault r rest rule rule' at at' p q h =
+    let p1 : at + 1 ≡ length p.front = p.place in
+    let q1 : at' + 1 ≡ length q.front = q.place in
+    let (c, cs, e) = shorter_front p.front q.front p.behind q.behind (sym p.whole ∙ q.whole) (omega arith) in
+    a_viable_text_has_no_cause r p.front rule (q.first p.front c cs e) p.cause
+
+pub a_rest_has_one_fault : ARestHasOneFault
+a_rest_has_one_fault r rest rule rule' at at' p q = cases (cases_order at at')
+  where
+    cases : (at ≡ at') ⊎ ((at < at') ⊎ (at' < at)) → (rule ≡ rule') × (at ≡ at')
+    cases (inl e) =
+        let p1 : at + 1 ≡ length p.front = p.place in
+        let q1 : at' + 1 ≡ length q.front = q.place in
+        let same = length_split p.front q.front p.behind q.behind (omega arith) (sym p.whole ∙ q.whole) in
+        (a_text_has_one_cause r q.front rule rule' (subst (λ front. IsCause r front rule) same.0 p.cause) q.cause, e)
+    cases (inr (inl h)) = absurd (no_earlier_fault r rest rule rule' at at' p q h)
+    cases (inr (inr h)) = absurd (no_earlier_fault r rest rule' rule at' at q p h)

@@ -1,0 +1,5 @@
+use Rattle.resp_value.proofs.SpellingLaws.{a_text_has_one_value}
+use Rattle.resp_value.proofs.laws.a_text_has_one_value.Goals as goal
+
+pub returns : goal.returns
+returns c = a_text_has_one_value

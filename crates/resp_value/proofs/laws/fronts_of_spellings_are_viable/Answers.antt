@@ -1,0 +1,5 @@
+use Rattle.resp_value.proofs.ViabilityLaws.{fronts_of_spellings_are_viable}
+use Rattle.resp_value.proofs.laws.fronts_of_spellings_are_viable.Goals as goal
+
+pub returns : goal.returns
+returns c = fronts_of_spellings_are_viable

@@ -1,0 +1,35 @@
+use Rattle.resp_value.proofs.Examples.{plus_and_zeros, minus_zero, length_with_zero, bulk_null, array_null, plain_null, big_minus_zero, verbatim, chunks, streamed_map, attribute}
+use Rattle.resp_value.proofs.laws.texts_and_their_values.Goals as goal
+
+pub returns-clause-plus_and_zeros : goal.returns-clause-plus_and_zeros
+returns-clause-plus_and_zeros c = plus_and_zeros
+
+pub returns-clause-minus_zero : goal.returns-clause-minus_zero
+returns-clause-minus_zero c = minus_zero
+
+pub returns-clause-length_with_zero : goal.returns-clause-length_with_zero
+returns-clause-length_with_zero c = length_with_zero
+
+pub returns-clause-bulk_null : goal.returns-clause-bulk_null
+returns-clause-bulk_null c = bulk_null
+
+pub returns-clause-array_null : goal.returns-clause-array_null
+returns-clause-array_null c = array_null
+
+pub returns-clause-plain_null : goal.returns-clause-plain_null
+returns-clause-plain_null c = plain_null
+
+pub returns-clause-big_minus_zero : goal.returns-clause-big_minus_zero
+returns-clause-big_minus_zero c = big_minus_zero
+
+pub returns-clause-verbatim : goal.returns-clause-verbatim
+returns-clause-verbatim c = verbatim
+
+pub returns-clause-chunks : goal.returns-clause-chunks
+returns-clause-chunks c = chunks
+
+pub returns-clause-streamed_map : goal.returns-clause-streamed_map
+returns-clause-streamed_map c = streamed_map
+
+pub returns-clause-attribute : goal.returns-clause-attribute
+returns-clause-attribute c = attribute

@@ -1,0 +1,39 @@
+-- Words of the worked examples.
+use Rattle.std.specs.Prelude.{◌≡◌, true, ℕ, ℤ, List}
+use Rattle.resp_value.specs.Bounds.{AreBounds}
+use Rattle.resp_value.specs.Data.{Kind, Datum, scalar, aggregate, data_of_list, Int, Simple}
+use Rattle.resp_value.specs.Rules.{Rules}
+use Rattle.resp_value.specs.Spellings.{IsSpelling}
+use Rattle.resp_value.specs.declared.version.Version.TheVariants.{Two, Three}
+
+-- an integer
+abbrev pub integer : ℤ → Datum
+integer i = scalar (Int i)
+
+-- a simple string
+abbrev pub simple : List ℕ → Datum
+simple text = scalar (Simple text)
+
+-- an aggregate of these members
+abbrev pub aggregate_of : Kind → List Datum → Datum
+aggregate_of kind members = aggregate kind (data_of_list members)
+
+-- the text is a spelling of the value in both versions, under all limits
+abbrev pub IsSpelled : List ℕ → Datum → Type 0
+IsSpelled text x = (r : Rules) → AreBounds r.limits → IsSpelling r x text
+
+-- the text is a spelling of the value in version 3, under all limits
+abbrev pub IsSpelledInThree : List ℕ → Datum → Type 0
+IsSpelledInThree text x = (r : Rules) → AreBounds r.limits → r.version ≡ Three → IsSpelling r x text
+
+-- the text is a spelling of the value in version 3, under all limits that allow streamed forms
+abbrev pub IsSpelledStreamed : List ℕ → Datum → Type 0
+IsSpelledStreamed text x = (r : Rules) → AreBounds r.limits → r.version ≡ Three → r.limits.streamed ≡ true → IsSpelling r x text
+
+-- the text is a spelling of no value, in no version and under no limits
+abbrev pub SpellsNothing : List ℕ → Type 0
+SpellsNothing text = (r : Rules) (x : Datum) → IsSpelling r x text → ⊥
+
+-- the text is a spelling of no value in version 2, under no limits
+abbrev pub SpellsNothingInTwo : List ℕ → Type 0
+SpellsNothingInTwo text = (r : Rules) (x : Datum) → r.version ≡ Two → IsSpelling r x text → ⊥

@@ -1,0 +1,27 @@
+//! How a device counts its calls, and those of them that failed.
+
+ghost use Rattle.std.specs.Prelude.{◌≡◌};
+ghost use Rattle.resp_value.specs.Devices.{raised};
+
+/// Two counts, each of which stays at its last value.
+#[derive(Clone, Copy, Debug, Default)]
+pub struct Counts {
+    pub calls: u64,
+    pub failures: u64,
+}
+
+impl Counts {
+    /// Counts a call.
+    pub fn add_call(&mut self)
+        ensures { self.new ≡ record self.old { calls = raised 1 self.old.calls } }
+    {
+        self.calls = self.calls.saturating_add(1);
+    }
+
+    /// Counts a failure.
+    pub fn add_failure(&mut self)
+        ensures { self.new ≡ record self.old { failures = raised 1 self.old.failures } }
+    {
+        self.failures = self.failures.saturating_add(1);
+    }
+}

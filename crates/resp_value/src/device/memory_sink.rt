@@ -1,0 +1,122 @@
+//! A sink in memory: each byte that it takes is known, and it fails from a set byte on.
+
+ghost use Rattle.std.specs.Prelude.{◌≡◌, ◌+◌, ◌≤◌, ◌↔◌, [], length, Some, IfOk, IsOk, IsErr, OnErr, vec_len, vec_capacity};
+ghost use Rattle.resp_value.specs.Devices.{raised, Writes, write_fails, failures_after, SinkState, write_count, after_write, after_failed_write};
+
+use super::counts::Counts;
+use super::{DeviceFault, Sink};
+use std::alloc::{AllocError, Global};
+use std::marker::Model;
+
+/// Holds what is written to it, at most a set number of bytes a call, and fails from a set byte on.
+#[derive(Debug, Drop)]
+pub struct MemorySink {
+    held: Vec<u8>,
+    most: usize,
+    // How many bytes may still be written before writes fail.
+    sound: usize,
+    counts: Counts,
+}
+
+impl Model for MemorySink {
+    ghost Value = { SinkState };
+
+    ghost view = { λ s. record {
+      held = s.held.items;
+      most = s.most;
+      sound = s.sound;
+      calls = s.counts.calls;
+      failures = s.counts.failures;
+    } };
+
+    // The room for what may still be written is there, so no write takes memory.
+    ghost invariant = { λ s. vec_len s.held + s.sound ≤ vec_capacity s.held };
+}
+
+impl MemorySink {
+    /// An empty sink, that moves at most `most` bytes a call and fails from byte `fails_from` on: a write that
+    /// begins before that byte stops there, and one that begins there fails. With 0 for `most` each write before
+    /// it takes no byte. The room for all that it may take is made here, so no write takes memory.
+    pub fn new(alloc: Global, most: usize, fails_from: usize) -> Result<Self, AllocError>
+        ensures ok { IfOk result (λ sink. sink ≡ record {
+          held = [];
+          most = most;
+          sound = fails_from;
+          calls = 0;
+          failures = 0;
+        }) }
+        ensures takes_nothing { fails_from ≡ 0 → IsOk result }
+    {
+        Ok(MemorySink {
+            held: Vec::with_capacity(alloc, fails_from)?,
+            most,
+            sound: fails_from,
+            counts: Counts::default(),
+        })
+    }
+
+    /// The bytes that were written.
+    pub fn bytes(&self) -> &[u8]
+        ensures { result.now ≡ self.now.held }
+    {
+        self.held.as_slice()
+    }
+
+    /// The bytes that were written.
+    pub fn into_vec(self) -> Vec<u8>
+        ensures { result.items ≡ self.held }
+    {
+        let MemorySink { held, .. } = self;
+        held
+    }
+
+    /// How many writes were made.
+    pub fn calls(&self) -> u64
+        ensures { result ≡ self.now.calls }
+    {
+        self.counts.calls
+    }
+
+    /// How many writes failed, or took no byte.
+    pub fn failures(&self) -> u64
+        ensures { result ≡ self.now.failures }
+    {
+        self.counts.failures
+    }
+}
+
+impl Sink for MemorySink {
+    ghost written = { λ s. Some s.held };
+
+    ghost calls = { λ s. s.calls };
+
+    ghost failures = { λ s. s.failures };
+
+    fn write(&mut self, from: &[u8]) -> Result<usize, DeviceFault>
+        ensures within { IfOk result (λ n. n ≤ length from.now) }
+        ensures bytes { Writes (Some self.old.held) (Some self.new.held) from.now result }
+        ensures calls { self.new.calls ≡ raised 1 self.old.calls }
+        ensures failures { self.new.failures ≡ failures_after (write_fails result) self.old.failures }
+
+        // It fails exactly where no byte may be written any more.
+        ensures fails { IsErr result ↔ (self.old.sound ≡ 0) }
+        ensures refused { OnErr result (self.new ≡ after_failed_write self.old) }
+
+        // Else it moves as many bytes as may be.
+        ensures count { IfOk result (λ n. n ≡ write_count self.old from.now) }
+        ensures after { IfOk result (λ n. self.new ≡ after_write self.old from.now n) }
+    {
+        self.counts.add_call();
+        if self.sound == 0 {
+            self.counts.add_failure();
+            return Err(DeviceFault);
+        }
+        let count = self.most.min(from.len()).min(self.sound);
+        if count == 0 {
+            self.counts.add_failure();
+        }
+        self.held.extend_from_slice(&from[..count]).unwrap();
+        self.sound -= count;
+        Ok(count)
+    }
+}

@@ -1,0 +1,119 @@
+//! A source over a slice: each byte that it gives is known, and it can be made to fail.
+
+ghost use Rattle.std.specs.Prelude.{◌≡◌, ◌<◌, ◌≤◌, ◌↔◌, ◌++◌, length, take, drop, Some, IfOk, IsErr, OnErr};
+ghost use Rattle.resp_value.specs.Devices.{raised, Reads, read_fails, failures_after, SourceState, read_count, after_read, after_failed_read};
+
+use super::counts::Counts;
+use super::{DeviceFault, Source};
+use std::marker::Model;
+
+/// Reads from a slice, at most a set number of bytes a call. It can be made to fail from a set byte on.
+#[derive(Debug, Drop)]
+pub struct MemorySource<'a> {
+    left: &'a [u8],
+    most: usize,
+    // How many bytes may still be read before reads fail, if reads fail at all.
+    sound: Option<usize>,
+    counts: Counts,
+}
+
+impl<'a> Model for MemorySource<'a> {
+    ghost Value = { SourceState };
+
+    ghost view = { λ s. record {
+      left = s.left.now;
+      most = s.most;
+      sound = s.sound;
+      calls = s.counts.calls;
+      failures = s.counts.failures;
+    } };
+
+    // A source that moves no byte would seem to be at its end.
+    ghost invariant = { λ s. 0 < s.most };
+}
+
+impl<'a> MemorySource<'a> {
+    /// A source of these bytes, that moves at most `most` bytes a call and never fails.
+    pub fn new(bytes: &'a [u8], most: usize) -> Self
+        requires { 0 < most }
+        ensures { result ≡ record {
+          left = bytes.now;
+          most = most;
+          sound = None;
+          calls = 0;
+          failures = 0;
+        } }
+    {
+        MemorySource {
+            left: bytes,
+            most,
+            sound: None,
+            counts: Counts::default(),
+        }
+    }
+
+    /// The same source, but it fails from this byte on, counted from 0 at the next byte that it reads: a read
+    /// that begins before that byte stops there, and one that begins there fails, at the end of the bytes too.
+    pub fn failing_from(self, byte: usize) -> Self
+        ensures { result ≡ record self.entry { sound = Some byte } }
+    {
+        MemorySource {
+            sound: Some(byte),
+            ..self
+        }
+    }
+
+    /// How many reads were made.
+    pub fn calls(&self) -> u64
+        ensures { result ≡ self.now.calls }
+    {
+        self.counts.calls
+    }
+
+    /// How many reads failed.
+    pub fn failures(&self) -> u64
+        ensures { result ≡ self.now.failures }
+    {
+        self.counts.failures
+    }
+}
+
+impl Source for MemorySource<'_> {
+    ghost remaining = { λ s. Some s.left };
+
+    ghost calls = { λ s. s.calls };
+
+    ghost failures = { λ s. s.failures };
+
+    fn read(&mut self, into: &mut [u8]) -> Result<usize, DeviceFault>
+        ensures within { IfOk result (λ n. n ≤ length into.old) }
+        ensures bytes { Reads (Some self.old.left) (Some self.new.left) into.new result }
+        ensures calls { self.new.calls ≡ raised 1 self.old.calls }
+        ensures failures { self.new.failures ≡ failures_after (read_fails result) self.old.failures }
+
+        // It fails exactly where no byte may be read any more.
+        ensures fails { IsErr result ↔ (self.old.sound ≡ Some 0) }
+        ensures refused { OnErr result (self.new ≡ after_failed_read self.old) }
+        ensures untouched { OnErr result (into.new ≡ into.old) }
+
+        // Else it moves as many bytes as may be.
+        ensures count { IfOk result (λ n. n ≡ read_count self.old (length into.old)) }
+        ensures moved { IfOk result (λ n. into.new ≡ take n self.old.left ++ drop n into.old) }
+        ensures after { IfOk result (λ n. self.new ≡ after_read self.old n) }
+    {
+        self.counts.add_call();
+        if self.sound == Some(0) {
+            self.counts.add_failure();
+            return Err(DeviceFault);
+        }
+        let mut count = self.most.min(into.len()).min(self.left.len());
+        if let Some(sound) = self.sound {
+            count = count.min(sound);
+            self.sound = Some(sound - count);
+        }
+        let (front, left) = self.left.split_at(count);
+        into[..count].copy_from_slice(front);
+        self.left = left;
+        Ok(count)
+    }
+}

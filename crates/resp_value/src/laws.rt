@@ -1,0 +1,180 @@
+//! Laws of the grammar's definitions, each the contract of a function with an empty body.
+
+ghost use Rattle.std.specs.Prelude.{[], ◌∷◌, ◌≡◌, codes, true, false, pos, negsuc};
+ghost use Rattle.resp_value.specs.Canonical.{canonical_text};
+ghost use Rattle.resp_value.specs.Data.{scalar, Array, Map, Attr, Null, Bool, Bulk, Verbatim, Big};
+ghost use Rattle.resp_value.specs.Examples.{integer, simple, aggregate_of, IsSpelled, IsSpelledInThree, IsSpelledStreamed, SpellsNothing, SpellsNothingInTwo};
+ghost use Rattle.resp_value.specs.declared.version.Version.TheVariants.{Two, Three};
+ghost use Rattle.resp_value.specs.Laws.{ATextHasOneValue, NoSpellingBeginsAnother, NoSpellingIsEmpty, APushBeginsWithItsByte, ATextHasOneCut, ARestHasOneFault, VersionThreeSpellsWhatTwoDoes, CanonicalTextSpellsWhatFits, CanonicalTextTellsValuesApart, FrontsOfSpellingsAreViable, FrontsOfViableTextsAreViable, LaterRulesLeaveLess, ATextHasOneCause, AViableTextHasNoCause, RulesHoldAtEachNode, TextsOfTreesAreBytes, DefaultItemsRefuseNothing, TheEmptyTextIsViable, TypeBytesAreViable, LaterTypeBytesWantVersionThree, ACommaBeginsADouble, NoOtherByteBeginsATree};
+
+/// A text is a spelling of one value alone, whatever the version and the limits.
+pub fn a_text_has_one_value()
+    ensures { ATextHasOneValue }
+{}
+
+/// Where two spellings begin one text, they are one, and so are their values and what follows them.
+pub fn no_spelling_begins_another()
+    ensures { NoSpellingBeginsAnother }
+{}
+
+/// No spelling is empty.
+pub fn no_spelling_is_empty()
+    ensures { NoSpellingIsEmpty }
+{}
+
+/// A spelling begins with `>` exactly where its value is a push.
+pub fn a_push_begins_with_its_byte()
+    ensures { APushBeginsWithItsByte }
+{}
+
+/// A text is cut into values and a rest in one way.
+pub fn a_text_has_one_cut()
+    ensures { ATextHasOneCut }
+{}
+
+/// A rest has one fault: one rule and one place.
+pub fn a_rest_has_one_fault()
+    ensures { ARestHasOneFault }
+{}
+
+/// What version 2 spells, version 3 spells too, of the same value and under the same limits.
+pub fn version_three_spells_what_two_does()
+    ensures { VersionThreeSpellsWhatTwoDoes }
+{}
+
+/// A value's canonical text is a spelling of it exactly where the value fits the version and the limits.
+pub fn canonical_text_spells_what_fits()
+    ensures { CanonicalTextSpellsWhatFits }
+{}
+
+/// Two values that a version has are equal exactly where their canonical texts are.
+pub fn canonical_text_tells_values_apart()
+    ensures { CanonicalTextTellsValuesApart }
+{}
+
+/// Every front of a spelling is viable under each rule.
+pub fn fronts_of_spellings_are_viable()
+    ensures { FrontsOfSpellingsAreViable }
+{}
+
+/// Every front of a viable text is viable.
+pub fn fronts_of_viable_texts_are_viable()
+    ensures { FrontsOfViableTextsAreViable }
+{}
+
+/// Each rule leaves no tree and no viable text that the rules before it don't.
+pub fn later_rules_leave_less()
+    ensures { LaterRulesLeaveLess }
+{}
+
+/// A text has one cause at most.
+pub fn a_text_has_one_cause()
+    ensures { ATextHasOneCause }
+{}
+
+/// A text that is viable under the last rule has no cause.
+pub fn a_viable_text_has_no_cause()
+    ensures { AViableTextHasNoCause }
+{}
+
+/// Each rule but the one of total holds of a tree exactly where it holds at each node on its level.
+pub fn rules_hold_at_each_node()
+    ensures { RulesHoldAtEachNode }
+{}
+
+/// Every text of a tree is bytes.
+pub fn texts_of_trees_are_bytes()
+    ensures { TextsOfTreesAreBytes }
+{}
+
+/// With streamed forms allowed and items up to the most bytes of a value, the trees and the spellings are those of the other rules.
+pub fn default_items_refuse_nothing()
+    ensures { DefaultItemsRefuseNothing }
+{}
+
+/// The empty text is viable under each rule.
+pub fn the_empty_text_is_viable()
+    ensures { TheEmptyTextIsViable }
+{}
+
+/// Each type byte of a version is viable in it under each rule.
+pub fn type_bytes_are_viable()
+    ensures { TypeBytesAreViable }
+{}
+
+/// In version 2 the version is the cause of a later type byte's refusal.
+pub fn later_type_bytes_want_version_three()
+    ensures { LaterTypeBytesWantVersionThree }
+{}
+
+/// A `,` begins a double in both versions, and is refused for that.
+pub fn a_comma_begins_a_double()
+    ensures { ACommaBeginsADouble }
+{}
+
+/// No tree begins with another byte.
+pub fn no_other_byte_begins_a_tree()
+    ensures { NoOtherByteBeginsATree }
+{}
+
+/// Texts and the values that they spell.
+pub fn texts_and_their_values()
+    // An integer may have a sign and leading zeros, and so may a length have zeros.
+    ensures plus_and_zeros { IsSpelled (codes ":+007\r\n") (integer (pos 7)) }
+    ensures minus_zero { IsSpelled (codes ":-0\r\n") (integer (pos 0)) }
+    ensures length_with_zero { IsSpelled (codes "$01\r\na\r\n") (scalar (Bulk (codes "a"))) }
+
+    // A null has three forms.
+    ensures bulk_null { IsSpelled (codes "$-1\r\n") (scalar Null) }
+    ensures array_null { IsSpelled (codes "*-1\r\n") (scalar Null) }
+    ensures plain_null { IsSpelledInThree (codes "_\r\n") (scalar Null) }
+
+    // A big zero is not negative, and keeps one digit.
+    ensures big_minus_zero { IsSpelledInThree (codes "(-00\r\n") (scalar (Big false (codes "0"))) }
+
+    // The length of a verbatim string counts its format and the `:`.
+    ensures verbatim { IsSpelledInThree (codes "=6\r\ntxt:hi\r\n")
+        (scalar (Verbatim (codes "txt") (codes "hi"))) }
+
+    // A streamed string is its chunks' joining.
+    ensures chunks { IsSpelledStreamed (codes "$?\r\n;2\r\nab\r\n;1\r\nc\r\n;0\r\n")
+        (scalar (Bulk (codes "abc"))) }
+    ensures streamed_map { IsSpelledStreamed (codes "%?\r\n+a\r\n:1\r\n.\r\n")
+        (aggregate_of Map (simple (codes "a") ∷ integer (pos 1) ∷ [])) }
+
+    // An attribute and the value that it annotates are one member.
+    ensures attribute { IsSpelledInThree (codes "*1\r\n|1\r\n+a\r\n:1\r\n+b\r\n")
+        (aggregate_of Array
+        (aggregate_of Attr (simple (codes "a") ∷ integer (pos 1) ∷ simple (codes "b") ∷ []) ∷ [])) }
+{}
+
+/// Values and their canonical texts.
+pub fn values_and_their_canonical_texts()
+    ensures null_in_two { canonical_text Two (scalar Null) ≡ codes "$-1\r\n" }
+    ensures null_in_three { canonical_text Three (scalar Null) ≡ codes "_\r\n" }
+    ensures negative { canonical_text Two (integer (negsuc 41)) ≡ codes ":-42\r\n" }
+    ensures big_zero { canonical_text Three (scalar (Big false (codes "0"))) ≡ codes "(0\r\n" }
+    ensures map { canonical_text Three
+        (aggregate_of Map (scalar (Bulk (codes "key")) ∷ scalar (Bool true) ∷ []))
+        ≡ codes "%1\r\n$3\r\nkey\r\n#t\r\n" }
+{}
+
+/// Texts that spell nothing.
+pub fn texts_without_a_value()
+    // A streamed map closes behind whole pairs alone.
+    ensures map_closed_after_a_key { SpellsNothing (codes "%?\r\n+a\r\n.\r\n") }
+    // An attribute wants the value that it annotates.
+    ensures attribute_alone { SpellsNothing (codes "|0\r\n") }
+    // A push stands at the top alone.
+    ensures push_below_the_top { SpellsNothing (codes "*1\r\n>0\r\n") }
+    // No value is a double.
+    ensures double { SpellsNothing (codes ",1.5\r\n") }
+    // A line has no LF in it.
+    ensures newline_in_a_line { SpellsNothing (codes "+a\nb\r\n") }
+    // A number has a digit.
+    ensures no_digits { SpellsNothing (codes ":\r\n") }
+    // An integer has 64 bits.
+    ensures more_than_64_bits { SpellsNothing (codes ":9223372036854775808\r\n") }
+    // Version 2 has no streamed forms.
+    ensures streamed_in_two { SpellsNothingInTwo (codes "*?\r\n.\r\n") }
+{}
