@@ -1,11 +1,14 @@
 -- The data of a list up to a place, and with one more.
 use Rattle.std.proofs.Common.{◌≡◌, ℕ, ◌+◌, ◌<◌, ◌≤◌, List, [], ◌∷◌, ◌++◌, length, map, take, drop, get_or, refl, sym, ap, ◌∙◌, arith, append_assoc, length-append}
-use Rattle.std.proofs.lemmas.List.{take_more, map-append, take-append-drop}
+use Rattle.std.proofs.Common.{Vec, Global}
+use Rattle.std.proofs.lemmas.List.{take_more, map-append, take-append-drop, take-map}
 use Rattle.resp_value.specs.Data.{Datum, data_of_list, in_turn}
 use Rattle.resp_value.specs.Trees.{texts}
 use Rattle.resp_value.specs.Canonical.{canonical_text, canonical_trees}
 use Rattle.resp_value.specs.Values.{extended}
 use Rattle.resp_value.specs.declared.version.Version.{Version}
+use Rattle.resp_value.specs.declared.version.Version.TheVariants.{Two}
+use Rattle.resp_encode.specs.Words.{word_datum, texts_of}
 use Rattle.resp_encode.proofs.Extended.{data_of_list-push, length-texts-extended}
 
 -- one more member
@@ -63,3 +66,25 @@ pair_room version f xs i d h =
       ap (λ ys. length (texts (canonical_trees version ys))) (pairs-take_more f xs i d h),
       length-texts-front version (in_turn (map f (take (i + 1) xs))) (in_turn (map f (drop (i + 1) xs))),
       ap (λ ys. length (texts (canonical_trees version (data_of_list ys)))) (ap in_turn (map-split f (i + 1) xs) ∙ in_turn-append (map f (take (i + 1) xs)) (map f (drop (i + 1) xs))))
+
+map-map : (words : List (Vec ℕ Global)) → map word_datum (map (λ word. word.items) words) ≡ map (λ word. word_datum word.items) words
+map-map [] = refl
+map-map (word ∷ words) = ap (λ rest. word_datum word.items ∷ rest) (map-map words)
+
+-- one more word
+pub word_take_more : (words : List (Vec ℕ Global)) (i : ℕ) (d : Vec ℕ Global) {text : List ℕ} → i < length words → text ≡ (get_or words i d).items → data_of_list (map word_datum (take (i + 1) (texts_of words))) ≡ extended (data_of_list (map word_datum (take i (texts_of words)))) (word_datum text)
+word_take_more words i d {text = text} h e =
+    ap (λ ws. data_of_list (map word_datum ws)) (take-map (λ word. word.items) (i + 1) words)
+    ∙ ap data_of_list (map-map (take (i + 1) words))
+    ∙ data-take_more (λ word. word_datum word.items) words i d h
+    ∙ ap (λ x. extended (data_of_list (map (λ word. word_datum word.items) (take i words))) (word_datum x)) (sym e)
+    ∙ ap (λ ws. extended (data_of_list ws) (word_datum text)) (sym (map-map (take i words)) ∙ ap (map word_datum) (sym (take-map (λ word. word.items) i words)))
+
+-- behind the words up to a place there is room for one more
+pub word_room : (words : List (Vec ℕ Global)) (i : ℕ) (d : Vec ℕ Global) {text : List ℕ} → i < length words → text ≡ (get_or words i d).items → length (texts (canonical_trees Two (data_of_list (map word_datum (take i (texts_of words)))))) + length (canonical_text Two (word_datum text)) ≤ length (texts (canonical_trees Two (data_of_list (map word_datum (texts_of words)))))
+word_room words i d {text = text} h e = omega (arith,
+  text_room Two (λ word. word_datum word.items) words i d h,
+  ap (λ ws. length (texts (canonical_trees Two (data_of_list ws)))) (map-map (take i words)),
+  ap (λ ws. length (texts (canonical_trees Two (data_of_list (map word_datum ws))))) (take-map (λ word. word.items) i words),
+  ap (λ ws. length (texts (canonical_trees Two (data_of_list ws)))) (map-map words),
+  ap (λ t. length (canonical_text Two (word_datum t))) e)

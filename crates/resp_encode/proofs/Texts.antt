@@ -5,10 +5,13 @@ use Rattle.std.proofs.lemmas.List.{drop-set, take_all}
 use Rattle.bytes.specs.Filled.{Filled}
 use Rattle.resp_value.specs.Bytes.{crlf}
 use Rattle.resp_value.specs.Numbers.{decimal}
-use Rattle.resp_value.specs.Data.{Kind, Data, scalar, aggregate, items_of, count}
+use Rattle.resp_value.specs.Data.{Kind, Datum, Data, scalar, aggregate, items_of, count}
 use Rattle.resp_value.specs.Data as d
 use Rattle.resp_value.specs.Trees.{kind_byte, texts}
-use Rattle.resp_value.specs.Canonical.{canonical_text, canonical_trees}
+use Rattle.resp_value.specs.Canonical.{canonical_text, canonical_trees, IsValue, Fits}
+use Rattle.resp_value.specs.Rules.{Rules}
+use Rattle.resp_value.specs.Spellings.{IsSpelling}
+use Rattle.resp_value.proofs.SpellingLaws.{canonical_text_spells_what_fits}
 use Rattle.resp_value.specs.declared.version.Version.{Version}
 use Rattle.resp_value.specs.declared.version.Version.TheVariants.{Three}
 use Rattle.resp_encode.specs.Writings.{Writes}
@@ -53,3 +56,7 @@ int_text_below (negsuc n) below = ap (λ m. 58 ∷ 45 ∷ decimal m ++ crlf []) 
 pub int_text_from_zero : (i : ℤ) → pos 0 ≤ℤ i → canonical_text Three (scalar (d.Int i)) ≡ 58 ∷ decimal (nat_abs i) ++ crlf []
 int_text_from_zero (pos n) above = refl
 int_text_from_zero (negsuc n) above = absurd (omega (arith, ints))
+
+-- the text of a value that fits is a spelling of it
+pub spells_if_fits : (rules : Rules) (x : Datum) → IsValue x → Fits rules x → IsSpelling rules x (canonical_text rules.version x)
+spells_if_fits rules x value fits = (canonical_text_spells_what_fits rules x value).1 fits

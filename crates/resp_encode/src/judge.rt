@@ -1,8 +1,9 @@
 //! Which values are refused, and for what.
 
-ghost use Rattle.std.specs.Prelude.{◌≡◌, ◌↔◌, IsTrue, IfOk, IfErr, IsErrOf, length};
+ghost use Rattle.std.specs.Prelude.{◌≡◌, ◌↔◌, IsTrue, IfOk, IfErr, OnOk, IsErrOf, length};
 ghost use Rattle.resp_value.specs.Data.{Datum};
-ghost use Rattle.resp_value.specs.Canonical.{HasTypes, canonical_text, Fits};
+ghost use Rattle.resp_value.specs.Canonical.{IsValue, HasTypes, canonical_text, Fits};
+ghost use Rattle.resp_value.specs.Spellings.{IsSpelling};
 ghost use Rattle.resp_encode.specs.Refusals.{IsFirstFault};
 ghost use Rattle.resp_encode.specs.Surveys.{Describes};
 
@@ -28,6 +29,7 @@ pub(crate) fn has_types(found: &Findings, version: Version) -> bool
 pub(crate) fn judge(found: &Findings, version: Version, limits: &Limits) -> Result<usize, EncodeError>
     ensures fits { (x : Datum) → Describes version x found.now → IfOk result (λ size. Fits (record { version = version; limits = limits.now }) x × (size ≡ length (canonical_text version x))) }
     ensures fault { (x : Datum) → Describes version x found.now → IfErr result (IsFirstFault (record { version = version; limits = limits.now }) x) }
+    ensures spelling { (x : Datum) → Describes version x found.now → IsValue x → OnOk result (IsSpelling (record { version = version; limits = limits.now }) x (canonical_text version x)) }
     ensures not_memory { IsErrOf result EncodeError.OutOfMemory → ⊥ }
 {
     if !has_types(found, version) {

@@ -1,11 +1,12 @@
 //! Values into a buffer.
 
-ghost use Rattle.std.specs.Prelude.{◌≡◌, ◌≢◌, ◌↔◌, ◌+◌, ◌<◌, ◌≤◌, ◌^◌, ◌++◌, length, IsSome, IfSome, IsErrOf, OnOk, OnErr, IfErr};
+ghost use Rattle.std.specs.Prelude.{◌≡◌, ◌≢◌, ◌↔◌, ◌+◌, ◌<◌, ◌≤◌, ◌^◌, ◌++◌, length, IsSome, IfSome, IsErrOf, OnOk, OnErr, IfOk, IfErr};
 ghost use Rattle.resp_value.specs.Spellings.{IsSpelling};
 ghost use Rattle.resp_value.specs.Canonical.{canonical_text, Fits};
 ghost use Rattle.resp_value.specs.Values.{datum_of};
 ghost use Rattle.resp_encode.specs.Refusals.{HasText, IsFirstFault};
 ghost use Rattle.resp_encode.specs.Words.{push_of};
+ghost use Rattle.resp_encode.specs.Writings.{Writes};
 ghost use Rattle.resp_encode.specs.declared.error.EncodeError.{EncodeError};
 ghost use Rattle.resp_value.specs.declared.version.Version.TheVariants.{Three};
 
@@ -50,6 +51,25 @@ pub fn encode(version: Version, limits: &Limits, value: &Value, out: &mut BytesM
     }
 }
 
+/// The length of the text of a push of these values, or its first fault.
+fn judge_push(limits: &Limits, items: &[Value]) -> Result<usize, EncodeError>
+    ensures fits { IfOk result (λ size. Fits (record { version = Three; limits = limits.now }) (push_of items.now) × (size ≡ length (canonical_text Three (push_of items.now)))) }
+    ensures fault { IfErr result (IsFirstFault (record { version = Three; limits = limits.now }) (push_of items.now)) }
+    ensures spelling { OnOk result (IsSpelling (record { version = Three; limits = limits.now }) (push_of items.now) (canonical_text Three (push_of items.now))) }
+    ensures not_memory { IsErrOf result EncodeError.OutOfMemory → ⊥ }
+{
+    let found = survey_group(items, Version::Three, Kind::Push);
+    judge(&found, Version::Three, limits)
+}
+
+/// Appends the text of a push of these values into room that is there.
+fn write_push(items: &[Value], out: &mut BytesMut)
+    requires { length (canonical_text Three (push_of items.now)) ≤ out.old.spare }
+    ensures { Writes out.old out.new (canonical_text Three (push_of items.now)) }
+{
+    write_group(items, Version::Three, b'>', out);
+}
+
 /// Appends the canonical text of a push of these values, as `encode` does of the value in version 3.
 pub fn encode_push(limits: &Limits, items: &[Value], out: &mut BytesMut) -> Result<(), EncodeError>
     ensures ok { OnOk result (out.new.items ≡ out.old.items ++ canonical_text Three (push_of items.now)) }
@@ -65,11 +85,10 @@ pub fn encode_push(limits: &Limits, items: &[Value], out: &mut BytesMut) -> Resu
     ensures spare { OnOk result (out.old.spare ≤ out.new.spare + length (canonical_text Three (push_of items.now))) }
     ensures spare_kept { OnErr result (out.old.spare ≤ out.new.spare) }
 {
-    let found = survey_group(items, Version::Three, Kind::Push);
-    let size = judge(&found, Version::Three, limits)?;
+    let size = judge_push(limits, items)?;
     match out.reserve(size) {
         Ok(()) => {
-            write_group(items, Version::Three, b'>', out);
+            write_push(items, out);
             Ok(())
         }
         Err(_) => Err(EncodeError::OutOfMemory),

@@ -33,7 +33,7 @@ fn survey_words(words: &[Vec<u8>]) -> Findings
     found
 }
 
-fn write_words(words: &[Vec<u8>], out: &mut BytesMut)
+fn write_each(words: &[Vec<u8>], out: &mut BytesMut)
     requires { length (texts (canonical_trees Two (data_of_list (map word_datum (texts_of words.now))))) ≤ out.old.spare }
     ensures { Writes out.old out.new (texts (canonical_trees Two (data_of_list (map word_datum (texts_of words.now))))) }
 {
@@ -42,11 +42,20 @@ fn write_words(words: &[Vec<u8>], out: &mut BytesMut)
     }
 }
 
+/// Appends the text of a command into room that is there.
+fn write_words(words: &[Vec<u8>], out: &mut BytesMut)
+    requires { length (canonical_text Two (command_of (texts_of words.now))) ≤ out.old.spare }
+    ensures { Writes out.old out.new (canonical_text Two (command_of (texts_of words.now))) }
+{
+    write_head(out, b'*', words.len() as u64);
+    write_each(words, out);
+}
+
 /// The length of a command's text, or the first limit that it breaks.
 fn judge_words(limits: &Limits, words: &[Vec<u8>]) -> Result<usize, EncodeError>
     ensures spelling { OnOk result (IsSpelling (record { version = Two; limits = limits.now }) (command_of (texts_of words.now)) (canonical_text Two (command_of (texts_of words.now)))) }
     ensures fits { IfOk result (λ size. Fits (record { version = Two; limits = limits.now }) (command_of (texts_of words.now)) × (size ≡ length (canonical_text Two (command_of (texts_of words.now))))) }
-    ensures refused { IfErr result (IsFirstFault (record { version = Two; limits = limits.now }) (command_of (texts_of words.now))) }
+    ensures fault { IfErr result (IsFirstFault (record { version = Two; limits = limits.now }) (command_of (texts_of words.now))) }
     ensures not_memory { IsErrOf result EncodeError.OutOfMemory → ⊥ }
 {
     let found = survey_words(words).inside(Kind::Array, words.len() as u64);
@@ -85,7 +94,6 @@ pub fn encode_words(limits: &Limits, words: &[Vec<u8>], out: &mut BytesMut) -> R
     let size = judge_words(limits, words)?;
     match out.reserve(size) {
         Ok(()) => {
-            write_head(out, b'*', words.len() as u64);
             write_words(words, out);
             Ok(())
         }
