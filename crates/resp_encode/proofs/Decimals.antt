@@ -41,11 +41,14 @@ length-decimal-four n large small = omega (arith, length-decimal-more n (omega a
 pub length-decimal-four_more : (n : ℕ) → 10000 ≤ n → n < 2 ^ 64 → length (decimal n) ≡ length (decimal (n / 10000)) + 4
 length-decimal-four_more n large fits =
     let e : n / 10 / 10 / 10 / 10 ≡ n / 10000 = omega arith in
-    omega (arith, ap (λ m. length (decimal m)) e,
+    omega (
+      arith,
+      ap (λ m. length (decimal m)) e,
       length-decimal-more n (omega arith) fits,
       length-decimal-more (n / 10) (omega arith) (omega arith),
       length-decimal-more (n / 10 / 10) (omega arith) (omega arith),
-      length-decimal-more (n / 10 / 10 / 10) (omega arith) (omega arith))
+      length-decimal-more (n / 10 / 10 / 10) (omega arith) (omega arith),
+    )
 
 -- a number of 64 bits has at least one digit, and at most twenty
 pub length-decimal-some : (n : ℕ) → n < 2 ^ 64 → 0 < length (decimal n)

@@ -49,23 +49,27 @@ map-split f n xs = ap (map f) (sym (take-append-drop n xs)) ∙ map-append f (ta
 
 -- behind the texts up to a place there is room for one more
 pub text_room : {A : Type 0} (version : Version) (f : A → Datum) (xs : List A) (i : ℕ) (d : A) → i < length xs → length (texts (canonical_trees version (data_of_list (map f (take i xs))))) + length (canonical_text version (f (get_or xs i d))) ≤ length (texts (canonical_trees version (data_of_list (map f xs))))
-text_room version f xs i d h = omega (arith,
+text_room version f xs i d h = omega (
+  arith,
   length-texts-extended version (data_of_list (map f (take i xs))) (f (get_or xs i d)),
   ap (λ ys. length (texts (canonical_trees version ys))) (data-take_more f xs i d h),
   length-texts-front version (map f (take (i + 1) xs)) (map f (drop (i + 1) xs)),
-  ap (λ ys. length (texts (canonical_trees version (data_of_list ys)))) (map-split f (i + 1) xs))
+  ap (λ ys. length (texts (canonical_trees version (data_of_list ys)))) (map-split f (i + 1) xs),
+)
 
 -- the same of a pair
 pub pair_room : {A : Type 0} (version : Version) (f : A → Datum × Datum) (xs : List A) (i : ℕ) (d : A) → i < length xs → length (texts (canonical_trees version (data_of_list (in_turn (map f (take i xs)))))) + length (canonical_text version (f (get_or xs i d)).0) + length (canonical_text version (f (get_or xs i d)).1) ≤ length (texts (canonical_trees version (data_of_list (in_turn (map f xs)))))
 pair_room version f xs i d h =
     let pair = f (get_or xs i d) in
     let front = data_of_list (in_turn (map f (take i xs))) in
-    omega (arith,
+    omega (
+      arith,
       length-texts-extended version front pair.0,
       length-texts-extended version (extended front pair.0) pair.1,
       ap (λ ys. length (texts (canonical_trees version ys))) (pairs-take_more f xs i d h),
       length-texts-front version (in_turn (map f (take (i + 1) xs))) (in_turn (map f (drop (i + 1) xs))),
-      ap (λ ys. length (texts (canonical_trees version (data_of_list ys)))) (ap in_turn (map-split f (i + 1) xs) ∙ in_turn-append (map f (take (i + 1) xs)) (map f (drop (i + 1) xs))))
+      ap (λ ys. length (texts (canonical_trees version (data_of_list ys)))) (ap in_turn (map-split f (i + 1) xs) ∙ in_turn-append (map f (take (i + 1) xs)) (map f (drop (i + 1) xs))),
+    )
 
 map-map : (words : List (Vec ℕ Global)) → map word_datum (map (λ word. word.items) words) ≡ map (λ word. word_datum word.items) words
 map-map [] = refl
@@ -82,9 +86,11 @@ word_take_more words i d {text = text} h e =
 
 -- behind the words up to a place there is room for one more
 pub word_room : (words : List (Vec ℕ Global)) (i : ℕ) (d : Vec ℕ Global) {text : List ℕ} → i < length words → text ≡ (get_or words i d).items → length (texts (canonical_trees Two (data_of_list (map word_datum (take i (texts_of words)))))) + length (canonical_text Two (word_datum text)) ≤ length (texts (canonical_trees Two (data_of_list (map word_datum (texts_of words)))))
-word_room words i d {text = text} h e = omega (arith,
+word_room words i d {text = text} h e = omega (
+  arith,
   text_room Two (λ word. word_datum word.items) words i d h,
   ap (λ ws. length (texts (canonical_trees Two (data_of_list ws)))) (map-map (take i words)),
   ap (λ ws. length (texts (canonical_trees Two (data_of_list (map word_datum ws))))) (take-map (λ word. word.items) i words),
   ap (λ ws. length (texts (canonical_trees Two (data_of_list ws)))) (map-map words),
-  ap (λ t. length (canonical_text Two (word_datum t))) e)
+  ap (λ t. length (canonical_text Two (word_datum t))) e,
+)

@@ -29,7 +29,23 @@ IsFirstFault rules x NestedPush = HasTypes rules.version x × (HasPushAtTop x �
 IsFirstFault rules x (OverLimits over) = HasText rules.version x × IsFirstOver rules x over
 IsFirstFault rules x OutOfMemory = Fits rules x
 
--- the refusal of a call that writes to a device
+-- the same of a call that writes to a device; a write is tried only where the value has no fault
+abbrev pub IsFirstRefusal : Rules → Datum → ToError → Type 0
+IsFirstRefusal rules x to.NotInVersion = IsFirstFault rules x NotInVersion
+IsFirstRefusal rules x to.NestedPush = IsFirstFault rules x NestedPush
+IsFirstRefusal rules x (to.OverLimits over) = IsFirstFault rules x (OverLimits over)
+IsFirstRefusal rules x to.OutOfMemory = Fits rules x
+IsFirstRefusal rules x (to.Write written) = Fits rules x
+
+-- this holds of how many bytes were written, where a write failed
+abbrev pub IfWrite : (ℕ → Type 0) → ToError → Type 0
+IfWrite P to.NotInVersion = Unit {0}
+IfWrite P to.NestedPush = Unit {0}
+IfWrite P (to.OverLimits over) = Unit {0}
+IfWrite P to.OutOfMemory = Unit {0}
+IfWrite P (to.Write written) = P written
+
+-- the fault as a call that writes to a device names it
 abbrev pub to_error : EncodeError → ToError
 to_error NotInVersion = to.NotInVersion
 to_error NestedPush = to.NestedPush

@@ -26,7 +26,11 @@ pub(crate) fn has_types(found: &Findings, version: Version) -> bool
 
 /// The length of the text, or the first fault of the value. It never answers want of memory.
 #[inline]
-pub(crate) fn judge(found: &Findings, version: Version, limits: &Limits) -> Result<usize, EncodeError>
+pub(crate) fn judge(
+    found: &Findings,
+    version: Version,
+    limits: &Limits,
+) -> Result<usize, EncodeError>
     ensures fits { (x : Datum) → Describes version x found.now → IfOk result (λ size. Fits (record { version = version; limits = limits.now }) x × (size ≡ length (canonical_text version x))) }
     ensures fault { (x : Datum) → Describes version x found.now → IfErr result (IsFirstFault (record { version = version; limits = limits.now }) x) }
     ensures spelling { (x : Datum) → Describes version x found.now → IsValue x → OnOk result (IsSpelling (record { version = version; limits = limits.now }) x (canonical_text version x)) }

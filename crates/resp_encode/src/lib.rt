@@ -10,13 +10,14 @@ mod error;
 mod findings;
 mod judge;
 mod kind;
+mod room;
 mod survey;
+#[cfg(test)]
+mod tests;
 mod text;
 mod values;
 mod words;
 mod writer;
-#[cfg(test)]
-mod tests;
 
 pub use error::{EncodeError, ToError};
 pub use values::{encode, encode_push, size};

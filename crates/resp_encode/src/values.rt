@@ -13,6 +13,7 @@ ghost use Rattle.resp_value.specs.declared.version.Version.TheVariants.{Three};
 use crate::error::EncodeError;
 use crate::judge::{has_types, judge};
 use crate::kind::Kind;
+use crate::room::reserve;
 use crate::survey::{survey, survey_group};
 use crate::text::{write_group, write_value};
 use bytes::BytesMut;
@@ -26,7 +27,12 @@ use resp_value::version::Version;
 /// integers, simple strings, errors, bulk strings and arrays of these); a push stands below the top; the value is
 /// over the limit of depth, of length, of items or of total; a growth of the buffer was refused. The last never
 /// comes where the spare room of the buffer holds the text. After a refusal the buffer holds what it held.
-pub fn encode(version: Version, limits: &Limits, value: &Value, out: &mut BytesMut) -> Result<(), EncodeError>
+pub fn encode(
+    version: Version,
+    limits: &Limits,
+    value: &Value,
+    out: &mut BytesMut,
+) -> Result<(), EncodeError>
     ensures ok { OnOk result (out.new.items ≡ out.old.items ++ canonical_text version (datum_of value.now)) }
     ensures spelling { OnOk result (IsSpelling (record { version = version; limits = limits.now }) (datum_of value.now) (canonical_text version (datum_of value.now))) }
     ensures fits { OnOk result (Fits (record { version = version; limits = limits.now }) (datum_of value.now)) }
@@ -42,13 +48,9 @@ pub fn encode(version: Version, limits: &Limits, value: &Value, out: &mut BytesM
 {
     let found = survey(value, version);
     let size = judge(&found, version, limits)?;
-    match out.reserve(size) {
-        Ok(()) => {
-            write_value(value, version, out);
-            Ok(())
-        }
-        Err(_) => Err(EncodeError::OutOfMemory),
-    }
+    reserve(out, size)?;
+    write_value(value, version, out);
+    Ok(())
 }
 
 /// The length of the text of a push of these values, or its first fault.
@@ -86,13 +88,9 @@ pub fn encode_push(limits: &Limits, items: &[Value], out: &mut BytesMut) -> Resu
     ensures spare_kept { OnErr result (out.old.spare ≤ out.new.spare) }
 {
     let size = judge_push(limits, items)?;
-    match out.reserve(size) {
-        Ok(()) => {
-            write_push(items, out);
-            Ok(())
-        }
-        Err(_) => Err(EncodeError::OutOfMemory),
-    }
+    reserve(out, size)?;
+    write_push(items, out);
+    Ok(())
 }
 
 /// The length of the canonical text of a value in bytes. `None` exactly where the version lacks a type of the

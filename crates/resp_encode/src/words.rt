@@ -16,6 +16,7 @@ use crate::error::EncodeError;
 use crate::findings::Findings;
 use crate::judge::judge;
 use crate::kind::Kind;
+use crate::room::reserve;
 use crate::survey::of_bulk;
 use crate::text::{write_head, write_string};
 use bytes::BytesMut;
@@ -77,7 +78,11 @@ pub fn check_words(limits: &Limits, words: &[Vec<u8>]) -> Result<(), EncodeError
 
 /// Appends the canonical text of a command, as `encode` does of the array of these words as bulk strings in
 /// version 2.
-pub fn encode_words(limits: &Limits, words: &[Vec<u8>], out: &mut BytesMut) -> Result<(), EncodeError>
+pub fn encode_words(
+    limits: &Limits,
+    words: &[Vec<u8>],
+    out: &mut BytesMut,
+) -> Result<(), EncodeError>
     ensures ok { OnOk result (out.new.items ≡ out.old.items ++ canonical_text Two (command_of (texts_of words.now))) }
     ensures spelling { OnOk result (IsSpelling (record { version = Two; limits = limits.now }) (command_of (texts_of words.now)) (canonical_text Two (command_of (texts_of words.now)))) }
     ensures fits { OnOk result (Fits (record { version = Two; limits = limits.now }) (command_of (texts_of words.now))) }
@@ -92,11 +97,7 @@ pub fn encode_words(limits: &Limits, words: &[Vec<u8>], out: &mut BytesMut) -> R
     ensures spare_kept { OnErr result (out.old.spare ≤ out.new.spare) }
 {
     let size = judge_words(limits, words)?;
-    match out.reserve(size) {
-        Ok(()) => {
-            write_words(words, out);
-            Ok(())
-        }
-        Err(_) => Err(EncodeError::OutOfMemory),
-    }
+    reserve(out, size)?;
+    write_words(words, out);
+    Ok(())
 }

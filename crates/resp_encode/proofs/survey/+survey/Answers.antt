@@ -75,8 +75,8 @@ survey-returns-in-Attr-clause-found t c =
     let each = subst (λ xs. DescribesEach c.args.version xs c.with-found.result) (sym (data_of_list-push front annotated)) (c.with-found.ensures c.args.version (data_of_list front) annotated c.survey_pairs-in-Attr.ensures.found c.survey.ensures.found) in
     subst (λ x. Describes c.args.version x c.inside-in-Attr.result)
     (ap (λ x. aggregate d.Attr (data_of_list (front ++ x ∷ []))) same
-      ∙ ap (λ ps. aggregate d.Attr (data_of_list (in_turn (map pair_data ps) ++ datum_of c.in-Attr.annotated.value ∷ []))) c.list-pairs-in-Attr.ensures
-      ∙ sym (ap datum_of c.in-Attr.is ∙ datum_of-Attr c.in-Attr.pairs c.in-Attr.annotated))
+    ∙ ap (λ ps. aggregate d.Attr (data_of_list (in_turn (map pair_data ps) ++ datum_of c.in-Attr.annotated.value ∷ []))) c.list-pairs-in-Attr.ensures
+    ∙ sym (ap datum_of c.in-Attr.is ∙ datum_of-Attr c.in-Attr.pairs c.in-Attr.annotated))
     (c.inside-in-Attr.ensures c.args.version (data_of_list (front ++ annotated ∷ [])) each (sym (count-annotated pair_data pairs annotated)))
 
 pub survey-returns-in-Attr-clause-is_value : goal.survey-returns-in-Attr-clause-is_value
@@ -87,8 +87,8 @@ survey-returns-in-Attr-clause-is_value t c =
     let same : datum_of c.deref.result.now ≡ datum_of c.in-Attr.annotated.value = ap datum_of c.deref.ensures in
     subst IsValue
     (ap (λ x. aggregate d.Attr (data_of_list (front ++ x ∷ []))) same
-      ∙ ap (λ ps. aggregate d.Attr (data_of_list (in_turn (map pair_data ps) ++ datum_of c.in-Attr.annotated.value ∷ []))) c.list-pairs-in-Attr.ensures
-      ∙ sym (ap datum_of c.in-Attr.is ∙ datum_of-Attr c.in-Attr.pairs c.in-Attr.annotated))
+    ∙ ap (λ ps. aggregate d.Attr (data_of_list (in_turn (map pair_data ps) ++ datum_of c.in-Attr.annotated.value ∷ []))) c.list-pairs-in-Attr.ensures
+    ∙ sym (ap datum_of c.in-Attr.is ∙ datum_of-Attr c.in-Attr.pairs c.in-Attr.annotated))
     (annotated_is_whole (map pair_data pairs) annotated, are_values_with front annotated c.survey_pairs-in-Attr.ensures.are_values c.survey.ensures.is_value)
 
 pub survey_group-returns-clause-found : goal.survey_group-returns-clause-found
@@ -105,7 +105,7 @@ survey_members-loop-member-preserved t c =
     let item = ap datum_of c.member-item.is in
     record {
       found = subst (λ xs. DescribesEach c.args.version xs c.with-found.result) (sym one_more)
-        (c.with-found.ensures c.args.version front _ c.loop-member.invariant.found (subst (λ x. Describes c.args.version x c.survey.result) item c.survey.ensures.found));
+          (c.with-found.ensures c.args.version front _ c.loop-member.invariant.found (subst (λ x. Describes c.args.version x c.survey.result) item c.survey.ensures.found));
       are_values = subst AreValues (sym one_more) (values_with front _ c.loop-member.invariant.are_values (subst IsValue item c.survey.ensures.is_value));
     }
 
@@ -128,7 +128,7 @@ survey_pairs-loop-pair-preserved t c =
     let one_more = pairs-take_more pair_data c.args.pairs.now i c.pair-item.result c.loop-pair-test.true ∙ ap (λ pair. extended (extended front (pair_data pair).0) (pair_data pair).1) (sym c.pair-item.is) in
     record {
       found = subst (λ xs. DescribesEach c.args.version xs c.with-found-in-loop-pair.result) (sym one_more)
-        (c.with-found-in-loop-pair.ensures c.args.version (extended front key) _ (c.with-found.ensures c.args.version front key c.loop-pair.invariant.found c.survey.ensures.found) c.survey-in-loop-pair.ensures.found);
+          (c.with-found-in-loop-pair.ensures c.args.version (extended front key) _ (c.with-found.ensures c.args.version front key c.loop-pair.invariant.found c.survey.ensures.found) c.survey-in-loop-pair.ensures.found);
       are_values = subst AreValues (sym one_more) (values_with (extended front key) _ (values_with front key c.loop-pair.invariant.are_values c.survey.ensures.is_value) c.survey-in-loop-pair.ensures.is_value);
     }
 

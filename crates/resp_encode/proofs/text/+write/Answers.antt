@@ -30,7 +30,7 @@ write_members-loop-member-preserved t c =
     let one_more = data-take_more datum_of c.args.members.now i c.member-item.result c.loop-member-test.true in
     subst (Writes c.args.out.now c.write_value.new.out)
     (ap (λ x. texts (canonical_trees c.args.version front) ++ canonical_text c.args.version (datum_of x)) c.member-item.is
-      ∙ sym (ap (λ xs. texts (canonical_trees c.args.version xs)) one_more ∙ texts-extended c.args.version front _))
+    ∙ sym (ap (λ xs. texts (canonical_trees c.args.version xs)) one_more ∙ texts-extended c.args.version front _))
     (Writes-append c.loop-member.invariant c.write_value.ensures)
 
 pub write_members-returns : goal.write_members-returns
@@ -64,8 +64,8 @@ write_pairs-loop-pair-preserved t c =
     let one_more = pairs-take_more pair_data c.args.pairs.now i c.pair-item.result c.loop-pair-test.true ∙ ap (λ x. extended (extended front (pair_data x).0) (pair_data x).1) (sym c.pair-item.is) in
     subst (Writes c.args.out.now c.write_value-in-loop-pair.new.out)
     (sym (ap (λ xs. texts (canonical_trees c.args.version xs)) one_more
-      ∙ texts-extended c.args.version (extended front pair.0) pair.1
-      ∙ ap (λ xs. xs ++ canonical_text c.args.version pair.1) (texts-extended c.args.version front pair.0)))
+    ∙ texts-extended c.args.version (extended front pair.0) pair.1
+    ∙ ap (λ xs. xs ++ canonical_text c.args.version pair.1) (texts-extended c.args.version front pair.0)))
     (Writes-append (Writes-append c.loop-pair.invariant c.write_value.ensures) c.write_value-in-loop-pair.ensures)
 
 pub write_pairs-returns : goal.write_pairs-returns

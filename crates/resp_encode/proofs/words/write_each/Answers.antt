@@ -19,9 +19,14 @@ loop-word-init c = Writes-none c.args.out.now
 pub write_string-requires : goal.write_string-requires
 write_string-requires c =
     let word = c.as_slice.result.now in
-    omega (arith, c.requires, c.loop-word.invariant.spare,
+    omega (
+      arith,
+      c.requires,
+      c.loop-word.invariant.spare,
       word_room c.args.words.now c.loop-word.word-index c.word-item.result c.loop-word-test.true (c.as_slice.ensures.value ∙ ap (λ w. w.items) c.word-item.is),
-      length-head 36 (length word) (word ++ crlf []), length-append word (crlf []))
+      length-head 36 (length word) (word ++ crlf []),
+      length-append word (crlf []),
+    )
 
 pub loop-word-preserved : goal.loop-word-preserved
 loop-word-preserved c =
