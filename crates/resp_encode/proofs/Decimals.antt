@@ -56,3 +56,11 @@ length-decimal-some n fits = omega (arith, ap length (decimal-std n fits), decim
 
 pub length-decimal-few : (n : ℕ) → n < 2 ^ 64 → length (decimal n) ≤ 20
 length-decimal-few n fits = omega (arith, ap length (decimal-std n fits), length-decimal-le 20 n (omega arith) (omega arith) fits)
+
+-- the one digit of a number below ten, and the two of one below a hundred
+pub decimal-one : (n : ℕ) → n < 10 → decimal n ≡ (48 + n) ∷ []
+decimal-one n small = sym (decimal-std n (omega arith)) ∙ decimal_digit n small
+
+pub decimal-two : (n : ℕ) → 10 ≤ n → n < 100 → decimal n ≡ (48 + n / 10) ∷ (48 + n % 10) ∷ []
+decimal-two n large small =
+    sym (decimal-std n (omega arith)) ∙ decimal_step n large (omega arith) ∙ ap (λ digits. digits ++ ((48 + n % 10) ∷ [])) (decimal_digit (n / 10) (omega arith))

@@ -60,3 +60,7 @@ int_text_from_zero (negsuc n) above = absurd (omega (arith, ints))
 -- the text of a value that fits is a spelling of it
 pub spells_if_fits : (rules : Rules) (x : Datum) → IsValue x → Fits rules x → IsSpelling rules x (canonical_text rules.version x)
 spells_if_fits rules x value fits = (canonical_text_spells_what_fits rules x value).1 fits
+
+-- one append writes its bytes
+pub Writes-bytes : {a b : Filled} {written text : List ℕ} → b.items ≡ a.items ++ written → b.spare + length written ≡ a.spare → written ≡ text → Writes a b text
+Writes-bytes {a = a} {b = b} items spare same = record { items = items ∙ ap (λ xs. a.items ++ xs) same; spare = ap (λ xs. b.spare + length xs) (sym same) ∙ spare }

@@ -102,7 +102,10 @@ fn of_big(negative: bool, digits: &[u8]) -> Findings
 }
 
 /// What is found of a value. Each value of the program is one that a spelling may have.
+///
+/// It is inlined where it is called, so that the findings of a scalar stay in registers; what leads back to it is not.
 #[cycle(survey)]
+#[inline(always)]
 pub(crate) fn survey(value: &Value, version: Version) -> Findings
     ensures found { Describes version (datum_of value.now) result }
     ensures is_value { IsValue (datum_of value.now) }
@@ -126,14 +129,24 @@ pub(crate) fn survey(value: &Value, version: Version) -> Findings
         }
         Value::Attr(pairs, annotated) => {
             let pairs = pairs.list();
-            let found = survey_pairs(pairs, version).with(&survey(annotated, version));
+            let found = survey_pairs(pairs, version).with(&survey_annotated(annotated, version));
             found.inside(Kind::Attr, pairs.len() as u64)
         }
     }
 }
 
+#[cycle(survey)]
+#[inline(never)]
+fn survey_annotated(value: &Value, version: Version) -> Findings
+    ensures found { Describes version (datum_of value.now) result }
+    ensures is_value { IsValue (datum_of value.now) }
+{
+    survey(value, version)
+}
+
 /// What is found of an aggregate that counts its members one by one.
 #[cycle(survey)]
+#[inline(never)]
 pub(crate) fn survey_group(members: &[Value], version: Version, kind: Kind) -> Findings
     requires { (n : ℕ) → items_of (kind_of kind) n ≡ n }
     ensures found { Describes version (aggregate (kind_of kind) (data_of_list (map datum_of members.now))) result }
@@ -157,6 +170,7 @@ fn survey_members(members: &[Value], version: Version) -> Findings
 
 /// What is found of keys and values in turn.
 #[cycle(survey)]
+#[inline(never)]
 fn survey_pairs(pairs: &[(Value, Value)], version: Version) -> Findings
     ensures found { DescribesEach version (data_of_list (in_turn (map pair_data pairs.now))) result }
     ensures are_values { AreValues (data_of_list (in_turn (map pair_data pairs.now))) }

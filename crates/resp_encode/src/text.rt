@@ -16,9 +16,26 @@ use itoa::write_digits;
 use resp_value::value::Value;
 use resp_value::version::Version;
 
-/// Appends a head: the byte, the number, CR and LF.
+/// Appends a head: the byte, the number, CR and LF. A number of one or two digits, as most are, is put there
+/// at once.
 #[inline]
 pub(crate) fn write_head(out: &mut BytesMut, byte: u8, number: u64)
+    requires { length (decimal number) + 3 ≤ out.old.spare }
+    ensures { Writes out.old out.new (byte ∷ decimal number ++ crlf []) }
+{
+    if number < 10 {
+        out.extend_reserved(&[byte, b'0' + number as u8, b'\r', b'\n']);
+    } else if number < 100 {
+        let (tens, ones) = (number as u8 / 10, number as u8 % 10);
+        out.extend_reserved(&[byte, b'0' + tens, b'0' + ones, b'\r', b'\n']);
+    } else {
+        write_long_head(out, byte, number);
+    }
+}
+
+/// The same for a number of any length.
+#[inline(never)]
+fn write_long_head(out: &mut BytesMut, byte: u8, number: u64)
     requires { length (decimal number) + 3 ≤ out.old.spare }
     ensures { Writes out.old out.new (byte ∷ decimal number ++ crlf []) }
 {
@@ -115,8 +132,9 @@ fn write_big(out: &mut BytesMut, negative: bool, digits: &[u8])
     out.extend_reserved(b"\r\n");
 }
 
-/// Appends the text of a value.
+/// Appends the text of a value. It is inlined where it is called; what leads back to it is not.
 #[cycle(write)]
+#[inline(always)]
 pub(crate) fn write_value(value: &Value, version: Version, out: &mut BytesMut)
     requires { length (canonical_text version (datum_of value.now)) ≤ out.old.spare }
     ensures { Writes out.old out.new (canonical_text version (datum_of value.now)) }
@@ -143,13 +161,23 @@ pub(crate) fn write_value(value: &Value, version: Version, out: &mut BytesMut)
             let pairs = pairs.list();
             write_head(out, b'|', pairs.len() as u64);
             write_pairs(pairs, version, out);
-            write_value(annotated, version, out);
+            write_annotated(annotated, version, out);
         }
     }
 }
 
+#[cycle(write)]
+#[inline(never)]
+fn write_annotated(value: &Value, version: Version, out: &mut BytesMut)
+    requires { length (canonical_text version (datum_of value.now)) ≤ out.old.spare }
+    ensures { Writes out.old out.new (canonical_text version (datum_of value.now)) }
+{
+    write_value(value, version, out);
+}
+
 /// Appends a head with this byte and the number of the members, and their texts.
 #[cycle(write)]
+#[inline(never)]
 pub(crate) fn write_group(members: &[Value], version: Version, byte: u8, out: &mut BytesMut)
     requires { length (decimal (length members.now)) + 3 + length (texts (canonical_trees version (data_of_list (map datum_of members.now)))) ≤ out.old.spare }
     ensures { Writes out.old out.new (byte ∷ decimal (length members.now) ++ crlf (texts (canonical_trees version (data_of_list (map datum_of members.now))))) }
@@ -171,6 +199,7 @@ fn write_members(members: &[Value], version: Version, out: &mut BytesMut)
 
 /// Appends the texts of keys and values in turn.
 #[cycle(write)]
+#[inline(never)]
 fn write_pairs(pairs: &[(Value, Value)], version: Version, out: &mut BytesMut)
     requires { length (texts (canonical_trees version (data_of_list (in_turn (map pair_data pairs.now))))) ≤ out.old.spare }
     ensures { Writes out.old out.new (texts (canonical_trees version (data_of_list (in_turn (map pair_data pairs.now))))) }

@@ -72,7 +72,7 @@ survey-returns-in-Attr-clause-found t c =
     let front = in_turn (map pair_data pairs) in
     let annotated = datum_of c.deref.result.now in
     let same : datum_of c.deref.result.now ≡ datum_of c.in-Attr.annotated.value = ap datum_of c.deref.ensures in
-    let each = subst (λ xs. DescribesEach c.args.version xs c.with-found.result) (sym (data_of_list-push front annotated)) (c.with-found.ensures c.args.version (data_of_list front) annotated c.survey_pairs-in-Attr.ensures.found c.survey.ensures.found) in
+    let each = subst (λ xs. DescribesEach c.args.version xs c.with-found.result) (sym (data_of_list-push front annotated)) (c.with-found.ensures c.args.version (data_of_list front) annotated c.survey_pairs-in-Attr.ensures.found c.survey_annotated.ensures.found) in
     subst (λ x. Describes c.args.version x c.inside-in-Attr.result)
     (ap (λ x. aggregate d.Attr (data_of_list (front ++ x ∷ []))) same
     ∙ ap (λ ps. aggregate d.Attr (data_of_list (in_turn (map pair_data ps) ++ datum_of c.in-Attr.annotated.value ∷ []))) c.list-pairs-in-Attr.ensures
@@ -89,7 +89,7 @@ survey-returns-in-Attr-clause-is_value t c =
     (ap (λ x. aggregate d.Attr (data_of_list (front ++ x ∷ []))) same
     ∙ ap (λ ps. aggregate d.Attr (data_of_list (in_turn (map pair_data ps) ++ datum_of c.in-Attr.annotated.value ∷ []))) c.list-pairs-in-Attr.ensures
     ∙ sym (ap datum_of c.in-Attr.is ∙ datum_of-Attr c.in-Attr.pairs c.in-Attr.annotated))
-    (annotated_is_whole (map pair_data pairs) annotated, are_values_with front annotated c.survey_pairs-in-Attr.ensures.are_values c.survey.ensures.is_value)
+    (annotated_is_whole (map pair_data pairs) annotated, are_values_with front annotated c.survey_pairs-in-Attr.ensures.are_values c.survey_annotated.ensures.is_value)
 
 pub survey_group-returns-clause-found : goal.survey_group-returns-clause-found
 survey_group-returns-clause-found t c = c.inside.ensures c.args.version _ c.survey_members.ensures.found (sym (count-map datum_of c.args.members.now) ∙ sym (c.requires _))

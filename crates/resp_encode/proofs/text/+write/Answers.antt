@@ -109,8 +109,8 @@ write_value-write_pairs-requires-in-Attr t c =
     let under = canonical_text c.args.version (datum_of c.in-Attr.annotated.value) in
     (omega (arith, c.requires, c.write_head-in-Attr.ensures.spare, length-head 124 (length ps) [], ap length (text_of-Attr c.args.version c.args.value.now c.in-Attr.pairs c.in-Attr.annotated ps c.in-Attr.annotated.value c.list-pairs-in-Attr.ensures refl c.in-Attr.is), length-head 124 (length ps) (pair_texts c.args.version ps ++ under), length-append (pair_texts c.args.version ps) under), omega (arith, c.requires, c.write_head-in-Attr.ensures.spare, length-head 124 (length ps) [], ap length (text_of-Attr c.args.version c.args.value.now c.in-Attr.pairs c.in-Attr.annotated ps c.in-Attr.annotated.value c.list-pairs-in-Attr.ensures refl c.in-Attr.is), length-head 124 (length ps) (pair_texts c.args.version ps ++ under), length-append (pair_texts c.args.version ps) under))
 
-pub write_value-write_value-requires : goal.write_value-write_value-requires
-write_value-write_value-requires t c =
+pub write_value-write_annotated-requires : goal.write_value-write_annotated-requires
+write_value-write_annotated-requires t c =
     let ps = c.list-pairs-in-Attr.result.now in
     let under = canonical_text c.args.version (datum_of c.deref.result.now) in
     (omega (arith, c.requires, c.write_head-in-Attr.ensures.spare, c.write_pairs-in-Attr.ensures.spare, length-head 124 (length ps) [], ap length (text_of-Attr c.args.version c.args.value.now c.in-Attr.pairs c.in-Attr.annotated ps c.deref.result.now c.list-pairs-in-Attr.ensures c.deref.ensures c.in-Attr.is), length-head 124 (length ps) (pair_texts c.args.version ps ++ under), length-append (pair_texts c.args.version ps) under), omega (arith, c.requires, c.write_head-in-Attr.ensures.spare, c.write_pairs-in-Attr.ensures.spare, length-head 124 (length ps) [], ap length (text_of-Attr c.args.version c.args.value.now c.in-Attr.pairs c.in-Attr.annotated ps c.deref.result.now c.list-pairs-in-Attr.ensures c.deref.ensures c.in-Attr.is), length-head 124 (length ps) (pair_texts c.args.version ps ++ under), length-append (pair_texts c.args.version ps) under))
@@ -135,6 +135,6 @@ pub write_value-returns-in-Attr : goal.write_value-returns-in-Attr
 write_value-returns-in-Attr t c =
     let ps = c.list-pairs-in-Attr.result.now in
     let under = canonical_text c.args.version (datum_of c.deref.result.now) in
-    subst (Writes c.args.out.now c.write_value.new.out)
+    subst (Writes c.args.out.now c.write_annotated.new.out)
     (head_split 124 (length ps) (pair_texts c.args.version ps ++ under) ∙ sym (text_of-Attr c.args.version c.args.value.now c.in-Attr.pairs c.in-Attr.annotated ps c.deref.result.now c.list-pairs-in-Attr.ensures c.deref.ensures c.in-Attr.is))
-    (Writes-append c.write_head-in-Attr.ensures (Writes-append c.write_pairs-in-Attr.ensures c.write_value.ensures))
+    (Writes-append c.write_head-in-Attr.ensures (Writes-append c.write_pairs-in-Attr.ensures c.write_annotated.ensures))

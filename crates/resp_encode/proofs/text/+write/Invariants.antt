@@ -24,3 +24,6 @@ decreases-write_members l = 2 * length (texts (canonical_trees l.version (data_o
 
 abbrev pub decreases-write_pairs : goal.decreases-write_pairs
 decreases-write_pairs l = 2 * length (texts (canonical_trees l.version (data_of_list (in_turn (map pair_data l.pairs.now))))) + 1
+
+abbrev pub decreases-write_annotated : goal.decreases-write_annotated
+decreases-write_annotated l = 2 * length (canonical_text l.version (datum_of l.value.now)) + 1
