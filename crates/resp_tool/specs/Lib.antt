@@ -3,4 +3,5 @@ pub mod Written
 pub mod Scalars
 pub mod Faults
 pub mod Reads
+pub mod Renders
 pub mod Shows

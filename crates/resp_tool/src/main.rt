@@ -3,6 +3,7 @@
 
 mod command_line;
 mod input;
+mod render;
 mod scalar_reader;
 mod show;
 mod shown;

@@ -1,6 +1,7 @@
 use Rattle.std.proofs.Common.{◌≡◌, ◌∙◌, Err, sym, ap}
 use Rattle.resp_value.specs.declared.version.Version.TheVariants.{Two}
-use Rattle.resp_tool.specs.Shows.{stream_rules, default_rules}
+use Rattle.resp_tool.specs.Renders.{stream_rules}
+use Rattle.resp_tool.specs.Shows.{default_rules}
 use Rattle.resp_tool.proofs.Statuses.{front_at_one}
 use Rattle.resp_tool.proofs.command_line.command.Goals as goal
 
