@@ -30,6 +30,7 @@ pub fn encode_to<W: Sink>(
     ensures length { IfOk result (λ n. n ≡ length (canonical_text version (datum_of value.now))) }
     ensures ok { OnOk result (Appends (W.written writer.old) (W.written writer.new) (canonical_text version (datum_of value.now))) }
     ensures fits { OnOk result (Fits (record { version = version; limits = limits.now }) (datum_of value.now)) }
+    ensures none_failed { OnOk result (W.failures writer.new ≡ W.failures writer.old) }
 
     // Each fault is answered only where the value has it and no earlier one, always where it has, and before
     // anything is written.

@@ -9,3 +9,4 @@ pub mod QuotedWrites
 pub mod ReadLemmas
 pub mod RenderLemmas
 pub mod Statuses
+pub mod Unfit

@@ -5,3 +5,4 @@ pub mod Faults
 pub mod Reads
 pub mod Renders
 pub mod Shows
+pub mod Canons
