@@ -4,5 +4,5 @@ pub mod Scalars
 pub mod Faults
 pub mod Reads
 pub mod Renders
-pub mod Shows
+pub mod Runs
 pub mod Canons
