@@ -73,9 +73,11 @@ fn check_encode(
     Ok(())
 }
 
-/// That `encode` appends this text in version 3.
+/// That `encode` appends this text in version 3, and that a copy of the value is equal to it.
 fn check_text(rt: &impl Abort, alloc: Global, value: &Value, text: &[u8]) -> Result<(), Fail> {
     let limits = Limits::standard();
+    let copy = value.try_clone(alloc)?;
+    assert!(rt; copy == *value);
     assert_eq!(rt; size(Version::Three, value), Some(text.len() as u64));
     check_encode(rt, alloc, Version::Three, &limits, value, Ok(text))
 }
