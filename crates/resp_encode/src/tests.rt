@@ -256,6 +256,14 @@ fn limits(rt: HostRuntime) -> Result<(), Fail> {
         &deep,
         Err(EncodeError::OverLimits(Over::Depth)),
     )?;
+    Ok(())
+}
+
+#[test]
+fn totals(rt: HostRuntime) -> Result<(), Fail> {
+    let alloc = rt.alloc();
+    let small = Limits::new(4, 64, 256)?;
+    let two = Version::Two;
     let full = [b'a'; 64];
     let four = array(
         alloc,
