@@ -22,6 +22,9 @@ const BATCH: usize = 100;
 /// How many batches make a million values.
 const ROUNDS: usize = 10_000;
 
+/// Over a million values, so many nanoseconds are a hundredth of a nanosecond a value.
+const NANOS_IN_HUNDREDTHS: u128 = 10_000;
+
 fn encode_all(value: &Value, rounds: usize, out: &mut BytesMut) -> Result<()> {
     let limits = Limits::standard();
     for _ in 0..rounds {
@@ -43,8 +46,14 @@ fn copy_all(text: &[u8], rounds: usize, out: &mut BytesMut) -> Result<()> {
     Ok(())
 }
 
-/// Prints a line of times: nanoseconds a value, and the ratio to the copy in hundredths.
-fn measure(rt: &(impl Print + CpuClock), name: &str, value: &Value, text: &[u8], out: &mut BytesMut) -> Result<()> {
+/// Prints a line of times: nanoseconds a value, those to copy its text, and their ratio.
+fn measure(
+    rt: &(impl Print + CpuClock),
+    name: &str,
+    value: &Value,
+    text: &[u8],
+    out: &mut BytesMut,
+) -> Result<()> {
     encode_all(value, 1, out)?;
     let start = rt.thread_cpu_time()?.as_nanos();
     encode_all(value, ROUNDS, out)?;
@@ -53,13 +62,29 @@ fn measure(rt: &(impl Print + CpuClock), name: &str, value: &Value, text: &[u8],
     let end = rt.thread_cpu_time()?.as_nanos();
     let encoded = middle.saturating_sub(start);
     let copied = end.saturating_sub(middle).max(1);
-    let hundredths = encoded.saturating_mul(100) / copied;
-    let (encoded, copied) = (encoded / 10_000, copied / 10_000);
-    println!(rt; "{name}: {encoded} hundredths of ns a value, {copied} to copy, ratio {hundredths} hundredths")?;
+    print!(rt; "{name}: ")?;
+    print_hundredths(rt, encoded / NANOS_IN_HUNDREDTHS)?;
+    print!(rt; " ns a value, ")?;
+    print_hundredths(rt, copied / NANOS_IN_HUNDREDTHS)?;
+    print!(rt; " ns to copy, ratio ")?;
+    print_hundredths(rt, encoded.saturating_mul(100) / copied)?;
+    println!(rt; "")?;
     Ok(())
 }
 
-fn run(rt: &(impl Print + CpuClock), alloc: Global, timed: bool, name: &str, value: &Value) -> Result<()> {
+fn print_hundredths(rt: &impl Print, hundredths: u128) -> Result<()> {
+    let (whole, rest) = (hundredths / 100, hundredths % 100);
+    print!(rt; "{whole}.{rest:02}")?;
+    Ok(())
+}
+
+fn run(
+    rt: &(impl Print + CpuClock),
+    alloc: Global,
+    timed: bool,
+    name: &str,
+    value: &Value,
+) -> Result<()> {
     let length = size(Version::Three, value).unwrap_or(0);
     let mut text = BytesMut::new(alloc);
     encode(Version::Three, &Limits::standard(), value, &mut text)?;
@@ -83,8 +108,26 @@ fn main(rt: HostRuntime) -> Result<()> {
     }
     run(&rt, alloc, timed, "simple OK", &values::simple(alloc)?)?;
     run(&rt, alloc, timed, "integers", &Value::Int(123_456))?;
-    run(&rt, alloc, timed, "16-byte bulks", &values::bulk(alloc, 16)?)?;
-    run(&rt, alloc, timed, "1 KiB bulks", &values::bulk(alloc, 1024)?)?;
-    run(&rt, alloc, timed, "arrays of ten bulks", &values::array(alloc)?)?;
+    run(
+        &rt,
+        alloc,
+        timed,
+        "16-byte bulks",
+        &values::bulk(alloc, 16)?,
+    )?;
+    run(
+        &rt,
+        alloc,
+        timed,
+        "1 KiB bulks",
+        &values::bulk(alloc, 1024)?,
+    )?;
+    run(
+        &rt,
+        alloc,
+        timed,
+        "arrays of ten bulks",
+        &values::array(alloc)?,
+    )?;
     run(&rt, alloc, timed, "maps of ten pairs", &values::map(alloc)?)
 }

@@ -1,5 +1,5 @@
 -- How many members and pairs an aggregate counts.
-use Rattle.std.proofs.Common.{◌≡◌, ℕ, ◌+◌, ◌/◌, List, [], ◌∷◌, ◌++◌, length, map, ap, ◌∙◌, arith, length-append}
+use Rattle.std.proofs.Common.{◌≡◌, ℕ, ◌/◌, List, [], ◌∷◌, ◌++◌, length, map, ◌∙◌, arith, length-append}
 use Rattle.std.proofs.Common.{Vec, Global}
 use Rattle.std.proofs.lemmas.List.{length-map}
 use Rattle.resp_value.specs.Data.{Datum, data_of_list, in_turn, count}

@@ -1,7 +1,7 @@
 -- What holds of data with one more behind them.
-use Rattle.std.proofs.Common.{◌≡◌, ℕ, ◌+◌, List, [], ◌∷◌, ◌++◌, length, max, refl, sym, ap, ◌∙◌, arith, append_assoc, append-nil, length-append}
-use Rattle.resp_value.specs.Data.{Datum, Data, none, more, data_of_list, depth, greatest_depth, longest, longest_among, most_items, most_items_among, count}
-use Rattle.resp_value.specs.Trees.{texts, text}
+use Rattle.std.proofs.Common.{◌≡◌, ◌+◌, List, [], ◌∷◌, ◌++◌, length, max, refl, sym, ap, ◌∙◌, arith, append_assoc, append-nil, length-append}
+use Rattle.resp_value.specs.Data.{Datum, Data, none, more, data_of_list, depth, greatest_depth, longest, longest_among, most_items, most_items_among}
+use Rattle.resp_value.specs.Trees.{texts}
 use Rattle.resp_value.specs.Canonical.{IsValue, AreValues, IsInTwo, AreInTwo, HasNoPush, HaveNoPush, canonical_text, canonical_trees}
 use Rattle.resp_value.specs.Values.{extended}
 use Rattle.resp_value.specs.declared.version.Version.{Version}

@@ -1,10 +1,10 @@
 -- What is found of members with one more, and of an aggregate.
-use Rattle.std.proofs.Common.{◌≡◌, ℕ, ◌+◌, ◌-◌, ◌<◌, ◌≤◌, ◌^◌, ◌↔◌, Bool, true, false, ◌&&◌, min, max, length, refl, sym, ap, ◌∙◌, arith, Option, Some, None, subst}
+use Rattle.std.proofs.Common.{◌≡◌, ℕ, ◌+◌, ◌-◌, ◌^◌, ◌↔◌, Bool, true, false, ◌&&◌, min, max, length, refl, sym, ap, arith, Option, Some, subst}
 use Rattle.std.specs.Bool.{IsTrue}
 use Rattle.resp_value.specs.Numbers.{decimal}
-use Rattle.resp_value.specs.Data.{Kind, Datum, Data, aggregate, items_of, count, depth, greatest_depth, longest, longest_among, most_items, most_items_among}
+use Rattle.resp_value.specs.Data.{Kind, Datum, Data, aggregate, items_of, count}
 use Rattle.resp_value.specs.Trees.{texts}
-use Rattle.resp_value.specs.Canonical.{IsInTwo, AreInTwo, HasNoPush, HaveNoPush, HasPushAtTop, IsKindInTwo, IsKindBelow, canonical_text, canonical_trees}
+use Rattle.resp_value.specs.Canonical.{IsKindInTwo, IsKindBelow, canonical_text, canonical_trees}
 use Rattle.resp_value.specs.Values.{extended}
 use Rattle.resp_value.specs.declared.version.Version.{Version}
 use Rattle.resp_encode.specs.declared.findings.Findings.{Findings}

@@ -1,5 +1,5 @@
 -- What a value is refused for.
-use Rattle.std.specs.Prelude.{◌≡◌, ℕ, ◌<◌, ◌≤◌, length}
+use Rattle.std.specs.Prelude.{ℕ, ◌<◌, ◌≤◌, length}
 use Rattle.resp_value.specs.Data.{Datum, depth, longest, most_items}
 use Rattle.resp_value.specs.Rules.{Rules}
 use Rattle.resp_value.specs.Canonical.{HasTypes, HasPushAtTop, canonical_text, Fits}

@@ -1,9 +1,9 @@
 //! The walk that finds whether a value has a text, and how long it is.
 
-ghost use Rattle.std.specs.Prelude.{◌≡◌, ℕ, ◌+◌, ◌≤◌, ◌^◌, length, map};
+ghost use Rattle.std.specs.Prelude.{◌≡◌, ℕ, [], ◌∷◌, ◌++◌, ◌+◌, ◌≤◌, ◌^◌, length, map};
 ghost use Rattle.resp_value.specs.Bytes.{IsText};
 ghost use Rattle.resp_value.specs.Numbers.{decimal};
-ghost use Rattle.resp_value.specs.Data.{scalar, aggregate, items_of, data_of_list, in_turn};
+ghost use Rattle.resp_value.specs.Data.{Datum, scalar, aggregate, items_of, data_of_list, in_turn};
 ghost use Rattle.resp_value.specs.Data as d;
 ghost use Rattle.resp_value.specs.Canonical.{IsValue, AreValues, IsScalarValue};
 ghost use Rattle.resp_value.specs.Values.{datum_of, pair_data};
@@ -123,16 +123,22 @@ pub(crate) fn survey(value: &Value, version: Version) -> Findings
         Value::Array(members) => survey_group(members.list(), version, Kind::Array),
         Value::Set(members) => survey_group(members.list(), version, Kind::Set),
         Value::Push(members) => survey_group(members.list(), version, Kind::Push),
-        Value::Map(pairs) => {
-            let pairs = pairs.list();
-            survey_pairs(pairs, version).inside(Kind::Map, pairs.len() as u64)
-        }
+        Value::Map(pairs) => survey_map(pairs.list(), version),
         Value::Attr(pairs, annotated) => {
-            let pairs = pairs.list();
-            let found = survey_pairs(pairs, version).with(&survey_annotated(annotated, version));
-            found.inside(Kind::Attr, pairs.len() as u64)
+            let under = survey_annotated(annotated, version);
+            survey_attr(pairs.list(), version, &under)
         }
     }
+}
+
+/// What is found of a map of these pairs.
+#[cycle(survey)]
+#[inline(never)]
+fn survey_map(pairs: &[(Value, Value)], version: Version) -> Findings
+    ensures found { Describes version (aggregate d.Map (data_of_list (in_turn (map pair_data pairs.now)))) result }
+    ensures is_value { IsValue (aggregate d.Map (data_of_list (in_turn (map pair_data pairs.now)))) }
+{
+    survey_pairs(pairs, version).inside(Kind::Map, pairs.len() as u64)
 }
 
 #[cycle(survey)]
@@ -142,6 +148,17 @@ fn survey_annotated(value: &Value, version: Version) -> Findings
     ensures is_value { IsValue (datum_of value.now) }
 {
     survey(value, version)
+}
+
+/// What is found of an attribute of these pairs, over a value of which this was found.
+#[cycle(survey)]
+#[inline(never)]
+fn survey_attr(pairs: &[(Value, Value)], version: Version, under: &Findings) -> Findings
+    ensures found { (x : Datum) → Describes version x under.now → Describes version (aggregate d.Attr (data_of_list (in_turn (map pair_data pairs.now) ++ x ∷ []))) result }
+    ensures are_values { AreValues (data_of_list (in_turn (map pair_data pairs.now))) }
+{
+    let found = survey_pairs(pairs, version).with(under);
+    found.inside(Kind::Attr, pairs.len() as u64)
 }
 
 /// What is found of an aggregate that counts its members one by one.
@@ -170,7 +187,6 @@ fn survey_members(members: &[Value], version: Version) -> Findings
 
 /// What is found of keys and values in turn.
 #[cycle(survey)]
-#[inline(never)]
 fn survey_pairs(pairs: &[(Value, Value)], version: Version) -> Findings
     ensures found { DescribesEach version (data_of_list (in_turn (map pair_data pairs.now))) result }
     ensures are_values { AreValues (data_of_list (in_turn (map pair_data pairs.now))) }

@@ -73,9 +73,11 @@ fn check_encode(
     Ok(())
 }
 
-/// That `encode` appends this text in version 3.
+/// That `encode` appends this text in version 3, and that a copy of the value is equal to it.
 fn check_text(rt: &impl Abort, alloc: Global, value: &Value, text: &[u8]) -> Result<(), Fail> {
     let limits = Limits::standard();
+    let copy = value.try_clone(alloc)?;
+    assert!(rt; copy == *value);
     assert_eq!(rt; size(Version::Three, value), Some(text.len() as u64));
     check_encode(rt, alloc, Version::Three, &limits, value, Ok(text))
 }
@@ -254,6 +256,14 @@ fn limits(rt: HostRuntime) -> Result<(), Fail> {
         &deep,
         Err(EncodeError::OverLimits(Over::Depth)),
     )?;
+    Ok(())
+}
+
+#[test]
+fn totals(rt: HostRuntime) -> Result<(), Fail> {
+    let alloc = rt.alloc();
+    let small = Limits::new(4, 64, 256)?;
+    let two = Version::Two;
     let full = [b'a'; 64];
     let four = array(
         alloc,

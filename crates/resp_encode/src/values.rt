@@ -21,7 +21,8 @@ use resp_value::limits::Limits;
 use resp_value::value::Value;
 use resp_value::version::Version;
 
-/// Appends the canonical text of a value, whole or not at all.
+/// Appends the canonical text of a value, whole or not at all. Its forms are those that the Redis serialization
+/// protocol specification gives under "RESP protocol description".
 ///
 /// Refuses for the first of these that holds: the version lacks a type of the value (in version 2 all but Null,
 /// integers, simple strings, errors, bulk strings and arrays of these); a push stands below the top; the value is

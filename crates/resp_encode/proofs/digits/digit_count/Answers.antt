@@ -1,5 +1,4 @@
-use Rattle.std.proofs.Common.{◌≡◌, ◌+◌, ◌/◌, ◌≤◌, ◌<◌, ◌^◌, length, arith}
-use Rattle.resp_value.specs.Numbers.{decimal}
+use Rattle.std.proofs.Common.{◌≤◌, arith}
 use Rattle.resp_encode.proofs.Decimals.{length-decimal-four_more, length-decimal-few}
 use Rattle.resp_encode.proofs.digits.digit_count.Goals as goal
 

@@ -1,4 +1,4 @@
-use Rattle.std.proofs.Common.{◌≡◌, ◌≤◌, ◌<◌, ◌^◌, None, Some, subst, length, arith}
+use Rattle.std.proofs.Common.{◌≡◌, ◌≤◌, ◌^◌, subst, length, arith}
 use Rattle.resp_value.specs.Canonical.{canonical_text}
 use Rattle.resp_encode.specs.Sizes.{IsSize}
 use Rattle.resp_encode.proofs.Texts.{spells_if_fits}

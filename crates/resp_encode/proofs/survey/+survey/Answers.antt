@@ -1,15 +1,23 @@
-use Rattle.std.proofs.Common.{◌≡◌, ◌/◌, ◌++◌, ◌∷◌, [], length, map, take, get_or, sym, ap, ◌∙◌, subst, arith}
-use Rattle.std.proofs.lemmas.List.{take_all, length-map}
+use Rattle.std.proofs.Common.{◌≡◌, List, ◌++◌, ◌∷◌, [], map, take, sym, ap, ◌∙◌, subst}
+use Rattle.std.proofs.lemmas.List.{take_all}
 use Rattle.resp_value.specs.Data.{data_of_list, in_turn, aggregate, count}
 use Rattle.resp_value.specs.Data as d
 use Rattle.resp_value.specs.Canonical.{IsValue, AreValues}
 use Rattle.resp_value.specs.Values.{datum_of, pair_data, is_negative, extended}
-use Rattle.resp_value.proofs.DatumOf.{datum_of-Array, datum_of-Set, datum_of-Push, datum_of-Map, datum_of-Attr, count-data_of_list, length-in_turn, in_turn_is_whole, annotated_is_whole, are_values_with}
+use Rattle.resp_value.proofs.DatumOf.{datum_of-Array, datum_of-Set, datum_of-Push, datum_of-Map, datum_of-Attr, in_turn_is_whole, annotated_is_whole, are_values_with}
+use Rattle.resp_value.specs.declared.value.Value.{Value}
 use Rattle.resp_encode.specs.Surveys.{Describes, DescribesEach}
 use Rattle.resp_encode.proofs.Counts.{count-map, count-in_turn, count-annotated}
 use Rattle.resp_encode.proofs.Extended.{data_of_list-push, values_with}
 use Rattle.resp_encode.proofs.SoFar.{data-take_more, pairs-take_more}
 use Rattle.resp_encode.proofs.survey.+survey.Goals as goal
+
+-- the data of a map and of an attribute, at equal parts
+map_data : {ps qs : List (Value × Value)} → ps ≡ qs → aggregate d.Map (data_of_list (in_turn (map pair_data ps))) ≡ aggregate d.Map (data_of_list (in_turn (map pair_data qs)))
+map_data same = ap (λ ps. aggregate d.Map (data_of_list (in_turn (map pair_data ps)))) same
+
+attr_data : {ps qs : List (Value × Value)} {x y : Value} → ps ≡ qs → x ≡ y → aggregate d.Attr (data_of_list (in_turn (map pair_data ps) ++ datum_of x ∷ [])) ≡ aggregate d.Attr (data_of_list (in_turn (map pair_data qs) ++ datum_of y ∷ []))
+attr_data {qs = qs} {x = x} same under = ap (λ ps. aggregate d.Attr (data_of_list (in_turn (map pair_data ps) ++ datum_of x ∷ []))) same ∙ ap (λ z. aggregate d.Attr (data_of_list (in_turn (map pair_data qs) ++ datum_of z ∷ []))) under
 
 pub survey-returns-in-Bool-clause-found : goal.survey-returns-in-Bool-clause-found
 survey-returns-in-Bool-clause-found t c = subst (λ x. Describes c.args.version x c.of_bool.result) (sym (ap datum_of c.in-Bool.is)) (c.of_bool.ensures c.args.version)
@@ -54,42 +62,35 @@ pub survey-returns-in-Push-clause-is_value : goal.survey-returns-in-Push-clause-
 survey-returns-in-Push-clause-is_value t c = subst IsValue (ap (λ xs. aggregate d.Push (data_of_list (map datum_of xs))) c.list-in-Push.ensures ∙ sym (ap datum_of c.in-Push.is ∙ datum_of-Push c.in-Push.members)) (tt, c.survey_group-in-Push.ensures.are_values)
 
 pub survey-returns-in-Map-clause-found : goal.survey-returns-in-Map-clause-found
-survey-returns-in-Map-clause-found t c =
-    let pairs = c.list-pairs.result.now in
-    subst (λ x. Describes c.args.version x c.inside.result)
-    (ap (λ ps. aggregate d.Map (data_of_list (in_turn (map pair_data ps)))) c.list-pairs.ensures ∙ sym (ap datum_of c.in-Map.is ∙ datum_of-Map c.in-Map.pairs))
-    (c.inside.ensures c.args.version (data_of_list (in_turn (map pair_data pairs))) c.survey_pairs.ensures.found (sym (count-in_turn pair_data pairs)))
+survey-returns-in-Map-clause-found t c = subst (λ x. Describes c.args.version x c.survey_map.result) (map_data c.list-in-Map.ensures ∙ sym (ap datum_of c.in-Map.is ∙ datum_of-Map c.in-Map.pairs)) c.survey_map.ensures.found
 
 pub survey-returns-in-Map-clause-is_value : goal.survey-returns-in-Map-clause-is_value
-survey-returns-in-Map-clause-is_value t c =
-    subst IsValue
-    (ap (λ ps. aggregate d.Map (data_of_list (in_turn (map pair_data ps)))) c.list-pairs.ensures ∙ sym (ap datum_of c.in-Map.is ∙ datum_of-Map c.in-Map.pairs))
-    (in_turn_is_whole (map pair_data c.list-pairs.result.now), c.survey_pairs.ensures.are_values)
+survey-returns-in-Map-clause-is_value t c = subst IsValue (map_data c.list-in-Map.ensures ∙ sym (ap datum_of c.in-Map.is ∙ datum_of-Map c.in-Map.pairs)) c.survey_map.ensures.is_value
 
 pub survey-returns-in-Attr-clause-found : goal.survey-returns-in-Attr-clause-found
-survey-returns-in-Attr-clause-found t c =
-    let pairs = c.list-pairs-in-Attr.result.now in
-    let front = in_turn (map pair_data pairs) in
-    let annotated = datum_of c.deref.result.now in
-    let same : datum_of c.deref.result.now ≡ datum_of c.in-Attr.annotated.value = ap datum_of c.deref.ensures in
-    let each = subst (λ xs. DescribesEach c.args.version xs c.with-found.result) (sym (data_of_list-push front annotated)) (c.with-found.ensures c.args.version (data_of_list front) annotated c.survey_pairs-in-Attr.ensures.found c.survey_annotated.ensures.found) in
-    subst (λ x. Describes c.args.version x c.inside-in-Attr.result)
-    (ap (λ x. aggregate d.Attr (data_of_list (front ++ x ∷ []))) same
-    ∙ ap (λ ps. aggregate d.Attr (data_of_list (in_turn (map pair_data ps) ++ datum_of c.in-Attr.annotated.value ∷ []))) c.list-pairs-in-Attr.ensures
-    ∙ sym (ap datum_of c.in-Attr.is ∙ datum_of-Attr c.in-Attr.pairs c.in-Attr.annotated))
-    (c.inside-in-Attr.ensures c.args.version (data_of_list (front ++ annotated ∷ [])) each (sym (count-annotated pair_data pairs annotated)))
+survey-returns-in-Attr-clause-found t c = subst (λ x. Describes c.args.version x c.survey_attr.result) (attr_data c.list-in-Attr.ensures c.deref.ensures ∙ sym (ap datum_of c.in-Attr.is ∙ datum_of-Attr c.in-Attr.pairs c.in-Attr.annotated)) (c.survey_attr.ensures.found (datum_of c.deref.result.now) c.survey_annotated-under.ensures.found)
 
 pub survey-returns-in-Attr-clause-is_value : goal.survey-returns-in-Attr-clause-is_value
 survey-returns-in-Attr-clause-is_value t c =
-    let pairs = c.list-pairs-in-Attr.result.now in
-    let front = in_turn (map pair_data pairs) in
+    let pairs = map pair_data c.list-in-Attr.result.now in
     let annotated = datum_of c.deref.result.now in
-    let same : datum_of c.deref.result.now ≡ datum_of c.in-Attr.annotated.value = ap datum_of c.deref.ensures in
-    subst IsValue
-    (ap (λ x. aggregate d.Attr (data_of_list (front ++ x ∷ []))) same
-    ∙ ap (λ ps. aggregate d.Attr (data_of_list (in_turn (map pair_data ps) ++ datum_of c.in-Attr.annotated.value ∷ []))) c.list-pairs-in-Attr.ensures
-    ∙ sym (ap datum_of c.in-Attr.is ∙ datum_of-Attr c.in-Attr.pairs c.in-Attr.annotated))
-    (annotated_is_whole (map pair_data pairs) annotated, are_values_with front annotated c.survey_pairs-in-Attr.ensures.are_values c.survey_annotated.ensures.is_value)
+    subst IsValue (attr_data c.list-in-Attr.ensures c.deref.ensures ∙ sym (ap datum_of c.in-Attr.is ∙ datum_of-Attr c.in-Attr.pairs c.in-Attr.annotated))
+    (annotated_is_whole pairs annotated, are_values_with (in_turn pairs) annotated c.survey_attr.ensures.are_values c.survey_annotated-under.ensures.is_value)
+
+pub survey_map-returns-clause-found : goal.survey_map-returns-clause-found
+survey_map-returns-clause-found t c =
+    let pairs = c.args.pairs.now in
+    c.inside.ensures c.args.version (data_of_list (in_turn (map pair_data pairs))) c.survey_pairs.ensures.found (sym (count-in_turn pair_data pairs))
+
+pub survey_map-returns-clause-is_value : goal.survey_map-returns-clause-is_value
+survey_map-returns-clause-is_value t c = (in_turn_is_whole (map pair_data c.args.pairs.now), c.survey_pairs.ensures.are_values)
+
+pub survey_attr-returns-clause-found : goal.survey_attr-returns-clause-found
+survey_attr-returns-clause-found t c = λ x under.
+    let pairs = c.args.pairs.now in
+    let front = in_turn (map pair_data pairs) in
+    let each = subst (λ xs. DescribesEach c.args.version xs c.with-found.result) (sym (data_of_list-push front x)) (c.with-found.ensures c.args.version (data_of_list front) x c.survey_pairs.ensures.found under) in
+    c.inside.ensures c.args.version (data_of_list (front ++ x ∷ [])) each (sym (count-annotated pair_data pairs x))
 
 pub survey_group-returns-clause-found : goal.survey_group-returns-clause-found
 survey_group-returns-clause-found t c = c.inside.ensures c.args.version _ c.survey_members.ensures.found (sym (count-map datum_of c.args.members.now) ∙ sym (c.requires _))

@@ -1,7 +1,5 @@
-use Rattle.std.proofs.Common.{◌≡◌, ℕ, ◌+◌, ◌≤◌, ◌∷◌, ◌++◌, [], length, map, take, refl, sym, ap, ◌∙◌, subst, arith, length-append}
+use Rattle.std.proofs.Common.{◌++◌, [], length, map, take, refl, sym, ap, ◌∙◌, subst, arith, length-append}
 use Rattle.std.proofs.lemmas.List.{take_all}
-use Rattle.resp_value.specs.Bytes.{crlf}
-use Rattle.resp_value.specs.Numbers.{decimal}
 use Rattle.resp_value.specs.Data.{data_of_list, in_turn}
 use Rattle.resp_value.specs.Trees.{texts}
 use Rattle.resp_value.specs.Canonical.{canonical_text, canonical_trees}
@@ -10,7 +8,7 @@ use Rattle.resp_encode.specs.Writings.{Writes}
 use Rattle.resp_encode.proofs.Extended.{texts-extended}
 use Rattle.resp_encode.proofs.SoFar.{data-take_more, pairs-take_more, text_room, pair_room}
 use Rattle.resp_encode.proofs.Texts.{Writes-none, Writes-append, head_split, length-head}
-use Rattle.resp_encode.proofs.ValueTexts.{group_text, pair_texts, text_of-Array, text_of-Set, text_of-Push, text_of-Map, text_of-Attr}
+use Rattle.resp_encode.proofs.ValueTexts.{pair_texts, text_of-Array, text_of-Set, text_of-Push, text_of-Map, text_of-Attr}
 use Rattle.resp_encode.proofs.text.+write.Goals as goal
 
 pub write_members-loop-member-init : goal.write_members-loop-member-init

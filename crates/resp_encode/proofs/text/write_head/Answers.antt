@@ -1,4 +1,4 @@
-use Rattle.std.proofs.Common.{◌∷◌, ◌++◌, [], sym, ap, length, arith}
+use Rattle.std.proofs.Common.{◌∷◌, ◌++◌, [], sym, ap, arith}
 use Rattle.resp_value.specs.Bytes.{crlf}
 use Rattle.resp_encode.proofs.Decimals.{decimal-one, decimal-two, length-decimal-two}
 use Rattle.resp_encode.proofs.Texts.{Writes-bytes}

@@ -1,8 +1,7 @@
-use Rattle.std.proofs.Common.{◌≡◌, ◌+◌, ◌-◌, ◌≤◌, ◌∷◌, ◌++◌, [], length, take, drop, set, sym, ap, ◌∙◌, arith}
-use Rattle.std.proofs.lemmas.Fmt.{length-decimal-le}
+use Rattle.std.proofs.Common.{◌≡◌, ◌+◌, ◌-◌, ◌∷◌, ◌++◌, [], length, take, drop, set, sym, ap, ◌∙◌, arith}
 use Rattle.resp_value.specs.Bytes.{crlf}
 use Rattle.resp_value.specs.Numbers.{decimal}
-use Rattle.resp_encode.proofs.Decimals.{decimal-std, length-decimal-some, length-decimal-few}
+use Rattle.resp_encode.proofs.Decimals.{decimal-std, length-decimal-few}
 use Rattle.resp_encode.proofs.Texts.{line_with, length-head}
 use Rattle.resp_encode.proofs.text.write_long_head.Goals as goal
 use Rattle.resp_encode.proofs.text.write_long_head.Goals.{After-extend_reserved-arg-2-1}

@@ -1,11 +1,10 @@
-use Rattle.std.proofs.Common.{◌≡◌, length, map, sym, ap, subst, arith}
+use Rattle.std.proofs.Common.{length, map, sym, ap, subst, arith}
 use Rattle.resp_value.specs.Data.{data_of_list}
 use Rattle.resp_value.specs.Data as d
 use Rattle.resp_value.specs.Trees.{texts}
-use Rattle.resp_value.specs.Canonical.{canonical_text, canonical_trees}
+use Rattle.resp_value.specs.Canonical.{canonical_trees}
 use Rattle.resp_value.specs.Values.{datum_of}
 use Rattle.resp_value.specs.declared.version.Version.TheVariants.{Three}
-use Rattle.resp_encode.specs.Words.{push_of}
 use Rattle.resp_encode.specs.Writings.{Writes}
 use Rattle.resp_encode.proofs.Counts.{count-map}
 use Rattle.resp_encode.proofs.Texts.{aggregate_text, length-head}

@@ -1,4 +1,4 @@
-use Rattle.std.proofs.Common.{length, map, sym}
+use Rattle.std.proofs.Common.{map, sym}
 use Rattle.resp_value.specs.Data.{data_of_list}
 use Rattle.resp_value.specs.declared.version.Version.TheVariants.{Two}
 use Rattle.resp_encode.specs.Surveys.{Describes}

@@ -1,10 +1,9 @@
-use Rattle.std.proofs.Common.{◌<◌, ◌∷◌, length, map, take, get_or, sym, ap, ◌∙◌, subst, arith}
+use Rattle.std.proofs.Common.{map, take, sym, ap, ◌∙◌, subst, arith}
 use Rattle.std.proofs.lemmas.List.{take_all, length-map}
-use Rattle.resp_value.specs.Data.{data_of_list, scalar}
-use Rattle.resp_value.specs.Data as d
+use Rattle.resp_value.specs.Data.{data_of_list}
 use Rattle.resp_value.specs.Canonical.{AreValues}
 use Rattle.resp_value.specs.declared.version.Version.TheVariants.{Two}
-use Rattle.resp_encode.specs.Surveys.{Describes, DescribesEach}
+use Rattle.resp_encode.specs.Surveys.{DescribesEach}
 use Rattle.resp_encode.specs.Words.{word_datum, texts_of}
 use Rattle.resp_encode.proofs.Extended.{values_with}
 use Rattle.resp_encode.proofs.SoFar.{word_take_more}

@@ -1,10 +1,9 @@
-use Rattle.std.proofs.Common.{◌≡◌, ◌+◌, ◌++◌, ◌∷◌, [], length, map, take, sym, ap, ◌∙◌, subst, arith, length-append}
+use Rattle.std.proofs.Common.{◌++◌, [], length, map, take, sym, ap, ◌∙◌, subst, arith, length-append}
 use Rattle.std.proofs.lemmas.List.{take_all, length-map}
 use Rattle.resp_value.specs.Bytes.{crlf}
-use Rattle.resp_value.specs.Numbers.{decimal}
 use Rattle.resp_value.specs.Data.{data_of_list}
 use Rattle.resp_value.specs.Trees.{texts}
-use Rattle.resp_value.specs.Canonical.{canonical_text, canonical_trees}
+use Rattle.resp_value.specs.Canonical.{canonical_trees}
 use Rattle.resp_value.specs.declared.version.Version.TheVariants.{Two}
 use Rattle.resp_encode.specs.Words.{word_datum, texts_of}
 use Rattle.resp_encode.specs.Writings.{Writes}

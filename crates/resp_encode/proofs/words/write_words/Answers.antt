@@ -1,8 +1,8 @@
-use Rattle.std.proofs.Common.{◌≡◌, [], length, map, sym, ap, ◌∙◌, subst, arith}
+use Rattle.std.proofs.Common.{[], length, map, sym, ap, ◌∙◌, subst, arith}
 use Rattle.resp_value.specs.Data.{data_of_list}
 use Rattle.resp_value.specs.Data as d
 use Rattle.resp_value.specs.Trees.{texts}
-use Rattle.resp_value.specs.Canonical.{canonical_text, canonical_trees}
+use Rattle.resp_value.specs.Canonical.{canonical_trees}
 use Rattle.resp_value.specs.declared.version.Version.TheVariants.{Two}
 use Rattle.resp_encode.specs.Words.{word_datum, texts_of}
 use Rattle.resp_encode.specs.Writings.{Writes}
