@@ -20,16 +20,19 @@ HasFront text rules input before after = IfSome input (λ stream. (number : ℕ)
 -- a weaker fact of the rest
 weaker_front : (text : Datum → List ℕ) (rules : Rules) (input before after : Option (List ℕ)) (number : ℕ) (P : List ℕ → Type 0) → ((rest : List ℕ) → P rest → IsSomeRest rest) → IfSome input (λ stream. RendersFront text rules stream before after number P) → HasFront text rules input before after
 weaker_front text rules None before after number P weaker front = tt
-weaker_front text rules (Some stream) before after number P weaker front = (number, record {
-  values = front.values;
-  front = front.front;
-  rest = front.rest;
-  spelled = front.spelled;
-  whole = front.whole;
-  counted = front.counted;
-  written = front.written;
-  is_rest = weaker front.rest front.is_rest;
-})
+weaker_front text rules (Some stream) before after number P weaker front = (
+  number,
+  record {
+    values = front.values;
+    front = front.front;
+    rest = front.rest;
+    spelled = front.spelled;
+    whole = front.whole;
+    counted = front.counted;
+    written = front.written;
+    is_rest = weaker front.rest front.is_rest;
+  },
+)
 
 -- what begins with a spelling isn't the end
 front_of_end : (next behind : List ℕ) → [] ≡ next ++ behind → next ≡ []

@@ -50,4 +50,4 @@ leaves_of_refusal rules x before after failures failures' text (to.Write written
 pub leaves_of_equal : (rules : Rules) (x y : Datum) (before after : Option (List ℕ)) (failures failures' : ℕ) (error : ToError) (r : Result (Unit {0}) RenderError) → r ≡ Err (render_error_of error) → x ≡ y → RendersText before after failures failures' (Err (render_error_of error)) (canonical_text rules.version x) (Fits rules x → ⊥) (Unit {0}) → RendersText before after failures failures' r (canonical_text rules.version y) (Fits rules y → ⊥) (Unit {0})
 leaves_of_equal rules x y before after failures failures' error r is_error is_equal leaves =
     subst (λ outcome. RendersText before after failures failures' outcome (canonical_text rules.version y) (Fits rules y → ⊥) (Unit {0})) (sym is_error)
-        (subst (λ z. RendersText before after failures failures' (Err (render_error_of error)) (canonical_text rules.version z) (Fits rules z → ⊥) (Unit {0})) is_equal leaves)
+    (subst (λ z. RendersText before after failures failures' (Err (render_error_of error)) (canonical_text rules.version z) (Fits rules z → ⊥) (Unit {0})) is_equal leaves)

@@ -1,5 +1,5 @@
 -- What a run of the program writes for its stream.
-use Rattle.std.specs.Prelude.{ℕ, true, List, Option, None, Some}
+use Rattle.std.specs.Prelude.{ℕ, true, List, Option}
 use Rattle.std.specs.Option.{IfSome}
 use Rattle.resp_value.specs.Data.{Datum}
 use Rattle.resp_value.specs.Canonical.{canonical_text}

@@ -44,7 +44,8 @@ impl From<ToError> for RenderError {
 
     fn from(error: ToError) -> RenderError {
         match error {
-            ToError::NotInVersion | ToError::NestedPush | ToError::OverLimits(_) => RenderError::OverLimits,
+            ToError::NotInVersion | ToError::NestedPush | ToError::OverLimits(_) =>
+                RenderError::OverLimits,
             ToError::OutOfMemory => RenderError::Memory,
             ToError::Write { .. } => RenderError::Write,
         }
@@ -54,8 +55,8 @@ impl From<ToError> for RenderError {
 /// Reads the whole input by reads of at most `piece` bytes, from 1 to 65,536, and writes the canonical text of each
 /// value in the same version.
 ///
-/// The number that a refused value is told with is that of the first value that can't be read, or whose canonical
-/// text is over the limits; the texts of the values before it have been written. Where reading fails, nothing was
+/// A refused value's number is that of the first value that can't be read, or whose canonical text is over the
+/// limits; the texts of the values before it have been written. Where reading fails, nothing was
 /// written; where writing fails or memory is refused, a first part of the texts was.
 pub fn canon<R: Source, W: Sink>(
     alloc: Global,

@@ -33,8 +33,8 @@ impl Rendering for Lines {
 
 /// Reads the whole input by reads of at most `piece` bytes, from 1 to 65,536, and writes the line of each value.
 ///
-/// A refused value's number and place are those of the first value that can't be read; the lines of the values
-/// before it have been written. Where reading fails or memory is refused, nothing was written; where writing
+/// A refused value's number is that of the first value that can't be read; the lines of the values before it have
+/// been written. Where reading fails or memory is refused, nothing was written; where writing
 /// fails, a first part of the lines was.
 pub fn show<R: Source, W: Sink>(
     alloc: Global,
