@@ -2,9 +2,10 @@
 use Rattle.std.proofs.Common.{◌≡◌, ℕ, ◌+◌, ◌<◌, ◌≤◌, List, ◌++◌, length, refl, sym, ap, subst, ◌∙◌, arith, length-append}
 use Rattle.resp_value.specs.Data.{scalar, content_length}
 use Rattle.resp_value.specs.Data as d
-use Rattle.resp_value.specs.Trees.{Leaf, leaf, line, numeral, null, truth, string, chunked, Simple, Error, Double, IsLeaf, leaf_text}
+use Rattle.resp_value.specs.Trees.{Leaf, leaf, line, numeral, Int, Big, null, truth, string, chunked, Simple, Error, Double, Bulk, BulkError, Verbatim, IsLeaf, leaf_text}
 use Rattle.resp_value.specs.TreeValues.{leaf_value}
 use Rattle.resp_value.specs.Rules.{Rules, Grammar, NoDouble, InVersion, PushAtTop, InRange, NotStreamed, WithinDepth, WithinLength, WithinItems, WithinTotal, Keeps, HasVersion, IsLeafInTwo, IsInRange, IsNoDouble, IsCountedLeaf}
+use Rattle.resp_value.specs.Canonical.{IsScalarValue}
 use Rattle.resp_value.specs.Spellings.{IsSpelling}
 use Rattle.resp_value.specs.Laws.{NoSpellingBeginsAnother}
 use Rattle.resp_value.specs.declared.version.Version.{Version}
@@ -73,3 +74,21 @@ no_scalar_past_total r x input rest law (l, old, in_range, is_leaf, value, short
     (leaf_spells wide m (leaf_value m) old' (keeps InRange (omega arith)) spells.is_tree refl (keeps WithinLength (omega arith)) (omega arith))
     (sym whole ∙ e ∙ ap (λ text. text ++ behind) (sym spelled)) in
     omega (arith, ap length same.1)
+
+-- the value of a leaf that version 2 has
+leaf_is_value : (l : Leaf) → IsLeafInTwo l → IsInRange l → IsLeaf l → IsScalarValue (leaf_value l)
+leaf_is_value (line Simple s) old in_range is_leaf = is_leaf
+leaf_is_value (line Error s) old in_range is_leaf = is_leaf
+leaf_is_value (line Double s) old in_range is_leaf = absurd old
+leaf_is_value (numeral Int sign digits) old in_range is_leaf = in_range
+leaf_is_value (numeral Big sign digits) old in_range is_leaf = absurd old
+leaf_is_value (null form) old in_range is_leaf = tt
+leaf_is_value (truth b) old in_range is_leaf = absurd old
+leaf_is_value (string Bulk digits s) old in_range is_leaf = is_leaf.2
+leaf_is_value (string BulkError digits s) old in_range is_leaf = absurd old
+leaf_is_value (string (Verbatim format) digits s) old in_range is_leaf = absurd old
+leaf_is_value (chunked chunks zeros) old in_range is_leaf = absurd old
+
+-- what was read is a value
+pub says_value : (most : ℕ) (x : d.Scalar) (input behind : List ℕ) → SaysLeaf most x input behind → IsScalarValue x
+says_value most x input behind (l, old, in_range, is_leaf, value, short, whole) = subst IsScalarValue value (leaf_is_value l old in_range is_leaf)

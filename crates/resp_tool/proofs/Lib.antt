@@ -7,5 +7,6 @@ pub mod WrittenLemmas
 pub mod Quoted
 pub mod QuotedWrites
 pub mod ReadLemmas
-pub mod ShowLemmas
+pub mod RenderLemmas
 pub mod Statuses
+pub mod Unfit

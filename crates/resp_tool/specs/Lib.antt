@@ -3,4 +3,6 @@ pub mod Written
 pub mod Scalars
 pub mod Faults
 pub mod Reads
-pub mod Shows
+pub mod Renders
+pub mod Runs
+pub mod Canons

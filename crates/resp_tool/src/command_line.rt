@@ -1,15 +1,17 @@
 //! The command line of the program.
 
-ghost use Rattle.std.specs.Prelude.{◌≡◌, ◌⊎◌, ◌≤◌, ◌<◌, ℕ};
+ghost use Rattle.std.specs.Prelude.{◌≡◌, ◌⊎◌, ◌≤◌, ◌<◌, ℕ, OnOk, IfErr};
 ghost use Rattle.resp_tool.specs.Faults.{status_of};
-ghost use Rattle.resp_tool.specs.Shows.{ShowsStream, ShowsStreamFront};
+ghost use Rattle.resp_tool.specs.Runs.{text_of, RendersStream, RendersStreamFront, RendersOfTask, RendersFrontOfTask};
 
+use crate::canon::canon;
 use crate::show::show;
 use crate::text::write_text;
 use crate::tool_error::ToolError;
 use clap::error::ErrorKind;
 use clap::{Arg, ArgMatches, Command};
 use resp_value::device::{Sink, Source};
+use resp_value::laws;
 use resp_value::limits::Limits;
 use resp_value::version::Version;
 use std::alloc::Global;
@@ -21,22 +23,43 @@ const PIECE: usize = 4_096;
 /// The status of bad arguments.
 const BAD_ARGUMENTS: u8 = 2;
 
-fn parse<'a, S: AsStr>(alloc: Global, words: &'a [S]) -> Result<ArgMatches<'a>, clap::Error> {
-    let proto = Arg::new(alloc, "proto")
+/// What is written for each value.
+#[derive(Clone, Copy, Debug, PartialEq, Eq)]
+pub enum Task {
+    /// Its line of text.
+    Show,
+    /// Its canonical spelling.
+    Canon,
+}
+
+fn proto<'a>(alloc: Global) -> Arg<'a> {
+    Arg::new(alloc, "proto")
         .long("proto")
         .value_name("VERSION")
         .help("The version of the protocol")
         .value_parser(["2"].as_slice())
-        .default_value("2");
+        .default_value("2")
+}
+
+fn parse<'a, S: AsStr>(alloc: Global, words: &'a [S]) -> Result<Task, clap::Error> {
     let show = Command::new(alloc, "show")
         .about("Prints each value of the stream on standard input as a line of text")
-        .arg(proto)?;
-    Command::new(alloc, "resp")
+        .arg(proto(alloc))?;
+    let canon = Command::new(alloc, "canon")
+        .about("Writes each value of the stream on standard input in its canonical spelling")
+        .arg(proto(alloc))?;
+    let matches = Command::new(alloc, "resp")
         .bin_name("resp")?
         .about("Reads streams of the Redis wire protocol")
         .subcommand_required(true)
         .subcommand(show)?
-        .try_get_matches_from(words)
+        .subcommand(canon)?
+        .try_get_matches_from(words)?;
+    if matches.subcommand_name() == Some("canon") {
+        Ok(Task::Canon)
+    } else {
+        Ok(Task::Show)
+    }
 }
 
 /// Says what is wrong with the words, or helps, and answers the status.
@@ -73,6 +96,25 @@ fn stop<F: Sink>(error: &ToolError, faults: &mut F) -> u8
     error.status()
 }
 
+/// Writes what the task wants of each value of the stream, of version 2 under the default limits.
+fn run<R: Source, W: Sink>(
+    alloc: Global,
+    task: Task,
+    reader: &mut R,
+    writer: &mut W,
+) -> Result<(), ToolError>
+    ensures well { OnOk result (RendersOfTask task (R.remaining reader.old) (W.written writer.old) (W.written writer.new)) }
+    ensures refused { IfErr result (λ error. status_of error ≡ 1 → RendersFrontOfTask task (R.remaining reader.old) (W.written writer.old) (W.written writer.new)) }
+{
+    // What begins with a value isn't the end.
+    laws::no_spelling_is_empty();
+    let limits = Limits::standard();
+    match task {
+        Task::Show => show(alloc, Version::Two, &limits, PIECE, reader, writer),
+        Task::Canon => canon(alloc, Version::Two, &limits, PIECE, reader, writer),
+    }
+}
+
 /// Does what the words say, the program's name first among them, and answers the status: 0 where all is well or
 /// help was asked for, 1 where the input was refused, 2 where the words are bad, and 3 where a device or memory
 /// failed. What is wrong is said on `faults`, whether or not that takes it.
@@ -84,21 +126,15 @@ pub fn command<S: AsStr, R: Source, W: Sink, F: Sink>(
     faults: &mut F,
 ) -> u8
     ensures statuses { result ≤ 3 }
-    ensures well { result ≡ 0 → (reader.new ≡ reader.old) ⊎ ShowsStream (R.remaining reader.old) (W.written writer.old) (W.written writer.new) }
-    ensures refused { result ≡ 1 → ShowsStreamFront (R.remaining reader.old) (W.written writer.old) (W.written writer.new) }
+    ensures well { result ≡ 0 → (reader.new ≡ reader.old) ⊎ RendersStream (R.remaining reader.old) (W.written writer.old) (W.written writer.new) }
+    ensures refused { result ≡ 1 → RendersStreamFront (R.remaining reader.old) (W.written writer.old) (W.written writer.new) }
     ensures bad_arguments { result ≡ 2 → (reader.new ≡ reader.old) × (writer.new ≡ writer.old) }
 {
-    if let Err(error) = parse(alloc, words) {
-        return explain(alloc, &error, writer, faults);
-    }
-    match show(
-        alloc,
-        Version::Two,
-        &Limits::standard(),
-        PIECE,
-        reader,
-        writer,
-    ) {
+    let task = match parse(alloc, words) {
+        Ok(task) => task,
+        Err(error) => return explain(alloc, &error, writer, faults),
+    };
+    match run(alloc, task, reader, writer) {
         Ok(()) => 0,
         Err(error) => stop(&error, faults),
     }

@@ -1,9 +1,12 @@
 //! The program `resp`: shows streams of the Redis wire protocol.
 #![tactic(auto)]
 
+mod canon;
 mod command_line;
 mod input;
+mod render;
 mod scalar_reader;
+mod scalar_value;
 mod show;
 mod shown;
 #[cfg(test)]

@@ -4,6 +4,7 @@ ghost use Rattle.std.specs.Prelude.{◌≡◌, ℕ, ◌≤◌, List, ◌∷◌, 
 ghost use Rattle.resp_value.specs.Bytes.{IsLine, IsPlain, crlf};
 ghost use Rattle.resp_value.specs.Numbers.{IsDigit, IsNumber, is_minus};
 ghost use Rattle.resp_value.specs.Signs.{sign_at, unsigned_part};
+ghost use Rattle.resp_value.specs.Canonical.{IsScalarValue};
 ghost use Rattle.resp_value.specs.Spellings.{IsSpelling};
 ghost use Rattle.resp_tool.specs.Scalars.{scalar_data, scalar_datum, SaysInteger, greatest_size, with_sign, SaysBulk, SaysLeaf, BeginsWithNoLine, BeginsWithNoNumber, BeginsWithNo, BeginsWithNoEnd, BeginsWithNoInteger, BeginsWithNoBulk, BeginsWithNoLeaf, BeginsWithNoScalar};
 
@@ -258,6 +259,7 @@ pub fn read_scalar<'a>(
     input: &'a [u8],
 ) -> Result<(Scalar<'a>, &'a [u8]), Fault>
     ensures found { IfOk result (λ found. (front : List ℕ) × IsSpelling (record { version = version; limits = limits.now }) (scalar_datum found.0) front × (input.now ≡ front ++ found.1.now)) }
+    ensures value { IfOk result (λ found. IsScalarValue (scalar_data found.0)) }
     ensures refused { IfErr result (λ fault. BeginsWithNoScalar (record { version = version; limits = limits.now }) input.now) }
 {
     match leaf(limits.length(), input) {

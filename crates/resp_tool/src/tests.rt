@@ -1,5 +1,6 @@
 //! Tests of the program's calls: readers that give few bytes, and devices that fail.
 
+use crate::canon::canon;
 use crate::command_line::command;
 use crate::show::show;
 use crate::tool_error::ToolError;
@@ -146,6 +147,60 @@ fn reads_within_smaller_limits(rt: HostRuntime) -> Result<(), Fail> {
 }
 
 #[test]
+fn writes_each_value_canonically(rt: HostRuntime) -> Result<(), Fail> {
+    for (stream, wanted) in [
+        (b"$-1\r\n*-1\r\n".as_slice(), b"$-1\r\n$-1\r\n".as_slice()),
+        (b":+007\r\n:-0\r\n:-00\r\n", b":7\r\n:0\r\n:0\r\n"),
+        (b":9223372036854775807\r\n", b":9223372036854775807\r\n"),
+        (b"+OK\r\n-ERR no\r\n", b"+OK\r\n-ERR no\r\n"),
+        (b"$3\r\na\r\n\r\n$0\r\n\r\n", b"$3\r\na\r\n\r\n$0\r\n\r\n"),
+    ] {
+        for piece in [1, 2, 4_096] {
+            let mut reader = MemorySource::new(stream, 4_096);
+            let mut writer = MemorySink::new(rt.alloc(), 1, 256)?;
+            let done = canon(
+                rt.alloc(),
+                Version::Two,
+                &Limits::standard(),
+                piece,
+                &mut reader,
+                &mut writer,
+            );
+            assert_eq!(rt; done, Ok(()));
+            assert_eq!(rt; writer.bytes(), wanted);
+        }
+    }
+    Ok(())
+}
+
+#[test]
+fn canon_stops_at_a_refused_value_and_a_failing_writer(rt: HostRuntime) -> Result<(), Fail> {
+    let refused = ToolError::Refused {
+        value: 2,
+        cause: Cause::Syntax,
+        at: 3,
+    };
+    for (room, wanted, written) in [
+        (256, refused, b":1\r\n".as_slice()),
+        (3, ToolError::Write, b":1\r"),
+    ] {
+        let mut reader = MemorySource::new(b":+1\r\n+a\rb", 4_096);
+        let mut writer = MemorySink::new(rt.alloc(), 4_096, room)?;
+        let done = canon(
+            rt.alloc(),
+            Version::Two,
+            &Limits::standard(),
+            1,
+            &mut reader,
+            &mut writer,
+        );
+        assert_eq!(rt; done, Err(wanted));
+        assert_eq!(rt; writer.bytes(), written);
+    }
+    Ok(())
+}
+
+#[test]
 fn says_the_fault_and_its_status(rt: HostRuntime) -> Result<(), Fail> {
     let faults = [
         (
@@ -188,6 +243,13 @@ fn answers_the_status_of_a_run(rt: HostRuntime) -> Result<(), Fail> {
             "",
             "value 1: Truncated at byte 2\n",
             1,
+        ),
+        (
+            ["resp", "canon", "--proto", "2"],
+            b"*-1\r\n:+1\r\n".as_slice(),
+            "$-1\r\n:1\r\n",
+            "",
+            0,
         ),
     ];
     for (words, stream, lines, fault, status) in runs {

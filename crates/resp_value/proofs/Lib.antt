@@ -1,5 +1,6 @@
 pub mod KeptDigits
 pub mod ByTests
+pub mod DatumOf
 pub mod Splitting
 pub mod FirstBytes
 pub mod FirstLines

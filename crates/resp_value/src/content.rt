@@ -1,8 +1,10 @@
 //! The content of a bulk string, a bulk error or a verbatim string: any bytes.
 
-ghost use Rattle.std.specs.Prelude.{◌≡◌, List};
+ghost use Rattle.std.specs.Prelude.{◌≡◌, List, IfOk};
 ghost use Rattle.std.proofs.Props.{props};
 ghost use Rattle.resp_value.specs.Bytes.{IsText};
+
+use std::alloc::{AllocError, Global};
 
 /// Any bytes, CR and LF among them: what a bulk string and a bulk error hold, and a verbatim string behind its format
 /// (Redis serialization protocol specification, "Bulk strings", "Bulk errors" and "Verbatim strings").
@@ -37,6 +39,14 @@ impl Content {
     {
         let Content { bytes } = self;
         bytes
+    }
+
+    /// An equal content, or want of memory.
+    pub fn try_clone(&self, alloc: Global) -> Result<Content, AllocError>
+        ensures { IfOk result (λ copy. content_bytes copy ≡ content_bytes self.now) }
+    {
+        let bytes = Vec::from_slice(alloc, self.bytes.as_slice())?;
+        Ok(Content { bytes })
     }
 }
 

@@ -5,7 +5,7 @@ ghost use Rattle.std.proofs.Props.{props};
 ghost use Rattle.resp_value.specs.Numbers.{IsDigit, IsDigits, IsKept, IsSignedDigits, KeepsDigits, kept, is_minus};
 ghost use Rattle.resp_value.specs.Signs.{sign_at, unsigned_part};
 
-use std::alloc::Global;
+use std::alloc::{AllocError, Global};
 use thiserror::Error;
 
 /// A whole number of any size: a sign, and decimal digits without leading zeros (Redis serialization protocol
@@ -100,6 +100,18 @@ impl Digits {
         ensures kept { IsKept (is_negative self.now) result.now }
     {
         self.digits.as_slice()
+    }
+
+    /// Equal digits with the same sign, or want of memory.
+    pub fn try_clone(&self, alloc: Global) -> Result<Digits, AllocError>
+        ensures sign { IfOk result (λ copy. is_negative copy ≡ is_negative self.now) }
+        ensures digits { IfOk result (λ copy. digits_text copy ≡ digits_text self.now) }
+    {
+        let digits = Vec::from_slice(alloc, self.digits.as_slice())?;
+        Ok(Digits {
+            negative: self.negative,
+            digits,
+        })
     }
 }
 

@@ -4,6 +4,7 @@ ghost use Rattle.std.specs.Prelude.{◌≡◌, ◌↔◌, List, IsTrue, IsOk, If
 ghost use Rattle.std.proofs.Props.{props};
 ghost use Rattle.resp_value.specs.Bytes.{IsText, IsLine, IsPlain};
 
+use std::alloc::{AllocError, Global};
 use thiserror::Error;
 
 /// Bytes none of which is CR or LF: what a simple string and a simple error hold (Redis serialization protocol
@@ -53,6 +54,14 @@ impl Line {
         ensures is_line { IsLine result.now }
     {
         self.text.as_slice()
+    }
+
+    /// An equal line, or want of memory.
+    pub fn try_clone(&self, alloc: Global) -> Result<Line, AllocError>
+        ensures { IfOk result (λ copy. line_text copy ≡ line_text self.now) }
+    {
+        let text = Vec::from_slice(alloc, self.text.as_slice())?;
+        Ok(Line { text })
     }
 }
 

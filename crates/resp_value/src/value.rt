@@ -1,11 +1,12 @@
 //! Values of the protocol, and the lists that they hold.
 
-ghost use Rattle.std.specs.Prelude.{◌≡◌};
-ghost use Rattle.resp_value.specs.Values.{list_of, pairs_of};
+ghost use Rattle.std.specs.Prelude.{◌≡◌, IfOk, map};
+ghost use Rattle.resp_value.specs.Values.{datum_of, pair_data, list_of, pairs_of};
 
 use crate::content::Content;
 use crate::digits::Digits;
 use crate::line::Line;
+use std::alloc::{AllocError, Global};
 
 /// The members of an array, a set or a push, in their order. One may stand there more than once, in a set too.
 #[derive(Debug, PartialEq, Eq, Drop)]
@@ -105,6 +106,59 @@ impl PairList {
         let PairList { pairs } = self;
         pairs
     }
+}
+
+impl Value {
+    /// An equal value, or want of memory.
+    #[cycle(copy)]
+    pub fn try_clone(&self, alloc: Global) -> Result<Value, AllocError>
+        ensures { IfOk result (λ copy. datum_of copy ≡ datum_of self.now) }
+    {
+        match self {
+            Value::Null => Ok(Value::Null),
+            Value::Bool(truth) => Ok(Value::Bool(*truth)),
+            Value::Int(number) => Ok(Value::Int(*number)),
+            Value::Simple(line) => Ok(Value::Simple(line.try_clone(alloc)?)),
+            Value::Error(line) => Ok(Value::Error(line.try_clone(alloc)?)),
+            Value::Bulk(content) => Ok(Value::Bulk(content.try_clone(alloc)?)),
+            Value::BulkError(content) => Ok(Value::BulkError(content.try_clone(alloc)?)),
+            Value::Verbatim(format, text) => Ok(Value::Verbatim(*format, text.try_clone(alloc)?)),
+            Value::Big(digits) => Ok(Value::Big(digits.try_clone(alloc)?)),
+            Value::Array(members) => Ok(Value::Array(copy_members(members, alloc)?)),
+            Value::Set(members) => Ok(Value::Set(copy_members(members, alloc)?)),
+            Value::Push(members) => Ok(Value::Push(copy_members(members, alloc)?)),
+            Value::Map(pairs) => Ok(Value::Map(copy_pairs(pairs, alloc)?)),
+            Value::Attr(pairs, value) => {
+                let pairs = copy_pairs(pairs, alloc)?;
+                let value = value.try_clone(alloc)?;
+                Ok(Value::Attr(pairs, Box::new(alloc, value)?))
+            }
+        }
+    }
+}
+
+#[cycle(copy)]
+fn copy_members(members: &Members, alloc: Global) -> Result<Members, AllocError>
+    ensures { IfOk result (λ copy. map datum_of (list_of copy) ≡ map datum_of (list_of members.now)) }
+{
+    let mut items = Vec::new(alloc);
+    for member in members.list() {
+        items.push(member.try_clone(alloc)?)?;
+    }
+    Ok(Members::new(items))
+}
+
+#[cycle(copy)]
+fn copy_pairs(pairs: &PairList, alloc: Global) -> Result<PairList, AllocError>
+    ensures { IfOk result (λ copy. map pair_data (pairs_of copy) ≡ map pair_data (pairs_of pairs.now)) }
+{
+    let mut copies = Vec::new(alloc);
+    for pair in pairs.list() {
+        let key = pair.0.try_clone(alloc)?;
+        let value = pair.1.try_clone(alloc)?;
+        copies.push((key, value))?;
+    }
+    Ok(PairList::new(copies))
 }
 
 #[cfg(test)]

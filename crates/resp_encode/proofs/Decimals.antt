@@ -1,0 +1,66 @@
+-- How many digits a number has.
+use Rattle.std.proofs.Common.{◌≡◌, ◌⊎◌, inl, inr, ◌≢◌, ℕ, ◌+◌, ◌/◌, ◌%◌, ◌^◌, ◌<◌, ◌≤◌, true, false, eqb, List, [], ◌∷◌, ◌++◌, length, map, refl, sym, ap, ◌∙◌, arith, length-append}
+use Rattle.std.specs.Fmt as fmt
+use Rattle.std.specs.Int.Digits.{digits_of}
+use Rattle.std.proofs.lemmas.Fmt.{decimal_digit, decimal_step, decimal_nonempty, length-decimal-le, decimal-digits_of}
+use Rattle.std.proofs.lemmas.Bool.Decides.{eqb_tells}
+use Rattle.resp_value.specs.Numbers.{decimal}
+
+add_48 : (digits : List ℕ) → map (λ digit. 48 + digit) digits ≡ map (λ digit. digit + 48) digits
+add_48 [] = refl
+add_48 (d ∷ digits) = let h : 48 + d ≡ d + 48 = omega arith in let t : map (λ digit. 48 + digit) digits ≡ map (λ digit. digit + 48) digits = add_48 digits in cc
+
+-- the digits that std prints are the decimal digits
+pub decimal-std : (n : ℕ) → n < 2 ^ 64 → fmt.decimal n ≡ decimal n
+decimal-std n fits = cases (eqb_tells n 0)
+  where
+    cases : ((eqb n 0 ≡ true) × (n ≡ 0)) ⊎ ((eqb n 0 ≡ false) × (n ≢ 0)) → fmt.decimal n ≡ decimal n
+    cases (inl p) = rw p.1 (decimal_digit 0 (omega arith))
+    cases (inr p) = rw p.0 (decimal-digits_of n (let q : n ≢ 0 = p.1 in omega arith) fits ∙ add_48 (digits_of 10 n))
+
+-- a number below ten has one digit
+pub length-decimal-one : (n : ℕ) → n < 10 → length (decimal n) ≡ 1
+length-decimal-one n small = ap length (sym (decimal-std n (omega arith)) ∙ decimal_digit n small)
+
+-- another number has one digit more than its tenth
+pub length-decimal-more : (n : ℕ) → 10 ≤ n → n < 2 ^ 64 → length (decimal n) ≡ length (decimal (n / 10)) + 1
+length-decimal-more n large fits =
+    let step : decimal n ≡ decimal (n / 10) ++ ((48 + n % 10) ∷ []) = sym (decimal-std n fits) ∙ decimal_step n large fits ∙ ap (λ ds. ds ++ ((48 + n % 10) ∷ [])) (decimal-std (n / 10) (omega arith)) in
+    ap length step ∙ length-append (decimal (n / 10)) ((48 + n % 10) ∷ [])
+
+pub length-decimal-two : (n : ℕ) → 10 ≤ n → n < 100 → length (decimal n) ≡ 2
+length-decimal-two n large small = omega (arith, length-decimal-more n large (omega arith), length-decimal-one (n / 10) (omega arith))
+
+pub length-decimal-three : (n : ℕ) → 100 ≤ n → n < 1000 → length (decimal n) ≡ 3
+length-decimal-three n large small = omega (arith, length-decimal-more n (omega arith) (omega arith), length-decimal-two (n / 10) (omega arith) (omega arith))
+
+pub length-decimal-four : (n : ℕ) → 1000 ≤ n → n < 10000 → length (decimal n) ≡ 4
+length-decimal-four n large small = omega (arith, length-decimal-more n (omega arith) (omega arith), length-decimal-three (n / 10) (omega arith) (omega arith))
+
+-- a number from ten thousand on has four digits more than its ten-thousandth
+pub length-decimal-four_more : (n : ℕ) → 10000 ≤ n → n < 2 ^ 64 → length (decimal n) ≡ length (decimal (n / 10000)) + 4
+length-decimal-four_more n large fits =
+    let e : n / 10 / 10 / 10 / 10 ≡ n / 10000 = omega arith in
+    omega (
+      arith,
+      ap (λ m. length (decimal m)) e,
+      length-decimal-more n (omega arith) fits,
+      length-decimal-more (n / 10) (omega arith) (omega arith),
+      length-decimal-more (n / 10 / 10) (omega arith) (omega arith),
+      length-decimal-more (n / 10 / 10 / 10) (omega arith) (omega arith),
+    )
+
+-- a number of 64 bits has at least one digit, and at most twenty
+pub length-decimal-some : (n : ℕ) → n < 2 ^ 64 → 0 < length (decimal n)
+length-decimal-some n fits = omega (arith, ap length (decimal-std n fits), decimal_nonempty n fits)
+
+pub length-decimal-few : (n : ℕ) → n < 2 ^ 64 → length (decimal n) ≤ 20
+length-decimal-few n fits = omega (arith, ap length (decimal-std n fits), length-decimal-le 20 n (omega arith) (omega arith) fits)
+
+-- the one digit of a number below ten, and the two of one below a hundred
+pub decimal-one : (n : ℕ) → n < 10 → decimal n ≡ (48 + n) ∷ []
+decimal-one n small = sym (decimal-std n (omega arith)) ∙ decimal_digit n small
+
+pub decimal-two : (n : ℕ) → 10 ≤ n → n < 100 → decimal n ≡ (48 + n / 10) ∷ (48 + n % 10) ∷ []
+decimal-two n large small =
+    sym (decimal-std n (omega arith)) ∙ decimal_step n large (omega arith) ∙ ap (λ digits. digits ++ ((48 + n % 10) ∷ [])) (decimal_digit (n / 10) (omega arith))

@@ -1,0 +1,21 @@
+use Rattle.std.proofs.Common.{map, sym}
+use Rattle.resp_value.specs.Data.{data_of_list}
+use Rattle.resp_value.specs.declared.version.Version.TheVariants.{Two}
+use Rattle.resp_encode.specs.Surveys.{Describes}
+use Rattle.resp_encode.specs.Words.{command_of, word_datum, texts_of}
+use Rattle.resp_encode.proofs.Counts.{count-words}
+use Rattle.resp_encode.proofs.words.judge_words.Goals as goal
+use Rattle.resp_encode.proofs.words.judge_words.Goals.{After-inside-found}
+
+-- what was found describes the command
+described : (c : After-inside-found) → Describes Two (command_of (texts_of c.args.words.now)) c.inside-found.result
+described c = c.inside-found.ensures Two (data_of_list (map word_datum (texts_of c.args.words.now))) c.survey_words.ensures.found (sym (count-words c.args.words.now))
+
+pub returns-clause-fault : goal.returns-clause-fault
+returns-clause-fault c = c.judge.ensures.fault _ (described (goal.at.returns-clause-fault c).After-inside-found)
+
+pub returns-clause-fits : goal.returns-clause-fits
+returns-clause-fits c = c.judge.ensures.fits _ (described (goal.at.returns-clause-fits c).After-inside-found)
+
+pub returns-clause-spelling : goal.returns-clause-spelling
+returns-clause-spelling c = c.judge.ensures.spelling _ (described (goal.at.returns-clause-spelling c).After-inside-found) (tt, c.survey_words.ensures.are_values)

@@ -1,0 +1,6 @@
+pub mod Kinds
+pub mod Refusals
+pub mod Sizes
+pub mod Surveys
+pub mod Words
+pub mod Writings

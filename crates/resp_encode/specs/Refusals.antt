@@ -1,0 +1,53 @@
+-- What a value is refused for.
+use Rattle.std.specs.Prelude.{ℕ, ◌<◌, ◌≤◌, length}
+use Rattle.resp_value.specs.Data.{Datum, depth, longest, most_items}
+use Rattle.resp_value.specs.Rules.{Rules}
+use Rattle.resp_value.specs.Canonical.{HasTypes, HasPushAtTop, canonical_text, Fits}
+use Rattle.resp_value.specs.declared.version.Version.{Version}
+use Rattle.resp_value.specs.declared.cause.Over.{Over}
+use Rattle.resp_value.specs.declared.cause.Over.TheVariants.{Depth, Length, Items, Total}
+use Rattle.resp_encode.specs.declared.error.EncodeError.{EncodeError}
+use Rattle.resp_encode.specs.declared.error.EncodeError.TheVariants.{NotInVersion, NestedPush, OverLimits, OutOfMemory}
+use Rattle.resp_encode.specs.declared.error.ToError.{ToError}
+use Rattle.resp_encode.specs.declared.error.ToError.TheVariants as to
+
+-- the version has each type of the value, and no push stands below its top
+abbrev pub HasText : Version → Datum → Type 0
+HasText version x = HasTypes version x × HasPushAtTop x
+
+-- the value breaks this limit, and none before it
+abbrev pub IsFirstOver : Rules → Datum → Over → Type 0
+IsFirstOver rules x Depth = rules.limits.depth < depth x
+IsFirstOver rules x Length = (depth x ≤ rules.limits.depth) × (rules.limits.length < longest x)
+IsFirstOver rules x Items = (depth x ≤ rules.limits.depth) × (longest x ≤ rules.limits.length) × (rules.limits.items < most_items x)
+IsFirstOver rules x Total = (depth x ≤ rules.limits.depth) × (longest x ≤ rules.limits.length) × (most_items x ≤ rules.limits.items) × (rules.limits.total < length (canonical_text rules.version x))
+
+-- the value has this fault, and none before it; want of memory comes only where it has none
+abbrev pub IsFirstFault : Rules → Datum → EncodeError → Type 0
+IsFirstFault rules x NotInVersion = HasTypes rules.version x → ⊥
+IsFirstFault rules x NestedPush = HasTypes rules.version x × (HasPushAtTop x → ⊥)
+IsFirstFault rules x (OverLimits over) = HasText rules.version x × IsFirstOver rules x over
+IsFirstFault rules x OutOfMemory = Fits rules x
+
+-- the same of a call that writes to a device; a write is tried only where the value has no fault
+abbrev pub IsFirstRefusal : Rules → Datum → ToError → Type 0
+IsFirstRefusal rules x to.NotInVersion = IsFirstFault rules x NotInVersion
+IsFirstRefusal rules x to.NestedPush = IsFirstFault rules x NestedPush
+IsFirstRefusal rules x (to.OverLimits over) = IsFirstFault rules x (OverLimits over)
+IsFirstRefusal rules x to.OutOfMemory = Fits rules x
+IsFirstRefusal rules x (to.Write written) = Fits rules x
+
+-- this holds of how many bytes were written, where a write failed
+abbrev pub IfWrite : (ℕ → Type 0) → ToError → Type 0
+IfWrite P to.NotInVersion = Unit {0}
+IfWrite P to.NestedPush = Unit {0}
+IfWrite P (to.OverLimits over) = Unit {0}
+IfWrite P to.OutOfMemory = Unit {0}
+IfWrite P (to.Write written) = P written
+
+-- the fault as a call that writes to a device names it
+abbrev pub to_error : EncodeError → ToError
+to_error NotInVersion = to.NotInVersion
+to_error NestedPush = to.NestedPush
+to_error (OverLimits over) = to.OverLimits over
+to_error OutOfMemory = to.OutOfMemory

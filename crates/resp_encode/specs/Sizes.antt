@@ -1,0 +1,11 @@
+-- Numbers as far as a `u64` holds them.
+use Rattle.std.specs.Prelude.{◌≡◌, ℕ, ◌-◌, ◌≤◌, ◌^◌, min, Option, Some, None}
+
+-- a size that a `u64` holds, or none where it doesn't
+abbrev pub IsSize : Option ℕ → ℕ → Type 0
+IsSize (Some n) size = size ≡ n
+IsSize None size = 2 ^ 64 ≤ size
+
+-- a number, or the greatest that a `u64` holds
+abbrev pub IsCounted : ℕ → ℕ → Type 0
+IsCounted found n = found ≡ min n (2 ^ 64 - 1)

@@ -1,0 +1,37 @@
+//! How many digits a number has.
+
+ghost use Rattle.std.specs.Prelude.{◌≡◌, ◌≤◌, length, nat_abs};
+ghost use Rattle.resp_value.specs.Numbers.{decimal};
+ghost use Rattle.resp_value.specs.Canonical.{int_sign, int_size};
+
+/// How many decimal digits a number has, without leading zeros.
+#[inline]
+pub(crate) fn digit_count(number: u64) -> u64
+    ensures count { result ≡ length (decimal number) }
+    ensures few { result ≤ 20 }
+{
+    let mut rest = number;
+    let mut count = 0;
+    while rest >= 10_000 {
+        rest /= 10_000;
+        count += 4;
+    }
+    count + short_digit_count(rest)
+}
+
+#[inline]
+fn short_digit_count(number: u64) -> u64
+    requires { number ≤ 9999 }
+    ensures count { result ≡ length (decimal number) }
+    ensures few { result ≤ 4 }
+{
+    if number < 10 {
+        1
+    } else if number < 100 {
+        2
+    } else if number < 1000 {
+        3
+    } else {
+        4
+    }
+}

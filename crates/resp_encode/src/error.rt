@@ -1,0 +1,60 @@
+//! Why a value is not encoded.
+
+use resp_value::cause::Over;
+use thiserror::Error;
+
+/// Why a value was not appended. Where a value has several faults, the first in this order is named.
+#[derive(Clone, Copy, Debug, PartialEq, Eq, Error)]
+pub enum EncodeError {
+    /// The value holds a type that the version hasn't.
+    #[error("the version has no such type")]
+    NotInVersion,
+    /// A push stands below the top of the value.
+    #[error("a push stands below the top")]
+    NestedPush,
+    /// The value breaks this limit, and none before it.
+    #[error("the value is over a limit")]
+    OverLimits(Over),
+    /// A growth of the buffer was refused.
+    #[error("out of memory")]
+    OutOfMemory,
+}
+
+/// Why a value was not written whole to a device. All but the last are found before anything is written.
+#[derive(Clone, Copy, Debug, PartialEq, Eq, Error)]
+pub enum ToError {
+    /// The value holds a type that the version hasn't.
+    #[error("the version has no such type")]
+    NotInVersion,
+    /// A push stands below the top of the value.
+    #[error("a push stands below the top")]
+    NestedPush,
+    /// The value breaks this limit, and none before it.
+    #[error("the value is over a limit")]
+    OverLimits(Over),
+    /// No memory was found for the text.
+    #[error("out of memory")]
+    OutOfMemory,
+    /// A write failed, or took no byte.
+    #[error("the device failed after {written} bytes")]
+    Write {
+        /// How many bytes were written. They are a beginning of the text.
+        written: u64,
+    },
+}
+
+impl From<EncodeError> for ToError {
+    ghost use Rattle.std.specs.Prelude.{◌≡◌};
+    ghost use Rattle.resp_encode.specs.Refusals.{to_error};
+
+    ghost from_gives = { λ error converted. converted ≡ to_error error };
+
+    fn from(error: EncodeError) -> ToError {
+        match error {
+            EncodeError::NotInVersion => ToError::NotInVersion,
+            EncodeError::NestedPush => ToError::NestedPush,
+            EncodeError::OverLimits(over) => ToError::OverLimits(over),
+            EncodeError::OutOfMemory => ToError::OutOfMemory,
+        }
+    }
+}

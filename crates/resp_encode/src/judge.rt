@@ -1,0 +1,59 @@
+//! Which values are refused, and for what.
+
+ghost use Rattle.std.specs.Prelude.{◌≡◌, ◌↔◌, IsTrue, IfOk, IfErr, OnOk, IsErrOf, length};
+ghost use Rattle.resp_value.specs.Data.{Datum};
+ghost use Rattle.resp_value.specs.Canonical.{IsValue, HasTypes, canonical_text, Fits};
+ghost use Rattle.resp_value.specs.Spellings.{IsSpelling};
+ghost use Rattle.resp_encode.specs.Refusals.{IsFirstFault};
+ghost use Rattle.resp_encode.specs.Surveys.{Describes};
+
+use crate::error::EncodeError;
+use crate::findings::Findings;
+use resp_value::cause::Over;
+use resp_value::limits::Limits;
+use resp_value::version::Version;
+
+/// Whether the version has each type.
+#[inline]
+pub(crate) fn has_types(found: &Findings, version: Version) -> bool
+    ensures { (x : Datum) → Describes version x found.now → (IsTrue result ↔ HasTypes version x) }
+{
+    match version {
+        Version::Two => found.in_two,
+        Version::Three => true,
+    }
+}
+
+/// The length of the text, or the first fault of the value. It never answers want of memory.
+#[inline]
+pub(crate) fn judge(
+    found: &Findings,
+    version: Version,
+    limits: &Limits,
+) -> Result<usize, EncodeError>
+    ensures fits { (x : Datum) → Describes version x found.now → IfOk result (λ size. Fits (record { version = version; limits = limits.now }) x × (size ≡ length (canonical_text version x))) }
+    ensures fault { (x : Datum) → Describes version x found.now → IfErr result (IsFirstFault (record { version = version; limits = limits.now }) x) }
+    ensures spelling { (x : Datum) → Describes version x found.now → IsValue x → OnOk result (IsSpelling (record { version = version; limits = limits.now }) x (canonical_text version x)) }
+    ensures not_memory { IsErrOf result EncodeError.OutOfMemory → ⊥ }
+{
+    if !has_types(found, version) {
+        return Err(EncodeError::NotInVersion);
+    }
+    if !found.push_at_top {
+        return Err(EncodeError::NestedPush);
+    }
+    if found.depth > limits.depth() {
+        return Err(EncodeError::OverLimits(Over::Depth));
+    }
+    if found.longest > limits.length() {
+        return Err(EncodeError::OverLimits(Over::Length));
+    }
+    if found.most_items > limits.items() {
+        return Err(EncodeError::OverLimits(Over::Items));
+    }
+    let total = limits.total();
+    match found.size {
+        Some(size) if size <= total => Ok(size as usize),
+        _ => Err(EncodeError::OverLimits(Over::Total)),
+    }
+}

@@ -1,0 +1,55 @@
+//! Values to a device.
+
+ghost use Rattle.std.specs.Prelude.{◌≡◌, ◌≢◌, ◌<◌, length, take, IfOk, OnOk, IfErr, IsErrOf};
+ghost use Rattle.resp_value.specs.Canonical.{canonical_text, Fits};
+ghost use Rattle.resp_value.specs.Devices.{Appends, HasRisen};
+ghost use Rattle.resp_value.specs.Values.{datum_of};
+ghost use Rattle.resp_encode.specs.Refusals.{IsFirstFault, IsFirstRefusal, IfWrite, to_error};
+ghost use Rattle.resp_encode.specs.declared.error.EncodeError.{EncodeError};
+
+use crate::error::{EncodeError, ToError};
+use crate::values::encode;
+use bytes::BytesMut;
+use resp_value::device::{Sink, write_all};
+use resp_value::limits::Limits;
+use resp_value::value::Value;
+use resp_value::version::Version;
+use std::alloc::Global;
+
+/// Writes the canonical text of a value by one write after another, and answers its length in bytes.
+///
+/// The text is made in memory first. The refusals of `encode` come before anything is written. Where a write fails
+/// or takes no byte, the bytes written so far are a beginning of the text, of the length that the refusal tells.
+pub fn encode_to<W: Sink>(
+    alloc: Global,
+    version: Version,
+    limits: &Limits,
+    value: &Value,
+    writer: &mut W,
+) -> Result<u64, ToError>
+    ensures length { IfOk result (λ n. n ≡ length (canonical_text version (datum_of value.now))) }
+    ensures ok { OnOk result (Appends (W.written writer.old) (W.written writer.new) (canonical_text version (datum_of value.now))) }
+    ensures fits { OnOk result (Fits (record { version = version; limits = limits.now }) (datum_of value.now)) }
+    ensures none_failed { OnOk result (W.failures writer.new ≡ W.failures writer.old) }
+
+    // Each fault is answered only where the value has it and no earlier one, always where it has, and before
+    // anything is written.
+    ensures refused { IfErr result (IsFirstRefusal (record { version = version; limits = limits.now }) (datum_of value.now)) }
+    ensures always { (error : EncodeError) → error ≢ EncodeError.OutOfMemory → IsFirstFault (record { version = version; limits = limits.now }) (datum_of value.now) error → IsErrOf result (to_error error) }
+    ensures before { (error : EncodeError) → IsErrOf result (to_error error) → writer.new ≡ writer.old }
+
+    // Where a write failed, the first bytes were written, as many as the refusal tells.
+    ensures within { IfErr result (IfWrite (λ written. written < length (canonical_text version (datum_of value.now)))) }
+    ensures part { IfErr result (IfWrite (λ written. Appends (W.written writer.old) (W.written writer.new) (take written (canonical_text version (datum_of value.now))))) }
+    ensures failed { IfErr result (IfWrite (λ written. HasRisen (W.failures writer.old) (W.failures writer.new))) }
+{
+    let mut text = BytesMut::new(alloc);
+    encode(version, limits, value, &mut text)?;
+    let length = text.len() as u64;
+    match write_all(writer, text.as_slice()) {
+        Ok(()) => Ok(length),
+        Err(fault) => Err(ToError::Write {
+            written: fault.written as u64,
+        }),
+    }
+}
