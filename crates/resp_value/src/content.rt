@@ -45,8 +45,8 @@ impl Content {
     pub fn try_clone(&self, alloc: Global) -> Result<Content, AllocError>
         ensures { IfOk result (λ copy. content_bytes copy ≡ content_bytes self.now) }
     {
-        let bytes = Vec::from_slice(alloc, self.bytes.as_slice())?;
-        Ok(Content { bytes })
+        let bytes = Vec::from_slice(alloc, self.list())?;
+        Ok(Content::new(bytes))
     }
 }
 

@@ -60,7 +60,7 @@ impl Line {
     pub fn try_clone(&self, alloc: Global) -> Result<Line, AllocError>
         ensures { IfOk result (λ copy. line_text copy ≡ line_text self.now) }
     {
-        let text = Vec::from_slice(alloc, self.text.as_slice())?;
+        let text = Vec::from_slice(alloc, self.text())?;
         Ok(Line { text })
     }
 }
