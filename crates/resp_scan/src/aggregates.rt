@@ -1,6 +1,6 @@
 //! Aggregates: they open behind their heads, and the streamed ones close by a line of their own.
 
-ghost use Rattle.std.specs.Prelude.{◌≤◌, ◌<◌, ◌^◌, length};
+ghost use Rattle.std.specs.Prelude.{◌≡◌, ◌≤◌, ◌<◌, ◌^◌, length, drop};
 
 use crate::event::OpenKind;
 use crate::frame::{Frame, Shape};
@@ -9,6 +9,9 @@ use resp_value::cause::Cause;
 
 impl Machine {
     ghost use Rattle.resp_scan.specs.Bounded.{IsBounded};
+    ghost use Rattle.resp_scan.specs.Said.{place, said};
+    ghost use Rattle.resp_scan.specs.Scan.{scan};
+    ghost use Rattle.resp_scan.specs.Tokens.{at, AtCloseCr, AtCloseLf};
 
     /// An aggregate opens, with this number in its head and so many members.
     #[inline]
@@ -111,6 +114,7 @@ impl Machine {
         requires within { i ≤ length piece.now }
         requires bounded { IsBounded self.old }
         ensures bounded { IsBounded self.new }
+        ensures said { said result self.new ≡ scan i (at (place self.old) AtCloseCr) (drop i piece.now) }
     {
         if i == piece.len() {
             return self.rest(State::CloseCr, piece);
@@ -126,6 +130,7 @@ impl Machine {
         requires within { i ≤ length piece.now }
         requires bounded { IsBounded self.old }
         ensures bounded { IsBounded self.new }
+        ensures said { said result self.new ≡ scan i (at (place self.old) AtCloseLf) (drop i piece.now) }
     {
         if i == piece.len() {
             return self.rest(State::CloseLf, piece);

@@ -1,40 +1,38 @@
 //! Big numbers: digits of any number, of which leading zeros are passed over.
 
-ghost use Rattle.std.specs.Prelude.{◌≤◌, ◌<◌, ◌^◌, length};
+ghost use Rattle.std.specs.Prelude.{◌≡◌, ◌≤◌, ◌<◌, ◌+◌, ◌-◌, ◌^◌, length, drop};
 
 use crate::machine::{Got, Machine, State, What};
 use resp_value::cause::Cause;
 
 impl Machine {
     ghost use Rattle.resp_scan.specs.Bounded.{IsBounded};
+    ghost use Rattle.resp_scan.specs.Said.{place, said};
+    ghost use Rattle.resp_scan.specs.Scan.{scan, Gave};
+    ghost use Rattle.resp_scan.specs.Tokens.{at, Text, AtBigSign, AtBigFirst, InBigZeros, AtBigZeroLf, AtBigDigit};
+    ghost use Rattle.resp_scan.specs.declared.event.TextKind.TheVariants as text;
 
-    /// Behind `(`.
+    /// Behind `(`. A sign brings the end no nearer.
     #[inline]
     pub fn big_sign(&mut self, piece: &[u8], i: usize) -> Got
         requires within { i ≤ length piece.now }
         requires bounded { IsBounded self.old }
         ensures bounded { IsBounded self.new }
+        ensures said { said result self.new ≡ scan i (at (place self.old) AtBigSign) (drop i piece.now) }
     {
         if i == piece.len() {
             return self.rest(State::BigSign, piece);
         }
         match piece[i] {
-            b'-' => self.big_signed(piece, i, true),
-            b'+' => self.big_signed(piece, i, false),
+            b'-' => match self.over_total(i + 1, 3) {
+                Some(cause) => self.fail(i, cause),
+                None => self.big_first(piece, i + 1, true),
+            },
+            b'+' => match self.over_total(i + 1, 3) {
+                Some(cause) => self.fail(i, cause),
+                None => self.big_first(piece, i + 1, false),
+            },
             _ => self.big_first(piece, i, false),
-        }
-    }
-
-    /// At a sign, which brings the end no nearer.
-    #[inline]
-    fn big_signed(&mut self, piece: &[u8], i: usize, negative: bool) -> Got
-        requires within { i < length piece.now }
-        requires bounded { IsBounded self.old }
-        ensures bounded { IsBounded self.new }
-    {
-        match self.over_total(i + 1, 3) {
-            Some(cause) => self.fail(i, cause),
-            None => self.big_first(piece, i + 1, negative),
         }
     }
 
@@ -43,6 +41,7 @@ impl Machine {
         requires within { i ≤ length piece.now }
         requires bounded { IsBounded self.old }
         ensures bounded { IsBounded self.new }
+        ensures said { said result self.new ≡ scan i (at (place self.old) (AtBigFirst negative)) (drop i piece.now) }
     {
         if i == piece.len() {
             self.big_negative = negative;
@@ -64,6 +63,7 @@ impl Machine {
         requires within { from ≤ length piece.now }
         requires bounded { IsBounded self.old }
         ensures bounded { IsBounded self.new }
+        ensures said { said result self.new ≡ scan from (at (place self.old) (InBigZeros negative)) (drop from piece.now) }
     {
         for i in from..piece.len() {
             let byte = piece[i];
@@ -90,6 +90,7 @@ impl Machine {
         requires within { i < 2 ^ 63 }
         requires bounded { IsBounded self.old }
         ensures bounded { IsBounded self.new }
+        ensures said { said result self.new ≡ Gave (i + 1) (Text (text.Big negative)) (at (place self.old) (AtBigDigit byte (self.old.limits.length - 1))) }
     {
         self.state = State::BigDigit;
         self.big_negative = negative;
@@ -104,6 +105,7 @@ impl Machine {
         requires within { i ≤ length piece.now }
         requires bounded { IsBounded self.old }
         ensures bounded { IsBounded self.new }
+        ensures said { said result self.new ≡ scan i (at (place self.old) AtBigZeroLf) (drop i piece.now) }
     {
         if i == piece.len() {
             return self.rest(State::BigZeroLf, piece);

@@ -1,12 +1,16 @@
 //! Counted content: so many bytes, found by what remains, and a verbatim string's front.
 
-ghost use Rattle.std.specs.Prelude.{◌≤◌, ◌^◌, length};
+ghost use Rattle.std.specs.Prelude.{◌≡◌, ◌≤◌, ◌^◌, ◌∷◌, [], length, drop};
 
 use crate::machine::{Got, Machine, State, What};
 use resp_value::cause::Cause;
 
 impl Machine {
     ghost use Rattle.resp_scan.specs.Bounded.{IsBounded};
+    ghost use Rattle.resp_scan.specs.Said.{place, said};
+    ghost use Rattle.resp_scan.specs.Scan.{scan};
+    ghost use Rattle.resp_scan.specs.Tokens.{at, AtContentCr, AtContentLf, AtFormat, AtFormatSecond, AtFormatThird, AtFormatColon};
+    ghost use Rattle.resp_scan.specs.Heads.{content_at};
 
     /// Content of so many bytes begins.
     #[inline]
@@ -14,6 +18,9 @@ impl Machine {
         requires count { count ≤ 2 ^ 40 }
         requires bounded { IsBounded self.old }
         ensures bounded { IsBounded self.new }
+        ensures gives { result ≡ record { used = used; what = what } }
+        ensures format { self.new.format ≡ self.old.format }
+        ensures place { place self.new ≡ content_at count (place self.old) }
     {
         self.count = count;
         self.state = if count == 0 {
@@ -47,6 +54,7 @@ impl Machine {
     pub fn content_cr(&mut self, piece: &[u8]) -> Got
         requires bounded { IsBounded self.old }
         ensures bounded { IsBounded self.new }
+        ensures said { said result self.new ≡ scan 0 (at (place self.old) AtContentCr) piece.now }
     {
         if piece.is_empty() {
             return self.rest(State::ContentCr, piece);
@@ -62,6 +70,7 @@ impl Machine {
         requires within { i ≤ length piece.now }
         requires bounded { IsBounded self.old }
         ensures bounded { IsBounded self.new }
+        ensures said { said result self.new ≡ scan i (at (place self.old) AtContentLf) (drop i piece.now) }
     {
         if i == piece.len() {
             return self.rest(State::ContentLf, piece);
@@ -79,6 +88,7 @@ impl Machine {
         requires within { i ≤ length piece.now }
         requires bounded { IsBounded self.old }
         ensures bounded { IsBounded self.new }
+        ensures said { said result self.new ≡ scan i (at (place self.old) (AtFormat count)) (drop i piece.now) }
     {
         self.count = count;
         if i == piece.len() {
@@ -92,6 +102,7 @@ impl Machine {
         requires within { i ≤ length piece.now }
         requires bounded { IsBounded self.old }
         ensures bounded { IsBounded self.new }
+        ensures said { said result self.new ≡ scan i (at (place self.old) (AtFormatSecond first self.old.count)) (drop i piece.now) }
     {
         if i == piece.len() {
             self.format = [first, 0, 0];
@@ -105,6 +116,7 @@ impl Machine {
         requires within { i ≤ length piece.now }
         requires bounded { IsBounded self.old }
         ensures bounded { IsBounded self.new }
+        ensures said { said result self.new ≡ scan i (at (place self.old) (AtFormatThird first second self.old.count)) (drop i piece.now) }
     {
         if i == piece.len() {
             self.format = [first, second, 0];
@@ -118,6 +130,7 @@ impl Machine {
         requires within { i ≤ length piece.now }
         requires bounded { IsBounded self.old }
         ensures bounded { IsBounded self.new }
+        ensures said { said result self.new ≡ scan i (at (place self.old) (AtFormatColon format self.old.count)) (drop i piece.now) }
     {
         self.format = format;
         if i == piece.len() {

@@ -1,41 +1,39 @@
 //! Integers.
 
-ghost use Rattle.std.specs.Prelude.{◌≤◌, ◌<◌, length};
+ghost use Rattle.std.specs.Prelude.{◌≡◌, ◌≤◌, ◌<◌, length, drop};
 ghost use Rattle.resp_scan.specs.Magnitudes.{most};
+ghost use Rattle.resp_scan.specs.Machine.{signed};
 
 use crate::machine::{Got, Machine, State, What};
 use resp_value::cause::Cause;
 
 impl Machine {
     ghost use Rattle.resp_scan.specs.Bounded.{IsBounded};
+    ghost use Rattle.resp_scan.specs.Said.{place, said};
+    ghost use Rattle.resp_scan.specs.Scan.{scan};
+    ghost use Rattle.resp_scan.specs.Tokens.{at, AtIntSign, AtIntFirst, InInt, AtIntLf};
 
-    /// Behind `:`.
+    /// Behind `:`. A sign brings the end no nearer.
     #[inline]
     pub fn int_sign(&mut self, piece: &[u8], i: usize) -> Got
         requires within { i ≤ length piece.now }
         requires bounded { IsBounded self.old }
         ensures bounded { IsBounded self.new }
+        ensures said { said result self.new ≡ scan i (at (place self.old) AtIntSign) (drop i piece.now) }
     {
         if i == piece.len() {
             return self.rest(State::IntSign, piece);
         }
         match piece[i] {
-            b'-' => self.int_signed(piece, i, true),
-            b'+' => self.int_signed(piece, i, false),
+            b'-' => match self.over_total(i + 1, 3) {
+                Some(cause) => self.fail(i, cause),
+                None => self.int_first(piece, i + 1, true),
+            },
+            b'+' => match self.over_total(i + 1, 3) {
+                Some(cause) => self.fail(i, cause),
+                None => self.int_first(piece, i + 1, false),
+            },
             _ => self.int_first(piece, i, false),
-        }
-    }
-
-    /// At a sign, which brings the end no nearer.
-    #[inline]
-    fn int_signed(&mut self, piece: &[u8], i: usize, negative: bool) -> Got
-        requires within { i < length piece.now }
-        requires bounded { IsBounded self.old }
-        ensures bounded { IsBounded self.new }
-    {
-        match self.over_total(i + 1, 3) {
-            Some(cause) => self.fail(i, cause),
-            None => self.int_first(piece, i + 1, negative),
         }
     }
 
@@ -44,6 +42,7 @@ impl Machine {
         requires within { i ≤ length piece.now }
         requires bounded { IsBounded self.old }
         ensures bounded { IsBounded self.new }
+        ensures said { said result self.new ≡ scan i (at (place self.old) (AtIntFirst negative)) (drop i piece.now) }
     {
         if i == piece.len() {
             self.negative = negative;
@@ -62,6 +61,7 @@ impl Machine {
         requires fits { first ≤ most negative }
         requires bounded { IsBounded self.old }
         ensures bounded { IsBounded self.new }
+        ensures said { said result self.new ≡ scan from (at (place self.old) (InInt negative first)) (drop from piece.now) }
     {
         let mut magnitude = first;
         let last = if negative { 8 } else { 7 };
@@ -95,6 +95,7 @@ impl Machine {
         requires fits { magnitude ≤ most negative }
         requires bounded { IsBounded self.old }
         ensures bounded { IsBounded self.new }
+        ensures said { said result self.new ≡ scan i (at (place self.old) (AtIntLf negative magnitude)) (drop i piece.now) }
     {
         if i == piece.len() {
             self.negative = negative;
@@ -112,6 +113,7 @@ impl Machine {
 #[inline]
 fn signed(negative: bool, magnitude: u64) -> i64
     requires { magnitude ≤ most negative }
+    ensures { result ≡ signed negative magnitude }
 {
     if negative {
         if magnitude > 9_223_372_036_854_775_807 {

@@ -1,6 +1,6 @@
 //! Simple strings and errors: one line, whose content is found by vectors.
 
-ghost use Rattle.std.specs.Prelude.{◌≤◌, length};
+ghost use Rattle.std.specs.Prelude.{◌≡◌, ◌≤◌, length, drop};
 
 use crate::machine::{Got, Machine, State, What};
 use memchr::memchr;
@@ -8,6 +8,9 @@ use resp_value::cause::Cause;
 
 impl Machine {
     ghost use Rattle.resp_scan.specs.Bounded.{IsBounded};
+    ghost use Rattle.resp_scan.specs.Said.{place, said};
+    ghost use Rattle.resp_scan.specs.Scan.{scan};
+    ghost use Rattle.resp_scan.specs.Tokens.{at, AtLineLf};
 
     /// A line's content, at the front of the piece.
     #[inline]
@@ -45,6 +48,7 @@ impl Machine {
         requires within { i ≤ length piece.now }
         requires bounded { IsBounded self.old }
         ensures bounded { IsBounded self.new }
+        ensures said { said result self.new ≡ scan i (at (place self.old) AtLineLf) (drop i piece.now) }
     {
         if i == piece.len() {
             return self.rest(State::LineLf, piece);

@@ -1,12 +1,15 @@
 //! Nulls and truth values.
 
-ghost use Rattle.std.specs.Prelude.{◌≤◌, length};
+ghost use Rattle.std.specs.Prelude.{◌≡◌, ◌≤◌, length, drop};
 
 use crate::machine::{Got, Machine, State, What};
 use resp_value::cause::Cause;
 
 impl Machine {
     ghost use Rattle.resp_scan.specs.Bounded.{IsBounded};
+    ghost use Rattle.resp_scan.specs.Said.{place, said};
+    ghost use Rattle.resp_scan.specs.Scan.{scan};
+    ghost use Rattle.resp_scan.specs.Tokens.{at, AtNullOne, AtNullCr, AtNullLf, AtBool, AtBoolCr, AtBoolLf};
 
     /// Behind `$-` or `*-`, where only `1` follows.
     #[inline]
@@ -14,6 +17,7 @@ impl Machine {
         requires within { i ≤ length piece.now }
         requires bounded { IsBounded self.old }
         ensures bounded { IsBounded self.new }
+        ensures said { said result self.new ≡ scan i (at (place self.old) AtNullOne) (drop i piece.now) }
     {
         if i == piece.len() {
             return self.rest(State::NullOne, piece);
@@ -29,6 +33,7 @@ impl Machine {
         requires within { i ≤ length piece.now }
         requires bounded { IsBounded self.old }
         ensures bounded { IsBounded self.new }
+        ensures said { said result self.new ≡ scan i (at (place self.old) AtNullCr) (drop i piece.now) }
     {
         if i == piece.len() {
             return self.rest(State::NullCr, piece);
@@ -44,6 +49,7 @@ impl Machine {
         requires within { i ≤ length piece.now }
         requires bounded { IsBounded self.old }
         ensures bounded { IsBounded self.new }
+        ensures said { said result self.new ≡ scan i (at (place self.old) AtNullLf) (drop i piece.now) }
     {
         if i == piece.len() {
             return self.rest(State::NullLf, piece);
@@ -60,6 +66,7 @@ impl Machine {
         requires within { i ≤ length piece.now }
         requires bounded { IsBounded self.old }
         ensures bounded { IsBounded self.new }
+        ensures said { said result self.new ≡ scan i (at (place self.old) AtBool) (drop i piece.now) }
     {
         if i == piece.len() {
             return self.rest(State::Bool, piece);
@@ -76,6 +83,7 @@ impl Machine {
         requires within { i ≤ length piece.now }
         requires bounded { IsBounded self.old }
         ensures bounded { IsBounded self.new }
+        ensures said { said result self.new ≡ scan i (at (place self.old) (AtBoolCr truth)) (drop i piece.now) }
     {
         if i == piece.len() {
             self.truth = truth;
@@ -92,6 +100,7 @@ impl Machine {
         requires within { i ≤ length piece.now }
         requires bounded { IsBounded self.old }
         ensures bounded { IsBounded self.new }
+        ensures said { said result self.new ≡ scan i (at (place self.old) (AtBoolLf truth)) (drop i piece.now) }
     {
         if i == piece.len() {
             self.truth = truth;

@@ -144,12 +144,17 @@ pub struct Machine {
 
 impl Machine {
     ghost use Rattle.resp_scan.specs.Bounded.{IsBounded};
+    ghost use Rattle.resp_scan.specs.Said.{place, said};
+    ghost use Rattle.resp_scan.specs.Scan.{More, Bad};
+    ghost use Rattle.resp_scan.specs.Tokens.{at, Dead, ended};
+    ghost use Rattle.resp_scan.specs.Room.{total_room, fits, over_total, is_full};
 
     /// The end of the piece, in this state.
     #[inline]
     pub fn rest(&mut self, state: State, piece: &[u8]) -> Got
         requires bounded { IsBounded self.old }
         ensures bounded { IsBounded self.new }
+        ensures said { said result self.new ≡ More (length piece.now) (place (record self.old { state = state })) }
     {
         self.state = state;
         Got {
@@ -159,7 +164,9 @@ impl Machine {
     }
 
     #[inline]
-    pub fn gives(&self, used: usize, what: What) -> Got {
+    pub fn gives(&self, used: usize, what: What) -> Got
+        ensures { result ≡ record { used = used; what = what } }
+    {
         Got { used, what }
     }
 
@@ -168,6 +175,7 @@ impl Machine {
     pub fn fail(&mut self, used: usize, cause: Cause) -> Got
         requires bounded { IsBounded self.old }
         ensures bounded { IsBounded self.new }
+        ensures said { said result self.new ≡ Bad used cause (at (place self.old) (Dead cause)) }
     {
         self.state = State::Failed;
         self.cause = cause;
@@ -181,7 +189,8 @@ impl Machine {
     /// aggregates end.
     #[inline]
     pub fn total_room(&self) -> u64
-        ensures { result ≤ 2 ^ 40 }
+        ensures few { result ≤ 2 ^ 40 }
+        ensures room { result ≡ total_room (place self.now) }
     {
         self.limits
             .total()
@@ -194,7 +203,8 @@ impl Machine {
     pub fn fits(&self, used: usize, needed: u64) -> bool
         requires index { used ≤ 2 ^ 63 }
         requires needed { needed < 2 ^ 62 }
-        ensures { result ≡ true → needed ≤ 2 ^ 40 }
+        ensures few { result ≡ true → needed ≤ 2 ^ 40 }
+        ensures fits { result ≡ fits (place self.now) used needed }
     {
         used as u64 + needed <= self.total_room()
     }
@@ -204,7 +214,8 @@ impl Machine {
     pub fn over_total(&self, used: usize, needed: u64) -> Option<Cause>
         requires index { used ≤ 2 ^ 63 }
         requires needed { needed < 2 ^ 62 }
-        ensures { IfNone result (needed ≤ 2 ^ 40) }
+        ensures few { IfNone result (needed ≤ 2 ^ 40) }
+        ensures over { result ≡ over_total (place self.now) used needed }
     {
         if self.fits(used, needed) {
             None
@@ -215,7 +226,9 @@ impl Machine {
 
     /// Whether the depth lets no further aggregate open.
     #[inline]
-    pub fn is_full(&self) -> bool {
+    pub fn is_full(&self) -> bool
+        ensures { result ≡ is_full (place self.now) }
+    {
         self.frames.len() as u64 >= self.limits.depth()
     }
 
@@ -276,6 +289,8 @@ impl Machine {
     pub fn ended(&mut self, used: usize, what: What) -> Got
         requires bounded { IsBounded self.old }
         ensures bounded { IsBounded self.new }
+        ensures gives { result ≡ record { used = used; what = what } }
+        ensures state { self.new ≡ record self.old { state = State.Ended } }
     {
         self.state = State::Ended;
         Got { used, what }
