@@ -1,5 +1,5 @@
 -- The numbers of heads.
-use Rattle.std.specs.Prelude.{ℕ, ◌+◌, ◌-◌, ◌*◌, Bool, true, false, cond, eqb, nat_le, nat_lt, List, [], ◌∷◌, length, Option, None, Some}
+use Rattle.std.specs.Prelude.{◌≡◌, ◌<◌, ℕ, ◌+◌, ◌-◌, ◌*◌, Bool, true, false, cond, eqb, nat_le, nat_lt, List, [], ◌∷◌, length, Option, None, Some}
 use Rattle.resp_value.specs.declared.cause.Cause.{Cause}
 use Rattle.resp_value.specs.declared.cause.Cause.TheVariants as cause
 use Rattle.resp_value.specs.declared.version.Version.{Version}
@@ -11,7 +11,7 @@ use Rattle.resp_scan.specs.declared.frame.Frame.{Frame}
 use Rattle.resp_scan.specs.declared.frame.Shape.TheVariants.{Left, Begun}
 use Rattle.resp_scan.specs.declared.machine.Head.{Head}
 use Rattle.resp_scan.specs.declared.machine.Head.TheVariants.{Bulk, BulkError, Verbatim, Chunk, Array, Set, Map, Attr, Push}
-use Rattle.resp_scan.specs.Tokens.{Place, Move, Go, Give, Text, TextEnd, Open, at, within, ended, InContent, AtContentCr, AtFormat, InChunk}
+use Rattle.resp_scan.specs.Tokens.{Place, Move, Go, Give, Text, TextEnd, Open, at, within, ended, InContent, AtContentCr, AtFormat, InChunk, AtChunkCr}
 use Rattle.resp_scan.specs.Room.{over_total, is_full}
 
 -- the greatest number that length or items allow
@@ -115,6 +115,26 @@ opened_streamed s k = ended (record s { frames = record { kind = k; shape = Begu
 
 abbrev pub content_at : ℕ → Place → Place
 content_at n s = at s (cond (eqb n 0) AtContentCr (InContent n))
+
+-- a chunk's content begins, or its end where it has none, of a string of which length leaves so many bytes
+abbrev pub chunk_at : ℕ → ℕ → Place → Place
+chunk_at room n s = at s (cond (eqb n 0) (AtChunkCr room) (InChunk room n))
+
+-- the heads of aggregates
+abbrev pub opens : Head → Bool
+opens Array = true
+opens Set = true
+opens Map = true
+opens Attr = true
+opens Push = true
+opens Bulk = false
+opens BulkError = false
+opens Verbatim = false
+opens (Chunk room) = false
+
+-- the frames have room for one more, where the head opens one
+abbrev pub HasFrame : Place → Head → Type 0
+HasFrame s h = opens h ≡ true → length s.frames < 128
 
 -- what stands behind a head
 abbrev pub counted : Place → Head → ℕ → Move

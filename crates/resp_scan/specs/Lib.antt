@@ -6,3 +6,4 @@ pub mod Heads
 pub mod Machine
 pub mod Scan
 pub mod Said
+pub mod Runs

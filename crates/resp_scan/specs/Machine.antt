@@ -16,7 +16,7 @@ use Rattle.resp_scan.specs.declared.machine.Head.TheVariants as head
 use Rattle.resp_scan.specs.Magnitudes.{most}
 use Rattle.resp_scan.specs.Tokens.{Token, Place, Happening, Move, Go, Byte, Give, Refuse, at, within, ended, Null, Truth, Int, Text, TextEnd, Open, Close, AtStart, AtEnd, InLine, AtLineLf, AtIntSign, AtIntFirst, InInt, AtIntLf, AtBigSign, AtBigFirst, InBigZeros, AtBigZeroLf, AtBigDigit, InBig, AtTextEnd, AtNullOne, AtNullCr, AtNullLf, AtBool, AtBoolCr, AtBoolLf, AtBulkHead, AtArrayHead, AtHead, InHead, AtHeadLf, AtFormat, AtFormatSecond, AtFormatThird, AtFormatColon, InContent, AtContentCr, AtContentLf, AtStreamCr, AtStreamLf, AtChunk, InChunk, AtChunkCr, AtChunkLf, AtOpenCr, AtOpenLf, AtCloseCr, AtCloseLf, Dead}
 use Rattle.resp_scan.specs.Room.{fits, over_total, is_full, begun, begin_cause}
-use Rattle.resp_scan.specs.Heads.{over, may_end, streamed_kind, string_cause, aggregate_cause, opened_streamed, content_at, counted, first_needed}
+use Rattle.resp_scan.specs.Heads.{over, may_end, streamed_kind, string_cause, aggregate_cause, opened_streamed, content_at, chunk_at, counted, first_needed}
 
 abbrev pub signed : Bool → ℕ → ℤ
 signed true n = neg_ℤ (pos n)
@@ -72,10 +72,18 @@ bulk_head s used b =
     cond (eqb b 45) (Go (at s AtNullOne))
     (cond (eqb b 63) (unless (string_cause s used) (Go (at s AtStreamCr))) (head_first s used head.Bulk b))
 
+abbrev pub full_streamed : Version → Bool → Cause
+full_streamed version.Two streamed = cause.Version
+full_streamed version.Three streamed = cond streamed cause.Depth cause.Streamed
+
+-- what refuses a byte, other than `-`, behind the `*` of an array that would be a level too deep
+abbrev pub full_cause : Place → ℕ → Cause
+full_cause s b = cond (eqb b 63) (full_streamed s.version s.bounds.streamed) (cond (is_digit b) cause.Depth cause.Syntax)
+
 abbrev pub array_head : Place → ℕ → ℕ → Move
 array_head s used b =
     cond (eqb b 45) (unless (over_total s used 3) (Go (at s AtNullOne)))
-    (cond (is_digit b && is_full s) (Refuse cause.Depth) (head_first s used head.Array b))
+    (cond (is_full s) (Refuse (full_cause s b)) (head_first s used head.Array b))
 
 -- A value's first byte.
 
@@ -187,7 +195,7 @@ next_in AtContentLf s used b = wants 10 b (Give TextEnd (ended s))
 next_in AtStreamCr s used b = wants 13 b (Go (at s AtStreamLf))
 next_in AtStreamLf s used b = wants 10 b (Give (Text text.Bulk) (at s (AtChunk s.bounds.length)))
 next_in (AtChunk room) s used b = wants 59 b (Go (at s (AtHead (head.Chunk room))))
-next_in (InChunk room n) s used b = Byte (at s (cond (eqb (n - 1) 0) (AtChunkCr room) (InChunk room (n - 1))))
+next_in (InChunk room n) s used b = Byte (chunk_at room (n - 1) s)
 next_in (AtChunkCr room) s used b = wants 13 b (Go (at s (AtChunkLf room)))
 next_in (AtChunkLf room) s used b = wants 10 b (Go (at s (AtChunk room)))
 next_in (AtOpenCr k) s used b = wants 13 b (Go (at s (AtOpenLf k)))

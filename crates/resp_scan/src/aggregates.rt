@@ -1,6 +1,6 @@
 //! Aggregates: they open behind their heads, and the streamed ones close by a line of their own.
 
-ghost use Rattle.std.specs.Prelude.{◌≡◌, ◌≤◌, ◌<◌, ◌^◌, length, drop};
+ghost use Rattle.std.specs.Prelude.{◌≡◌, ◌≤◌, ◌<◌, ◌+◌, ◌*◌, ◌^◌, ◌++◌, ◌∷◌, [], length, drop, Some};
 
 use crate::event::OpenKind;
 use crate::frame::{Frame, Shape};
@@ -10,8 +10,9 @@ use resp_value::cause::Cause;
 impl Machine {
     ghost use Rattle.resp_scan.specs.Bounded.{IsBounded};
     ghost use Rattle.resp_scan.specs.Said.{place, said};
-    ghost use Rattle.resp_scan.specs.Scan.{scan};
-    ghost use Rattle.resp_scan.specs.Tokens.{at, AtCloseCr, AtCloseLf};
+    ghost use Rattle.resp_scan.specs.Scan.{scan, Gave};
+    ghost use Rattle.resp_scan.specs.Heads.{opened};
+    ghost use Rattle.resp_scan.specs.Tokens.{at, Open, AtOpenCr, AtOpenLf, AtCloseCr, AtCloseLf};
 
     /// An aggregate opens, with this number in its head and so many members.
     #[inline]
@@ -20,6 +21,7 @@ impl Machine {
         requires members { members ≤ 2 ^ 42 }
         requires bounded { IsBounded self.old }
         ensures bounded { IsBounded self.new }
+        ensures said { length self.old.frames.items < 128 → self.old.owed + members * 3 < 2 ^ 64 → said result self.new ≡ Gave used (Open kind (Some number)) (opened (place self.old) kind members) }
     {
         self.owed = self.owed.saturating_add(members * 3);
         self.push(Frame {
@@ -35,6 +37,8 @@ impl Machine {
     fn push(&mut self, frame: Frame)
         requires bounded { IsBounded self.old }
         ensures bounded { IsBounded self.new }
+        ensures items { length self.old.frames.items < 128 → self.new.frames.items ≡ self.old.frames.items ++ frame ∷ [] }
+        ensures rest { self.new ≡ record self.old { frames = self.new.frames } }
     {
         if !self.frames.is_full() {
             self.frames.push(frame);
@@ -47,6 +51,7 @@ impl Machine {
         requires within { i ≤ length piece.now }
         requires bounded { IsBounded self.old }
         ensures bounded { IsBounded self.new }
+        ensures said { length self.old.frames.items < 128 → self.old.owed < 2 ^ 62 → said result self.new ≡ scan i (at (place self.old) (AtOpenCr kind)) (drop i piece.now) }
     {
         if i == piece.len() {
             self.kind = kind;
@@ -63,6 +68,7 @@ impl Machine {
         requires within { i ≤ length piece.now }
         requires bounded { IsBounded self.old }
         ensures bounded { IsBounded self.new }
+        ensures said { length self.old.frames.items < 128 → self.old.owed < 2 ^ 62 → said result self.new ≡ scan i (at (place self.old) (AtOpenLf kind)) (drop i piece.now) }
     {
         self.kind = kind;
         if i == piece.len() {

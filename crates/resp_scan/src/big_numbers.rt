@@ -1,5 +1,6 @@
 //! Big numbers: digits of any number, of which leading zeros are passed over.
 
+ghost use Rattle.resp_scan.specs.Runs.{digit_run};
 ghost use Rattle.std.specs.Prelude.{◌≡◌, ◌≤◌, ◌<◌, ◌+◌, ◌-◌, ◌^◌, length, drop};
 
 use crate::machine::{Got, Machine, State, What};
@@ -9,7 +10,7 @@ impl Machine {
     ghost use Rattle.resp_scan.specs.Bounded.{IsBounded};
     ghost use Rattle.resp_scan.specs.Said.{place, said};
     ghost use Rattle.resp_scan.specs.Scan.{scan, Gave};
-    ghost use Rattle.resp_scan.specs.Tokens.{at, Text, AtBigSign, AtBigFirst, InBigZeros, AtBigZeroLf, AtBigDigit};
+    ghost use Rattle.resp_scan.specs.Tokens.{at, Text, AtBigSign, AtBigFirst, InBigZeros, AtBigZeroLf, AtBigDigit, InBig};
     ghost use Rattle.resp_scan.specs.declared.event.TextKind.TheVariants as text;
 
     /// Behind `(`. A sign brings the end no nearer.
@@ -121,16 +122,15 @@ impl Machine {
     /// Further digits, at the front of the piece.
     #[inline]
     pub fn big(&mut self, piece: &[u8]) -> Got
+        requires state { self.old.state ≡ State.Big }
         requires bounded { IsBounded self.old }
         ensures bounded { IsBounded self.new }
+        ensures said { said result self.new ≡ scan 0 (at (place self.old) (InBig self.old.room)) piece.now }
     {
         if piece.is_empty() {
             return self.rest(State::Big, piece);
         }
-        let most = self
-            .room
-            .min(self.total_room().saturating_sub(2))
-            .min(piece.len() as u64) as usize;
+        let most = self.text_room().min(piece.len() as u64) as usize;
         let run = digit_run(&piece[..most]);
         if run > 0 {
             self.room -= run as u64;
@@ -152,7 +152,8 @@ impl Machine {
 /// The digits at the front.
 #[inline]
 fn digit_run(s: &[u8]) -> usize
-    ensures { result ≤ length s.now }
+    ensures run { result ≡ digit_run s.now }
+    ensures within { result ≤ length s.now }
 {
     for i in 0..s.len() {
         if s[i] < b'0' || s[i] > b'9' {

@@ -1,12 +1,16 @@
 //! Streamed strings: chunks of counted content, and one of none that ends them.
 
-ghost use Rattle.std.specs.Prelude.{◌≤◌, ◌^◌, length};
+ghost use Rattle.std.specs.Prelude.{◌≡◌, ◌≤◌, ◌<◌, ◌-◌, ◌^◌, length, drop};
 
 use crate::machine::{Got, Head, Machine, State, What};
 use resp_value::cause::Cause;
 
 impl Machine {
     ghost use Rattle.resp_scan.specs.Bounded.{IsBounded};
+    ghost use Rattle.resp_scan.specs.Said.{place, said};
+    ghost use Rattle.resp_scan.specs.Scan.{scan, Gave};
+    ghost use Rattle.resp_scan.specs.Tokens.{at, ended, TextEnd, AtStreamCr, AtStreamLf, AtChunk, InChunk, AtChunkCr, AtChunkLf};
+    ghost use Rattle.resp_scan.specs.Heads.{chunk_at};
 
     /// Behind `$?`.
     #[inline]
@@ -14,6 +18,7 @@ impl Machine {
         requires within { i ≤ length piece.now }
         requires bounded { IsBounded self.old }
         ensures bounded { IsBounded self.new }
+        ensures said { said result self.new ≡ scan i (at (place self.old) AtStreamCr) (drop i piece.now) }
     {
         if i == piece.len() {
             return self.rest(State::StreamCr, piece);
@@ -29,6 +34,7 @@ impl Machine {
         requires within { i ≤ length piece.now }
         requires bounded { IsBounded self.old }
         ensures bounded { IsBounded self.new }
+        ensures said { said result self.new ≡ scan i (at (place self.old) AtStreamLf) (drop i piece.now) }
     {
         if i == piece.len() {
             return self.rest(State::StreamLf, piece);
@@ -47,6 +53,7 @@ impl Machine {
         requires within { i ≤ length piece.now }
         requires bounded { IsBounded self.old }
         ensures bounded { IsBounded self.new }
+        ensures said { said result self.new ≡ scan i (at (place self.old) (AtChunk self.old.room)) (drop i piece.now) }
     {
         if i == piece.len() {
             return self.rest(State::Chunk, piece);
@@ -65,6 +72,8 @@ impl Machine {
         requires within { i ≤ length piece.now }
         requires bounded { IsBounded self.old }
         ensures bounded { IsBounded self.new }
+        ensures ends { count ≡ 0 → said result self.new ≡ Gave i TextEnd (ended (place self.old)) }
+        ensures begins { 0 < count → said result self.new ≡ scan i (at (place self.old) (InChunk (room - count) count)) (drop i piece.now) }
     {
         if count == 0 {
             return self.ended(i, What::TextEnd);
@@ -79,25 +88,39 @@ impl Machine {
         requires within { i ≤ length piece.now }
         requires bounded { IsBounded self.old }
         ensures bounded { IsBounded self.new }
+        ensures said { 0 < self.old.count → said result self.new ≡ scan i (at (place self.old) (InChunk self.old.room self.old.count)) (drop i piece.now) }
     {
         if i == piece.len() {
             return self.rest(State::ChunkContent, piece);
         }
         let run = ((piece.len() - i) as u64).min(self.count);
-        self.count -= run;
-        self.state = if self.count == 0 {
+        self.part_start = i;
+        self.chunk_rests(self.count - run);
+        self.gives(i + run as usize, What::ChunkPart)
+    }
+
+    /// So many bytes of a chunk are still to come.
+    #[inline]
+    fn chunk_rests(&mut self, count: u64)
+        requires count { count ≤ 2 ^ 40 }
+        requires bounded { IsBounded self.old }
+        ensures bounded { IsBounded self.new }
+        ensures start { self.new.part_start ≡ self.old.part_start }
+        ensures place { place self.new ≡ chunk_at self.old.room count (place self.old) }
+    {
+        self.count = count;
+        self.state = if count == 0 {
             State::ChunkCr
         } else {
             State::ChunkContent
         };
-        self.part_start = i;
-        self.gives(i + run as usize, What::ChunkPart)
     }
 
     #[inline]
     pub fn chunk_cr(&mut self, piece: &[u8]) -> Got
         requires bounded { IsBounded self.old }
         ensures bounded { IsBounded self.new }
+        ensures said { said result self.new ≡ scan 0 (at (place self.old) (AtChunkCr self.old.room)) piece.now }
     {
         if piece.is_empty() {
             return self.rest(State::ChunkCr, piece);
@@ -113,6 +136,7 @@ impl Machine {
         requires within { i ≤ length piece.now }
         requires bounded { IsBounded self.old }
         ensures bounded { IsBounded self.new }
+        ensures said { said result self.new ≡ scan i (at (place self.old) (AtChunkLf self.old.room)) (drop i piece.now) }
     {
         if i == piece.len() {
             return self.rest(State::ChunkLf, piece);

@@ -1,6 +1,6 @@
 //! Counted content: so many bytes, found by what remains, and a verbatim string's front.
 
-ghost use Rattle.std.specs.Prelude.{◌≡◌, ◌≤◌, ◌^◌, ◌∷◌, [], length, drop};
+ghost use Rattle.std.specs.Prelude.{◌≡◌, ◌≤◌, ◌<◌, ◌^◌, ◌∷◌, [], length, drop};
 
 use crate::machine::{Got, Machine, State, What};
 use resp_value::cause::Cause;
@@ -9,7 +9,7 @@ impl Machine {
     ghost use Rattle.resp_scan.specs.Bounded.{IsBounded};
     ghost use Rattle.resp_scan.specs.Said.{place, said};
     ghost use Rattle.resp_scan.specs.Scan.{scan};
-    ghost use Rattle.resp_scan.specs.Tokens.{at, AtContentCr, AtContentLf, AtFormat, AtFormatSecond, AtFormatThird, AtFormatColon};
+    ghost use Rattle.resp_scan.specs.Tokens.{at, InContent, AtContentCr, AtContentLf, AtFormat, AtFormatSecond, AtFormatThird, AtFormatColon};
     ghost use Rattle.resp_scan.specs.Heads.{content_at};
 
     /// Content of so many bytes begins.
@@ -36,18 +36,13 @@ impl Machine {
     pub fn content(&mut self, piece: &[u8]) -> Got
         requires bounded { IsBounded self.old }
         ensures bounded { IsBounded self.new }
+        ensures said { 0 < self.old.count → said result self.new ≡ scan 0 (at (place self.old) (InContent self.old.count)) piece.now }
     {
         if piece.is_empty() {
             return self.rest(State::Content, piece);
         }
         let run = (piece.len() as u64).min(self.count);
-        self.count -= run;
-        self.state = if self.count == 0 {
-            State::ContentCr
-        } else {
-            State::Content
-        };
-        self.gives(run as usize, What::Part)
+        self.content_begins(run as usize, self.count - run, What::Part)
     }
 
     #[inline]

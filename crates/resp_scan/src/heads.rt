@@ -1,6 +1,7 @@
 //! Heads: the number that counts a content's bytes or an aggregate's members, and what stands in its place.
 
-ghost use Rattle.std.specs.Prelude.{◌≡◌, ◌≤◌, ◌<◌, ◌^◌, length, IfNone};
+ghost use Rattle.resp_scan.specs.Heads.{head_needed, streamed_kind, may_end};
+ghost use Rattle.std.specs.Prelude.{◌≡◌, ◌≢◌, ℕ, ◌≤◌, ◌<◌, ◌+◌, ◌^◌, length, drop, IfNone, true};
 
 use crate::event::OpenKind;
 use crate::machine::{Got, Head, Machine, State, What};
@@ -9,6 +10,11 @@ use resp_value::version::Version;
 
 impl Machine {
     ghost use Rattle.resp_scan.specs.Bounded.{IsBounded};
+    ghost use Rattle.resp_scan.specs.Said.{place, said};
+    ghost use Rattle.resp_scan.specs.Scan.{scan};
+    ghost use Rattle.resp_scan.specs.Tokens.{at, AtBulkHead, AtArrayHead, AtHead, InHead, AtHeadLf};
+    ghost use Rattle.resp_scan.specs.Heads.{over, string_cause, aggregate_cause, HasFrame};
+    ghost use Rattle.resp_scan.specs.Machine.{full_cause};
 
     /// Behind `$`: a number, `-1` for the null, or `?` for a streamed string.
     #[inline]
@@ -16,6 +22,7 @@ impl Machine {
         requires within { i ≤ length piece.now }
         requires bounded { IsBounded self.old }
         ensures bounded { IsBounded self.new }
+        ensures said { said result self.new ≡ scan i (at (place self.old) AtBulkHead) (drop i piece.now) }
     {
         if i == piece.len() {
             return self.rest(State::BulkHead, piece);
@@ -36,6 +43,7 @@ impl Machine {
         requires within { i ≤ length piece.now }
         requires bounded { IsBounded self.old }
         ensures bounded { IsBounded self.new }
+        ensures said { said result self.new ≡ scan i (at (place self.old) AtArrayHead) (drop i piece.now) }
     {
         if i == piece.len() {
             return self.rest(State::ArrayHead, piece);
@@ -47,16 +55,41 @@ impl Machine {
                 None => self.null_one(piece, i + 1),
             };
         }
-        if b'0' <= byte && byte <= b'9' && self.is_full() {
-            return self.fail(i, Cause::Depth);
+        if self.is_full() {
+            let cause = self.full_cause(byte);
+            return self.fail(i, cause);
         }
         self.head_first(piece, i, Head::Array)
+    }
+
+    /// What refuses this byte behind the `*` of an array that would be a level too deep.
+    #[inline]
+    fn full_cause(&self, byte: u8) -> Cause
+        ensures { result ≡ full_cause (place self.now) byte }
+    {
+        if byte == b'?' {
+            match self.version {
+                Version::Two => Cause::Version,
+                Version::Three => {
+                    if self.limits.streamed() {
+                        Cause::Depth
+                    } else {
+                        Cause::Streamed
+                    }
+                }
+            }
+        } else if b'0' <= byte && byte <= b'9' {
+            Cause::Depth
+        } else {
+            Cause::Syntax
+        }
     }
 
     /// What refuses the `?` of a streamed string.
     #[inline]
     fn streamed_string(&self, used: usize) -> Option<Cause>
         requires index { used ≤ 2 ^ 63 }
+        ensures { result ≡ string_cause (place self.now) used }
     {
         match self.version {
             Version::Two => Some(Cause::Version),
@@ -74,6 +107,8 @@ impl Machine {
     #[inline]
     fn streamed_aggregate(&self, used: usize) -> Option<Cause>
         requires index { used ≤ 2 ^ 63 }
+        ensures cause { result ≡ aggregate_cause (place self.now) used }
+        ensures owed { IfNone result (self.now.owed < 2 ^ 62) }
     {
         match self.version {
             Version::Two => Some(Cause::Version),
@@ -95,6 +130,7 @@ impl Machine {
         requires within { i ≤ length piece.now }
         requires bounded { IsBounded self.old }
         ensures bounded { IsBounded self.new }
+        ensures said { HasFrame (place self.old) head → said result self.new ≡ scan i (at (place self.old) (AtHead head)) (drop i piece.now) }
     {
         if i == piece.len() {
             self.head = head;
@@ -126,6 +162,7 @@ impl Machine {
         requires fits { first ≤ 2 ^ 40 }
         requires bounded { IsBounded self.old }
         ensures bounded { IsBounded self.new }
+        ensures said { HasFrame (place self.old) head → self.old.owed + head_needed head first ≤ 2 ^ 40 → said result self.new ≡ scan from (at (place self.old) (InHead head first)) (drop from piece.now) }
     {
         let mut number = first;
         for i in from..piece.len() {
@@ -151,7 +188,9 @@ impl Machine {
     fn over(&self, used: usize, head: Head, number: u64) -> Option<Cause>
         requires index { used ≤ 2 ^ 63 }
         requires number { number < 2 ^ 44 }
-        ensures { IfNone result (number ≤ 2 ^ 40) }
+        ensures few { IfNone result (number ≤ 2 ^ 40) }
+        ensures owed { IfNone result (self.now.owed + head_needed head number ≤ 2 ^ 40) }
+        ensures over { result ≡ over (place self.now) used head number }
     {
         match head {
             Head::Bulk | Head::BulkError | Head::Verbatim => {
@@ -179,6 +218,7 @@ impl Machine {
         requires fits { number ≤ 2 ^ 40 }
         requires bounded { IsBounded self.old }
         ensures bounded { IsBounded self.new }
+        ensures said { HasFrame (place self.old) head → self.old.owed + head_needed head number ≤ 2 ^ 40 → said result self.new ≡ scan i (at (place self.old) (AtHeadLf head number)) (drop i piece.now) }
     {
         if i == piece.len() {
             self.head = head;
@@ -204,7 +244,9 @@ impl Machine {
 
 /// The kinds of aggregate that may be streamed.
 #[inline]
-fn streamed_kind(head: Head) -> Option<OpenKind> {
+fn streamed_kind(head: Head) -> Option<OpenKind>
+    ensures { result ≡ streamed_kind head }
+{
     match head {
         Head::Array => Some(OpenKind::Array),
         Head::Set => Some(OpenKind::Set),
@@ -215,7 +257,9 @@ fn streamed_kind(head: Head) -> Option<OpenKind> {
 
 /// Whether a head may end with this number: a verbatim string has four bytes before its text.
 #[inline]
-fn may_end(head: Head, number: u64) -> bool {
+fn may_end(head: Head, number: u64) -> bool
+    ensures { result ≡ may_end head number }
+{
     match head {
         Head::Verbatim => number >= 4,
         _ => true,
@@ -228,6 +272,7 @@ pub fn needed_behind(head: Head, number: u64) -> u64
     requires { number < 2 ^ 44 }
     ensures more { number ≤ result }
     ensures few { result < 2 ^ 48 }
+    ensures needed { result ≡ head_needed head number }
 {
     match head {
         Head::Bulk | Head::BulkError => number + 4,

@@ -1,5 +1,6 @@
 //! Simple strings and errors: one line, whose content is found by vectors.
 
+ghost use Rattle.resp_scan.specs.Runs.{plain_run, run_to};
 ghost use Rattle.std.specs.Prelude.{◌≡◌, ◌≤◌, length, drop};
 
 use crate::machine::{Got, Machine, State, What};
@@ -10,21 +11,20 @@ impl Machine {
     ghost use Rattle.resp_scan.specs.Bounded.{IsBounded};
     ghost use Rattle.resp_scan.specs.Said.{place, said};
     ghost use Rattle.resp_scan.specs.Scan.{scan};
-    ghost use Rattle.resp_scan.specs.Tokens.{at, AtLineLf};
+    ghost use Rattle.resp_scan.specs.Tokens.{at, InLine, AtLineLf};
 
     /// A line's content, at the front of the piece.
     #[inline]
     pub fn line(&mut self, piece: &[u8]) -> Got
+        requires state { self.old.state ≡ State.Line }
         requires bounded { IsBounded self.old }
         ensures bounded { IsBounded self.new }
+        ensures said { said result self.new ≡ scan 0 (at (place self.old) (InLine self.old.room)) piece.now }
     {
         if piece.is_empty() {
             return self.rest(State::Line, piece);
         }
-        let most = self
-            .room
-            .min(self.total_room().saturating_sub(2))
-            .min(piece.len() as u64) as usize;
+        let most = self.text_room().min(piece.len() as u64) as usize;
         let run = line_run(&piece[..most]);
         if run > 0 {
             self.room -= run as u64;
@@ -63,7 +63,8 @@ impl Machine {
 /// The bytes before the first CR or LF: the first few by hand, then by vectors.
 #[inline]
 fn line_run(s: &[u8]) -> usize
-    ensures { result ≤ length s.now }
+    ensures run { result ≡ plain_run s.now }
+    ensures within { result ≤ length s.now }
 {
     let near = s.len().min(16);
     for i in 0..near {
@@ -76,7 +77,8 @@ fn line_run(s: &[u8]) -> usize
 
 #[inline(never)]
 fn far_run(s: &[u8]) -> usize
-    ensures { result ≤ length s.now }
+    ensures run { result ≡ plain_run s.now }
+    ensures within { result ≤ length s.now }
 {
     let cr = run_to(b'\r', s);
     run_to(b'\n', &s[..cr])
@@ -84,6 +86,7 @@ fn far_run(s: &[u8]) -> usize
 
 #[inline]
 fn run_to(byte: u8, s: &[u8]) -> usize
+    ensures value { result ≡ run_to byte s.now }
     ensures within { result ≤ length s.now }
 {
     match memchr(byte, s) {

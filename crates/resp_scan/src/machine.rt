@@ -1,6 +1,6 @@
 //! The state between two bytes, and what all tokens share: room within the limits, members, and ends.
 
-ghost use Rattle.std.specs.Prelude.{◌≡◌, ◌<◌, ◌≤◌, ◌+◌, ◌^◌, length, IfNone, true};
+ghost use Rattle.std.specs.Prelude.{◌≡◌, ◌<◌, ◌≤◌, ◌+◌, ◌^◌, length, IfNone, true, false, ◌-◌, min};
 
 use crate::event::OpenKind;
 use crate::frame::{Frame, Shape};
@@ -191,6 +191,7 @@ impl Machine {
     pub fn total_room(&self) -> u64
         ensures few { result ≤ 2 ^ 40 }
         ensures room { result ≡ total_room (place self.now) }
+        ensures owed { 0 < result → self.now.owed + result ≤ 2 ^ 40 }
     {
         self.limits
             .total()
@@ -205,6 +206,7 @@ impl Machine {
         requires needed { needed < 2 ^ 62 }
         ensures few { result ≡ true → needed ≤ 2 ^ 40 }
         ensures fits { result ≡ fits (place self.now) used needed }
+        ensures owed { result ≡ true → 0 < needed → self.now.owed + needed ≤ 2 ^ 40 }
     {
         used as u64 + needed <= self.total_room()
     }
@@ -216,6 +218,7 @@ impl Machine {
         requires needed { needed < 2 ^ 62 }
         ensures few { IfNone result (needed ≤ 2 ^ 40) }
         ensures over { result ≡ over_total (place self.now) used needed }
+        ensures owed { IfNone result (0 < needed → self.now.owed + needed ≤ 2 ^ 40) }
     {
         if self.fits(used, needed) {
             None
@@ -224,10 +227,19 @@ impl Machine {
         }
     }
 
+    /// What length and total leave of a text whose line's end is still to come.
+    #[inline]
+    pub fn text_room(&self) -> u64
+        ensures { result ≡ min self.now.room (total_room (place self.now) - 2) }
+    {
+        self.room.min(self.total_room().saturating_sub(2))
+    }
+
     /// Whether the depth lets no further aggregate open.
     #[inline]
     pub fn is_full(&self) -> bool
-        ensures { result ≡ is_full (place self.now) }
+        ensures full { result ≡ is_full (place self.now) }
+        ensures room { result ≡ false → length self.now.frames.items < 128 }
     {
         self.frames.len() as u64 >= self.limits.depth()
     }
