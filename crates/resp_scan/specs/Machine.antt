@@ -15,7 +15,7 @@ use Rattle.resp_scan.specs.declared.machine.Head.{Head}
 use Rattle.resp_scan.specs.declared.machine.Head.TheVariants as head
 use Rattle.resp_scan.specs.Magnitudes.{most}
 use Rattle.resp_scan.specs.Tokens.{Token, Place, Happening, Move, Go, Byte, Give, Refuse, at, within, ended, Null, Truth, Int, Text, TextEnd, Open, Close, AtStart, AtEnd, InLine, AtLineLf, AtIntSign, AtIntFirst, InInt, AtIntLf, AtBigSign, AtBigFirst, InBigZeros, AtBigZeroLf, AtBigDigit, InBig, AtTextEnd, AtNullOne, AtNullCr, AtNullLf, AtBool, AtBoolCr, AtBoolLf, AtBulkHead, AtArrayHead, AtHead, InHead, AtHeadLf, AtFormat, AtFormatSecond, AtFormatThird, AtFormatColon, InContent, AtContentCr, AtContentLf, AtStreamCr, AtStreamLf, AtChunk, InChunk, AtChunkCr, AtChunkLf, AtOpenCr, AtOpenLf, AtCloseCr, AtCloseLf, Dead}
-use Rattle.resp_scan.specs.Room.{fits, over_total, is_full, begun, begin_cause}
+use Rattle.resp_scan.specs.Room.{fits, over_total, is_full, begun, begin_cause, reshaped}
 use Rattle.resp_scan.specs.Heads.{over, may_end, streamed_kind, string_cause, aggregate_cause, opened_streamed, content_at, chunk_at, counted, first_needed}
 
 abbrev pub signed : Bool → ℕ → ℤ
@@ -114,10 +114,13 @@ may_close_of kind.Set (Begun n) = true
 may_close_of kind.Attr (Begun n) = true
 may_close_of kind.Push (Begun n) = true
 
+abbrev pub may_close : List Frame → Bool
+may_close [] = false
+may_close (f ∷ fs) = may_close_of f.kind f.shape
+
 -- a streamed aggregate closes, a map between whole pairs
-abbrev pub closing : Place → List Frame → Move
-closing s [] = Refuse cause.Syntax
-closing s (f ∷ fs) = cond (may_close_of f.kind f.shape) (Go (record s { token = AtCloseCr; frames = record f { shape = Left 0 } ∷ fs; owed = s.owed - 3 })) (Refuse cause.Syntax)
+abbrev pub closing : Place → Move
+closing s = cond (may_close s.frames) (Go (record s { token = AtCloseCr; frames = reshaped (Left 0) s.frames; owed = s.owed - 3 })) (Refuse cause.Syntax)
 
 abbrev pub start_three : Place → ℕ → Move
 start_three s b =
@@ -139,7 +142,7 @@ start_next s b =
     (cond (eqb b 58) (begins s 3 AtIntSign)
     (cond (eqb b 36) (begins s 4 AtBulkHead)
     (cond (eqb b 42) (begins s (cond (is_full s) 4 3) AtArrayHead)
-    (cond (eqb b 46) (closing s s.frames)
+    (cond (eqb b 46) (closing s)
     (cond (eqb b 44) (Refuse cause.Double)
     (start_three s b)))))))
 

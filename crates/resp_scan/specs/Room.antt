@@ -67,3 +67,13 @@ items_cause (f ∷ fs) items other = cond (has_all f.kind f.shape items) (Some c
 -- what refuses the first byte of a member that needs so many bytes behind it: items, and then total
 abbrev pub begin_cause : Place → ℕ → Option Cause
 begin_cause s needed = items_cause s.frames s.bounds.items (over_total (begun s) 1 needed)
+
+-- the members of a streamed aggregate that have begun
+abbrev pub begun_count : Shape → ℕ
+begun_count (Left n) = 0
+begun_count (Begun n) = n
+
+-- the innermost frame gets this shape
+abbrev pub reshaped : Shape → List Frame → List Frame
+reshaped shape [] = []
+reshaped shape (f ∷ fs) = record f { shape = shape } ∷ fs

@@ -1,6 +1,6 @@
 //! Aggregates: they open behind their heads, and the streamed ones close by a line of their own.
 
-ghost use Rattle.std.specs.Prelude.{◌≡◌, ◌≤◌, ◌<◌, ◌+◌, ◌*◌, ◌^◌, ◌++◌, ◌∷◌, [], length, drop, Some};
+ghost use Rattle.std.specs.Prelude.{◌≡◌, ◌≤◌, ◌<◌, ◌+◌, ◌*◌, ◌^◌, ◌++◌, ◌∷◌, [], length, drop, Some, slice_index};
 
 use crate::event::OpenKind;
 use crate::frame::{Frame, Shape};
@@ -12,7 +12,8 @@ impl Machine {
     ghost use Rattle.resp_scan.specs.Said.{place, said};
     ghost use Rattle.resp_scan.specs.Scan.{scan, Gave};
     ghost use Rattle.resp_scan.specs.Heads.{opened};
-    ghost use Rattle.resp_scan.specs.Tokens.{at, Open, AtOpenCr, AtOpenLf, AtCloseCr, AtCloseLf};
+    ghost use Rattle.resp_scan.specs.Machine.{may_close};
+    ghost use Rattle.resp_scan.specs.Tokens.{at, Open, AtOpenCr, AtOpenLf, AtStart, AtCloseCr, AtCloseLf};
 
     /// An aggregate opens, with this number in its head and so many members.
     #[inline]
@@ -87,7 +88,9 @@ impl Machine {
 
     /// Whether the innermost open aggregate may close here: it is streamed, and a map between whole pairs.
     #[inline]
-    fn may_close(&self) -> bool {
+    fn may_close(&self) -> bool
+        ensures { result ≡ may_close (place self.now).frames }
+    {
         match self.frames.as_slice().last() {
             None => false,
             Some(frame) => match frame.shape {
@@ -106,6 +109,7 @@ impl Machine {
         requires within { 0 < length piece.now }
         requires bounded { IsBounded self.old }
         ensures bounded { IsBounded self.new }
+        ensures said { slice_index piece.now 0 ≡ 46 → said result self.new ≡ scan 0 (at (place self.old) AtStart) piece.now }
     {
         if !self.may_close() {
             return self.fail(0, Cause::Syntax);

@@ -1,6 +1,7 @@
 //! The state between two bytes, and what all tokens share: room within the limits, members, and ends.
 
-ghost use Rattle.std.specs.Prelude.{◌≡◌, ◌<◌, ◌≤◌, ◌+◌, ◌^◌, length, IfNone, true, false, ◌-◌, min};
+ghost use Rattle.resp_scan.specs.Room.{has_all, owed_begun, shape_begun, begun_count};
+ghost use Rattle.std.specs.Prelude.{◌≡◌, ◌<◌, ◌≤◌, ◌+◌, ◌^◌, length, IfNone, true, false, ◌-◌, min, reverse};
 
 use crate::event::OpenKind;
 use crate::frame::{Frame, Shape};
@@ -147,7 +148,7 @@ impl Machine {
     ghost use Rattle.resp_scan.specs.Said.{place, said};
     ghost use Rattle.resp_scan.specs.Scan.{More, Bad};
     ghost use Rattle.resp_scan.specs.Tokens.{at, Dead, ended};
-    ghost use Rattle.resp_scan.specs.Room.{total_room, fits, over_total, is_full};
+    ghost use Rattle.resp_scan.specs.Room.{total_room, fits, over_total, is_full, reshaped};
 
     /// The end of the piece, in this state.
     #[inline]
@@ -286,6 +287,8 @@ impl Machine {
     pub fn set_shape(&mut self, shape: Shape)
         requires bounded { IsBounded self.old }
         ensures bounded { IsBounded self.new }
+        ensures items { reverse self.new.frames.items ≡ reshaped shape (reverse self.old.frames.items) }
+        ensures rest { self.new ≡ record self.old { frames = self.new.frames } }
     {
         if !self.frames.is_empty() {
             let last = self.frames.len() - 1;
@@ -311,7 +314,9 @@ impl Machine {
 
 /// Whether a streamed aggregate has as many items as may be.
 #[inline]
-fn has_all(frame: Frame, items: u64) -> bool {
+fn has_all(frame: Frame, items: u64) -> bool
+    ensures { result ≡ has_all frame.kind frame.shape items }
+{
     match frame.shape {
         Shape::Left(_) => false,
         Shape::Begun(begun) => match frame.kind {
@@ -323,7 +328,9 @@ fn has_all(frame: Frame, items: u64) -> bool {
 
 /// What is owed once one more member has begun: less by a counted member, and a map's key calls for its value.
 #[inline]
-fn owed_begun(frame: Frame, owed: u64) -> u64 {
+fn owed_begun(frame: Frame, owed: u64) -> u64
+    ensures { owed < 2 ^ 62 → result ≡ owed_begun frame.kind frame.shape owed }
+{
     match frame.shape {
         Shape::Left(_) => owed.saturating_sub(3),
         Shape::Begun(begun) => match frame.kind {
@@ -340,7 +347,9 @@ fn owed_begun(frame: Frame, owed: u64) -> u64 {
 }
 
 #[inline]
-fn shape_begun(shape: Shape) -> Shape {
+fn shape_begun(shape: Shape) -> Shape
+    ensures { begun_count shape < 2 ^ 62 → result ≡ shape_begun shape }
+{
     match shape {
         Shape::Left(left) => Shape::Left(left.saturating_sub(1)),
         Shape::Begun(begun) => Shape::Begun(begun.saturating_add(1)),

@@ -1,6 +1,6 @@
 //! The scanner.
 
-ghost use Rattle.resp_scan.specs.Bounded.{IsBounded};
+ghost use Rattle.std.specs.Prelude.{◌≡◌, length, [], OnOk, OnErr, IfErr};
 
 use crate::event::{Busy, Event, Fault, OpenKind, Step};
 use crate::heads::needed_behind;
@@ -9,6 +9,7 @@ use arrayvec::ArrayVec;
 use resp_value::cause::Cause;
 use resp_value::limits::Limits;
 use resp_value::version::Version;
+use std::marker::Model;
 
 /// Reads values one after another, in pieces of any size.
 ///
@@ -16,12 +17,35 @@ use resp_value::version::Version;
 #[derive(Drop)]
 pub struct Scanner {
     machine: Machine,
-    ghost bounded: { IsBounded machine },
+}
+
+impl Model for Scanner {
+    ghost use Rattle.resp_scan.specs.Tokens.{Place};
+
+    ghost Value = { Place };
+
+    ghost use Rattle.resp_scan.specs.Said.{place};
+    ghost use Rattle.resp_scan.specs.Bounded.{IsBounded};
+
+    ghost view = { λ s. place s.machine };
+
+    ghost invariant = { λ s. IsBounded s.machine };
 }
 
 impl Scanner {
+    ghost use Rattle.resp_scan.specs.Tokens.{AtStart};
+
     /// A scanner of this version within these limits, between two values.
-    pub fn new(version: Version, limits: &Limits) -> Scanner {
+    pub fn new(version: Version, limits: &Limits) -> Scanner
+        ensures { result ≡ record {
+          token = AtStart;
+          frames = [];
+          version = version;
+          bounds = limits.now;
+          taken = 0;
+          owed = 0;
+        } }
+    {
         Scanner {
             machine: Machine {
                 version,
@@ -59,7 +83,9 @@ impl Scanner {
 
     /// The end of the input. Refuses it by Truncated inside a value, with the number of its bytes that were taken,
     /// and by the fault of a step where one was refused.
-    pub fn finish(&self) -> Result<(), Fault> {
+    pub fn finish(&self) -> Result<(), Fault>
+        ensures { IfErr result (λ fault. fault.at ≡ self.now.taken) }
+    {
         let at = self.machine.taken;
         match self.machine.state {
             State::Failed => Err(Fault {
@@ -83,7 +109,11 @@ impl Scanner {
     ///
     /// Refuses, and changes nothing, from a value's first byte until its [`Event::Done`] was given, and after a
     /// fault.
-    pub fn set_version(&mut self, version: Version) -> Result<(), Busy> {
+    pub fn set_version(&mut self, version: Version) -> Result<(), Busy>
+        ensures between { OnOk result ((self.old.token ≡ AtStart) × (self.old.frames ≡ [])) }
+        ensures ok { OnOk result (self.new ≡ record self.old { version = version }) }
+        ensures err { OnErr result (self.new ≡ self.old) }
+    {
         match self.machine.state {
             State::Start => {
                 if self.machine.frames.is_empty() {
@@ -98,12 +128,16 @@ impl Scanner {
     }
 
     /// The number of aggregates whose Open was given and whose Close wasn't.
-    pub fn depth(&self) -> usize {
+    pub fn depth(&self) -> usize
+        ensures { result ≡ length self.now.frames }
+    {
         self.machine.frames.len()
     }
 
     /// The number of bytes taken of the value, 0 between values. A refused byte isn't among them.
-    pub fn taken(&self) -> u64 {
+    pub fn taken(&self) -> u64
+        ensures { result ≡ self.now.taken }
+    {
         self.machine.taken
     }
 
@@ -116,6 +150,8 @@ impl Scanner {
 }
 
 impl Machine {
+    ghost use Rattle.resp_scan.specs.Bounded.{IsBounded};
+
     /// The least number of bytes that complete the token.
     fn token_needed(&self) -> u64
         requires { IsBounded self.now }
