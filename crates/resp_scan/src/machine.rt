@@ -1,7 +1,7 @@
 //! The state between two bytes, and what all tokens share: room within the limits, members, and ends.
 
 ghost use Rattle.resp_scan.specs.Room.{has_all, owed_begun, shape_begun, begun_count};
-ghost use Rattle.std.specs.Prelude.{◌≡◌, ◌<◌, ◌≤◌, ◌+◌, ◌^◌, length, IfNone, true, false, ◌-◌, min, reverse};
+ghost use Rattle.std.specs.Prelude.{◌≡◌, ◌<◌, ◌≤◌, ◌+◌, ◌^◌, length, IfNone, true, false, ◌-◌, ◌∷◌, List, IfSome, min, reverse};
 
 use crate::event::OpenKind;
 use crate::frame::{Frame, Shape};
@@ -145,10 +145,11 @@ pub struct Machine {
 
 impl Machine {
     ghost use Rattle.resp_scan.specs.Bounded.{IsBounded};
+    ghost use Rattle.resp_scan.specs.declared.frame.Frame.{Frame};
     ghost use Rattle.resp_scan.specs.Said.{place, said};
     ghost use Rattle.resp_scan.specs.Scan.{More, Bad};
-    ghost use Rattle.resp_scan.specs.Tokens.{at, Dead, ended};
-    ghost use Rattle.resp_scan.specs.Room.{total_room, fits, over_total, is_full, reshaped};
+    ghost use Rattle.resp_scan.specs.Tokens.{at, Dead, AtStart};
+    ghost use Rattle.resp_scan.specs.Room.{total_room, fits, over_total, is_full, reshaped, IsRoomy, begun, begin_cause};
 
     /// The end of the piece, in this state.
     #[inline]
@@ -252,6 +253,9 @@ impl Machine {
         requires needed { needed < 2 ^ 10 }
         requires bounded { IsBounded self.old }
         ensures bounded { IsBounded self.new }
+        ensures cause { IsRoomy (place self.old) → result ≡ begin_cause (at (place self.old) AtStart) needed }
+        ensures begun { IsRoomy (place self.old) → IfNone result (at (place self.new) AtStart ≡ begun (at (place self.old) AtStart)) }
+        ensures refused { IfSome result (λ cause. self.new ≡ self.old) }
     {
         match self.frames.as_slice().last() {
             None => self.over_total(1, needed),
@@ -268,6 +272,9 @@ impl Machine {
         requires needed { needed < 2 ^ 10 }
         requires bounded { IsBounded self.old }
         ensures bounded { IsBounded self.new }
+        ensures cause { (fs : List Frame) → (place self.old).frames ≡ frame ∷ fs → IsRoomy (place self.old) → result ≡ begin_cause (at (place self.old) AtStart) needed }
+        ensures begun { (fs : List Frame) → (place self.old).frames ≡ frame ∷ fs → IsRoomy (place self.old) → IfNone result (at (place self.new) AtStart ≡ begun (at (place self.old) AtStart)) }
+        ensures refused { IfSome result (λ cause. self.new ≡ self.old) }
     {
         if has_all(frame, self.limits.items()) {
             return Some(Cause::Items);
