@@ -1,14 +1,14 @@
 -- Runs of content bytes.
-use Rattle.std.specs.Prelude.{◌≡◌, ◌≢◌, ℕ, zero, suc, ◌+◌, ◌-◌, ◌<◌, ◌≤◌, Bool, true, false, cond, eqb, nat_le, List, [], ◌∷◌, length, take, drop, min, refl}
-use Rattle.std.proofs.Common.{sym, ◌∙◌, ap, arith, get_or, length-take, add-zero, add-one, zero-add}
+use Rattle.std.specs.Prelude.{◌≡◌, ◌≢◌, ℕ, zero, suc, ◌+◌, ◌-◌, ◌<◌, ◌≤◌, Bool, true, false, cond, eqb, nat_le, List, [], ◌∷◌, length, take, min, refl}
+use Rattle.std.proofs.Common.{sym, ◌∙◌, ap, arith, get_or, add-zero, add-one, zero-add}
 use Rattle.std.proofs.lemmas.Grind.{common_steps}
 use Rattle.std.proofs.lemmas.Bool.Decides.{nat_tests}
 use Rattle.resp_value.specs.declared.cause.Cause.TheVariants as cause
 use Rattle.resp_scan.specs.Tokens.{Place, Token, Move, Go, Byte, Give, Refuse, at, InLine, AtLineLf, InBig, InContent, AtContentCr, AtContentLf, InChunk, AtChunkCr, AtChunkLf}
-use Rattle.resp_scan.specs.Room.{total_room, fits}
+use Rattle.resp_scan.specs.Room.{total_room}
 use Rattle.resp_scan.specs.Heads.{content_at, chunk_at}
 use Rattle.resp_scan.specs.Machine.{next, content_byte, is_digit, wants}
-use Rattle.resp_scan.specs.Scan.{content, and_more, answer, scan, Out, Part}
+use Rattle.resp_scan.specs.Scan.{content, and_more, answer, scan, Part}
 use Rattle.resp_scan.specs.Runs.{run_to, plain_run, digit_run}
 
 pub plain_run_le : (p : List ℕ) → plain_run p ≤ length p

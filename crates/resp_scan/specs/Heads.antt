@@ -1,5 +1,5 @@
 -- The numbers of heads.
-use Rattle.std.specs.Prelude.{◌≡◌, ◌<◌, ℕ, ◌+◌, ◌-◌, ◌*◌, Bool, true, false, cond, eqb, nat_le, nat_lt, List, [], ◌∷◌, length, Option, None, Some}
+use Rattle.std.specs.Prelude.{◌≡◌, ◌<◌, ℕ, ◌+◌, ◌-◌, ◌*◌, Bool, true, false, cond, eqb, nat_le, nat_lt, ◌∷◌, length, Option, None, Some}
 use Rattle.resp_value.specs.declared.cause.Cause.{Cause}
 use Rattle.resp_value.specs.declared.cause.Cause.TheVariants as cause
 use Rattle.resp_value.specs.declared.version.Version.{Version}
@@ -7,11 +7,10 @@ use Rattle.resp_value.specs.declared.version.Version.TheVariants as version
 use Rattle.resp_scan.specs.declared.event.OpenKind.{OpenKind}
 use Rattle.resp_scan.specs.declared.event.OpenKind.TheVariants as kind
 use Rattle.resp_scan.specs.declared.event.TextKind.TheVariants as text
-use Rattle.resp_scan.specs.declared.frame.Frame.{Frame}
 use Rattle.resp_scan.specs.declared.frame.Shape.TheVariants.{Left, Begun}
 use Rattle.resp_scan.specs.declared.machine.Head.{Head}
 use Rattle.resp_scan.specs.declared.machine.Head.TheVariants.{Bulk, BulkError, Verbatim, Chunk, Array, Set, Map, Attr, Push}
-use Rattle.resp_scan.specs.Tokens.{Place, Move, Go, Give, Text, TextEnd, Open, at, within, ended, InContent, AtContentCr, AtFormat, InChunk, AtChunkCr}
+use Rattle.resp_scan.specs.Tokens.{Place, Move, Go, Give, Text, TextEnd, Open, at, ended, InContent, AtContentCr, AtFormat, InChunk, AtChunkCr}
 use Rattle.resp_scan.specs.Room.{over_total, is_full}
 
 -- the greatest number that length or items allow

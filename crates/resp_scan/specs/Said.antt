@@ -1,5 +1,5 @@
 -- What the fields of a machine stand for.
-use Rattle.std.specs.Prelude.{ℕ, List, [], ◌∷◌, reverse, slice_index, Some, None}
+use Rattle.std.specs.Prelude.{ℕ, reverse, slice_index, Some, None}
 use Rattle.resp_scan.specs.declared.machine.State.{State}
 use Rattle.resp_scan.specs.declared.machine.State.TheVariants as state
 use Rattle.resp_scan.specs.declared.machine.What.{What}
@@ -7,7 +7,7 @@ use Rattle.resp_scan.specs.declared.machine.What.TheVariants as what
 use Rattle.resp_scan.specs.declared.machine.Machine.{Machine}
 use Rattle.resp_scan.specs.declared.machine.Got.{Got}
 use Rattle.resp_scan.specs.declared.event.TextKind.TheVariants as text
-use Rattle.resp_scan.specs.Tokens.{Token, Place, within, Null, Truth, Int, Text, Digit, TextEnd, Open, Close, AtStart, AtEnd, InLine, AtLineLf, AtIntSign, AtIntFirst, InInt, AtIntLf, AtBigSign, AtBigFirst, InBigZeros, AtBigZeroLf, AtBigDigit, InBig, AtTextEnd, AtNullOne, AtNullCr, AtNullLf, AtBool, AtBoolCr, AtBoolLf, AtBulkHead, AtArrayHead, AtHead, InHead, AtHeadLf, AtFormat, AtFormatSecond, AtFormatThird, AtFormatColon, InContent, AtContentCr, AtContentLf, AtStreamCr, AtStreamLf, AtChunk, InChunk, AtChunkCr, AtChunkLf, AtOpenCr, AtOpenLf, AtCloseCr, AtCloseLf, Dead}
+use Rattle.resp_scan.specs.Tokens.{Token, Place, within, Null, Truth, Int, Text, Digit, TextEnd, Open, Close, AtStart, InLine, AtLineLf, AtIntSign, AtIntFirst, InInt, AtIntLf, AtBigSign, AtBigFirst, InBigZeros, AtBigZeroLf, AtBigDigit, InBig, AtTextEnd, AtNullOne, AtNullCr, AtNullLf, AtBool, AtBoolCr, AtBoolLf, AtBulkHead, AtArrayHead, AtHead, InHead, AtHeadLf, AtFormat, AtFormatSecond, AtFormatThird, AtFormatColon, InContent, AtContentCr, AtContentLf, AtStreamCr, AtStreamLf, AtChunk, InChunk, AtChunkCr, AtChunkLf, AtOpenCr, AtOpenLf, AtCloseCr, AtCloseLf, Dead}
 use Rattle.resp_scan.specs.Scan.{Out, More, Gave, Part, Whole, Bad}
 
 abbrev pub token_at : State → Machine → Token

@@ -1,4 +1,4 @@
-use Rattle.std.proofs.Common.{sym, length, take}
+use Rattle.std.proofs.Common.{sym}
 use Rattle.resp_scan.specs.Said.{place}
 use Rattle.resp_scan.proofs.Runs.{big_part}
 use Rattle.resp_scan.proofs.machine.Machine.big.Goals as goal

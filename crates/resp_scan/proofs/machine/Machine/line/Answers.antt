@@ -1,4 +1,4 @@
-use Rattle.std.proofs.Common.{sym, length, take}
+use Rattle.std.proofs.Common.{sym}
 use Rattle.resp_scan.specs.Said.{place}
 use Rattle.resp_scan.proofs.Runs.{line_part}
 use Rattle.resp_scan.proofs.machine.Machine.line.Goals as goal
