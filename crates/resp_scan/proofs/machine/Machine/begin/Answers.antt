@@ -1,0 +1,24 @@
+use Rattle.std.proofs.Common.{◌≡◌, List, [], ◌∷◌, drop, ap, Some, arith}
+use Rattle.std.proofs.lemmas.Grind.{common_steps}
+use Rattle.resp_scan.specs.declared.frame.Frame.{Frame}
+use Rattle.resp_scan.specs.Room.{innermost}
+use Rattle.resp_scan.specs.Said.{place}
+use Rattle.resp_scan.proofs.machine.Machine.begin.Goals as goal
+
+innermost_is : (fs : List Frame) (f : Frame) → innermost fs ≡ Some f → fs ≡ f ∷ drop 1 fs
+innermost_is [] f e = absurd (cc)
+innermost_is (g ∷ fs) f e = let h : g ≡ f = cc in ap (λ x. x ∷ fs) h
+
+pub returns-in-Some-clause-cause : goal.returns-in-Some-clause-cause
+returns-in-Some-clause-cause c =
+    let fs = (place c.args.self.now).frames in
+    let f = c.in-Some.frame.now in
+    let h : innermost fs ≡ Some f = grind (arith, common_steps) in
+    c.begin_in.ensures.cause (drop 1 fs) (innermost_is fs f h)
+
+pub returns-in-Some-clause-begun : goal.returns-in-Some-clause-begun
+returns-in-Some-clause-begun c =
+    let fs = (place c.args.self.now).frames in
+    let f = c.in-Some.frame.now in
+    let h : innermost fs ≡ Some f = grind (arith, common_steps) in
+    c.begin_in.ensures.begun (drop 1 fs) (innermost_is fs f h)

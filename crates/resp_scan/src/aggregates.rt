@@ -1,0 +1,154 @@
+//! Aggregates: they open behind their heads, and the streamed ones close by a line of their own.
+
+ghost use Rattle.std.specs.Prelude.{◌≡◌, ◌≤◌, ◌<◌, ◌+◌, ◌*◌, ◌^◌, ◌++◌, ◌∷◌, [], length, drop, Some, slice_index};
+
+use crate::event::OpenKind;
+use crate::frame::{Frame, Shape};
+use crate::machine::{Got, Machine, State, What};
+use resp_value::cause::Cause;
+
+impl Machine {
+    ghost use Rattle.resp_scan.specs.Bounded.{IsBounded};
+    ghost use Rattle.resp_scan.specs.Said.{place, said};
+    ghost use Rattle.resp_scan.specs.Scan.{scan, Gave};
+    ghost use Rattle.resp_scan.specs.Heads.{opened};
+    ghost use Rattle.resp_scan.specs.Machine.{may_close};
+    ghost use Rattle.resp_scan.specs.Tokens.{at, Open, AtOpenCr, AtOpenLf, AtStart, AtCloseCr, AtCloseLf};
+
+    /// An aggregate opens, with this number in its head and so many members.
+    #[inline]
+    pub fn open(&mut self, used: usize, kind: OpenKind, number: u64, members: u64) -> Got
+        requires number { number ≤ 2 ^ 40 }
+        requires members { members ≤ 2 ^ 42 }
+        requires bounded { IsBounded self.old }
+        ensures bounded { IsBounded self.new }
+        ensures said { length self.old.frames.items < 128 → self.old.owed + members * 3 < 2 ^ 64 → said result self.new ≡ Gave used (Open kind (Some number)) (opened (place self.old) kind members) }
+    {
+        self.owed = self.owed.saturating_add(members * 3);
+        self.push(Frame {
+            kind,
+            shape: Shape::Left(members),
+        });
+        self.kind = kind;
+        self.count = number;
+        self.ended(used, What::Open)
+    }
+
+    #[inline]
+    fn push(&mut self, frame: Frame)
+        requires bounded { IsBounded self.old }
+        ensures bounded { IsBounded self.new }
+        ensures items { length self.old.frames.items < 128 → self.new.frames.items ≡ self.old.frames.items ++ frame ∷ [] }
+        ensures rest { self.new ≡ record self.old { frames = self.new.frames } }
+    {
+        if !self.frames.is_full() {
+            self.frames.push(frame);
+        }
+    }
+
+    /// Behind the `?` of a streamed aggregate.
+    #[inline]
+    pub fn open_cr(&mut self, piece: &[u8], i: usize, kind: OpenKind) -> Got
+        requires within { i ≤ length piece.now }
+        requires bounded { IsBounded self.old }
+        ensures bounded { IsBounded self.new }
+        ensures said { length self.old.frames.items < 128 → self.old.owed < 2 ^ 62 → said result self.new ≡ scan i (at (place self.old) (AtOpenCr kind)) (drop i piece.now) }
+    {
+        if i == piece.len() {
+            self.kind = kind;
+            return self.rest(State::OpenCr, piece);
+        }
+        if piece[i] != b'\r' {
+            return self.fail(i, Cause::Syntax);
+        }
+        self.open_lf(piece, i + 1, kind)
+    }
+
+    #[inline]
+    pub fn open_lf(&mut self, piece: &[u8], i: usize, kind: OpenKind) -> Got
+        requires within { i ≤ length piece.now }
+        requires bounded { IsBounded self.old }
+        ensures bounded { IsBounded self.new }
+        ensures said { length self.old.frames.items < 128 → self.old.owed < 2 ^ 62 → said result self.new ≡ scan i (at (place self.old) (AtOpenLf kind)) (drop i piece.now) }
+    {
+        self.kind = kind;
+        if i == piece.len() {
+            return self.rest(State::OpenLf, piece);
+        }
+        if piece[i] != b'\n' {
+            return self.fail(i, Cause::Syntax);
+        }
+        self.owed = self.owed.saturating_add(3);
+        self.push(Frame {
+            kind,
+            shape: Shape::Begun(0),
+        });
+        self.ended(i + 1, What::OpenStreamed)
+    }
+
+    /// Whether the innermost open aggregate may close here: it is streamed, and a map between whole pairs.
+    #[inline]
+    fn may_close(&self) -> bool
+        ensures { result ≡ may_close (place self.now).frames }
+    {
+        match self.frames.as_slice().last() {
+            None => false,
+            Some(frame) => match frame.shape {
+                Shape::Left(_) => false,
+                Shape::Begun(begun) => match frame.kind {
+                    OpenKind::Map => begun % 2 == 0,
+                    _ => true,
+                },
+            },
+        }
+    }
+
+    /// At the `.` that closes a streamed aggregate.
+    #[inline]
+    pub fn close(&mut self, piece: &[u8]) -> Got
+        requires within { 0 < length piece.now }
+        requires bounded { IsBounded self.old }
+        ensures bounded { IsBounded self.new }
+        ensures said { slice_index piece.now 0 ≡ 46 → said result self.new ≡ scan 0 (at (place self.old) AtStart) piece.now }
+    {
+        if !self.may_close() {
+            return self.fail(0, Cause::Syntax);
+        }
+        self.owed = self.owed.saturating_sub(3);
+        self.set_shape(Shape::Left(0));
+        self.close_cr(piece, 1)
+    }
+
+    #[inline]
+    pub fn close_cr(&mut self, piece: &[u8], i: usize) -> Got
+        requires within { i ≤ length piece.now }
+        requires bounded { IsBounded self.old }
+        ensures bounded { IsBounded self.new }
+        ensures said { said result self.new ≡ scan i (at (place self.old) AtCloseCr) (drop i piece.now) }
+    {
+        if i == piece.len() {
+            return self.rest(State::CloseCr, piece);
+        }
+        if piece[i] != b'\r' {
+            return self.fail(i, Cause::Syntax);
+        }
+        self.close_lf(piece, i + 1)
+    }
+
+    #[inline]
+    pub fn close_lf(&mut self, piece: &[u8], i: usize) -> Got
+        requires within { i ≤ length piece.now }
+        requires bounded { IsBounded self.old }
+        ensures bounded { IsBounded self.new }
+        ensures said { said result self.new ≡ scan i (at (place self.old) AtCloseLf) (drop i piece.now) }
+    {
+        if i == piece.len() {
+            return self.rest(State::CloseLf, piece);
+        }
+        if piece[i] != b'\n' {
+            return self.fail(i, Cause::Syntax);
+        }
+        let _ = self.frames.pop();
+        self.ended(i + 1, What::Close)
+    }
+}

@@ -1,0 +1,164 @@
+//! Big numbers: digits of any number, of which leading zeros are passed over.
+
+ghost use Rattle.resp_scan.specs.Runs.{digit_run};
+ghost use Rattle.std.specs.Prelude.{◌≡◌, ◌≤◌, ◌<◌, ◌+◌, ◌-◌, ◌^◌, length, drop};
+
+use crate::machine::{Got, Machine, State, What};
+use resp_value::cause::Cause;
+
+impl Machine {
+    ghost use Rattle.resp_scan.specs.Bounded.{IsBounded};
+    ghost use Rattle.resp_scan.specs.Said.{place, said};
+    ghost use Rattle.resp_scan.specs.Scan.{scan, Gave};
+    ghost use Rattle.resp_scan.specs.Tokens.{at, Text, AtBigSign, AtBigFirst, InBigZeros, AtBigZeroLf, AtBigDigit, InBig};
+    ghost use Rattle.resp_scan.specs.declared.event.TextKind.TheVariants as text;
+
+    /// Behind `(`. A sign brings the end no nearer.
+    #[inline]
+    pub fn big_sign(&mut self, piece: &[u8], i: usize) -> Got
+        requires within { i ≤ length piece.now }
+        requires bounded { IsBounded self.old }
+        ensures bounded { IsBounded self.new }
+        ensures said { said result self.new ≡ scan i (at (place self.old) AtBigSign) (drop i piece.now) }
+    {
+        if i == piece.len() {
+            return self.rest(State::BigSign, piece);
+        }
+        match piece[i] {
+            b'-' => match self.over_total(i + 1, 3) {
+                Some(cause) => self.fail(i, cause),
+                None => self.big_first(piece, i + 1, true),
+            },
+            b'+' => match self.over_total(i + 1, 3) {
+                Some(cause) => self.fail(i, cause),
+                None => self.big_first(piece, i + 1, false),
+            },
+            _ => self.big_first(piece, i, false),
+        }
+    }
+
+    #[inline]
+    pub fn big_first(&mut self, piece: &[u8], i: usize, negative: bool) -> Got
+        requires within { i ≤ length piece.now }
+        requires bounded { IsBounded self.old }
+        ensures bounded { IsBounded self.new }
+        ensures said { said result self.new ≡ scan i (at (place self.old) (AtBigFirst negative)) (drop i piece.now) }
+    {
+        if i == piece.len() {
+            self.big_negative = negative;
+            return self.rest(State::BigFirst, piece);
+        }
+        let byte = piece[i];
+        if byte < b'0' || byte > b'9' {
+            return self.fail(i, Cause::Syntax);
+        }
+        if byte == b'0' {
+            return self.big_zeros(piece, i + 1, negative);
+        }
+        self.big_digit(i, negative, byte)
+    }
+
+    /// Behind one zero or more.
+    #[inline]
+    pub fn big_zeros(&mut self, piece: &[u8], from: usize, negative: bool) -> Got
+        requires within { from ≤ length piece.now }
+        requires bounded { IsBounded self.old }
+        ensures bounded { IsBounded self.new }
+        ensures said { said result self.new ≡ scan from (at (place self.old) (InBigZeros negative)) (drop from piece.now) }
+    {
+        for i in from..piece.len() {
+            let byte = piece[i];
+            if byte < b'0' || byte > b'9' {
+                if byte == b'\r' {
+                    return self.big_zero_lf(piece, i + 1);
+                }
+                return self.fail(i, Cause::Syntax);
+            }
+            if !self.fits(i + 1, 2) {
+                return self.fail(i, Cause::Total);
+            }
+            if byte != b'0' {
+                return self.big_digit(i, negative, byte);
+            }
+        }
+        self.big_negative = negative;
+        self.rest(State::BigZeros, piece)
+    }
+
+    /// The first digit that isn't zero: the text begins, and the digit is owed.
+    #[inline]
+    fn big_digit(&mut self, i: usize, negative: bool, byte: u8) -> Got
+        requires within { i < 2 ^ 63 }
+        requires bounded { IsBounded self.old }
+        ensures bounded { IsBounded self.new }
+        ensures said { said result self.new ≡ Gave (i + 1) (Text (text.Big negative)) (at (place self.old) (AtBigDigit byte (self.old.limits.length - 1))) }
+    {
+        self.state = State::BigDigit;
+        self.big_negative = negative;
+        self.digit = byte;
+        self.room = self.limits.length().saturating_sub(1);
+        self.gives(i + 1, What::Big)
+    }
+
+    /// Behind zeros alone and the CR.
+    #[inline]
+    pub fn big_zero_lf(&mut self, piece: &[u8], i: usize) -> Got
+        requires within { i ≤ length piece.now }
+        requires bounded { IsBounded self.old }
+        ensures bounded { IsBounded self.new }
+        ensures said { said result self.new ≡ scan i (at (place self.old) AtBigZeroLf) (drop i piece.now) }
+    {
+        if i == piece.len() {
+            return self.rest(State::BigZeroLf, piece);
+        }
+        if piece[i] != b'\n' {
+            return self.fail(i, Cause::Syntax);
+        }
+        self.state = State::TextEnd;
+        self.big_negative = false;
+        self.gives(i + 1, What::Big)
+    }
+
+    /// Further digits, at the front of the piece.
+    #[inline]
+    pub fn big(&mut self, piece: &[u8]) -> Got
+        requires state { self.old.state ≡ State.Big }
+        requires bounded { IsBounded self.old }
+        ensures bounded { IsBounded self.new }
+        ensures said { said result self.new ≡ scan 0 (at (place self.old) (InBig self.old.room)) piece.now }
+    {
+        if piece.is_empty() {
+            return self.rest(State::Big, piece);
+        }
+        let most = self.text_room().min(piece.len() as u64) as usize;
+        let run = digit_run(&piece[..most]);
+        if run > 0 {
+            self.room -= run as u64;
+            return self.gives(run, What::Part);
+        }
+        if piece[0] == b'\r' {
+            return self.line_lf(piece, 1);
+        }
+        if piece[0] < b'0' || piece[0] > b'9' {
+            return self.fail(0, Cause::Syntax);
+        }
+        if self.room == 0 {
+            return self.fail(0, Cause::Length);
+        }
+        self.fail(0, Cause::Total)
+    }
+}
+
+/// The digits at the front.
+#[inline]
+fn digit_run(s: &[u8]) -> usize
+    ensures run { result ≡ digit_run s.now }
+    ensures within { result ≤ length s.now }
+{
+    for i in 0..s.len() {
+        if s[i] < b'0' || s[i] > b'9' {
+            return i;
+        }
+    }
+    s.len()
+}

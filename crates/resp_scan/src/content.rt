@@ -1,0 +1,140 @@
+//! Counted content: so many bytes, found by what remains, and a verbatim string's front.
+
+ghost use Rattle.std.specs.Prelude.{◌≡◌, ◌≤◌, ◌<◌, ◌^◌, ◌∷◌, [], length, drop};
+
+use crate::machine::{Got, Machine, State, What};
+use resp_value::cause::Cause;
+
+impl Machine {
+    ghost use Rattle.resp_scan.specs.Bounded.{IsBounded};
+    ghost use Rattle.resp_scan.specs.Said.{place, said};
+    ghost use Rattle.resp_scan.specs.Scan.{scan};
+    ghost use Rattle.resp_scan.specs.Tokens.{at, InContent, AtContentCr, AtContentLf, AtFormat, AtFormatSecond, AtFormatThird, AtFormatColon};
+    ghost use Rattle.resp_scan.specs.Heads.{content_at};
+
+    /// Content of so many bytes begins.
+    #[inline]
+    pub fn content_begins(&mut self, used: usize, count: u64, what: What) -> Got
+        requires count { count ≤ 2 ^ 40 }
+        requires bounded { IsBounded self.old }
+        ensures bounded { IsBounded self.new }
+        ensures gives { result ≡ record { used = used; what = what } }
+        ensures format { self.new.format ≡ self.old.format }
+        ensures place { place self.new ≡ content_at count (place self.old) }
+    {
+        self.count = count;
+        self.state = if count == 0 {
+            State::ContentCr
+        } else {
+            State::Content
+        };
+        self.gives(used, what)
+    }
+
+    /// Content, at the front of the piece.
+    #[inline]
+    pub fn content(&mut self, piece: &[u8]) -> Got
+        requires bounded { IsBounded self.old }
+        ensures bounded { IsBounded self.new }
+        ensures said { 0 < self.old.count → said result self.new ≡ scan 0 (at (place self.old) (InContent self.old.count)) piece.now }
+    {
+        if piece.is_empty() {
+            return self.rest(State::Content, piece);
+        }
+        let run = (piece.len() as u64).min(self.count);
+        self.content_begins(run as usize, self.count - run, What::Part)
+    }
+
+    #[inline]
+    pub fn content_cr(&mut self, piece: &[u8]) -> Got
+        requires bounded { IsBounded self.old }
+        ensures bounded { IsBounded self.new }
+        ensures said { said result self.new ≡ scan 0 (at (place self.old) AtContentCr) piece.now }
+    {
+        if piece.is_empty() {
+            return self.rest(State::ContentCr, piece);
+        }
+        if piece[0] != b'\r' {
+            return self.fail(0, Cause::Syntax);
+        }
+        self.content_lf(piece, 1)
+    }
+
+    #[inline]
+    pub fn content_lf(&mut self, piece: &[u8], i: usize) -> Got
+        requires within { i ≤ length piece.now }
+        requires bounded { IsBounded self.old }
+        ensures bounded { IsBounded self.new }
+        ensures said { said result self.new ≡ scan i (at (place self.old) AtContentLf) (drop i piece.now) }
+    {
+        if i == piece.len() {
+            return self.rest(State::ContentLf, piece);
+        }
+        if piece[i] != b'\n' {
+            return self.fail(i, Cause::Syntax);
+        }
+        self.ended(i + 1, What::TextEnd)
+    }
+
+    /// The first byte of a verbatim string's format; so many bytes come with the front.
+    #[inline]
+    pub fn format_first(&mut self, piece: &[u8], i: usize, count: u64) -> Got
+        requires count { count ≤ 2 ^ 40 }
+        requires within { i ≤ length piece.now }
+        requires bounded { IsBounded self.old }
+        ensures bounded { IsBounded self.new }
+        ensures said { said result self.new ≡ scan i (at (place self.old) (AtFormat count)) (drop i piece.now) }
+    {
+        self.count = count;
+        if i == piece.len() {
+            return self.rest(State::FormatFirst, piece);
+        }
+        self.format_second(piece, i + 1, piece[i])
+    }
+
+    #[inline]
+    pub fn format_second(&mut self, piece: &[u8], i: usize, first: u8) -> Got
+        requires within { i ≤ length piece.now }
+        requires bounded { IsBounded self.old }
+        ensures bounded { IsBounded self.new }
+        ensures said { said result self.new ≡ scan i (at (place self.old) (AtFormatSecond first self.old.count)) (drop i piece.now) }
+    {
+        if i == piece.len() {
+            self.format = [first, 0, 0];
+            return self.rest(State::FormatSecond, piece);
+        }
+        self.format_third(piece, i + 1, first, piece[i])
+    }
+
+    #[inline]
+    pub fn format_third(&mut self, piece: &[u8], i: usize, first: u8, second: u8) -> Got
+        requires within { i ≤ length piece.now }
+        requires bounded { IsBounded self.old }
+        ensures bounded { IsBounded self.new }
+        ensures said { said result self.new ≡ scan i (at (place self.old) (AtFormatThird first second self.old.count)) (drop i piece.now) }
+    {
+        if i == piece.len() {
+            self.format = [first, second, 0];
+            return self.rest(State::FormatThird, piece);
+        }
+        self.format_colon(piece, i + 1, [first, second, piece[i]])
+    }
+
+    #[inline]
+    pub fn format_colon(&mut self, piece: &[u8], i: usize, format: [u8; 3]) -> Got
+        requires within { i ≤ length piece.now }
+        requires bounded { IsBounded self.old }
+        ensures bounded { IsBounded self.new }
+        ensures said { said result self.new ≡ scan i (at (place self.old) (AtFormatColon format self.old.count)) (drop i piece.now) }
+    {
+        self.format = format;
+        if i == piece.len() {
+            return self.rest(State::FormatColon, piece);
+        }
+        if piece[i] != b':' {
+            return self.fail(i, Cause::Syntax);
+        }
+        let count = self.count.saturating_sub(4);
+        self.content_begins(i + 1, count, What::Verbatim)
+    }
+}

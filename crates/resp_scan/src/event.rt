@@ -1,0 +1,89 @@
+//! What a scanner tells: events, and the refusals of bytes and of calls.
+
+use resp_value::cause::Cause;
+use thiserror::Error;
+
+/// The kinds of text (Redis serialization protocol specification, "Simple strings", "Simple errors", "Bulk strings",
+/// "Bulk errors", "Verbatim strings" and "Big numbers").
+#[derive(Clone, Copy, Debug, PartialEq, Eq)]
+pub enum TextKind {
+    /// A simple string.
+    Simple,
+    /// A simple error.
+    Error,
+    /// A bulk string, counted or streamed.
+    Bulk,
+    /// A bulk error.
+    BulkError,
+    /// A verbatim string, with the three bytes of its format.
+    Verbatim([u8; 3]),
+    /// A big number, whose text is its digits without leading zeros. Zero has no digit, and is never negative.
+    Big {
+        /// Whether it is below zero.
+        negative: bool,
+    },
+}
+
+/// The kinds of aggregate (Redis serialization protocol specification, "Arrays", "Sets", "Maps" and "Pushes"; RESP3
+/// specification, "Attribute type").
+#[derive(Clone, Copy, Debug, PartialEq, Eq)]
+pub enum OpenKind {
+    /// An array.
+    Array,
+    /// A set.
+    Set,
+    /// A map, whose keys and values come in turn.
+    Map,
+    /// An attribute: keys and values in turn, and last the value that it annotates.
+    Attr,
+    /// A push, at the top alone.
+    Push,
+}
+
+/// What stands in the bytes, in order.
+#[derive(Clone, Copy, Debug)]
+pub enum Event<'a> {
+    /// The null, in any of its spellings.
+    Null,
+    /// A truth value.
+    Bool(bool),
+    /// An integer.
+    Int(i64),
+    /// A text begins. Its parts follow, and then [`Event::TextEnd`].
+    Text(TextKind),
+    /// A run of the text's bytes, never empty. It lends the piece; the first digit of a big number lends a constant.
+    Part(&'a [u8]),
+    /// The text has ended.
+    TextEnd,
+    /// An aggregate begins, with the number of its members, or of its pairs in a map or an attribute; none where it
+    /// is streamed. Its members follow, and then [`Event::Close`].
+    Open(OpenKind, Option<u64>),
+    /// The innermost aggregate has ended. An attribute ends behind the value that it annotates.
+    Close,
+    /// The value at the top is whole.
+    Done,
+}
+
+/// What one step did.
+#[derive(Clone, Copy, Debug)]
+pub struct Step<'a> {
+    /// The number of bytes taken from the front of the piece; the whole piece where there is no event.
+    pub used: usize,
+    /// The event that stands behind them.
+    pub event: Option<Event<'a>>,
+}
+
+/// The refusal of a byte, or of an input that ends inside a value.
+#[derive(Clone, Copy, Debug, PartialEq, Eq, Error)]
+#[error("the value is refused")]
+pub struct Fault {
+    /// Why.
+    pub cause: Cause,
+    /// The number of bytes of the value that were taken before.
+    pub at: u64,
+}
+
+/// The refusal of a change of version: a value was begun, or a byte was refused.
+#[derive(Clone, Copy, Debug, PartialEq, Eq, Error)]
+#[error("a value was begun")]
+pub struct Busy;

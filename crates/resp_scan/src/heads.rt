@@ -1,0 +1,293 @@
+//! Heads: the number that counts a content's bytes or an aggregate's members, and what stands in its place.
+
+ghost use Rattle.resp_scan.specs.Heads.{head_needed, streamed_kind, may_end};
+ghost use Rattle.std.specs.Prelude.{◌≡◌, ◌≢◌, ℕ, ◌≤◌, ◌<◌, ◌+◌, ◌^◌, length, drop, IfNone, true};
+
+use crate::event::OpenKind;
+use crate::machine::{Got, Head, Machine, State, What};
+use resp_value::cause::Cause;
+use resp_value::version::Version;
+
+impl Machine {
+    ghost use Rattle.resp_scan.specs.Bounded.{IsBounded};
+    ghost use Rattle.resp_scan.specs.Said.{place, said};
+    ghost use Rattle.resp_scan.specs.Scan.{scan};
+    ghost use Rattle.resp_scan.specs.Tokens.{at, AtBulkHead, AtArrayHead, AtHead, InHead, AtHeadLf};
+    ghost use Rattle.resp_scan.specs.Heads.{over, string_cause, aggregate_cause, HasFrame};
+    ghost use Rattle.resp_scan.specs.Machine.{full_cause};
+
+    /// Behind `$`: a number, `-1` for the null, or `?` for a streamed string.
+    #[inline]
+    pub fn bulk_head(&mut self, piece: &[u8], i: usize) -> Got
+        requires within { i ≤ length piece.now }
+        requires bounded { IsBounded self.old }
+        ensures bounded { IsBounded self.new }
+        ensures said { said result self.new ≡ scan i (at (place self.old) AtBulkHead) (drop i piece.now) }
+    {
+        if i == piece.len() {
+            return self.rest(State::BulkHead, piece);
+        }
+        match piece[i] {
+            b'-' => self.null_one(piece, i + 1),
+            b'?' => match self.streamed_string(i + 1) {
+                Some(cause) => self.fail(i, cause),
+                None => self.stream_cr(piece, i + 1),
+            },
+            _ => self.head_first(piece, i, Head::Bulk),
+        }
+    }
+
+    /// Behind `*`: a number, `-1` for the null, or `?` for a streamed array.
+    #[inline]
+    pub fn array_head(&mut self, piece: &[u8], i: usize) -> Got
+        requires within { i ≤ length piece.now }
+        requires bounded { IsBounded self.old }
+        ensures bounded { IsBounded self.new }
+        ensures said { said result self.new ≡ scan i (at (place self.old) AtArrayHead) (drop i piece.now) }
+    {
+        if i == piece.len() {
+            return self.rest(State::ArrayHead, piece);
+        }
+        let byte = piece[i];
+        if byte == b'-' {
+            return match self.over_total(i + 1, 3) {
+                Some(cause) => self.fail(i, cause),
+                None => self.null_one(piece, i + 1),
+            };
+        }
+        if self.is_full() {
+            let cause = self.full_cause(byte);
+            return self.fail(i, cause);
+        }
+        self.head_first(piece, i, Head::Array)
+    }
+
+    /// What refuses this byte behind the `*` of an array that would be a level too deep.
+    #[inline]
+    fn full_cause(&self, byte: u8) -> Cause
+        ensures { result ≡ full_cause (place self.now) byte }
+    {
+        if byte == b'?' {
+            match self.version {
+                Version::Two => Cause::Version,
+                Version::Three => {
+                    if self.limits.streamed() {
+                        Cause::Depth
+                    } else {
+                        Cause::Streamed
+                    }
+                }
+            }
+        } else if b'0' <= byte && byte <= b'9' {
+            Cause::Depth
+        } else {
+            Cause::Syntax
+        }
+    }
+
+    /// What refuses the `?` of a streamed string.
+    #[inline]
+    fn streamed_string(&self, used: usize) -> Option<Cause>
+        requires index { used ≤ 2 ^ 63 }
+        ensures { result ≡ string_cause (place self.now) used }
+    {
+        match self.version {
+            Version::Two => Some(Cause::Version),
+            Version::Three => {
+                if self.limits.streamed() {
+                    self.over_total(used, 6)
+                } else {
+                    Some(Cause::Streamed)
+                }
+            }
+        }
+    }
+
+    /// What refuses the `?` of a streamed aggregate.
+    #[inline]
+    fn streamed_aggregate(&self, used: usize) -> Option<Cause>
+        requires index { used ≤ 2 ^ 63 }
+        ensures cause { result ≡ aggregate_cause (place self.now) used }
+        ensures owed { IfNone result (self.now.owed < 2 ^ 62) }
+    {
+        match self.version {
+            Version::Two => Some(Cause::Version),
+            Version::Three => {
+                if !self.limits.streamed() {
+                    Some(Cause::Streamed)
+                } else if self.is_full() {
+                    Some(Cause::Depth)
+                } else {
+                    self.over_total(used, 5)
+                }
+            }
+        }
+    }
+
+    /// At a head's first digit, or at the `?` of a streamed aggregate.
+    #[inline]
+    pub fn head_first(&mut self, piece: &[u8], i: usize, head: Head) -> Got
+        requires within { i ≤ length piece.now }
+        requires bounded { IsBounded self.old }
+        ensures bounded { IsBounded self.new }
+        ensures said { HasFrame (place self.old) head → said result self.new ≡ scan i (at (place self.old) (AtHead head)) (drop i piece.now) }
+    {
+        if i == piece.len() {
+            self.head = head;
+            return self.rest(State::HeadFirst, piece);
+        }
+        let byte = piece[i];
+        if byte == b'?' {
+            return match streamed_kind(head) {
+                None => self.fail(i, Cause::Syntax),
+                Some(kind) => match self.streamed_aggregate(i + 1) {
+                    Some(cause) => self.fail(i, cause),
+                    None => self.open_cr(piece, i + 1, kind),
+                },
+            };
+        }
+        if byte < b'0' || byte > b'9' {
+            return self.fail(i, Cause::Syntax);
+        }
+        let number = (byte - b'0') as u64;
+        match self.over(i + 1, head, number) {
+            Some(cause) => self.fail(i, cause),
+            None => self.head_more(piece, i + 1, head, number),
+        }
+    }
+
+    #[inline]
+    pub fn head_more(&mut self, piece: &[u8], from: usize, head: Head, first: u64) -> Got
+        requires within { from ≤ length piece.now }
+        requires fits { first ≤ 2 ^ 40 }
+        requires bounded { IsBounded self.old }
+        ensures bounded { IsBounded self.new }
+        ensures said { HasFrame (place self.old) head → self.old.owed + head_needed head first ≤ 2 ^ 40 → said result self.new ≡ scan from (at (place self.old) (InHead head first)) (drop from piece.now) }
+    {
+        let mut number = first;
+        for i in from..piece.len() {
+            let byte = piece[i];
+            if byte < b'0' || byte > b'9' {
+                if byte == b'\r' && may_end(head, number) {
+                    return self.head_lf(piece, i + 1, head, number);
+                }
+                return self.fail(i, Cause::Syntax);
+            }
+            number = number * 10 + (byte - b'0') as u64;
+            if let Some(cause) = self.over(i + 1, head, number) {
+                return self.fail(i, cause);
+            }
+        }
+        self.head = head;
+        self.count = number;
+        self.rest(State::HeadMore, piece)
+    }
+
+    /// What refuses a head's digit, which makes its number this: length or items, and then total.
+    #[inline]
+    fn over(&self, used: usize, head: Head, number: u64) -> Option<Cause>
+        requires index { used ≤ 2 ^ 63 }
+        requires number { number < 2 ^ 44 }
+        ensures few { IfNone result (number ≤ 2 ^ 40) }
+        ensures owed { IfNone result (self.now.owed + head_needed head number ≤ 2 ^ 40) }
+        ensures over { result ≡ over (place self.now) used head number }
+    {
+        match head {
+            Head::Bulk | Head::BulkError | Head::Verbatim => {
+                if number > self.limits.length() {
+                    return Some(Cause::Length);
+                }
+            }
+            Head::Chunk { room } => {
+                if number > room {
+                    return Some(Cause::Length);
+                }
+            }
+            Head::Array | Head::Set | Head::Map | Head::Attr | Head::Push => {
+                if number > self.limits.items() {
+                    return Some(Cause::Items);
+                }
+            }
+        }
+        self.over_total(used, needed_behind(head, number))
+    }
+
+    #[inline]
+    pub fn head_lf(&mut self, piece: &[u8], i: usize, head: Head, number: u64) -> Got
+        requires within { i ≤ length piece.now }
+        requires fits { number ≤ 2 ^ 40 }
+        requires bounded { IsBounded self.old }
+        ensures bounded { IsBounded self.new }
+        ensures said { HasFrame (place self.old) head → self.old.owed + head_needed head number ≤ 2 ^ 40 → said result self.new ≡ scan i (at (place self.old) (AtHeadLf head number)) (drop i piece.now) }
+    {
+        if i == piece.len() {
+            self.head = head;
+            self.count = number;
+            return self.rest(State::HeadLf, piece);
+        }
+        if piece[i] != b'\n' {
+            return self.fail(i, Cause::Syntax);
+        }
+        match head {
+            Head::Bulk => self.content_begins(i + 1, number, What::Bulk),
+            Head::BulkError => self.content_begins(i + 1, number, What::BulkError),
+            Head::Verbatim => self.format_first(piece, i + 1, number),
+            Head::Chunk { room } => self.chunk_begins(piece, i + 1, number, room),
+            Head::Array => self.open(i + 1, OpenKind::Array, number, number),
+            Head::Set => self.open(i + 1, OpenKind::Set, number, number),
+            Head::Map => self.open(i + 1, OpenKind::Map, number, number * 2),
+            Head::Attr => self.open(i + 1, OpenKind::Attr, number, number * 2 + 1),
+            Head::Push => self.open(i + 1, OpenKind::Push, number, number),
+        }
+    }
+}
+
+/// The kinds of aggregate that may be streamed.
+#[inline]
+fn streamed_kind(head: Head) -> Option<OpenKind>
+    ensures { result ≡ streamed_kind head }
+{
+    match head {
+        Head::Array => Some(OpenKind::Array),
+        Head::Set => Some(OpenKind::Set),
+        Head::Map => Some(OpenKind::Map),
+        _ => None,
+    }
+}
+
+/// Whether a head may end with this number: a verbatim string has four bytes before its text.
+#[inline]
+fn may_end(head: Head, number: u64) -> bool
+    ensures { result ≡ may_end head number }
+{
+    match head {
+        Head::Verbatim => number >= 4,
+        _ => true,
+    }
+}
+
+/// The fewest bytes that complete a value, or a streamed string, behind a head's digits of this value.
+#[inline]
+pub fn needed_behind(head: Head, number: u64) -> u64
+    requires { number < 2 ^ 44 }
+    ensures more { number ≤ result }
+    ensures few { result < 2 ^ 48 }
+    ensures needed { result ≡ head_needed head number }
+{
+    match head {
+        Head::Bulk | Head::BulkError => number + 4,
+        Head::Verbatim => {
+            if number == 0 {
+                9
+            } else if number < 4 {
+                number * 10 + 5
+            } else {
+                number + 4
+            }
+        }
+        Head::Chunk { .. } => { if number == 0 { 2 } else { number + 8 } }
+        Head::Array | Head::Set | Head::Push => number * 3 + 2,
+        Head::Map => number * 6 + 2,
+        Head::Attr => number * 6 + 5,
+    }
+}

@@ -1,0 +1,127 @@
+//! Integers.
+
+ghost use Rattle.std.specs.Prelude.{◌≡◌, ◌≤◌, ◌<◌, length, drop};
+ghost use Rattle.resp_scan.specs.Magnitudes.{most};
+ghost use Rattle.resp_scan.specs.Machine.{signed};
+
+use crate::machine::{Got, Machine, State, What};
+use resp_value::cause::Cause;
+
+impl Machine {
+    ghost use Rattle.resp_scan.specs.Bounded.{IsBounded};
+    ghost use Rattle.resp_scan.specs.Said.{place, said};
+    ghost use Rattle.resp_scan.specs.Scan.{scan};
+    ghost use Rattle.resp_scan.specs.Tokens.{at, AtIntSign, AtIntFirst, InInt, AtIntLf};
+
+    /// Behind `:`. A sign brings the end no nearer.
+    #[inline]
+    pub fn int_sign(&mut self, piece: &[u8], i: usize) -> Got
+        requires within { i ≤ length piece.now }
+        requires bounded { IsBounded self.old }
+        ensures bounded { IsBounded self.new }
+        ensures said { said result self.new ≡ scan i (at (place self.old) AtIntSign) (drop i piece.now) }
+    {
+        if i == piece.len() {
+            return self.rest(State::IntSign, piece);
+        }
+        match piece[i] {
+            b'-' => match self.over_total(i + 1, 3) {
+                Some(cause) => self.fail(i, cause),
+                None => self.int_first(piece, i + 1, true),
+            },
+            b'+' => match self.over_total(i + 1, 3) {
+                Some(cause) => self.fail(i, cause),
+                None => self.int_first(piece, i + 1, false),
+            },
+            _ => self.int_first(piece, i, false),
+        }
+    }
+
+    #[inline]
+    pub fn int_first(&mut self, piece: &[u8], i: usize, negative: bool) -> Got
+        requires within { i ≤ length piece.now }
+        requires bounded { IsBounded self.old }
+        ensures bounded { IsBounded self.new }
+        ensures said { said result self.new ≡ scan i (at (place self.old) (AtIntFirst negative)) (drop i piece.now) }
+    {
+        if i == piece.len() {
+            self.negative = negative;
+            self.magnitude = 0;
+            return self.rest(State::IntFirst, piece);
+        }
+        if piece[i] < b'0' || piece[i] > b'9' {
+            return self.fail(i, Cause::Syntax);
+        }
+        self.int_more(piece, i + 1, negative, (piece[i] - b'0') as u64)
+    }
+
+    #[inline]
+    pub fn int_more(&mut self, piece: &[u8], from: usize, negative: bool, first: u64) -> Got
+        requires within { from ≤ length piece.now }
+        requires fits { first ≤ most negative }
+        requires bounded { IsBounded self.old }
+        ensures bounded { IsBounded self.new }
+        ensures said { said result self.new ≡ scan from (at (place self.old) (InInt negative first)) (drop from piece.now) }
+    {
+        let mut magnitude = first;
+        let last = if negative { 8 } else { 7 };
+        for i in from..piece.len() {
+            let byte = piece[i];
+            if byte < b'0' || byte > b'9' {
+                if byte == b'\r' {
+                    return self.int_lf(piece, i + 1, negative, magnitude);
+                }
+                return self.fail(i, Cause::Syntax);
+            }
+            let digit = (byte - b'0') as u64;
+            if magnitude >= 922_337_203_685_477_580
+                && (magnitude > 922_337_203_685_477_580 || digit > last)
+            {
+                return self.fail(i, Cause::Range);
+            }
+            if !self.fits(i + 1, 2) {
+                return self.fail(i, Cause::Total);
+            }
+            magnitude = magnitude * 10 + digit;
+        }
+        self.negative = negative;
+        self.magnitude = magnitude;
+        self.rest(State::Int, piece)
+    }
+
+    #[inline]
+    pub fn int_lf(&mut self, piece: &[u8], i: usize, negative: bool, magnitude: u64) -> Got
+        requires within { i ≤ length piece.now }
+        requires fits { magnitude ≤ most negative }
+        requires bounded { IsBounded self.old }
+        ensures bounded { IsBounded self.new }
+        ensures said { said result self.new ≡ scan i (at (place self.old) (AtIntLf negative magnitude)) (drop i piece.now) }
+    {
+        if i == piece.len() {
+            self.negative = negative;
+            self.magnitude = magnitude;
+            return self.rest(State::IntLf, piece);
+        }
+        if piece[i] != b'\n' {
+            return self.fail(i, Cause::Syntax);
+        }
+        self.value = signed(negative, magnitude);
+        self.ended(i + 1, What::Int)
+    }
+}
+
+#[inline]
+fn signed(negative: bool, magnitude: u64) -> i64
+    requires { magnitude ≤ most negative }
+    ensures { result ≡ signed negative magnitude }
+{
+    if negative {
+        if magnitude > 9_223_372_036_854_775_807 {
+            i64::MIN
+        } else {
+            -(magnitude as i64)
+        }
+    } else {
+        magnitude as i64
+    }
+}

@@ -1,0 +1,96 @@
+//! Simple strings and errors: one line, whose content is found by vectors.
+
+ghost use Rattle.resp_scan.specs.Runs.{plain_run, run_to};
+ghost use Rattle.std.specs.Prelude.{◌≡◌, ◌≤◌, length, drop};
+
+use crate::machine::{Got, Machine, State, What};
+use memchr::memchr;
+use resp_value::cause::Cause;
+
+impl Machine {
+    ghost use Rattle.resp_scan.specs.Bounded.{IsBounded};
+    ghost use Rattle.resp_scan.specs.Said.{place, said};
+    ghost use Rattle.resp_scan.specs.Scan.{scan};
+    ghost use Rattle.resp_scan.specs.Tokens.{at, InLine, AtLineLf};
+
+    /// A line's content, at the front of the piece.
+    #[inline]
+    pub fn line(&mut self, piece: &[u8]) -> Got
+        requires state { self.old.state ≡ State.Line }
+        requires bounded { IsBounded self.old }
+        ensures bounded { IsBounded self.new }
+        ensures said { said result self.new ≡ scan 0 (at (place self.old) (InLine self.old.room)) piece.now }
+    {
+        if piece.is_empty() {
+            return self.rest(State::Line, piece);
+        }
+        let most = self.text_room().min(piece.len() as u64) as usize;
+        let run = line_run(&piece[..most]);
+        if run > 0 {
+            self.room -= run as u64;
+            return self.gives(run, What::Part);
+        }
+        if piece[0] == b'\r' {
+            return self.line_lf(piece, 1);
+        }
+        if piece[0] == b'\n' {
+            return self.fail(0, Cause::Syntax);
+        }
+        if self.room == 0 {
+            return self.fail(0, Cause::Length);
+        }
+        self.fail(0, Cause::Total)
+    }
+
+    /// The LF of a line, or of a big number that isn't zero.
+    #[inline]
+    pub fn line_lf(&mut self, piece: &[u8], i: usize) -> Got
+        requires within { i ≤ length piece.now }
+        requires bounded { IsBounded self.old }
+        ensures bounded { IsBounded self.new }
+        ensures said { said result self.new ≡ scan i (at (place self.old) AtLineLf) (drop i piece.now) }
+    {
+        if i == piece.len() {
+            return self.rest(State::LineLf, piece);
+        }
+        if piece[i] != b'\n' {
+            return self.fail(i, Cause::Syntax);
+        }
+        self.ended(i + 1, What::TextEnd)
+    }
+}
+
+/// The bytes before the first CR or LF: the first few by hand, then by vectors.
+#[inline]
+fn line_run(s: &[u8]) -> usize
+    ensures run { result ≡ plain_run s.now }
+    ensures within { result ≤ length s.now }
+{
+    let near = s.len().min(16);
+    for i in 0..near {
+        if s[i] == b'\r' || s[i] == b'\n' {
+            return i;
+        }
+    }
+    far_run(s)
+}
+
+#[inline(never)]
+fn far_run(s: &[u8]) -> usize
+    ensures run { result ≡ plain_run s.now }
+    ensures within { result ≤ length s.now }
+{
+    let cr = run_to(b'\r', s);
+    run_to(b'\n', &s[..cr])
+}
+
+#[inline]
+fn run_to(byte: u8, s: &[u8]) -> usize
+    ensures value { result ≡ run_to byte s.now }
+    ensures within { result ≤ length s.now }
+{
+    match memchr(byte, s) {
+        Some(i) => i,
+        None => s.len(),
+    }
+}

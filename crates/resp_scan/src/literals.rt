@@ -1,0 +1,115 @@
+//! Nulls and truth values.
+
+ghost use Rattle.std.specs.Prelude.{◌≡◌, ◌≤◌, length, drop};
+
+use crate::machine::{Got, Machine, State, What};
+use resp_value::cause::Cause;
+
+impl Machine {
+    ghost use Rattle.resp_scan.specs.Bounded.{IsBounded};
+    ghost use Rattle.resp_scan.specs.Said.{place, said};
+    ghost use Rattle.resp_scan.specs.Scan.{scan};
+    ghost use Rattle.resp_scan.specs.Tokens.{at, AtNullOne, AtNullCr, AtNullLf, AtBool, AtBoolCr, AtBoolLf};
+
+    /// Behind `$-` or `*-`, where only `1` follows.
+    #[inline]
+    pub fn null_one(&mut self, piece: &[u8], i: usize) -> Got
+        requires within { i ≤ length piece.now }
+        requires bounded { IsBounded self.old }
+        ensures bounded { IsBounded self.new }
+        ensures said { said result self.new ≡ scan i (at (place self.old) AtNullOne) (drop i piece.now) }
+    {
+        if i == piece.len() {
+            return self.rest(State::NullOne, piece);
+        }
+        if piece[i] != b'1' {
+            return self.fail(i, Cause::Syntax);
+        }
+        self.null_cr(piece, i + 1)
+    }
+
+    #[inline]
+    pub fn null_cr(&mut self, piece: &[u8], i: usize) -> Got
+        requires within { i ≤ length piece.now }
+        requires bounded { IsBounded self.old }
+        ensures bounded { IsBounded self.new }
+        ensures said { said result self.new ≡ scan i (at (place self.old) AtNullCr) (drop i piece.now) }
+    {
+        if i == piece.len() {
+            return self.rest(State::NullCr, piece);
+        }
+        if piece[i] != b'\r' {
+            return self.fail(i, Cause::Syntax);
+        }
+        self.null_lf(piece, i + 1)
+    }
+
+    #[inline]
+    pub fn null_lf(&mut self, piece: &[u8], i: usize) -> Got
+        requires within { i ≤ length piece.now }
+        requires bounded { IsBounded self.old }
+        ensures bounded { IsBounded self.new }
+        ensures said { said result self.new ≡ scan i (at (place self.old) AtNullLf) (drop i piece.now) }
+    {
+        if i == piece.len() {
+            return self.rest(State::NullLf, piece);
+        }
+        if piece[i] != b'\n' {
+            return self.fail(i, Cause::Syntax);
+        }
+        self.ended(i + 1, What::Null)
+    }
+
+    /// Behind `#`.
+    #[inline]
+    pub fn bool(&mut self, piece: &[u8], i: usize) -> Got
+        requires within { i ≤ length piece.now }
+        requires bounded { IsBounded self.old }
+        ensures bounded { IsBounded self.new }
+        ensures said { said result self.new ≡ scan i (at (place self.old) AtBool) (drop i piece.now) }
+    {
+        if i == piece.len() {
+            return self.rest(State::Bool, piece);
+        }
+        match piece[i] {
+            b't' => self.bool_cr(piece, i + 1, true),
+            b'f' => self.bool_cr(piece, i + 1, false),
+            _ => self.fail(i, Cause::Syntax),
+        }
+    }
+
+    #[inline]
+    pub fn bool_cr(&mut self, piece: &[u8], i: usize, truth: bool) -> Got
+        requires within { i ≤ length piece.now }
+        requires bounded { IsBounded self.old }
+        ensures bounded { IsBounded self.new }
+        ensures said { said result self.new ≡ scan i (at (place self.old) (AtBoolCr truth)) (drop i piece.now) }
+    {
+        if i == piece.len() {
+            self.truth = truth;
+            return self.rest(State::BoolCr, piece);
+        }
+        if piece[i] != b'\r' {
+            return self.fail(i, Cause::Syntax);
+        }
+        self.bool_lf(piece, i + 1, truth)
+    }
+
+    #[inline]
+    pub fn bool_lf(&mut self, piece: &[u8], i: usize, truth: bool) -> Got
+        requires within { i ≤ length piece.now }
+        requires bounded { IsBounded self.old }
+        ensures bounded { IsBounded self.new }
+        ensures said { said result self.new ≡ scan i (at (place self.old) (AtBoolLf truth)) (drop i piece.now) }
+    {
+        if i == piece.len() {
+            self.truth = truth;
+            return self.rest(State::BoolLf, piece);
+        }
+        if piece[i] != b'\n' {
+            return self.fail(i, Cause::Syntax);
+        }
+        self.truth = truth;
+        self.ended(i + 1, What::Bool)
+    }
+}

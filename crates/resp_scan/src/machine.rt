@@ -1,0 +1,364 @@
+//! The state between two bytes, and what all tokens share: room within the limits, members, and ends.
+
+ghost use Rattle.resp_scan.specs.Room.{has_all, owed_begun, shape_begun, begun_count};
+ghost use Rattle.std.specs.Prelude.{◌≡◌, ◌<◌, ◌≤◌, ◌+◌, ◌^◌, length, IfNone, true, false, ◌-◌, ◌∷◌, List, IfSome, min, reverse};
+
+use crate::event::OpenKind;
+use crate::frame::{Frame, Shape};
+use arrayvec::ArrayVec;
+use resp_value::cause::Cause;
+use resp_value::limits::Limits;
+use resp_value::version::Version;
+
+/// What the number in a head counts.
+#[derive(Clone, Copy)]
+pub enum Head {
+    Bulk,
+    BulkError,
+    Verbatim,
+    /// A chunk of a streamed string, of which length leaves so many bytes.
+    Chunk { room: u64 },
+    Array,
+    Set,
+    Map,
+    Attr,
+    Push,
+}
+
+/// The tokens: what the next byte may be.
+#[derive(Clone, Copy)]
+pub enum State {
+    /// A value's first byte, or in a streamed aggregate a close.
+    Start,
+    /// A value has ended: a close or the end is owed, or the next member may begin.
+    Ended,
+    Line,
+    LineLf,
+    IntSign,
+    IntFirst,
+    Int,
+    IntLf,
+    BigSign,
+    BigFirst,
+    BigZeros,
+    BigZeroLf,
+    /// The first digit of a big number is owed as a part.
+    BigDigit,
+    Big,
+    /// The end of a text is owed.
+    TextEnd,
+    NullOne,
+    NullCr,
+    NullLf,
+    Bool,
+    BoolCr,
+    BoolLf,
+    BulkHead,
+    ArrayHead,
+    HeadFirst,
+    HeadMore,
+    HeadLf,
+    FormatFirst,
+    FormatSecond,
+    FormatThird,
+    FormatColon,
+    Content,
+    ContentCr,
+    ContentLf,
+    StreamCr,
+    StreamLf,
+    Chunk,
+    ChunkContent,
+    ChunkCr,
+    ChunkLf,
+    OpenCr,
+    OpenLf,
+    CloseCr,
+    CloseLf,
+    Failed,
+}
+
+/// What stands behind the bytes that were taken. What an event carries waits in the machine.
+#[derive(Clone, Copy)]
+pub enum What {
+    /// The piece has ended.
+    More,
+    Failed,
+    Null,
+    Bool,
+    Int,
+    Simple,
+    Error,
+    Bulk,
+    BulkError,
+    Verbatim,
+    Big,
+    /// The bytes taken are content.
+    Part,
+    /// The bytes taken from `part_start` on are content.
+    ChunkPart,
+    /// The one digit of a big number.
+    Digit,
+    TextEnd,
+    Open,
+    OpenStreamed,
+    Close,
+    Done,
+}
+
+/// The number of bytes taken, and what stands behind them.
+#[derive(Clone, Copy)]
+pub struct Got {
+    pub used: usize,
+    pub what: What,
+}
+
+/// The state between two bytes. Fields behind `taken` and `owed` mean something in some tokens alone.
+#[derive(Drop)]
+pub struct Machine {
+    pub version: Version,
+    pub limits: Limits,
+    pub frames: ArrayVec<Frame, 128>,
+    pub state: State,
+    /// Bytes of the value at the top that were taken before this piece.
+    pub taken: u64,
+    /// The fewest bytes by which the open aggregates end once the token has ended.
+    pub owed: u64,
+    pub cause: Cause,
+    pub head: Head,
+    pub kind: OpenKind,
+    pub truth: bool,
+    pub negative: bool,
+    /// An integer's digits so far.
+    pub magnitude: u64,
+    pub value: i64,
+    /// The sign of a big number.
+    pub big_negative: bool,
+    /// A head's number so far, or the bytes of content still to come.
+    pub count: u64,
+    /// Bytes that length leaves of a line, of a big number's digits or of a streamed string.
+    pub room: u64,
+    pub digit: u8,
+    pub format: [u8; 3],
+    pub part_start: usize,
+}
+
+impl Machine {
+    ghost use Rattle.resp_scan.specs.Bounded.{IsBounded};
+    ghost use Rattle.resp_scan.specs.declared.frame.Frame.{Frame};
+    ghost use Rattle.resp_scan.specs.Said.{place, said};
+    ghost use Rattle.resp_scan.specs.Scan.{More, Bad};
+    ghost use Rattle.resp_scan.specs.Tokens.{at, Dead, AtStart};
+    ghost use Rattle.resp_scan.specs.Room.{total_room, fits, over_total, is_full, reshaped, IsRoomy, begun, begin_cause};
+
+    /// The end of the piece, in this state.
+    #[inline]
+    pub fn rest(&mut self, state: State, piece: &[u8]) -> Got
+        requires bounded { IsBounded self.old }
+        ensures bounded { IsBounded self.new }
+        ensures said { said result self.new ≡ More (length piece.now) (place (record self.old { state = state })) }
+    {
+        self.state = state;
+        Got {
+            used: piece.len(),
+            what: What::More,
+        }
+    }
+
+    #[inline]
+    pub fn gives(&self, used: usize, what: What) -> Got
+        ensures { result ≡ record { used = used; what = what } }
+    {
+        Got { used, what }
+    }
+
+    #[cold]
+    #[inline(never)]
+    pub fn fail(&mut self, used: usize, cause: Cause) -> Got
+        requires bounded { IsBounded self.old }
+        ensures bounded { IsBounded self.new }
+        ensures said { said result self.new ≡ Bad used cause (at (place self.old) (Dead cause)) }
+    {
+        self.state = State::Failed;
+        self.cause = cause;
+        Got {
+            used,
+            what: What::Failed,
+        }
+    }
+
+    /// What total leaves of the value, beside the bytes taken before this piece and those by which the open
+    /// aggregates end.
+    #[inline]
+    pub fn total_room(&self) -> u64
+        ensures few { result ≤ 2 ^ 40 }
+        ensures room { result ≡ total_room (place self.now) }
+        ensures owed { 0 < result → self.now.owed + result ≤ 2 ^ 40 }
+    {
+        self.limits
+            .total()
+            .saturating_sub(self.taken)
+            .saturating_sub(self.owed)
+    }
+
+    /// Whether total leaves room for so many bytes of this piece and so many behind them.
+    #[inline]
+    pub fn fits(&self, used: usize, needed: u64) -> bool
+        requires index { used ≤ 2 ^ 63 }
+        requires needed { needed < 2 ^ 62 }
+        ensures few { result ≡ true → needed ≤ 2 ^ 40 }
+        ensures fits { result ≡ fits (place self.now) used needed }
+        ensures owed { result ≡ true → 0 < needed → self.now.owed + needed ≤ 2 ^ 40 }
+    {
+        used as u64 + needed <= self.total_room()
+    }
+
+    /// Total, unless it leaves room for so many bytes of this piece and so many behind them.
+    #[inline]
+    pub fn over_total(&self, used: usize, needed: u64) -> Option<Cause>
+        requires index { used ≤ 2 ^ 63 }
+        requires needed { needed < 2 ^ 62 }
+        ensures few { IfNone result (needed ≤ 2 ^ 40) }
+        ensures over { result ≡ over_total (place self.now) used needed }
+        ensures owed { IfNone result (0 < needed → self.now.owed + needed ≤ 2 ^ 40) }
+    {
+        if self.fits(used, needed) {
+            None
+        } else {
+            Some(Cause::Total)
+        }
+    }
+
+    /// What length and total leave of a text whose line's end is still to come.
+    #[inline]
+    pub fn text_room(&self) -> u64
+        ensures { result ≡ min self.now.room (total_room (place self.now) - 2) }
+    {
+        self.room.min(self.total_room().saturating_sub(2))
+    }
+
+    /// Whether the depth lets no further aggregate open.
+    #[inline]
+    pub fn is_full(&self) -> bool
+        ensures full { result ≡ is_full (place self.now) }
+        ensures room { result ≡ false → length self.now.frames.items < 128 }
+    {
+        self.frames.len() as u64 >= self.limits.depth()
+    }
+
+    /// A member begins by the byte at the front of this piece, and so many bytes are needed behind that byte: unless
+    /// items or total refuse it.
+    #[inline]
+    pub fn begin(&mut self, needed: u64) -> Option<Cause>
+        requires needed { needed < 2 ^ 10 }
+        requires bounded { IsBounded self.old }
+        ensures bounded { IsBounded self.new }
+        ensures cause { IsRoomy (place self.old) → result ≡ begin_cause (at (place self.old) AtStart) needed }
+        ensures begun { IsRoomy (place self.old) → IfNone result (at (place self.new) AtStart ≡ begun (at (place self.old) AtStart)) }
+        ensures refused { IfSome result (λ cause. self.new ≡ self.old) }
+    {
+        match self.frames.as_slice().last() {
+            None => self.over_total(1, needed),
+            Some(frame) => {
+                let frame = *frame;
+                self.begin_in(frame, needed)
+            }
+        }
+    }
+
+    /// The same, in this aggregate, the innermost.
+    #[inline]
+    fn begin_in(&mut self, frame: Frame, needed: u64) -> Option<Cause>
+        requires needed { needed < 2 ^ 10 }
+        requires bounded { IsBounded self.old }
+        ensures bounded { IsBounded self.new }
+        ensures cause { (fs : List Frame) → (place self.old).frames ≡ frame ∷ fs → IsRoomy (place self.old) → result ≡ begin_cause (at (place self.old) AtStart) needed }
+        ensures begun { (fs : List Frame) → (place self.old).frames ≡ frame ∷ fs → IsRoomy (place self.old) → IfNone result (at (place self.new) AtStart ≡ begun (at (place self.old) AtStart)) }
+        ensures refused { IfSome result (λ cause. self.new ≡ self.old) }
+    {
+        if has_all(frame, self.limits.items()) {
+            return Some(Cause::Items);
+        }
+        let room = self.limits.total().saturating_sub(self.taken);
+        let owed = owed_begun(frame, self.owed);
+        if needed >= room.saturating_sub(owed) {
+            return Some(Cause::Total);
+        }
+        self.owed = owed;
+        self.set_shape(shape_begun(frame.shape));
+        None
+    }
+
+    /// The innermost open aggregate gets this shape.
+    #[inline]
+    pub fn set_shape(&mut self, shape: Shape)
+        requires bounded { IsBounded self.old }
+        ensures bounded { IsBounded self.new }
+        ensures items { reverse self.new.frames.items ≡ reshaped shape (reverse self.old.frames.items) }
+        ensures rest { self.new ≡ record self.old { frames = self.new.frames } }
+    {
+        if !self.frames.is_empty() {
+            let last = self.frames.len() - 1;
+            let frames = self.frames.as_mut_slice();
+            if last < frames.len() {
+                frames[last].shape = shape;
+            }
+        }
+    }
+
+    /// A value has ended.
+    #[inline]
+    pub fn ended(&mut self, used: usize, what: What) -> Got
+        requires bounded { IsBounded self.old }
+        ensures bounded { IsBounded self.new }
+        ensures gives { result ≡ record { used = used; what = what } }
+        ensures state { self.new ≡ record self.old { state = State.Ended } }
+    {
+        self.state = State::Ended;
+        Got { used, what }
+    }
+}
+
+/// Whether a streamed aggregate has as many items as may be.
+#[inline]
+fn has_all(frame: Frame, items: u64) -> bool
+    ensures { result ≡ has_all frame.kind frame.shape items }
+{
+    match frame.shape {
+        Shape::Left(_) => false,
+        Shape::Begun(begun) => match frame.kind {
+            OpenKind::Map => begun % 2 == 0 && begun / 2 >= items,
+            _ => begun >= items,
+        },
+    }
+}
+
+/// What is owed once one more member has begun: less by a counted member, and a map's key calls for its value.
+#[inline]
+fn owed_begun(frame: Frame, owed: u64) -> u64
+    ensures { owed < 2 ^ 62 → result ≡ owed_begun frame.kind frame.shape owed }
+{
+    match frame.shape {
+        Shape::Left(_) => owed.saturating_sub(3),
+        Shape::Begun(begun) => match frame.kind {
+            OpenKind::Map => {
+                if begun % 2 == 0 {
+                    owed.saturating_add(3)
+                } else {
+                    owed.saturating_sub(3)
+                }
+            }
+            _ => owed,
+        },
+    }
+}
+
+#[inline]
+fn shape_begun(shape: Shape) -> Shape
+    ensures { begun_count shape < 2 ^ 62 → result ≡ shape_begun shape }
+{
+    match shape {
+        Shape::Left(left) => Shape::Left(left.saturating_sub(1)),
+        Shape::Begun(begun) => Shape::Begun(begun.saturating_add(1)),
+    }
+}

@@ -1,0 +1,153 @@
+//! A value's first byte.
+
+ghost use Rattle.std.specs.Prelude.{◌<◌, length};
+
+use crate::machine::{Got, Head, Machine, State, What};
+use resp_value::cause::Cause;
+use resp_value::version::Version;
+
+impl Machine {
+    ghost use Rattle.resp_scan.specs.Bounded.{IsBounded};
+
+    #[inline]
+    pub fn start(&mut self, piece: &[u8]) -> Got
+        requires bounded { IsBounded self.old }
+        ensures bounded { IsBounded self.new }
+    {
+        if piece.is_empty() {
+            return self.rest(State::Start, piece);
+        }
+        match piece[0] {
+            b'+' => self.line_begins(What::Simple),
+            b'-' => self.line_begins(What::Error),
+            b':' => match self.begin(3) {
+                Some(cause) => self.fail(0, cause),
+                None => self.int_sign(piece, 1),
+            },
+            b'$' => match self.begin(4) {
+                Some(cause) => self.fail(0, cause),
+                None => self.bulk_head(piece, 1),
+            },
+            b'*' => {
+                let needed = if self.is_full() { 4 } else { 3 };
+                match self.begin(needed) {
+                    Some(cause) => self.fail(0, cause),
+                    None => self.array_head(piece, 1),
+                }
+            }
+            b'.' => self.close(piece),
+            b',' => self.fail(0, Cause::Double),
+            byte => match first_of(byte) {
+                None => self.fail(0, Cause::Syntax),
+                Some(first) => match self.version {
+                    Version::Two => self.fail(0, Cause::Version),
+                    Version::Three => self.start_three(piece, first),
+                },
+            },
+        }
+    }
+
+    #[inline]
+    fn line_begins(&mut self, what: What) -> Got
+        requires bounded { IsBounded self.old }
+        ensures bounded { IsBounded self.new }
+    {
+        if let Some(cause) = self.begin(2) {
+            return self.fail(0, cause);
+        }
+        self.state = State::Line;
+        self.room = self.limits.length();
+        self.gives(1, what)
+    }
+
+    /// A form that version 3 alone has.
+    #[inline]
+    fn start_three(&mut self, piece: &[u8], first: First) -> Got
+        requires within { 0 < length piece.now }
+        requires bounded { IsBounded self.old }
+        ensures bounded { IsBounded self.new }
+    {
+        match first {
+            First::Null => match self.begin(2) {
+                Some(cause) => self.fail(0, cause),
+                None => self.null_cr(piece, 1),
+            },
+            First::Bool => match self.begin(3) {
+                Some(cause) => self.fail(0, cause),
+                None => self.bool(piece, 1),
+            },
+            First::Big => match self.begin(3) {
+                Some(cause) => self.fail(0, cause),
+                None => self.big_sign(piece, 1),
+            },
+            First::BulkError => self.head_begins(piece, Head::BulkError, 5),
+            First::Verbatim => self.head_begins(piece, Head::Verbatim, 9),
+            First::Set => self.aggregate_begins(piece, Head::Set, 3),
+            First::Map => self.aggregate_begins(piece, Head::Map, 3),
+            First::Attr => self.aggregate_begins(piece, Head::Attr, 6),
+            First::Push => {
+                if !self.frames.is_empty() {
+                    return self.fail(0, Cause::NestedPush);
+                }
+                self.aggregate_begins(piece, Head::Push, 3)
+            }
+        }
+    }
+
+    #[inline]
+    fn head_begins(&mut self, piece: &[u8], head: Head, needed: u64) -> Got
+        requires some { 0 < length piece.now }
+        requires few { needed < 10 }
+        requires bounded { IsBounded self.old }
+        ensures bounded { IsBounded self.new }
+    {
+        match self.begin(needed) {
+            Some(cause) => self.fail(0, cause),
+            None => self.head_first(piece, 1, head),
+        }
+    }
+
+    #[inline]
+    fn aggregate_begins(&mut self, piece: &[u8], head: Head, needed: u64) -> Got
+        requires some { 0 < length piece.now }
+        requires few { needed < 10 }
+        requires bounded { IsBounded self.old }
+        ensures bounded { IsBounded self.new }
+    {
+        if self.is_full() {
+            return self.fail(0, Cause::Depth);
+        }
+        self.head_begins(piece, head, needed)
+    }
+}
+
+/// The forms that version 3 alone has.
+#[derive(Clone, Copy)]
+enum First {
+    Null,
+    Bool,
+    Big,
+    BulkError,
+    Verbatim,
+    Set,
+    Map,
+    Attr,
+    Push,
+}
+
+/// The form of version 3 alone that begins by this byte.
+#[inline]
+fn first_of(byte: u8) -> Option<First> {
+    match byte {
+        b'_' => Some(First::Null),
+        b'#' => Some(First::Bool),
+        b'(' => Some(First::Big),
+        b'!' => Some(First::BulkError),
+        b'=' => Some(First::Verbatim),
+        b'~' => Some(First::Set),
+        b'%' => Some(First::Map),
+        b'|' => Some(First::Attr),
+        b'>' => Some(First::Push),
+        _ => None,
+    }
+}

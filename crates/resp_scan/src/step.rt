@@ -1,0 +1,162 @@
+//! One step: the token in which the piece begins, and the event that it comes to.
+
+use crate::event::{Event, Fault, Step, TextKind};
+use crate::frame::Shape;
+use crate::machine::{Got, Machine, State, What};
+use resp_value::cause::Cause;
+
+static DIGITS: [u8; 10] = *b"0123456789";
+
+impl Machine {
+    ghost use Rattle.resp_scan.specs.Bounded.{IsBounded};
+
+    /// Behind a value: its end or its parent's close is owed, or the next member may begin.
+    #[inline]
+    fn after_value(&mut self, piece: &[u8]) -> Got
+        requires bounded { IsBounded self.old }
+        ensures bounded { IsBounded self.new }
+    {
+        match self.frames.as_slice().last() {
+            None => {
+                self.state = State::Start;
+                self.taken = 0;
+                self.gives(0, What::Done)
+            }
+            Some(frame) => match frame.shape {
+                Shape::Left(0) => {
+                    let _ = self.frames.pop();
+                    self.ended(0, What::Close)
+                }
+                _ => self.start(piece),
+            },
+        }
+    }
+
+    /// The tokens in which a piece seldom begins.
+    #[inline(never)]
+    fn resume(&mut self, piece: &[u8]) -> Got
+        requires bounded { IsBounded self.old }
+        ensures bounded { IsBounded self.new }
+    {
+        match self.state {
+            State::Start => self.start(piece),
+            State::Ended => self.after_value(piece),
+            State::Line => self.line(piece),
+            State::LineLf => self.line_lf(piece, 0),
+            State::IntSign => self.int_sign(piece, 0),
+            State::IntFirst => self.int_first(piece, 0, self.negative),
+            State::Int => self.int_more(piece, 0, self.negative, self.magnitude),
+            State::IntLf => self.int_lf(piece, 0, self.negative, self.magnitude),
+            State::BigSign => self.big_sign(piece, 0),
+            State::BigFirst => self.big_first(piece, 0, self.big_negative),
+            State::BigZeros => self.big_zeros(piece, 0, self.big_negative),
+            State::BigZeroLf => self.big_zero_lf(piece, 0),
+            State::BigDigit => {
+                self.state = State::Big;
+                self.gives(0, What::Digit)
+            }
+            State::Big => self.big(piece),
+            State::TextEnd => self.ended(0, What::TextEnd),
+            State::NullOne => self.null_one(piece, 0),
+            State::NullCr => self.null_cr(piece, 0),
+            State::NullLf => self.null_lf(piece, 0),
+            State::Bool => self.bool(piece, 0),
+            State::BoolCr => self.bool_cr(piece, 0, self.truth),
+            State::BoolLf => self.bool_lf(piece, 0, self.truth),
+            State::BulkHead => self.bulk_head(piece, 0),
+            State::ArrayHead => self.array_head(piece, 0),
+            _ => self.resume_counted(piece),
+        }
+    }
+
+    /// The tokens of heads, counted content and closes.
+    #[inline]
+    fn resume_counted(&mut self, piece: &[u8]) -> Got
+        requires bounded { IsBounded self.old }
+        ensures bounded { IsBounded self.new }
+    {
+        match self.state {
+            State::HeadFirst => self.head_first(piece, 0, self.head),
+            State::HeadMore => self.head_more(piece, 0, self.head, self.count),
+            State::HeadLf => self.head_lf(piece, 0, self.head, self.count),
+            State::FormatFirst => self.format_first(piece, 0, self.count),
+            State::FormatSecond => self.format_second(piece, 0, self.format[0]),
+            State::FormatThird => self.format_third(piece, 0, self.format[0], self.format[1]),
+            State::FormatColon => self.format_colon(piece, 0, self.format),
+            State::Content => self.content(piece),
+            State::ContentCr => self.content_cr(piece),
+            State::ContentLf => self.content_lf(piece, 0),
+            State::StreamCr => self.stream_cr(piece, 0),
+            State::StreamLf => self.stream_lf(piece, 0),
+            State::Chunk => self.chunk(piece, 0),
+            State::ChunkContent => self.chunk_content(piece, 0),
+            State::ChunkCr => self.chunk_cr(piece),
+            State::ChunkLf => self.chunk_lf(piece, 0),
+            State::OpenCr => self.open_cr(piece, 0, self.kind),
+            State::OpenLf => self.open_lf(piece, 0, self.kind),
+            State::CloseCr => self.close_cr(piece, 0),
+            State::CloseLf => self.close_lf(piece, 0),
+            _ => self.fail(0, self.cause),
+        }
+    }
+
+    #[inline(always)]
+    fn advance(&mut self, piece: &[u8]) -> Got
+        requires bounded { IsBounded self.old }
+        ensures bounded { IsBounded self.new }
+    {
+        match self.state {
+            State::Start => self.start(piece),
+            State::Ended => self.after_value(piece),
+            State::Line => self.line(piece),
+            State::Content => self.content(piece),
+            State::ContentCr => self.content_cr(piece),
+            _ => self.resume(piece),
+        }
+    }
+
+    #[inline(always)]
+    pub fn step<'a>(&mut self, piece: &'a [u8]) -> Result<Step<'a>, Fault>
+        requires bounded { IsBounded self.old }
+        ensures bounded { IsBounded self.new }
+    {
+        let got = self.advance(piece);
+        let used = got.used.min(piece.len());
+        self.taken = self.taken.saturating_add(used as u64);
+        let event = match got.what {
+            What::More => None,
+            What::Failed => {
+                return Err(Fault {
+                    cause: self.cause,
+                    at: self.taken,
+                });
+            }
+            What::Null => Some(Event::Null),
+            What::Bool => Some(Event::Bool(self.truth)),
+            What::Int => Some(Event::Int(self.value)),
+            What::Simple => Some(Event::Text(TextKind::Simple)),
+            What::Error => Some(Event::Text(TextKind::Error)),
+            What::Bulk => Some(Event::Text(TextKind::Bulk)),
+            What::BulkError => Some(Event::Text(TextKind::BulkError)),
+            What::Verbatim => Some(Event::Text(TextKind::Verbatim(self.format))),
+            What::Big => Some(Event::Text(TextKind::Big {
+                negative: self.big_negative,
+            })),
+            What::Part => Some(Event::Part(&piece[..used])),
+            What::ChunkPart => Some(Event::Part(&piece[self.part_start.min(used)..used])),
+            What::Digit => Some(Event::Part(digit_text(self.digit))),
+            What::TextEnd => Some(Event::TextEnd),
+            What::Open => Some(Event::Open(self.kind, Some(self.count))),
+            What::OpenStreamed => Some(Event::Open(self.kind, None)),
+            What::Close => Some(Event::Close),
+            What::Done => Some(Event::Done),
+        };
+        Ok(Step { used, event })
+    }
+}
+
+/// A constant of one byte, this digit.
+fn digit_text(byte: u8) -> &'static [u8] {
+    let at = (byte.saturating_sub(b'0') as usize).min(9);
+    &DIGITS[at..at + 1]
+}
