@@ -77,7 +77,7 @@ impl Scanner {
     /// Refuses the first byte after which nothing can follow, by the first cause that holds in this order: Syntax,
     /// Double, Version, NestedPush, Range, Streamed, Depth, Length, Items, Total. Every later step answers the same.
     #[inline(always)]
-    pub fn step<'a>(&mut self, piece: &'a [u8]) -> Result<Step<'a>, Fault> {
+    pub(crate) fn step<'a>(&mut self, piece: &'a [u8]) -> Result<Step<'a>, Fault> {
         self.machine.step(piece)
     }
 
@@ -142,7 +142,7 @@ impl Scanner {
     }
 
     /// The least number of bytes that complete the value: 3 between values, and 0 where only its Done is owed.
-    pub fn needed(&self) -> u64 {
+    pub(crate) fn needed(&self) -> u64 {
         self.machine
             .owed
             .saturating_add(self.machine.token_needed())
