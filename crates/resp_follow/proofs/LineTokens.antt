@@ -60,13 +60,17 @@ returned_begun r l level bytes w =
       least = subst (λ z. HasLeast (CompletesUnder r WithinItems level z) 1) (sym w.returned) (next_row (LeafKeeps r WithinItems) (NodeKeeps r WithinItems) level w.begun 13 1 (10 ∷ []) b.least (record { tree = leaf l; is_tree = w.line_of.is_leaf; keep = w.line_of.keeps; whole = line_text r l level w.begun w.line_of }) refl);
     }
 
+-- with the LF it is the text of the leaf
+pub returned_whole : (r : Rules) (l : Leaf) (level : ℕ) (bytes : List ℕ) → IsReturned r l level bytes → leaf_text l ≡ bytes ++ 10 ∷ []
+returned_whole r l level bytes w = line_text r l level w.begun w.line_of ∙ sym (append_assoc w.begun (13 ∷ []) (10 ∷ [])) ∙ ap (λ z. z ++ 10 ∷ []) (sym w.returned)
+
 -- the LF ends the value
 pub returned_ends : (r : Rules) (l : Leaf) (level : ℕ) (bytes : List ℕ) → IsReturned r l level bytes → CompletesUnder r WithinItems level bytes (10 ∷ [])
 returned_ends r l level bytes w = record {
   tree = leaf l;
   is_tree = w.line_of.is_leaf;
   keep = w.line_of.keeps;
-  whole = line_text r l level w.begun w.line_of ∙ sym (append_assoc w.begun (13 ∷ []) (10 ∷ [])) ∙ ap (λ z. z ++ 10 ∷ []) (sym w.returned);
+  whole = returned_whole r l level bytes w;
 }
 
 -- and no other byte goes on
@@ -93,11 +97,11 @@ pub text_token_line : (r : Rules) (k : LineKind) (n level : ℕ) (bytes : List �
 text_token_line r k n level bytes w = record { is_leaf = (w.is_line, w.is_text); keeps = text_line_keeps r WithinItems level k w.content w.is_text_line (omega (arith, w.size, w.fits)); is_line = w.are; no_rest = refl }
 
 -- its type byte
-pub text_token_begins : (r : Rules) (k : LineKind) (level : ℕ) → IsTextLine k → IsTextToken r k 0 level (line_byte k ∷ [])
+unfoldable pub text_token_begins : (r : Rules) (k : LineKind) (level : ℕ) → IsTextLine k → IsTextToken r k 0 level (line_byte k ∷ [])
 text_token_begins r k level p = record { content = []; is_text_line = p; is_line = tt; is_text = tt; size = refl; fits = omega arith; are = refl }
 
 -- text more, within the limit of length
-pub text_token_more : (r : Rules) (k : LineKind) (n level : ℕ) (bytes part : List ℕ) → IsTextToken r k n level bytes → IsLine part → IsText part → n + length part ≤ r.limits.length → IsTextToken r k (n + length part) level (bytes ++ part)
+unfoldable pub text_token_more : (r : Rules) (k : LineKind) (n level : ℕ) (bytes part : List ℕ) → IsTextToken r k n level bytes → IsLine part → IsText part → n + length part ≤ r.limits.length → IsTextToken r k (n + length part) level (bytes ++ part)
 text_token_more r k n level bytes part w plain are_bytes fits = record {
   content = w.content ++ part;
   is_text_line = w.is_text_line;

@@ -1,2 +1,6 @@
 pub mod Runs
 pub mod ArrayHeads
+pub mod Moves
+pub mod RefusedMoves
+pub mod LeafEvents
+pub mod LinesLead

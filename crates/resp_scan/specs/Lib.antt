@@ -7,3 +7,7 @@ pub mod Machine
 pub mod Scan
 pub mod Said
 pub mod Runs
+pub mod Kinds
+pub mod Begun
+pub mod Follows
+pub mod Laws

@@ -14,6 +14,7 @@ pub mod event;
 mod frame;
 mod heads;
 mod integers;
+mod laws;
 mod lines;
 mod literals;
 mod machine;

@@ -1,0 +1,6 @@
+use Rattle.resp_scan.proofs.LinesLead.{lines_lead}
+use Rattle.resp_scan.proofs.laws.lines_lead.Goals as goal
+
+-- src/laws.rt
+pub returns : goal.returns
+returns c = lines_lead

@@ -1,0 +1,210 @@
+-- What a scanner has taken and given since a value began: the heads of the open aggregates, each with its whole
+-- members, and then the bytes begun since, within every rule but total.
+use Rattle.std.specs.Prelude.{◌≡◌, ℕ, ◌+◌, ◌-◌, ◌*◌, ◌%◌, ◌<◌, ◌≤◌, Bool, cond, eqb, List, [], ◌∷◌, ◌++◌, length}
+use Rattle.resp_value.specs.Bounds.{AreBounds}
+use Rattle.resp_value.specs.Trees.{Tree, IsTree, close, text, count}
+use Rattle.resp_value.specs.Rules.{Rules, WithinItems}
+use Rattle.resp_value.specs.LocalRules.{LeafKeeps, NodeKeeps, HoldsFrom}
+use Rattle.resp_follow.specs.Frames as opened
+use Rattle.resp_follow.specs.Frames.{around}
+use Rattle.resp_follow.specs.MayFollow.{CanAllEnd, missing}
+use Rattle.resp_follow.specs.Events.{Event, events, events_around, given}
+use Rattle.resp_follow.specs.Events as e
+use Rattle.resp_follow.proofs.Levels as level
+use Rattle.resp_follow.proofs.Levels.{Level, AreLevelsOf, AreReady, left, taken}
+use Rattle.resp_scan.specs.declared.event.OpenKind.TheVariants as kind
+use Rattle.resp_scan.specs.declared.event.OpenKind.{OpenKind}
+use Rattle.resp_scan.specs.declared.frame.Frame.{Frame}
+use Rattle.resp_scan.specs.declared.frame.Shape.{Shape}
+use Rattle.resp_scan.specs.declared.frame.Shape.TheVariants.{Left, Begun}
+use Rattle.resp_scan.specs.Tokens.{Token, Place, Move, Go, Byte, Give, Refuse, AtStart, AtEnd, InLine, AtLineLf, AtIntSign, AtIntFirst, InInt, AtIntLf, AtBigSign, AtBigFirst, InBigZeros, AtBigZeroLf, AtBigDigit, InBig, AtTextEnd, AtNullOne, AtNullCr, AtNullLf, AtBool, AtBoolCr, AtBoolLf, AtBulkHead, AtArrayHead, AtHead, InHead, AtHeadLf, AtFormat, AtFormatSecond, AtFormatThird, AtFormatColon, InContent, AtContentCr, AtContentLf, AtStreamCr, AtStreamLf, AtChunk, InChunk, AtChunkCr, AtChunkLf, AtOpenCr, AtOpenLf, AtCloseCr, AtCloseLf, Dead}
+use Rattle.resp_scan.specs.Heads.{first_needed, head_needed}
+use Rattle.resp_scan.specs.Room.{is_full}
+use Rattle.resp_scan.specs.Kinds.{kind_of, event_of, rules_of, IsRefusedFor}
+use Rattle.resp_scan.specs.Begun as b
+
+-- Open aggregates.
+
+-- an aggregate in which no member is open
+abbrev pub waiting : Shape → level.Shape
+waiting (Left n) = left n
+waiting (Begun n) = taken n
+
+-- and one whose open member is counted already
+abbrev pub busy : Shape → level.Shape
+busy (Left n) = left (n + 1)
+busy (Begun n) = taken (n - 1)
+
+-- a member is open in each
+abbrev pub busy_levels : List Frame → List Level
+busy_levels [] = []
+busy_levels (f ∷ fs) = record { kind = kind_of f.kind; shape = busy f.shape } ∷ busy_levels fs
+
+-- and in each but the innermost
+abbrev pub waiting_levels : List Frame → List Level
+waiting_levels [] = []
+waiting_levels (f ∷ fs) = record { kind = kind_of f.kind; shape = waiting f.shape } ∷ busy_levels fs
+
+-- the members and the close that an aggregate still needs
+abbrev pub begun_needed : OpenKind → ℕ → ℕ
+begun_needed kind.Map n = 3 * (n % 2) + 3
+begun_needed kind.Array n = 3
+begun_needed kind.Set n = 3
+begun_needed kind.Attr n = 3
+begun_needed kind.Push n = 3
+
+abbrev pub shape_needed : OpenKind → Shape → ℕ
+shape_needed k (Left n) = 3 * n
+shape_needed k (Begun n) = begun_needed k n
+
+abbrev pub frames_needed : List Frame → ℕ
+frames_needed [] = 0
+frames_needed (f ∷ fs) = shape_needed f.kind f.shape + frames_needed fs
+
+-- at least one member has begun in a streamed aggregate whose member is open
+abbrev pub HasBegun : Shape → Type 0
+HasBegun (Left n) = Unit {0}
+HasBegun (Begun n) = 0 < n
+
+abbrev pub HaveBegun : List Frame → Type 0
+HaveBegun [] = Unit {0}
+HaveBegun (f ∷ fs) = HasBegun f.shape × HaveBegun fs
+
+-- and the same, but for the innermost
+abbrev pub OuterBegun : List Frame → Type 0
+OuterBegun [] = Unit {0}
+OuterBegun (f ∷ fs) = HaveBegun fs
+
+-- Places.
+
+-- within a value, of which T tells the bytes begun and the events given
+pub record Inside (r : Rules) (T : ℕ → List ℕ → List Event → Type 0) (fs : List Frame) (front : List ℕ) (es : List Event) : Type 0 where
+  pub frames : List opened.Frame
+  pub bytes : List ℕ
+  pub shown : List Event
+  pub begun : HaveBegun fs
+  pub of_levels : AreLevelsOf (busy_levels fs) frames
+  pub can_end : CanAllEnd (LeafKeeps r WithinItems) (NodeKeeps r WithinItems) frames
+  pub took : T (length frames) bytes shown
+  pub whole : front ≡ around frames bytes
+  pub told : es ≡ given (events_around frames) ++ shown
+
+-- where a member may begin
+pub record Between (r : Rules) (fs : List Frame) (front : List ℕ) (es : List Event) : Type 0 where
+  pub frames : List opened.Frame
+  pub begun : OuterBegun fs
+  pub of_levels : AreLevelsOf (waiting_levels fs) frames
+  pub ready : AreReady (LeafKeeps r WithinItems) (NodeKeeps r WithinItems) frames
+  pub whole : front ≡ around frames []
+  pub told : es ≡ given (events_around frames)
+
+-- a whole value at the top, whose end is owed
+pub record Whole (r : Rules) (front : List ℕ) (es : List Event) : Type 0 where
+  pub tree : Tree
+  pub is_tree : IsTree tree
+  pub keep : HoldsFrom (LeafKeeps r WithinItems) (NodeKeeps r WithinItems) 0 tree
+  pub whole : front ≡ text tree
+  pub told : es ≡ given (events 0 tree)
+
+-- an aggregate with all of its members, of whose close these bytes have come and those are still to come: of a counted
+-- one there are none
+pub record Closing (r : Rules) (k : OpenKind) (fs : List Frame) (last rest front : List ℕ) (es : List Event) : Type 0 where
+  pub frame : opened.Frame
+  pub outer : List opened.Frame
+  pub begun : HaveBegun fs
+  pub of_kind : kind_of k ≡ frame.kind
+  pub has_all : missing frame.kind frame.form (count frame.done) ≡ 0
+  pub closes : close frame.form ≡ last ++ rest
+  pub of_levels : AreLevelsOf (busy_levels fs) outer
+  pub ready : AreReady (LeafKeeps r WithinItems) (NodeKeeps r WithinItems) (frame ∷ outer)
+  pub whole : front ≡ around (frame ∷ outer) last
+  pub told : es ≡ given (events_around (frame ∷ outer))
+
+-- the innermost aggregate closes
+abbrev pub ClosingIn : Rules → List Frame → List ℕ → List ℕ → List ℕ → List Event → Type 0
+ClosingIn r [] last rest front es = ⊥
+ClosingIn r (f ∷ fs) last rest front es = Closing r f.kind fs last rest front es
+
+-- a value has ended
+abbrev pub Ended : Rules → List Frame → List ℕ → List Event → Type 0
+Ended r [] front es = Whole r front es
+Ended r (f ∷ fs) front es = Closing r f.kind fs [] [] front es
+
+-- what the bytes taken and the events given are, at a token
+abbrev pub LiesAt : Rules → Token → List Frame → List ℕ → List Event → Type 0
+LiesAt r AtStart fs front es = Between r fs front es
+LiesAt r AtEnd fs front es = Ended r fs front es
+LiesAt r AtCloseCr fs front es = ClosingIn r fs (46 ∷ []) (13 ∷ 10 ∷ []) front es
+LiesAt r AtCloseLf fs front es = ClosingIn r fs (46 ∷ 13 ∷ []) (10 ∷ []) front es
+LiesAt r token fs front es = Inside r (b.Begun r token) fs front es
+
+abbrev pub Lies : Place → List ℕ → List Event → Type 0
+Lies s front es = LiesAt (rules_of s) s.token s.frames front es
+
+-- Least completions.
+
+-- the fewest bytes that complete the token, and the value that it is in
+abbrev pub token_needed : Token → Bool → List Frame → ℕ
+token_needed AtStart full [] = 3
+token_needed AtStart full (f ∷ fs) = 0
+token_needed AtEnd full fs = 0
+token_needed (InLine room) full fs = 2
+token_needed AtLineLf full fs = 1
+token_needed AtIntSign full fs = 3
+token_needed (AtIntFirst negative) full fs = 3
+token_needed (InInt negative n) full fs = 2
+token_needed (AtIntLf negative n) full fs = 1
+token_needed AtBigSign full fs = 3
+token_needed (AtBigFirst negative) full fs = 3
+token_needed (InBigZeros negative) full fs = 2
+token_needed AtBigZeroLf full fs = 1
+token_needed (AtBigDigit digit room) full fs = 2
+token_needed (InBig room) full fs = 2
+token_needed AtTextEnd full fs = 0
+token_needed AtNullOne full fs = 3
+token_needed AtNullCr full fs = 2
+token_needed AtNullLf full fs = 1
+token_needed AtBool full fs = 3
+token_needed (AtBoolCr b) full fs = 2
+token_needed (AtBoolLf b) full fs = 1
+token_needed AtBulkHead full fs = 4
+token_needed AtArrayHead full fs = cond full 4 3
+token_needed (AtHead h) full fs = first_needed h
+token_needed (InHead h n) full fs = head_needed h n
+token_needed (AtHeadLf h n) full fs = head_needed h n - 1
+token_needed (AtFormat n) full fs = n + 2
+token_needed (AtFormatSecond x n) full fs = n + 1
+token_needed (AtFormatThird x y n) full fs = n
+token_needed (AtFormatColon format n) full fs = n - 1
+token_needed (InContent n) full fs = n + 2
+token_needed AtContentCr full fs = 2
+token_needed AtContentLf full fs = 1
+token_needed AtStreamCr full fs = 6
+token_needed AtStreamLf full fs = 5
+token_needed (AtChunk room) full fs = 4
+token_needed (InChunk room n) full fs = n + 6
+token_needed (AtChunkCr room) full fs = 6
+token_needed (AtChunkLf room) full fs = 5
+token_needed (AtOpenCr k) full fs = 5
+token_needed (AtOpenLf k) full fs = 4
+token_needed AtCloseCr full fs = 2
+token_needed AtCloseLf full fs = 1
+token_needed (Dead c) full fs = 0
+
+-- the fewest bytes that complete a place's value
+abbrev pub needed : Place → ℕ
+needed s = token_needed s.token (is_full s) s.frames + s.owed
+
+-- the numbers that a place keeps, where so many bytes of the value at the top have been taken
+pub record Counts (s : Place) (used : ℕ) (front : List ℕ) : Type 0 where
+  pub bounds : AreBounds s.bounds
+  pub owed : s.owed ≡ frames_needed s.frames
+  pub taken : length front ≡ s.taken + used
+  pub fits : s.taken + used + needed s ≤ s.bounds.total
+
+-- what one byte more makes of it
+abbrev pub Leads : Place → List ℕ → List Event → ℕ → Move → Type 0
+Leads s front es byte (Go t) = Lies t (front ++ byte ∷ []) es
+Leads s front es byte (Byte t) = Lies t (front ++ byte ∷ []) (es ++ e.Byte byte ∷ [])
+Leads s front es byte (Give happening t) = Lies t (front ++ byte ∷ []) (es ++ event_of happening ∷ [])
+Leads s front es byte (Refuse c) = IsRefusedFor (rules_of s) (front ++ byte ∷ []) c

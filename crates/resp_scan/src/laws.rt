@@ -1,0 +1,13 @@
+//! Laws of the machine by bytes, each the contract of a function with an empty body.
+
+ghost use Rattle.resp_scan.specs.Laws.{LinesLead, LineEndsLead};
+
+/// A byte of a line.
+pub(crate) fn lines_lead()
+    ensures { LinesLead }
+{}
+
+/// The LF of a line.
+pub(crate) fn line_ends_lead()
+    ensures { LineEndsLead }
+{}
