@@ -4,3 +4,5 @@ pub mod Moves
 pub mod RefusedMoves
 pub mod LeafEvents
 pub mod LinesLead
+pub mod Tests
+pub mod NumbersLead

@@ -1,7 +1,7 @@
 -- What a byte makes of what has come, token by token.
-use Rattle.std.specs.Prelude.{◌≡◌, ℕ, ◌+◌, ◌<◌, List}
+use Rattle.std.specs.Prelude.{◌≡◌, ℕ, ◌+◌, ◌<◌, Bool, List}
 use Rattle.resp_follow.specs.Events.{Event}
-use Rattle.resp_scan.specs.Tokens.{Token, Place, InLine, AtLineLf, at}
+use Rattle.resp_scan.specs.Tokens.{Token, Place, InLine, AtLineLf, AtIntSign, AtIntFirst, InInt, AtIntLf, at}
 use Rattle.resp_scan.specs.Machine.{next}
 use Rattle.resp_scan.specs.Follows.{Lies, Leads, Counts}
 
@@ -14,3 +14,15 @@ LinesLead = (s : Place) (room : ℕ) → ALead (at s (InLine room))
 
 abbrev pub LineEndsLead : Type 0
 LineEndsLead = (s : Place) → ALead (at s AtLineLf)
+
+abbrev pub IntSignLeads : Type 0
+IntSignLeads = (s : Place) → ALead (at s AtIntSign)
+
+abbrev pub IntFirstLeads : Type 0
+IntFirstLeads = (s : Place) (negative : Bool) → ALead (at s (AtIntFirst negative))
+
+abbrev pub IntLeads : Type 0
+IntLeads = (s : Place) (negative : Bool) (n : ℕ) → ALead (at s (InInt negative n))
+
+abbrev pub IntEndLeads : Type 0
+IntEndLeads = (s : Place) (negative : Bool) (n : ℕ) → ALead (at s (AtIntLf negative n))
