@@ -6,3 +6,4 @@ pub mod LeafEvents
 pub mod LinesLead
 pub mod Tests
 pub mod NumbersLead
+pub mod BigNumbersLead

@@ -65,14 +65,14 @@ pub sign_more : (r : Rules) (k : NumberKind) (level : ℕ) (bytes : List ℕ) (s
 sign_more r k level bytes sign byte fits is w = (fits, ap (λ z. z ++ byte ∷ []) w.1 ∙ ap (λ z. number_byte k ∷ z) (sym (append-nil (sign_text sign) ∙ is)))
 
 -- a number's beginning, with a sign or without
-record AnySign (r : Rules) (k : NumberKind) (negative : Bool) (byte level : ℕ) (bytes : List ℕ) (shown : List Event) : Type 0 where
+pub record AnySign (r : Rules) (k : NumberKind) (negative : Bool) (byte level : ℕ) (bytes : List ℕ) (shown : List Event) : Type 0 where
   pub sign : Sign
   pub is_signed : is_minus sign ≡ negative
   pub token : IsNumberBegun r k sign level bytes
   pub told : shown ≡ []
   pub no_sign : sign ≡ Unsigned → (byte ≡ 43 → ⊥) × (byte ≡ 45 → ⊥)
 
-signed_any : (r : Rules) (k : NumberKind) (negative : Bool) (byte level : ℕ) (bytes : List ℕ) (shown : List Event) → SignBegun r k negative level bytes shown → AnySign r k negative byte level bytes shown
+pub signed_any : (r : Rules) (k : NumberKind) (negative : Bool) (byte level : ℕ) (bytes : List ℕ) (shown : List Event) → SignBegun r k negative level bytes shown → AnySign r k negative byte level bytes shown
 signed_any r k negative byte level bytes shown w = record { sign = w.sign; is_signed = minus w.sign negative w.is_signed; token = w.token; told = w.told; no_sign = λ e. absurd (no_unsigned w.sign negative w.is_signed e) }
   where
     minus : (sign : Sign) (negative : Bool) → IsSigned negative sign → is_minus sign ≡ negative
@@ -84,7 +84,7 @@ signed_any r k negative byte level bytes shown w = record { sign = w.sign; is_si
     no_unsigned Plus negative p e = cc
     no_unsigned Minus negative p e = cc
 
-unsigned_any : (r : Rules) (k : NumberKind) (byte level : ℕ) (bytes : List ℕ) (shown : List Event) → (byte ≡ 43 → ⊥) → (byte ≡ 45 → ⊥) → IsNumberBegun r k Unsigned level bytes × (shown ≡ []) → AnySign r k false byte level bytes shown
+pub unsigned_any : (r : Rules) (k : NumberKind) (byte level : ℕ) (bytes : List ℕ) (shown : List Event) → (byte ≡ 43 → ⊥) → (byte ≡ 45 → ⊥) → IsNumberBegun r k Unsigned level bytes × (shown ≡ []) → AnySign r k false byte level bytes shown
 unsigned_any r k byte level bytes shown no_plus no_minus w = record { sign = Unsigned; is_signed = refl; token = w.0; told = w.1; no_sign = λ e. (no_plus, no_minus) }
 
 greatest_is : (sign : Sign) → greatest sign ≡ most (is_minus sign)

@@ -84,6 +84,7 @@ pub record BigBegun (r : Rules) (negative : Bool) (kept : List ℕ) (level : ℕ
   pub is_signed : is_minus sign ≡ negative
   pub token : IsNumberToken r t.Big sign (first ∷ digits) level bytes
   pub left : stripped (first ∷ digits) ≡ kept
+  pub zero : number (first ∷ digits) ≡ 0 → kept ≡ []
 
 -- its first digit that isn't zero is owed as a part
 pub record BigDigitOwed (r : Rules) (digit room : ℕ) (level : ℕ) (bytes : List ℕ) (shown : List Event) : Type 0 where

@@ -1,7 +1,7 @@
 -- What a byte makes of what has come, token by token.
-use Rattle.std.specs.Prelude.{◌≡◌, ℕ, ◌+◌, ◌<◌, Bool, List}
-use Rattle.resp_follow.specs.Events.{Event}
-use Rattle.resp_scan.specs.Tokens.{Token, Place, InLine, AtLineLf, AtIntSign, AtIntFirst, InInt, AtIntLf, at}
+use Rattle.std.specs.Prelude.{◌≡◌, ℕ, ◌+◌, ◌<◌, Bool, List, [], ◌∷◌, ◌++◌}
+use Rattle.resp_follow.specs.Events.{Event, Byte, TextEnd}
+use Rattle.resp_scan.specs.Tokens.{Token, Place, InLine, AtLineLf, AtIntSign, AtIntFirst, InInt, AtIntLf, AtBigSign, AtBigFirst, InBigZeros, AtBigZeroLf, AtBigDigit, InBig, AtTextEnd, at, ended}
 use Rattle.resp_scan.specs.Machine.{next}
 use Rattle.resp_scan.specs.Follows.{Lies, Leads, Counts}
 
@@ -26,3 +26,26 @@ IntLeads = (s : Place) (negative : Bool) (n : ℕ) → ALead (at s (InInt negati
 
 abbrev pub IntEndLeads : Type 0
 IntEndLeads = (s : Place) (negative : Bool) (n : ℕ) → ALead (at s (AtIntLf negative n))
+
+abbrev pub BigSignLeads : Type 0
+BigSignLeads = (s : Place) → ALead (at s AtBigSign)
+
+abbrev pub BigFirstLeads : Type 0
+BigFirstLeads = (s : Place) (negative : Bool) → ALead (at s (AtBigFirst negative))
+
+abbrev pub BigZerosLead : Type 0
+BigZerosLead = (s : Place) (negative : Bool) → ALead (at s (InBigZeros negative))
+
+abbrev pub BigZeroEndLeads : Type 0
+BigZeroEndLeads = (s : Place) → ALead (at s AtBigZeroLf)
+
+-- the digit that is owed
+abbrev pub BigDigitIsOwed : Type 0
+BigDigitIsOwed = (s : Place) (digit room : ℕ) (front : List ℕ) (es : List Event) → Lies (at s (AtBigDigit digit room)) front es → Lies (at s (InBig room)) front (es ++ Byte digit ∷ [])
+
+abbrev pub BigLeads : Type 0
+BigLeads = (s : Place) (room : ℕ) → ALead (at s (InBig room))
+
+-- the end of a text that is owed
+abbrev pub TextEndIsOwed : Type 0
+TextEndIsOwed = (s : Place) (front : List ℕ) (es : List Event) → Lies (at s AtTextEnd) front es → Lies (ended s) front (es ++ TextEnd ∷ [])

@@ -1,6 +1,6 @@
 //! Laws of the machine by bytes, each the contract of a function with an empty body.
 
-ghost use Rattle.resp_scan.specs.Laws.{LinesLead, LineEndsLead, IntSignLeads, IntFirstLeads, IntLeads, IntEndLeads};
+ghost use Rattle.resp_scan.specs.Laws.{LinesLead, LineEndsLead, IntSignLeads, IntFirstLeads, IntLeads, IntEndLeads, BigSignLeads, BigFirstLeads, BigZerosLead, BigZeroEndLeads, BigDigitIsOwed, BigLeads, TextEndIsOwed};
 
 /// A byte of a line.
 pub(crate) fn lines_lead()
@@ -30,4 +30,39 @@ pub(crate) fn int_leads()
 /// The LF of an integer.
 pub(crate) fn int_end_leads()
     ensures { IntEndLeads }
+{}
+
+/// A byte behind the type byte of a big number.
+pub(crate) fn big_sign_leads()
+    ensures { BigSignLeads }
+{}
+
+/// A byte behind a big number's sign.
+pub(crate) fn big_first_leads()
+    ensures { BigFirstLeads }
+{}
+
+/// A byte behind a big number's leading zeros.
+pub(crate) fn big_zeros_lead()
+    ensures { BigZerosLead }
+{}
+
+/// The LF of a big zero.
+pub(crate) fn big_zero_end_leads()
+    ensures { BigZeroEndLeads }
+{}
+
+/// The first digit of a big number, as a part.
+pub(crate) fn big_digit_is_owed()
+    ensures { BigDigitIsOwed }
+{}
+
+/// A byte behind a big number's digits.
+pub(crate) fn big_leads()
+    ensures { BigLeads }
+{}
+
+/// The end of a text that came whole at its last byte.
+pub(crate) fn text_end_is_owed()
+    ensures { TextEndIsOwed }
 {}
