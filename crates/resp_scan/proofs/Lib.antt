@@ -7,3 +7,4 @@ pub mod LinesLead
 pub mod Tests
 pub mod NumbersLead
 pub mod BigNumbersLead
+pub mod LiteralsLead

@@ -1,7 +1,7 @@
 -- What a byte makes of what has come, token by token.
 use Rattle.std.specs.Prelude.{◌≡◌, ℕ, ◌+◌, ◌<◌, Bool, List, [], ◌∷◌, ◌++◌}
 use Rattle.resp_follow.specs.Events.{Event, Byte, TextEnd}
-use Rattle.resp_scan.specs.Tokens.{Token, Place, InLine, AtLineLf, AtIntSign, AtIntFirst, InInt, AtIntLf, AtBigSign, AtBigFirst, InBigZeros, AtBigZeroLf, AtBigDigit, InBig, AtTextEnd, at, ended}
+use Rattle.resp_scan.specs.Tokens.{Token, Place, InLine, AtLineLf, AtIntSign, AtIntFirst, InInt, AtIntLf, AtBigSign, AtBigFirst, InBigZeros, AtBigZeroLf, AtBigDigit, InBig, AtTextEnd, at, ended, AtBool, AtBoolCr, AtBoolLf, AtNullCr, AtNullLf, AtNullOne}
 use Rattle.resp_scan.specs.Machine.{next}
 use Rattle.resp_scan.specs.Follows.{Lies, Leads, Counts}
 
@@ -49,3 +49,21 @@ BigLeads = (s : Place) (room : ℕ) → ALead (at s (InBig room))
 -- the end of a text that is owed
 abbrev pub TextEndIsOwed : Type 0
 TextEndIsOwed = (s : Place) (front : List ℕ) (es : List Event) → Lies (at s AtTextEnd) front es → Lies (ended s) front (es ++ TextEnd ∷ [])
+
+abbrev pub NullOneLeads : Type 0
+NullOneLeads = (s : Place) → ALead (at s AtNullOne)
+
+abbrev pub NullCrLeads : Type 0
+NullCrLeads = (s : Place) → ALead (at s AtNullCr)
+
+abbrev pub NullEndLeads : Type 0
+NullEndLeads = (s : Place) → ALead (at s AtNullLf)
+
+abbrev pub BoolLeads : Type 0
+BoolLeads = (s : Place) → ALead (at s AtBool)
+
+abbrev pub BoolCrLeads : Type 0
+BoolCrLeads = (s : Place) (truth : Bool) → ALead (at s (AtBoolCr truth))
+
+abbrev pub BoolEndLeads : Type 0
+BoolEndLeads = (s : Place) (truth : Bool) → ALead (at s (AtBoolLf truth))

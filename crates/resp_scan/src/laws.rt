@@ -1,6 +1,6 @@
 //! Laws of the machine by bytes, each the contract of a function with an empty body.
 
-ghost use Rattle.resp_scan.specs.Laws.{LinesLead, LineEndsLead, IntSignLeads, IntFirstLeads, IntLeads, IntEndLeads, BigSignLeads, BigFirstLeads, BigZerosLead, BigZeroEndLeads, BigDigitIsOwed, BigLeads, TextEndIsOwed};
+ghost use Rattle.resp_scan.specs.Laws.{LinesLead, LineEndsLead, IntSignLeads, IntFirstLeads, IntLeads, IntEndLeads, BigSignLeads, BigFirstLeads, BigZerosLead, BigZeroEndLeads, BigDigitIsOwed, BigLeads, TextEndIsOwed, NullOneLeads, NullCrLeads, NullEndLeads, BoolLeads, BoolCrLeads, BoolEndLeads};
 
 /// A byte of a line.
 pub(crate) fn lines_lead()
@@ -65,4 +65,34 @@ pub(crate) fn big_leads()
 /// The end of a text that came whole at its last byte.
 pub(crate) fn text_end_is_owed()
     ensures { TextEndIsOwed }
+{}
+
+/// The `1` of a null.
+pub(crate) fn null_one_leads()
+    ensures { NullOneLeads }
+{}
+
+/// The CR of a null.
+pub(crate) fn null_cr_leads()
+    ensures { NullCrLeads }
+{}
+
+/// The LF of a null.
+pub(crate) fn null_end_leads()
+    ensures { NullEndLeads }
+{}
+
+/// A byte behind the type byte of a truth value.
+pub(crate) fn bool_leads()
+    ensures { BoolLeads }
+{}
+
+/// The CR of a truth value.
+pub(crate) fn bool_cr_leads()
+    ensures { BoolCrLeads }
+{}
+
+/// The LF of a truth value.
+pub(crate) fn bool_end_leads()
+    ensures { BoolEndLeads }
 {}
