@@ -8,3 +8,5 @@ pub mod Tests
 pub mod NumbersLead
 pub mod BigNumbersLead
 pub mod LiteralsLead
+pub mod OpensLead
+pub mod ClosesLead

@@ -143,17 +143,17 @@ member_ends r f fs g gs u (Begun n) front es k h b bs a o e told =
     }
 
 -- a whole value within open frames
-value_lies : (r : Rules) (fs : List Frame) (frames : List opened.Frame) (u : Tree) (front : List ℕ) (es : List Event) → HaveBegun fs → AreLevelsOf (busy_levels fs) frames → CanAllEnd (LeafKeeps r WithinItems) (NodeKeeps r WithinItems) frames → IsTree u → HoldsFrom (LeafKeeps r WithinItems) (NodeKeeps r WithinItems) (length frames) u → front ≡ around frames (text u) → ((from : ℕ) → es ≡ given (events_around frames) ++ given (events from u)) → LiesAt r (within fs) fs front es
-value_lies r [] [] u front es b a o p q e told = record { tree = u; is_tree = p; keep = q; whole = e; told = told 0 }
+pub value_lies : (r : Rules) (fs : List Frame) (frames : List opened.Frame) (u : Tree) (front : List ℕ) (es : List Event) → HaveBegun fs → AreLevelsOf (busy_levels fs) frames → CanAllEnd (LeafKeeps r WithinItems) (NodeKeeps r WithinItems) frames → IsTree u → HoldsFrom (LeafKeeps r WithinItems) (NodeKeeps r WithinItems) (length frames) u → front ≡ around frames (text u) → es ≡ given (events_around frames) ++ given (events (length (around frames [])) u) → LiesAt r (within fs) fs front es
+value_lies r [] [] u front es b a o p q e told = record { tree = u; is_tree = p; keep = q; whole = e; told = told }
 value_lies r [] (g ∷ gs) u front es b a o p q e told = absurd a
 value_lies r (f ∷ fs) [] u front es b a o p q e told = absurd a
 value_lies r (f ∷ fs) (g ∷ gs) u front es b a o p q e told =
     member_ends r f fs g gs u f.shape front es a.0 a.1 b.0 b.1 a.2 (ready_with r g gs u o p q) (e ∙ around-with g gs u)
-    (told (length (around (g ∷ gs) [])) ∙ sym (given-append (events_around (g ∷ gs)) (events (length (around (g ∷ gs) [])) u)) ∙ ap given (sym (events-member g gs u)))
+    (told ∙ sym (given-append (events_around (g ∷ gs)) (events (length (around (g ∷ gs) [])) u)) ∙ ap given (sym (events-member g gs u)))
 
 -- bytes that end the value, and events more
 pub value_ends : (r : Rules) (T : ℕ → List ℕ → List Event → Type 0) (fs : List Frame) (front more : List ℕ) (es new : List Event) → Inside r T fs front es → ((level : ℕ) (bytes : List ℕ) (shown : List Event) → level ≡ length fs → T level bytes shown → Ends r level (bytes ++ more) (shown ++ new)) → LiesAt r (within fs) fs (front ++ more) (es ++ new)
 value_ends r T fs front more es new w last =
     let t = last (length w.frames) w.bytes w.shown (at_level w) w.took in
     value_lies r fs w.frames t.tree (front ++ more) (es ++ new) w.begun w.of_levels w.can_end t.is_tree t.keep (longer w.frames front w.bytes more w.whole ∙ ap (around w.frames) (sym t.whole))
-    (λ from. ap (λ z. z ++ new) w.told ∙ append_assoc (given (events_around w.frames)) w.shown new ∙ ap (λ z. given (events_around w.frames) ++ z) (sym (t.told from)))
+    (ap (λ z. z ++ new) w.told ∙ append_assoc (given (events_around w.frames)) w.shown new ∙ ap (λ z. given (events_around w.frames) ++ z) (sym (t.told (length (around w.frames [])))))

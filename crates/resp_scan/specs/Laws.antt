@@ -1,7 +1,9 @@
 -- What a byte makes of what has come, token by token.
 use Rattle.std.specs.Prelude.{◌≡◌, ℕ, ◌+◌, ◌<◌, Bool, List, [], ◌∷◌, ◌++◌}
-use Rattle.resp_follow.specs.Events.{Event, Byte, TextEnd}
-use Rattle.resp_scan.specs.Tokens.{Token, Place, InLine, AtLineLf, AtIntSign, AtIntFirst, InInt, AtIntLf, AtBigSign, AtBigFirst, InBigZeros, AtBigZeroLf, AtBigDigit, InBig, AtTextEnd, at, ended, AtBool, AtBoolCr, AtBoolLf, AtNullCr, AtNullLf, AtNullOne}
+use Rattle.resp_follow.specs.Events.{Event, Byte, TextEnd, Close}
+use Rattle.resp_scan.specs.Tokens.{Token, Place, InLine, AtLineLf, AtIntSign, AtIntFirst, InInt, AtIntLf, AtBigSign, AtBigFirst, InBigZeros, AtBigZeroLf, AtBigDigit, InBig, AtTextEnd, at, ended, AtBool, AtBoolCr, AtBoolLf, AtNullCr, AtNullLf, AtNullOne, AtHeadLf, AtCloseCr, AtCloseLf, AtEnd}
+use Rattle.resp_scan.specs.declared.machine.Head.TheVariants as head
+use Rattle.resp_scan.specs.declared.frame.Frame.{Frame}
 use Rattle.resp_scan.specs.Machine.{next}
 use Rattle.resp_scan.specs.Follows.{Lies, Leads, Counts}
 
@@ -67,3 +69,27 @@ BoolCrLeads = (s : Place) (truth : Bool) → ALead (at s (AtBoolCr truth))
 
 abbrev pub BoolEndLeads : Type 0
 BoolEndLeads = (s : Place) (truth : Bool) → ALead (at s (AtBoolLf truth))
+
+abbrev pub ArrayHeadEndLeads : Type 0
+ArrayHeadEndLeads = (s : Place) (n : ℕ) → ALead (at s (AtHeadLf head.Array n))
+
+abbrev pub SetHeadEndLeads : Type 0
+SetHeadEndLeads = (s : Place) (n : ℕ) → ALead (at s (AtHeadLf head.Set n))
+
+abbrev pub MapHeadEndLeads : Type 0
+MapHeadEndLeads = (s : Place) (n : ℕ) → ALead (at s (AtHeadLf head.Map n))
+
+abbrev pub AttrHeadEndLeads : Type 0
+AttrHeadEndLeads = (s : Place) (n : ℕ) → ALead (at s (AtHeadLf head.Attr n))
+
+abbrev pub PushHeadEndLeads : Type 0
+PushHeadEndLeads = (s : Place) (n : ℕ) → ALead (at s (AtHeadLf head.Push n))
+
+abbrev pub CloseIsOwed : Type 0
+CloseIsOwed = (s : Place) (f : Frame) (fs : List Frame) (front : List ℕ) (es : List Event) → Lies (record s { token = AtEnd; frames = f ∷ fs }) front es → Lies (ended (record s { frames = fs })) front (es ++ Close ∷ [])
+
+abbrev pub CloseCrLeads : Type 0
+CloseCrLeads = (s : Place) → ALead (at s AtCloseCr)
+
+abbrev pub CloseEndLeads : Type 0
+CloseEndLeads = (s : Place) → ALead (at s AtCloseLf)

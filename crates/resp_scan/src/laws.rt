@@ -1,6 +1,6 @@
 //! Laws of the machine by bytes, each the contract of a function with an empty body.
 
-ghost use Rattle.resp_scan.specs.Laws.{LinesLead, LineEndsLead, IntSignLeads, IntFirstLeads, IntLeads, IntEndLeads, BigSignLeads, BigFirstLeads, BigZerosLead, BigZeroEndLeads, BigDigitIsOwed, BigLeads, TextEndIsOwed, NullOneLeads, NullCrLeads, NullEndLeads, BoolLeads, BoolCrLeads, BoolEndLeads};
+ghost use Rattle.resp_scan.specs.Laws.{LinesLead, LineEndsLead, IntSignLeads, IntFirstLeads, IntLeads, IntEndLeads, BigSignLeads, BigFirstLeads, BigZerosLead, BigZeroEndLeads, BigDigitIsOwed, BigLeads, TextEndIsOwed, NullOneLeads, NullCrLeads, NullEndLeads, BoolLeads, BoolCrLeads, BoolEndLeads, ArrayHeadEndLeads, SetHeadEndLeads, MapHeadEndLeads, AttrHeadEndLeads, PushHeadEndLeads, CloseIsOwed, CloseCrLeads, CloseEndLeads};
 
 /// A byte of a line.
 pub(crate) fn lines_lead()
@@ -95,4 +95,44 @@ pub(crate) fn bool_cr_leads()
 /// The LF of a truth value.
 pub(crate) fn bool_end_leads()
     ensures { BoolEndLeads }
+{}
+
+/// The LF of the head of an array.
+pub(crate) fn array_head_end_leads()
+    ensures { ArrayHeadEndLeads }
+{}
+
+/// The LF of the head of a set.
+pub(crate) fn set_head_end_leads()
+    ensures { SetHeadEndLeads }
+{}
+
+/// The LF of the head of a map.
+pub(crate) fn map_head_end_leads()
+    ensures { MapHeadEndLeads }
+{}
+
+/// The LF of the head of an attribute.
+pub(crate) fn attr_head_end_leads()
+    ensures { AttrHeadEndLeads }
+{}
+
+/// The LF of the head of a push.
+pub(crate) fn push_head_end_leads()
+    ensures { PushHeadEndLeads }
+{}
+
+/// The close of a counted aggregate.
+pub(crate) fn close_is_owed()
+    ensures { CloseIsOwed }
+{}
+
+/// The CR of a close.
+pub(crate) fn close_cr_leads()
+    ensures { CloseCrLeads }
+{}
+
+/// The LF of a close.
+pub(crate) fn close_end_leads()
+    ensures { CloseEndLeads }
 {}
