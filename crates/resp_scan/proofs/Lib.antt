@@ -10,3 +10,4 @@ pub mod BigNumbersLead
 pub mod LiteralsLead
 pub mod OpensLead
 pub mod ClosesLead
+pub mod CountsLead

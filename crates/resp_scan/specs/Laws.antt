@@ -1,7 +1,7 @@
 -- What a byte makes of what has come, token by token.
 use Rattle.std.specs.Prelude.{◌≡◌, ℕ, ◌+◌, ◌<◌, Bool, List, [], ◌∷◌, ◌++◌}
 use Rattle.resp_follow.specs.Events.{Event, Byte, TextEnd, Close}
-use Rattle.resp_scan.specs.Tokens.{Token, Place, InLine, AtLineLf, AtIntSign, AtIntFirst, InInt, AtIntLf, AtBigSign, AtBigFirst, InBigZeros, AtBigZeroLf, AtBigDigit, InBig, AtTextEnd, at, ended, AtBool, AtBoolCr, AtBoolLf, AtNullCr, AtNullLf, AtNullOne, AtHeadLf, AtCloseCr, AtCloseLf, AtEnd}
+use Rattle.resp_scan.specs.Tokens.{Token, Place, InLine, AtLineLf, AtIntSign, AtIntFirst, InInt, AtIntLf, AtBigSign, AtBigFirst, InBigZeros, AtBigZeroLf, AtBigDigit, InBig, AtTextEnd, at, ended, AtBool, AtBoolCr, AtBoolLf, AtNullCr, AtNullLf, AtNullOne, AtHeadLf, AtCloseCr, AtCloseLf, AtEnd, InHead}
 use Rattle.resp_scan.specs.declared.machine.Head.TheVariants as head
 use Rattle.resp_scan.specs.declared.frame.Frame.{Frame}
 use Rattle.resp_scan.specs.Machine.{next}
@@ -93,3 +93,18 @@ CloseCrLeads = (s : Place) → ALead (at s AtCloseCr)
 
 abbrev pub CloseEndLeads : Type 0
 CloseEndLeads = (s : Place) → ALead (at s AtCloseLf)
+
+abbrev pub ArrayCountLeads : Type 0
+ArrayCountLeads = (s : Place) (n : ℕ) → ALead (at s (InHead head.Array n))
+
+abbrev pub SetCountLeads : Type 0
+SetCountLeads = (s : Place) (n : ℕ) → ALead (at s (InHead head.Set n))
+
+abbrev pub MapCountLeads : Type 0
+MapCountLeads = (s : Place) (n : ℕ) → ALead (at s (InHead head.Map n))
+
+abbrev pub AttrCountLeads : Type 0
+AttrCountLeads = (s : Place) (n : ℕ) → ALead (at s (InHead head.Attr n))
+
+abbrev pub PushCountLeads : Type 0
+PushCountLeads = (s : Place) (n : ℕ) → ALead (at s (InHead head.Push n))

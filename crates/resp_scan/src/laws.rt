@@ -1,6 +1,6 @@
 //! Laws of the machine by bytes, each the contract of a function with an empty body.
 
-ghost use Rattle.resp_scan.specs.Laws.{LinesLead, LineEndsLead, IntSignLeads, IntFirstLeads, IntLeads, IntEndLeads, BigSignLeads, BigFirstLeads, BigZerosLead, BigZeroEndLeads, BigDigitIsOwed, BigLeads, TextEndIsOwed, NullOneLeads, NullCrLeads, NullEndLeads, BoolLeads, BoolCrLeads, BoolEndLeads, ArrayHeadEndLeads, SetHeadEndLeads, MapHeadEndLeads, AttrHeadEndLeads, PushHeadEndLeads, CloseIsOwed, CloseCrLeads, CloseEndLeads};
+ghost use Rattle.resp_scan.specs.Laws.{LinesLead, LineEndsLead, IntSignLeads, IntFirstLeads, IntLeads, IntEndLeads, BigSignLeads, BigFirstLeads, BigZerosLead, BigZeroEndLeads, BigDigitIsOwed, BigLeads, TextEndIsOwed, NullOneLeads, NullCrLeads, NullEndLeads, BoolLeads, BoolCrLeads, BoolEndLeads, ArrayHeadEndLeads, SetHeadEndLeads, MapHeadEndLeads, AttrHeadEndLeads, PushHeadEndLeads, CloseIsOwed, CloseCrLeads, CloseEndLeads, ArrayCountLeads, SetCountLeads, MapCountLeads, AttrCountLeads, PushCountLeads};
 
 /// A byte of a line.
 pub(crate) fn lines_lead()
@@ -135,4 +135,29 @@ pub(crate) fn close_cr_leads()
 /// The LF of a close.
 pub(crate) fn close_end_leads()
     ensures { CloseEndLeads }
+{}
+
+/// A byte behind the digits of an array.
+pub(crate) fn array_count_leads()
+    ensures { ArrayCountLeads }
+{}
+
+/// A byte behind the digits of a set.
+pub(crate) fn set_count_leads()
+    ensures { SetCountLeads }
+{}
+
+/// A byte behind the digits of a map.
+pub(crate) fn map_count_leads()
+    ensures { MapCountLeads }
+{}
+
+/// A byte behind the digits of an attribute.
+pub(crate) fn attr_count_leads()
+    ensures { AttrCountLeads }
+{}
+
+/// A byte behind the digits of a push.
+pub(crate) fn push_count_leads()
+    ensures { PushCountLeads }
 {}
