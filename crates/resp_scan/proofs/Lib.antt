@@ -11,3 +11,4 @@ pub mod LiteralsLead
 pub mod OpensLead
 pub mod ClosesLead
 pub mod CountsLead
+pub mod HeadsLead

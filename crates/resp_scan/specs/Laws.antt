@@ -1,9 +1,10 @@
 -- What a byte makes of what has come, token by token.
 use Rattle.std.specs.Prelude.{◌≡◌, ℕ, ◌+◌, ◌<◌, Bool, List, [], ◌∷◌, ◌++◌}
 use Rattle.resp_follow.specs.Events.{Event, Byte, TextEnd, Close}
-use Rattle.resp_scan.specs.Tokens.{Token, Place, InLine, AtLineLf, AtIntSign, AtIntFirst, InInt, AtIntLf, AtBigSign, AtBigFirst, InBigZeros, AtBigZeroLf, AtBigDigit, InBig, AtTextEnd, at, ended, AtBool, AtBoolCr, AtBoolLf, AtNullCr, AtNullLf, AtNullOne, AtHeadLf, AtCloseCr, AtCloseLf, AtEnd, InHead}
+use Rattle.resp_scan.specs.Tokens.{Token, Place, InLine, AtLineLf, AtIntSign, AtIntFirst, InInt, AtIntLf, AtBigSign, AtBigFirst, InBigZeros, AtBigZeroLf, AtBigDigit, InBig, AtTextEnd, at, ended, AtBool, AtBoolCr, AtBoolLf, AtNullCr, AtNullLf, AtNullOne, AtHeadLf, AtCloseCr, AtCloseLf, AtEnd, InHead, AtArrayHead, AtHead, AtOpenCr, AtOpenLf}
 use Rattle.resp_scan.specs.declared.machine.Head.TheVariants as head
 use Rattle.resp_scan.specs.declared.frame.Frame.{Frame}
+use Rattle.resp_scan.specs.declared.event.OpenKind.{OpenKind}
 use Rattle.resp_scan.specs.Machine.{next}
 use Rattle.resp_scan.specs.Follows.{Lies, Leads, Counts}
 
@@ -108,3 +109,24 @@ AttrCountLeads = (s : Place) (n : ℕ) → ALead (at s (InHead head.Attr n))
 
 abbrev pub PushCountLeads : Type 0
 PushCountLeads = (s : Place) (n : ℕ) → ALead (at s (InHead head.Push n))
+
+abbrev pub ArrayHeadLeads : Type 0
+ArrayHeadLeads = (s : Place) → ALead (at s AtArrayHead)
+
+abbrev pub SetHeadLeads : Type 0
+SetHeadLeads = (s : Place) → ALead (at s (AtHead head.Set))
+
+abbrev pub MapHeadLeads : Type 0
+MapHeadLeads = (s : Place) → ALead (at s (AtHead head.Map))
+
+abbrev pub AttrHeadLeads : Type 0
+AttrHeadLeads = (s : Place) → ALead (at s (AtHead head.Attr))
+
+abbrev pub PushHeadLeads : Type 0
+PushHeadLeads = (s : Place) → ALead (at s (AtHead head.Push))
+
+abbrev pub OpenCrLeads : Type 0
+OpenCrLeads = (s : Place) (kind : OpenKind) → ALead (at s (AtOpenCr kind))
+
+abbrev pub OpenEndLeads : Type 0
+OpenEndLeads = (s : Place) (kind : OpenKind) → ALead (at s (AtOpenLf kind))

@@ -1,6 +1,6 @@
 //! Laws of the machine by bytes, each the contract of a function with an empty body.
 
-ghost use Rattle.resp_scan.specs.Laws.{LinesLead, LineEndsLead, IntSignLeads, IntFirstLeads, IntLeads, IntEndLeads, BigSignLeads, BigFirstLeads, BigZerosLead, BigZeroEndLeads, BigDigitIsOwed, BigLeads, TextEndIsOwed, NullOneLeads, NullCrLeads, NullEndLeads, BoolLeads, BoolCrLeads, BoolEndLeads, ArrayHeadEndLeads, SetHeadEndLeads, MapHeadEndLeads, AttrHeadEndLeads, PushHeadEndLeads, CloseIsOwed, CloseCrLeads, CloseEndLeads, ArrayCountLeads, SetCountLeads, MapCountLeads, AttrCountLeads, PushCountLeads};
+ghost use Rattle.resp_scan.specs.Laws.{LinesLead, LineEndsLead, IntSignLeads, IntFirstLeads, IntLeads, IntEndLeads, BigSignLeads, BigFirstLeads, BigZerosLead, BigZeroEndLeads, BigDigitIsOwed, BigLeads, TextEndIsOwed, NullOneLeads, NullCrLeads, NullEndLeads, BoolLeads, BoolCrLeads, BoolEndLeads, ArrayHeadEndLeads, SetHeadEndLeads, MapHeadEndLeads, AttrHeadEndLeads, PushHeadEndLeads, CloseIsOwed, CloseCrLeads, CloseEndLeads, ArrayCountLeads, SetCountLeads, MapCountLeads, AttrCountLeads, PushCountLeads, ArrayHeadLeads, SetHeadLeads, MapHeadLeads, AttrHeadLeads, PushHeadLeads, OpenCrLeads, OpenEndLeads};
 
 /// A byte of a line.
 pub(crate) fn lines_lead()
@@ -160,4 +160,39 @@ pub(crate) fn attr_count_leads()
 /// A byte behind the digits of a push.
 pub(crate) fn push_count_leads()
     ensures { PushCountLeads }
+{}
+
+/// A byte behind the type byte of an array.
+pub(crate) fn array_head_leads()
+    ensures { ArrayHeadLeads }
+{}
+
+/// A byte behind the type byte of a set.
+pub(crate) fn set_head_leads()
+    ensures { SetHeadLeads }
+{}
+
+/// A byte behind the type byte of a map.
+pub(crate) fn map_head_leads()
+    ensures { MapHeadLeads }
+{}
+
+/// A byte behind the type byte of an attribute.
+pub(crate) fn attr_head_leads()
+    ensures { AttrHeadLeads }
+{}
+
+/// A byte behind the type byte of a push.
+pub(crate) fn push_head_leads()
+    ensures { PushHeadLeads }
+{}
+
+/// The CR of a streamed head.
+pub(crate) fn open_cr_leads()
+    ensures { OpenCrLeads }
+{}
+
+/// The LF of a streamed head.
+pub(crate) fn open_end_leads()
+    ensures { OpenEndLeads }
 {}
