@@ -127,7 +127,7 @@ mark_leads s T o used byte front es is can c w may in_two below = by_cases s.ver
           let more = goes (rules_of s) T (StreamBegun (rules_of s) (kind_of o) []) s.frames front (byte ∷ []) es w (λ level bytes shown i t. mark_more (rules_of s) (kind_of o) level byte bytes shown is (no_two_in_three s.version three) (λ off. let e : true ≡ false = sym on ∙ off in cc) can (may level bytes shown i t)) in
           unless_over s front es used byte 5 (Go (at s (AtOpenCr o))) (fits_or_total s (StreamBegun (rules_of s) (kind_of o) []) front es es used byte 5 (Go (at s (AtOpenCr o))) c more (λ level bytes shown i t. stream_row (rules_of s) (kind_of o) level bytes shown t) more))
 
-aggregate_row : (r : Rules) (k : Kind) (level : ℕ) (bytes : List ℕ) (shown : List Event) → members_of k 0 ≡ 0 → AggregateBegun r k level bytes shown → IsBegunBy r level bytes 3
+pub aggregate_row : (r : Rules) (k : Kind) (level : ℕ) (bytes : List ℕ) (shown : List Event) → members_of k 0 ≡ 0 → AggregateBegun r k level bytes shown → IsBegunBy r level bytes 3
 aggregate_row r k level bytes shown none_yet w = subst (λ z. IsBegunBy r level z 3) (sym w.are) (aggregate_begun r k level w.no_two w.no_push w.below none_yet)
 
 -- the depth leaves room

@@ -12,3 +12,5 @@ pub mod OpensLead
 pub mod ClosesLead
 pub mod CountsLead
 pub mod HeadsLead
+pub mod Begins
+pub mod StartLeads

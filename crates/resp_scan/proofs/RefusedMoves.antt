@@ -84,14 +84,18 @@ broken r T fs front es n byte w row dead = record {
 }
 
 -- by total: where it leaves no room for the byte and what is needed behind it
-pub fits_or_total : (s : Place) (T : ℕ → List ℕ → List Event → Type 0) (front : List ℕ) (es told : List Event) (used byte n : ℕ) (v : Move) → Counts s used front → Inside (rules_of s) T s.frames (front ++ byte ∷ []) told → ((level : ℕ) (bytes : List ℕ) (shown : List Event) → level ≡ length s.frames → T level bytes shown → IsBegunBy (rules_of s) level bytes n) → Leads s front es byte v → Leads s front es byte (cond (fits s (used + 1) n) v (Refuse cause.Total))
-fits_or_total s T front es told used byte n v c w row leads =
+pub fits_or_past : (s : Place) (T : ℕ → List ℕ → List Event → Type 0) (front : List ℕ) (es told : List Event) (used byte n : ℕ) (v : Move) → s.owed ≡ frames_needed s.frames → length front ≡ s.taken + used → Inside (rules_of s) T s.frames (front ++ byte ∷ []) told → ((level : ℕ) (bytes : List ℕ) (shown : List Event) → level ≡ length s.frames → T level bytes shown → IsBegunBy (rules_of s) level bytes n) → Leads s front es byte v → Leads s front es byte (cond (fits s (used + 1) n) v (Refuse cause.Total))
+fits_or_past s T front es told used byte n v owed taken w row leads =
     elim (fits s (used + 1) n) as (λ z. fits s (used + 1) n ≡ z → Leads s front es byte (cond z v (Refuse cause.Total))) [
       | true ↦ λ z. leads
       | false ↦ λ z.
           let past : (s.bounds.total - s.taken) - s.owed < used + 1 + n = grind (arith, nat_tests) in
-          past_total (rules_of s) (front ++ byte ∷ []) (n + frames_needed s.frames) (inside_least (rules_of s) T s.frames (front ++ byte ∷ []) told n w row) (omega (arith, c.owed, c.taken, length-append front (byte ∷ [])))
+          past_total (rules_of s) (front ++ byte ∷ []) (n + frames_needed s.frames) (inside_least (rules_of s) T s.frames (front ++ byte ∷ []) told n w row) (omega (arith, owed, taken, length-append front (byte ∷ [])))
     ] refl
+
+-- the same, where the numbers of a place are
+pub fits_or_total : (s : Place) (T : ℕ → List ℕ → List Event → Type 0) (front : List ℕ) (es told : List Event) (used byte n : ℕ) (v : Move) → Counts s used front → Inside (rules_of s) T s.frames (front ++ byte ∷ []) told → ((level : ℕ) (bytes : List ℕ) (shown : List Event) → level ≡ length s.frames → T level bytes shown → IsBegunBy (rules_of s) level bytes n) → Leads s front es byte v → Leads s front es byte (cond (fits s (used + 1) n) v (Refuse cause.Total))
+fits_or_total s T front es told used byte n v c w row leads = fits_or_past s T front es told used byte n v c.owed c.taken w row leads
 
 -- the same, as a cause that refuses
 pub unless_over : (s : Place) (front : List ℕ) (es : List Event) (used byte n : ℕ) (v : Move) → Leads s front es byte (cond (fits s (used + 1) n) v (Refuse cause.Total)) → Leads s front es byte (unless (over_total s (used + 1) n) v)

@@ -1,7 +1,7 @@
 -- What a byte makes of what has come, token by token.
 use Rattle.std.specs.Prelude.{◌≡◌, ℕ, ◌+◌, ◌<◌, Bool, List, [], ◌∷◌, ◌++◌}
 use Rattle.resp_follow.specs.Events.{Event, Byte, TextEnd, Close}
-use Rattle.resp_scan.specs.Tokens.{Token, Place, InLine, AtLineLf, AtIntSign, AtIntFirst, InInt, AtIntLf, AtBigSign, AtBigFirst, InBigZeros, AtBigZeroLf, AtBigDigit, InBig, AtTextEnd, at, ended, AtBool, AtBoolCr, AtBoolLf, AtNullCr, AtNullLf, AtNullOne, AtHeadLf, AtCloseCr, AtCloseLf, AtEnd, InHead, AtArrayHead, AtHead, AtOpenCr, AtOpenLf}
+use Rattle.resp_scan.specs.Tokens.{Token, Place, InLine, AtLineLf, AtIntSign, AtIntFirst, InInt, AtIntLf, AtBigSign, AtBigFirst, InBigZeros, AtBigZeroLf, AtBigDigit, InBig, AtTextEnd, at, ended, AtBool, AtBoolCr, AtBoolLf, AtNullCr, AtNullLf, AtNullOne, AtHeadLf, AtCloseCr, AtCloseLf, AtEnd, InHead, AtArrayHead, AtHead, AtOpenCr, AtOpenLf, AtStart}
 use Rattle.resp_scan.specs.declared.machine.Head.TheVariants as head
 use Rattle.resp_scan.specs.declared.frame.Frame.{Frame}
 use Rattle.resp_scan.specs.declared.event.OpenKind.{OpenKind}
@@ -130,3 +130,6 @@ OpenCrLeads = (s : Place) (kind : OpenKind) → ALead (at s (AtOpenCr kind))
 
 abbrev pub OpenEndLeads : Type 0
 OpenEndLeads = (s : Place) (kind : OpenKind) → ALead (at s (AtOpenLf kind))
+
+abbrev pub StartLeads : Type 0
+StartLeads = (s : Place) (byte : ℕ) (front : List ℕ) (es : List Event) → byte < 256 → Counts (at s AtStart) 0 front → Lies (at s AtStart) front es → Leads (at s AtStart) front es byte (next (at s AtStart) 1 byte)

@@ -1,6 +1,6 @@
 //! Laws of the machine by bytes, each the contract of a function with an empty body.
 
-ghost use Rattle.resp_scan.specs.Laws.{LinesLead, LineEndsLead, IntSignLeads, IntFirstLeads, IntLeads, IntEndLeads, BigSignLeads, BigFirstLeads, BigZerosLead, BigZeroEndLeads, BigDigitIsOwed, BigLeads, TextEndIsOwed, NullOneLeads, NullCrLeads, NullEndLeads, BoolLeads, BoolCrLeads, BoolEndLeads, ArrayHeadEndLeads, SetHeadEndLeads, MapHeadEndLeads, AttrHeadEndLeads, PushHeadEndLeads, CloseIsOwed, CloseCrLeads, CloseEndLeads, ArrayCountLeads, SetCountLeads, MapCountLeads, AttrCountLeads, PushCountLeads, ArrayHeadLeads, SetHeadLeads, MapHeadLeads, AttrHeadLeads, PushHeadLeads, OpenCrLeads, OpenEndLeads};
+ghost use Rattle.resp_scan.specs.Laws.{LinesLead, LineEndsLead, IntSignLeads, IntFirstLeads, IntLeads, IntEndLeads, BigSignLeads, BigFirstLeads, BigZerosLead, BigZeroEndLeads, BigDigitIsOwed, BigLeads, TextEndIsOwed, NullOneLeads, NullCrLeads, NullEndLeads, BoolLeads, BoolCrLeads, BoolEndLeads, ArrayHeadEndLeads, SetHeadEndLeads, MapHeadEndLeads, AttrHeadEndLeads, PushHeadEndLeads, CloseIsOwed, CloseCrLeads, CloseEndLeads, ArrayCountLeads, SetCountLeads, MapCountLeads, AttrCountLeads, PushCountLeads, ArrayHeadLeads, SetHeadLeads, MapHeadLeads, AttrHeadLeads, PushHeadLeads, OpenCrLeads, OpenEndLeads, StartLeads};
 
 /// A byte of a line.
 pub(crate) fn lines_lead()
@@ -195,4 +195,9 @@ pub(crate) fn open_cr_leads()
 /// The LF of a streamed head.
 pub(crate) fn open_end_leads()
     ensures { OpenEndLeads }
+{}
+
+/// The first byte of a value, or of a close.
+pub(crate) fn start_leads()
+    ensures { StartLeads }
 {}
