@@ -233,299 +233,304 @@ fn run(
     Ok(())
 }
 
+const SCALARS_OF_VERSION_TWO: &[Row] = &[
+    (&[(b"", 1)], " ends taken 0 needed 3 depth 0"),
+    (&[(b"+OK\r\n", 1)], "+[OK]. ends taken 0 needed 3 depth 0"),
+    (
+        &[(b"-ERR no\r\n", 1)],
+        "-[ERR no]. ends taken 0 needed 3 depth 0",
+    ),
+    (&[(b"+\r\n", 1)], "+[]. ends taken 0 needed 3 depth 0"),
+    (&[(b"$0\r\n\r\n", 1)], "$[]. ends taken 0 needed 3 depth 0"),
+    (
+        &[(b"$5\r\na\r\nbc\r\n", 1)],
+        "$[a\r\nbc]. ends taken 0 needed 3 depth 0",
+    ),
+    (
+        &[(b"$-1\r\n*-1\r\n", 1)],
+        "null;.null;. ends taken 0 needed 3 depth 0",
+    ),
+    (
+        &[(b":-9223372036854775808\r\n", 1)],
+        "-9223372036854775808;. ends taken 0 needed 3 depth 0",
+    ),
+    (
+        &[(b":9223372036854775807\r\n", 1)],
+        "9223372036854775807;. ends taken 0 needed 3 depth 0",
+    ),
+    (&[(b":9223372036854775808\r\n", 1)], "!Range@19"),
+    (&[(b":-9223372036854775809\r\n", 1)], "!Range@20"),
+    (&[(b":+007\r\n", 1)], "7;. ends taken 0 needed 3 depth 0"),
+    (&[(b":-0\r\n", 1)], "0;. ends taken 0 needed 3 depth 0"),
+    (
+        &[(b"$01\r\na\r\n", 1)],
+        "$[a]. ends taken 0 needed 3 depth 0",
+    ),
+    (
+        &[(b"*01\r\n:1\r\n", 1)],
+        "*1{1;}. ends taken 0 needed 3 depth 0",
+    ),
+];
+
 #[test]
 fn scalars_of_version_two(rt: HostRuntime) -> Result<(), Fail> {
     let limits = Limits::standard();
-    let rows: &[Row] = &[
-        (&[(b"", 1)], " ends taken 0 needed 3 depth 0"),
-        (&[(b"+OK\r\n", 1)], "+[OK]. ends taken 0 needed 3 depth 0"),
-        (
-            &[(b"-ERR no\r\n", 1)],
-            "-[ERR no]. ends taken 0 needed 3 depth 0",
-        ),
-        (&[(b"+\r\n", 1)], "+[]. ends taken 0 needed 3 depth 0"),
-        (&[(b"$0\r\n\r\n", 1)], "$[]. ends taken 0 needed 3 depth 0"),
-        (
-            &[(b"$5\r\na\r\nbc\r\n", 1)],
-            "$[a\r\nbc]. ends taken 0 needed 3 depth 0",
-        ),
-        (
-            &[(b"$-1\r\n*-1\r\n", 1)],
-            "null;.null;. ends taken 0 needed 3 depth 0",
-        ),
-        (
-            &[(b":-9223372036854775808\r\n", 1)],
-            "-9223372036854775808;. ends taken 0 needed 3 depth 0",
-        ),
-        (
-            &[(b":9223372036854775807\r\n", 1)],
-            "9223372036854775807;. ends taken 0 needed 3 depth 0",
-        ),
-        (&[(b":9223372036854775808\r\n", 1)], "!Range@19"),
-        (&[(b":-9223372036854775809\r\n", 1)], "!Range@20"),
-        (&[(b":+007\r\n", 1)], "7;. ends taken 0 needed 3 depth 0"),
-        (&[(b":-0\r\n", 1)], "0;. ends taken 0 needed 3 depth 0"),
-        (
-            &[(b"$01\r\na\r\n", 1)],
-            "$[a]. ends taken 0 needed 3 depth 0",
-        ),
-        (
-            &[(b"*01\r\n:1\r\n", 1)],
-            "*1{1;}. ends taken 0 needed 3 depth 0",
-        ),
-    ];
-    run(&rt, rt.alloc(), Version::Two, &limits, rows)
+    run(&rt, rt.alloc(), Version::Two, &limits, SCALARS_OF_VERSION_TWO)
 }
+
+const REFUSALS_OF_VERSION_TWO: &[Row] = &[
+    (&[(b",3.14\r\n", 1)], "!Double@0"),
+    (&[(b"%1\r\n", 1)], "!Version@0"),
+    (&[(b">0\r\n", 1)], "!Version@0"),
+    (&[(b"*1\r\n>0\r\n", 1)], "*1{!Version@4"),
+    (&[(b"*1\r\n,", 1)], "*1{!Double@4"),
+    (&[(b"*?", 1)], "!Version@1"),
+    (&[(b"$?", 1)], "!Version@1"),
+    (&[(b"+a\nb", 1)], "+[a!Syntax@2"),
+    (&[(b"+a\rb", 1)], "+[a!Syntax@3"),
+    (&[(b":\r", 1)], "!Syntax@1"),
+    (&[(b"*-2", 1)], "!Syntax@2"),
+    (&[(b"$-01", 1)], "!Syntax@2"),
+    (&[(b"*-01", 1)], "!Syntax@2"),
+    (&[(b"$3\r\nfooX", 1)], "$[foo!Syntax@7"),
+    (&[(b"PING\r\n", 1)], "!Syntax@0"),
+    (&[(b";0", 1)], "!Syntax@0"),
+    (&[(b".\r\n", 1)], "!Syntax@0"),
+    (&[(b"*1\r\n.", 1)], "*1{!Syntax@4"),
+    (&[(b"*1\r\n;", 1)], "*1{!Syntax@4"),
+    (&[(b"\r\n", 1)], "!Syntax@0"),
+    (&[(b"*1\r\n:x", 1)], "*1{!Syntax@5"),
+    (&[(b"$a", 1)], "!Syntax@1"),
+    (&[(b"$-1\rx", 1)], "!Syntax@4"),
+    (&[(b"$1\r\na\r\r", 1)], "$[a!Syntax@6"),
+];
 
 #[test]
 fn refusals_of_version_two(rt: HostRuntime) -> Result<(), Fail> {
     let limits = Limits::standard();
-    let rows: &[Row] = &[
-        (&[(b",3.14\r\n", 1)], "!Double@0"),
-        (&[(b"%1\r\n", 1)], "!Version@0"),
-        (&[(b">0\r\n", 1)], "!Version@0"),
-        (&[(b"*1\r\n>0\r\n", 1)], "*1{!Version@4"),
-        (&[(b"*1\r\n,", 1)], "*1{!Double@4"),
-        (&[(b"*?", 1)], "!Version@1"),
-        (&[(b"$?", 1)], "!Version@1"),
-        (&[(b"+a\nb", 1)], "+[a!Syntax@2"),
-        (&[(b"+a\rb", 1)], "+[a!Syntax@3"),
-        (&[(b":\r", 1)], "!Syntax@1"),
-        (&[(b"*-2", 1)], "!Syntax@2"),
-        (&[(b"$-01", 1)], "!Syntax@2"),
-        (&[(b"*-01", 1)], "!Syntax@2"),
-        (&[(b"$3\r\nfooX", 1)], "$[foo!Syntax@7"),
-        (&[(b"PING\r\n", 1)], "!Syntax@0"),
-        (&[(b";0", 1)], "!Syntax@0"),
-        (&[(b".\r\n", 1)], "!Syntax@0"),
-        (&[(b"*1\r\n.", 1)], "*1{!Syntax@4"),
-        (&[(b"*1\r\n;", 1)], "*1{!Syntax@4"),
-        (&[(b"\r\n", 1)], "!Syntax@0"),
-        (&[(b"*1\r\n:x", 1)], "*1{!Syntax@5"),
-        (&[(b"$a", 1)], "!Syntax@1"),
-        (&[(b"$-1\rx", 1)], "!Syntax@4"),
-        (&[(b"$1\r\na\r\r", 1)], "$[a!Syntax@6"),
-    ];
-    run(&rt, rt.alloc(), Version::Two, &limits, rows)
+    run(&rt, rt.alloc(), Version::Two, &limits, REFUSALS_OF_VERSION_TWO)
 }
+
+const REFUSALS_OF_VERSION_THREE: &[Row] = &[
+    (&[(b",3.14\r\n", 1)], "!Double@0"),
+    (&[(b"#x", 1)], "!Syntax@1"),
+    (&[(b"=3", 1)], " Truncated@2 taken 2 needed 35 depth 0"),
+    (&[(b"=3\r\n", 1)], "!Syntax@2"),
+    (&[(b"(+\r", 1)], "!Syntax@2"),
+    (&[(b"*1\r\n>0", 1)], "*1{!NestedPush@4"),
+    (&[(b"|0\r\n>", 1)], "|0{!NestedPush@4"),
+    (&[(b"|0\r\n.", 1)], "|0{!Syntax@4"),
+    (&[(b">?", 1)], "!Syntax@1"),
+    (&[(b"|?", 1)], "!Syntax@1"),
+    (&[(b"=?", 1)], "!Syntax@1"),
+    (&[(b"!?", 1)], "!Syntax@1"),
+    (&[(b"!-", 1)], "!Syntax@1"),
+    (&[(b"~-", 1)], "!Syntax@1"),
+    (&[(b"%?\r\n+a\r\n.", 1)], "%?{+[a]!Syntax@8"),
+    (&[(b"=4\r\ntxt;", 1)], "!Syntax@7"),
+    (&[(b"_x", 1)], "!Syntax@1"),
+    (&[(b"#t\n", 1)], "!Syntax@2"),
+    (&[(b"(12a", 1)], "([12!Syntax@3"),
+    (&[(b"(0a", 1)], "!Syntax@2"),
+    (&[(b"$?\r\n;4\r\nHell.", 1)], "$[Hell!Syntax@12"),
+    (&[(b"$?\r\n+", 1)], "$[!Syntax@4"),
+    (&[(b"$?\r\n;0\r\r", 1)], "$[!Syntax@7"),
+    (&[(b";", 1)], "!Syntax@0"),
+];
 
 #[test]
 fn refusals_of_version_three(rt: HostRuntime) -> Result<(), Fail> {
     let limits = Limits::standard();
-    let rows: &[Row] = &[
-        (&[(b",3.14\r\n", 1)], "!Double@0"),
-        (&[(b"#x", 1)], "!Syntax@1"),
-        (&[(b"=3", 1)], " Truncated@2 taken 2 needed 35 depth 0"),
-        (&[(b"=3\r\n", 1)], "!Syntax@2"),
-        (&[(b"(+\r", 1)], "!Syntax@2"),
-        (&[(b"*1\r\n>0", 1)], "*1{!NestedPush@4"),
-        (&[(b"|0\r\n>", 1)], "|0{!NestedPush@4"),
-        (&[(b"|0\r\n.", 1)], "|0{!Syntax@4"),
-        (&[(b">?", 1)], "!Syntax@1"),
-        (&[(b"|?", 1)], "!Syntax@1"),
-        (&[(b"=?", 1)], "!Syntax@1"),
-        (&[(b"!?", 1)], "!Syntax@1"),
-        (&[(b"!-", 1)], "!Syntax@1"),
-        (&[(b"~-", 1)], "!Syntax@1"),
-        (&[(b"%?\r\n+a\r\n.", 1)], "%?{+[a]!Syntax@8"),
-        (&[(b"=4\r\ntxt;", 1)], "!Syntax@7"),
-        (&[(b"_x", 1)], "!Syntax@1"),
-        (&[(b"#t\n", 1)], "!Syntax@2"),
-        (&[(b"(12a", 1)], "([12!Syntax@3"),
-        (&[(b"(0a", 1)], "!Syntax@2"),
-        (&[(b"$?\r\n;4\r\nHell.", 1)], "$[Hell!Syntax@12"),
-        (&[(b"$?\r\n+", 1)], "$[!Syntax@4"),
-        (&[(b"$?\r\n;0\r\r", 1)], "$[!Syntax@7"),
-        (&[(b";", 1)], "!Syntax@0"),
-    ];
-    run(&rt, rt.alloc(), Version::Three, &limits, rows)
+    run(&rt, rt.alloc(), Version::Three, &limits, REFUSALS_OF_VERSION_THREE)
 }
+
+const VERSION_THREE: &[Row] = &[
+    (
+        &[(b"%1\r\n", 1)],
+        "%1{ Truncated@4 taken 4 needed 6 depth 1",
+    ),
+    (
+        &[(b"=15\r\ntxt:Some string\r\n", 1)],
+        "=txt[Some string]. ends taken 0 needed 3 depth 0",
+    ),
+    (
+        &[(b"=4\r\n\r\n::\r\n", 1)],
+        "=\r\n:[]. ends taken 0 needed 3 depth 0",
+    ),
+    (
+        &[(b"!5\r\na b c\r\n", 1)],
+        "![a b c]. ends taken 0 needed 3 depth 0",
+    ),
+    (
+        &[(b"(-00120\r\n", 1)],
+        "(-[120]. ends taken 0 needed 3 depth 0",
+    ),
+    (&[(b"(+7\r\n", 1)], "([7]. ends taken 0 needed 3 depth 0"),
+    (&[(b"(-0\r\n", 1)], "([]. ends taken 0 needed 3 depth 0"),
+    (&[(b"(000\r\n", 1)], "([]. ends taken 0 needed 3 depth 0"),
+    (
+        &[(b"_\r\n#t\r\n#f\r\n", 1)],
+        "null;.true;.false;. ends taken 0 needed 3 depth 0",
+    ),
+    (
+        &[(b"$-1\r\n*-1\r\n", 1)],
+        "null;.null;. ends taken 0 needed 3 depth 0",
+    ),
+    (
+        &[(b">2\r\n+a\r\n*0\r\n", 1)],
+        ">2{+[a]*0{}}. ends taken 0 needed 3 depth 0",
+    ),
+    (
+        &[(b"~2\r\n#t\r\n%1\r\n$1\r\n\"\r\n_\r\n", 1)],
+        "~2{true;%1{$[\"]null;}}. ends taken 0 needed 3 depth 0",
+    ),
+    (
+        &[(b"$?\r\n;4\r\nHell\r\n;5\r\no wor\r\n;1\r\nd\r\n;0\r\n", 1)],
+        "$[Hello word]. ends taken 0 needed 3 depth 0",
+    ),
+    (
+        &[(b"$?\r\n;00\r\n", 1)],
+        "$[]. ends taken 0 needed 3 depth 0",
+    ),
+    (
+        &[(b"*?\r\n:1\r\n.\r\n", 1)],
+        "*?{1;}. ends taken 0 needed 3 depth 0",
+    ),
+    (
+        &[(b"~?\r\n.\r\n", 1)],
+        "~?{}. ends taken 0 needed 3 depth 0",
+    ),
+    (
+        &[(b"%?\r\n+a\r\n:1\r\n.\r\n", 1)],
+        "%?{+[a]1;}. ends taken 0 needed 3 depth 0",
+    ),
+    (
+        &[(b"|1\r\n+ttl\r\n:3600\r\n:3\r\n", 1)],
+        "|1{+[ttl]3600;3;}. ends taken 0 needed 3 depth 0",
+    ),
+    (
+        &[(b"|1\r\n+ttl\r\n:3600\r\n", 1)],
+        "|1{+[ttl]3600; Truncated@17 taken 17 needed 3 depth 1",
+    ),
+    (
+        &[(b"*2\r\n+a\r\n$0\r\n\r\n", 1)],
+        "*2{+[a]$[]}. ends taken 0 needed 3 depth 0",
+    ),
+    (
+        &[(b"|0\r\n_\r\n", 1)],
+        "|0{null;}. ends taken 0 needed 3 depth 0",
+    ),
+    (
+        &[(b"*2\r\n|0\r\n:1\r\n:2\r\n", 1)],
+        "*2{|0{1;}2;}. ends taken 0 needed 3 depth 0",
+    ),
+];
 
 #[test]
 fn version_three(rt: HostRuntime) -> Result<(), Fail> {
     let limits = Limits::standard();
-    let rows: &[Row] = &[
-        (
-            &[(b"%1\r\n", 1)],
-            "%1{ Truncated@4 taken 4 needed 6 depth 1",
-        ),
-        (
-            &[(b"=15\r\ntxt:Some string\r\n", 1)],
-            "=txt[Some string]. ends taken 0 needed 3 depth 0",
-        ),
-        (
-            &[(b"=4\r\n\r\n::\r\n", 1)],
-            "=\r\n:[]. ends taken 0 needed 3 depth 0",
-        ),
-        (
-            &[(b"!5\r\na b c\r\n", 1)],
-            "![a b c]. ends taken 0 needed 3 depth 0",
-        ),
-        (
-            &[(b"(-00120\r\n", 1)],
-            "(-[120]. ends taken 0 needed 3 depth 0",
-        ),
-        (&[(b"(+7\r\n", 1)], "([7]. ends taken 0 needed 3 depth 0"),
-        (&[(b"(-0\r\n", 1)], "([]. ends taken 0 needed 3 depth 0"),
-        (&[(b"(000\r\n", 1)], "([]. ends taken 0 needed 3 depth 0"),
-        (
-            &[(b"_\r\n#t\r\n#f\r\n", 1)],
-            "null;.true;.false;. ends taken 0 needed 3 depth 0",
-        ),
-        (
-            &[(b"$-1\r\n*-1\r\n", 1)],
-            "null;.null;. ends taken 0 needed 3 depth 0",
-        ),
-        (
-            &[(b">2\r\n+a\r\n*0\r\n", 1)],
-            ">2{+[a]*0{}}. ends taken 0 needed 3 depth 0",
-        ),
-        (
-            &[(b"~2\r\n#t\r\n%1\r\n$1\r\n\"\r\n_\r\n", 1)],
-            "~2{true;%1{$[\"]null;}}. ends taken 0 needed 3 depth 0",
-        ),
-        (
-            &[(b"$?\r\n;4\r\nHell\r\n;5\r\no wor\r\n;1\r\nd\r\n;0\r\n", 1)],
-            "$[Hello word]. ends taken 0 needed 3 depth 0",
-        ),
-        (
-            &[(b"$?\r\n;00\r\n", 1)],
-            "$[]. ends taken 0 needed 3 depth 0",
-        ),
-        (
-            &[(b"*?\r\n:1\r\n.\r\n", 1)],
-            "*?{1;}. ends taken 0 needed 3 depth 0",
-        ),
-        (
-            &[(b"~?\r\n.\r\n", 1)],
-            "~?{}. ends taken 0 needed 3 depth 0",
-        ),
-        (
-            &[(b"%?\r\n+a\r\n:1\r\n.\r\n", 1)],
-            "%?{+[a]1;}. ends taken 0 needed 3 depth 0",
-        ),
-        (
-            &[(b"|1\r\n+ttl\r\n:3600\r\n:3\r\n", 1)],
-            "|1{+[ttl]3600;3;}. ends taken 0 needed 3 depth 0",
-        ),
-        (
-            &[(b"|1\r\n+ttl\r\n:3600\r\n", 1)],
-            "|1{+[ttl]3600; Truncated@17 taken 17 needed 3 depth 1",
-        ),
-        (
-            &[(b"*2\r\n+a\r\n$0\r\n\r\n", 1)],
-            "*2{+[a]$[]}. ends taken 0 needed 3 depth 0",
-        ),
-        (
-            &[(b"|0\r\n_\r\n", 1)],
-            "|0{null;}. ends taken 0 needed 3 depth 0",
-        ),
-        (
-            &[(b"*2\r\n|0\r\n:1\r\n:2\r\n", 1)],
-            "*2{|0{1;}2;}. ends taken 0 needed 3 depth 0",
-        ),
-    ];
-    run(&rt, rt.alloc(), Version::Three, &limits, rows)
+    run(&rt, rt.alloc(), Version::Three, &limits, VERSION_THREE)
 }
+
+const LEAST_COMPLETIONS: &[(&[u8], u64)] = &[
+    (b"", 3),
+    (b"+", 2),
+    (b"-", 2),
+    (b"+abc", 2),
+    (b"+\r", 1),
+    (b":", 3),
+    (b":+", 3),
+    (b":-", 3),
+    (b":1", 2),
+    (b":-12", 2),
+    (b":1\r", 1),
+    (b"$", 4),
+    (b"$-", 3),
+    (b"$-1", 2),
+    (b"$-1\r", 1),
+    (b"$0", 4),
+    (b"$5", 9),
+    (b"$05\r", 8),
+    (b"$5\r\n", 7),
+    (b"$5\r\nab", 5),
+    (b"$5\r\nabcde", 2),
+    (b"$5\r\nabcde\r", 1),
+    (b"$?", 6),
+    (b"$?\r", 5),
+    (b"$?\r\n", 4),
+    (b"$?\r\n;", 3),
+    (b"$?\r\n;0", 2),
+    (b"$?\r\n;0\r", 1),
+    (b"$?\r\n;3", 11),
+    (b"$?\r\n;3\r", 10),
+    (b"$?\r\n;3\r\n", 9),
+    (b"$?\r\n;3\r\nabc", 6),
+    (b"$?\r\n;3\r\nabc\r", 5),
+    (b"$?\r\n;3\r\nabc\r\n", 4),
+    (b"!", 5),
+    (b"!0", 4),
+    (b"!7", 11),
+    (b"=", 9),
+    (b"=0", 9),
+    (b"=1", 15),
+    (b"=2", 25),
+    (b"=3", 35),
+    (b"=4", 8),
+    (b"=10", 14),
+    (b"=4\r", 7),
+    (b"=4\r\n", 6),
+    (b"=4\r\nabc", 3),
+    (b"=4\r\nabc:", 2),
+    (b"*", 3),
+    (b"*-", 3),
+    (b"*-1", 2),
+    (b"*0", 2),
+    (b"*3", 11),
+    (b"*3\r", 10),
+    (b"*3\r\n", 9),
+    (b"*3\r\n:1\r\n", 6),
+    (b"*3\r\n:1\r\n:", 6),
+    (b"~", 3),
+    (b"~2", 8),
+    (b"%", 3),
+    (b"%2", 14),
+    (b">", 3),
+    (b">1", 5),
+    (b"*?", 5),
+    (b"~?\r", 4),
+    (b"%?\r\n", 3),
+    (b"%?\r\n+", 8),
+    (b"%?\r\n+a\r\n", 6),
+    (b"%?\r\n+a\r\n+", 5),
+    (b"%?\r\n+a\r\n+\r\n", 3),
+    (b"*?\r\n", 3),
+    (b"*?\r\n+", 5),
+    (b"*?\r\n.", 2),
+    (b"*?\r\n.\r", 1),
+    (b"|", 6),
+    (b"|0", 5),
+    (b"|1", 11),
+    (b"|1\r", 10),
+    (b"|1\r\n", 9),
+    (b"|0\r\n", 3),
+    (b"_", 2),
+    (b"_\r", 1),
+    (b"#", 3),
+    (b"#t", 2),
+    (b"#t\r", 1),
+    (b"(", 3),
+    (b"(-", 3),
+    (b"(0", 2),
+    (b"(12", 2),
+    (b"(12\r", 1),
+    (b"(0\r", 1),
+    (b"*2\r\n%?\r\n+a\r\n*?\r\n.", 8),
+];
 
 #[test]
 fn least_completions(rt: HostRuntime) -> Result<(), Fail> {
     let limits = Limits::standard();
-    let rows: &[(&[u8], u64)] = &[
-        (b"", 3),
-        (b"+", 2),
-        (b"-", 2),
-        (b"+abc", 2),
-        (b"+\r", 1),
-        (b":", 3),
-        (b":+", 3),
-        (b":-", 3),
-        (b":1", 2),
-        (b":-12", 2),
-        (b":1\r", 1),
-        (b"$", 4),
-        (b"$-", 3),
-        (b"$-1", 2),
-        (b"$-1\r", 1),
-        (b"$0", 4),
-        (b"$5", 9),
-        (b"$05\r", 8),
-        (b"$5\r\n", 7),
-        (b"$5\r\nab", 5),
-        (b"$5\r\nabcde", 2),
-        (b"$5\r\nabcde\r", 1),
-        (b"$?", 6),
-        (b"$?\r", 5),
-        (b"$?\r\n", 4),
-        (b"$?\r\n;", 3),
-        (b"$?\r\n;0", 2),
-        (b"$?\r\n;0\r", 1),
-        (b"$?\r\n;3", 11),
-        (b"$?\r\n;3\r", 10),
-        (b"$?\r\n;3\r\n", 9),
-        (b"$?\r\n;3\r\nabc", 6),
-        (b"$?\r\n;3\r\nabc\r", 5),
-        (b"$?\r\n;3\r\nabc\r\n", 4),
-        (b"!", 5),
-        (b"!0", 4),
-        (b"!7", 11),
-        (b"=", 9),
-        (b"=0", 9),
-        (b"=1", 15),
-        (b"=2", 25),
-        (b"=3", 35),
-        (b"=4", 8),
-        (b"=10", 14),
-        (b"=4\r", 7),
-        (b"=4\r\n", 6),
-        (b"=4\r\nabc", 3),
-        (b"=4\r\nabc:", 2),
-        (b"*", 3),
-        (b"*-", 3),
-        (b"*-1", 2),
-        (b"*0", 2),
-        (b"*3", 11),
-        (b"*3\r", 10),
-        (b"*3\r\n", 9),
-        (b"*3\r\n:1\r\n", 6),
-        (b"*3\r\n:1\r\n:", 6),
-        (b"~", 3),
-        (b"~2", 8),
-        (b"%", 3),
-        (b"%2", 14),
-        (b">", 3),
-        (b">1", 5),
-        (b"*?", 5),
-        (b"~?\r", 4),
-        (b"%?\r\n", 3),
-        (b"%?\r\n+", 8),
-        (b"%?\r\n+a\r\n", 6),
-        (b"%?\r\n+a\r\n+", 5),
-        (b"%?\r\n+a\r\n+\r\n", 3),
-        (b"*?\r\n", 3),
-        (b"*?\r\n+", 5),
-        (b"*?\r\n.", 2),
-        (b"*?\r\n.\r", 1),
-        (b"|", 6),
-        (b"|0", 5),
-        (b"|1", 11),
-        (b"|1\r", 10),
-        (b"|1\r\n", 9),
-        (b"|0\r\n", 3),
-        (b"_", 2),
-        (b"_\r", 1),
-        (b"#", 3),
-        (b"#t", 2),
-        (b"#t\r", 1),
-        (b"(", 3),
-        (b"(-", 3),
-        (b"(0", 2),
-        (b"(12", 2),
-        (b"(12\r", 1),
-        (b"(0\r", 1),
-        (b"*2\r\n%?\r\n+a\r\n*?\r\n.", 8),
-    ];
-    for (front, needed) in rows {
+    for (front, needed) in LEAST_COMPLETIONS {
         let mut out = Vec::new(rt.alloc());
         let mut scanner = Scanner::new(Version::Three, &limits);
         for i in 0..front.len() {
@@ -536,23 +541,24 @@ fn least_completions(rt: HostRuntime) -> Result<(), Fail> {
     Ok(())
 }
 
+const WHOLE_VALUES: &[&[u8]] = &[
+    b"+OK\r\n",
+    b":-9223372036854775808\r\n",
+    b"$5\r\na\r\nbc\r\n",
+    b"$-1\r\n",
+    b"=15\r\ntxt:Some string\r\n",
+    b"(-00120\r\n",
+    b"(-0\r\n",
+    b"$?\r\n;4\r\nHell\r\n;5\r\no wor\r\n;1\r\nd\r\n;0\r\n",
+    b"%?\r\n+a\r\n*?\r\n:1\r\n.\r\n.\r\n",
+    b"|1\r\n+ttl\r\n:3600\r\n:3\r\n",
+    b"~2\r\n#t\r\n%1\r\n$1\r\na\r\n_\r\n",
+];
+
 #[test]
 fn truncations_are_truncated(rt: HostRuntime) -> Result<(), Fail> {
     let limits = Limits::standard();
-    let rows: &[&[u8]] = &[
-        b"+OK\r\n",
-        b":-9223372036854775808\r\n",
-        b"$5\r\na\r\nbc\r\n",
-        b"$-1\r\n",
-        b"=15\r\ntxt:Some string\r\n",
-        b"(-00120\r\n",
-        b"(-0\r\n",
-        b"$?\r\n;4\r\nHell\r\n;5\r\no wor\r\n;1\r\nd\r\n;0\r\n",
-        b"%?\r\n+a\r\n*?\r\n:1\r\n.\r\n.\r\n",
-        b"|1\r\n+ttl\r\n:3600\r\n:3\r\n",
-        b"~2\r\n#t\r\n%1\r\n$1\r\na\r\n_\r\n",
-    ];
-    for row in rows {
+    for row in WHOLE_VALUES {
         for size in 1..row.len() {
             let mut out = Vec::new(rt.alloc());
             let mut scanner = Scanner::new(Version::Three, &limits);

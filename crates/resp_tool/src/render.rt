@@ -7,7 +7,7 @@ ghost use Rattle.resp_value.specs.Canonical.{IsScalarValue};
 ghost use Rattle.resp_tool.specs.Scalars.{scalar_data, scalar_datum};
 ghost use Rattle.resp_tool.specs.Renders.{RendersText, RendersAll, RendersFront, RendersPart, OnRefused, OnOverLimits, OnPart, IsRefusedRest, IsSomeRest, IsUnfitRest, IsRenderingError, stream_rules};
 
-use crate::scalar_reader::{Fault, Scalar, read_scalar};
+use crate::scalar_reader::{Scalar, read_scalar};
 use crate::tool_error::{MOST_VALUES, ToolError};
 use resp_value::device::{Sink, WriteFault};
 use resp_value::laws;
@@ -107,13 +107,7 @@ pub fn render_all<T: Rendering, W: Sink>(
                 rest = behind;
                 count = number;
             }
-            Err(Fault { cause, at }) => {
-                return Err(ToolError::Refused {
-                    value: number,
-                    cause,
-                    at,
-                });
-            }
+            Err(fault) => return Err(fault.of_value(number)),
         }
     }
     Ok(())

@@ -8,6 +8,7 @@ ghost use Rattle.resp_value.specs.Canonical.{IsScalarValue};
 ghost use Rattle.resp_value.specs.Spellings.{IsSpelling};
 ghost use Rattle.resp_tool.specs.Scalars.{scalar_data, scalar_datum, SaysInteger, greatest_size, with_sign, SaysBulk, SaysLeaf, BeginsWithNoLine, BeginsWithNoNumber, BeginsWithNo, BeginsWithNoEnd, BeginsWithNoInteger, BeginsWithNoBulk, BeginsWithNoLeaf, BeginsWithNoScalar};
 
+use crate::tool_error::ToolError;
 use memchr::memchr2;
 use resp_value::cause::Cause;
 use resp_value::laws;
@@ -250,6 +251,16 @@ fn leaf(most: u64, input: &[u8]) -> Result<(Scalar<'_>, &[u8]), Refusal>
 pub struct Fault {
     pub cause: Cause,
     pub at: u64,
+}
+
+impl Fault {
+    /// Why the program stops, where this is the fault of the value with this number.
+    pub fn of_value(self, value: u64) -> ToolError
+        ensures { result ≡ ToolError.Refused value self.cause self.at }
+    {
+        let Fault { cause, at } = self;
+        ToolError::Refused { value, cause, at }
+    }
 }
 
 /// The value without members, of version 2, that the input begins with, and what lies behind it.
