@@ -5,5 +5,6 @@ pub mod Room
 pub mod Heads
 pub mod Machine
 pub mod Scan
+pub mod First
 pub mod Said
 pub mod Runs
