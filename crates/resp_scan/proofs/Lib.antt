@@ -1,3 +1,5 @@
 pub mod Runs
 pub mod ArrayHeads
 pub mod Starts
+pub mod Sound
+pub mod Kept

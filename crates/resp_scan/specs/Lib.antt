@@ -7,4 +7,5 @@ pub mod Machine
 pub mod Scan
 pub mod First
 pub mod Said
+pub mod Sound
 pub mod Runs
