@@ -3,3 +3,7 @@ pub mod ArrayHeads
 pub mod Starts
 pub mod Sound
 pub mod Kept
+pub mod Places
+pub mod Pieces
+pub mod Counted
+pub mod Told

@@ -15,7 +15,7 @@ use Rattle.resp_scan.specs.declared.frame.Shape.TheVariants.{Left, Begun}
 use Rattle.resp_scan.specs.declared.machine.Head.{Head}
 use Rattle.resp_scan.specs.declared.machine.Head.TheVariants as head
 use Rattle.resp_scan.specs.Magnitudes.{most}
-use Rattle.resp_scan.specs.Tokens.{Token, Place, Happening, Move, Go, Byte, Give, Refuse, at, ended, within, within_shape, AtStart, AtEnd, InLine, AtLineLf, AtIntSign, AtIntFirst, InInt, AtIntLf, AtBigSign, AtBigFirst, InBigZeros, AtBigZeroLf, AtBigDigit, InBig, AtTextEnd, AtNullOne, AtNullCr, AtNullLf, AtBool, AtBoolCr, AtBoolLf, AtBulkHead, AtArrayHead, AtHead, InHead, AtHeadLf, AtFormat, AtFormatSecond, AtFormatThird, AtFormatColon, InContent, AtContentCr, AtContentLf, AtStreamCr, AtStreamLf, AtChunk, InChunk, AtChunkCr, AtChunkLf, AtOpenCr, AtOpenLf, AtCloseCr, AtCloseLf, Dead}
+use Rattle.resp_scan.specs.Tokens.{Token, Place, Happening, Null, Truth, Int, Text, Digit, TextEnd, Open, Close, Move, Go, Byte, Give, Refuse, at, ended, within, within_shape, AtStart, AtEnd, InLine, AtLineLf, AtIntSign, AtIntFirst, InInt, AtIntLf, AtBigSign, AtBigFirst, InBigZeros, AtBigZeroLf, AtBigDigit, InBig, AtTextEnd, AtNullOne, AtNullCr, AtNullLf, AtBool, AtBoolCr, AtBoolLf, AtBulkHead, AtArrayHead, AtHead, InHead, AtHeadLf, AtFormat, AtFormatSecond, AtFormatThird, AtFormatColon, InContent, AtContentCr, AtContentLf, AtStreamCr, AtStreamLf, AtChunk, InChunk, AtChunkCr, AtChunkLf, AtOpenCr, AtOpenLf, AtCloseCr, AtCloseLf, Dead}
 use Rattle.resp_scan.specs.Room.{fits, over_total, is_full, begun, begun_in, begin_cause, items_cause, has_all, has_all_of, shape_begun, begun_count, owed_begun, reshaped}
 use Rattle.resp_scan.specs.Heads.{most_counted, counted_cause, over, first_needed, head_needed, may_end, opens, streamed_kind, by_version, string_cause, aggregate_cause, opened, opened_streamed, content_at, chunk_at, counted}
 use Rattle.resp_scan.specs.Machine.{unless, wants, is_digit, int_digit, int_first, big_digit, big_first, content_byte, open_streamed, head_digit, head_first, bulk_head, full_cause, array_head, begins, line_begins, aggregate_begins, push_begins, in_three, may_close, may_close_of, closing, start_three, start_next, without_first, next, next_in}
@@ -39,10 +39,21 @@ pub record IsInside (i : ℕ) (s t : Place) : Type 0 where
   pub sound : IsSoundBy i t
   pub inside : is_start t.token ≡ false
 
+-- the digit of a big number is owed and never comes of a byte
+abbrev pub IsPlain : Happening → Type 0
+IsPlain Null = Unit {0}
+IsPlain (Truth v) = Unit {0}
+IsPlain (Int n) = Unit {0}
+IsPlain (Text k) = Unit {0}
+IsPlain (Digit d) = ⊥
+IsPlain TextEnd = Unit {0}
+IsPlain (Open k n) = Unit {0}
+IsPlain Close = Unit {0}
+
 abbrev pub IsMove : ℕ → Place → Move → Type 0
 IsMove i s (Go t) = IsInside i s t
 IsMove i s (Byte t) = IsInside i s t
-IsMove i s (Give e t) = IsNext i s t
+IsMove i s (Give e t) = IsNext i s t × IsPlain e
 IsMove i s (Refuse c) = Unit {0}
 
 -- Causes that refuse nothing.
@@ -191,8 +202,8 @@ sound_begun s (x ∷ fs) n u e h c l q f =
 is_begun : (s : Place) (n : ℕ) (u : Token) → IsSoundBy 0 (at s AtStart) → 0 < n → token_needed u s.bounds.depth (begun s).frames ≤ n → Fits u s.bounds.depth (begun s).frames → is_start u ≡ false → IsMove 1 s (begins s n u)
 is_begun s n u h l q f g = unless_is 1 s (begin_cause s n) _ (λ c. record { taken = begun_taken s s.frames; sound = sound_begun s s.frames n u refl h c l q f; inside = g })
 
-is_line : (s : Place) (e : Happening) → IsSoundBy 0 (at s AtStart) → IsMove 1 s (line_begins s e)
-is_line s e h = unless_is 1 s (begin_cause s 2) _ (λ c. record { taken = begun_taken s s.frames; sound = sound_begun s s.frames 2 (InLine s.bounds.length) refl h c (omega arith) (omega arith) tt })
+is_line : (s : Place) (e : Happening) → IsPlain e → IsSoundBy 0 (at s AtStart) → IsMove 1 s (line_begins s e)
+is_line s e y h = unless_is 1 s (begin_cause s 2) _ (λ c. (record { taken = begun_taken s s.frames; sound = sound_begun s s.frames 2 (InLine s.bounds.length) refl h c (omega arith) (omega arith) tt }, y))
 
 is_aggregate : (s : Place) (x : Head) → IsSoundBy 0 (at s AtStart) → 0 < first_needed x → IsMove 1 s (aggregate_begins s x)
 is_aggregate s x h l = cond_if (IsMove 1 s) (is_full s) _ _ (λ e. tt) (λ e. is_begun s (first_needed x) (AtHead x) h l (omega arith) (λ o. omega (arith, begun_length s s.frames refl, not_full s e)) refl)
@@ -270,8 +281,8 @@ array_needed s = subst (λ n. cond (nat_le s.bounds.depth n) 4 3 ≤ cond (is_fu
 
 is_first : (s : Place) (b : ℕ) → IsSoundBy 0 (at s AtStart) → IsMove 1 s (start_next s b)
 is_first s b h =
-    cond_if (IsMove 1 s) (eqb b 43) _ _ (λ e. is_line s _ h) (λ e.
-    cond_if (IsMove 1 s) (eqb b 45) _ _ (λ e. is_line s _ h) (λ e.
+    cond_if (IsMove 1 s) (eqb b 43) _ _ (λ e. is_line s _ tt h) (λ e.
+    cond_if (IsMove 1 s) (eqb b 45) _ _ (λ e. is_line s _ tt h) (λ e.
     cond_if (IsMove 1 s) (eqb b 58) _ _ (λ e. is_begun s 3 AtIntSign h (omega arith) (omega arith) tt refl) (λ e.
     cond_if (IsMove 1 s) (eqb b 36) _ _ (λ e. is_begun s 4 AtBulkHead h (omega arith) (omega arith) tt refl) (λ e.
     cond_if (IsMove 1 s) (eqb b 42) _ _ (λ e. is_begun s (cond (is_full s) 4 3) AtArrayHead h (array_some s) (array_needed s) tt refl) (λ e.
@@ -335,8 +346,8 @@ is_chunk_at s t i room n h q =
     (λ e. less s t (AtChunkCr room) i h (omega (arith, q)) tt refl)
     (λ e. less s t (InChunk room n) i h (omega (arith, q)) (let w : 0 < n = grind (arith, nat_tests) in w) refl)
 
-next_of : (i : ℕ) (s t : Place) → IsInside i s t → IsNext i s t
-next_of i s t h = record { taken = h.taken; sound = h.sound }
+next_of : (i : ℕ) (s t : Place) → IsInside i s t → IsNext i s t × Unit {0}
+next_of i s t h = (record { taken = h.taken; sound = h.sound }, tt)
 
 four_of : (n : ℕ) → nat_le 4 n ≡ true → 4 ≤ n
 four_of n e = grind (arith, nat_tests)
@@ -361,13 +372,13 @@ is_counted s head.Verbatim n i h l m =
     less s (AtHeadLf head.Verbatim n) (AtFormat n) i h (omega (arith, f, verbatim_four n f)) f refl
 is_counted s (head.Chunk room) n i h l m =
     cond_if (IsMove (i + 1) s) (eqb n 0) _ _
-    (λ e. is_ended s (AtHeadLf (head.Chunk room) n) i h (omega (arith, chunk_none room n e)))
+    (λ e. (is_ended s (AtHeadLf (head.Chunk room) n) i h (omega (arith, chunk_none room n e)), tt))
     (λ e. less s (AtHeadLf (head.Chunk room) n) (InChunk (room - n) n) i h (omega (arith, chunk_some room n e)) (let w : 0 < n = grind (arith, nat_tests) in w) refl)
-is_counted s head.Array n i h l m = is_opened s (AtHeadLf head.Array n) kind.Array n i h (l refl) (omega arith)
-is_counted s head.Set n i h l m = is_opened s (AtHeadLf head.Set n) kind.Set n i h (l refl) (omega arith)
-is_counted s head.Map n i h l m = is_opened s (AtHeadLf head.Map n) kind.Map (n * 2) i h (l refl) (omega arith)
-is_counted s head.Attr n i h l m = is_opened s (AtHeadLf head.Attr n) kind.Attr (n * 2 + 1) i h (l refl) (omega arith)
-is_counted s head.Push n i h l m = is_opened s (AtHeadLf head.Push n) kind.Push n i h (l refl) (omega arith)
+is_counted s head.Array n i h l m = (is_opened s (AtHeadLf head.Array n) kind.Array n i h (l refl) (omega arith), tt)
+is_counted s head.Set n i h l m = (is_opened s (AtHeadLf head.Set n) kind.Set n i h (l refl) (omega arith), tt)
+is_counted s head.Map n i h l m = (is_opened s (AtHeadLf head.Map n) kind.Map (n * 2) i h (l refl) (omega arith), tt)
+is_counted s head.Attr n i h l m = (is_opened s (AtHeadLf head.Attr n) kind.Attr (n * 2 + 1) i h (l refl) (omega arith), tt)
+is_counted s head.Push n i h l m = (is_opened s (AtHeadLf head.Push n) kind.Push n i h (l refl) (omega arith), tt)
 
 -- Digits and lines.
 
@@ -415,7 +426,7 @@ is_move (InLine room) s i b h g =
     cond_if (IsMove (i + 1) s) (eqb b 13) _ _ (λ e. less s (InLine room) AtLineLf i h (omega arith) tt refl) (λ e.
     cond_if (IsMove (i + 1) s) (eqb b 10) _ _ (λ e. tt) (λ e.
     is_byte s i room InLine (λ r f. within_total s (InLine room) (InLine r) i 2 h (fits_room s (i + 1) 2 f (omega arith)) (omega arith) tt refl)))
-is_move AtLineLf s i b h g = wants_is (i + 1) s 10 b _ (is_ended s AtLineLf i h (omega arith))
+is_move AtLineLf s i b h g = wants_is (i + 1) s 10 b _ (is_ended s AtLineLf i h (omega arith), tt)
 is_move AtIntSign s i b h g =
     cond_if (IsMove (i + 1) s) (eqb b 45) _ _ (λ e. is_sign s AtIntSign (AtIntFirst true) i h (omega arith) tt refl) (λ e.
     cond_if (IsMove (i + 1) s) (eqb b 43) _ _ (λ e. is_sign s AtIntSign (AtIntFirst false) i h (omega arith) tt refl) (λ e.
@@ -424,7 +435,7 @@ is_move (AtIntFirst negative) s i b h g = is_int_first s (AtIntFirst negative) i
 is_move (InInt negative n) s i b h g =
     cond_if (IsMove (i + 1) s) (is_digit b) _ _ (λ e. is_int_digit s (InInt negative n) i negative (n * 10 + (b - 48)) h) (λ e.
     wants_is (i + 1) s 13 b _ (less s (InInt negative n) (AtIntLf negative n) i h (omega arith) h.token refl))
-is_move (AtIntLf negative n) s i b h g = wants_is (i + 1) s 10 b _ (is_ended s (AtIntLf negative n) i h (omega arith))
+is_move (AtIntLf negative n) s i b h g = wants_is (i + 1) s 10 b _ (is_ended s (AtIntLf negative n) i h (omega arith), tt)
 is_move AtBigSign s i b h g =
     cond_if (IsMove (i + 1) s) (eqb b 45) _ _ (λ e. is_sign s AtBigSign (AtBigFirst true) i h (omega arith) tt refl) (λ e.
     cond_if (IsMove (i + 1) s) (eqb b 43) _ _ (λ e. is_sign s AtBigSign (AtBigFirst false) i h (omega arith) tt refl) (λ e.
@@ -443,12 +454,12 @@ is_move (InBig room) s i b h g =
 is_move AtTextEnd s i b h g = tt
 is_move AtNullOne s i b h g = wants_is (i + 1) s 49 b _ (less s AtNullOne AtNullCr i h (omega arith) tt refl)
 is_move AtNullCr s i b h g = wants_is (i + 1) s 13 b _ (less s AtNullCr AtNullLf i h (omega arith) tt refl)
-is_move AtNullLf s i b h g = wants_is (i + 1) s 10 b _ (is_ended s AtNullLf i h (omega arith))
+is_move AtNullLf s i b h g = wants_is (i + 1) s 10 b _ (is_ended s AtNullLf i h (omega arith), tt)
 is_move AtBool s i b h g =
     cond_if (IsMove (i + 1) s) (eqb b 116) _ _ (λ e. less s AtBool (AtBoolCr true) i h (omega arith) tt refl) (λ e.
     wants_is (i + 1) s 102 b _ (less s AtBool (AtBoolCr false) i h (omega arith) tt refl))
 is_move (AtBoolCr v) s i b h g = wants_is (i + 1) s 13 b _ (less s (AtBoolCr v) (AtBoolLf v) i h (omega arith) tt refl)
-is_move (AtBoolLf v) s i b h g = wants_is (i + 1) s 10 b _ (is_ended s (AtBoolLf v) i h (omega arith))
+is_move (AtBoolLf v) s i b h g = wants_is (i + 1) s 10 b _ (is_ended s (AtBoolLf v) i h (omega arith), tt)
 is_move AtBulkHead s i b h g = is_bulk_head s i b h
 is_move AtArrayHead s i b h g = is_array_head s i b h
 is_move (AtHead x) s i b h g = is_head_first s (AtHead x) i x b h h.token
@@ -464,7 +475,7 @@ is_move (AtFormatColon format n) s i b h g =
     wants_is (i + 1) s 58 b _ (next_of (i + 1) s (content_at (n - 4) s) (is_content_at s (AtFormatColon format n) i (n - 4) h (omega (arith, f))))
 is_move (InContent n) s i b h g = let f : 0 < n = h.token in is_content_at s (InContent n) i (n - 1) h (omega (arith, f))
 is_move AtContentCr s i b h g = wants_is (i + 1) s 13 b _ (less s AtContentCr AtContentLf i h (omega arith) tt refl)
-is_move AtContentLf s i b h g = wants_is (i + 1) s 10 b _ (is_ended s AtContentLf i h (omega arith))
+is_move AtContentLf s i b h g = wants_is (i + 1) s 10 b _ (is_ended s AtContentLf i h (omega arith), tt)
 is_move AtStreamCr s i b h g = wants_is (i + 1) s 13 b _ (less s AtStreamCr AtStreamLf i h (omega arith) tt refl)
 is_move AtStreamLf s i b h g = wants_is (i + 1) s 10 b _ (next_of (i + 1) s (at s (AtChunk s.bounds.length)) (less s AtStreamLf (AtChunk s.bounds.length) i h (omega arith) tt refl))
 is_move (AtChunk room) s i b h g = wants_is (i + 1) s 59 b _ (less s (AtChunk room) (AtHead (head.Chunk room)) i h (omega arith) (λ o. absurd (false≢true o)) refl)
@@ -472,9 +483,9 @@ is_move (InChunk room n) s i b h g = let f : 0 < n = h.token in is_chunk_at s (I
 is_move (AtChunkCr room) s i b h g = wants_is (i + 1) s 13 b _ (less s (AtChunkCr room) (AtChunkLf room) i h (omega arith) tt refl)
 is_move (AtChunkLf room) s i b h g = wants_is (i + 1) s 10 b _ (less s (AtChunkLf room) (AtChunk room) i h (omega arith) tt refl)
 is_move (AtOpenCr k) s i b h g = wants_is (i + 1) s 13 b _ (less s (AtOpenCr k) (AtOpenLf k) i h (omega arith) h.token refl)
-is_move (AtOpenLf k) s i b h g = wants_is (i + 1) s 10 b _ (is_opened_streamed s (AtOpenLf k) k i h h.token (omega arith))
+is_move (AtOpenLf k) s i b h g = wants_is (i + 1) s 10 b _ (is_opened_streamed s (AtOpenLf k) k i h h.token (omega arith), tt)
 is_move AtCloseCr s i b h g = wants_is (i + 1) s 13 b _ (less s AtCloseCr AtCloseLf i h (omega arith) h.token refl)
 is_move AtCloseLf s i b h g =
     let w : s.taken + i + 1 + s.owed ≤ s.bounds.total = h.total in
-    wants_is (i + 1) s 10 b _ (record { taken = refl; sound = sound_closed s AtCloseLf s.frames i (i + 1) refl h h.token (omega (arith, w)) })
+    wants_is (i + 1) s 10 b _ (record { taken = refl; sound = sound_closed s AtCloseLf s.frames i (i + 1) refl h h.token (omega (arith, w)) }, tt)
 is_move (Dead c) s i b h g = tt

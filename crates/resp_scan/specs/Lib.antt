@@ -8,4 +8,6 @@ pub mod Scan
 pub mod First
 pub mod Said
 pub mod Sound
+pub mod States
+pub mod Heard
 pub mod Runs

@@ -162,7 +162,7 @@ impl Machine {
         requires fits { first ≤ 2 ^ 40 }
         requires bounded { IsBounded self.old }
         ensures bounded { IsBounded self.new }
-        ensures said { HasFrame (place self.old) head → self.old.owed + head_needed head first ≤ 2 ^ 40 → said result self.new ≡ scan from (at (place self.old) (InHead head first)) (drop from piece.now) }
+        ensures said { HasFrame (place self.old) head → self.old.owed + head_needed head first ≤ 2 ^ 41 → said result self.new ≡ scan from (at (place self.old) (InHead head first)) (drop from piece.now) }
     {
         let mut number = first;
         for i in from..piece.len() {
@@ -218,7 +218,7 @@ impl Machine {
         requires fits { number ≤ 2 ^ 40 }
         requires bounded { IsBounded self.old }
         ensures bounded { IsBounded self.new }
-        ensures said { HasFrame (place self.old) head → self.old.owed + head_needed head number ≤ 2 ^ 40 → said result self.new ≡ scan i (at (place self.old) (AtHeadLf head number)) (drop i piece.now) }
+        ensures said { HasFrame (place self.old) head → self.old.owed + head_needed head number ≤ 2 ^ 41 → said result self.new ≡ scan i (at (place self.old) (AtHeadLf head number)) (drop i piece.now) }
     {
         if i == piece.len() {
             self.head = head;

@@ -1,6 +1,7 @@
 //! The scanner.
 
-ghost use Rattle.std.specs.Prelude.{◌≡◌, length, [], OnOk, OnErr, IfErr};
+ghost use Rattle.resp_value.specs.Bounds.{AreBounds};
+ghost use Rattle.std.specs.Prelude.{◌≡◌, ◌≤◌, length, [], None, OnOk, OnErr, IfOk, IfErr};
 
 use crate::event::{Busy, Event, Fault, OpenKind, Step};
 use crate::heads::needed_behind;
@@ -26,13 +27,16 @@ impl Model for Scanner {
 
     ghost use Rattle.resp_scan.specs.Said.{place};
     ghost use Rattle.resp_scan.specs.Bounded.{IsBounded};
+    ghost use Rattle.resp_scan.specs.Sound.{IsSound};
 
     ghost view = { λ s. place s.machine };
 
-    ghost invariant = { λ s. IsBounded s.machine };
+    ghost invariant = { λ s. IsBounded s.machine × IsSound (place s.machine) };
 }
 
 impl Scanner {
+    ghost use Rattle.resp_scan.specs.Heard.{heard, stepped, IsOfPiece};
+    ghost use Rattle.resp_scan.specs.Scan.{advanced};
     ghost use Rattle.resp_scan.specs.Tokens.{AtStart};
 
     /// A scanner of this version within these limits, between two values.
@@ -49,7 +53,7 @@ impl Scanner {
         Scanner {
             machine: Machine {
                 version,
-                limits: *limits,
+                limits: in_range(limits),
                 frames: ArrayVec::new(),
                 state: State::Start,
                 taken: 0,
@@ -77,7 +81,12 @@ impl Scanner {
     /// Refuses the first byte after which nothing can follow, by the first cause that holds in this order: Syntax,
     /// Double, Version, NestedPush, Range, Streamed, Depth, Length, Items, Total. Every later step answers the same.
     #[inline(always)]
-    pub(crate) fn step<'a>(&mut self, piece: &'a [u8]) -> Result<Step<'a>, Fault> {
+    pub fn step<'a>(&mut self, piece: &'a [u8]) -> Result<Step<'a>, Fault>
+        ensures heard { heard self.old.taken result self.new ≡ stepped (advanced self.old piece.now) }
+        ensures within { IfOk result (λ step. step.used ≤ length piece.now) }
+        ensures lent { IfOk result (λ step. IsOfPiece piece.now step) }
+        ensures counted { IfErr result (λ fault. fault.at ≡ self.new.taken) }
+    {
         self.machine.step(piece)
     }
 
@@ -147,6 +156,21 @@ impl Scanner {
             .owed
             .saturating_add(self.machine.token_needed())
     }
+}
+
+/// The limits, of which each is in its range.
+#[inline]
+fn in_range(limits: &Limits) -> Limits
+    ensures same { result ≡ limits.now }
+    ensures in_range { AreBounds result }
+{
+    let _ = (
+        limits.depth(),
+        limits.length(),
+        limits.total(),
+        limits.items(),
+    );
+    *limits
 }
 
 impl Machine {
