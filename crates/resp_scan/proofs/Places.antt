@@ -1,14 +1,21 @@
 -- What a token says of the machine's fields.
-use Rattle.std.proofs.Common.{◌≡◌, ℕ, ◌+◌, ◌*◌, ◌^◌, ◌<◌, ◌≤◌, List, [], ◌∷◌, length, reverse, ap, subst, arith}
+use Rattle.std.proofs.Common.{◌≡◌, ◌≢◌, ℕ, ◌+◌, ◌*◌, ◌^◌, ◌<◌, ◌≤◌, false, cond, eqb, List, [], ◌∷◌, length, reverse, refl, ap, subst, ◌∙◌, arith}
+use Rattle.std.proofs.lemmas.Bool.Decides.{nat_tests}
 use Rattle.resp_scan.specs.declared.frame.Frame.{Frame}
+use Rattle.resp_scan.specs.declared.frame.Shape.{Shape}
+use Rattle.resp_scan.specs.declared.frame.Shape.TheVariants.{Left, Begun}
+use Rattle.resp_scan.specs.declared.machine.Head.{Head}
+use Rattle.resp_scan.specs.declared.machine.Head.TheVariants as head
 use Rattle.resp_scan.specs.declared.machine.State.{State}
 use Rattle.resp_scan.specs.declared.machine.State.TheVariants as state
 use Rattle.resp_scan.specs.declared.machine.Machine.{Machine}
-use Rattle.resp_scan.specs.Tokens.{Place, at}
+use Rattle.resp_scan.specs.Magnitudes.{most}
+use Rattle.resp_scan.specs.Tokens.{Place, at, within, within_shape, AtStart, AtEnd}
 use Rattle.resp_scan.specs.Heads.{head_needed, HasFrame}
 use Rattle.resp_scan.specs.Room.{IsRoomy, top_begun}
 use Rattle.resp_scan.specs.Said.{place, token_at}
-use Rattle.resp_scan.specs.Sound.{IsSound, IsSoundBy, AreCounted}
+use Rattle.resp_scan.specs.Sound.{IsSound, IsSoundBy, AreCounted, token_needed}
+use Rattle.resp_scan.proofs.Sound.{cond_if, head_more}
 
 top_counted : (items : ℕ) (fs : List Frame) → AreCounted items fs → top_begun fs ≤ items * 2
 top_counted items [] h = omega arith
@@ -23,6 +30,26 @@ roomy s h =
 there : (m : Machine) (x : State) → IsSound (place m) → m.state ≡ x → IsSound (at (place m) (token_at x m))
 there m x h e = subst (λ v. IsSound (at (place m) (token_at v m))) e h
 
+pub few_needed : (m : Machine) (x : State) → IsSound (place m) → m.state ≡ x → m.owed + token_needed (token_at x m) m.limits.depth (place m).frames ≤ 2 ^ 40
+few_needed m x h e = let k = there m x h e in omega (arith, k.total, k.bounds.total_in_range.1)
+
+pub sound_start : (m : Machine) → IsSound (place m) → m.state ≡ state.Start → IsSound (at (place m) AtStart)
+sound_start m h e = there m state.Start h e
+
+within_open : (f : Frame) (fs : List Frame) (x : Shape) → f.shape ≡ x → x ≢ Left 0 → within (f ∷ fs) ≡ AtStart
+within_open f fs (Left n) e h = ap within_shape e ∙ cond_if (λ t. t ≡ AtStart) (eqb n 0) AtEnd AtStart (λ z. absurd (h (ap Left (let w : n ≡ 0 = grind (arith, nat_tests) in w)))) (λ z. refl)
+within_open f fs (Begun n) e h = ap within_shape e
+
+-- behind a member that isn't the last of its aggregate the next may begin
+pub sound_member : (m : Machine) (f : Frame) (fs : List Frame) → IsSound (place m) → m.state ≡ state.Ended → (place m).frames ≡ f ∷ fs → f.shape ≢ Left 0 → IsSound (at (place m) AtStart)
+sound_member m f fs h e q n = subst (λ t. IsSound (at (place m) t)) (ap within q ∙ within_open f fs f.shape refl n) (there m state.Ended h e)
+
+pub int_most : (m : Machine) → IsSound (place m) → m.state ≡ state.Int → m.magnitude ≤ most m.negative
+int_most m h e = (there m state.Int h e).token
+
+pub int_lf_most : (m : Machine) → IsSound (place m) → m.state ≡ state.IntLf → m.magnitude ≤ most m.negative
+int_lf_most m h e = (there m state.IntLf h e).token
+
 pub content_some : (m : Machine) → IsSound (place m) → m.state ≡ state.Content → 0 < m.count
 content_some m h e = (there m state.Content h e).token
 
@@ -36,13 +63,19 @@ pub more_frame : (m : Machine) → IsSound (place m) → m.state ≡ state.HeadM
 more_frame m h e = let k = there m state.HeadMore h e in λ o. let l : length (place m).frames < m.limits.depth = k.token o in omega (arith, l, k.bounds.depth_in_range.1)
 
 pub more_owed : (m : Machine) → IsSound (place m) → m.state ≡ state.HeadMore → m.owed + head_needed m.head m.count ≤ 2 ^ 41
-more_owed m h e = let k = there m state.HeadMore h e in omega (arith, k.total, k.bounds.total_in_range.1)
+more_owed m h e = omega (arith, few_needed m state.HeadMore h e)
+
+pub more_few : (m : Machine) → IsSound (place m) → m.state ≡ state.HeadMore → m.count ≤ 2 ^ 40
+more_few m h e = omega (arith, few_needed m state.HeadMore h e, head_more m.head m.count)
 
 pub lf_frame : (m : Machine) → IsSound (place m) → m.state ≡ state.HeadLf → HasFrame (place m) m.head
 lf_frame m h e = let k = there m state.HeadLf h e in λ o. let l : length (place m).frames < m.limits.depth = k.token.0 o in omega (arith, l, k.bounds.depth_in_range.1)
 
 pub lf_owed : (m : Machine) → IsSound (place m) → m.state ≡ state.HeadLf → m.owed + head_needed m.head m.count ≤ 2 ^ 41
-lf_owed m h e = let k = there m state.HeadLf h e in omega (arith, k.total, k.bounds.total_in_range.1)
+lf_owed m h e = omega (arith, few_needed m state.HeadLf h e)
+
+pub lf_few : (m : Machine) → IsSound (place m) → m.state ≡ state.HeadLf → m.count ≤ 2 ^ 40
+lf_few m h e = omega (arith, few_needed m state.HeadLf h e, head_more m.head m.count)
 
 pub open_cr_level : (m : Machine) → IsSound (place m) → m.state ≡ state.OpenCr → length (place m).frames < 128
 open_cr_level m h e = let k = there m state.OpenCr h e in let l : length (place m).frames < m.limits.depth = k.token in omega (arith, l, k.bounds.depth_in_range.1)

@@ -291,16 +291,20 @@ is_first s b h =
 
 -- Heads.
 
+-- a head needs more bytes than its number counts
+pub head_more : (h : Head) (n : ℕ) → n + 1 ≤ head_needed h n
+head_more head.Bulk n = omega arith
+head_more head.BulkError n = omega arith
+head_more head.Verbatim n = cond_if (λ v. n + 1 ≤ v) (eqb n 0) _ _ (λ e. let z : n ≡ 0 = grind (arith, nat_tests) in omega (arith, z)) (λ e. cond_if (λ v. n + 1 ≤ v) (nat_lt n 4) _ _ (λ e. omega arith) (λ e. omega arith))
+head_more (head.Chunk room) n = cond_if (λ v. n + 1 ≤ v) (eqb n 0) _ _ (λ e. let z : n ≡ 0 = grind (arith, nat_tests) in omega (arith, z)) (λ e. omega arith)
+head_more head.Array n = omega arith
+head_more head.Set n = omega arith
+head_more head.Map n = omega arith
+head_more head.Attr n = omega arith
+head_more head.Push n = omega arith
+
 head_some : (h : Head) (n : ℕ) → 0 < head_needed h n
-head_some head.Bulk n = omega arith
-head_some head.BulkError n = omega arith
-head_some head.Verbatim n = cond_if (λ v. 0 < v) (eqb n 0) _ _ (λ e. omega arith) (λ e. cond_if (λ v. 0 < v) (nat_lt n 4) _ _ (λ e. omega arith) (λ e. omega arith))
-head_some (head.Chunk room) n = cond_if (λ v. 0 < v) (eqb n 0) _ _ (λ e. omega arith) (λ e. omega arith)
-head_some head.Array n = omega arith
-head_some head.Set n = omega arith
-head_some head.Map n = omega arith
-head_some head.Attr n = omega arith
-head_some head.Push n = omega arith
+head_some h n = omega (arith, head_more h n)
 
 is_head_digit : (s : Place) (t : Token) (i : ℕ) (x : Head) (n : ℕ) → IsSoundBy i (at s t) → HasLevel x s.bounds.depth s.frames → IsMove (i + 1) s (head_digit s (i + 1) x n)
 is_head_digit s t i x n h l = unless_is (i + 1) s (over s (i + 1) x n) _ (λ c.

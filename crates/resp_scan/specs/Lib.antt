@@ -1,5 +1,4 @@
 pub mod Magnitudes
-pub mod Bounded
 pub mod Tokens
 pub mod Room
 pub mod Heads

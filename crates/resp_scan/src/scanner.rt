@@ -26,12 +26,11 @@ impl Model for Scanner {
     ghost Value = { Place };
 
     ghost use Rattle.resp_scan.specs.Said.{place};
-    ghost use Rattle.resp_scan.specs.Bounded.{IsBounded};
     ghost use Rattle.resp_scan.specs.Sound.{IsSound};
 
     ghost view = { λ s. place s.machine };
 
-    ghost invariant = { λ s. IsBounded s.machine × IsSound (place s.machine) };
+    ghost invariant = { λ s. IsSound (place s.machine) };
 }
 
 impl Scanner {
@@ -174,11 +173,12 @@ fn in_range(limits: &Limits) -> Limits
 }
 
 impl Machine {
-    ghost use Rattle.resp_scan.specs.Bounded.{IsBounded};
+    ghost use Rattle.resp_scan.specs.Said.{place};
+    ghost use Rattle.resp_scan.specs.Sound.{IsSound};
 
     /// The least number of bytes that complete the token.
     fn token_needed(&self) -> u64
-        requires { IsBounded self.now }
+        requires { IsSound (place self.now) }
     {
         match self.state {
             State::Start => { if self.frames.is_empty() { 3 } else { 0 } }
@@ -200,7 +200,7 @@ impl Machine {
 
     /// The least number of bytes that complete a head, counted content or a close.
     fn counted_needed(&self) -> u64
-        requires { IsBounded self.now }
+        requires { IsSound (place self.now) }
     {
         match self.state {
             State::HeadFirst => first_needed(self.head),

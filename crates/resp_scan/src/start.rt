@@ -10,10 +10,9 @@ use resp_value::cause::Cause;
 use resp_value::version::Version;
 
 impl Machine {
-    ghost use Rattle.resp_scan.specs.Bounded.{IsBounded};
     ghost use Rattle.resp_scan.specs.First.{after_first, first_move};
     ghost use Rattle.resp_scan.specs.Heads.{first_needed, HasFrame};
-    ghost use Rattle.resp_scan.specs.Room.{IsRoomy};
+    ghost use Rattle.resp_scan.specs.Sound.{IsSound};
     ghost use Rattle.resp_scan.specs.Said.{place, said};
     ghost use Rattle.resp_scan.specs.Scan.{scan};
     ghost use Rattle.resp_scan.specs.Tokens.{at, Text, AtStart, AtHead};
@@ -22,9 +21,8 @@ impl Machine {
     #[inline]
     #[tactic(auto, using(crate::proofs::Starts::first_scan, crate::proofs::Starts::refused_answer, crate::proofs::Starts::begun_answer))]
     pub fn start(&mut self, piece: &[u8]) -> Got
-        requires bounded { IsBounded self.old }
-        ensures bounded { IsBounded self.new }
-        ensures said { IsRoomy (place self.old) → said result self.new ≡ scan 0 (at (place self.old) AtStart) piece.now }
+        requires { IsSound (at (place self.old) AtStart) }
+        ensures { said result self.new ≡ scan 0 (at (place self.old) AtStart) piece.now }
     {
         if piece.is_empty() {
             return self.rest(State::Start, piece);
@@ -62,10 +60,9 @@ impl Machine {
     #[inline]
     #[tactic(auto, using(crate::proofs::Starts::begun_line, crate::proofs::Starts::refused_line))]
     fn line_begins(&mut self, what: What) -> Got
-        requires bounded { IsBounded self.old }
-        ensures bounded { IsBounded self.new }
-        ensures simple { (p : List ℕ) → IsRoomy (place self.old) → what ≡ What.Simple → said result self.new ≡ after_first (m.line_begins (at (place self.old) AtStart) (Text text.Simple)) (at (place self.old) AtStart) p }
-        ensures error { (p : List ℕ) → IsRoomy (place self.old) → what ≡ What.Error → said result self.new ≡ after_first (m.line_begins (at (place self.old) AtStart) (Text text.Error)) (at (place self.old) AtStart) p }
+        requires { IsSound (at (place self.old) AtStart) }
+        ensures simple { (p : List ℕ) → what ≡ What.Simple → said result self.new ≡ after_first (m.line_begins (at (place self.old) AtStart) (Text text.Simple)) (at (place self.old) AtStart) p }
+        ensures error { (p : List ℕ) → what ≡ What.Error → said result self.new ≡ after_first (m.line_begins (at (place self.old) AtStart) (Text text.Error)) (at (place self.old) AtStart) p }
     {
         if let Some(cause) = self.begin(2) {
             return self.fail(0, cause);
@@ -80,9 +77,8 @@ impl Machine {
     #[tactic(auto, using(crate::proofs::Starts::refused_answer, crate::proofs::Starts::begun_answer))]
     fn start_three(&mut self, piece: &[u8], first: First) -> Got
         requires within { 0 < length piece.now }
-        requires bounded { IsBounded self.old }
-        ensures bounded { IsBounded self.new }
-        ensures said { IsRoomy (place self.old) → said result self.new ≡ after_first (first_move (at (place self.old) AtStart) first) (at (place self.old) AtStart) (drop 1 piece.now) }
+        requires sound { IsSound (at (place self.old) AtStart) }
+        ensures { said result self.new ≡ after_first (first_move (at (place self.old) AtStart) first) (at (place self.old) AtStart) (drop 1 piece.now) }
     {
         match first {
             First::Null => match self.begin(2) {
@@ -116,9 +112,9 @@ impl Machine {
     fn head_begins(&mut self, piece: &[u8], head: Head, needed: u64) -> Got
         requires some { 0 < length piece.now }
         requires few { needed < 10 }
-        requires bounded { IsBounded self.old }
-        ensures bounded { IsBounded self.new }
-        ensures said { IsRoomy (place self.old) → HasFrame (place self.old) head → said result self.new ≡ after_first (m.begins (at (place self.old) AtStart) needed (AtHead head)) (at (place self.old) AtStart) (drop 1 piece.now) }
+        requires level { HasFrame (place self.old) head }
+        requires sound { IsSound (at (place self.old) AtStart) }
+        ensures { said result self.new ≡ after_first (m.begins (at (place self.old) AtStart) needed (AtHead head)) (at (place self.old) AtStart) (drop 1 piece.now) }
     {
         match self.begin(needed) {
             Some(cause) => self.fail(0, cause),
@@ -130,9 +126,9 @@ impl Machine {
     fn aggregate_begins(&mut self, piece: &[u8], head: Head, needed: u64) -> Got
         requires some { 0 < length piece.now }
         requires few { needed < 10 }
-        requires bounded { IsBounded self.old }
-        ensures bounded { IsBounded self.new }
-        ensures said { IsRoomy (place self.old) → needed ≡ first_needed head → said result self.new ≡ after_first (m.aggregate_begins (at (place self.old) AtStart) head) (at (place self.old) AtStart) (drop 1 piece.now) }
+        requires needed { needed ≡ first_needed head }
+        requires sound { IsSound (at (place self.old) AtStart) }
+        ensures { said result self.new ≡ after_first (m.aggregate_begins (at (place self.old) AtStart) head) (at (place self.old) AtStart) (drop 1 piece.now) }
     {
         if self.is_full() {
             return self.fail(0, Cause::Depth);

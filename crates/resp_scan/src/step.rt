@@ -11,7 +11,6 @@ use resp_value::cause::Cause;
 static DIGITS: [u8; 10] = *b"0123456789";
 
 impl Machine {
-    ghost use Rattle.resp_scan.specs.Bounded.{IsBounded};
     ghost use Rattle.resp_scan.specs.Heard.{heard, stepped, IsOfPiece};
     ghost use Rattle.resp_scan.specs.Said.{place, said};
     ghost use Rattle.resp_scan.specs.Scan.{advanced};
@@ -20,12 +19,11 @@ impl Machine {
 
     /// Behind a value: its end or its parent's close is owed, or the next member may begin.
     #[inline]
-    #[tactic(auto, using(crate::proofs::Places::roomy))]
+    #[tactic(auto, using(crate::proofs::Places::sound_member))]
     fn after_value(&mut self, piece: &[u8]) -> Got
+        requires state { self.old.state ≡ State.Ended }
         requires sound { IsSound (place self.old) }
-        requires bounded { IsBounded self.old }
-        ensures bounded { IsBounded self.new }
-        ensures said { self.old.state ≡ State.Ended → said result self.new ≡ advanced (place self.old) piece.now }
+        ensures { said result self.new ≡ advanced (place self.old) piece.now }
     {
         match self.frames.as_slice().last() {
             None => {
@@ -45,12 +43,10 @@ impl Machine {
 
     /// The tokens in which a piece seldom begins.
     #[inline(never)]
-    #[tactic(auto, using(crate::proofs::Places::roomy))]
+    #[tactic(auto, using(crate::proofs::Places::sound_start, crate::proofs::Places::int_most, crate::proofs::Places::int_lf_most))]
     fn resume(&mut self, piece: &[u8]) -> Got
-        requires sound { IsSound (place self.old) }
-        requires bounded { IsBounded self.old }
-        ensures bounded { IsBounded self.new }
-        ensures said { said result self.new ≡ advanced (place self.old) piece.now }
+        requires { IsSound (place self.old) }
+        ensures { said result self.new ≡ advanced (place self.old) piece.now }
     {
         match self.state {
             State::Start => self.start(piece),
@@ -85,12 +81,10 @@ impl Machine {
 
     /// The tokens of heads, counted content and closes.
     #[inline]
-    #[tactic(auto, using(crate::proofs::Places::content_some, crate::proofs::Places::chunk_some, crate::proofs::Places::first_frame, crate::proofs::Places::more_frame, crate::proofs::Places::more_owed, crate::proofs::Places::lf_frame, crate::proofs::Places::lf_owed, crate::proofs::Places::open_cr_level, crate::proofs::Places::open_lf_level))]
+    #[tactic(auto, using(crate::proofs::Places::content_some, crate::proofs::Places::chunk_some, crate::proofs::Places::first_frame, crate::proofs::Places::more_frame, crate::proofs::Places::more_owed, crate::proofs::Places::more_few, crate::proofs::Places::lf_few, crate::proofs::Places::lf_frame, crate::proofs::Places::lf_owed, crate::proofs::Places::open_cr_level, crate::proofs::Places::open_lf_level))]
     fn resume_counted(&mut self, piece: &[u8]) -> Got
-        requires sound { IsSound (place self.old) }
-        requires bounded { IsBounded self.old }
-        ensures bounded { IsBounded self.new }
-        ensures said { is_counted self.old.state ≡ true → said result self.new ≡ advanced (place self.old) piece.now }
+        requires { IsSound (place self.old) }
+        ensures { is_counted self.old.state ≡ true → said result self.new ≡ advanced (place self.old) piece.now }
     {
         match self.state {
             State::HeadFirst => self.head_first(piece, 0, self.head),
@@ -118,12 +112,10 @@ impl Machine {
     }
 
     #[inline(always)]
-    #[tactic(auto, using(crate::proofs::Places::roomy, crate::proofs::Places::content_some))]
+    #[tactic(auto, using(crate::proofs::Places::sound_start, crate::proofs::Places::content_some))]
     fn advance(&mut self, piece: &[u8]) -> Got
-        requires sound { IsSound (place self.old) }
-        requires bounded { IsBounded self.old }
-        ensures bounded { IsBounded self.new }
-        ensures said { said result self.new ≡ advanced (place self.old) piece.now }
+        requires { IsSound (place self.old) }
+        ensures { said result self.new ≡ advanced (place self.old) piece.now }
     {
         match self.state {
             State::Start => self.start(piece),
@@ -137,9 +129,7 @@ impl Machine {
 
     #[inline(always)]
     pub fn step<'a>(&mut self, piece: &'a [u8]) -> Result<Step<'a>, Fault>
-        requires sound { IsSound (place self.old) }
-        requires bounded { IsBounded self.old }
-        ensures bounded { IsBounded self.new }
+        requires { IsSound (place self.old) }
         ensures heard { heard (place self.old).taken result (place self.new) ≡ stepped (advanced (place self.old) piece.now) }
         ensures within { IfOk result (λ step. step.used ≤ length piece.now) }
         ensures lent { IfOk result (λ step. IsOfPiece piece.now step) }

@@ -8,4 +8,4 @@ use Rattle.resp_scan.proofs.scanner.Scanner.step.Goals as goal
 pub invariant_of-self : goal.invariant_of-self
 invariant_of-self c =
     let s = place c.self.inside.machine in
-    (c.step.ensures.bounded, sound_heard s.taken c.step.result (place c.step.new.self) (subst IsCounted (sym c.step.ensures.heard) (counted_out s (advanced s c.args.piece.now) (is_advanced s c.args.piece.now c.self.invariant.1))))
+    sound_heard s.taken c.step.result (place c.step.new.self) (subst IsCounted (sym c.step.ensures.heard) (counted_out s (advanced s c.args.piece.now) (is_advanced s c.args.piece.now c.self.invariant)))
