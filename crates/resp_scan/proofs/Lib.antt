@@ -7,3 +7,4 @@ pub mod Places
 pub mod Pieces
 pub mod Counted
 pub mod Told
+pub mod Faults

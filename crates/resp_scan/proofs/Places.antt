@@ -82,3 +82,18 @@ open_cr_level m h e = let k = there m state.OpenCr h e in let l : length (place 
 
 pub open_lf_level : (m : Machine) → IsSound (place m) → m.state ≡ state.OpenLf → length (place m).frames < 128
 open_lf_level m h e = let k = there m state.OpenLf h e in let l : length (place m).frames < m.limits.depth = k.token in omega (arith, l, k.bounds.depth_in_range.1)
+
+pub format_first_few : (m : Machine) → IsSound (place m) → m.state ≡ state.FormatFirst → m.count + 2 ≤ 2 ^ 40
+format_first_few m h e = omega (arith, few_needed m state.FormatFirst h e)
+
+pub format_second_few : (m : Machine) → IsSound (place m) → m.state ≡ state.FormatSecond → m.count + 1 ≤ 2 ^ 40
+format_second_few m h e = omega (arith, few_needed m state.FormatSecond h e)
+
+pub colon_four : (m : Machine) → IsSound (place m) → m.state ≡ state.FormatColon → 4 ≤ m.count
+colon_four m h e = (there m state.FormatColon h e).token
+
+pub content_few : (m : Machine) → IsSound (place m) → m.state ≡ state.Content → m.count + 2 ≤ 2 ^ 40
+content_few m h e = omega (arith, few_needed m state.Content h e)
+
+pub chunk_few : (m : Machine) → IsSound (place m) → m.state ≡ state.ChunkContent → m.count + 6 ≤ 2 ^ 40
+chunk_few m h e = omega (arith, few_needed m state.ChunkContent h e)

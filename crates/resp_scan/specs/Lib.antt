@@ -7,6 +7,7 @@ pub mod Scan
 pub mod First
 pub mod Said
 pub mod Sound
+pub mod End
 pub mod States
 pub mod Heard
 pub mod Runs

@@ -83,6 +83,10 @@ token_needed AtCloseCr depth fs = 2
 token_needed AtCloseLf depth fs = 1
 token_needed (Dead c) depth fs = 0
 
+-- the fewest bytes that complete the value
+abbrev pub needed : Place → ℕ
+needed s = token_needed s.token s.bounds.depth s.frames + s.owed
+
 -- What holds of the frames.
 
 -- in each as many members have begun as items lets
