@@ -1,5 +1,5 @@
 -- A step counts the bytes that it takes, and changes nothing else.
-use Rattle.std.proofs.Common.{◌≡◌, ℕ, ◌+◌, ◌-◌, ◌≤◌, List, Option, Some, None, Result, Ok, Err, Bool, true, false, eqb, refl, sym, ap, subst, ◌∙◌, arith}
+use Rattle.std.proofs.Common.{◌≡◌, ℕ, ◌+◌, List, Option, Some, None, Result, Ok, Err, Bool, true, false, eqb, refl, ap, arith}
 use Rattle.resp_scan.specs.declared.machine.State.{State}
 use Rattle.resp_scan.specs.declared.machine.State.TheVariants as state
 use Rattle.resp_scan.specs.declared.machine.Machine.{Machine}
@@ -7,7 +7,7 @@ use Rattle.resp_scan.specs.declared.event.Event.{Event}
 use Rattle.resp_scan.specs.declared.event.Event.TheVariants as event
 use Rattle.resp_scan.specs.declared.event.Step.{Step}
 use Rattle.resp_scan.specs.declared.event.Fault.{Fault}
-use Rattle.resp_scan.specs.Tokens.{Place, Dead}
+use Rattle.resp_scan.specs.Tokens.{Place}
 use Rattle.resp_scan.specs.Scan.{Out, More, Gave, Part, Whole, Bad}
 use Rattle.resp_scan.specs.Said.{place, token_at}
 use Rattle.resp_scan.specs.Sound.{IsSoundBy, IsSound}

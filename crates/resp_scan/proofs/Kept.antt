@@ -1,15 +1,14 @@
 -- A piece keeps what stands of every place.
-use Rattle.std.proofs.Common.{◌≡◌, ℕ, ◌+◌, ◌≤◌, true, false, List, [], ◌∷◌, length, refl, sym, ap, subst, ◌∙◌, arith}
+use Rattle.std.proofs.Common.{◌≡◌, ℕ, ◌+◌, ◌≤◌, true, false, List, [], ◌∷◌, refl, sym, ap, subst, ◌∙◌, arith}
 use Rattle.std.proofs.lemmas.Bool.{false≢true}
 use Rattle.resp_value.specs.Bounds.{Bounds, AreBounds}
 use Rattle.resp_value.specs.declared.cause.Cause.{Cause}
 use Rattle.resp_value.specs.declared.version.Version.{Version}
 use Rattle.resp_scan.specs.declared.frame.Frame.{Frame}
-use Rattle.resp_scan.specs.declared.frame.Shape.TheVariants.{Left}
-use Rattle.resp_scan.specs.Tokens.{Token, Place, Happening, Null, Truth, Int, Text, Digit, TextEnd, Open, Close, Move, Go, Byte, Give, Refuse, at, ended, AtStart, AtEnd, InLine, AtLineLf, AtIntSign, AtIntFirst, InInt, AtIntLf, AtBigSign, AtBigFirst, InBigZeros, AtBigZeroLf, AtBigDigit, InBig, AtTextEnd, AtNullOne, AtNullCr, AtNullLf, AtBool, AtBoolCr, AtBoolLf, AtBulkHead, AtArrayHead, AtHead, InHead, AtHeadLf, AtFormat, AtFormatSecond, AtFormatThird, AtFormatColon, InContent, AtContentCr, AtContentLf, AtStreamCr, AtStreamLf, AtChunk, InChunk, AtChunkCr, AtChunkLf, AtOpenCr, AtOpenLf, AtCloseCr, AtCloseLf, Dead}
+use Rattle.resp_scan.specs.Tokens.{Token, Place, Happening, Null, Truth, Int, Text, Digit, TextEnd, Open, Close, Move, Go, Byte, Give, Refuse, at, AtStart, AtEnd, InLine, AtLineLf, AtIntSign, AtIntFirst, InInt, AtIntLf, AtBigSign, AtBigFirst, InBigZeros, AtBigZeroLf, AtBigDigit, InBig, AtTextEnd, AtNullOne, AtNullCr, AtNullLf, AtBool, AtBoolCr, AtBoolLf, AtBulkHead, AtArrayHead, AtHead, InHead, AtHeadLf, AtFormat, AtFormatSecond, AtFormatThird, AtFormatColon, InContent, AtContentCr, AtContentLf, AtStreamCr, AtStreamLf, AtChunk, InChunk, AtChunkCr, AtChunkLf, AtOpenCr, AtOpenLf, AtCloseCr, AtCloseLf, Dead}
 use Rattle.resp_scan.specs.Machine.{is_digit, next}
 use Rattle.resp_scan.specs.Scan.{Out, More, Gave, Part, Whole, Bad, and_more, content, answer, scan, closes, advanced_in, advanced}
-use Rattle.resp_scan.specs.Sound.{Fits, token_needed, frames_owed, AreCounted, IsClosed, IsSoundBy, IsSound}
+use Rattle.resp_scan.specs.Sound.{Fits, token_needed, frames_owed, IsClosed, IsSoundBy, IsSound}
 use Rattle.resp_scan.proofs.Sound.{is_start, IsPlain, IsNext, IsInside, IsMove, is_move, sound_ended, sound_closed}
 
 -- a digit stands behind no byte

@@ -1,11 +1,9 @@
 -- What a token says of the machine's fields.
-use Rattle.std.proofs.Common.{◌≡◌, ◌≢◌, ℕ, ◌+◌, ◌*◌, ◌^◌, ◌<◌, ◌≤◌, false, cond, eqb, List, [], ◌∷◌, length, reverse, refl, ap, subst, ◌∙◌, arith}
+use Rattle.std.proofs.Common.{◌≡◌, ◌≢◌, ℕ, ◌+◌, ◌*◌, ◌^◌, ◌<◌, ◌≤◌, eqb, List, [], ◌∷◌, length, refl, ap, subst, ◌∙◌, arith}
 use Rattle.std.proofs.lemmas.Bool.Decides.{nat_tests}
 use Rattle.resp_scan.specs.declared.frame.Frame.{Frame}
 use Rattle.resp_scan.specs.declared.frame.Shape.{Shape}
 use Rattle.resp_scan.specs.declared.frame.Shape.TheVariants.{Left, Begun}
-use Rattle.resp_scan.specs.declared.machine.Head.{Head}
-use Rattle.resp_scan.specs.declared.machine.Head.TheVariants as head
 use Rattle.resp_scan.specs.declared.machine.State.{State}
 use Rattle.resp_scan.specs.declared.machine.State.TheVariants as state
 use Rattle.resp_scan.specs.declared.machine.Machine.{Machine}
@@ -14,7 +12,7 @@ use Rattle.resp_scan.specs.Tokens.{Place, at, within, within_shape, AtStart, AtE
 use Rattle.resp_scan.specs.Heads.{head_needed, HasFrame}
 use Rattle.resp_scan.specs.Room.{IsRoomy, top_begun}
 use Rattle.resp_scan.specs.Said.{place, token_at}
-use Rattle.resp_scan.specs.Sound.{IsSound, IsSoundBy, AreCounted, token_needed}
+use Rattle.resp_scan.specs.Sound.{IsSound, AreCounted, token_needed}
 use Rattle.resp_scan.proofs.Sound.{cond_if, head_more}
 
 top_counted : (items : ℕ) (fs : List Frame) → AreCounted items fs → top_begun fs ≤ items * 2

@@ -1,5 +1,5 @@
 -- A byte keeps what stands of every place.
-use Rattle.std.proofs.Common.{◌≡◌, ◌≢◌, ℕ, ◌+◌, ◌-◌, ◌*◌, ◌/◌, ◌%◌, ◌<◌, ◌≤◌, Bool, true, false, cond, eqb, nat_le, nat_lt, ◌&&◌, List, [], ◌∷◌, length, Option, Some, None, refl, sym, ap, subst, ◌∙◌, arith}
+use Rattle.std.proofs.Common.{◌≡◌, ℕ, ◌+◌, ◌-◌, ◌*◌, ◌/◌, ◌%◌, ◌<◌, ◌≤◌, Bool, true, false, cond, eqb, nat_le, nat_lt, ◌&&◌, List, [], ◌∷◌, length, Option, Some, None, refl, sym, ap, subst, ◌∙◌, arith}
 use Rattle.std.proofs.lemmas.Bool.{false≢true}
 use Rattle.std.proofs.lemmas.Bool.Decides.{nat_tests}
 use Rattle.resp_value.specs.Bounds.{AreBounds}
@@ -16,9 +16,9 @@ use Rattle.resp_scan.specs.declared.machine.Head.{Head}
 use Rattle.resp_scan.specs.declared.machine.Head.TheVariants as head
 use Rattle.resp_scan.specs.Magnitudes.{most}
 use Rattle.resp_scan.specs.Tokens.{Token, Place, Happening, Null, Truth, Int, Text, Digit, TextEnd, Open, Close, Move, Go, Byte, Give, Refuse, at, ended, within, within_shape, AtStart, AtEnd, InLine, AtLineLf, AtIntSign, AtIntFirst, InInt, AtIntLf, AtBigSign, AtBigFirst, InBigZeros, AtBigZeroLf, AtBigDigit, InBig, AtTextEnd, AtNullOne, AtNullCr, AtNullLf, AtBool, AtBoolCr, AtBoolLf, AtBulkHead, AtArrayHead, AtHead, InHead, AtHeadLf, AtFormat, AtFormatSecond, AtFormatThird, AtFormatColon, InContent, AtContentCr, AtContentLf, AtStreamCr, AtStreamLf, AtChunk, InChunk, AtChunkCr, AtChunkLf, AtOpenCr, AtOpenLf, AtCloseCr, AtCloseLf, Dead}
-use Rattle.resp_scan.specs.Room.{fits, over_total, is_full, begun, begun_in, begin_cause, items_cause, has_all, has_all_of, shape_begun, begun_count, owed_begun, reshaped}
-use Rattle.resp_scan.specs.Heads.{most_counted, counted_cause, over, first_needed, head_needed, may_end, opens, streamed_kind, by_version, string_cause, aggregate_cause, opened, opened_streamed, content_at, chunk_at, counted}
-use Rattle.resp_scan.specs.Machine.{unless, wants, is_digit, int_digit, int_first, big_digit, big_first, content_byte, open_streamed, head_digit, head_first, bulk_head, full_cause, array_head, begins, line_begins, aggregate_begins, push_begins, in_three, may_close, may_close_of, closing, start_three, start_next, without_first, next, next_in}
+use Rattle.resp_scan.specs.Room.{fits, over_total, is_full, begun, begun_in, begin_cause, items_cause, has_all, shape_begun, begun_count, owed_begun, reshaped}
+use Rattle.resp_scan.specs.Heads.{most_counted, counted_cause, over, first_needed, head_needed, may_end, streamed_kind, by_version, string_cause, aggregate_cause, opened, opened_streamed, content_at, chunk_at, counted}
+use Rattle.resp_scan.specs.Machine.{unless, wants, is_digit, int_digit, int_first, big_digit, big_first, content_byte, open_streamed, head_digit, head_first, bulk_head, array_head, begins, line_begins, aggregate_begins, push_begins, in_three, may_close, may_close_of, closing, start_three, start_next, without_first, next_in}
 use Rattle.resp_scan.specs.Sound.{owed_streamed, start_needed, frame_owed, frames_owed, token_needed, AreCounted, IsOpenShape, IsOpen, IsClosed, HasLevel, Fits, IsSoundBy}
 
 pub cond_if : {A : Type 0} (P : A → Type 0) (b : Bool) (x y : A) → (b ≡ true → P x) → (b ≡ false → P y) → P (cond b x y)
@@ -196,7 +196,7 @@ sound_begun s (x ∷ fs) n u e h c l q f =
       counted = (begun_counted x.kind x.shape s.bounds.items z.0 k.0, k.1);
       owed = begun_owed x.kind x.shape s.owed (frames_owed fs) (subst IsOpen e h.token) (h.owed ∙ ap frames_owed e);
       total = omega (arith, w, q);
-      token = f
+      token = f;
     }
 
 is_begun : (s : Place) (n : ℕ) (u : Token) → IsSoundBy 0 (at s AtStart) → 0 < n → token_needed u s.bounds.depth (begun s).frames ≤ n → Fits u s.bounds.depth (begun s).frames → is_start u ≡ false → IsMove 1 s (begins s n u)
@@ -242,7 +242,7 @@ sound_closing s (x ∷ fs) e h m =
       counted = (omega arith, k.1);
       owed = omega (arith, o, t);
       total = omega (arith, o, t, w);
-      token = refl
+      token = refl;
     }
 
 is_closing : (s : Place) → IsSoundBy 0 (at s AtStart) → IsMove 1 s (closing s)
@@ -328,9 +328,9 @@ is_bulk_head : (s : Place) (i b : ℕ) → IsSoundBy i (at s AtBulkHead) → IsM
 is_bulk_head s i b h =
     cond_if (IsMove (i + 1) s) (eqb b 45) _ _ (λ e. less s AtBulkHead AtNullOne i h (omega arith) tt refl) (λ e.
     cond_if (IsMove (i + 1) s) (eqb b 63) _ _ (λ e. unless_is (i + 1) s (string_cause s (i + 1)) _ (λ c.
-      let v = none_version s.version (cond s.bounds.streamed (over_total s (i + 1) 6) (Some cause.Streamed)) c in
-      let x = none_then s.bounds.streamed cause.Streamed (over_total s (i + 1) 6) v in
-      within_total s AtBulkHead AtStreamCr i 6 h (total_room s (i + 1) 6 x.1 (omega arith)) (omega arith) tt refl)) (λ e.
+    let v = none_version s.version (cond s.bounds.streamed (over_total s (i + 1) 6) (Some cause.Streamed)) c in
+    let x = none_then s.bounds.streamed cause.Streamed (over_total s (i + 1) 6) v in
+    within_total s AtBulkHead AtStreamCr i 6 h (total_room s (i + 1) 6 x.1 (omega arith)) (omega arith) tt refl)) (λ e.
     is_head_first s AtBulkHead i head.Bulk b h (λ o. absurd (false≢true o))))
 
 is_array_head : (s : Place) (i b : ℕ) → IsSoundBy i (at s AtArrayHead) → IsMove (i + 1) s (array_head s (i + 1) b)

@@ -1,13 +1,13 @@
 -- A value's first byte.
-use Rattle.std.proofs.Common.{◌≡◌, ◌≢◌, ℕ, false, eqb, ◌<◌, List, [], ◌∷◌, length, get_or, drop, Option, None, Some, arith, refl, sym, ap, ◌∙◌}
+use Rattle.std.proofs.Common.{◌≡◌, ◌≢◌, ℕ, false, eqb, ◌<◌, List, [], ◌∷◌, length, get_or, drop, None, Some, arith, refl, sym, ap, ◌∙◌}
 use Rattle.std.proofs.lemmas.Bool.Decides.{nat_tests}
 use Rattle.resp_value.specs.declared.cause.Cause.{Cause}
 use Rattle.resp_value.specs.declared.version.Version.TheVariants as version
 use Rattle.resp_scan.specs.declared.start.First.{First}
-use Rattle.resp_scan.specs.Tokens.{Token, Place, Happening, Move, Go, Give, Refuse, at, AtStart, InLine, Dead}
+use Rattle.resp_scan.specs.Tokens.{Token, Place, Happening, Go, Give, at, AtStart, InLine, Dead}
 use Rattle.resp_scan.specs.Room.{begun, begin_cause}
 use Rattle.resp_scan.specs.Machine.{unless, begins, line_begins, start_next, start_three, in_three}
-use Rattle.resp_scan.specs.Scan.{Out, Gave, Bad, answer, content, scan}
+use Rattle.resp_scan.specs.Scan.{Gave, Bad, scan}
 use Rattle.resp_scan.specs.First.{after_first, first_move, by_first}
 
 pub begun_answer : (s u : Place) (n : ℕ) (t : Token) (p : List ℕ) → None ≡ begin_cause s n → at u AtStart ≡ begun s → after_first (begins s n t) s p ≡ scan 1 (at u t) p

@@ -1,12 +1,11 @@
 -- What a step tells is what its method said.
-use Rattle.std.proofs.Common.{◌≡◌, ℕ, ◌+◌, ◌-◌, ◌<◌, ◌≤◌, Bool, true, false, eqb, List, [], ◌∷◌, length, take, drop, Option, Some, None, refl, sym, ap, subst, ◌∙◌, arith}
+use Rattle.std.proofs.Common.{◌≡◌, ℕ, ◌+◌, ◌-◌, ◌<◌, ◌≤◌, true, false, eqb, List, [], ◌∷◌, length, take, drop, Option, sym, ap, subst, ◌∙◌, arith}
 use Rattle.std.proofs.lemmas.Grind.{common_steps}
 use Rattle.std.proofs.lemmas.Bool.Decides.{nat_tests}
 use Rattle.resp_scan.specs.declared.machine.Machine.{Machine}
 use Rattle.resp_scan.specs.declared.machine.Got.{Got}
 use Rattle.resp_scan.specs.declared.machine.What.{What}
 use Rattle.resp_scan.specs.declared.event.Event.{Event}
-use Rattle.resp_scan.specs.declared.event.Event.TheVariants as event
 use Rattle.resp_scan.specs.Tokens.{Place, Digit}
 use Rattle.resp_scan.specs.Scan.{Gave, Part, Whole, advanced}
 use Rattle.resp_scan.specs.Said.{place, said, said_by}

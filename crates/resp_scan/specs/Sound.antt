@@ -1,5 +1,5 @@
 -- What stands of every place that a scanner comes to.
-use Rattle.std.specs.Prelude.{◌≡◌, ◌<◌, ◌≤◌, ℕ, ◌+◌, ◌-◌, ◌*◌, ◌%◌, Bool, true, cond, eqb, nat_le, List, [], ◌∷◌, length}
+use Rattle.std.specs.Prelude.{◌≡◌, ◌<◌, ◌≤◌, ℕ, ◌+◌, ◌-◌, ◌*◌, ◌%◌, true, cond, eqb, nat_le, List, [], ◌∷◌, length}
 use Rattle.resp_value.specs.Bounds.{AreBounds}
 use Rattle.resp_scan.specs.declared.event.OpenKind.{OpenKind}
 use Rattle.resp_scan.specs.declared.event.OpenKind.TheVariants.{Array, Set, Map, Attr, Push}

@@ -275,7 +275,13 @@ const SCALARS_OF_VERSION_TWO: &[Row] = &[
 #[test]
 fn scalars_of_version_two(rt: HostRuntime) -> Result<(), Fail> {
     let limits = Limits::standard();
-    run(&rt, rt.alloc(), Version::Two, &limits, SCALARS_OF_VERSION_TWO)
+    run(
+        &rt,
+        rt.alloc(),
+        Version::Two,
+        &limits,
+        SCALARS_OF_VERSION_TWO,
+    )
 }
 
 const REFUSALS_OF_VERSION_TWO: &[Row] = &[
@@ -308,7 +314,13 @@ const REFUSALS_OF_VERSION_TWO: &[Row] = &[
 #[test]
 fn refusals_of_version_two(rt: HostRuntime) -> Result<(), Fail> {
     let limits = Limits::standard();
-    run(&rt, rt.alloc(), Version::Two, &limits, REFUSALS_OF_VERSION_TWO)
+    run(
+        &rt,
+        rt.alloc(),
+        Version::Two,
+        &limits,
+        REFUSALS_OF_VERSION_TWO,
+    )
 }
 
 const REFUSALS_OF_VERSION_THREE: &[Row] = &[
@@ -341,7 +353,13 @@ const REFUSALS_OF_VERSION_THREE: &[Row] = &[
 #[test]
 fn refusals_of_version_three(rt: HostRuntime) -> Result<(), Fail> {
     let limits = Limits::standard();
-    run(&rt, rt.alloc(), Version::Three, &limits, REFUSALS_OF_VERSION_THREE)
+    run(
+        &rt,
+        rt.alloc(),
+        Version::Three,
+        &limits,
+        REFUSALS_OF_VERSION_THREE,
+    )
 }
 
 const VERSION_THREE: &[Row] = &[

@@ -74,7 +74,13 @@ const WITHOUT_STREAMED_FORMS: &[Row] = &[
 #[test]
 fn without_streamed_forms(rt: HostRuntime) -> Result<(), Fail> {
     let limits = Limits::new(4, 64, 256)?.with_streamed(false);
-    run(&rt, rt.alloc(), Version::Three, &limits, WITHOUT_STREAMED_FORMS)
+    run(
+        &rt,
+        rt.alloc(),
+        Version::Three,
+        &limits,
+        WITHOUT_STREAMED_FORMS,
+    )
 }
 
 const VERSION_TWO_WITHOUT_STREAMED_FORMS: &[Row] = &[
@@ -85,7 +91,13 @@ const VERSION_TWO_WITHOUT_STREAMED_FORMS: &[Row] = &[
 #[test]
 fn version_two_without_streamed_forms(rt: HostRuntime) -> Result<(), Fail> {
     let limits = Limits::new(4, 64, 256)?.with_streamed(false);
-    run(&rt, rt.alloc(), Version::Two, &limits, VERSION_TWO_WITHOUT_STREAMED_FORMS)
+    run(
+        &rt,
+        rt.alloc(),
+        Version::Two,
+        &limits,
+        VERSION_TWO_WITHOUT_STREAMED_FORMS,
+    )
 }
 
 const TOTAL: &[Row] = &[
@@ -171,7 +183,13 @@ const TOTAL_OF_STREAMED_FORMS: &[Row] = &[
 #[test]
 fn total_of_streamed_forms(rt: HostRuntime) -> Result<(), Fail> {
     let limits = Limits::new(4, 64, 256)?;
-    run(&rt, rt.alloc(), Version::Three, &limits, TOTAL_OF_STREAMED_FORMS)
+    run(
+        &rt,
+        rt.alloc(),
+        Version::Three,
+        &limits,
+        TOTAL_OF_STREAMED_FORMS,
+    )
 }
 
 const LENGTH: &[Row] = &[
