@@ -1,5 +1,6 @@
 -- What a token says of the machine's fields.
-use Rattle.std.proofs.Common.{◌≡◌, ◌≢◌, ℕ, ◌+◌, ◌*◌, ◌^◌, ◌<◌, ◌≤◌, eqb, List, [], ◌∷◌, length, refl, ap, subst, ◌∙◌, arith}
+use Rattle.std.proofs.Common.{◌≡◌, ◌≢◌, ℕ, ◌+◌, ◌*◌, ◌^◌, ◌<◌, ◌≤◌, true, eqb, List, [], ◌∷◌, length, Option, Some, refl, ap, subst, ◌∙◌, arith}
+use Rattle.std.proofs.lemmas.Bool.{false≢true}
 use Rattle.std.proofs.lemmas.Bool.Decides.{nat_tests}
 use Rattle.resp_scan.specs.declared.frame.Frame.{Frame}
 use Rattle.resp_scan.specs.declared.frame.Shape.{Shape}
@@ -9,20 +10,12 @@ use Rattle.resp_scan.specs.declared.machine.State.TheVariants as state
 use Rattle.resp_scan.specs.declared.machine.Machine.{Machine}
 use Rattle.resp_scan.specs.Magnitudes.{most}
 use Rattle.resp_scan.specs.Tokens.{Place, at, within, within_shape, AtStart, AtEnd}
-use Rattle.resp_scan.specs.Heads.{head_needed, HasFrame}
-use Rattle.resp_scan.specs.Room.{IsRoomy, top_begun}
+use Rattle.resp_scan.specs.Heads.{head_needed, may_end, HasFrame}
+use Rattle.resp_scan.specs.Room.{begun_count, innermost}
+use Rattle.resp_scan.specs.Machine.{may_close}
 use Rattle.resp_scan.specs.Said.{place, token_at}
-use Rattle.resp_scan.specs.Sound.{IsSound, AreCounted, token_needed}
-use Rattle.resp_scan.proofs.Sound.{cond_if, head_more}
-
-top_counted : (items : ℕ) (fs : List Frame) → AreCounted items fs → top_begun fs ≤ items * 2
-top_counted items [] h = omega arith
-top_counted items (f ∷ fs) h = h.0
-
-pub roomy : (s : Place) → IsSound s → IsRoomy s
-roomy s h =
-    let c : top_begun s.frames ≤ s.bounds.items * 2 = top_counted s.bounds.items s.frames h.counted in
-    record { owed = omega (arith, h.total, h.bounds.total_in_range.1); counted = omega (arith, c, h.bounds.items_in_range.1) }
+use Rattle.resp_scan.specs.Sound.{IsOpen, IsOpenShape, frame_owed, frames_owed, IsSound, AreCounted, token_needed}
+use Rattle.resp_scan.proofs.Sound.{cond_if, head_more, closes_three}
 
 -- the place of a machine whose state is known
 there : (m : Machine) (x : State) → IsSound (place m) → m.state ≡ x → IsSound (at (place m) (token_at x m))
@@ -87,6 +80,18 @@ format_first_few m h e = omega (arith, few_needed m state.FormatFirst h e)
 pub format_second_few : (m : Machine) → IsSound (place m) → m.state ≡ state.FormatSecond → m.count + 1 ≤ 2 ^ 40
 format_second_few m h e = omega (arith, few_needed m state.FormatSecond h e)
 
+pub lf_ends : (m : Machine) → IsSound (place m) → m.state ≡ state.HeadLf → may_end m.head m.count ≡ true
+lf_ends m h e = (there m state.HeadLf h e).token.1
+
+pub first_four : (m : Machine) → IsSound (place m) → m.state ≡ state.FormatFirst → 4 ≤ m.count
+first_four m h e = (there m state.FormatFirst h e).token
+
+pub second_four : (m : Machine) → IsSound (place m) → m.state ≡ state.FormatSecond → 4 ≤ m.count
+second_four m h e = (there m state.FormatSecond h e).token
+
+pub third_four : (m : Machine) → IsSound (place m) → m.state ≡ state.FormatThird → 4 ≤ m.count
+third_four m h e = (there m state.FormatThird h e).token
+
 pub colon_four : (m : Machine) → IsSound (place m) → m.state ≡ state.FormatColon → 4 ≤ m.count
 colon_four m h e = (there m state.FormatColon h e).token
 
@@ -95,3 +100,43 @@ content_few m h e = omega (arith, few_needed m state.Content h e)
 
 pub chunk_few : (m : Machine) → IsSound (place m) → m.state ≡ state.ChunkContent → m.count + 6 ≤ 2 ^ 40
 chunk_few m h e = omega (arith, few_needed m state.ChunkContent h e)
+
+-- What holds of the innermost aggregate where a member may begin.
+
+top_open : (fs : List Frame) (f : Frame) → innermost fs ≡ Some f → IsOpen fs → IsOpenShape f.shape
+top_open [] f e h = absurd (cc)
+top_open (g ∷ fs) f e h = let q : g ≡ f = cc in subst (λ v. IsOpenShape v.shape) q h
+
+top_owed : (fs : List Frame) (f : Frame) → innermost fs ≡ Some f → frame_owed f.kind f.shape ≤ frames_owed fs
+top_owed [] f e = absurd (cc)
+top_owed (g ∷ fs) f e = let q : g ≡ f = cc in subst (λ v. frame_owed v.kind v.shape ≤ frames_owed (g ∷ fs)) q (omega arith)
+
+top_few : (items : ℕ) (fs : List Frame) (f : Frame) → innermost fs ≡ Some f → AreCounted items fs → begun_count f.shape ≤ items * 2
+top_few items [] f e h = absurd (cc)
+top_few items (g ∷ fs) f e h = let q : g ≡ f = cc in subst (λ v. begun_count v.shape ≤ items * 2) q h.0
+
+pub record IsTop (s : Place) (f : Frame) : Type 0 where
+  pub more : IsOpenShape f.shape
+  pub owed : frame_owed f.kind f.shape ≤ s.owed
+  pub few : s.owed < 2 ^ 62
+  pub counted : begun_count f.shape < 2 ^ 62
+
+pub top_is : (s : Place) (f : Frame) → IsSound (at s AtStart) → innermost s.frames ≡ Some f → IsTop s f
+top_is s f h e =
+    let c : begun_count f.shape ≤ s.bounds.items * 2 = top_few s.bounds.items s.frames f e h.counted in
+    let o : s.owed ≡ frames_owed s.frames = h.owed in
+    let w : s.taken + 0 + token_needed AtStart s.bounds.depth s.frames + s.owed ≤ s.bounds.total = h.total in
+    record {
+      more = top_open s.frames f e h.token;
+      owed = omega (arith, o, top_owed s.frames f e);
+      few = omega (arith, w, h.bounds.total_in_range.1);
+      counted = omega (arith, c, h.bounds.items_in_range.1);
+    }
+
+closing_three : (fs : List Frame) → may_close fs ≡ true → 3 ≤ frames_owed fs
+closing_three [] m = absurd (false≢true m)
+closing_three (f ∷ fs) m = omega (arith, closes_three f.kind f.shape m)
+
+-- a close was owed
+pub close_owed : (s : Place) → IsSound (at s AtStart) → may_close s.frames ≡ true → 3 ≤ s.owed
+close_owed s h m = let o : s.owed ≡ frames_owed s.frames = h.owed in omega (arith, o, closing_three s.frames m)

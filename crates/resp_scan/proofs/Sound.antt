@@ -221,7 +221,7 @@ is_three i s version.Three v m = m
 closed_map : (n : ℕ) → eqb (n % 2) 0 ≡ true → owed_streamed kind.Map n ≡ 3
 closed_map n e = ap (λ v. cond v 3 6) e
 
-closes_three : (k : OpenKind) (sh : Shape) → may_close_of k sh ≡ true → frame_owed k sh ≡ 3
+pub closes_three : (k : OpenKind) (sh : Shape) → may_close_of k sh ≡ true → frame_owed k sh ≡ 3
 closes_three k (Left n) e = absurd (false≢true e)
 closes_three kind.Map (Begun n) e = closed_map n e
 closes_three kind.Array (Begun n) e = refl

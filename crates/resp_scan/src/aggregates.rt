@@ -11,6 +11,7 @@ impl Machine {
     ghost use Rattle.resp_scan.specs.Said.{place, said};
     ghost use Rattle.resp_scan.specs.Scan.{scan, Gave};
     ghost use Rattle.resp_scan.specs.Heads.{opened};
+    ghost use Rattle.resp_scan.specs.Sound.{IsSound};
     ghost use Rattle.resp_scan.specs.Machine.{may_close};
     ghost use Rattle.resp_scan.specs.Tokens.{at, Open, AtOpenCr, AtOpenLf, AtStart, AtCloseCr, AtCloseLf};
 
@@ -99,14 +100,16 @@ impl Machine {
 
     /// At the `.` that closes a streamed aggregate.
     #[inline]
+    #[tactic(auto, using(crate::proofs::Places::close_owed))]
     pub fn close(&mut self, piece: &[u8]) -> Got
-        requires { 0 < length piece.now }
+        requires some { 0 < length piece.now }
+        requires sound { IsSound (at (place self.old) AtStart) }
         ensures { slice_index piece.now 0 ≡ 46 → said result self.new ≡ scan 0 (at (place self.old) AtStart) piece.now }
     {
         if !self.may_close() {
             return self.fail(0, Cause::Syntax);
         }
-        self.owed = self.owed.saturating_sub(3);
+        self.owed -= 3;
         self.set_shape(Shape::Left(0));
         self.close_cr(piece, 1)
     }

@@ -70,7 +70,8 @@ impl Machine {
     /// The first byte of a verbatim string's format; so many bytes come with the front.
     #[inline]
     pub fn format_first(&mut self, piece: &[u8], i: usize, count: u64) -> Got
-        requires { i ≤ length piece.now }
+        requires within { i ≤ length piece.now }
+        requires front { 4 ≤ count }
         ensures { said result self.new ≡ scan i (at (place self.old) (AtFormat count)) (drop i piece.now) }
     {
         self.count = count;
@@ -82,7 +83,8 @@ impl Machine {
 
     #[inline]
     pub fn format_second(&mut self, piece: &[u8], i: usize, first: u8) -> Got
-        requires { i ≤ length piece.now }
+        requires within { i ≤ length piece.now }
+        requires front { 4 ≤ self.old.count }
         ensures { said result self.new ≡ scan i (at (place self.old) (AtFormatSecond first self.old.count)) (drop i piece.now) }
     {
         if i == piece.len() {
@@ -94,7 +96,8 @@ impl Machine {
 
     #[inline]
     pub fn format_third(&mut self, piece: &[u8], i: usize, first: u8, second: u8) -> Got
-        requires { i ≤ length piece.now }
+        requires within { i ≤ length piece.now }
+        requires front { 4 ≤ self.old.count }
         ensures { said result self.new ≡ scan i (at (place self.old) (AtFormatThird first second self.old.count)) (drop i piece.now) }
     {
         if i == piece.len() {
@@ -106,7 +109,8 @@ impl Machine {
 
     #[inline]
     pub fn format_colon(&mut self, piece: &[u8], i: usize, format: [u8; 3]) -> Got
-        requires { i ≤ length piece.now }
+        requires within { i ≤ length piece.now }
+        requires front { 4 ≤ self.old.count }
         ensures { said result self.new ≡ scan i (at (place self.old) (AtFormatColon format self.old.count)) (drop i piece.now) }
     {
         self.format = format;
@@ -116,7 +120,6 @@ impl Machine {
         if piece[i] != b':' {
             return self.fail(i, Cause::Syntax);
         }
-        let count = self.count.saturating_sub(4);
-        self.content_begins(i + 1, count, What::Verbatim)
+        self.content_begins(i + 1, self.count - 4, What::Verbatim)
     }
 }

@@ -210,6 +210,7 @@ impl Machine {
     pub fn head_lf(&mut self, piece: &[u8], i: usize, head: Head, number: u64) -> Got
         requires within { i ≤ length piece.now }
         requires fits { number ≤ 2 ^ 40 }
+        requires ends { may_end head number ≡ true }
         requires level { HasFrame (place self.old) head }
         requires owed { self.old.owed + head_needed head number ≤ 2 ^ 41 }
         ensures { said result self.new ≡ scan i (at (place self.old) (AtHeadLf head number)) (drop i piece.now) }

@@ -1,5 +1,6 @@
 //! The state between two bytes, and what all tokens share: room within the limits, members, and ends.
 
+ghost use Rattle.resp_scan.specs.Sound.{IsOpenShape, frame_owed};
 ghost use Rattle.resp_scan.specs.Room.{has_all, owed_begun, shape_begun, begun_count};
 ghost use Rattle.std.specs.Prelude.{◌≡◌, ◌<◌, ◌≤◌, ◌+◌, ◌^◌, length, IfNone, true, false, ◌-◌, ◌∷◌, List, IfSome, min, reverse};
 
@@ -265,7 +266,9 @@ impl Machine {
     #[inline]
     fn begin_in(&mut self, frame: Frame, needed: u64) -> Option<Cause>
         requires needed { needed < 2 ^ 10 }
-        requires roomy { IsRoomy (place self.old) }
+        requires more { IsOpenShape frame.shape }
+        requires owed { frame_owed frame.kind frame.shape ≤ self.old.owed }
+        requires few { self.old.owed < 2 ^ 62 }
         requires counted { begun_count frame.shape < 2 ^ 62 }
         ensures cause { (fs : List Frame) → (place self.old).frames ≡ frame ∷ fs → result ≡ begin_cause (at (place self.old) AtStart) needed }
         ensures begun { (fs : List Frame) → (place self.old).frames ≡ frame ∷ fs → IfNone result (at (place self.new) AtStart ≡ begun (at (place self.old) AtStart)) }
@@ -292,10 +295,7 @@ impl Machine {
     {
         if !self.frames.is_empty() {
             let last = self.frames.len() - 1;
-            let frames = self.frames.as_mut_slice();
-            if last < frames.len() {
-                frames[last].shape = shape;
-            }
+            self.frames.as_mut_slice()[last].shape = shape;
         }
     }
 
@@ -327,19 +327,15 @@ fn has_all(frame: Frame, items: u64) -> bool
 /// What is owed once one more member has begun: less by a counted member, and a map's key calls for its value.
 #[inline]
 fn owed_begun(frame: Frame, owed: u64) -> u64
-    requires { owed < 2 ^ 62 }
+    requires more { IsOpenShape frame.shape }
+    requires owed { frame_owed frame.kind frame.shape ≤ owed }
+    requires few { owed < 2 ^ 62 }
     ensures { result ≡ owed_begun frame.kind frame.shape owed }
 {
     match frame.shape {
-        Shape::Left(_) => owed.saturating_sub(3),
+        Shape::Left(_) => owed - 3,
         Shape::Begun(begun) => match frame.kind {
-            OpenKind::Map => {
-                if begun % 2 == 0 {
-                    owed + 3
-                } else {
-                    owed.saturating_sub(3)
-                }
-            }
+            OpenKind::Map => { if begun % 2 == 0 { owed + 3 } else { owed - 3 } }
             _ => owed,
         },
     }
@@ -347,11 +343,12 @@ fn owed_begun(frame: Frame, owed: u64) -> u64
 
 #[inline]
 fn shape_begun(shape: Shape) -> Shape
-    requires { begun_count shape < 2 ^ 62 }
+    requires more { IsOpenShape shape }
+    requires few { begun_count shape < 2 ^ 62 }
     ensures { result ≡ shape_begun shape }
 {
     match shape {
-        Shape::Left(left) => Shape::Left(left.saturating_sub(1)),
+        Shape::Left(left) => Shape::Left(left - 1),
         Shape::Begun(begun) => Shape::Begun(begun + 1),
     }
 }
