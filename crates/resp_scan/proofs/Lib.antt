@@ -1,5 +1,13 @@
 pub mod Runs
 pub mod ArrayHeads
+pub mod Starts
+pub mod Sound
+pub mod Kept
+pub mod Places
+pub mod Pieces
+pub mod Counted
+pub mod Told
+pub mod Faults
 pub mod Moves
 pub mod RefusedMoves
 pub mod LeafEvents

@@ -1,11 +1,15 @@
 pub mod Magnitudes
-pub mod Bounded
 pub mod Tokens
 pub mod Room
 pub mod Heads
 pub mod Machine
 pub mod Scan
+pub mod First
 pub mod Said
+pub mod Sound
+pub mod End
+pub mod States
+pub mod Heard
 pub mod Runs
 pub mod Kinds
 pub mod Begun

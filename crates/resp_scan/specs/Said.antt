@@ -1,5 +1,5 @@
 -- What the fields of a machine stand for.
-use Rattle.std.specs.Prelude.{ℕ, reverse, slice_index, Some, None}
+use Rattle.std.specs.Prelude.{ℕ, ◌+◌, reverse, slice_index, Some, None}
 use Rattle.resp_scan.specs.declared.machine.State.{State}
 use Rattle.resp_scan.specs.declared.machine.State.TheVariants as state
 use Rattle.resp_scan.specs.declared.machine.What.{What}
@@ -79,7 +79,7 @@ said_by what.TextEnd n m = Gave n TextEnd (place m)
 said_by what.Open n m = Gave n (Open m.kind (Some m.count)) (place m)
 said_by what.OpenStreamed n m = Gave n (Open m.kind None) (place m)
 said_by what.Close n m = Gave n Close (place m)
-said_by what.Done n m = Whole (place m)
+said_by what.Done n m = Whole (record (place m) { taken = m.taken + n })
 
 -- what an answer and the machine after it say
 abbrev pub said : Got → Machine → Out

@@ -8,23 +8,21 @@ use crate::machine::{Got, Machine, State, What};
 use resp_value::cause::Cause;
 
 impl Machine {
-    ghost use Rattle.resp_scan.specs.Bounded.{IsBounded};
     ghost use Rattle.resp_scan.specs.Said.{place, said};
     ghost use Rattle.resp_scan.specs.Scan.{scan, Gave};
     ghost use Rattle.resp_scan.specs.Heads.{opened};
+    ghost use Rattle.resp_scan.specs.Sound.{IsSound};
     ghost use Rattle.resp_scan.specs.Machine.{may_close};
     ghost use Rattle.resp_scan.specs.Tokens.{at, Open, AtOpenCr, AtOpenLf, AtStart, AtCloseCr, AtCloseLf};
 
     /// An aggregate opens, with this number in its head and so many members.
     #[inline]
     pub fn open(&mut self, used: usize, kind: OpenKind, number: u64, members: u64) -> Got
-        requires number { number ≤ 2 ^ 40 }
-        requires members { members ≤ 2 ^ 42 }
-        requires bounded { IsBounded self.old }
-        ensures bounded { IsBounded self.new }
-        ensures said { length self.old.frames.items < 128 → self.old.owed + members * 3 < 2 ^ 64 → said result self.new ≡ Gave used (Open kind (Some number)) (opened (place self.old) kind members) }
+        requires level { length self.old.frames.items < 128 }
+        requires owed { self.old.owed + members * 3 < 2 ^ 64 }
+        ensures { said result self.new ≡ Gave used (Open kind (Some number)) (opened (place self.old) kind members) }
     {
-        self.owed = self.owed.saturating_add(members * 3);
+        self.owed += members * 3;
         self.push(Frame {
             kind,
             shape: Shape::Left(members),
@@ -36,23 +34,20 @@ impl Machine {
 
     #[inline]
     fn push(&mut self, frame: Frame)
-        requires bounded { IsBounded self.old }
-        ensures bounded { IsBounded self.new }
-        ensures items { length self.old.frames.items < 128 → self.new.frames.items ≡ self.old.frames.items ++ frame ∷ [] }
+        requires { length self.old.frames.items < 128 }
+        ensures items { self.new.frames.items ≡ self.old.frames.items ++ frame ∷ [] }
         ensures rest { self.new ≡ record self.old { frames = self.new.frames } }
     {
-        if !self.frames.is_full() {
-            self.frames.push(frame);
-        }
+        self.frames.push(frame);
     }
 
     /// Behind the `?` of a streamed aggregate.
     #[inline]
     pub fn open_cr(&mut self, piece: &[u8], i: usize, kind: OpenKind) -> Got
         requires within { i ≤ length piece.now }
-        requires bounded { IsBounded self.old }
-        ensures bounded { IsBounded self.new }
-        ensures said { length self.old.frames.items < 128 → self.old.owed < 2 ^ 62 → said result self.new ≡ scan i (at (place self.old) (AtOpenCr kind)) (drop i piece.now) }
+        requires level { length self.old.frames.items < 128 }
+        requires owed { self.old.owed < 2 ^ 62 }
+        ensures { said result self.new ≡ scan i (at (place self.old) (AtOpenCr kind)) (drop i piece.now) }
     {
         if i == piece.len() {
             self.kind = kind;
@@ -67,9 +62,9 @@ impl Machine {
     #[inline]
     pub fn open_lf(&mut self, piece: &[u8], i: usize, kind: OpenKind) -> Got
         requires within { i ≤ length piece.now }
-        requires bounded { IsBounded self.old }
-        ensures bounded { IsBounded self.new }
-        ensures said { length self.old.frames.items < 128 → self.old.owed < 2 ^ 62 → said result self.new ≡ scan i (at (place self.old) (AtOpenLf kind)) (drop i piece.now) }
+        requires level { length self.old.frames.items < 128 }
+        requires owed { self.old.owed < 2 ^ 62 }
+        ensures { said result self.new ≡ scan i (at (place self.old) (AtOpenLf kind)) (drop i piece.now) }
     {
         self.kind = kind;
         if i == piece.len() {
@@ -78,7 +73,7 @@ impl Machine {
         if piece[i] != b'\n' {
             return self.fail(i, Cause::Syntax);
         }
-        self.owed = self.owed.saturating_add(3);
+        self.owed += 3;
         self.push(Frame {
             kind,
             shape: Shape::Begun(0),
@@ -105,26 +100,24 @@ impl Machine {
 
     /// At the `.` that closes a streamed aggregate.
     #[inline]
+    #[tactic(auto, using(crate::proofs::Places::close_owed))]
     pub fn close(&mut self, piece: &[u8]) -> Got
-        requires within { 0 < length piece.now }
-        requires bounded { IsBounded self.old }
-        ensures bounded { IsBounded self.new }
-        ensures said { slice_index piece.now 0 ≡ 46 → said result self.new ≡ scan 0 (at (place self.old) AtStart) piece.now }
+        requires some { 0 < length piece.now }
+        requires sound { IsSound (at (place self.old) AtStart) }
+        ensures { slice_index piece.now 0 ≡ 46 → said result self.new ≡ scan 0 (at (place self.old) AtStart) piece.now }
     {
         if !self.may_close() {
             return self.fail(0, Cause::Syntax);
         }
-        self.owed = self.owed.saturating_sub(3);
+        self.owed -= 3;
         self.set_shape(Shape::Left(0));
         self.close_cr(piece, 1)
     }
 
     #[inline]
     pub fn close_cr(&mut self, piece: &[u8], i: usize) -> Got
-        requires within { i ≤ length piece.now }
-        requires bounded { IsBounded self.old }
-        ensures bounded { IsBounded self.new }
-        ensures said { said result self.new ≡ scan i (at (place self.old) AtCloseCr) (drop i piece.now) }
+        requires { i ≤ length piece.now }
+        ensures { said result self.new ≡ scan i (at (place self.old) AtCloseCr) (drop i piece.now) }
     {
         if i == piece.len() {
             return self.rest(State::CloseCr, piece);
@@ -137,10 +130,8 @@ impl Machine {
 
     #[inline]
     pub fn close_lf(&mut self, piece: &[u8], i: usize) -> Got
-        requires within { i ≤ length piece.now }
-        requires bounded { IsBounded self.old }
-        ensures bounded { IsBounded self.new }
-        ensures said { said result self.new ≡ scan i (at (place self.old) AtCloseLf) (drop i piece.now) }
+        requires { i ≤ length piece.now }
+        ensures { said result self.new ≡ scan i (at (place self.old) AtCloseLf) (drop i piece.now) }
     {
         if i == piece.len() {
             return self.rest(State::CloseLf, piece);

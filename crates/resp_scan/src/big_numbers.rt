@@ -7,7 +7,6 @@ use crate::machine::{Got, Machine, State, What};
 use resp_value::cause::Cause;
 
 impl Machine {
-    ghost use Rattle.resp_scan.specs.Bounded.{IsBounded};
     ghost use Rattle.resp_scan.specs.Said.{place, said};
     ghost use Rattle.resp_scan.specs.Scan.{scan, Gave};
     ghost use Rattle.resp_scan.specs.Tokens.{at, Text, AtBigSign, AtBigFirst, InBigZeros, AtBigZeroLf, AtBigDigit, InBig};
@@ -16,10 +15,8 @@ impl Machine {
     /// Behind `(`. A sign brings the end no nearer.
     #[inline]
     pub fn big_sign(&mut self, piece: &[u8], i: usize) -> Got
-        requires within { i ≤ length piece.now }
-        requires bounded { IsBounded self.old }
-        ensures bounded { IsBounded self.new }
-        ensures said { said result self.new ≡ scan i (at (place self.old) AtBigSign) (drop i piece.now) }
+        requires { i ≤ length piece.now }
+        ensures { said result self.new ≡ scan i (at (place self.old) AtBigSign) (drop i piece.now) }
     {
         if i == piece.len() {
             return self.rest(State::BigSign, piece);
@@ -39,10 +36,8 @@ impl Machine {
 
     #[inline]
     pub fn big_first(&mut self, piece: &[u8], i: usize, negative: bool) -> Got
-        requires within { i ≤ length piece.now }
-        requires bounded { IsBounded self.old }
-        ensures bounded { IsBounded self.new }
-        ensures said { said result self.new ≡ scan i (at (place self.old) (AtBigFirst negative)) (drop i piece.now) }
+        requires { i ≤ length piece.now }
+        ensures { said result self.new ≡ scan i (at (place self.old) (AtBigFirst negative)) (drop i piece.now) }
     {
         if i == piece.len() {
             self.big_negative = negative;
@@ -61,10 +56,8 @@ impl Machine {
     /// Behind one zero or more.
     #[inline]
     pub fn big_zeros(&mut self, piece: &[u8], from: usize, negative: bool) -> Got
-        requires within { from ≤ length piece.now }
-        requires bounded { IsBounded self.old }
-        ensures bounded { IsBounded self.new }
-        ensures said { said result self.new ≡ scan from (at (place self.old) (InBigZeros negative)) (drop from piece.now) }
+        requires { from ≤ length piece.now }
+        ensures { said result self.new ≡ scan from (at (place self.old) (InBigZeros negative)) (drop from piece.now) }
     {
         for i in from..piece.len() {
             let byte = piece[i];
@@ -88,25 +81,21 @@ impl Machine {
     /// The first digit that isn't zero: the text begins, and the digit is owed.
     #[inline]
     fn big_digit(&mut self, i: usize, negative: bool, byte: u8) -> Got
-        requires within { i < 2 ^ 63 }
-        requires bounded { IsBounded self.old }
-        ensures bounded { IsBounded self.new }
-        ensures said { said result self.new ≡ Gave (i + 1) (Text (text.Big negative)) (at (place self.old) (AtBigDigit byte (self.old.limits.length - 1))) }
+        requires { i < 2 ^ 63 }
+        ensures { said result self.new ≡ Gave (i + 1) (Text (text.Big negative)) (at (place self.old) (AtBigDigit byte (self.old.limits.length - 1))) }
     {
         self.state = State::BigDigit;
         self.big_negative = negative;
         self.digit = byte;
-        self.room = self.limits.length().saturating_sub(1);
+        self.room = self.limits.length() - 1;
         self.gives(i + 1, What::Big)
     }
 
     /// Behind zeros alone and the CR.
     #[inline]
     pub fn big_zero_lf(&mut self, piece: &[u8], i: usize) -> Got
-        requires within { i ≤ length piece.now }
-        requires bounded { IsBounded self.old }
-        ensures bounded { IsBounded self.new }
-        ensures said { said result self.new ≡ scan i (at (place self.old) AtBigZeroLf) (drop i piece.now) }
+        requires { i ≤ length piece.now }
+        ensures { said result self.new ≡ scan i (at (place self.old) AtBigZeroLf) (drop i piece.now) }
     {
         if i == piece.len() {
             return self.rest(State::BigZeroLf, piece);
@@ -122,10 +111,8 @@ impl Machine {
     /// Further digits, at the front of the piece.
     #[inline]
     pub fn big(&mut self, piece: &[u8]) -> Got
-        requires state { self.old.state ≡ State.Big }
-        requires bounded { IsBounded self.old }
-        ensures bounded { IsBounded self.new }
-        ensures said { said result self.new ≡ scan 0 (at (place self.old) (InBig self.old.room)) piece.now }
+        requires { self.old.state ≡ State.Big }
+        ensures { said result self.new ≡ scan 0 (at (place self.old) (InBig self.old.room)) piece.now }
     {
         if piece.is_empty() {
             return self.rest(State::Big, piece);

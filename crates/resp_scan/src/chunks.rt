@@ -6,7 +6,6 @@ use crate::machine::{Got, Head, Machine, State, What};
 use resp_value::cause::Cause;
 
 impl Machine {
-    ghost use Rattle.resp_scan.specs.Bounded.{IsBounded};
     ghost use Rattle.resp_scan.specs.Said.{place, said};
     ghost use Rattle.resp_scan.specs.Scan.{scan, Gave};
     ghost use Rattle.resp_scan.specs.Tokens.{at, ended, TextEnd, AtStreamCr, AtStreamLf, AtChunk, InChunk, AtChunkCr, AtChunkLf};
@@ -15,10 +14,8 @@ impl Machine {
     /// Behind `$?`.
     #[inline]
     pub fn stream_cr(&mut self, piece: &[u8], i: usize) -> Got
-        requires within { i ≤ length piece.now }
-        requires bounded { IsBounded self.old }
-        ensures bounded { IsBounded self.new }
-        ensures said { said result self.new ≡ scan i (at (place self.old) AtStreamCr) (drop i piece.now) }
+        requires { i ≤ length piece.now }
+        ensures { said result self.new ≡ scan i (at (place self.old) AtStreamCr) (drop i piece.now) }
     {
         if i == piece.len() {
             return self.rest(State::StreamCr, piece);
@@ -31,10 +28,8 @@ impl Machine {
 
     #[inline]
     pub fn stream_lf(&mut self, piece: &[u8], i: usize) -> Got
-        requires within { i ≤ length piece.now }
-        requires bounded { IsBounded self.old }
-        ensures bounded { IsBounded self.new }
-        ensures said { said result self.new ≡ scan i (at (place self.old) AtStreamLf) (drop i piece.now) }
+        requires { i ≤ length piece.now }
+        ensures { said result self.new ≡ scan i (at (place self.old) AtStreamLf) (drop i piece.now) }
     {
         if i == piece.len() {
             return self.rest(State::StreamLf, piece);
@@ -50,10 +45,8 @@ impl Machine {
     /// Where a chunk begins, of a string of which length leaves `room`.
     #[inline]
     pub fn chunk(&mut self, piece: &[u8], i: usize) -> Got
-        requires within { i ≤ length piece.now }
-        requires bounded { IsBounded self.old }
-        ensures bounded { IsBounded self.new }
-        ensures said { said result self.new ≡ scan i (at (place self.old) (AtChunk self.old.room)) (drop i piece.now) }
+        requires { i ≤ length piece.now }
+        ensures { said result self.new ≡ scan i (at (place self.old) (AtChunk self.old.room)) (drop i piece.now) }
     {
         if i == piece.len() {
             return self.rest(State::Chunk, piece);
@@ -68,10 +61,7 @@ impl Machine {
     /// Behind a chunk's head: its content, or the text's end where it has none.
     #[inline]
     pub fn chunk_begins(&mut self, piece: &[u8], i: usize, count: u64, room: u64) -> Got
-        requires count { count ≤ 2 ^ 40 }
-        requires within { i ≤ length piece.now }
-        requires bounded { IsBounded self.old }
-        ensures bounded { IsBounded self.new }
+        requires { i ≤ length piece.now }
         ensures ends { count ≡ 0 → said result self.new ≡ Gave i TextEnd (ended (place self.old)) }
         ensures begins { 0 < count → said result self.new ≡ scan i (at (place self.old) (InChunk (room - count) count)) (drop i piece.now) }
     {
@@ -86,9 +76,8 @@ impl Machine {
     #[inline]
     pub fn chunk_content(&mut self, piece: &[u8], i: usize) -> Got
         requires within { i ≤ length piece.now }
-        requires bounded { IsBounded self.old }
-        ensures bounded { IsBounded self.new }
-        ensures said { 0 < self.old.count → said result self.new ≡ scan i (at (place self.old) (InChunk self.old.room self.old.count)) (drop i piece.now) }
+        requires some { 0 < self.old.count }
+        ensures { said result self.new ≡ scan i (at (place self.old) (InChunk self.old.room self.old.count)) (drop i piece.now) }
     {
         if i == piece.len() {
             return self.rest(State::ChunkContent, piece);
@@ -102,9 +91,6 @@ impl Machine {
     /// So many bytes of a chunk are still to come.
     #[inline]
     fn chunk_rests(&mut self, count: u64)
-        requires count { count ≤ 2 ^ 40 }
-        requires bounded { IsBounded self.old }
-        ensures bounded { IsBounded self.new }
         ensures start { self.new.part_start ≡ self.old.part_start }
         ensures place { place self.new ≡ chunk_at self.old.room count (place self.old) }
     {
@@ -118,9 +104,7 @@ impl Machine {
 
     #[inline]
     pub fn chunk_cr(&mut self, piece: &[u8]) -> Got
-        requires bounded { IsBounded self.old }
-        ensures bounded { IsBounded self.new }
-        ensures said { said result self.new ≡ scan 0 (at (place self.old) (AtChunkCr self.old.room)) piece.now }
+        ensures { said result self.new ≡ scan 0 (at (place self.old) (AtChunkCr self.old.room)) piece.now }
     {
         if piece.is_empty() {
             return self.rest(State::ChunkCr, piece);
@@ -133,10 +117,8 @@ impl Machine {
 
     #[inline]
     pub fn chunk_lf(&mut self, piece: &[u8], i: usize) -> Got
-        requires within { i ≤ length piece.now }
-        requires bounded { IsBounded self.old }
-        ensures bounded { IsBounded self.new }
-        ensures said { said result self.new ≡ scan i (at (place self.old) (AtChunkLf self.old.room)) (drop i piece.now) }
+        requires { i ≤ length piece.now }
+        ensures { said result self.new ≡ scan i (at (place self.old) (AtChunkLf self.old.room)) (drop i piece.now) }
     {
         if i == piece.len() {
             return self.rest(State::ChunkLf, piece);

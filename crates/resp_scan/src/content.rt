@@ -6,7 +6,6 @@ use crate::machine::{Got, Machine, State, What};
 use resp_value::cause::Cause;
 
 impl Machine {
-    ghost use Rattle.resp_scan.specs.Bounded.{IsBounded};
     ghost use Rattle.resp_scan.specs.Said.{place, said};
     ghost use Rattle.resp_scan.specs.Scan.{scan};
     ghost use Rattle.resp_scan.specs.Tokens.{at, InContent, AtContentCr, AtContentLf, AtFormat, AtFormatSecond, AtFormatThird, AtFormatColon};
@@ -15,9 +14,6 @@ impl Machine {
     /// Content of so many bytes begins.
     #[inline]
     pub fn content_begins(&mut self, used: usize, count: u64, what: What) -> Got
-        requires count { count ≤ 2 ^ 40 }
-        requires bounded { IsBounded self.old }
-        ensures bounded { IsBounded self.new }
         ensures gives { result ≡ record { used = used; what = what } }
         ensures format { self.new.format ≡ self.old.format }
         ensures place { place self.new ≡ content_at count (place self.old) }
@@ -34,9 +30,8 @@ impl Machine {
     /// Content, at the front of the piece.
     #[inline]
     pub fn content(&mut self, piece: &[u8]) -> Got
-        requires bounded { IsBounded self.old }
-        ensures bounded { IsBounded self.new }
-        ensures said { 0 < self.old.count → said result self.new ≡ scan 0 (at (place self.old) (InContent self.old.count)) piece.now }
+        requires { 0 < self.old.count }
+        ensures { said result self.new ≡ scan 0 (at (place self.old) (InContent self.old.count)) piece.now }
     {
         if piece.is_empty() {
             return self.rest(State::Content, piece);
@@ -47,9 +42,7 @@ impl Machine {
 
     #[inline]
     pub fn content_cr(&mut self, piece: &[u8]) -> Got
-        requires bounded { IsBounded self.old }
-        ensures bounded { IsBounded self.new }
-        ensures said { said result self.new ≡ scan 0 (at (place self.old) AtContentCr) piece.now }
+        ensures { said result self.new ≡ scan 0 (at (place self.old) AtContentCr) piece.now }
     {
         if piece.is_empty() {
             return self.rest(State::ContentCr, piece);
@@ -62,10 +55,8 @@ impl Machine {
 
     #[inline]
     pub fn content_lf(&mut self, piece: &[u8], i: usize) -> Got
-        requires within { i ≤ length piece.now }
-        requires bounded { IsBounded self.old }
-        ensures bounded { IsBounded self.new }
-        ensures said { said result self.new ≡ scan i (at (place self.old) AtContentLf) (drop i piece.now) }
+        requires { i ≤ length piece.now }
+        ensures { said result self.new ≡ scan i (at (place self.old) AtContentLf) (drop i piece.now) }
     {
         if i == piece.len() {
             return self.rest(State::ContentLf, piece);
@@ -79,11 +70,9 @@ impl Machine {
     /// The first byte of a verbatim string's format; so many bytes come with the front.
     #[inline]
     pub fn format_first(&mut self, piece: &[u8], i: usize, count: u64) -> Got
-        requires count { count ≤ 2 ^ 40 }
         requires within { i ≤ length piece.now }
-        requires bounded { IsBounded self.old }
-        ensures bounded { IsBounded self.new }
-        ensures said { said result self.new ≡ scan i (at (place self.old) (AtFormat count)) (drop i piece.now) }
+        requires front { 4 ≤ count }
+        ensures { said result self.new ≡ scan i (at (place self.old) (AtFormat count)) (drop i piece.now) }
     {
         self.count = count;
         if i == piece.len() {
@@ -95,9 +84,8 @@ impl Machine {
     #[inline]
     pub fn format_second(&mut self, piece: &[u8], i: usize, first: u8) -> Got
         requires within { i ≤ length piece.now }
-        requires bounded { IsBounded self.old }
-        ensures bounded { IsBounded self.new }
-        ensures said { said result self.new ≡ scan i (at (place self.old) (AtFormatSecond first self.old.count)) (drop i piece.now) }
+        requires front { 4 ≤ self.old.count }
+        ensures { said result self.new ≡ scan i (at (place self.old) (AtFormatSecond first self.old.count)) (drop i piece.now) }
     {
         if i == piece.len() {
             self.format = [first, 0, 0];
@@ -109,9 +97,8 @@ impl Machine {
     #[inline]
     pub fn format_third(&mut self, piece: &[u8], i: usize, first: u8, second: u8) -> Got
         requires within { i ≤ length piece.now }
-        requires bounded { IsBounded self.old }
-        ensures bounded { IsBounded self.new }
-        ensures said { said result self.new ≡ scan i (at (place self.old) (AtFormatThird first second self.old.count)) (drop i piece.now) }
+        requires front { 4 ≤ self.old.count }
+        ensures { said result self.new ≡ scan i (at (place self.old) (AtFormatThird first second self.old.count)) (drop i piece.now) }
     {
         if i == piece.len() {
             self.format = [first, second, 0];
@@ -123,9 +110,8 @@ impl Machine {
     #[inline]
     pub fn format_colon(&mut self, piece: &[u8], i: usize, format: [u8; 3]) -> Got
         requires within { i ≤ length piece.now }
-        requires bounded { IsBounded self.old }
-        ensures bounded { IsBounded self.new }
-        ensures said { said result self.new ≡ scan i (at (place self.old) (AtFormatColon format self.old.count)) (drop i piece.now) }
+        requires front { 4 ≤ self.old.count }
+        ensures { said result self.new ≡ scan i (at (place self.old) (AtFormatColon format self.old.count)) (drop i piece.now) }
     {
         self.format = format;
         if i == piece.len() {
@@ -134,7 +120,6 @@ impl Machine {
         if piece[i] != b':' {
             return self.fail(i, Cause::Syntax);
         }
-        let count = self.count.saturating_sub(4);
-        self.content_begins(i + 1, count, What::Verbatim)
+        self.content_begins(i + 1, self.count - 4, What::Verbatim)
     }
 }

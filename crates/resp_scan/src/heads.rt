@@ -9,7 +9,6 @@ use resp_value::cause::Cause;
 use resp_value::version::Version;
 
 impl Machine {
-    ghost use Rattle.resp_scan.specs.Bounded.{IsBounded};
     ghost use Rattle.resp_scan.specs.Said.{place, said};
     ghost use Rattle.resp_scan.specs.Scan.{scan};
     ghost use Rattle.resp_scan.specs.Tokens.{at, AtBulkHead, AtArrayHead, AtHead, InHead, AtHeadLf};
@@ -19,10 +18,8 @@ impl Machine {
     /// Behind `$`: a number, `-1` for the null, or `?` for a streamed string.
     #[inline]
     pub fn bulk_head(&mut self, piece: &[u8], i: usize) -> Got
-        requires within { i ≤ length piece.now }
-        requires bounded { IsBounded self.old }
-        ensures bounded { IsBounded self.new }
-        ensures said { said result self.new ≡ scan i (at (place self.old) AtBulkHead) (drop i piece.now) }
+        requires { i ≤ length piece.now }
+        ensures { said result self.new ≡ scan i (at (place self.old) AtBulkHead) (drop i piece.now) }
     {
         if i == piece.len() {
             return self.rest(State::BulkHead, piece);
@@ -40,10 +37,8 @@ impl Machine {
     /// Behind `*`: a number, `-1` for the null, or `?` for a streamed array.
     #[inline]
     pub fn array_head(&mut self, piece: &[u8], i: usize) -> Got
-        requires within { i ≤ length piece.now }
-        requires bounded { IsBounded self.old }
-        ensures bounded { IsBounded self.new }
-        ensures said { said result self.new ≡ scan i (at (place self.old) AtArrayHead) (drop i piece.now) }
+        requires { i ≤ length piece.now }
+        ensures { said result self.new ≡ scan i (at (place self.old) AtArrayHead) (drop i piece.now) }
     {
         if i == piece.len() {
             return self.rest(State::ArrayHead, piece);
@@ -88,7 +83,7 @@ impl Machine {
     /// What refuses the `?` of a streamed string.
     #[inline]
     fn streamed_string(&self, used: usize) -> Option<Cause>
-        requires index { used ≤ 2 ^ 63 }
+        requires { used ≤ 2 ^ 63 }
         ensures { result ≡ string_cause (place self.now) used }
     {
         match self.version {
@@ -106,7 +101,7 @@ impl Machine {
     /// What refuses the `?` of a streamed aggregate.
     #[inline]
     fn streamed_aggregate(&self, used: usize) -> Option<Cause>
-        requires index { used ≤ 2 ^ 63 }
+        requires { used ≤ 2 ^ 63 }
         ensures cause { result ≡ aggregate_cause (place self.now) used }
         ensures owed { IfNone result (self.now.owed < 2 ^ 62) }
     {
@@ -128,9 +123,8 @@ impl Machine {
     #[inline]
     pub fn head_first(&mut self, piece: &[u8], i: usize, head: Head) -> Got
         requires within { i ≤ length piece.now }
-        requires bounded { IsBounded self.old }
-        ensures bounded { IsBounded self.new }
-        ensures said { HasFrame (place self.old) head → said result self.new ≡ scan i (at (place self.old) (AtHead head)) (drop i piece.now) }
+        requires level { HasFrame (place self.old) head }
+        ensures { said result self.new ≡ scan i (at (place self.old) (AtHead head)) (drop i piece.now) }
     {
         if i == piece.len() {
             self.head = head;
@@ -160,9 +154,9 @@ impl Machine {
     pub fn head_more(&mut self, piece: &[u8], from: usize, head: Head, first: u64) -> Got
         requires within { from ≤ length piece.now }
         requires fits { first ≤ 2 ^ 40 }
-        requires bounded { IsBounded self.old }
-        ensures bounded { IsBounded self.new }
-        ensures said { HasFrame (place self.old) head → self.old.owed + head_needed head first ≤ 2 ^ 40 → said result self.new ≡ scan from (at (place self.old) (InHead head first)) (drop from piece.now) }
+        requires level { HasFrame (place self.old) head }
+        requires owed { self.old.owed + head_needed head first ≤ 2 ^ 41 }
+        ensures { said result self.new ≡ scan from (at (place self.old) (InHead head first)) (drop from piece.now) }
     {
         let mut number = first;
         for i in from..piece.len() {
@@ -216,9 +210,10 @@ impl Machine {
     pub fn head_lf(&mut self, piece: &[u8], i: usize, head: Head, number: u64) -> Got
         requires within { i ≤ length piece.now }
         requires fits { number ≤ 2 ^ 40 }
-        requires bounded { IsBounded self.old }
-        ensures bounded { IsBounded self.new }
-        ensures said { HasFrame (place self.old) head → self.old.owed + head_needed head number ≤ 2 ^ 40 → said result self.new ≡ scan i (at (place self.old) (AtHeadLf head number)) (drop i piece.now) }
+        requires ends { may_end head number ≡ true }
+        requires level { HasFrame (place self.old) head }
+        requires owed { self.old.owed + head_needed head number ≤ 2 ^ 41 }
+        ensures { said result self.new ≡ scan i (at (place self.old) (AtHeadLf head number)) (drop i piece.now) }
     {
         if i == piece.len() {
             self.head = head;

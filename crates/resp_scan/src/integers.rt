@@ -8,7 +8,6 @@ use crate::machine::{Got, Machine, State, What};
 use resp_value::cause::Cause;
 
 impl Machine {
-    ghost use Rattle.resp_scan.specs.Bounded.{IsBounded};
     ghost use Rattle.resp_scan.specs.Said.{place, said};
     ghost use Rattle.resp_scan.specs.Scan.{scan};
     ghost use Rattle.resp_scan.specs.Tokens.{at, AtIntSign, AtIntFirst, InInt, AtIntLf};
@@ -16,10 +15,8 @@ impl Machine {
     /// Behind `:`. A sign brings the end no nearer.
     #[inline]
     pub fn int_sign(&mut self, piece: &[u8], i: usize) -> Got
-        requires within { i ≤ length piece.now }
-        requires bounded { IsBounded self.old }
-        ensures bounded { IsBounded self.new }
-        ensures said { said result self.new ≡ scan i (at (place self.old) AtIntSign) (drop i piece.now) }
+        requires { i ≤ length piece.now }
+        ensures { said result self.new ≡ scan i (at (place self.old) AtIntSign) (drop i piece.now) }
     {
         if i == piece.len() {
             return self.rest(State::IntSign, piece);
@@ -39,14 +36,11 @@ impl Machine {
 
     #[inline]
     pub fn int_first(&mut self, piece: &[u8], i: usize, negative: bool) -> Got
-        requires within { i ≤ length piece.now }
-        requires bounded { IsBounded self.old }
-        ensures bounded { IsBounded self.new }
-        ensures said { said result self.new ≡ scan i (at (place self.old) (AtIntFirst negative)) (drop i piece.now) }
+        requires { i ≤ length piece.now }
+        ensures { said result self.new ≡ scan i (at (place self.old) (AtIntFirst negative)) (drop i piece.now) }
     {
         if i == piece.len() {
             self.negative = negative;
-            self.magnitude = 0;
             return self.rest(State::IntFirst, piece);
         }
         if piece[i] < b'0' || piece[i] > b'9' {
@@ -59,9 +53,7 @@ impl Machine {
     pub fn int_more(&mut self, piece: &[u8], from: usize, negative: bool, first: u64) -> Got
         requires within { from ≤ length piece.now }
         requires fits { first ≤ most negative }
-        requires bounded { IsBounded self.old }
-        ensures bounded { IsBounded self.new }
-        ensures said { said result self.new ≡ scan from (at (place self.old) (InInt negative first)) (drop from piece.now) }
+        ensures { said result self.new ≡ scan from (at (place self.old) (InInt negative first)) (drop from piece.now) }
     {
         let mut magnitude = first;
         let last = if negative { 8 } else { 7 };
@@ -93,9 +85,7 @@ impl Machine {
     pub fn int_lf(&mut self, piece: &[u8], i: usize, negative: bool, magnitude: u64) -> Got
         requires within { i ≤ length piece.now }
         requires fits { magnitude ≤ most negative }
-        requires bounded { IsBounded self.old }
-        ensures bounded { IsBounded self.new }
-        ensures said { said result self.new ≡ scan i (at (place self.old) (AtIntLf negative magnitude)) (drop i piece.now) }
+        ensures { said result self.new ≡ scan i (at (place self.old) (AtIntLf negative magnitude)) (drop i piece.now) }
     {
         if i == piece.len() {
             self.negative = negative;

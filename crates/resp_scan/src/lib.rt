@@ -2,8 +2,7 @@
 //!
 //! A [`scanner::Scanner`] keeps what it needs of a value in a few numbers and in one small frame for each open
 //! aggregate, at most 128. Content isn't kept: it is lent from the caller's piece. A byte is refused where no value
-//! that is within the limits goes on so, and no later. `step` and `needed` become public once their contracts are
-//! proved.
+//! that is within the limits goes on so, and no later.
 #![tactic(auto)]
 
 mod aggregates;

@@ -8,7 +8,6 @@ use memchr::memchr;
 use resp_value::cause::Cause;
 
 impl Machine {
-    ghost use Rattle.resp_scan.specs.Bounded.{IsBounded};
     ghost use Rattle.resp_scan.specs.Said.{place, said};
     ghost use Rattle.resp_scan.specs.Scan.{scan};
     ghost use Rattle.resp_scan.specs.Tokens.{at, InLine, AtLineLf};
@@ -16,10 +15,8 @@ impl Machine {
     /// A line's content, at the front of the piece.
     #[inline]
     pub fn line(&mut self, piece: &[u8]) -> Got
-        requires state { self.old.state ≡ State.Line }
-        requires bounded { IsBounded self.old }
-        ensures bounded { IsBounded self.new }
-        ensures said { said result self.new ≡ scan 0 (at (place self.old) (InLine self.old.room)) piece.now }
+        requires { self.old.state ≡ State.Line }
+        ensures { said result self.new ≡ scan 0 (at (place self.old) (InLine self.old.room)) piece.now }
     {
         if piece.is_empty() {
             return self.rest(State::Line, piece);
@@ -45,10 +42,8 @@ impl Machine {
     /// The LF of a line, or of a big number that isn't zero.
     #[inline]
     pub fn line_lf(&mut self, piece: &[u8], i: usize) -> Got
-        requires within { i ≤ length piece.now }
-        requires bounded { IsBounded self.old }
-        ensures bounded { IsBounded self.new }
-        ensures said { said result self.new ≡ scan i (at (place self.old) AtLineLf) (drop i piece.now) }
+        requires { i ≤ length piece.now }
+        ensures { said result self.new ≡ scan i (at (place self.old) AtLineLf) (drop i piece.now) }
     {
         if i == piece.len() {
             return self.rest(State::LineLf, piece);

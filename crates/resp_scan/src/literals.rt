@@ -6,7 +6,6 @@ use crate::machine::{Got, Machine, State, What};
 use resp_value::cause::Cause;
 
 impl Machine {
-    ghost use Rattle.resp_scan.specs.Bounded.{IsBounded};
     ghost use Rattle.resp_scan.specs.Said.{place, said};
     ghost use Rattle.resp_scan.specs.Scan.{scan};
     ghost use Rattle.resp_scan.specs.Tokens.{at, AtNullOne, AtNullCr, AtNullLf, AtBool, AtBoolCr, AtBoolLf};
@@ -14,10 +13,8 @@ impl Machine {
     /// Behind `$-` or `*-`, where only `1` follows.
     #[inline]
     pub fn null_one(&mut self, piece: &[u8], i: usize) -> Got
-        requires within { i ≤ length piece.now }
-        requires bounded { IsBounded self.old }
-        ensures bounded { IsBounded self.new }
-        ensures said { said result self.new ≡ scan i (at (place self.old) AtNullOne) (drop i piece.now) }
+        requires { i ≤ length piece.now }
+        ensures { said result self.new ≡ scan i (at (place self.old) AtNullOne) (drop i piece.now) }
     {
         if i == piece.len() {
             return self.rest(State::NullOne, piece);
@@ -30,10 +27,8 @@ impl Machine {
 
     #[inline]
     pub fn null_cr(&mut self, piece: &[u8], i: usize) -> Got
-        requires within { i ≤ length piece.now }
-        requires bounded { IsBounded self.old }
-        ensures bounded { IsBounded self.new }
-        ensures said { said result self.new ≡ scan i (at (place self.old) AtNullCr) (drop i piece.now) }
+        requires { i ≤ length piece.now }
+        ensures { said result self.new ≡ scan i (at (place self.old) AtNullCr) (drop i piece.now) }
     {
         if i == piece.len() {
             return self.rest(State::NullCr, piece);
@@ -46,10 +41,8 @@ impl Machine {
 
     #[inline]
     pub fn null_lf(&mut self, piece: &[u8], i: usize) -> Got
-        requires within { i ≤ length piece.now }
-        requires bounded { IsBounded self.old }
-        ensures bounded { IsBounded self.new }
-        ensures said { said result self.new ≡ scan i (at (place self.old) AtNullLf) (drop i piece.now) }
+        requires { i ≤ length piece.now }
+        ensures { said result self.new ≡ scan i (at (place self.old) AtNullLf) (drop i piece.now) }
     {
         if i == piece.len() {
             return self.rest(State::NullLf, piece);
@@ -63,10 +56,8 @@ impl Machine {
     /// Behind `#`.
     #[inline]
     pub fn bool(&mut self, piece: &[u8], i: usize) -> Got
-        requires within { i ≤ length piece.now }
-        requires bounded { IsBounded self.old }
-        ensures bounded { IsBounded self.new }
-        ensures said { said result self.new ≡ scan i (at (place self.old) AtBool) (drop i piece.now) }
+        requires { i ≤ length piece.now }
+        ensures { said result self.new ≡ scan i (at (place self.old) AtBool) (drop i piece.now) }
     {
         if i == piece.len() {
             return self.rest(State::Bool, piece);
@@ -80,10 +71,8 @@ impl Machine {
 
     #[inline]
     pub fn bool_cr(&mut self, piece: &[u8], i: usize, truth: bool) -> Got
-        requires within { i ≤ length piece.now }
-        requires bounded { IsBounded self.old }
-        ensures bounded { IsBounded self.new }
-        ensures said { said result self.new ≡ scan i (at (place self.old) (AtBoolCr truth)) (drop i piece.now) }
+        requires { i ≤ length piece.now }
+        ensures { said result self.new ≡ scan i (at (place self.old) (AtBoolCr truth)) (drop i piece.now) }
     {
         if i == piece.len() {
             self.truth = truth;
@@ -97,10 +86,8 @@ impl Machine {
 
     #[inline]
     pub fn bool_lf(&mut self, piece: &[u8], i: usize, truth: bool) -> Got
-        requires within { i ≤ length piece.now }
-        requires bounded { IsBounded self.old }
-        ensures bounded { IsBounded self.new }
-        ensures said { said result self.new ≡ scan i (at (place self.old) (AtBoolLf truth)) (drop i piece.now) }
+        requires { i ≤ length piece.now }
+        ensures { said result self.new ≡ scan i (at (place self.old) (AtBoolLf truth)) (drop i piece.now) }
     {
         if i == piece.len() {
             self.truth = truth;

@@ -1,5 +1,6 @@
 //! The state between two bytes, and what all tokens share: room within the limits, members, and ends.
 
+ghost use Rattle.resp_scan.specs.Sound.{IsOpenShape, frame_owed};
 ghost use Rattle.resp_scan.specs.Room.{has_all, owed_begun, shape_begun, begun_count};
 ghost use Rattle.std.specs.Prelude.{◌≡◌, ◌<◌, ◌≤◌, ◌+◌, ◌^◌, length, IfNone, true, false, ◌-◌, ◌∷◌, List, IfSome, min, reverse};
 
@@ -144,9 +145,9 @@ pub struct Machine {
 }
 
 impl Machine {
-    ghost use Rattle.resp_scan.specs.Bounded.{IsBounded};
     ghost use Rattle.resp_scan.specs.declared.frame.Frame.{Frame};
     ghost use Rattle.resp_scan.specs.Said.{place, said};
+    ghost use Rattle.resp_scan.specs.Sound.{IsSound};
     ghost use Rattle.resp_scan.specs.Scan.{More, Bad};
     ghost use Rattle.resp_scan.specs.Tokens.{at, Dead, AtStart};
     ghost use Rattle.resp_scan.specs.Room.{total_room, fits, over_total, is_full, reshaped, IsRoomy, begun, begin_cause};
@@ -154,9 +155,7 @@ impl Machine {
     /// The end of the piece, in this state.
     #[inline]
     pub fn rest(&mut self, state: State, piece: &[u8]) -> Got
-        requires bounded { IsBounded self.old }
-        ensures bounded { IsBounded self.new }
-        ensures said { said result self.new ≡ More (length piece.now) (place (record self.old { state = state })) }
+        ensures { said result self.new ≡ More (length piece.now) (place (record self.old { state = state })) }
     {
         self.state = state;
         Got {
@@ -175,9 +174,7 @@ impl Machine {
     #[cold]
     #[inline(never)]
     pub fn fail(&mut self, used: usize, cause: Cause) -> Got
-        requires bounded { IsBounded self.old }
-        ensures bounded { IsBounded self.new }
-        ensures said { said result self.new ≡ Bad used cause (at (place self.old) (Dead cause)) }
+        ensures { said result self.new ≡ Bad used cause (at (place self.old) (Dead cause)) }
     {
         self.state = State::Failed;
         self.cause = cause;
@@ -251,10 +248,9 @@ impl Machine {
     #[inline]
     pub fn begin(&mut self, needed: u64) -> Option<Cause>
         requires needed { needed < 2 ^ 10 }
-        requires bounded { IsBounded self.old }
-        ensures bounded { IsBounded self.new }
-        ensures cause { IsRoomy (place self.old) → result ≡ begin_cause (at (place self.old) AtStart) needed }
-        ensures begun { IsRoomy (place self.old) → IfNone result (at (place self.new) AtStart ≡ begun (at (place self.old) AtStart)) }
+        requires sound { IsSound (at (place self.old) AtStart) }
+        ensures cause { result ≡ begin_cause (at (place self.old) AtStart) needed }
+        ensures begun { IfNone result (at (place self.new) AtStart ≡ begun (at (place self.old) AtStart)) }
         ensures refused { IfSome result (λ cause. self.new ≡ self.old) }
     {
         match self.frames.as_slice().last() {
@@ -270,10 +266,12 @@ impl Machine {
     #[inline]
     fn begin_in(&mut self, frame: Frame, needed: u64) -> Option<Cause>
         requires needed { needed < 2 ^ 10 }
-        requires bounded { IsBounded self.old }
-        ensures bounded { IsBounded self.new }
-        ensures cause { (fs : List Frame) → (place self.old).frames ≡ frame ∷ fs → IsRoomy (place self.old) → result ≡ begin_cause (at (place self.old) AtStart) needed }
-        ensures begun { (fs : List Frame) → (place self.old).frames ≡ frame ∷ fs → IsRoomy (place self.old) → IfNone result (at (place self.new) AtStart ≡ begun (at (place self.old) AtStart)) }
+        requires more { IsOpenShape frame.shape }
+        requires owed { frame_owed frame.kind frame.shape ≤ self.old.owed }
+        requires few { self.old.owed < 2 ^ 62 }
+        requires counted { begun_count frame.shape < 2 ^ 62 }
+        ensures cause { (fs : List Frame) → (place self.old).frames ≡ frame ∷ fs → result ≡ begin_cause (at (place self.old) AtStart) needed }
+        ensures begun { (fs : List Frame) → (place self.old).frames ≡ frame ∷ fs → IfNone result (at (place self.new) AtStart ≡ begun (at (place self.old) AtStart)) }
         ensures refused { IfSome result (λ cause. self.new ≡ self.old) }
     {
         if has_all(frame, self.limits.items()) {
@@ -292,25 +290,18 @@ impl Machine {
     /// The innermost open aggregate gets this shape.
     #[inline]
     pub fn set_shape(&mut self, shape: Shape)
-        requires bounded { IsBounded self.old }
-        ensures bounded { IsBounded self.new }
         ensures items { reverse self.new.frames.items ≡ reshaped shape (reverse self.old.frames.items) }
         ensures rest { self.new ≡ record self.old { frames = self.new.frames } }
     {
         if !self.frames.is_empty() {
             let last = self.frames.len() - 1;
-            let frames = self.frames.as_mut_slice();
-            if last < frames.len() {
-                frames[last].shape = shape;
-            }
+            self.frames.as_mut_slice()[last].shape = shape;
         }
     }
 
     /// A value has ended.
     #[inline]
     pub fn ended(&mut self, used: usize, what: What) -> Got
-        requires bounded { IsBounded self.old }
-        ensures bounded { IsBounded self.new }
         ensures gives { result ≡ record { used = used; what = what } }
         ensures state { self.new ≡ record self.old { state = State.Ended } }
     {
@@ -336,18 +327,15 @@ fn has_all(frame: Frame, items: u64) -> bool
 /// What is owed once one more member has begun: less by a counted member, and a map's key calls for its value.
 #[inline]
 fn owed_begun(frame: Frame, owed: u64) -> u64
-    ensures { owed < 2 ^ 62 → result ≡ owed_begun frame.kind frame.shape owed }
+    requires more { IsOpenShape frame.shape }
+    requires owed { frame_owed frame.kind frame.shape ≤ owed }
+    requires few { owed < 2 ^ 62 }
+    ensures { result ≡ owed_begun frame.kind frame.shape owed }
 {
     match frame.shape {
-        Shape::Left(_) => owed.saturating_sub(3),
+        Shape::Left(_) => owed - 3,
         Shape::Begun(begun) => match frame.kind {
-            OpenKind::Map => {
-                if begun % 2 == 0 {
-                    owed.saturating_add(3)
-                } else {
-                    owed.saturating_sub(3)
-                }
-            }
+            OpenKind::Map => { if begun % 2 == 0 { owed + 3 } else { owed - 3 } }
             _ => owed,
         },
     }
@@ -355,10 +343,12 @@ fn owed_begun(frame: Frame, owed: u64) -> u64
 
 #[inline]
 fn shape_begun(shape: Shape) -> Shape
-    ensures { begun_count shape < 2 ^ 62 → result ≡ shape_begun shape }
+    requires more { IsOpenShape shape }
+    requires few { begun_count shape < 2 ^ 62 }
+    ensures { result ≡ shape_begun shape }
 {
     match shape {
-        Shape::Left(left) => Shape::Left(left.saturating_sub(1)),
-        Shape::Begun(begun) => Shape::Begun(begun.saturating_add(1)),
+        Shape::Left(left) => Shape::Left(left - 1),
+        Shape::Begun(begun) => Shape::Begun(begun + 1),
     }
 }

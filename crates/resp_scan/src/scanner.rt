@@ -1,6 +1,8 @@
 //! The scanner.
 
-ghost use Rattle.std.specs.Prelude.{◌≡◌, length, [], OnOk, OnErr, IfErr};
+ghost use Rattle.resp_value.specs.Bounds.{AreBounds};
+ghost use Rattle.resp_scan.specs.Heads.{first_needed};
+ghost use Rattle.std.specs.Prelude.{◌≡◌, ◌↔◌, ◌≤◌, length, [], true, None, Some, Err, IsOk, OnOk, OnErr, IfOk, IfErr};
 
 use crate::event::{Busy, Event, Fault, OpenKind, Step};
 use crate::heads::needed_behind;
@@ -25,15 +27,20 @@ impl Model for Scanner {
     ghost Value = { Place };
 
     ghost use Rattle.resp_scan.specs.Said.{place};
-    ghost use Rattle.resp_scan.specs.Bounded.{IsBounded};
+    ghost use Rattle.resp_scan.specs.Sound.{IsSound, token_needed};
+    ghost use Rattle.resp_scan.specs.States.{is_counted};
 
     ghost view = { λ s. place s.machine };
 
-    ghost invariant = { λ s. IsBounded s.machine };
+    ghost invariant = { λ s. IsSound (place s.machine) };
 }
 
 impl Scanner {
-    ghost use Rattle.resp_scan.specs.Tokens.{AtStart};
+    ghost use Rattle.resp_scan.specs.End.{end_cause};
+    ghost use Rattle.resp_scan.specs.Heard.{heard, stepped, IsOfPiece};
+    ghost use Rattle.resp_scan.specs.Sound.{needed};
+    ghost use Rattle.resp_scan.specs.Scan.{advanced};
+    ghost use Rattle.resp_scan.specs.Tokens.{AtStart, Dead};
 
     /// A scanner of this version within these limits, between two values.
     pub fn new(version: Version, limits: &Limits) -> Scanner
@@ -49,7 +56,7 @@ impl Scanner {
         Scanner {
             machine: Machine {
                 version,
-                limits: *limits,
+                limits: in_range(limits),
                 frames: ArrayVec::new(),
                 state: State::Start,
                 taken: 0,
@@ -77,14 +84,22 @@ impl Scanner {
     /// Refuses the first byte after which nothing can follow, by the first cause that holds in this order: Syntax,
     /// Double, Version, NestedPush, Range, Streamed, Depth, Length, Items, Total. Every later step answers the same.
     #[inline(always)]
-    pub(crate) fn step<'a>(&mut self, piece: &'a [u8]) -> Result<Step<'a>, Fault> {
+    pub fn step<'a>(&mut self, piece: &'a [u8]) -> Result<Step<'a>, Fault>
+        ensures heard { heard self.old.taken result self.new ≡ stepped (advanced self.old piece.now) }
+        ensures within { IfOk result (λ step. step.used ≤ length piece.now) }
+        ensures all { IfOk result (λ step. step.event ≡ None → step.used ≡ length piece.now) }
+        ensures lent { IfOk result (λ step. IsOfPiece piece.now step) }
+        ensures fault { IfErr result (λ fault. (fault.at ≡ self.new.taken) × (self.new.token ≡ Dead fault.cause)) }
+        ensures stays { (cause : Cause) → self.old.token ≡ Dead cause → (result ≡ Err (record { cause = cause; at = self.old.taken })) × (self.new ≡ self.old) }
+    {
         self.machine.step(piece)
     }
 
     /// The end of the input. Refuses it by Truncated inside a value, with the number of its bytes that were taken,
     /// and by the fault of a step where one was refused.
     pub fn finish(&self) -> Result<(), Fault>
-        ensures { IfErr result (λ fault. fault.at ≡ self.now.taken) }
+        ensures ok { OnOk result (end_cause self.now ≡ None) }
+        ensures err { IfErr result (λ fault. (end_cause self.now ≡ Some fault.cause) × (fault.at ≡ self.now.taken)) }
     {
         let at = self.machine.taken;
         match self.machine.state {
@@ -110,7 +125,7 @@ impl Scanner {
     /// Refuses, and changes nothing, from a value's first byte until its [`Event::Done`] was given, and after a
     /// fault.
     pub fn set_version(&mut self, version: Version) -> Result<(), Busy>
-        ensures between { OnOk result ((self.old.token ≡ AtStart) × (self.old.frames ≡ [])) }
+        ensures between { IsOk result ↔ ((self.old.token ≡ AtStart) × (self.old.frames ≡ [])) }
         ensures ok { OnOk result (self.new ≡ record self.old { version = version }) }
         ensures err { OnErr result (self.new ≡ self.old) }
     {
@@ -142,19 +157,37 @@ impl Scanner {
     }
 
     /// The least number of bytes that complete the value: 3 between values, and 0 where only its Done is owed.
-    pub(crate) fn needed(&self) -> u64 {
-        self.machine
-            .owed
-            .saturating_add(self.machine.token_needed())
+    pub fn needed(&self) -> u64
+        ensures { result ≡ needed self.now }
+    {
+        self.machine.owed + self.machine.token_needed()
     }
 }
 
+/// The limits, of which each is in its range.
+#[inline]
+fn in_range(limits: &Limits) -> Limits
+    ensures same { result ≡ limits.now }
+    ensures in_range { AreBounds result }
+{
+    let _ = (
+        limits.depth(),
+        limits.length(),
+        limits.total(),
+        limits.items(),
+    );
+    *limits
+}
+
 impl Machine {
-    ghost use Rattle.resp_scan.specs.Bounded.{IsBounded};
+    ghost use Rattle.resp_scan.specs.Said.{place};
+    ghost use Rattle.resp_scan.specs.Sound.{IsSound, token_needed};
+    ghost use Rattle.resp_scan.specs.States.{is_counted};
 
     /// The least number of bytes that complete the token.
     fn token_needed(&self) -> u64
-        requires { IsBounded self.now }
+        requires { IsSound (place self.now) }
+        ensures { result ≡ token_needed (place self.now).token self.now.limits.depth (place self.now).frames }
     {
         match self.state {
             State::Start => { if self.frames.is_empty() { 3 } else { 0 } }
@@ -175,24 +208,26 @@ impl Machine {
     }
 
     /// The least number of bytes that complete a head, counted content or a close.
+    #[tactic(auto, using(crate::proofs::Places::more_few, crate::proofs::Places::lf_few, crate::proofs::Sound::head_more, crate::proofs::Places::format_first_few, crate::proofs::Places::format_second_few, crate::proofs::Places::colon_four, crate::proofs::Places::content_few, crate::proofs::Places::chunk_few))]
     fn counted_needed(&self) -> u64
-        requires { IsBounded self.now }
+        requires { IsSound (place self.now) }
+        ensures { is_counted self.now.state ≡ true → result ≡ token_needed (place self.now).token self.now.limits.depth (place self.now).frames }
     {
         match self.state {
             State::HeadFirst => first_needed(self.head),
             State::HeadMore => needed_behind(self.head, self.count),
-            State::HeadLf => needed_behind(self.head, self.count).saturating_sub(1),
-            State::FormatFirst => self.count.saturating_add(2),
-            State::FormatSecond => self.count.saturating_add(1),
+            State::HeadLf => needed_behind(self.head, self.count) - 1,
+            State::FormatFirst => self.count + 2,
+            State::FormatSecond => self.count + 1,
             State::FormatThird => self.count,
-            State::FormatColon => self.count.saturating_sub(1),
-            State::Content => self.count.saturating_add(2),
+            State::FormatColon => self.count - 1,
+            State::Content => self.count + 2,
             State::ContentCr => 2,
             State::ContentLf => 1,
             State::StreamCr => 6,
             State::StreamLf => 5,
             State::Chunk => 4,
-            State::ChunkContent => self.count.saturating_add(6),
+            State::ChunkContent => self.count + 6,
             State::ChunkCr => 6,
             State::ChunkLf => 5,
             State::OpenCr => 5,
@@ -205,7 +240,9 @@ impl Machine {
 }
 
 /// The least number of bytes that complete a value behind its type byte, or a streamed string behind a chunk's.
-fn first_needed(head: Head) -> u64 {
+fn first_needed(head: Head) -> u64
+    ensures { result ≡ first_needed head }
+{
     match head {
         Head::Bulk => 4,
         Head::BulkError => 5,

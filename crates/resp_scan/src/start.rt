@@ -1,18 +1,28 @@
 //! A value's first byte.
 
-ghost use Rattle.std.specs.Prelude.{◌<◌, length};
+ghost use Rattle.std.specs.Prelude.{◌≡◌, ◌<◌, ℕ, List, length, drop};
+ghost use Rattle.resp_scan.specs.First.{by_first};
+ghost use Rattle.resp_scan.specs.Machine as m;
+ghost use Rattle.resp_scan.specs.Tokens.{Place};
 
 use crate::machine::{Got, Head, Machine, State, What};
 use resp_value::cause::Cause;
 use resp_value::version::Version;
 
 impl Machine {
-    ghost use Rattle.resp_scan.specs.Bounded.{IsBounded};
+    ghost use Rattle.resp_scan.specs.First.{after_first, first_move};
+    ghost use Rattle.resp_scan.specs.Heads.{first_needed, HasFrame};
+    ghost use Rattle.resp_scan.specs.Sound.{IsSound};
+    ghost use Rattle.resp_scan.specs.Said.{place, said};
+    ghost use Rattle.resp_scan.specs.Scan.{scan};
+    ghost use Rattle.resp_scan.specs.Tokens.{at, Text, AtStart, AtHead};
+    ghost use Rattle.resp_scan.specs.declared.event.TextKind.TheVariants as text;
 
     #[inline]
+    #[tactic(auto, using(crate::proofs::Starts::first_scan, crate::proofs::Starts::refused_answer, crate::proofs::Starts::begun_answer))]
     pub fn start(&mut self, piece: &[u8]) -> Got
-        requires bounded { IsBounded self.old }
-        ensures bounded { IsBounded self.new }
+        requires { IsSound (at (place self.old) AtStart) }
+        ensures { said result self.new ≡ scan 0 (at (place self.old) AtStart) piece.now }
     {
         if piece.is_empty() {
             return self.rest(State::Start, piece);
@@ -48,9 +58,11 @@ impl Machine {
     }
 
     #[inline]
+    #[tactic(auto, using(crate::proofs::Starts::begun_line, crate::proofs::Starts::refused_line))]
     fn line_begins(&mut self, what: What) -> Got
-        requires bounded { IsBounded self.old }
-        ensures bounded { IsBounded self.new }
+        requires { IsSound (at (place self.old) AtStart) }
+        ensures simple { (p : List ℕ) → what ≡ What.Simple → said result self.new ≡ after_first (m.line_begins (at (place self.old) AtStart) (Text text.Simple)) (at (place self.old) AtStart) p }
+        ensures error { (p : List ℕ) → what ≡ What.Error → said result self.new ≡ after_first (m.line_begins (at (place self.old) AtStart) (Text text.Error)) (at (place self.old) AtStart) p }
     {
         if let Some(cause) = self.begin(2) {
             return self.fail(0, cause);
@@ -62,10 +74,11 @@ impl Machine {
 
     /// A form that version 3 alone has.
     #[inline]
+    #[tactic(auto, using(crate::proofs::Starts::refused_answer, crate::proofs::Starts::begun_answer))]
     fn start_three(&mut self, piece: &[u8], first: First) -> Got
         requires within { 0 < length piece.now }
-        requires bounded { IsBounded self.old }
-        ensures bounded { IsBounded self.new }
+        requires sound { IsSound (at (place self.old) AtStart) }
+        ensures { said result self.new ≡ after_first (first_move (at (place self.old) AtStart) first) (at (place self.old) AtStart) (drop 1 piece.now) }
     {
         match first {
             First::Null => match self.begin(2) {
@@ -95,11 +108,13 @@ impl Machine {
     }
 
     #[inline]
+    #[tactic(auto, using(crate::proofs::Starts::refused_answer, crate::proofs::Starts::begun_answer))]
     fn head_begins(&mut self, piece: &[u8], head: Head, needed: u64) -> Got
         requires some { 0 < length piece.now }
         requires few { needed < 10 }
-        requires bounded { IsBounded self.old }
-        ensures bounded { IsBounded self.new }
+        requires level { HasFrame (place self.old) head }
+        requires sound { IsSound (at (place self.old) AtStart) }
+        ensures { said result self.new ≡ after_first (m.begins (at (place self.old) AtStart) needed (AtHead head)) (at (place self.old) AtStart) (drop 1 piece.now) }
     {
         match self.begin(needed) {
             Some(cause) => self.fail(0, cause),
@@ -111,8 +126,9 @@ impl Machine {
     fn aggregate_begins(&mut self, piece: &[u8], head: Head, needed: u64) -> Got
         requires some { 0 < length piece.now }
         requires few { needed < 10 }
-        requires bounded { IsBounded self.old }
-        ensures bounded { IsBounded self.new }
+        requires needed { needed ≡ first_needed head }
+        requires sound { IsSound (at (place self.old) AtStart) }
+        ensures { said result self.new ≡ after_first (m.aggregate_begins (at (place self.old) AtStart) head) (at (place self.old) AtStart) (drop 1 piece.now) }
     {
         if self.is_full() {
             return self.fail(0, Cause::Depth);
@@ -137,7 +153,9 @@ enum First {
 
 /// The form of version 3 alone that begins by this byte.
 #[inline]
-fn first_of(byte: u8) -> Option<First> {
+fn first_of(byte: u8) -> Option<First>
+    ensures { (s : Place) → m.start_three s byte ≡ by_first s result }
+{
     match byte {
         b'_' => Some(First::Null),
         b'#' => Some(First::Bool),

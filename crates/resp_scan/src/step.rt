@@ -1,5 +1,8 @@
 //! One step: the token in which the piece begins, and the event that it comes to.
 
+ghost use Rattle.std.specs.Prelude.{◌≡◌, ◌≤◌, ◌∷◌, [], length, take, drop, true, IfOk, IfErr};
+ghost use Rattle.resp_scan.specs.Machine.{is_digit};
+
 use crate::event::{Event, Fault, Step, TextKind};
 use crate::frame::Shape;
 use crate::machine::{Got, Machine, State, What};
@@ -8,13 +11,19 @@ use resp_value::cause::Cause;
 static DIGITS: [u8; 10] = *b"0123456789";
 
 impl Machine {
-    ghost use Rattle.resp_scan.specs.Bounded.{IsBounded};
+    ghost use Rattle.resp_scan.specs.Heard.{heard, stepped, IsOfPiece};
+    ghost use Rattle.resp_scan.specs.Said.{place, said};
+    ghost use Rattle.resp_scan.specs.Scan.{advanced};
+    ghost use Rattle.resp_scan.specs.Sound.{IsSound};
+    ghost use Rattle.resp_scan.specs.States.{is_counted};
 
     /// Behind a value: its end or its parent's close is owed, or the next member may begin.
     #[inline]
+    #[tactic(auto, using(crate::proofs::Places::sound_member))]
     fn after_value(&mut self, piece: &[u8]) -> Got
-        requires bounded { IsBounded self.old }
-        ensures bounded { IsBounded self.new }
+        requires state { self.old.state ≡ State.Ended }
+        requires sound { IsSound (place self.old) }
+        ensures { said result self.new ≡ advanced (place self.old) piece.now }
     {
         match self.frames.as_slice().last() {
             None => {
@@ -34,9 +43,10 @@ impl Machine {
 
     /// The tokens in which a piece seldom begins.
     #[inline(never)]
+    #[tactic(auto, using(crate::proofs::Places::sound_start, crate::proofs::Places::int_most, crate::proofs::Places::int_lf_most))]
     fn resume(&mut self, piece: &[u8]) -> Got
-        requires bounded { IsBounded self.old }
-        ensures bounded { IsBounded self.new }
+        requires { IsSound (place self.old) }
+        ensures { said result self.new ≡ advanced (place self.old) piece.now }
     {
         match self.state {
             State::Start => self.start(piece),
@@ -71,9 +81,10 @@ impl Machine {
 
     /// The tokens of heads, counted content and closes.
     #[inline]
+    #[tactic(auto, using(crate::proofs::Places::content_some, crate::proofs::Places::chunk_some, crate::proofs::Places::first_frame, crate::proofs::Places::more_frame, crate::proofs::Places::more_owed, crate::proofs::Places::more_few, crate::proofs::Places::lf_few, crate::proofs::Places::lf_ends, crate::proofs::Places::first_four, crate::proofs::Places::second_four, crate::proofs::Places::third_four, crate::proofs::Places::colon_four, crate::proofs::Places::lf_frame, crate::proofs::Places::lf_owed, crate::proofs::Places::open_cr_level, crate::proofs::Places::open_lf_level))]
     fn resume_counted(&mut self, piece: &[u8]) -> Got
-        requires bounded { IsBounded self.old }
-        ensures bounded { IsBounded self.new }
+        requires { IsSound (place self.old) }
+        ensures { is_counted self.old.state ≡ true → said result self.new ≡ advanced (place self.old) piece.now }
     {
         match self.state {
             State::HeadFirst => self.head_first(piece, 0, self.head),
@@ -101,9 +112,10 @@ impl Machine {
     }
 
     #[inline(always)]
+    #[tactic(auto, using(crate::proofs::Places::sound_start, crate::proofs::Places::content_some))]
     fn advance(&mut self, piece: &[u8]) -> Got
-        requires bounded { IsBounded self.old }
-        ensures bounded { IsBounded self.new }
+        requires { IsSound (place self.old) }
+        ensures { said result self.new ≡ advanced (place self.old) piece.now }
     {
         match self.state {
             State::Start => self.start(piece),
@@ -117,12 +129,15 @@ impl Machine {
 
     #[inline(always)]
     pub fn step<'a>(&mut self, piece: &'a [u8]) -> Result<Step<'a>, Fault>
-        requires bounded { IsBounded self.old }
-        ensures bounded { IsBounded self.new }
+        requires { IsSound (place self.old) }
+        ensures heard { heard (place self.old).taken result (place self.new) ≡ stepped (advanced (place self.old) piece.now) }
+        ensures within { IfOk result (λ step. step.used ≤ length piece.now) }
+        ensures lent { IfOk result (λ step. IsOfPiece piece.now step) }
+        ensures counted { IfErr result (λ fault. fault.at ≡ self.new.taken) }
     {
         let got = self.advance(piece);
-        let used = got.used.min(piece.len());
-        self.taken = self.taken.saturating_add(used as u64);
+        let used = got.used;
+        self.taken += used as u64;
         let event = match got.what {
             What::More => None,
             What::Failed => {
@@ -143,7 +158,7 @@ impl Machine {
                 negative: self.big_negative,
             })),
             What::Part => Some(Event::Part(&piece[..used])),
-            What::ChunkPart => Some(Event::Part(&piece[self.part_start.min(used)..used])),
+            What::ChunkPart => Some(Event::Part(run(piece, self.part_start, used))),
             What::Digit => Some(Event::Part(digit_text(self.digit))),
             What::TextEnd => Some(Event::TextEnd),
             What::Open => Some(Event::Open(self.kind, Some(self.count))),
@@ -155,8 +170,21 @@ impl Machine {
     }
 }
 
+/// The bytes from the first index to the second.
+#[inline]
+fn run(piece: &[u8], start: usize, used: usize) -> &[u8]
+    requires start { start ≤ used }
+    requires within { used ≤ length piece.now }
+    ensures { result.now ≡ drop start (take used piece.now) }
+{
+    &piece[start..used]
+}
+
 /// A constant of one byte, this digit.
-fn digit_text(byte: u8) -> &'static [u8] {
-    let at = (byte.saturating_sub(b'0') as usize).min(9);
+fn digit_text(byte: u8) -> &'static [u8]
+    requires { is_digit byte ≡ true }
+    ensures { result.now ≡ byte ∷ [] }
+{
+    let at = (byte - b'0') as usize;
     &DIGITS[at..at + 1]
 }

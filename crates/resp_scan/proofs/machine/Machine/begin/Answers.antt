@@ -3,6 +3,7 @@ use Rattle.std.proofs.lemmas.Grind.{common_steps}
 use Rattle.resp_scan.specs.declared.frame.Frame.{Frame}
 use Rattle.resp_scan.specs.Room.{innermost}
 use Rattle.resp_scan.specs.Said.{place}
+use Rattle.resp_scan.proofs.Places.{top_is}
 use Rattle.resp_scan.proofs.machine.Machine.begin.Goals as goal
 
 innermost_is : (fs : List Frame) (f : Frame) → innermost fs ≡ Some f → fs ≡ f ∷ drop 1 fs
@@ -22,3 +23,11 @@ returns-in-Some-clause-begun c =
     let f = c.in-Some.frame.now in
     let h : innermost fs ≡ Some f = grind (arith, common_steps) in
     c.begin_in.ensures.begun (drop 1 fs) (innermost_is fs f h)
+
+pub begin_in-requires : goal.begin_in-requires
+begin_in-requires c =
+    let s = place c.args.self.now in
+    let f = c.in-Some.frame.now in
+    let h : innermost s.frames ≡ Some f = grind (arith, common_steps) in
+    let t = top_is s f c.requires.sound h in
+    record { needed = c.requires.needed; more = t.more; owed = t.owed; few = t.few; counted = t.counted }

@@ -6,10 +6,10 @@ use Rattle.resp_scan.specs.Said.{place}
 use Rattle.resp_scan.proofs.Runs.{content_part}
 use Rattle.resp_scan.proofs.machine.Machine.content.Goals as goal
 
-pub returns-clause-said : goal.returns-clause-said
-returns-clause-said c = λ h.
+pub returns : goal.returns
+returns c =
     let s = place c.args.self.now in
     let n = c.args.self.now.count in
     let k = c.min-run.result in
     let ne : length c.args.piece.now ≢ 0 = eqb-false (length c.args.piece.now) 0 (sym c.is_empty.ensures ∙ c.if-is_empty.false) in
-    rw (c.content_begins.ensures.gives, c.content_begins.ensures.place) (sym (content_part s 0 n k c.args.piece.now h (omega arith) c.min-run.ensures ∙ ap (λ j. Part 0 j (content_at (n - k) s)) (zero-add k)))
+    rw (c.content_begins.ensures.gives, c.content_begins.ensures.place) (sym (content_part s 0 n k c.args.piece.now c.requires (omega arith) c.min-run.ensures ∙ ap (λ j. Part 0 j (content_at (n - k) s)) (zero-add k)))

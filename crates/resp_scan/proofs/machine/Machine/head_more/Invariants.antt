@@ -9,6 +9,6 @@ abbrev pub invariant-loop-i : goal.invariant-loop-i
 invariant-loop-i l = record {
   fits : l.number ≤ 2 ^ 40;
   same : l.self ≡ l.fn.self;
-  owed : l.fn.self.owed + head_needed l.head l.first ≤ 2 ^ 40 → l.fn.self.owed + head_needed l.head l.number ≤ 2 ^ 40;
+  owed : l.fn.self.owed + head_needed l.head l.number ≤ 2 ^ 41;
   so_far : scan l.from (at (place l.fn.self) (InHead l.head l.first)) (drop l.from l.piece) ≡ scan l.i (at (place l.fn.self) (InHead l.head l.number)) (drop l.i l.piece);
 }

@@ -3,6 +3,6 @@ use Rattle.resp_scan.specs.Said.{place}
 use Rattle.resp_scan.proofs.Runs.{line_part}
 use Rattle.resp_scan.proofs.machine.Machine.line.Goals as goal
 
-pub returns-then-run-gt0-clause-said : goal.returns-then-run-gt0-clause-said
-returns-then-run-gt0-clause-said c =
-    rw (c.gives.ensures, c.requires.state) (sym (line_part (place c.args.self.now) c.args.self.now.room c.line_run-run.result c.args.piece.now (rw (← c.text_room.ensures, ← c.min-most.ensures) c.line_run-run.ensures.run) c.if-run-gt0.true))
+pub returns-then-run-gt0 : goal.returns-then-run-gt0
+returns-then-run-gt0 c =
+    rw (c.gives.ensures, c.requires) (sym (line_part (place c.args.self.now) c.args.self.now.room c.line_run-run.result c.args.piece.now (rw (← c.text_room.ensures, ← c.min-most.ensures) c.line_run-run.ensures.run) c.if-run-gt0.true))

@@ -1,0 +1,174 @@
+-- What stands of every place that a scanner comes to.
+use Rattle.std.specs.Prelude.{◌≡◌, ◌<◌, ◌≤◌, ℕ, ◌+◌, ◌-◌, ◌*◌, ◌%◌, true, cond, eqb, nat_le, List, [], ◌∷◌, length}
+use Rattle.resp_value.specs.Bounds.{AreBounds}
+use Rattle.resp_scan.specs.declared.event.OpenKind.{OpenKind}
+use Rattle.resp_scan.specs.declared.event.OpenKind.TheVariants.{Array, Set, Map, Attr, Push}
+use Rattle.resp_scan.specs.declared.frame.Frame.{Frame}
+use Rattle.resp_scan.specs.declared.frame.Shape.{Shape}
+use Rattle.resp_scan.specs.declared.frame.Shape.TheVariants.{Left, Begun}
+use Rattle.resp_scan.specs.declared.machine.Head.{Head}
+use Rattle.resp_scan.specs.Magnitudes.{most}
+use Rattle.resp_scan.specs.Tokens.{Token, Place, AtStart, AtEnd, InLine, AtLineLf, AtIntSign, AtIntFirst, InInt, AtIntLf, AtBigSign, AtBigFirst, InBigZeros, AtBigZeroLf, AtBigDigit, InBig, AtTextEnd, AtNullOne, AtNullCr, AtNullLf, AtBool, AtBoolCr, AtBoolLf, AtBulkHead, AtArrayHead, AtHead, InHead, AtHeadLf, AtFormat, AtFormatSecond, AtFormatThird, AtFormatColon, InContent, AtContentCr, AtContentLf, AtStreamCr, AtStreamLf, AtChunk, InChunk, AtChunkCr, AtChunkLf, AtOpenCr, AtOpenLf, AtCloseCr, AtCloseLf, Dead}
+use Rattle.resp_scan.specs.Room.{begun_count}
+use Rattle.resp_scan.specs.Heads.{first_needed, head_needed, may_end, opens}
+use Rattle.resp_scan.specs.Machine.{is_digit}
+
+-- What is needed.
+
+abbrev pub owed_streamed : OpenKind → ℕ → ℕ
+owed_streamed Map n = cond (eqb (n % 2) 0) 3 6
+owed_streamed Array n = 3
+owed_streamed Set n = 3
+owed_streamed Attr n = 3
+owed_streamed Push n = 3
+
+abbrev pub frame_owed : OpenKind → Shape → ℕ
+frame_owed k (Left n) = n * 3
+frame_owed k (Begun n) = owed_streamed k n
+
+-- the fewest bytes by which frames end: members of three bytes, a map's value behind its key, and streamed ones' closes
+abbrev pub frames_owed : List Frame → ℕ
+frames_owed [] = 0
+frames_owed (f ∷ fs) = frame_owed f.kind f.shape + frames_owed fs
+
+-- at the top a value has to begin, and within an aggregate its frame says so
+abbrev pub start_needed : List Frame → ℕ
+start_needed [] = 3
+start_needed (f ∷ fs) = 0
+
+-- the fewest bytes that complete the token, within these frames at this depth
+abbrev pub token_needed : Token → ℕ → List Frame → ℕ
+token_needed AtStart depth fs = start_needed fs
+token_needed AtEnd depth fs = 0
+token_needed (InLine room) depth fs = 2
+token_needed AtLineLf depth fs = 1
+token_needed AtIntSign depth fs = 3
+token_needed (AtIntFirst negative) depth fs = 3
+token_needed (InInt negative n) depth fs = 2
+token_needed (AtIntLf negative n) depth fs = 1
+token_needed AtBigSign depth fs = 3
+token_needed (AtBigFirst negative) depth fs = 3
+token_needed (InBigZeros negative) depth fs = 2
+token_needed AtBigZeroLf depth fs = 1
+token_needed (AtBigDigit d room) depth fs = 2
+token_needed (InBig room) depth fs = 2
+token_needed AtTextEnd depth fs = 0
+token_needed AtNullOne depth fs = 3
+token_needed AtNullCr depth fs = 2
+token_needed AtNullLf depth fs = 1
+token_needed AtBool depth fs = 3
+token_needed (AtBoolCr v) depth fs = 2
+token_needed (AtBoolLf v) depth fs = 1
+token_needed AtBulkHead depth fs = 4
+token_needed AtArrayHead depth fs = cond (nat_le depth (length fs)) 4 3
+token_needed (AtHead h) depth fs = first_needed h
+token_needed (InHead h n) depth fs = head_needed h n
+token_needed (AtHeadLf h n) depth fs = head_needed h n - 1
+token_needed (AtFormat n) depth fs = n + 2
+token_needed (AtFormatSecond x n) depth fs = n + 1
+token_needed (AtFormatThird x y n) depth fs = n
+token_needed (AtFormatColon format n) depth fs = n - 1
+token_needed (InContent n) depth fs = n + 2
+token_needed AtContentCr depth fs = 2
+token_needed AtContentLf depth fs = 1
+token_needed AtStreamCr depth fs = 6
+token_needed AtStreamLf depth fs = 5
+token_needed (AtChunk room) depth fs = 4
+token_needed (InChunk room n) depth fs = n + 6
+token_needed (AtChunkCr room) depth fs = 6
+token_needed (AtChunkLf room) depth fs = 5
+token_needed (AtOpenCr k) depth fs = 5
+token_needed (AtOpenLf k) depth fs = 4
+token_needed AtCloseCr depth fs = 2
+token_needed AtCloseLf depth fs = 1
+token_needed (Dead c) depth fs = 0
+
+-- the fewest bytes that complete the value
+abbrev pub needed : Place → ℕ
+needed s = token_needed s.token s.bounds.depth s.frames + s.owed
+
+-- What holds of the frames.
+
+-- in each as many members have begun as items lets
+abbrev pub AreCounted : ℕ → List Frame → Type 0
+AreCounted items [] = Unit {0}
+AreCounted items (f ∷ fs) = (begun_count f.shape ≤ items * 2) × AreCounted items fs
+
+abbrev pub IsOpenShape : Shape → Type 0
+IsOpenShape (Left n) = 0 < n
+IsOpenShape (Begun n) = Unit {0}
+
+-- the innermost aggregate may have a member more
+abbrev pub IsOpen : List Frame → Type 0
+IsOpen [] = Unit {0}
+IsOpen (f ∷ fs) = IsOpenShape f.shape
+
+-- or has all
+abbrev pub IsClosed : List Frame → Type 0
+IsClosed [] = Unit {0}
+IsClosed (f ∷ fs) = f.shape ≡ Left 0
+
+-- What holds of the token within them.
+
+-- a head that opens an aggregate has room for its frame
+abbrev pub HasLevel : Head → ℕ → List Frame → Type 0
+HasLevel h depth fs = opens h ≡ true → length fs < depth
+
+abbrev pub Fits : Token → ℕ → List Frame → Type 0
+Fits AtStart depth fs = IsOpen fs
+Fits AtEnd depth fs = IsClosed fs
+Fits (InLine room) depth fs = Unit {0}
+Fits AtLineLf depth fs = Unit {0}
+Fits AtIntSign depth fs = Unit {0}
+Fits (AtIntFirst negative) depth fs = Unit {0}
+Fits (InInt negative n) depth fs = n ≤ most negative
+Fits (AtIntLf negative n) depth fs = n ≤ most negative
+Fits AtBigSign depth fs = Unit {0}
+Fits (AtBigFirst negative) depth fs = Unit {0}
+Fits (InBigZeros negative) depth fs = Unit {0}
+Fits AtBigZeroLf depth fs = Unit {0}
+Fits (AtBigDigit d room) depth fs = is_digit d ≡ true
+Fits (InBig room) depth fs = Unit {0}
+Fits AtTextEnd depth fs = Unit {0}
+Fits AtNullOne depth fs = Unit {0}
+Fits AtNullCr depth fs = Unit {0}
+Fits AtNullLf depth fs = Unit {0}
+Fits AtBool depth fs = Unit {0}
+Fits (AtBoolCr v) depth fs = Unit {0}
+Fits (AtBoolLf v) depth fs = Unit {0}
+Fits AtBulkHead depth fs = Unit {0}
+Fits AtArrayHead depth fs = Unit {0}
+Fits (AtHead h) depth fs = HasLevel h depth fs
+Fits (InHead h n) depth fs = HasLevel h depth fs
+Fits (AtHeadLf h n) depth fs = HasLevel h depth fs × (may_end h n ≡ true)
+Fits (AtFormat n) depth fs = 4 ≤ n
+Fits (AtFormatSecond x n) depth fs = 4 ≤ n
+Fits (AtFormatThird x y n) depth fs = 4 ≤ n
+Fits (AtFormatColon format n) depth fs = 4 ≤ n
+Fits (InContent n) depth fs = 0 < n
+Fits AtContentCr depth fs = Unit {0}
+Fits AtContentLf depth fs = Unit {0}
+Fits AtStreamCr depth fs = Unit {0}
+Fits AtStreamLf depth fs = Unit {0}
+Fits (AtChunk room) depth fs = Unit {0}
+Fits (InChunk room n) depth fs = 0 < n
+Fits (AtChunkCr room) depth fs = Unit {0}
+Fits (AtChunkLf room) depth fs = Unit {0}
+Fits (AtOpenCr k) depth fs = length fs < depth
+Fits (AtOpenLf k) depth fs = length fs < depth
+Fits AtCloseCr depth fs = IsClosed fs
+Fits AtCloseLf depth fs = IsClosed fs
+Fits (Dead c) depth fs = Unit {0}
+
+-- where so many bytes of a piece are used
+pub record IsSoundBy (used : ℕ) (s : Place) : Type 0 where
+  pub bounds : AreBounds s.bounds
+  pub nested : length s.frames ≤ s.bounds.depth
+  pub counted : AreCounted s.bounds.items s.frames
+  pub owed : s.owed ≡ frames_owed s.frames
+  -- total has room for what is needed
+  pub total : s.taken + used + token_needed s.token s.bounds.depth s.frames + s.owed ≤ s.bounds.total
+  pub token : Fits s.token s.bounds.depth s.frames
+
+abbrev pub IsSound : Place → Type 0
+IsSound s = IsSoundBy 0 s
