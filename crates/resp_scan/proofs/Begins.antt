@@ -32,7 +32,8 @@ use Rattle.resp_scan.specs.Tokens.{Byte, Give, Go, Move, Place, Refuse, AtStart,
 use Rattle.resp_scan.specs.Room.{begin_cause, begun, begun_in, fits, has_all, has_all_of, items_cause, over_total, owed_begun, shape_begun}
 use Rattle.resp_scan.specs.Machine.{unless}
 use Rattle.resp_scan.specs.Kinds.{IsRefusedFor, kind_of, rules_of}
-use Rattle.resp_scan.specs.Follows.{Between, Counts, HasBegun, Inside, Leads, busy, busy_levels, frames_needed, shape_needed, waiting, waiting_levels}
+use Rattle.resp_scan.specs.Follows.{Between, Counts, HasBegun, Inside, Leads, busy, busy_levels, waiting, waiting_levels}
+use Rattle.resp_scan.specs.Sound.{frame_owed, frames_owed}
 use Rattle.resp_scan.proofs.Moves.{length-busy}
 use Rattle.resp_scan.proofs.RefusedMoves.{fits_or_past, unless_over}
 use Rattle.resp_scan.proofs.Tests.{if_equal, if_within}
@@ -66,19 +67,24 @@ has_more (Left m) k form n h = h.4
 has_more (Begun m) k form n h = tt
 
 -- what it needs then
-owed_is : (k : OpenKind) (shape : Shape) (owed others : ℕ) → HasMore shape → owed ≡ shape_needed k shape + others → owed_begun k shape owed ≡ shape_needed k (shape_begun shape) + others
+owed_is : (k : OpenKind) (shape : Shape) (owed others : ℕ) → HasMore shape → owed ≡ frame_owed k shape + others → owed_begun k shape owed ≡ frame_owed k (shape_begun shape) + others
 owed_is k (Left m) owed others some_left e = omega (arith, e, some_left)
 owed_is kind.Array (Begun m) owed others some_left e = e
 owed_is kind.Set (Begun m) owed others some_left e = e
 owed_is kind.Attr (Begun m) owed others some_left e = e
 owed_is kind.Push (Begun m) owed others some_left e = e
 owed_is kind.Map (Begun m) owed others some_left e =
-    if_equal (m % 2) 0 (λ x. cond x (owed + 3) (owed - 3) ≡ 3 * ((m + 1) % 2) + 3 + others) (λ even. omega (arith, e, even)) (λ odd. omega (arith, e, odd_is m odd))
+    if_equal (m % 2) 0 (λ x. owed ≡ cond x 3 6 + others → cond x (owed + 3) (owed - 3) ≡ cond (eqb ((m + 1) % 2) 0) 3 6 + others)
+    (λ even q. let odd : eqb ((m + 1) % 2) 0 ≡ false = grind (arith, nat_tests) in ap (λ n. n + 3) q ∙ sums others ∙ ap (λ x. cond x 3 6 + others) (sym odd))
+    (λ odd q. let even : eqb ((m + 1) % 2) 0 ≡ true = evens m odd in omega (arith, q) ∙ ap (λ x. cond x 3 6 + others) (sym even))
+    e
   where
+    sums : (n : ℕ) → 3 + n + 3 ≡ 6 + n
+    sums n = omega arith
     some : (n : ℕ) → (n ≡ 0 → ⊥) → 0 < n
     some n h = grind (arith, nat_tests)
-    odd_is : (m : ℕ) → (m % 2 ≡ 0 → ⊥) → m % 2 ≡ 1
-    odd_is m odd = omega (arith, some (m % 2) odd)
+    evens : (m : ℕ) → (m % 2 ≡ 0 → ⊥) → eqb ((m + 1) % 2) 0 ≡ true
+    evens m odd = let z : (m + 1) % 2 ≡ 0 = omega (arith, some (m % 2) odd) in ap (λ n. eqb n 0) z
 
 -- items let one more begin in a streamed aggregate
 room_in : (r : Rules) (k : OpenKind) (m : ℕ) → items_of (kind_of k) (m + missing (kind_of k) Streamed m) ≤ r.limits.items → has_all_of k m r.limits.items ≡ false → items_of (kind_of k) (room (kind_of k) m) ≤ r.limits.items
@@ -199,15 +205,15 @@ begins_leads s T front es new byte needed v c no_stop none w took row leads = ca
     case [] c none w took row leads =
         let p = record s { frames = [] } in
         let inside = begins_at_top (rules_of s) T front es new byte w (took 0 refl) in
-        unless_over p front es 0 byte needed v (fits_or_past p T front es (es ++ new) 0 byte needed v c.owed c.taken inside row (leads inside))
+        unless_over p front es 0 byte needed v (fits_or_past p T front es (es ++ new) 0 byte needed v c.sound.owed c.taken inside row (leads inside))
     case (f ∷ fs) c none w took row leads =
         let p = record s { frames = f ∷ fs } in
         let q = begun p in
         elim (has_all f.kind f.shape s.bounds.items) as (λ x. has_all f.kind f.shape s.bounds.items ≡ x → Leads p front es byte (unless (cond x (Some cause.Items) (over_total q 1 needed)) v)) [
-          | true ↦ λ full. full_leads s f fs front es byte c.bounds no_stop none w full
+          | true ↦ λ full. full_leads s f fs front es byte c.sound.bounds no_stop none w full
           | false ↦ λ open_here.
               let inside = begins_in (rules_of s) f fs T front es new byte w open_here took in
               let goes = leads inside in
               same_move p front es byte (unless (over_total q 1 needed) v)
-              (unless_over q front es 0 byte needed v (fits_or_past q T front es (es ++ new) 0 byte needed v (owed_is f.kind f.shape s.owed (frames_needed fs) (more_in f fs w.frames w.of_levels) c.owed) c.taken inside row (from_move p front es byte v goes)))
+              (unless_over q front es 0 byte needed v (fits_or_past q T front es (es ++ new) 0 byte needed v (owed_is f.kind f.shape s.owed (frames_owed fs) (more_in f fs w.frames w.of_levels) c.sound.owed) c.taken inside row (from_move p front es byte v goes)))
         ] refl

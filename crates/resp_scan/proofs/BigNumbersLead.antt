@@ -155,11 +155,11 @@ big_sign_leads s used byte front es is_byte c w =
     (λ is. sign_leads s byte used front es Minus true c w (ap (λ z. z ∷ []) is) refl)
     (λ no_minus. if_equal byte 43 (λ x. Leads (at s AtBigSign) front es byte (cond x (unless (over_total (at s AtBigSign) (used + 1) 3) (Go (at s (AtBigFirst false)))) (big_first (at s AtBigSign) false byte)))
       (λ is. sign_leads s byte used front es Plus false c w (ap (λ z. z ∷ []) is) refl)
-      (λ no_plus. first_leads (at s AtBigSign) (b.Begun (rules_of s) AtBigSign) false byte front es c.bounds.length_in_range.0 w (λ level bytes shown t. unsigned_any (rules_of s) Big byte level bytes shown no_plus no_minus t)))
+      (λ no_plus. first_leads (at s AtBigSign) (b.Begun (rules_of s) AtBigSign) false byte front es c.sound.bounds.length_in_range.0 w (λ level bytes shown t. unsigned_any (rules_of s) Big byte level bytes shown no_plus no_minus t)))
 
 pub big_first_leads : BigFirstLeads
 big_first_leads s negative used byte front es is_byte c w =
-    first_leads (at s (AtBigFirst negative)) (SignBegun (rules_of s) Big negative) negative byte front es c.bounds.length_in_range.0 w (λ level bytes shown t. signed_any (rules_of s) Big negative byte level bytes shown t)
+    first_leads (at s (AtBigFirst negative)) (SignBegun (rules_of s) Big negative) negative byte front es c.sound.bounds.length_in_range.0 w (λ level bytes shown t. signed_any (rules_of s) Big negative byte level bytes shown t)
 
 -- Zeros.
 
@@ -176,7 +176,7 @@ zeros_digit_leads : (s : Place) (negative : Bool) (used byte : ℕ) (front : Lis
 zeros_digit_leads s negative used byte front es d c w =
     let r = rules_of s in
     let T = b.Begun r (InBigZeros negative) in
-    let roomy : 64 ≤ s.bounds.length = c.bounds.length_in_range.0 in
+    let roomy : 64 ≤ s.bounds.length = c.sound.bounds.length_in_range.0 in
     let zero : byte ≡ 48 → (level : ℕ) (bytes : List ℕ) (shown : List Event) → T level bytes shown → BigBegun r negative [] level (bytes ++ byte ∷ []) = λ is level bytes shown t. zeros_more r negative level byte bytes roomy is t.0 in
     let digit : (byte ≡ 48 → ⊥) → (level : ℕ) (bytes : List ℕ) (shown : List Event) → T level bytes shown → BigBegun r negative (byte ∷ []) level (bytes ++ byte ∷ []) = λ other level bytes shown t. digit_more r negative level byte bytes roomy d other t.0 in
     let leads = big_digit_leads (at s (InBigZeros negative)) T negative byte front es roomy d w (λ level bytes shown t. t.1) zero digit in

@@ -93,7 +93,7 @@ mark_dead r k level byte bytes rest is no_stream are c =
 first_digit_leads : (s : Place) (T : ℕ → List ℕ → List Event → Type 0) (k : Kind) (needed used byte : ℕ) (token : Token) (front : List ℕ) (es : List Event) → 3 * members_of k (byte - 48) + 2 ≡ needed → IsDigit byte → Counts s used front → Inside (rules_of s) T s.frames front es → ((level : ℕ) (bytes : List ℕ) (shown : List Event) → level ≡ length s.frames → T level bytes shown → MayCount (rules_of s) k level bytes shown) → (Inside (rules_of s) (CountBegun (rules_of s) k (byte - 48)) s.frames (front ++ byte ∷ []) es → Lies (at s token) (front ++ byte ∷ []) es) → Leads s front es byte (count_digit s (used + 1) (byte - 48) needed token)
 first_digit_leads s T k needed used byte token front es e digit c w may lies =
     let r = rules_of s in
-    let roomy : 16 ≤ s.bounds.items = c.bounds.items_in_range.0 in
+    let roomy : 16 ≤ s.bounds.items = c.sound.bounds.items_in_range.0 in
     if_below s.bounds.items (byte - 48) (λ x. Leads s front es byte (unless (cond x (Some cause.Items) (over_total s (used + 1) needed)) (Go (at s token))))
     (λ past. absurd (omega (arith, past, roomy, digit.1)))
     (λ fits.

@@ -1,5 +1,5 @@
 -- Bytes that are refused inside a value: by the grammar, by a rule of the value alone, or by total.
-use Rattle.std.specs.Prelude.{Bool, true, false, cond, nat_le, None, Some, ◌%◌}
+use Rattle.std.specs.Prelude.{Bool, true, false, cond, eqb, nat_le, None, Some, ◌%◌}
 use Rattle.std.proofs.lemmas.Bool.Decides.{nat_tests}
 use Rattle.std.proofs.Common.{◌≡◌, ℕ, suc, ◌+◌, ◌-◌, ◌*◌, ◌<◌, ◌≤◌, List, [], ◌∷◌, ◌++◌, length, refl, sym, ap, subst, ◌∙◌, arith, length-append}
 use Rattle.resp_value.specs.Rules.{Rules, Rule, Grammar, WithinItems, WithinTotal, rank}
@@ -22,7 +22,8 @@ use Rattle.resp_scan.specs.Tokens.{Move, Place, Refuse}
 use Rattle.resp_scan.specs.Room.{fits, over_total}
 use Rattle.resp_scan.specs.Machine.{unless}
 use Rattle.resp_scan.specs.Kinds.{IsRefusedFor, kind_of, rules_of}
-use Rattle.resp_scan.specs.Follows.{Counts, HasBegun, HaveBegun, Inside, Leads, busy, busy_levels, frames_needed, shape_needed}
+use Rattle.resp_scan.specs.Follows.{Counts, HasBegun, HaveBegun, Inside, Leads, busy, busy_levels}
+use Rattle.resp_scan.specs.Sound.{frame_owed, frames_owed}
 use Rattle.resp_scan.proofs.Moves.{Tells, follows_by, length-busy}
 
 -- the level of a value is the number of frames
@@ -31,20 +32,25 @@ level_is fs level e = e ∙ length-busy fs
 
 -- What the frames need.
 
-shape_needed_is : (k : OpenKind) (s : Shape) → HasBegun s → l.shape_needed (kind_of k) (l.shape_after (busy s)) ≡ shape_needed k s
-shape_needed_is k (Left n) h = let e : 3 * (n + 1 - 1) ≡ 3 * n = omega arith in e
-shape_needed_is kind.Map (Begun n) h = let e : n - 1 + 1 ≡ n = omega arith in ap (λ m. 3 * (m % 2) + 3) e
+shape_needed_is : (k : OpenKind) (s : Shape) → HasBegun s → l.shape_needed (kind_of k) (l.shape_after (busy s)) ≡ frame_owed k s
+shape_needed_is k (Left n) h = let e : 3 * (n + 1 - 1) ≡ n * 3 = omega arith in e
+shape_needed_is kind.Map (Begun n) h =
+    let e : n - 1 + 1 ≡ n = omega arith in
+    ap (λ m. 3 * (m % 2) + 3) e ∙ elim (eqb (n % 2) 0) as (λ x. eqb (n % 2) 0 ≡ x → 3 * (n % 2) + 3 ≡ cond x 3 6) [
+      | true ↦ λ z. let even : n % 2 ≡ 0 = grind (arith, nat_tests) in omega (arith, even)
+      | false ↦ λ z. let odd : 0 < n % 2 = grind (arith, nat_tests) in omega (arith, odd)
+    ] refl
 shape_needed_is kind.Array (Begun n) h = refl
 shape_needed_is kind.Set (Begun n) h = refl
 shape_needed_is kind.Attr (Begun n) h = refl
 shape_needed_is kind.Push (Begun n) h = refl
 
-pub frames_needed_is : (fs : List Frame) → HaveBegun fs → l.levels_needed (busy_levels fs) ≡ frames_needed fs
+pub frames_needed_is : (fs : List Frame) → HaveBegun fs → l.levels_needed (busy_levels fs) ≡ frames_owed fs
 frames_needed_is [] h = refl
 frames_needed_is (f ∷ fs) h = omega (arith, shape_needed_is f.kind f.shape h.0, frames_needed_is fs h.1)
 
 -- the least completion of a front inside a value
-pub inside_least : (r : Rules) (T : ℕ → List ℕ → List Event → Type 0) (fs : List Frame) (front : List ℕ) (es : List Event) (n : ℕ) → Inside r T fs front es → ((level : ℕ) (bytes : List ℕ) (shown : List Event) → level ≡ length fs → T level bytes shown → IsBegunBy r level bytes n) → IsLeast r front (n + frames_needed fs)
+pub inside_least : (r : Rules) (T : ℕ → List ℕ → List Event → Type 0) (fs : List Frame) (front : List ℕ) (es : List Event) (n : ℕ) → Inside r T fs front es → ((level : ℕ) (bytes : List ℕ) (shown : List Event) → level ≡ length fs → T level bytes shown → IsBegunBy r level bytes n) → IsLeast r front (n + frames_owed fs)
 inside_least r T fs front es n w row =
     subst (λ m. IsLeast r front (n + m)) (frames_needed_is fs w.begun)
     (least_continues r WithinItems front (n + l.levels_needed (busy_levels fs)) (omega arith)
@@ -84,18 +90,18 @@ broken r T fs front es n byte w row dead = record {
 }
 
 -- by total: where it leaves no room for the byte and what is needed behind it
-pub fits_or_past : (s : Place) (T : ℕ → List ℕ → List Event → Type 0) (front : List ℕ) (es told : List Event) (used byte n : ℕ) (v : Move) → s.owed ≡ frames_needed s.frames → length front ≡ s.taken + used → Inside (rules_of s) T s.frames (front ++ byte ∷ []) told → ((level : ℕ) (bytes : List ℕ) (shown : List Event) → level ≡ length s.frames → T level bytes shown → IsBegunBy (rules_of s) level bytes n) → Leads s front es byte v → Leads s front es byte (cond (fits s (used + 1) n) v (Refuse cause.Total))
+pub fits_or_past : (s : Place) (T : ℕ → List ℕ → List Event → Type 0) (front : List ℕ) (es told : List Event) (used byte n : ℕ) (v : Move) → s.owed ≡ frames_owed s.frames → length front ≡ s.taken + used → Inside (rules_of s) T s.frames (front ++ byte ∷ []) told → ((level : ℕ) (bytes : List ℕ) (shown : List Event) → level ≡ length s.frames → T level bytes shown → IsBegunBy (rules_of s) level bytes n) → Leads s front es byte v → Leads s front es byte (cond (fits s (used + 1) n) v (Refuse cause.Total))
 fits_or_past s T front es told used byte n v owed taken w row leads =
     elim (fits s (used + 1) n) as (λ z. fits s (used + 1) n ≡ z → Leads s front es byte (cond z v (Refuse cause.Total))) [
       | true ↦ λ z. leads
       | false ↦ λ z.
           let past : (s.bounds.total - s.taken) - s.owed < used + 1 + n = grind (arith, nat_tests) in
-          past_total (rules_of s) (front ++ byte ∷ []) (n + frames_needed s.frames) (inside_least (rules_of s) T s.frames (front ++ byte ∷ []) told n w row) (omega (arith, owed, taken, length-append front (byte ∷ [])))
+          past_total (rules_of s) (front ++ byte ∷ []) (n + frames_owed s.frames) (inside_least (rules_of s) T s.frames (front ++ byte ∷ []) told n w row) (omega (arith, owed, taken, length-append front (byte ∷ [])))
     ] refl
 
 -- the same, where the numbers of a place are
 pub fits_or_total : (s : Place) (T : ℕ → List ℕ → List Event → Type 0) (front : List ℕ) (es told : List Event) (used byte n : ℕ) (v : Move) → Counts s used front → Inside (rules_of s) T s.frames (front ++ byte ∷ []) told → ((level : ℕ) (bytes : List ℕ) (shown : List Event) → level ≡ length s.frames → T level bytes shown → IsBegunBy (rules_of s) level bytes n) → Leads s front es byte v → Leads s front es byte (cond (fits s (used + 1) n) v (Refuse cause.Total))
-fits_or_total s T front es told used byte n v c w row leads = fits_or_past s T front es told used byte n v c.owed c.taken w row leads
+fits_or_total s T front es told used byte n v c w row leads = fits_or_past s T front es told used byte n v c.sound.owed c.taken w row leads
 
 -- the same, as a cause that refuses
 pub unless_over : (s : Place) (front : List ℕ) (es : List Event) (used byte n : ℕ) (v : Move) → Leads s front es byte (cond (fits s (used + 1) n) v (Refuse cause.Total)) → Leads s front es byte (unless (over_total s (used + 1) n) v)

@@ -65,7 +65,7 @@ answer_named s front es byte rule c counts no_stop w answer names =
     record {
       rule = rule;
       names = names;
-      cause = subst (between.IsFrontAnswered r (waiting_levels s.frames) front byte) refusal (between.first_byte_cause r (waiting_levels s.frames) front byte counts.bounds no_stop (is_between r s.frames front es w));
+      cause = subst (between.IsFrontAnswered r (waiting_levels s.frames) front byte) refusal (between.first_byte_cause r (waiting_levels s.frames) front byte counts.sound.bounds no_stop (is_between r s.frames front es w));
     }
 
 -- Lines.
@@ -263,112 +263,112 @@ plus_leads : (s : Place) (front : List ℕ) (es : List Event) → Counts (at s A
 plus_leads s front es c w =
     let q = at s AtStart in
     let r = rules_of s in
-    let roomy : 64 ≤ s.bounds.length = c.bounds.length_in_range.0 in
+    let roomy : 64 ≤ s.bounds.length = c.sound.bounds.length_in_range.0 in
     line_leads s t.Simple 43 (k.Text text.Simple) front es tt refl refl (λ z. omega arith) refl c w
 
 minus_leads : (s : Place) (front : List ℕ) (es : List Event) → Counts (at s AtStart) 0 front → Lies (at s AtStart) front es → Leads (at s AtStart) front es 45 (line_begins (at s AtStart) (k.Text text.Error))
 minus_leads s front es c w =
     let q = at s AtStart in
     let r = rules_of s in
-    let roomy : 64 ≤ s.bounds.length = c.bounds.length_in_range.0 in
+    let roomy : 64 ≤ s.bounds.length = c.sound.bounds.length_in_range.0 in
     line_leads s t.Error 45 (k.Text text.Error) front es tt refl refl (λ z. omega arith) refl c w
 
 colon_leads : (s : Place) (front : List ℕ) (es : List Event) → Counts (at s AtStart) 0 front → Lies (at s AtStart) front es → Leads (at s AtStart) front es 58 (begins (at s AtStart) 3 AtIntSign)
 colon_leads s front es c w =
     let q = at s AtStart in
     let r = rules_of s in
-    let roomy : 64 ≤ s.bounds.length = c.bounds.length_in_range.0 in
+    let roomy : 64 ≤ s.bounds.length = c.sound.bounds.length_in_range.0 in
     both_lead s (AtIntSign) 58 (3) front es c (λ z. omega arith) refl w (λ level i. ((omega arith, refl), refl)) (λ level bytes shown i u. number_begun r t.Int Unsigned level bytes u.0) (λ inside. lies_begun q (AtIntSign) (begun q).frames (front ++ 58 ∷ []) es inside)
 
 dollar_leads : (s : Place) (front : List ℕ) (es : List Event) → Counts (at s AtStart) 0 front → Lies (at s AtStart) front es → Leads (at s AtStart) front es 36 (begins (at s AtStart) 4 AtBulkHead)
 dollar_leads s front es c w =
     let q = at s AtStart in
     let r = rules_of s in
-    let roomy : 64 ≤ s.bounds.length = c.bounds.length_in_range.0 in
+    let roomy : 64 ≤ s.bounds.length = c.sound.bounds.length_in_range.0 in
     both_lead s (AtBulkHead) 36 (4) front es c (λ z. omega arith) refl w (λ level i. (refl, refl)) (λ level bytes shown i u. subst (λ z. IsBegunBy r level z 4) (sym u.0) (dollar_begun r level)) (λ inside. lies_begun q (AtBulkHead) (begun q).frames (front ++ 36 ∷ []) es inside)
 
 star_leads : (s : Place) (front : List ℕ) (es : List Event) → Counts (at s AtStart) 0 front → Lies (at s AtStart) front es → Leads (at s AtStart) front es 42 (begins (at s AtStart) (cond (is_full (at s AtStart)) 4 3) AtArrayHead)
 star_leads s front es c w =
     let q = at s AtStart in
     let r = rules_of s in
-    let roomy : 64 ≤ s.bounds.length = c.bounds.length_in_range.0 in
+    let roomy : 64 ≤ s.bounds.length = c.sound.bounds.length_in_range.0 in
     both_lead s (AtArrayHead) 42 (cond (is_full q) 4 3) front es c (λ z. omega arith) refl w (λ level i. (refl, refl)) (λ level bytes shown i u. star_row s level i bytes u.0) (λ inside. lies_begun q (AtArrayHead) (begun q).frames (front ++ 42 ∷ []) es inside)
 
 stop_leads : (s : Place) (front : List ℕ) (es : List Event) → Counts (at s AtStart) 0 front → Lies (at s AtStart) front es → Leads (at s AtStart) front es 46 (closing (at s AtStart))
 stop_leads s front es c w =
     let q = at s AtStart in
     let r = rules_of s in
-    let roomy : 64 ≤ s.bounds.length = c.bounds.length_in_range.0 in
+    let roomy : 64 ≤ s.bounds.length = c.sound.bounds.length_in_range.0 in
     close_leads s front es w
 
 comma_leads : (s : Place) (front : List ℕ) (es : List Event) → Counts (at s AtStart) 0 front → Lies (at s AtStart) front es → Leads (at s AtStart) front es 44 (Refuse cause.Double)
 comma_leads s front es c w =
     let q = at s AtStart in
     let r = rules_of s in
-    let roomy : 64 ≤ s.bounds.length = c.bounds.length_in_range.0 in
+    let roomy : 64 ≤ s.bounds.length = c.sound.bounds.length_in_range.0 in
     answer_named q front es 44 NoDouble cause.Double c (λ z. omega arith) w refl refl
 
 underscore_leads : (s : Place) (front : List ℕ) (es : List Event) → Counts (at s AtStart) 0 front → Lies (at s AtStart) front es → Leads (at s AtStart) front es 95 (machine.in_three s.version (begins (at s AtStart) 2 AtNullCr))
 underscore_leads s front es c w =
     let q = at s AtStart in
     let r = rules_of s in
-    let roomy : 64 ≤ s.bounds.length = c.bounds.length_in_range.0 in
+    let roomy : 64 ≤ s.bounds.length = c.sound.bounds.length_in_range.0 in
     three_leads s 95 front es None (begins q 2 (AtNullCr)) (λ z. omega arith) refl c w (λ no_two none. both_lead s (AtNullCr) 95 2 front es c (λ z. omega arith) none w (λ level i. record { form = PlainNull; token = null_token_line r PlainNull level (λ two p. no_two two); told = refl }) (λ level bytes shown i u. line_begun r (t.null u.form) level bytes u.token) (λ inside. lies_begun q (AtNullCr) (begun q).frames (front ++ 95 ∷ []) es inside))
 
 hash_leads : (s : Place) (front : List ℕ) (es : List Event) → Counts (at s AtStart) 0 front → Lies (at s AtStart) front es → Leads (at s AtStart) front es 35 (machine.in_three s.version (begins (at s AtStart) 3 AtBool))
 hash_leads s front es c w =
     let q = at s AtStart in
     let r = rules_of s in
-    let roomy : 64 ≤ s.bounds.length = c.bounds.length_in_range.0 in
+    let roomy : 64 ≤ s.bounds.length = c.sound.bounds.length_in_range.0 in
     three_leads s 35 front es None (begins q 3 (AtBool)) (λ z. omega arith) refl c w (λ no_two none. both_lead s (AtBool) 35 3 front es c (λ z. omega arith) none w (λ level i. (no_two, refl, refl)) (λ level bytes shown i u. subst (λ z. IsBegunBy r level z 3) (sym u.1) (truth_begun r level u.0)) (λ inside. lies_begun q (AtBool) (begun q).frames (front ++ 35 ∷ []) es inside))
 
 paren_leads : (s : Place) (front : List ℕ) (es : List Event) → Counts (at s AtStart) 0 front → Lies (at s AtStart) front es → Leads (at s AtStart) front es 40 (machine.in_three s.version (begins (at s AtStart) 3 AtBigSign))
 paren_leads s front es c w =
     let q = at s AtStart in
     let r = rules_of s in
-    let roomy : 64 ≤ s.bounds.length = c.bounds.length_in_range.0 in
+    let roomy : 64 ≤ s.bounds.length = c.sound.bounds.length_in_range.0 in
     three_leads s 40 front es None (begins q 3 (AtBigSign)) (λ z. omega arith) refl c w (λ no_two none. both_lead s (AtBigSign) 40 3 front es c (λ z. omega arith) none w (λ level i. (((no_two, omega (arith, roomy)), refl), refl)) (λ level bytes shown i u. number_begun r t.Big Unsigned level bytes u.0) (λ inside. lies_begun q (AtBigSign) (begun q).frames (front ++ 40 ∷ []) es inside))
 
 bang_leads : (s : Place) (front : List ℕ) (es : List Event) → Counts (at s AtStart) 0 front → Lies (at s AtStart) front es → Leads (at s AtStart) front es 33 (machine.in_three s.version (begins (at s AtStart) 5 (AtHead head.BulkError)))
 bang_leads s front es c w =
     let q = at s AtStart in
     let r = rules_of s in
-    let roomy : 64 ≤ s.bounds.length = c.bounds.length_in_range.0 in
+    let roomy : 64 ≤ s.bounds.length = c.sound.bounds.length_in_range.0 in
     three_leads s 33 front es None (begins q 5 (AtHead head.BulkError)) (λ z. omega arith) refl c w (λ no_two none. both_lead s (AtHead head.BulkError) 33 5 front es c (λ z. omega arith) none w (λ level i. (no_two, refl, refl)) (λ level bytes shown i u. subst (λ z. IsBegunBy r level z 5) (sym u.1) (bulk_error_begun r level u.0)) (λ inside. lies_begun q (AtHead head.BulkError) (begun q).frames (front ++ 33 ∷ []) es inside))
 
 equals_leads : (s : Place) (front : List ℕ) (es : List Event) → Counts (at s AtStart) 0 front → Lies (at s AtStart) front es → Leads (at s AtStart) front es 61 (machine.in_three s.version (begins (at s AtStart) 9 (AtHead head.Verbatim)))
 equals_leads s front es c w =
     let q = at s AtStart in
     let r = rules_of s in
-    let roomy : 64 ≤ s.bounds.length = c.bounds.length_in_range.0 in
+    let roomy : 64 ≤ s.bounds.length = c.sound.bounds.length_in_range.0 in
     three_leads s 61 front es None (begins q 9 (AtHead head.Verbatim)) (λ z. omega arith) refl c w (λ no_two none. both_lead s (AtHead head.Verbatim) 61 9 front es c (λ z. omega arith) none w (λ level i. (no_two, refl, refl)) (λ level bytes shown i u. subst (λ z. IsBegunBy r level z 9) (sym u.1) (verbatim_begun r level u.0 (omega (arith, roomy)))) (λ inside. lies_begun q (AtHead head.Verbatim) (begun q).frames (front ++ 61 ∷ []) es inside))
 
 tilde_leads : (s : Place) (front : List ℕ) (es : List Event) → Counts (at s AtStart) 0 front → Lies (at s AtStart) front es → Leads (at s AtStart) front es 126 (machine.in_three s.version (aggregate_begins (at s AtStart) head.Set))
 tilde_leads s front es c w =
     let q = at s AtStart in
     let r = rules_of s in
-    let roomy : 64 ≤ s.bounds.length = c.bounds.length_in_range.0 in
+    let roomy : 64 ≤ s.bounds.length = c.sound.bounds.length_in_range.0 in
     three_leads s 126 front es (aggregate_on r (length s.frames)) (aggregate_begins q head.Set) (λ z. omega arith) refl c w (λ no_two answer. aggregate_leads s d.Set head.Set 126 front es refl (λ z. omega arith) no_two answer (λ level i. tt) c w (λ level bytes shown u. aggregate_row r d.Set level bytes shown refl u) (λ inside. inside))
 
 percent_leads : (s : Place) (front : List ℕ) (es : List Event) → Counts (at s AtStart) 0 front → Lies (at s AtStart) front es → Leads (at s AtStart) front es 37 (machine.in_three s.version (aggregate_begins (at s AtStart) head.Map))
 percent_leads s front es c w =
     let q = at s AtStart in
     let r = rules_of s in
-    let roomy : 64 ≤ s.bounds.length = c.bounds.length_in_range.0 in
+    let roomy : 64 ≤ s.bounds.length = c.sound.bounds.length_in_range.0 in
     three_leads s 37 front es (aggregate_on r (length s.frames)) (aggregate_begins q head.Map) (λ z. omega arith) refl c w (λ no_two answer. aggregate_leads s d.Map head.Map 37 front es refl (λ z. omega arith) no_two answer (λ level i. tt) c w (λ level bytes shown u. aggregate_row r d.Map level bytes shown refl u) (λ inside. inside))
 
 bar_leads : (s : Place) (front : List ℕ) (es : List Event) → Counts (at s AtStart) 0 front → Lies (at s AtStart) front es → Leads (at s AtStart) front es 124 (machine.in_three s.version (aggregate_begins (at s AtStart) head.Attr))
 bar_leads s front es c w =
     let q = at s AtStart in
     let r = rules_of s in
-    let roomy : 64 ≤ s.bounds.length = c.bounds.length_in_range.0 in
+    let roomy : 64 ≤ s.bounds.length = c.sound.bounds.length_in_range.0 in
     three_leads s 124 front es (aggregate_on r (length s.frames)) (aggregate_begins q head.Attr) (λ z. omega arith) refl c w (λ no_two answer. aggregate_leads s d.Attr head.Attr 124 front es refl (λ z. omega arith) no_two answer (λ level i. tt) c w (λ level bytes shown u. aggregate_row_of_attr r level bytes shown u) (λ inside. inside))
 
 greater_leads : (s : Place) (front : List ℕ) (es : List Event) → Counts (at s AtStart) 0 front → Lies (at s AtStart) front es → Leads (at s AtStart) front es 62 (machine.in_three s.version (push_begins (at s AtStart) s.frames))
 greater_leads s front es c w =
     let q = at s AtStart in
     let r = rules_of s in
-    let roomy : 64 ≤ s.bounds.length = c.bounds.length_in_range.0 in
+    let roomy : 64 ≤ s.bounds.length = c.sound.bounds.length_in_range.0 in
     three_leads s 62 front es (push_on r (length s.frames)) (push_begins q s.frames) (λ z. omega arith) refl c w (λ no_two answer. push_leads s 62 front es refl no_two answer c w)
 
 -- any other byte

@@ -1,7 +1,6 @@
 -- What a scanner has taken and given since a value began: the heads of the open aggregates, each with its whole
 -- members, and then the bytes begun since, within every rule but total.
-use Rattle.std.specs.Prelude.{◌≡◌, ℕ, ◌+◌, ◌-◌, ◌*◌, ◌%◌, ◌<◌, ◌≤◌, Bool, cond, eqb, List, [], ◌∷◌, ◌++◌, length}
-use Rattle.resp_value.specs.Bounds.{AreBounds}
+use Rattle.std.specs.Prelude.{◌≡◌, ℕ, ◌+◌, ◌-◌, ◌<◌, List, [], ◌∷◌, ◌++◌, length}
 use Rattle.resp_value.specs.Trees.{Tree, IsTree, close, text, count}
 use Rattle.resp_value.specs.Rules.{Rules, WithinItems}
 use Rattle.resp_value.specs.LocalRules.{LeafKeeps, NodeKeeps, HoldsFrom}
@@ -12,14 +11,12 @@ use Rattle.resp_follow.specs.Events.{Event, events, events_around, given}
 use Rattle.resp_follow.specs.Events as e
 use Rattle.resp_follow.proofs.Levels as level
 use Rattle.resp_follow.proofs.Levels.{Level, AreLevelsOf, AreReady, left, taken}
-use Rattle.resp_scan.specs.declared.event.OpenKind.TheVariants as kind
 use Rattle.resp_scan.specs.declared.event.OpenKind.{OpenKind}
 use Rattle.resp_scan.specs.declared.frame.Frame.{Frame}
 use Rattle.resp_scan.specs.declared.frame.Shape.{Shape}
 use Rattle.resp_scan.specs.declared.frame.Shape.TheVariants.{Left, Begun}
-use Rattle.resp_scan.specs.Tokens.{Token, Place, Move, Go, Byte, Give, Refuse, AtStart, AtEnd, InLine, AtLineLf, AtIntSign, AtIntFirst, InInt, AtIntLf, AtBigSign, AtBigFirst, InBigZeros, AtBigZeroLf, AtBigDigit, InBig, AtTextEnd, AtNullOne, AtNullCr, AtNullLf, AtBool, AtBoolCr, AtBoolLf, AtBulkHead, AtArrayHead, AtHead, InHead, AtHeadLf, AtFormat, AtFormatSecond, AtFormatThird, AtFormatColon, InContent, AtContentCr, AtContentLf, AtStreamCr, AtStreamLf, AtChunk, InChunk, AtChunkCr, AtChunkLf, AtOpenCr, AtOpenLf, AtCloseCr, AtCloseLf, Dead}
-use Rattle.resp_scan.specs.Heads.{first_needed, head_needed}
-use Rattle.resp_scan.specs.Room.{is_full}
+use Rattle.resp_scan.specs.Tokens.{Token, Place, Move, Go, Byte, Give, Refuse, AtStart, AtEnd, AtCloseCr, AtCloseLf}
+use Rattle.resp_scan.specs.Sound.{IsSoundBy}
 use Rattle.resp_scan.specs.Kinds.{kind_of, event_of, rules_of, IsRefusedFor}
 use Rattle.resp_scan.specs.Begun as b
 
@@ -44,22 +41,6 @@ busy_levels (f ∷ fs) = record { kind = kind_of f.kind; shape = busy f.shape } 
 abbrev pub waiting_levels : List Frame → List Level
 waiting_levels [] = []
 waiting_levels (f ∷ fs) = record { kind = kind_of f.kind; shape = waiting f.shape } ∷ busy_levels fs
-
--- the members and the close that an aggregate still needs
-abbrev pub begun_needed : OpenKind → ℕ → ℕ
-begun_needed kind.Map n = 3 * (n % 2) + 3
-begun_needed kind.Array n = 3
-begun_needed kind.Set n = 3
-begun_needed kind.Attr n = 3
-begun_needed kind.Push n = 3
-
-abbrev pub shape_needed : OpenKind → Shape → ℕ
-shape_needed k (Left n) = 3 * n
-shape_needed k (Begun n) = begun_needed k n
-
-abbrev pub frames_needed : List Frame → ℕ
-frames_needed [] = 0
-frames_needed (f ∷ fs) = shape_needed f.kind f.shape + frames_needed fs
 
 -- at least one member has begun in a streamed aggregate whose member is open
 abbrev pub HasBegun : Shape → Type 0
@@ -141,66 +122,12 @@ LiesAt r token fs front es = Inside r (b.Begun r token) fs front es
 abbrev pub Lies : Place → List ℕ → List Event → Type 0
 Lies s front es = LiesAt (rules_of s) s.token s.frames front es
 
--- Least completions.
+-- Bytes.
 
--- the fewest bytes that complete the token, and the value that it is in
-abbrev pub token_needed : Token → Bool → List Frame → ℕ
-token_needed AtStart full [] = 3
-token_needed AtStart full (f ∷ fs) = 0
-token_needed AtEnd full fs = 0
-token_needed (InLine room) full fs = 2
-token_needed AtLineLf full fs = 1
-token_needed AtIntSign full fs = 3
-token_needed (AtIntFirst negative) full fs = 3
-token_needed (InInt negative n) full fs = 2
-token_needed (AtIntLf negative n) full fs = 1
-token_needed AtBigSign full fs = 3
-token_needed (AtBigFirst negative) full fs = 3
-token_needed (InBigZeros negative) full fs = 2
-token_needed AtBigZeroLf full fs = 1
-token_needed (AtBigDigit digit room) full fs = 2
-token_needed (InBig room) full fs = 2
-token_needed AtTextEnd full fs = 0
-token_needed AtNullOne full fs = 3
-token_needed AtNullCr full fs = 2
-token_needed AtNullLf full fs = 1
-token_needed AtBool full fs = 3
-token_needed (AtBoolCr b) full fs = 2
-token_needed (AtBoolLf b) full fs = 1
-token_needed AtBulkHead full fs = 4
-token_needed AtArrayHead full fs = cond full 4 3
-token_needed (AtHead h) full fs = first_needed h
-token_needed (InHead h n) full fs = head_needed h n
-token_needed (AtHeadLf h n) full fs = head_needed h n - 1
-token_needed (AtFormat n) full fs = n + 2
-token_needed (AtFormatSecond x n) full fs = n + 1
-token_needed (AtFormatThird x y n) full fs = n
-token_needed (AtFormatColon format n) full fs = n - 1
-token_needed (InContent n) full fs = n + 2
-token_needed AtContentCr full fs = 2
-token_needed AtContentLf full fs = 1
-token_needed AtStreamCr full fs = 6
-token_needed AtStreamLf full fs = 5
-token_needed (AtChunk room) full fs = 4
-token_needed (InChunk room n) full fs = n + 6
-token_needed (AtChunkCr room) full fs = 6
-token_needed (AtChunkLf room) full fs = 5
-token_needed (AtOpenCr k) full fs = 5
-token_needed (AtOpenLf k) full fs = 4
-token_needed AtCloseCr full fs = 2
-token_needed AtCloseLf full fs = 1
-token_needed (Dead c) full fs = 0
-
--- the fewest bytes that complete a place's value
-abbrev pub needed : Place → ℕ
-needed s = token_needed s.token (is_full s) s.frames + s.owed
-
--- the numbers that a place keeps, where so many bytes of the value at the top have been taken
+-- the numbers that a place keeps are those of the front, of which so many bytes are the piece's
 pub record Counts (s : Place) (used : ℕ) (front : List ℕ) : Type 0 where
-  pub bounds : AreBounds s.bounds
-  pub owed : s.owed ≡ frames_needed s.frames
+  pub sound : IsSoundBy used s
   pub taken : length front ≡ s.taken + used
-  pub fits : s.taken + used + needed s ≤ s.bounds.total
 
 -- what one byte more makes of it
 abbrev pub Leads : Place → List ℕ → List Event → ℕ → Move → Type 0
