@@ -36,3 +36,4 @@ pub mod StreamedHeads
 pub mod MoreFrontLaws
 pub mod ContentTokens
 pub mod BegunTypeBytes
+pub mod StringTokens

@@ -4,3 +4,7 @@ pub mod Moves
 pub mod RefusedMoves
 pub mod LeafEvents
 pub mod LinesLead
+pub mod ByteTests
+pub mod StringHeads
+pub mod StringHeadsLead
+pub mod BulkHeadLeads

@@ -1,7 +1,9 @@
 -- What a byte makes of what has come, token by token.
 use Rattle.std.specs.Prelude.{◌≡◌, ℕ, ◌+◌, ◌<◌, List}
 use Rattle.resp_follow.specs.Events.{Event}
-use Rattle.resp_scan.specs.Tokens.{Token, Place, InLine, AtLineLf, at}
+use Rattle.resp_scan.specs.declared.machine.Head.{Head}
+use Rattle.resp_scan.specs.declared.machine.Head.TheVariants.{Bulk, BulkError, Verbatim, Chunk, Array, Set, Map, Attr, Push}
+use Rattle.resp_scan.specs.Tokens.{Token, Place, InLine, AtLineLf, AtBulkHead, AtHead, InHead, AtHeadLf, at}
 use Rattle.resp_scan.specs.Machine.{next}
 use Rattle.resp_scan.specs.Follows.{Lies, Leads, Counts}
 
@@ -14,3 +16,27 @@ LinesLead = (s : Place) (room : ℕ) → ALead (at s (InLine room))
 
 abbrev pub LineEndsLead : Type 0
 LineEndsLead = (s : Place) → ALead (at s AtLineLf)
+
+abbrev pub BulkHeadLeads : Type 0
+BulkHeadLeads = (s : Place) → ALead (at s AtBulkHead)
+
+-- the head of a string that isn't streamed
+abbrev pub IsOfString : Head → Type 0
+IsOfString Bulk = Unit {0}
+IsOfString BulkError = Unit {0}
+IsOfString Verbatim = Unit {0}
+IsOfString (Chunk room) = ⊥
+IsOfString Array = ⊥
+IsOfString Set = ⊥
+IsOfString Map = ⊥
+IsOfString Attr = ⊥
+IsOfString Push = ⊥
+
+abbrev pub StringHeadsLead : Type 0
+StringHeadsLead = (s : Place) (h : Head) → IsOfString h → ALead (at s (AtHead h))
+
+abbrev pub StringLengthsLead : Type 0
+StringLengthsLead = (s : Place) (h : Head) (n : ℕ) → IsOfString h → ALead (at s (InHead h n))
+
+abbrev pub StringLengthEndsLead : Type 0
+StringLengthEndsLead = (s : Place) (h : Head) (n : ℕ) → IsOfString h → ALead (at s (AtHeadLf h n))

@@ -1,6 +1,6 @@
 //! Laws of the machine by bytes, each the contract of a function with an empty body.
 
-ghost use Rattle.resp_scan.specs.Laws.{LinesLead, LineEndsLead};
+ghost use Rattle.resp_scan.specs.Laws.{LinesLead, LineEndsLead, BulkHeadLeads};
 
 /// A byte of a line.
 pub(crate) fn lines_lead()
@@ -10,4 +10,9 @@ pub(crate) fn lines_lead()
 /// The LF of a line.
 pub(crate) fn line_ends_lead()
     ensures { LineEndsLead }
+{}
+
+/// The byte behind `$`.
+pub(crate) fn bulk_head_leads()
+    ensures { BulkHeadLeads }
 {}

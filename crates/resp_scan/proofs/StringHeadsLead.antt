@@ -1,0 +1,78 @@
+-- Heads of counted strings, byte by byte.
+use Rattle.std.specs.Prelude.{Bool, true, false, cond, nat_lt, None}
+use Rattle.std.proofs.lemmas.Bool.Decides.{nat_tests}
+use Rattle.std.proofs.Common.{◌≡◌, ℕ, ◌+◌, ◌-◌, ◌*◌, ◌<◌, ◌≤◌, List, [], ◌∷◌, ◌++◌, length, refl, sym, ap, subst, ◌∙◌, arith}
+use Rattle.resp_value.specs.Numbers.{IsDigit, number}
+use Rattle.resp_value.specs.Trees as t
+use Rattle.resp_value.specs.Trees.{StringKind}
+use Rattle.resp_value.specs.Rules.{Rules, WithinDepth, WithinLength}
+use Rattle.resp_value.specs.declared.cause.Cause.TheVariants as cause
+use Rattle.resp_follow.specs.Events.{Event}
+use Rattle.resp_follow.proofs.BegunLines.{number-digit}
+use Rattle.resp_follow.proofs.FirstLineRows.{zeros}
+use Rattle.resp_follow.proofs.BrokenHeads.{IsNoLength}
+use Rattle.resp_follow.proofs.BegunFronts.{IsBegunBy}
+use Rattle.resp_follow.proofs.BegunTypeBytes.{length_token_over}
+use Rattle.resp_follow.proofs.HeadTokens.{length_token_more}
+use Rattle.resp_follow.proofs.StringTokens.{IsStringBegun, length_token_begins, length_token_broken, string_begun_broken}
+use Rattle.resp_scan.specs.declared.machine.Head.{Head}
+use Rattle.resp_scan.specs.declared.machine.Head.TheVariants as head
+use Rattle.resp_scan.specs.Tokens.{Place, Go, Refuse, AtHead, InHead, AtHeadLf, at}
+use Rattle.resp_scan.specs.Room.{over_total}
+use Rattle.resp_scan.specs.Heads.{counted_cause, first_needed, head_needed, may_end, most_counted, streamed_kind}
+use Rattle.resp_scan.specs.Machine.{head_digit, head_first, open_streamed, wants}
+use Rattle.resp_scan.specs.Kinds.{IsRefusedFor, rules_of}
+use Rattle.resp_scan.specs.Begun.{HeadCounts, HeadReturned, LengthBegun, LengthReturned}
+use Rattle.resp_scan.specs.Follows.{Counts, Inside, Leads, Lies}
+use Rattle.resp_scan.specs.Laws.{IsOfString, StringHeadsLead, StringLengthsLead}
+use Rattle.resp_scan.proofs.ByteTests.{by_byte, by_digit, by_test, unless_test, wanted}
+use Rattle.resp_scan.proofs.Moves.{goes, retold}
+use Rattle.resp_scan.proofs.RefusedMoves.{broken, fits_or_total, refused, unless_over}
+use Rattle.resp_scan.proofs.StringHeads.{IsStringHead, bulk, bulk_error, verbatim}
+
+-- a digit of a head's number, where its limit and total allow
+pub head_digit_leads : (s : Place) (h : Head) (n used byte : ℕ) (front : List ℕ) (es : List Event) → Counts s used front → (most_counted s h < n → IsRefusedFor (rules_of s) (front ++ byte ∷ []) (counted_cause h)) → (n ≤ most_counted s h → Inside (rules_of s) (HeadCounts (rules_of s) h n) s.frames (front ++ byte ∷ []) es) → ((level : ℕ) (bytes : List ℕ) (shown : List Event) → level ≡ length s.frames → HeadCounts (rules_of s) h n level bytes shown → IsBegunBy (rules_of s) level bytes (head_needed h n)) → Leads s front es byte (head_digit s (used + 1) h n)
+head_digit_leads s h n used byte front es c past within row =
+    unless_test s front es byte (nat_lt (most_counted s h) n) (counted_cause h) (over_total s (used + 1) (head_needed h n)) (Go (at s (InHead h n))) (λ z. past (grind (arith, nat_tests)))
+    (λ z.
+      let begun = within (grind (arith, nat_tests)) in
+      unless_over s front es used byte (head_needed h n) (Go (at s (InHead h n)))
+      (fits_or_total s (HeadCounts (rules_of s) h n) front es es used byte (head_needed h n) (Go (at s (InHead h n))) c begun row begun))
+
+-- a string's type byte
+abbrev pub TypeByte : Rules → StringKind → ℕ → List ℕ → List Event → Type 0
+TypeByte r kind level bytes shown = IsStringBegun r kind bytes × (shown ≡ [])
+
+-- the first digit of a length, which no limit but total refuses
+pub first_digit_leads : (s : Place) (h : Head) (kind : StringKind) (k : IsStringHead h kind) (used byte : ℕ) (front : List ℕ) (es : List Event) → IsDigit byte → Counts s used front → Inside (rules_of s) (TypeByte (rules_of s) kind) s.frames front es → Leads s front es byte (head_digit s (used + 1) h (byte - 48))
+first_digit_leads s h kind k used byte front es digit c w =
+    let r = rules_of s in
+    let roomy : 64 ≤ s.bounds.length = c.bounds.length_in_range.0 in
+    head_digit_leads s h (byte - 48) used byte front es c
+    (λ past. absurd (omega (arith, k.most s, digit.1, roomy)))
+    (λ within. goes r (TypeByte r kind) (HeadCounts r h (byte - 48)) s.frames front (byte ∷ []) es w
+      (λ level bytes shown e t. k.counts r (byte - 48) level (bytes ++ byte ∷ []) shown (record { first = byte; digits = []; token = length_token_begins r kind level byte bytes digit (omega (arith, digit.1, roomy)) t.0; valued = omega arith; told = t.1 })))
+    (λ level bytes shown e t. k.row r (byte - 48) level bytes shown (omega arith) (k.length r (byte - 48) level bytes shown t))
+
+-- what stands behind a type byte where no `?` may
+pub string_head_leads : (s : Place) (h : Head) (kind : StringKind) (k : IsStringHead h kind) (used byte : ℕ) (front : List ℕ) (es : List Event) → Counts s used front → Inside (rules_of s) (TypeByte (rules_of s) kind) s.frames front es → ((IsDigit byte → ⊥) → IsNoLength kind byte) → Leads s front es byte (head_first s (used + 1) h byte)
+string_head_leads s h kind k used byte front es c w none =
+    let r = rules_of s in
+    let roomy : 64 ≤ s.bounds.length = c.bounds.length_in_range.0 in
+    let dead : (IsDigit byte → ⊥) → IsRefusedFor r (front ++ byte ∷ []) cause.Syntax = λ other.
+      broken r (TypeByte r kind) s.frames front es (first_needed h) byte w (λ level bytes shown e t. k.first_row r level bytes (omega arith) t.0)
+      (λ level bytes rest shown t d. string_begun_broken r kind level bytes rest byte (none other) t.0 d) in
+    by_byte s front es 63 byte _ _
+    (λ is_mark. subst (λ z. Leads s front es byte (open_streamed s (used + 1) z)) (sym k.not_streamed) (dead (λ d. omega (arith, d.1))))
+    (λ no_mark. by_digit s front es byte _ _ (λ digit. first_digit_leads s h kind k used byte front es digit c w) dead)
+
+pub string_heads_lead : StringHeadsLead
+string_heads_lead s head.Bulk p used byte front es is_byte c w = absurd w.took
+string_heads_lead s head.BulkError p used byte front es is_byte c w = string_head_leads (at s (AtHead head.BulkError)) head.BulkError t.BulkError bulk_error used byte front es c (retold (rules_of s) _ _ s.frames front es w (λ level bytes shown t. ((t.0, t.1), t.2))) (λ other. other)
+string_heads_lead s head.Verbatim p used byte front es is_byte c w = string_head_leads (at s (AtHead head.Verbatim)) head.Verbatim (t.Verbatim (zeros 3)) verbatim used byte front es c (retold (rules_of s) _ _ s.frames front es w (λ level bytes shown t. ((t.0, t.1), t.2))) (λ other. other)
+string_heads_lead s (head.Chunk room) p used byte front es is_byte c w = absurd p
+string_heads_lead s head.Array p used byte front es is_byte c w = absurd p
+string_heads_lead s head.Set p used byte front es is_byte c w = absurd p
+string_heads_lead s head.Map p used byte front es is_byte c w = absurd p
+string_heads_lead s head.Attr p used byte front es is_byte c w = absurd p
+string_heads_lead s head.Push p used byte front es is_byte c w = absurd p
