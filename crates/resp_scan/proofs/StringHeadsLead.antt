@@ -20,7 +20,7 @@ use Rattle.resp_scan.specs.declared.machine.Head.TheVariants as head
 use Rattle.resp_scan.specs.Tokens.{Place, Go, Refuse, AtHead, InHead, AtHeadLf, at}
 use Rattle.resp_scan.specs.Room.{over_total}
 use Rattle.resp_scan.specs.Heads.{counted_cause, first_needed, head_needed, may_end, most_counted, streamed_kind}
-use Rattle.resp_scan.specs.Machine.{head_digit, head_first, open_streamed, wants}
+use Rattle.resp_scan.specs.Machine.{head_digit, head_first, is_digit, open_streamed, wants}
 use Rattle.resp_scan.specs.Kinds.{IsRefusedFor, rules_of}
 use Rattle.resp_scan.specs.Begun.{HeadCounts, HeadReturned, LengthBegun, LengthReturned}
 use Rattle.resp_scan.specs.Follows.{Counts, Inside, Leads, Lies}
@@ -76,3 +76,45 @@ string_heads_lead s head.Set p used byte front es is_byte c w = absurd p
 string_heads_lead s head.Map p used byte front es is_byte c w = absurd p
 string_heads_lead s head.Attr p used byte front es is_byte c w = absurd p
 string_heads_lead s head.Push p used byte front es is_byte c w = absurd p
+
+-- a digit of a length, or its CR
+string_length_leads : (s : Place) (h : Head) (kind : StringKind) (k : IsStringHead h kind) (n used byte : ℕ) (front : List ℕ) (es : List Event) → Counts s used front → Inside (rules_of s) (LengthBegun (rules_of s) kind n) s.frames front es → Leads s front es byte (cond (is_digit byte) (head_digit s (used + 1) h (n * 10 + (byte - 48))) (cond (may_end h n) (wants 13 byte (Go (at s (AtHeadLf h n)))) (Refuse cause.Syntax)))
+string_length_leads s h kind k n used byte front es c w =
+    let r = rules_of s in
+    let roomy : 64 ≤ s.bounds.length = c.bounds.length_in_range.0 in
+    let m = n * 10 + (byte - 48) in
+    by_digit s front es byte _ _
+    (λ digit. head_digit_leads s h m used byte front es c
+      (λ past. subst (IsRefusedFor r (front ++ byte ∷ [])) k.cause
+        (refused r (LengthBegun r kind n) WithinLength WithinDepth s.frames front (byte ∷ []) es refl (omega arith) w
+        (λ level bytes shown e t.
+          let over = length_token_over r kind t.first t.digits level byte bytes k.has_format (omega arith) digit (omega (arith, number-digit (t.first ∷ t.digits) byte, t.valued, k.most s)) t.token in
+          (_, _, over.0, over.1))))
+      (λ within. goes r (LengthBegun r kind n) (HeadCounts r h m) s.frames front (byte ∷ []) es w
+        (λ level bytes shown e t. k.counts r m level (bytes ++ byte ∷ []) shown (record {
+          first = t.first;
+          digits = t.digits ++ byte ∷ [];
+          token = length_token_more r kind t.first t.digits level byte bytes digit (omega (arith, number-digit (t.first ∷ t.digits) byte, t.valued, k.most s)) t.token;
+          valued = omega (arith, number-digit (t.first ∷ t.digits) byte, t.valued);
+          told = t.told;
+        })))
+      (λ level bytes shown e t. k.row r m level bytes shown (omega arith) (k.length r m level bytes shown t)))
+    (λ other. by_test s front es byte (may_end h n) _ _
+      (λ long. wanted s front es 13 byte (Go (at s (AtHeadLf h n)))
+        (λ is_return. subst (λ z. Lies (at s (AtHeadLf h n)) (front ++ z ∷ []) es) (sym is_return)
+          (goes r (LengthBegun r kind n) (HeadReturned r h n) s.frames front (13 ∷ []) es w (λ level bytes shown e t. k.ends r n level (bytes ++ 13 ∷ []) shown long (record { before = bytes; length = t; returned = refl }))))
+        (λ no_return. broken r (LengthBegun r kind n) s.frames front es (head_needed h n) byte w (λ level bytes shown e t. k.row r n level bytes shown (omega arith) t)
+          (λ level bytes rest shown t d. length_token_broken r kind t.first t.digits level bytes rest byte no_return other t.token d)))
+      (λ short. broken r (LengthBegun r kind n) s.frames front es (head_needed h n) byte w (λ level bytes shown e t. k.row r n level bytes shown (omega arith) t)
+        (λ level bytes rest shown t d. k.short r n level bytes rest shown byte short other t d)))
+
+pub string_lengths_lead : StringLengthsLead
+string_lengths_lead s head.Bulk n p used byte front es is_byte c w = string_length_leads (at s (InHead head.Bulk n)) head.Bulk t.Bulk bulk n used byte front es c w
+string_lengths_lead s head.BulkError n p used byte front es is_byte c w = string_length_leads (at s (InHead head.BulkError n)) head.BulkError t.BulkError bulk_error n used byte front es c w
+string_lengths_lead s head.Verbatim n p used byte front es is_byte c w = string_length_leads (at s (InHead head.Verbatim n)) head.Verbatim (t.Verbatim (zeros 3)) verbatim n used byte front es c w
+string_lengths_lead s (head.Chunk room) n p used byte front es is_byte c w = absurd p
+string_lengths_lead s head.Array n p used byte front es is_byte c w = absurd p
+string_lengths_lead s head.Set n p used byte front es is_byte c w = absurd p
+string_lengths_lead s head.Map n p used byte front es is_byte c w = absurd p
+string_lengths_lead s head.Attr n p used byte front es is_byte c w = absurd p
+string_lengths_lead s head.Push n p used byte front es is_byte c w = absurd p

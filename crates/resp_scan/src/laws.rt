@@ -1,6 +1,6 @@
 //! Laws of the machine by bytes, each the contract of a function with an empty body.
 
-ghost use Rattle.resp_scan.specs.Laws.{LinesLead, LineEndsLead, BulkHeadLeads};
+ghost use Rattle.resp_scan.specs.Laws.{LinesLead, LineEndsLead, BulkHeadLeads, StringHeadsLead, StringLengthsLead};
 
 /// A byte of a line.
 pub(crate) fn lines_lead()
@@ -15,4 +15,14 @@ pub(crate) fn line_ends_lead()
 /// The byte behind `$`.
 pub(crate) fn bulk_head_leads()
     ensures { BulkHeadLeads }
+{}
+
+/// The first byte of a string's length.
+pub(crate) fn string_heads_lead()
+    ensures { StringHeadsLead }
+{}
+
+/// A byte of a string's length.
+pub(crate) fn string_lengths_lead()
+    ensures { StringLengthsLead }
 {}
