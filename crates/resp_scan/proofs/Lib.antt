@@ -8,3 +8,5 @@ pub mod ByteTests
 pub mod StringHeads
 pub mod StringHeadsLead
 pub mod BulkHeadLeads
+pub mod ContentLead
+pub mod StringLengthEndsLead

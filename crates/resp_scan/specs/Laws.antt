@@ -3,7 +3,7 @@ use Rattle.std.specs.Prelude.{◌≡◌, ℕ, ◌+◌, ◌<◌, List}
 use Rattle.resp_follow.specs.Events.{Event}
 use Rattle.resp_scan.specs.declared.machine.Head.{Head}
 use Rattle.resp_scan.specs.declared.machine.Head.TheVariants.{Bulk, BulkError, Verbatim, Chunk, Array, Set, Map, Attr, Push}
-use Rattle.resp_scan.specs.Tokens.{Token, Place, InLine, AtLineLf, AtBulkHead, AtHead, InHead, AtHeadLf, at}
+use Rattle.resp_scan.specs.Tokens.{Token, Place, InLine, AtLineLf, AtBulkHead, AtHead, InHead, AtHeadLf, InContent, AtContentCr, AtContentLf, at}
 use Rattle.resp_scan.specs.Machine.{next}
 use Rattle.resp_scan.specs.Follows.{Lies, Leads, Counts}
 
@@ -40,3 +40,12 @@ StringLengthsLead = (s : Place) (h : Head) (n : ℕ) → IsOfString h → ALead 
 
 abbrev pub StringLengthEndsLead : Type 0
 StringLengthEndsLead = (s : Place) (h : Head) (n : ℕ) → IsOfString h → ALead (at s (AtHeadLf h n))
+
+abbrev pub ContentLeads : Type 0
+ContentLeads = (s : Place) (n : ℕ) → ALead (at s (InContent n))
+
+abbrev pub ContentReturnsLead : Type 0
+ContentReturnsLead = (s : Place) → ALead (at s AtContentCr)
+
+abbrev pub ContentEndsLead : Type 0
+ContentEndsLead = (s : Place) → ALead (at s AtContentLf)

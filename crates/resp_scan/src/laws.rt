@@ -1,6 +1,6 @@
 //! Laws of the machine by bytes, each the contract of a function with an empty body.
 
-ghost use Rattle.resp_scan.specs.Laws.{LinesLead, LineEndsLead, BulkHeadLeads, StringHeadsLead, StringLengthsLead};
+ghost use Rattle.resp_scan.specs.Laws.{LinesLead, LineEndsLead, BulkHeadLeads, StringHeadsLead, StringLengthsLead, StringLengthEndsLead, ContentLeads, ContentReturnsLead, ContentEndsLead};
 
 /// A byte of a line.
 pub(crate) fn lines_lead()
@@ -25,4 +25,24 @@ pub(crate) fn string_heads_lead()
 /// A byte of a string's length.
 pub(crate) fn string_lengths_lead()
     ensures { StringLengthsLead }
+{}
+
+/// The LF behind a string's length.
+pub(crate) fn string_length_ends_lead()
+    ensures { StringLengthEndsLead }
+{}
+
+/// A byte of counted content.
+pub(crate) fn content_leads()
+    ensures { ContentLeads }
+{}
+
+/// The CR behind counted content.
+pub(crate) fn content_returns_lead()
+    ensures { ContentReturnsLead }
+{}
+
+/// The LF behind it.
+pub(crate) fn content_ends_lead()
+    ensures { ContentEndsLead }
 {}
