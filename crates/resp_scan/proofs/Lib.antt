@@ -10,3 +10,4 @@ pub mod StringHeadsLead
 pub mod BulkHeadLeads
 pub mod ContentLead
 pub mod StringLengthEndsLead
+pub mod FormatsLead

@@ -3,7 +3,7 @@ use Rattle.std.specs.Prelude.{◌≡◌, ℕ, ◌+◌, ◌<◌, List}
 use Rattle.resp_follow.specs.Events.{Event}
 use Rattle.resp_scan.specs.declared.machine.Head.{Head}
 use Rattle.resp_scan.specs.declared.machine.Head.TheVariants.{Bulk, BulkError, Verbatim, Chunk, Array, Set, Map, Attr, Push}
-use Rattle.resp_scan.specs.Tokens.{Token, Place, InLine, AtLineLf, AtBulkHead, AtHead, InHead, AtHeadLf, InContent, AtContentCr, AtContentLf, at}
+use Rattle.resp_scan.specs.Tokens.{Token, Place, InLine, AtLineLf, AtBulkHead, AtHead, InHead, AtHeadLf, AtFormat, AtFormatSecond, AtFormatThird, AtFormatColon, InContent, AtContentCr, AtContentLf, at}
 use Rattle.resp_scan.specs.Machine.{next}
 use Rattle.resp_scan.specs.Follows.{Lies, Leads, Counts}
 
@@ -49,3 +49,15 @@ ContentReturnsLead = (s : Place) → ALead (at s AtContentCr)
 
 abbrev pub ContentEndsLead : Type 0
 ContentEndsLead = (s : Place) → ALead (at s AtContentLf)
+
+abbrev pub FormatsLead : Type 0
+FormatsLead = (s : Place) (n : ℕ) → ALead (at s (AtFormat n))
+
+abbrev pub SecondFormatBytesLead : Type 0
+SecondFormatBytesLead = (s : Place) (x n : ℕ) → ALead (at s (AtFormatSecond x n))
+
+abbrev pub ThirdFormatBytesLead : Type 0
+ThirdFormatBytesLead = (s : Place) (x y n : ℕ) → ALead (at s (AtFormatThird x y n))
+
+abbrev pub ColonsLead : Type 0
+ColonsLead = (s : Place) (format : List ℕ) (n : ℕ) → ALead (at s (AtFormatColon format n))

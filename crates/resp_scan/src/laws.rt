@@ -1,6 +1,6 @@
 //! Laws of the machine by bytes, each the contract of a function with an empty body.
 
-ghost use Rattle.resp_scan.specs.Laws.{LinesLead, LineEndsLead, BulkHeadLeads, StringHeadsLead, StringLengthsLead, StringLengthEndsLead, ContentLeads, ContentReturnsLead, ContentEndsLead};
+ghost use Rattle.resp_scan.specs.Laws.{LinesLead, LineEndsLead, BulkHeadLeads, StringHeadsLead, StringLengthsLead, StringLengthEndsLead, ContentLeads, ContentReturnsLead, ContentEndsLead, FormatsLead, SecondFormatBytesLead, ThirdFormatBytesLead, ColonsLead};
 
 /// A byte of a line.
 pub(crate) fn lines_lead()
@@ -45,4 +45,24 @@ pub(crate) fn content_returns_lead()
 /// The LF behind it.
 pub(crate) fn content_ends_lead()
     ensures { ContentEndsLead }
+{}
+
+/// The first byte of a verbatim string's format.
+pub(crate) fn formats_lead()
+    ensures { FormatsLead }
+{}
+
+/// The second.
+pub(crate) fn second_format_bytes_lead()
+    ensures { SecondFormatBytesLead }
+{}
+
+/// The third.
+pub(crate) fn third_format_bytes_lead()
+    ensures { ThirdFormatBytesLead }
+{}
+
+/// The colon behind a format.
+pub(crate) fn colons_lead()
+    ensures { ColonsLead }
 {}
