@@ -37,3 +37,6 @@ pub mod MoreFrontLaws
 pub mod ContentTokens
 pub mod BegunTypeBytes
 pub mod StringTokens
+pub mod PayloadTokens
+pub mod ChunkTokens
+pub mod BrokenChunks

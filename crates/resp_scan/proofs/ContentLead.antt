@@ -9,7 +9,7 @@ use Rattle.resp_follow.specs.Events as e
 use Rattle.resp_follow.proofs.CountRows.{CompletesUnder}
 use Rattle.resp_follow.proofs.BegunFronts.{IsBegunBy}
 use Rattle.resp_follow.proofs.ContentTokens.{content_begun, content_broken, content_returned_begun}
-use Rattle.resp_follow.proofs.StringTokens.{content_returned_broken, payload_more, whole_content}
+use Rattle.resp_follow.proofs.PayloadTokens.{content_returned_broken, payload_more, whole_content}
 use Rattle.resp_scan.specs.Tokens.{Place, Go, Give, TextEnd, AtContentCr, AtContentLf, InContent, at, ended}
 use Rattle.resp_scan.specs.Heads.{content_at}
 use Rattle.resp_scan.specs.Kinds.{content_events, rules_of}

@@ -6,7 +6,7 @@ use Rattle.resp_follow.specs.Events.{Event}
 use Rattle.resp_follow.specs.Events as e
 use Rattle.resp_follow.proofs.FirstLineRows.{zeros}
 use Rattle.resp_follow.proofs.ContentTokens.{IsContentToken, content_begun}
-use Rattle.resp_follow.proofs.StringTokens.{format_broken, format_ends, format_more}
+use Rattle.resp_follow.proofs.PayloadTokens.{format_broken, format_ends, format_more}
 use Rattle.resp_scan.specs.declared.event.TextKind.TheVariants as text
 use Rattle.resp_scan.specs.Tokens.{Place, Give, Text, AtFormatColon, at}
 use Rattle.resp_scan.specs.Heads.{content_at}

@@ -11,3 +11,5 @@ pub mod BulkHeadLeads
 pub mod ContentLead
 pub mod StringLengthEndsLead
 pub mod FormatsLead
+pub mod ChunksBegun
+pub mod StreamsLead

@@ -3,7 +3,7 @@ use Rattle.std.specs.Prelude.{◌≡◌, ℕ, ◌+◌, ◌<◌, List}
 use Rattle.resp_follow.specs.Events.{Event}
 use Rattle.resp_scan.specs.declared.machine.Head.{Head}
 use Rattle.resp_scan.specs.declared.machine.Head.TheVariants.{Bulk, BulkError, Verbatim, Chunk, Array, Set, Map, Attr, Push}
-use Rattle.resp_scan.specs.Tokens.{Token, Place, InLine, AtLineLf, AtBulkHead, AtHead, InHead, AtHeadLf, AtFormat, AtFormatSecond, AtFormatThird, AtFormatColon, InContent, AtContentCr, AtContentLf, at}
+use Rattle.resp_scan.specs.Tokens.{Token, Place, InLine, AtLineLf, AtBulkHead, AtHead, InHead, AtHeadLf, AtFormat, AtFormatSecond, AtFormatThird, AtFormatColon, InContent, AtContentCr, AtContentLf, AtStreamCr, AtStreamLf, AtChunk, InChunk, AtChunkCr, AtChunkLf, at}
 use Rattle.resp_scan.specs.Machine.{next}
 use Rattle.resp_scan.specs.Follows.{Lies, Leads, Counts}
 
@@ -61,3 +61,12 @@ ThirdFormatBytesLead = (s : Place) (x y n : ℕ) → ALead (at s (AtFormatThird 
 
 abbrev pub ColonsLead : Type 0
 ColonsLead = (s : Place) (format : List ℕ) (n : ℕ) → ALead (at s (AtFormatColon format n))
+
+abbrev pub StreamsLead : Type 0
+StreamsLead = (s : Place) → ALead (at s AtStreamCr)
+
+abbrev pub StreamEndsLead : Type 0
+StreamEndsLead = (s : Place) → ALead (at s AtStreamLf)
+
+abbrev pub ChunksLead : Type 0
+ChunksLead = (s : Place) (room : ℕ) → ALead (at s (AtChunk room))

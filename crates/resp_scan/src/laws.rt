@@ -1,6 +1,6 @@
 //! Laws of the machine by bytes, each the contract of a function with an empty body.
 
-ghost use Rattle.resp_scan.specs.Laws.{LinesLead, LineEndsLead, BulkHeadLeads, StringHeadsLead, StringLengthsLead, StringLengthEndsLead, ContentLeads, ContentReturnsLead, ContentEndsLead, FormatsLead, SecondFormatBytesLead, ThirdFormatBytesLead, ColonsLead};
+ghost use Rattle.resp_scan.specs.Laws.{LinesLead, LineEndsLead, BulkHeadLeads, StringHeadsLead, StringLengthsLead, StringLengthEndsLead, ContentLeads, ContentReturnsLead, ContentEndsLead, FormatsLead, SecondFormatBytesLead, ThirdFormatBytesLead, ColonsLead, StreamsLead, StreamEndsLead, ChunksLead};
 
 /// A byte of a line.
 pub(crate) fn lines_lead()
@@ -65,4 +65,19 @@ pub(crate) fn third_format_bytes_lead()
 /// The colon behind a format.
 pub(crate) fn colons_lead()
     ensures { ColonsLead }
+{}
+
+/// The CR of a streamed string's line.
+pub(crate) fn streams_lead()
+    ensures { StreamsLead }
+{}
+
+/// Its LF.
+pub(crate) fn stream_ends_lead()
+    ensures { StreamEndsLead }
+{}
+
+/// The byte between chunks.
+pub(crate) fn chunks_lead()
+    ensures { ChunksLead }
 {}
