@@ -5,6 +5,7 @@ pub mod RefusedMoves
 pub mod LeafEvents
 pub mod LinesLead
 pub mod ByteTests
+pub mod HeadDigits
 pub mod StringHeads
 pub mod StringHeadsLead
 pub mod BulkHeadLeads
@@ -13,3 +14,4 @@ pub mod StringLengthEndsLead
 pub mod FormatsLead
 pub mod ChunksBegun
 pub mod StreamsLead
+pub mod ChunkHeadsLead

@@ -26,18 +26,10 @@ use Rattle.resp_scan.specs.Begun.{HeadCounts, HeadReturned, LengthBegun, LengthR
 use Rattle.resp_scan.specs.Follows.{Counts, Inside, Leads, Lies}
 use Rattle.resp_scan.specs.Laws.{IsOfString, StringHeadsLead, StringLengthsLead}
 use Rattle.resp_scan.proofs.ByteTests.{by_byte, by_digit, by_test, unless_test, wanted}
+use Rattle.resp_scan.proofs.HeadDigits.{head_digit_leads}
 use Rattle.resp_scan.proofs.Moves.{goes, retold}
 use Rattle.resp_scan.proofs.RefusedMoves.{broken, fits_or_total, refused, unless_over}
 use Rattle.resp_scan.proofs.StringHeads.{IsStringHead, bulk, bulk_error, verbatim}
-
--- a digit of a head's number, where its limit and total allow
-pub head_digit_leads : (s : Place) (h : Head) (n used byte : ℕ) (front : List ℕ) (es : List Event) → Counts s used front → (most_counted s h < n → IsRefusedFor (rules_of s) (front ++ byte ∷ []) (counted_cause h)) → (n ≤ most_counted s h → Inside (rules_of s) (HeadCounts (rules_of s) h n) s.frames (front ++ byte ∷ []) es) → ((level : ℕ) (bytes : List ℕ) (shown : List Event) → level ≡ length s.frames → HeadCounts (rules_of s) h n level bytes shown → IsBegunBy (rules_of s) level bytes (head_needed h n)) → Leads s front es byte (head_digit s (used + 1) h n)
-head_digit_leads s h n used byte front es c past within row =
-    unless_test s front es byte (nat_lt (most_counted s h) n) (counted_cause h) (over_total s (used + 1) (head_needed h n)) (Go (at s (InHead h n))) (λ z. past (grind (arith, nat_tests)))
-    (λ z.
-      let begun = within (grind (arith, nat_tests)) in
-      unless_over s front es used byte (head_needed h n) (Go (at s (InHead h n)))
-      (fits_or_total s (HeadCounts (rules_of s) h n) front es es used byte (head_needed h n) (Go (at s (InHead h n))) c begun row begun))
 
 -- a string's type byte
 abbrev pub TypeByte : Rules → StringKind → ℕ → List ℕ → List Event → Type 0

@@ -70,3 +70,12 @@ StreamEndsLead = (s : Place) → ALead (at s AtStreamLf)
 
 abbrev pub ChunksLead : Type 0
 ChunksLead = (s : Place) (room : ℕ) → ALead (at s (AtChunk room))
+
+abbrev pub ChunkHeadsLead : Type 0
+ChunkHeadsLead = (s : Place) (room : ℕ) → ALead (at s (AtHead (Chunk room)))
+
+abbrev pub ChunkLengthsLead : Type 0
+ChunkLengthsLead = (s : Place) (room n : ℕ) → ALead (at s (InHead (Chunk room) n))
+
+abbrev pub ChunkLengthEndsLead : Type 0
+ChunkLengthEndsLead = (s : Place) (room n : ℕ) → ALead (at s (AtHeadLf (Chunk room) n))

@@ -1,6 +1,6 @@
 //! Laws of the machine by bytes, each the contract of a function with an empty body.
 
-ghost use Rattle.resp_scan.specs.Laws.{LinesLead, LineEndsLead, BulkHeadLeads, StringHeadsLead, StringLengthsLead, StringLengthEndsLead, ContentLeads, ContentReturnsLead, ContentEndsLead, FormatsLead, SecondFormatBytesLead, ThirdFormatBytesLead, ColonsLead, StreamsLead, StreamEndsLead, ChunksLead};
+ghost use Rattle.resp_scan.specs.Laws.{LinesLead, LineEndsLead, BulkHeadLeads, StringHeadsLead, StringLengthsLead, StringLengthEndsLead, ContentLeads, ContentReturnsLead, ContentEndsLead, FormatsLead, SecondFormatBytesLead, ThirdFormatBytesLead, ColonsLead, StreamsLead, StreamEndsLead, ChunksLead, ChunkHeadsLead, ChunkLengthsLead, ChunkLengthEndsLead};
 
 /// A byte of a line.
 pub(crate) fn lines_lead()
@@ -80,4 +80,19 @@ pub(crate) fn stream_ends_lead()
 /// The byte between chunks.
 pub(crate) fn chunks_lead()
     ensures { ChunksLead }
+{}
+
+/// The first byte of a chunk's length.
+pub(crate) fn chunk_heads_lead()
+    ensures { ChunkHeadsLead }
+{}
+
+/// A byte of a chunk's length.
+pub(crate) fn chunk_lengths_lead()
+    ensures { ChunkLengthsLead }
+{}
+
+/// The LF behind a chunk's length.
+pub(crate) fn chunk_length_ends_lead()
+    ensures { ChunkLengthEndsLead }
 {}
