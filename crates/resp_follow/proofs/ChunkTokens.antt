@@ -27,6 +27,11 @@ pub record AreWhole (r : Rules) (chunks : List Chunk) : Type 0 where
   pub are_chunks : AllByRecursion IsChunk chunks
   pub fits : length (joined chunks) ≤ r.limits.length
 
+-- the content of chunks behind chunks
+pub joined_behind : (cs es : List Chunk) → joined (with_chunks cs es) ≡ joined cs ++ joined es
+joined_behind [] es = refl
+joined_behind (c ∷ cs) es = ap (λ z. c.content ++ z) (joined_behind cs es) ∙ sym (append_assoc c.content (joined cs) (joined es))
+
 -- a streamed string up to the limit of length is within every rule
 pub chunked_keeps : (r : Rules) (rule : Rule) (level : ℕ) (chunks : List Chunk) (zeros : List ℕ) → HasStreamed r → length (joined chunks) ≤ r.limits.length → LeafKeeps r rule level (chunked chunks zeros)
 chunked_keeps r rule level chunks zeros h fits = leaf_keeps r rule level (chunked chunks zeros) tt (λ is_two. absurd (h.0 is_two)) tt (λ off. absurd (h.1 off)) fits

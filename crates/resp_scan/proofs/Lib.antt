@@ -15,3 +15,4 @@ pub mod FormatsLead
 pub mod ChunksBegun
 pub mod StreamsLead
 pub mod ChunkHeadsLead
+pub mod ChunkContentLead

@@ -79,3 +79,12 @@ ChunkLengthsLead = (s : Place) (room n : ℕ) → ALead (at s (InHead (Chunk roo
 
 abbrev pub ChunkLengthEndsLead : Type 0
 ChunkLengthEndsLead = (s : Place) (room n : ℕ) → ALead (at s (AtHeadLf (Chunk room) n))
+
+abbrev pub ChunkContentLeads : Type 0
+ChunkContentLeads = (s : Place) (room n : ℕ) → ALead (at s (InChunk room n))
+
+abbrev pub ChunkReturnsLead : Type 0
+ChunkReturnsLead = (s : Place) (room : ℕ) → ALead (at s (AtChunkCr room))
+
+abbrev pub ChunkEndsLead : Type 0
+ChunkEndsLead = (s : Place) (room : ℕ) → ALead (at s (AtChunkLf room))

@@ -1,6 +1,6 @@
 //! Laws of the machine by bytes, each the contract of a function with an empty body.
 
-ghost use Rattle.resp_scan.specs.Laws.{LinesLead, LineEndsLead, BulkHeadLeads, StringHeadsLead, StringLengthsLead, StringLengthEndsLead, ContentLeads, ContentReturnsLead, ContentEndsLead, FormatsLead, SecondFormatBytesLead, ThirdFormatBytesLead, ColonsLead, StreamsLead, StreamEndsLead, ChunksLead, ChunkHeadsLead, ChunkLengthsLead, ChunkLengthEndsLead};
+ghost use Rattle.resp_scan.specs.Laws.{LinesLead, LineEndsLead, BulkHeadLeads, StringHeadsLead, StringLengthsLead, StringLengthEndsLead, ContentLeads, ContentReturnsLead, ContentEndsLead, FormatsLead, SecondFormatBytesLead, ThirdFormatBytesLead, ColonsLead, StreamsLead, StreamEndsLead, ChunksLead, ChunkHeadsLead, ChunkLengthsLead, ChunkLengthEndsLead, ChunkContentLeads, ChunkReturnsLead, ChunkEndsLead};
 
 /// A byte of a line.
 pub(crate) fn lines_lead()
@@ -95,4 +95,19 @@ pub(crate) fn chunk_lengths_lead()
 /// The LF behind a chunk's length.
 pub(crate) fn chunk_length_ends_lead()
     ensures { ChunkLengthEndsLead }
+{}
+
+/// A byte of a chunk's content.
+pub(crate) fn chunk_content_leads()
+    ensures { ChunkContentLeads }
+{}
+
+/// The CR behind a chunk.
+pub(crate) fn chunk_returns_lead()
+    ensures { ChunkReturnsLead }
+{}
+
+/// Its LF.
+pub(crate) fn chunk_ends_lead()
+    ensures { ChunkEndsLead }
 {}
