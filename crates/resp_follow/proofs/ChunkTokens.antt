@@ -88,7 +88,7 @@ chunk_zero_returned_begun r level chunks digits w are_digits is_zero = record {
   parts = refl;
   some = omega arith;
   least = next_row (LeafKeeps r WithinItems) (NodeKeeps r WithinItems) level (streamed_text chunks (59 ∷ digits)) 13 1 (10 ∷ []) (chunk_zero_begun r level chunks digits w are_digits is_zero).least
-    (chunks_complete (LeafKeeps r WithinItems) (NodeKeeps r WithinItems) level chunks (59 ∷ digits) (crlf []) w.are_chunks (record { more = []; zeros = digits; are_chunks = tt; digits = are_digits; zero = is_zero; keep = more_keeps r level chunks [] digits w (omega (arith, w.fits)); whole = refl })) refl;
+      (chunks_complete (LeafKeeps r WithinItems) (NodeKeeps r WithinItems) level chunks (59 ∷ digits) (crlf []) w.are_chunks (record { more = []; zeros = digits; are_chunks = tt; digits = are_digits; zero = is_zero; keep = more_keeps r level chunks [] digits w (omega (arith, w.fits)); whole = refl })) refl;
 }
 
 -- that of a chunk's line: its length, and 7
@@ -105,8 +105,8 @@ chunk_length_returned_begun r level chunks digits w are_digits some fits =
       parts = refl;
       some = omega arith;
       least = next_row (LeafKeeps r WithinItems) (NodeKeeps r WithinItems) level (streamed_text chunks (59 ∷ digits)) 13 (n + 7) rest row
-        (chunks_complete (LeafKeeps r WithinItems) (NodeKeeps r WithinItems) level chunks (59 ∷ digits) (13 ∷ rest) w.are_chunks (record { more = record { digits = digits; content = s } ∷ []; zeros = 48 ∷ []; are_chunks = (((are_digits, sym size), omega (arith, size), are_zeros n), tt); digits = zero_digits; zero = refl; keep = more_keeps r level chunks (record { digits = digits; content = s } ∷ []) (48 ∷ []) w (zeros_fit r chunks digits fits); whole = refl }))
-        (omega (arith, length-append s (crlf (last (48 ∷ []))), size));
+          (chunks_complete (LeafKeeps r WithinItems) (NodeKeeps r WithinItems) level chunks (59 ∷ digits) (13 ∷ rest) w.are_chunks (record { more = record { digits = digits; content = s } ∷ []; zeros = 48 ∷ []; are_chunks = (((are_digits, sym size), omega (arith, size), are_zeros n), tt); digits = zero_digits; zero = refl; keep = more_keeps r level chunks (record { digits = digits; content = s } ∷ []) (48 ∷ []) w (zeros_fit r chunks digits fits); whole = refl }))
+          (omega (arith, length-append s (crlf (last (48 ∷ []))), size));
     }
 
 -- a chunk's content, of which so many bytes are left: that, and 6
@@ -132,5 +132,5 @@ chunk_returned_begun r level chunks digits part w are_digits is_text some size f
       parts = refl;
       some = omega arith;
       least = next_row (LeafKeeps r WithinItems) (NodeKeeps r WithinItems) level (streamed_text chunks bytes) 13 5 rest (chunk_content_begun r level chunks digits part 0 w are_digits is_text some (omega (arith, size)) fits).least
-        (chunks_complete (LeafKeeps r WithinItems) (NodeKeeps r WithinItems) level chunks bytes (13 ∷ rest) w.are_chunks (record { more = one; zeros = 48 ∷ []; are_chunks = (((are_digits, size), omega (arith, size, some), is_text), tt); digits = zero_digits; zero = refl; keep = more_keeps r level chunks one (48 ∷ []) w (omega (arith, fits, size, length-append part [])); whole = sym (append_assoc (59 ∷ digits) (crlf part) (13 ∷ rest)) })) refl;
+          (chunks_complete (LeafKeeps r WithinItems) (NodeKeeps r WithinItems) level chunks bytes (13 ∷ rest) w.are_chunks (record { more = one; zeros = 48 ∷ []; are_chunks = (((are_digits, size), omega (arith, size, some), is_text), tt); digits = zero_digits; zero = refl; keep = more_keeps r level chunks one (48 ∷ []) w (omega (arith, fits, size, length-append part [])); whole = sym (append_assoc (59 ∷ digits) (crlf part) (13 ∷ rest)) })) refl;
     }

@@ -48,7 +48,8 @@ HasRoom Bulk n = Unit {0}
 HasRoom BulkError n = Unit {0}
 HasRoom (Verbatim format) n = 4 ≤ n
 
-of_size : (k : StringKind) (n : ℕ) → HasFormat k → HasRoom k n → (s : List ℕ) × IsText s × (n ≡ length (payload k s))
+-- some content of that length
+pub of_size : (k : StringKind) (n : ℕ) → HasFormat k → HasRoom k n → (s : List ℕ) × IsText s × (n ≡ length (payload k s))
 of_size Bulk n f room = (zeros n, are_zeros n, sym (length-zeros n))
 of_size BulkError n f room = (zeros n, are_zeros n, sym (length-zeros n))
 of_size (Verbatim format) n f room = (zeros (n - 4), are_zeros (n - 4), omega (arith, f.0, length-append format (58 ∷ zeros (n - 4)), length-zeros (n - 4)))

@@ -1,26 +1,20 @@
 -- The type byte of a bulk string.
-use Rattle.std.specs.Prelude.{Bool, true, false, cond, eqb, Some}
-use Rattle.std.proofs.lemmas.Bool.Decides.{nat_tests}
-use Rattle.std.proofs.Common.{◌≡◌, ℕ, ◌+◌, ◌-◌, ◌<◌, ◌≤◌, List, [], ◌∷◌, ◌++◌, length, refl, sym, ap, subst, ◌∙◌, arith, append_assoc, append-nil, inl}
-use Rattle.resp_value.specs.Rules.{Rules, Grammar, InVersion, NoDouble, NotStreamed, InRange}
-use Rattle.resp_value.specs.LocalRules.{LeafKeeps, NodeKeeps}
+use Rattle.std.specs.Prelude.{Bool, true, false, cond, Some}
+use Rattle.std.proofs.Common.{◌≡◌, ℕ, ◌+◌, List, [], ◌∷◌, ◌++◌, refl, sym, ap, subst, ◌∙◌, arith, inl}
+use Rattle.resp_value.specs.Rules.{InVersion, NoDouble, NotStreamed, InRange}
 use Rattle.resp_value.specs.Trees as t
 use Rattle.resp_value.specs.declared.version.Version.{Version}
 use Rattle.resp_value.specs.declared.version.Version.TheVariants as version
 use Rattle.resp_value.specs.declared.cause.Cause.TheVariants as cause
 use Rattle.resp_follow.specs.Events.{Event}
-use Rattle.resp_follow.proofs.CountRows.{CompletesUnder}
 use Rattle.resp_follow.proofs.BegunFronts.{IsBegunBy}
-use Rattle.resp_follow.proofs.BegunTypeBytes.{dollar_begun}
-use Rattle.resp_follow.proofs.StringTokens.{IsStringBegun}
 use Rattle.resp_follow.proofs.StreamedHeads.{HasStreamed, streamed_string_begun, streamed_string_in_two, streamed_string_off}
 use Rattle.resp_scan.specs.declared.machine.Head.TheVariants as head
 use Rattle.resp_scan.specs.Tokens.{Place, Go, AtBulkHead, AtNullOne, AtStreamCr, at}
 use Rattle.resp_scan.specs.Heads.{by_version, string_cause}
 use Rattle.resp_scan.specs.Room.{over_total}
-use Rattle.resp_scan.specs.Machine.{head_first, unless}
+use Rattle.resp_scan.specs.Machine.{unless}
 use Rattle.resp_scan.specs.Kinds.{rules_of}
-use Rattle.resp_scan.specs.Begun as b
 use Rattle.resp_scan.specs.Begun.{IsNullBegun}
 use Rattle.resp_scan.specs.Follows.{Counts, Leads, Lies}
 use Rattle.resp_scan.specs.Laws.{BulkHeadLeads}
@@ -28,7 +22,7 @@ use Rattle.resp_scan.proofs.ByteTests.{by_byte}
 use Rattle.resp_scan.proofs.StringHeadsLead.{string_head_leads}
 use Rattle.resp_scan.proofs.StringHeads.{bulk}
 use Rattle.resp_scan.proofs.Moves.{goes, retold}
-use Rattle.resp_scan.proofs.RefusedMoves.{broken, fits_or_total, refused, unless_over}
+use Rattle.resp_scan.proofs.RefusedMoves.{fits_or_total, refused, unless_over}
 
 -- `$` alone
 abbrev IsDollar : ℕ → List ℕ → List Event → Type 0
@@ -51,5 +45,5 @@ pub bulk_head_leads : BulkHeadLeads
 bulk_head_leads s used byte front es is_byte c w = by_byte (at s AtBulkHead) front es 45 byte _ _
     (λ is_minus. subst (λ z. Lies (at s AtNullOne) (front ++ z ∷ []) es) (sym is_minus) (goes (rules_of s) IsDollar (λ level bytes shown. IsNullBegun bytes × (shown ≡ [])) s.frames front (45 ∷ []) es w (λ level bytes shown e t. (inl (ap (λ z. z ++ 45 ∷ []) t.0), t.1))))
     (λ no_minus. by_byte (at s AtBulkHead) front es 63 byte _ _
-      (λ is_mark. subst (λ z. Leads (at s AtBulkHead) front es z (unless (string_cause (at s AtBulkHead) (used + 1)) (Go (at s AtStreamCr)))) (sym is_mark) (mark_leads s used front es c w))
-      (λ no_mark. string_head_leads (at s AtBulkHead) head.Bulk t.Bulk bulk used byte front es c (retold (rules_of s) _ _ s.frames front es w (λ level bytes shown i. ((tt, i.0), i.1))) (λ other. (no_minus, no_mark, other))))
+    (λ is_mark. subst (λ z. Leads (at s AtBulkHead) front es z (unless (string_cause (at s AtBulkHead) (used + 1)) (Go (at s AtStreamCr)))) (sym is_mark) (mark_leads s used front es c w))
+    (λ no_mark. string_head_leads (at s AtBulkHead) head.Bulk t.Bulk bulk used byte front es c (retold (rules_of s) _ _ s.frames front es w (λ level bytes shown i. ((tt, i.0), i.1))) (λ other. (no_minus, no_mark, other))))

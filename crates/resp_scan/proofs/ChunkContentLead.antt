@@ -1,5 +1,5 @@
 -- Content of chunks, and its end.
-use Rattle.std.specs.Prelude.{Bool, true, false, cond, eqb}
+use Rattle.std.specs.Prelude.{true, false, cond, eqb}
 use Rattle.std.proofs.lemmas.Bool.Decides.{nat_tests}
 use Rattle.std.proofs.Common.{◌≡◌, ℕ, ◌+◌, ◌-◌, ◌<◌, ◌≤◌, List, [], ◌∷◌, ◌++◌, length, refl, sym, ap, subst, ◌∙◌, arith, append_assoc, append-nil, length-append}
 use Rattle.resp_value.specs.Bytes.{IsByte, crlf}
@@ -95,7 +95,7 @@ chunk_returns_lead s room used byte front es is_byte c w =
     wanted (at s (AtChunkCr room)) front es 13 byte v
     (λ is_return. subst (λ z. Leads (at s (AtChunkCr room)) front es z v) (sym is_return) (goes r (ChunkBegun r room 0 []) (ChunkBegun r room 0 (13 ∷ [])) s.frames front (13 ∷ []) es w (λ level bytes shown i t. chunk_returns r room level bytes shown t)))
     (λ other. broken r (ChunkBegun r room 0 []) s.frames front es 6 byte w (λ level bytes shown i t. content_row r room level bytes shown t)
-      (λ level bytes rest shown t d. chunk_content_broken r level t.chunks.chunks t.digits t.part rest byte t.chunks.are_chunks t.are_digits t.some (omega (arith, t.valued)) other (subst (λ z. CompletesUnder r Grammar level z (byte ∷ rest)) t.chunks.are d)))
+    (λ level bytes rest shown t d. chunk_content_broken r level t.chunks.chunks t.digits t.part rest byte t.chunks.are_chunks t.are_digits t.some (omega (arith, t.valued)) other (subst (λ z. CompletesUnder r Grammar level z (byte ∷ rest)) t.chunks.are d)))
 
 -- and the LF, with which it is whole
 chunk_ends : (r : Rules) (room level : ℕ) (bytes : List ℕ) (shown : List Event) → ChunkBegun r room 0 (13 ∷ []) level bytes shown → ChunksBegun r room [] level (bytes ++ 10 ∷ []) shown
@@ -128,4 +128,4 @@ chunk_ends_lead s room used byte front es is_byte c w =
     wanted (at s (AtChunkLf room)) front es 10 byte v
     (λ is_newline. subst (λ z. Leads (at s (AtChunkLf room)) front es z v) (sym is_newline) (goes r (ChunkBegun r room 0 (13 ∷ [])) (ChunksBegun r room []) s.frames front (10 ∷ []) es w (λ level bytes shown i t. chunk_ends r room level bytes shown t)))
     (λ other. broken r (ChunkBegun r room 0 (13 ∷ [])) s.frames front es 5 byte w (λ level bytes shown i t. returned_row r room level bytes shown t)
-      (λ level bytes rest shown t d. chunk_returned_broken r level t.chunks.chunks t.digits t.part rest byte t.chunks.are_chunks t.are_digits t.some (omega (arith, t.valued)) other (subst (λ z. CompletesUnder r Grammar level z (byte ∷ rest)) t.chunks.are d)))
+    (λ level bytes rest shown t d. chunk_returned_broken r level t.chunks.chunks t.digits t.part rest byte t.chunks.are_chunks t.are_digits t.some (omega (arith, t.valued)) other (subst (λ z. CompletesUnder r Grammar level z (byte ∷ rest)) t.chunks.are d)))

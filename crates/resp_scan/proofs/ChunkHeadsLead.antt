@@ -1,11 +1,11 @@
 -- Heads of chunks, byte by byte.
-use Rattle.std.specs.Prelude.{Bool, true, false, cond, eqb}
+use Rattle.std.specs.Prelude.{true, false, cond, eqb}
 use Rattle.std.proofs.lemmas.Bool.Decides.{nat_tests}
 use Rattle.std.specs.List.{AllByRecursion}
-use Rattle.std.proofs.Common.{◌≡◌, ℕ, ◌+◌, ◌-◌, ◌*◌, ◌<◌, ◌≤◌, List, [], ◌∷◌, ◌++◌, length, refl, sym, ap, subst, ◌∙◌, arith, append_assoc, append-nil, length-append}
+use Rattle.std.proofs.Common.{◌≡◌, ℕ, ◌+◌, ◌-◌, ◌*◌, ◌<◌, ◌≤◌, List, [], ◌∷◌, ◌++◌, refl, sym, ap, subst, ◌∙◌, arith, append_assoc, append-nil, length-append}
 use Rattle.resp_value.specs.Bytes.{crlf}
-use Rattle.resp_value.specs.Numbers.{IsDigit, IsDigits, number}
-use Rattle.resp_value.specs.Trees.{leaf, chunked, chunks_text}
+use Rattle.resp_value.specs.Numbers.{IsDigit, number}
+use Rattle.resp_value.specs.Trees.{leaf, chunked}
 use Rattle.resp_value.specs.Rules.{Rules, Grammar, WithinDepth, WithinItems, WithinLength}
 use Rattle.resp_value.specs.declared.cause.Cause.TheVariants as cause
 use Rattle.resp_value.proofs.Unique.{chunks_text-append}
@@ -29,7 +29,7 @@ use Rattle.resp_scan.proofs.ByteTests.{by_byte, by_digit, by_test, wanted}
 use Rattle.resp_scan.proofs.ChunksBegun.{are_whole, chunks_more, text_more}
 use Rattle.resp_scan.proofs.HeadDigits.{head_digit_leads}
 use Rattle.resp_scan.proofs.LeafEvents.{given-chunked, leaf_told}
-use Rattle.resp_scan.proofs.Moves.{Ends, goes, retold, tells, value_ends}
+use Rattle.resp_scan.proofs.Moves.{Ends, goes, retold, value_ends}
 use Rattle.resp_scan.proofs.RefusedMoves.{broken, refused}
 
 -- Lengths.
@@ -77,7 +77,7 @@ chunk_digit_leads s room n used byte front es digit c w =
     let m = n * 10 + (byte - 48) in
     head_digit_leads s (head.Chunk room) m used byte front es c
     (λ past. refused r (Digits r room n) WithinLength WithinDepth s.frames front (byte ∷ []) es refl (omega arith) w
-      (λ level bytes shown i t. (let over = past_room r room n level byte bytes shown digit past t in (_, _, over.0, over.1))))
+    (λ level bytes shown i t. (let over = past_room r room n level byte bytes shown digit past t in (_, _, over.0, over.1))))
     (λ within. goes r (Digits r room n) (ChunkLength r room m []) s.frames front (byte ∷ []) es w (λ level bytes shown i t. with_digit r room n level byte bytes shown digit within t))
     (λ level bytes shown i t. length_row r room m level bytes shown t)
 
@@ -86,15 +86,15 @@ chunk_heads_lead s room used byte front es is_byte c w =
     let r = rules_of s in
     let here = at s (AtHead (head.Chunk room)) in
     let dead : (IsDigit byte → ⊥) → IsRefusedFor r (front ++ byte ∷ []) cause.Syntax = λ other.
-      broken r (ChunksBegun r room (59 ∷ [])) s.frames front es 3 byte w
-      (λ level bytes shown i t. subst (λ z. IsBegunBy r level z 3) (sym t.are) (chunk_mark_begun r level t.chunks (are_whole t)))
-      (λ level bytes rest shown t d. chunk_mark_broken r level t.chunks rest byte t.are_chunks other (subst (λ z. CompletesUnder r Grammar level z (byte ∷ rest)) t.are d)) in
+    broken r (ChunksBegun r room (59 ∷ [])) s.frames front es 3 byte w
+    (λ level bytes shown i t. subst (λ z. IsBegunBy r level z 3) (sym t.are) (chunk_mark_begun r level t.chunks (are_whole t)))
+    (λ level bytes rest shown t d. chunk_mark_broken r level t.chunks rest byte t.are_chunks other (subst (λ z. CompletesUnder r Grammar level z (byte ∷ rest)) t.are d)) in
     by_byte here front es 63 byte _ _
     (λ is_mark. dead (λ d. omega (arith, d.1)))
     (λ no_mark. by_digit here front es byte _ _
-      (λ digit. subst (λ m. Leads here front es byte (head_digit here (used + 1) (head.Chunk room) m)) (omega arith)
-        (chunk_digit_leads here room 0 used byte front es digit c (retold r (ChunksBegun r room (59 ∷ [])) (Digits r room 0) s.frames front es w (λ level bytes shown t. record { digits = []; are_digits = tt; valued = refl; chunks = t }))))
-      dead)
+    (λ digit. subst (λ m. Leads here front es byte (head_digit here (used + 1) (head.Chunk room) m)) (omega arith)
+    (chunk_digit_leads here room 0 used byte front es digit c (retold r (ChunksBegun r room (59 ∷ [])) (Digits r room 0) s.frames front es w (λ level bytes shown t. record { digits = []; are_digits = tt; valued = refl; chunks = t }))))
+    dead)
 
 pub chunk_lengths_lead : ChunkLengthsLead
 chunk_lengths_lead s room n used byte front es is_byte c w =
@@ -103,13 +103,13 @@ chunk_lengths_lead s room n used byte front es is_byte c w =
     by_digit here front es byte _ _
     (λ digit. chunk_digit_leads here room n used byte front es digit c (retold r (ChunkLength r room n []) (Digits r room n) s.frames front es w (λ level bytes shown t. record { digits = t.digits; are_digits = t.are_digits.1; valued = t.valued; chunks = plain r room n level bytes shown t })))
     (λ other. wanted here front es 13 byte (Go (at s (AtHeadLf (head.Chunk room) n)))
-      (λ is_return. subst (λ z. Lies (at s (AtHeadLf (head.Chunk room) n)) (front ++ z ∷ []) es) (sym is_return)
-        (goes r (ChunkLength r room n []) (ChunkLength r room n (13 ∷ [])) s.frames front (13 ∷ []) es w
-          (λ level bytes shown i t. record { digits = t.digits; are_digits = t.are_digits; valued = t.valued; fits = t.fits; chunks = chunks_more r room (59 ∷ t.digits) (13 ∷ []) level bytes shown (plain r room n level bytes shown t) })))
-      (λ no_return. broken r (ChunkLength r room n []) s.frames front es (chunk_needed n) byte w (λ level bytes shown i t. length_row r room n level bytes shown t)
-        (λ level bytes rest shown t d.
-          let p = plain r room n level bytes shown t in
-          chunk_length_broken r level p.chunks t.digits rest byte p.are_chunks t.are_digits no_return other (subst (λ z. CompletesUnder r Grammar level z (byte ∷ rest)) p.are d))))
+    (λ is_return. subst (λ z. Lies (at s (AtHeadLf (head.Chunk room) n)) (front ++ z ∷ []) es) (sym is_return)
+    (goes r (ChunkLength r room n []) (ChunkLength r room n (13 ∷ [])) s.frames front (13 ∷ []) es w
+    (λ level bytes shown i t. record { digits = t.digits; are_digits = t.are_digits; valued = t.valued; fits = t.fits; chunks = chunks_more r room (59 ∷ t.digits) (13 ∷ []) level bytes shown (plain r room n level bytes shown t) })))
+    (λ no_return. broken r (ChunkLength r room n []) s.frames front es (chunk_needed n) byte w (λ level bytes shown i t. length_row r room n level bytes shown t)
+    (λ level bytes rest shown t d.
+    let p = plain r room n level bytes shown t in
+    chunk_length_broken r level p.chunks t.digits rest byte p.are_chunks t.are_digits no_return other (subst (λ z. CompletesUnder r Grammar level z (byte ∷ rest)) p.are d))))
 
 -- Their ends.
 
@@ -167,10 +167,10 @@ chunk_length_ends_lead s room n used byte front es is_byte c w =
     let v : Move = cond (eqb n 0) (Give TextEnd (ended s)) (Go (at s (InChunk (room - n) n))) in
     wanted here front es 10 byte v
     (λ is_newline. subst (λ z. Leads here front es z v) (sym is_newline)
-      (by_test here front es 10 (eqb n 0) (Give TextEnd (ended s)) (Go (at s (InChunk (room - n) n)))
-        (λ z. (let none : n ≡ 0 = grind (arith, nat_tests) in
-          value_ends r (ChunkLength r room n (13 ∷ [])) s.frames front (10 ∷ []) es (e.TextEnd ∷ []) w (λ level bytes shown i t. string_ends r room level bytes shown (subst (λ m. ChunkLength r room m (13 ∷ []) level bytes shown) none t))))
-        (λ z. (let some : 0 < n = grind (arith, nat_tests) in
-          goes r (ChunkLength r room n (13 ∷ [])) (λ level bytes shown. ChunkBegun r (room - n) n [] level bytes shown × (0 < n)) s.frames front (10 ∷ []) es w (λ level bytes shown i t. (content_begins r room n level bytes shown some t, some))))))
+    (by_test here front es 10 (eqb n 0) (Give TextEnd (ended s)) (Go (at s (InChunk (room - n) n)))
+    (λ z. (let none : n ≡ 0 = grind (arith, nat_tests) in
+    value_ends r (ChunkLength r room n (13 ∷ [])) s.frames front (10 ∷ []) es (e.TextEnd ∷ []) w (λ level bytes shown i t. string_ends r room level bytes shown (subst (λ m. ChunkLength r room m (13 ∷ []) level bytes shown) none t))))
+    (λ z. (let some : 0 < n = grind (arith, nat_tests) in
+    goes r (ChunkLength r room n (13 ∷ [])) (λ level bytes shown. ChunkBegun r (room - n) n [] level bytes shown × (0 < n)) s.frames front (10 ∷ []) es w (λ level bytes shown i t. (content_begins r room n level bytes shown some t, some))))))
     (λ other. broken r (ChunkLength r room n (13 ∷ [])) s.frames front es (returned_needed n) byte w (λ level bytes shown i t. returned_row r room n level bytes shown t)
-      (λ level bytes rest shown t d. chunk_length_returned_broken r level t.chunks.chunks t.digits rest byte t.chunks.are_chunks t.are_digits other (subst (λ z. CompletesUnder r Grammar level z (byte ∷ rest)) t.chunks.are d)))
+    (λ level bytes rest shown t d. chunk_length_returned_broken r level t.chunks.chunks t.digits rest byte t.chunks.are_chunks t.are_digits other (subst (λ z. CompletesUnder r Grammar level z (byte ∷ rest)) t.chunks.are d)))

@@ -1,5 +1,5 @@
 -- Whole chunks of a streamed string, as a token has them.
-use Rattle.std.proofs.Common.{◌≡◌, ℕ, ◌+◌, ◌≤◌, List, ◌∷◌, ◌++◌, length, ap, ◌∙◌, arith}
+use Rattle.std.proofs.Common.{◌≡◌, ℕ, List, ◌∷◌, ◌++◌, ap, ◌∙◌, arith}
 use Rattle.resp_value.specs.Bytes.{crlf}
 use Rattle.resp_value.specs.Rules.{Rules}
 use Rattle.resp_value.proofs.Unique.{chunks_text-append}

@@ -1,7 +1,7 @@
 -- Counted content, and its end.
-use Rattle.std.specs.Prelude.{Bool, true, false, cond, eqb}
+use Rattle.std.specs.Prelude.{true, false, cond, eqb}
 use Rattle.std.proofs.lemmas.Bool.Decides.{nat_tests}
-use Rattle.std.proofs.Common.{◌≡◌, ℕ, ◌+◌, ◌-◌, ◌<◌, ◌≤◌, List, [], ◌∷◌, ◌++◌, length, refl, sym, ap, subst, ◌∙◌, arith, append_assoc}
+use Rattle.std.proofs.Common.{◌≡◌, ℕ, ◌-◌, ◌<◌, List, [], ◌∷◌, ◌++◌, refl, sym, ap, subst, ◌∙◌, arith, append_assoc}
 use Rattle.resp_value.specs.Rules.{Rules, Grammar}
 use Rattle.resp_value.specs.Trees.{leaf, string}
 use Rattle.resp_follow.specs.Events.{Event}
@@ -12,9 +12,9 @@ use Rattle.resp_follow.proofs.ContentTokens.{content_begun, content_broken, cont
 use Rattle.resp_follow.proofs.PayloadTokens.{content_returned_broken, payload_more, whole_content}
 use Rattle.resp_scan.specs.Tokens.{Place, Go, Give, TextEnd, AtContentCr, AtContentLf, InContent, at, ended}
 use Rattle.resp_scan.specs.Heads.{content_at}
-use Rattle.resp_scan.specs.Kinds.{content_events, rules_of}
+use Rattle.resp_scan.specs.Kinds.{rules_of}
 use Rattle.resp_scan.specs.Begun.{ContentBegun, ContentReturned, string_text}
-use Rattle.resp_scan.specs.Follows.{Inside, Leads, Lies}
+use Rattle.resp_scan.specs.Follows.{Inside, Lies}
 use Rattle.resp_scan.specs.Laws.{ContentLeads, ContentReturnsLead, ContentEndsLead}
 use Rattle.resp_scan.proofs.ByteTests.{wanted}
 use Rattle.resp_scan.proofs.LeafEvents.{content_events-append, given-string, leaf_told}
@@ -48,7 +48,7 @@ pub content_returns_lead : ContentReturnsLead
 content_returns_lead s used byte front es is_byte c w = wanted (at s AtContentCr) front es 13 byte (Go (at s AtContentLf))
     (λ is_return. subst (λ z. Lies (at s AtContentLf) (front ++ z ∷ []) es) (sym is_return) (goes (rules_of s) (ContentBegun (rules_of s) 0) (ContentReturned (rules_of s)) s.frames front (13 ∷ []) es w (λ level bytes shown i t. record { before = bytes; content = t; returned = refl })))
     (λ other. broken (rules_of s) (ContentBegun (rules_of s) 0) s.frames front es 2 byte w (λ level bytes shown i t. content_begun (rules_of s) t.kind t.first t.digits _ 0 level bytes t.token)
-      (λ level bytes rest shown t d. content_broken (rules_of s) t.kind t.first t.digits _ level bytes rest byte other t.token d))
+    (λ level bytes rest shown t d. content_broken (rules_of s) t.kind t.first t.digits _ level bytes rest byte other t.token d))
 
 content_ends_value : (r : Rules) (level : ℕ) (bytes : List ℕ) (shown : List Event) → ContentReturned r level bytes shown → Ends r level (bytes ++ 10 ∷ []) (shown ++ e.TextEnd ∷ [])
 content_ends_value r level bytes shown w =
@@ -66,5 +66,5 @@ pub content_ends_lead : ContentEndsLead
 content_ends_lead s used byte front es is_byte c w = wanted (at s AtContentLf) front es 10 byte (Give TextEnd (ended s))
     (λ is_newline. subst (λ z. Lies (ended s) (front ++ z ∷ []) (es ++ e.TextEnd ∷ [])) (sym is_newline) (value_ends (rules_of s) (ContentReturned (rules_of s)) s.frames front (10 ∷ []) es (e.TextEnd ∷ []) w (λ level bytes shown i t. content_ends_value (rules_of s) level bytes shown t)))
     (λ other. broken (rules_of s) (ContentReturned (rules_of s)) s.frames front es 1 byte w
-      (λ level bytes shown i t. subst (λ z. IsBegunBy (rules_of s) level z 1) (sym t.returned) (content_returned_begun (rules_of s) t.content.kind t.content.first t.content.digits _ level t.before t.content.token))
-      (λ level bytes rest shown t d. content_returned_broken (rules_of s) t.content.kind t.content.first t.content.digits _ level t.before rest byte other t.content.token (subst (λ z. CompletesUnder (rules_of s) Grammar level z (byte ∷ rest)) t.returned d)))
+    (λ level bytes shown i t. subst (λ z. IsBegunBy (rules_of s) level z 1) (sym t.returned) (content_returned_begun (rules_of s) t.content.kind t.content.first t.content.digits _ level t.before t.content.token))
+    (λ level bytes rest shown t d. content_returned_broken (rules_of s) t.content.kind t.content.first t.content.digits _ level t.before rest byte other t.content.token (subst (λ z. CompletesUnder (rules_of s) Grammar level z (byte ∷ rest)) t.returned d)))

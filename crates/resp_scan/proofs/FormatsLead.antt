@@ -1,5 +1,5 @@
 -- Formats of verbatim strings, and the colon behind them.
-use Rattle.std.proofs.Common.{◌≡◌, ℕ, suc, ◌+◌, ◌-◌, ◌<◌, List, [], ◌∷◌, ◌++◌, length, refl, sym, ap, subst, ◌∙◌, arith}
+use Rattle.std.proofs.Common.{◌≡◌, ℕ, suc, ◌+◌, ◌-◌, ◌<◌, List, [], ◌∷◌, ◌++◌, refl, sym, ap, subst, arith}
 use Rattle.resp_value.specs.Trees as t
 use Rattle.resp_value.specs.Rules.{Rules}
 use Rattle.resp_follow.specs.Events.{Event}
@@ -56,7 +56,7 @@ colons_lead s format n used byte front es is_byte c w =
     let v = Give (Text (text.Verbatim format)) (content_at (n - 4) s) in
     wanted (at s (AtFormatColon format n)) front es 58 byte v
     (λ is_colon. subst (λ z. Leads (at s (AtFormatColon format n)) front es z v) (sym is_colon)
-      (content_lies s (n - 4) (front ++ 58 ∷ []) (es ++ e.Text (e.Verbatim format) ∷ []) (tells r (FormatBegun r format format (n - 3)) (ContentBegun r (n - 4)) s.frames front (58 ∷ []) es (e.Text (e.Verbatim format) ∷ []) w (λ level bytes shown i f. colon_begins r format n level bytes shown f))))
+    (content_lies s (n - 4) (front ++ 58 ∷ []) (es ++ e.Text (e.Verbatim format) ∷ []) (tells r (FormatBegun r format format (n - 3)) (ContentBegun r (n - 4)) s.frames front (58 ∷ []) es (e.Text (e.Verbatim format) ∷ []) w (λ level bytes shown i f. colon_begins r format n level bytes shown f))))
     (λ other. broken r (FormatBegun r format format (n - 3)) s.frames front es (n - 3 + 2) byte w
-      (λ level bytes shown i f. content_begun r (t.Verbatim format) f.first f.digits format (n - 3) level bytes f.token)
-      (λ level bytes rest shown f d. format_broken r format f.first f.digits (n - 3) level bytes rest byte other f.token d))
+    (λ level bytes shown i f. content_begun r (t.Verbatim format) f.first f.digits format (n - 3) level bytes f.token)
+    (λ level bytes rest shown f d. format_broken r format f.first f.digits (n - 3) level bytes rest byte other f.token d))

@@ -20,6 +20,6 @@ pub head_digit_leads : (s : Place) (h : Head) (n used byte : ℕ) (front : List 
 head_digit_leads s h n used byte front es c past within row =
     unless_test s front es byte (nat_lt (most_counted s h) n) (counted_cause h) (over_total s (used + 1) (head_needed h n)) (Go (at s (InHead h n))) (λ z. past (grind (arith, nat_tests)))
     (λ z.
-      let begun = within (grind (arith, nat_tests)) in
-      unless_over s front es used byte (head_needed h n) (Go (at s (InHead h n)))
-      (fits_or_total s (HeadCounts (rules_of s) h n) front es es used byte (head_needed h n) (Go (at s (InHead h n))) c begun row begun))
+    let begun = within (grind (arith, nat_tests)) in
+    unless_over s front es used byte (head_needed h n) (Go (at s (InHead h n)))
+    (fits_or_total s (HeadCounts (rules_of s) h n) front es es used byte (head_needed h n) (Go (at s (InHead h n))) c begun row begun))

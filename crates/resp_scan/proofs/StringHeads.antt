@@ -1,5 +1,5 @@
 -- The three heads of counted strings, as one.
-use Rattle.std.specs.Prelude.{Bool, true, false, cond, eqb, nat_lt, None}
+use Rattle.std.specs.Prelude.{true, false, cond, eqb, nat_lt, None}
 use Rattle.std.proofs.lemmas.Bool.Decides.{nat_tests}
 use Rattle.std.proofs.Common.{◌≡◌, ℕ, ◌+◌, ◌*◌, ◌<◌, ◌≤◌, List, ◌∷◌, refl, sym, subst, ◌∙◌, arith}
 use Rattle.resp_value.specs.Numbers.{IsDigit}

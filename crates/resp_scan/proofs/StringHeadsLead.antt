@@ -1,8 +1,7 @@
 -- Heads of counted strings, byte by byte.
-use Rattle.std.specs.Prelude.{Bool, true, false, cond, nat_lt, None}
-use Rattle.std.proofs.lemmas.Bool.Decides.{nat_tests}
-use Rattle.std.proofs.Common.{◌≡◌, ℕ, ◌+◌, ◌-◌, ◌*◌, ◌<◌, ◌≤◌, List, [], ◌∷◌, ◌++◌, length, refl, sym, ap, subst, ◌∙◌, arith}
-use Rattle.resp_value.specs.Numbers.{IsDigit, number}
+use Rattle.std.specs.Prelude.{cond}
+use Rattle.std.proofs.Common.{◌≡◌, ℕ, ◌+◌, ◌-◌, ◌*◌, ◌≤◌, List, [], ◌∷◌, ◌++◌, refl, sym, subst, arith}
+use Rattle.resp_value.specs.Numbers.{IsDigit}
 use Rattle.resp_value.specs.Trees as t
 use Rattle.resp_value.specs.Trees.{StringKind}
 use Rattle.resp_value.specs.Rules.{Rules, WithinDepth, WithinLength}
@@ -11,24 +10,22 @@ use Rattle.resp_follow.specs.Events.{Event}
 use Rattle.resp_follow.proofs.BegunLines.{number-digit}
 use Rattle.resp_follow.proofs.FirstLineRows.{zeros}
 use Rattle.resp_follow.proofs.BrokenHeads.{IsNoLength}
-use Rattle.resp_follow.proofs.BegunFronts.{IsBegunBy}
 use Rattle.resp_follow.proofs.BegunTypeBytes.{length_token_over}
 use Rattle.resp_follow.proofs.HeadTokens.{length_token_more}
 use Rattle.resp_follow.proofs.StringTokens.{IsStringBegun, length_token_begins, length_token_broken, string_begun_broken}
 use Rattle.resp_scan.specs.declared.machine.Head.{Head}
 use Rattle.resp_scan.specs.declared.machine.Head.TheVariants as head
 use Rattle.resp_scan.specs.Tokens.{Place, Go, Refuse, AtHead, InHead, AtHeadLf, at}
-use Rattle.resp_scan.specs.Room.{over_total}
-use Rattle.resp_scan.specs.Heads.{counted_cause, first_needed, head_needed, may_end, most_counted, streamed_kind}
+use Rattle.resp_scan.specs.Heads.{first_needed, head_needed, may_end}
 use Rattle.resp_scan.specs.Machine.{head_digit, head_first, is_digit, open_streamed, wants}
 use Rattle.resp_scan.specs.Kinds.{IsRefusedFor, rules_of}
-use Rattle.resp_scan.specs.Begun.{HeadCounts, HeadReturned, LengthBegun, LengthReturned}
+use Rattle.resp_scan.specs.Begun.{HeadCounts, HeadReturned, LengthBegun}
 use Rattle.resp_scan.specs.Follows.{Counts, Inside, Leads, Lies}
-use Rattle.resp_scan.specs.Laws.{IsOfString, StringHeadsLead, StringLengthsLead}
-use Rattle.resp_scan.proofs.ByteTests.{by_byte, by_digit, by_test, unless_test, wanted}
+use Rattle.resp_scan.specs.Laws.{StringHeadsLead, StringLengthsLead}
+use Rattle.resp_scan.proofs.ByteTests.{by_byte, by_digit, by_test, wanted}
 use Rattle.resp_scan.proofs.HeadDigits.{head_digit_leads}
 use Rattle.resp_scan.proofs.Moves.{goes, retold}
-use Rattle.resp_scan.proofs.RefusedMoves.{broken, fits_or_total, refused, unless_over}
+use Rattle.resp_scan.proofs.RefusedMoves.{broken, refused}
 use Rattle.resp_scan.proofs.StringHeads.{IsStringHead, bulk, bulk_error, verbatim}
 
 -- a string's type byte
@@ -43,7 +40,7 @@ first_digit_leads s h kind k used byte front es digit c w =
     head_digit_leads s h (byte - 48) used byte front es c
     (λ past. absurd (omega (arith, k.most s, digit.1, roomy)))
     (λ within. goes r (TypeByte r kind) (HeadCounts r h (byte - 48)) s.frames front (byte ∷ []) es w
-      (λ level bytes shown e t. k.counts r (byte - 48) level (bytes ++ byte ∷ []) shown (record { first = byte; digits = []; token = length_token_begins r kind level byte bytes digit (omega (arith, digit.1, roomy)) t.0; valued = omega arith; told = t.1 })))
+    (λ level bytes shown e t. k.counts r (byte - 48) level (bytes ++ byte ∷ []) shown (record { first = byte; digits = []; token = length_token_begins r kind level byte bytes digit (omega (arith, digit.1, roomy)) t.0; valued = omega arith; told = t.1 })))
     (λ level bytes shown e t. k.row r (byte - 48) level bytes shown (omega arith) (k.length r (byte - 48) level bytes shown t))
 
 -- what stands behind a type byte where no `?` may
@@ -52,8 +49,8 @@ string_head_leads s h kind k used byte front es c w none =
     let r = rules_of s in
     let roomy : 64 ≤ s.bounds.length = c.bounds.length_in_range.0 in
     let dead : (IsDigit byte → ⊥) → IsRefusedFor r (front ++ byte ∷ []) cause.Syntax = λ other.
-      broken r (TypeByte r kind) s.frames front es (first_needed h) byte w (λ level bytes shown e t. k.first_row r level bytes (omega arith) t.0)
-      (λ level bytes rest shown t d. string_begun_broken r kind level bytes rest byte (none other) t.0 d) in
+    broken r (TypeByte r kind) s.frames front es (first_needed h) byte w (λ level bytes shown e t. k.first_row r level bytes (omega arith) t.0)
+    (λ level bytes rest shown t d. string_begun_broken r kind level bytes rest byte (none other) t.0 d) in
     by_byte s front es 63 byte _ _
     (λ is_mark. subst (λ z. Leads s front es byte (open_streamed s (used + 1) z)) (sym k.not_streamed) (dead (λ d. omega (arith, d.1))))
     (λ no_mark. by_digit s front es byte _ _ (λ digit. first_digit_leads s h kind k used byte front es digit c w) dead)
@@ -77,28 +74,28 @@ string_length_leads s h kind k n used byte front es c w =
     let m = n * 10 + (byte - 48) in
     by_digit s front es byte _ _
     (λ digit. head_digit_leads s h m used byte front es c
-      (λ past. subst (IsRefusedFor r (front ++ byte ∷ [])) k.cause
-        (refused r (LengthBegun r kind n) WithinLength WithinDepth s.frames front (byte ∷ []) es refl (omega arith) w
-        (λ level bytes shown e t.
-          let over = length_token_over r kind t.first t.digits level byte bytes k.has_format (omega arith) digit (omega (arith, number-digit (t.first ∷ t.digits) byte, t.valued, k.most s)) t.token in
-          (_, _, over.0, over.1))))
-      (λ within. goes r (LengthBegun r kind n) (HeadCounts r h m) s.frames front (byte ∷ []) es w
-        (λ level bytes shown e t. k.counts r m level (bytes ++ byte ∷ []) shown (record {
-          first = t.first;
-          digits = t.digits ++ byte ∷ [];
-          token = length_token_more r kind t.first t.digits level byte bytes digit (omega (arith, number-digit (t.first ∷ t.digits) byte, t.valued, k.most s)) t.token;
-          valued = omega (arith, number-digit (t.first ∷ t.digits) byte, t.valued);
-          told = t.told;
-        })))
-      (λ level bytes shown e t. k.row r m level bytes shown (omega arith) (k.length r m level bytes shown t)))
+    (λ past. subst (IsRefusedFor r (front ++ byte ∷ [])) k.cause
+    (refused r (LengthBegun r kind n) WithinLength WithinDepth s.frames front (byte ∷ []) es refl (omega arith) w
+    (λ level bytes shown e t.
+    let over = length_token_over r kind t.first t.digits level byte bytes k.has_format (omega arith) digit (omega (arith, number-digit (t.first ∷ t.digits) byte, t.valued, k.most s)) t.token in
+    (_, _, over.0, over.1))))
+    (λ within. goes r (LengthBegun r kind n) (HeadCounts r h m) s.frames front (byte ∷ []) es w
+    (λ level bytes shown e t. k.counts r m level (bytes ++ byte ∷ []) shown (record {
+      first = t.first;
+      digits = t.digits ++ byte ∷ [];
+      token = length_token_more r kind t.first t.digits level byte bytes digit (omega (arith, number-digit (t.first ∷ t.digits) byte, t.valued, k.most s)) t.token;
+      valued = omega (arith, number-digit (t.first ∷ t.digits) byte, t.valued);
+      told = t.told;
+    })))
+    (λ level bytes shown e t. k.row r m level bytes shown (omega arith) (k.length r m level bytes shown t)))
     (λ other. by_test s front es byte (may_end h n) _ _
-      (λ long. wanted s front es 13 byte (Go (at s (AtHeadLf h n)))
-        (λ is_return. subst (λ z. Lies (at s (AtHeadLf h n)) (front ++ z ∷ []) es) (sym is_return)
-          (goes r (LengthBegun r kind n) (HeadReturned r h n) s.frames front (13 ∷ []) es w (λ level bytes shown e t. k.ends r n level (bytes ++ 13 ∷ []) shown long (record { before = bytes; length = t; returned = refl }))))
-        (λ no_return. broken r (LengthBegun r kind n) s.frames front es (head_needed h n) byte w (λ level bytes shown e t. k.row r n level bytes shown (omega arith) t)
-          (λ level bytes rest shown t d. length_token_broken r kind t.first t.digits level bytes rest byte no_return other t.token d)))
-      (λ short. broken r (LengthBegun r kind n) s.frames front es (head_needed h n) byte w (λ level bytes shown e t. k.row r n level bytes shown (omega arith) t)
-        (λ level bytes rest shown t d. k.short r n level bytes rest shown byte short other t d)))
+    (λ long. wanted s front es 13 byte (Go (at s (AtHeadLf h n)))
+    (λ is_return. subst (λ z. Lies (at s (AtHeadLf h n)) (front ++ z ∷ []) es) (sym is_return)
+    (goes r (LengthBegun r kind n) (HeadReturned r h n) s.frames front (13 ∷ []) es w (λ level bytes shown e t. k.ends r n level (bytes ++ 13 ∷ []) shown long (record { before = bytes; length = t; returned = refl }))))
+    (λ no_return. broken r (LengthBegun r kind n) s.frames front es (head_needed h n) byte w (λ level bytes shown e t. k.row r n level bytes shown (omega arith) t)
+    (λ level bytes rest shown t d. length_token_broken r kind t.first t.digits level bytes rest byte no_return other t.token d)))
+    (λ short. broken r (LengthBegun r kind n) s.frames front es (head_needed h n) byte w (λ level bytes shown e t. k.row r n level bytes shown (omega arith) t)
+    (λ level bytes rest shown t d. k.short r n level bytes rest shown byte short other t d)))
 
 pub string_lengths_lead : StringLengthsLead
 string_lengths_lead s head.Bulk n p used byte front es is_byte c w = string_length_leads (at s (InHead head.Bulk n)) head.Bulk t.Bulk bulk n used byte front es c w

@@ -1,7 +1,6 @@
 -- The LF behind a string's length, where its content or its format begins.
-use Rattle.std.proofs.Common.{◌≡◌, ℕ, ◌+◌, ◌≤◌, List, [], ◌∷◌, ◌++◌, length, refl, sym, ap, subst, ◌∙◌, arith, append_assoc}
+use Rattle.std.proofs.Common.{◌≡◌, ℕ, ◌+◌, List, [], ◌∷◌, ◌++◌, refl, sym, ap, subst, ◌∙◌, append_assoc}
 use Rattle.resp_value.specs.Bytes.{crlf}
-use Rattle.resp_value.specs.Numbers.{number}
 use Rattle.resp_value.specs.Trees as t
 use Rattle.resp_value.specs.Trees.{StringKind, HasFormat, payload}
 use Rattle.resp_value.specs.Rules.{Rules, Grammar}
@@ -46,14 +45,14 @@ length_end_leads s h kind k n byte front es v w leads =
     wanted s front es 10 byte v
     (λ is_newline. subst (λ z. Leads s front es z v) (sym is_newline) leads)
     (λ other. broken r (HeadReturned r h n) s.frames front es (n + 3) byte w
-      (λ level bytes shown i u.
-        let t = (k.ended r n level bytes shown u) in
-        let l = t.1.length in
-        subst (λ z. IsBegunBy r level z (n + 3)) (sym t.1.returned) (subst (λ m. IsBegunBy r level (t.1.before ++ 13 ∷ []) (m + 3)) l.valued (length_returned_begun r kind l.first l.digits level t.1.before k.has_format (subst (HasRoom kind) (sym l.valued) t.0) l.token)))
-      (λ level bytes rest shown u d.
-        let t = (k.ended r n level bytes shown u) in
-        let l = t.1.length in
-        length_returned_broken r kind l.first l.digits level t.1.before rest byte other l.token (subst (λ z. CompletesUnder r Grammar level z (byte ∷ rest)) t.1.returned d)))
+    (λ level bytes shown i u.
+    let t = (k.ended r n level bytes shown u) in
+    let l = t.1.length in
+    subst (λ z. IsBegunBy r level z (n + 3)) (sym t.1.returned) (subst (λ m. IsBegunBy r level (t.1.before ++ 13 ∷ []) (m + 3)) l.valued (length_returned_begun r kind l.first l.digits level t.1.before k.has_format (subst (HasRoom kind) (sym l.valued) t.0) l.token)))
+    (λ level bytes rest shown u d.
+    let t = (k.ended r n level bytes shown u) in
+    let l = t.1.length in
+    length_returned_broken r kind l.first l.digits level t.1.before rest byte other l.token (subst (λ z. CompletesUnder r Grammar level z (byte ∷ rest)) t.1.returned d)))
 
 -- content begins, where the payload is the content
 content_begins_at : (s : Place) (kind : StringKind) (n : ℕ) (front : List ℕ) (es : List Event) → HasFormat kind → payload kind [] ≡ [] → Inside (rules_of s) (Returned (rules_of s) kind n) s.frames front es → Lies (content_at n s) (front ++ 10 ∷ []) (es ++ e.Text (string_text kind) ∷ [])
@@ -61,14 +60,14 @@ content_begins_at s kind n front es f plain w =
     let r = rules_of s in
     content_lies s n (front ++ 10 ∷ []) (es ++ e.Text (string_text kind) ∷ [])
     (tells r (Returned r kind n) (ContentBegun r n) s.frames front (10 ∷ []) es (e.Text (string_text kind) ∷ []) w
-      (λ level bytes shown i u. record {
-        kind = kind;
-        first = u.1.length.first;
-        digits = u.1.length.digits;
-        part = [];
-        token = subst (λ z. IsContentToken r kind u.1.length.first u.1.length.digits z n level (bytes ++ 10 ∷ [])) (sym plain) (payload_token r kind n level bytes shown f u);
-        told = ap (λ z. z ++ e.Text (string_text kind) ∷ []) u.1.length.told;
-      }))
+    (λ level bytes shown i u. record {
+      kind = kind;
+      first = u.1.length.first;
+      digits = u.1.length.digits;
+      part = [];
+      token = subst (λ z. IsContentToken r kind u.1.length.first u.1.length.digits z n level (bytes ++ 10 ∷ [])) (sym plain) (payload_token r kind n level bytes shown f u);
+      told = ap (λ z. z ++ e.Text (string_text kind) ∷ []) u.1.length.told;
+    }))
 
 pub string_length_ends_lead : StringLengthEndsLead
 string_length_ends_lead s head.Bulk n p used byte front es is_byte c w =
@@ -80,7 +79,7 @@ string_length_ends_lead s head.BulkError n p used byte front es is_byte c w =
 string_length_ends_lead s head.Verbatim n p used byte front es is_byte c w =
     length_end_leads (at s (AtHeadLf head.Verbatim n)) head.Verbatim (t.Verbatim (zeros 3)) verbatim n byte front es _ w
     (goes (rules_of s) (Returned (rules_of s) (t.Verbatim (zeros 3)) n) (FormatBegun (rules_of s) (zeros 3) [] n) s.frames front (10 ∷ []) es w
-      (λ level bytes shown i u. record { first = u.1.length.first; digits = u.1.length.digits; token = payload_token (rules_of s) (t.Verbatim (zeros 3)) n level bytes shown verbatim.has_format u; told = u.1.length.told }))
+    (λ level bytes shown i u. record { first = u.1.length.first; digits = u.1.length.digits; token = payload_token (rules_of s) (t.Verbatim (zeros 3)) n level bytes shown verbatim.has_format u; told = u.1.length.told }))
 string_length_ends_lead s (head.Chunk room) n p used byte front es is_byte c w = absurd p
 string_length_ends_lead s head.Array n p used byte front es is_byte c w = absurd p
 string_length_ends_lead s head.Set n p used byte front es is_byte c w = absurd p

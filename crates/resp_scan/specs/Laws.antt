@@ -1,9 +1,9 @@
 -- What a byte makes of what has come, token by token.
-use Rattle.std.specs.Prelude.{◌≡◌, ℕ, ◌+◌, ◌<◌, List}
+use Rattle.std.specs.Prelude.{ℕ, ◌+◌, ◌<◌, List}
 use Rattle.resp_follow.specs.Events.{Event}
 use Rattle.resp_scan.specs.declared.machine.Head.{Head}
 use Rattle.resp_scan.specs.declared.machine.Head.TheVariants.{Bulk, BulkError, Verbatim, Chunk, Array, Set, Map, Attr, Push}
-use Rattle.resp_scan.specs.Tokens.{Token, Place, InLine, AtLineLf, AtBulkHead, AtHead, InHead, AtHeadLf, AtFormat, AtFormatSecond, AtFormatThird, AtFormatColon, InContent, AtContentCr, AtContentLf, AtStreamCr, AtStreamLf, AtChunk, InChunk, AtChunkCr, AtChunkLf, at}
+use Rattle.resp_scan.specs.Tokens.{Place, InLine, AtLineLf, AtBulkHead, AtHead, InHead, AtHeadLf, AtFormat, AtFormatSecond, AtFormatThird, AtFormatColon, InContent, AtContentCr, AtContentLf, AtStreamCr, AtStreamLf, AtChunk, InChunk, AtChunkCr, AtChunkLf, at}
 use Rattle.resp_scan.specs.Machine.{next}
 use Rattle.resp_scan.specs.Follows.{Lies, Leads, Counts}
 

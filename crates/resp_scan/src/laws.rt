@@ -42,7 +42,7 @@ pub(crate) fn content_returns_lead()
     ensures { ContentReturnsLead }
 {}
 
-/// The LF behind it.
+/// The LF behind counted content.
 pub(crate) fn content_ends_lead()
     ensures { ContentEndsLead }
 {}
@@ -52,32 +52,32 @@ pub(crate) fn formats_lead()
     ensures { FormatsLead }
 {}
 
-/// The second.
+/// The second byte of a verbatim string's format.
 pub(crate) fn second_format_bytes_lead()
     ensures { SecondFormatBytesLead }
 {}
 
-/// The third.
+/// The third byte of a verbatim string's format.
 pub(crate) fn third_format_bytes_lead()
     ensures { ThirdFormatBytesLead }
 {}
 
-/// The colon behind a format.
+/// The colon behind a verbatim string's format.
 pub(crate) fn colons_lead()
     ensures { ColonsLead }
 {}
 
-/// The CR of a streamed string's line.
+/// The CR of a streamed string's head.
 pub(crate) fn streams_lead()
     ensures { StreamsLead }
 {}
 
-/// Its LF.
+/// The LF of a streamed string's head.
 pub(crate) fn stream_ends_lead()
     ensures { StreamEndsLead }
 {}
 
-/// The byte between chunks.
+/// The byte behind the chunks so far.
 pub(crate) fn chunks_lead()
     ensures { ChunksLead }
 {}
@@ -107,7 +107,7 @@ pub(crate) fn chunk_returns_lead()
     ensures { ChunkReturnsLead }
 {}
 
-/// Its LF.
+/// The LF behind a chunk.
 pub(crate) fn chunk_ends_lead()
     ensures { ChunkEndsLead }
 {}
