@@ -1,17 +1,17 @@
 -- Least completions of the type bytes of heads, and digits of lengths and big numbers past the limit.
-use Rattle.std.proofs.Common.{◌≡◌, ℕ, suc, ◌-◌, ◌<◌, ◌≤◌, List, [], ◌∷◌, ◌++◌, length, refl, sym, ap, ◌∙◌, arith, append_assoc, length-append}
-use Rattle.resp_value.specs.Bytes.{IsText}
+use Rattle.std.proofs.Common.{◌≡◌, ℕ, suc, ◌<◌, ◌≤◌, List, [], ◌∷◌, ◌++◌, length, refl, ap, ◌∙◌, arith, append_assoc}
 use Rattle.resp_value.specs.Numbers.{IsDigit, Sign, sign_text, number, kept}
 use Rattle.resp_value.specs.Data.{Kind, Array, Set, Map, Attr, Push, members_of, items_of}
-use Rattle.resp_value.specs.Trees.{Leaf, numeral, null, string, Big, BulkNull, StringKind, Bulk, BulkError, Verbatim, Counted, kind_byte, string_byte, payload, HasFormat}
+use Rattle.resp_value.specs.Trees.{Leaf, numeral, null, string, Big, BulkNull, StringKind, Bulk, BulkError, Verbatim, Counted, kind_byte, string_byte, HasFormat}
 use Rattle.resp_value.specs.Rules.{Rules, WithinDepth, WithinLength, WithinItems, rank, IsNoDouble, IsLeafInTwo, IsInRange, IsCountedLeaf}
 use Rattle.resp_value.specs.LocalRules.{LeafKeeps, NodeKeeps, LeafMeets, IsNoPushBelow}
 use Rattle.resp_value.specs.declared.version.Version.TheVariants.{Two}
 use Rattle.resp_follow.proofs.KeptNodes.{at_each_rule, leaf_keeps, node_keeps, shortest_keeps}
 use Rattle.resp_follow.proofs.CountRows.{IsRefusedHere, star_row, star_row_deep}
-use Rattle.resp_follow.proofs.FirstLineRows.{zeros, length-zeros, are_zeros}
+use Rattle.resp_follow.proofs.FirstLineRows.{zeros, are_zeros}
 use Rattle.resp_follow.proofs.MoreFirstLineRows.{dollar_row, bulk_error_row, verbatim_row, attr_row}
 use Rattle.resp_follow.proofs.ContentLength.{string_too_long}
+use Rattle.resp_follow.proofs.StringTokens.{HasRoom, of_size}
 use Rattle.resp_follow.proofs.BigNumberLength.{big_too_long}
 use Rattle.resp_follow.proofs.HeadTokens.{HasString, IsLengthToken, string_keeps, more_digits}
 use Rattle.resp_follow.proofs.NumberTokens.{IsNumberToken}
@@ -62,17 +62,16 @@ string_before_length r level Bulk digits s p = leaf_before_length r level (strin
 string_before_length r level BulkError digits s p = leaf_before_length r level (string BulkError digits s) tt (λ is_two. absurd (p is_two)) tt tt
 string_before_length r level (Verbatim format) digits s p = leaf_before_length r level (string (Verbatim format) digits s) tt (λ is_two. absurd (p is_two)) tt tt
 
--- a content of a kind and a size; that of a verbatim string is four bytes at least
-sized : (k : StringKind) (n : ℕ) → HasFormat k → 4 ≤ n → (s : List ℕ) × IsText s × (n ≡ length (payload k s))
-sized Bulk n f long = (zeros n, are_zeros n, sym (length-zeros n))
-sized BulkError n f long = (zeros n, are_zeros n, sym (length-zeros n))
-sized (Verbatim format) n f long = (zeros (n - 4), are_zeros (n - 4), omega (arith, f.0, length-append format (58 ∷ zeros (n - 4)), length-zeros (n - 4)))
+room_from_four : (k : StringKind) (n : ℕ) → 4 ≤ n → HasRoom k n
+room_from_four Bulk n enough = tt
+room_from_four BulkError n enough = tt
+room_from_four (Verbatim format) n enough = enough
 
 -- a digit of a length past the limit
 pub length_token_over : (r : Rules) (k : StringKind) (first : ℕ) (digits : List ℕ) (level digit : ℕ) (bytes : List ℕ) → HasFormat k → 4 ≤ r.limits.length → IsDigit digit → r.limits.length < number (first ∷ (digits ++ digit ∷ [])) → IsLengthToken r k first digits level bytes → (bytes ++ digit ∷ [] ≡ string_byte k ∷ first ∷ (digits ++ digit ∷ [])) × IsRefusedHere r WithinLength WithinDepth level (string_byte k ∷ first ∷ (digits ++ digit ∷ []))
 length_token_over r k first digits level digit bytes f roomy p past w =
     let n = number (first ∷ (digits ++ digit ∷ [])) in
-    let c = sized k n f (omega arith) in (
+    let c = of_size k n f (room_from_four k n (omega arith)) in (
       ap (λ z. z ++ digit ∷ []) w.are,
       string_too_long r level k first (digits ++ digit ∷ []) c.0 (more_digits (first ∷ digits) digit w.are_digits p) f c.1 c.2 (string_before_length r level k (first ∷ (digits ++ digit ∷ [])) c.0 w.has_string) past,
     )

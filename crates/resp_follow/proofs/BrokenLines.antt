@@ -1,4 +1,5 @@
 -- Bytes that no first line has behind those that it begins with.
+use Rattle.std.proofs.lemmas.Bool.Decides.{nat_tests}
 use Rattle.std.proofs.Common.{◌≡◌, ℕ, Bool, true, false, eqb, List, [], ◌∷◌, ◌++◌, length, get_or, refl, sym, ap, subst, ◌∙◌, arith, append-nil}
 use Rattle.resp_value.specs.Bytes.{IsLine, crlf}
 use Rattle.resp_value.specs.Data.{Kind}
@@ -47,6 +48,16 @@ return_broken L N level begun rest is_line no_end w =
     cases : (t : Tree) (behind : List ℕ) → IsTree t → first_line t ≡ begun ++ behind → 13 ∷ rest ≡ behind ++ crlf (after_line t) → ⊥
     cases t [] p b e = no_end t p (b ∙ append-nil begun)
     cases t (c ∷ behind) p b e = let h : c ≡ 13 = cc in (no_break c begun behind (subst IsLine b (first_is_line t p))).0 h
+
+-- a byte with which no line goes on, behind bytes that are no line
+pub line_broken : (L : LeafRule) (N : NodeRule) (level : ℕ) (begun rest : List ℕ) (byte : ℕ) → IsLine begun → NoLineEnds begun → NoLineGoesOn begun byte → CompletesValue L N level begun (byte ∷ rest) → ⊥
+line_broken L N level begun rest byte is_line no_end no_line w =
+    elim (eqb byte 13) as (λ x. eqb byte 13 ≡ x → ⊥) [
+      | true ↦ λ x.
+          let b : byte ≡ 13 = grind (arith, nat_tests) in
+          return_broken L N level begun rest is_line no_end (subst (λ z. CompletesValue L N level begun (z ∷ rest)) b w)
+      | false ↦ λ x. byte_broken L N level begun rest byte is_line (λ b. grind (arith, nat_tests)) no_line w
+    ] refl
 
 -- another byte than LF behind the CR
 pub behind_return_broken : (L : LeafRule) (N : NodeRule) (level : ℕ) (begun rest : List ℕ) (byte : ℕ) → IsLine begun → (byte ≡ 10 → ⊥) → CompletesValue L N level (begun ++ 13 ∷ []) (byte ∷ rest) → ⊥

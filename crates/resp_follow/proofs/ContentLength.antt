@@ -39,7 +39,8 @@ string_too_long r k K d ds s p f x n h l =
       some = omega (arith, row.size);
     }
 
-joined-with : (ds es : List Chunk) → length (joined (with_chunks ds es)) ≡ length (joined ds) + length (joined es)
+-- the length of chunks behind one another
+pub joined-with : (ds es : List Chunk) → length (joined (with_chunks ds es)) ≡ length (joined ds) + length (joined es)
 joined-with [] es = omega arith
 joined-with (d ∷ ds) es = omega (arith, joined-with ds es, length-append d.content (joined (with_chunks ds es)), length-append d.content (joined ds))
 

@@ -1,17 +1,15 @@
 -- Tokens of counted content: the bytes still to come, and its end.
-use Rattle.std.proofs.Common.{◌≡◌, ℕ, ◌+◌, ◌-◌, ◌≤◌, List, [], ◌∷◌, ◌++◌, length, refl, sym, ap, subst, ◌∙◌, arith, append_assoc, append-nil, length-append}
-use Rattle.resp_value.specs.Bytes.{IsByte, IsText, crlf}
+use Rattle.std.proofs.Common.{◌≡◌, ℕ, ◌+◌, ◌≤◌, List, [], ◌∷◌, ◌++◌, length, refl, sym, ap, subst, ◌∙◌, arith, append_assoc, append-nil, length-append}
+use Rattle.resp_value.specs.Bytes.{IsText, crlf}
 use Rattle.resp_value.specs.Numbers.{IsDigits, number}
-use Rattle.resp_value.specs.Trees.{leaf, string, StringKind, Bulk, BulkError, Verbatim, string_byte, payload, HasFormat}
+use Rattle.resp_value.specs.Trees.{leaf, string, StringKind, string_byte, payload, HasFormat}
 use Rattle.resp_value.specs.Rules.{Rules, Grammar, WithinItems}
 use Rattle.resp_value.specs.LocalRules.{LeafKeeps, NodeKeeps}
-use Rattle.resp_value.proofs.FirstBytes.{all_append, all_front}
 use Rattle.resp_follow.specs.LeastCompletions.{HasLeast}
 use Rattle.resp_follow.proofs.CountRows.{CompletesUnder}
-use Rattle.resp_follow.proofs.FirstLineRows.{zeros, length-zeros, are_zeros}
 use Rattle.resp_follow.proofs.CountedContent.{content_row, content_end_dead}
 use Rattle.resp_follow.proofs.ShortRows.{next_row}
-use Rattle.resp_follow.proofs.HeadTokens.{HasString, string_keeps, IsLengthToken}
+use Rattle.resp_follow.proofs.HeadTokens.{HasString, string_keeps}
 use Rattle.resp_follow.proofs.BegunFronts.{IsBegunBy}
 
 -- behind a length's line, begun bytes of a payload of which so many are left
@@ -77,57 +75,3 @@ content_broken r k first digits begun level bytes rest byte no_return w c =
       keep = c.keep;
       whole = c.whole ∙ ap (λ z. z ++ byte ∷ rest) w.are ∙ append_assoc (string_byte k ∷ first ∷ digits) (crlf begun) (byte ∷ rest) ∙ ap (λ z. (string_byte k ∷ first ∷ digits) ++ crlf z) (sym (append_assoc begun (byte ∷ []) rest)) ∙ sym (append_assoc (string_byte k ∷ first ∷ digits) (crlf (begun ++ byte ∷ [])) rest);
     })
-
--- a string whose payload is its content
-abbrev pub IsPlainString : StringKind → Type 0
-IsPlainString Bulk = Unit {0}
-IsPlainString BulkError = Unit {0}
-IsPlainString (Verbatim format) = ⊥
-
-plain_payload : (k : StringKind) (s : List ℕ) → IsPlainString k → payload k s ≡ s
-plain_payload Bulk s p = refl
-plain_payload BulkError s p = refl
-plain_payload (Verbatim format) s p = absurd p
-
-plain_format : (k : StringKind) → IsPlainString k → HasFormat k
-plain_format Bulk p = tt
-plain_format BulkError p = tt
-plain_format (Verbatim format) p = absurd p
-
--- the CR LF of a length's line
-pub content_begins : (r : Rules) (k : StringKind) (first : ℕ) (digits : List ℕ) (level : ℕ) (bytes : List ℕ) → IsPlainString k → IsLengthToken r k first digits level bytes → IsContentToken r k first digits [] (number (first ∷ digits)) level (bytes ++ crlf [])
-content_begins r k first digits level bytes p w =
-    let n = number (first ∷ digits) in record {
-      are_digits = w.are_digits;
-      has_string = w.has_string;
-      has_format = plain_format k p;
-      fits = w.fits;
-      content = zeros n;
-      is_text = are_zeros n;
-      size = sym (length-zeros n) ∙ ap length (sym (plain_payload k (zeros n) p));
-      rest = zeros n;
-      split = plain_payload k (zeros n) p;
-      rest_size = length-zeros n;
-      are = ap (λ z. z ++ crlf []) w.are;
-    }
-
--- content more, up to what is left
-pub content_more : (r : Rules) (k : StringKind) (first : ℕ) (digits begun part : List ℕ) (left level : ℕ) (bytes : List ℕ) → IsPlainString k → IsText part → length part ≤ left → IsContentToken r k first digits begun left level bytes → IsContentToken r k first digits (begun ++ part) (left - length part) level (bytes ++ part)
-content_more r k first digits begun part left level bytes p is_text fits w =
-    let rest = zeros (left - length part) in
-    let whole = (begun ++ part) ++ rest in
-    let plain = plain_payload k w.content p in
-    let begun_text : IsText begun = all_front IsByte begun w.rest (subst IsText (sym plain ∙ w.split) w.is_text) in
-    record {
-      are_digits = w.are_digits;
-      has_string = w.has_string;
-      has_format = w.has_format;
-      fits = w.fits;
-      content = whole;
-      is_text = all_append IsByte (begun ++ part) rest (all_append IsByte begun part begun_text is_text) (are_zeros (left - length part));
-      size = omega (arith, w.size, ap length w.split, w.rest_size, length-append begun w.rest, ap length (plain_payload k whole p), length-append (begun ++ part) rest, length-append begun part, length-zeros (left - length part));
-      rest = rest;
-      split = plain_payload k whole p;
-      rest_size = length-zeros (left - length part);
-      are = ap (λ z. z ++ part) w.are ∙ append_assoc (string_byte k ∷ first ∷ digits) (crlf begun) part;
-    }

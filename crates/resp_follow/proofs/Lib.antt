@@ -36,3 +36,7 @@ pub mod StreamedHeads
 pub mod MoreFrontLaws
 pub mod ContentTokens
 pub mod BegunTypeBytes
+pub mod StringTokens
+pub mod PayloadTokens
+pub mod ChunkTokens
+pub mod BrokenChunks

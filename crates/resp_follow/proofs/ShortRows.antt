@@ -10,7 +10,7 @@ use Rattle.resp_value.proofs.FirstLines.{sort, sort_of, first_line, first_is_lin
 use Rattle.resp_value.proofs.Unique.{chunk_line}
 use Rattle.resp_follow.specs.LeastCompletions.{HasLeast}
 use Rattle.resp_follow.specs.MayFollow.{CompletesValue}
-use Rattle.resp_follow.proofs.BegunLines.{line_begins, completes_line, number-digit}
+use Rattle.resp_follow.proofs.BegunLines.{line_begins, completes_line, completes_return, number-digit, text_first}
 use Rattle.resp_follow.proofs.FirstLineRows.{line_row, zeros, are_zeros, zero_digits, string_line}
 use Rattle.resp_follow.proofs.MoreFirstLineRows.{string_size, verbatim_least}
 use Rattle.resp_follow.proofs.StreamedStrings.{with_chunks, last, completes_chunks, chunks_complete}
@@ -23,6 +23,22 @@ next_row L N level begun byte n rest h w e = record {
   holds = record { tree = w.tree; is_tree = w.is_tree; keep = w.keep; whole = w.whole ∙ sym (append_assoc begun (byte ∷ []) rest) };
   size = e;
   least = λ c v. omega (arith, h.least (byte ∷ c) (record { tree = v.tree; is_tree = v.is_tree; keep = v.keep; whole = v.whole ∙ append_assoc begun (byte ∷ []) c }));
+}
+
+-- behind the CR of a first line one byte more is needed than behind its LF
+pub before_newline_row : (L : LeafRule) (N : NodeRule) (level : ℕ) (line : List ℕ) (n : ℕ) → IsLine line → HasLeast (CompletesValue L N level (line ++ crlf [])) n → HasLeast (CompletesValue L N level (line ++ 13 ∷ [])) (suc n)
+before_newline_row L N level line n is_line h = record {
+  some = 10 ∷ h.some;
+  holds = record { tree = h.holds.tree; is_tree = h.holds.is_tree; keep = h.holds.keep; whole = h.holds.whole ∙ append_assoc line (crlf []) h.some ∙ sym (append_assoc line (13 ∷ []) (10 ∷ h.some)) };
+  size = ap suc h.size;
+  least = λ c w. (let u = completes_return L N level line c is_line w in
+      let behind : CompletesValue L N level (line ++ crlf []) (after_line u.tree) = record {
+        tree = u.tree;
+        is_tree = u.is_tree;
+        keep = u.keep;
+        whole = text_first u.tree ∙ ap (λ z. z ++ crlf (after_line u.tree)) u.line ∙ sym (append_assoc line (crlf []) (after_line u.tree));
+      } in
+      omega (arith, ap length u.whole, h.least (after_line u.tree) behind));
 }
 
 -- and so does the first byte of what the least completion is

@@ -25,7 +25,8 @@ HasStreamed r = (r.version ≡ Two → ⊥) × (r.limits.streamed ≡ false → 
 pub streamed_string_begun : (r : Rules) (level : ℕ) → HasStreamed r → IsBegunBy r level (36 ∷ 63 ∷ []) 6
 streamed_string_begun r level h = record { head = 36; tail = 63 ∷ []; parts = refl; some = omega arith; least = chunked_row (LeafKeeps r WithinItems) (NodeKeeps r WithinItems) level (leaf_keeps r WithinItems level (chunked [] (48 ∷ [])) tt (λ is_two. absurd (h.0 is_two)) tt (λ off. absurd (h.1 off)) (omega arith)) }
 
-mark_line : IsLine (36 ∷ 63 ∷ [])
+-- its line has no break in it
+pub mark_line : IsLine (36 ∷ 63 ∷ [])
 mark_line = (plain_above 36 (omega arith), (plain_above 63 (omega arith), tt))
 
 -- a rule that no streamed string meets, and the one before it that the empty one meets

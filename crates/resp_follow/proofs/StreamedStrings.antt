@@ -23,11 +23,13 @@ abbrev pub with_chunks : List Chunk → List Chunk → List Chunk
 with_chunks [] es = es
 with_chunks (c ∷ cs) es = c ∷ with_chunks cs es
 
-chunks_text-with : (cs es : List Chunk) (r : List ℕ) → chunks_text (with_chunks cs es) r ≡ chunks_text cs (chunks_text es r)
+-- their text
+pub chunks_text-with : (cs es : List Chunk) (r : List ℕ) → chunks_text (with_chunks cs es) r ≡ chunks_text cs (chunks_text es r)
 chunks_text-with [] es r = refl
 chunks_text-with (c ∷ cs) es r = ap (λ q. (59 ∷ c.digits) ++ crlf (c.content ++ crlf q)) (chunks_text-with cs es r)
 
-all_with : (cs es : List Chunk) → AllByRecursion IsChunk cs → AllByRecursion IsChunk es → AllByRecursion IsChunk (with_chunks cs es)
+-- each of them is a chunk
+pub all_with : (cs es : List Chunk) → AllByRecursion IsChunk cs → AllByRecursion IsChunk es → AllByRecursion IsChunk (with_chunks cs es)
 all_with [] es p q = q
 all_with (c ∷ cs) es p q = (p.0, all_with cs es p.1 q)
 

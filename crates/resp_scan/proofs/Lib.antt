@@ -22,3 +22,15 @@ pub mod CountsLead
 pub mod HeadsLead
 pub mod Begins
 pub mod StartLeads
+pub mod ByteTests
+pub mod HeadDigits
+pub mod StringHeads
+pub mod StringHeadsLead
+pub mod BulkHeadLeads
+pub mod ContentLead
+pub mod StringLengthEndsLead
+pub mod FormatsLead
+pub mod ChunksBegun
+pub mod StreamsLead
+pub mod ChunkHeadsLead
+pub mod ChunkContentLead

@@ -82,6 +82,20 @@ goes r T U fs front more es w step = record {
   told = w.told;
 }
 
+-- the same bytes, told in other words
+pub retold : (r : Rules) (T U : ℕ → List ℕ → List Event → Type 0) (fs : List Frame) (front : List ℕ) (es : List Event) → Inside r T fs front es → ((level : ℕ) (bytes : List ℕ) (shown : List Event) → T level bytes shown → U level bytes shown) → Inside r U fs front es
+retold r T U fs front es w words = record {
+  frames = w.frames;
+  bytes = w.bytes;
+  shown = w.shown;
+  begun = w.begun;
+  of_levels = w.of_levels;
+  can_end = w.can_end;
+  took = words (length w.frames) w.bytes w.shown w.took;
+  whole = w.whole;
+  told = w.told;
+}
+
 -- the bytes end a tree, whose events are those shown and these
 pub record Ends (r : Rules) (level : ℕ) (bytes : List ℕ) (shown : List Event) : Type 0 where
   pub tree : Tree

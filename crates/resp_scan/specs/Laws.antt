@@ -1,8 +1,10 @@
 -- What a byte makes of what has come, token by token.
 use Rattle.std.specs.Prelude.{◌≡◌, ℕ, ◌+◌, ◌<◌, Bool, List, [], ◌∷◌, ◌++◌}
 use Rattle.resp_follow.specs.Events.{Event, Byte, TextEnd, Close}
-use Rattle.resp_scan.specs.Tokens.{Token, Place, InLine, AtLineLf, AtIntSign, AtIntFirst, InInt, AtIntLf, AtBigSign, AtBigFirst, InBigZeros, AtBigZeroLf, AtBigDigit, InBig, AtTextEnd, at, ended, AtBool, AtBoolCr, AtBoolLf, AtNullCr, AtNullLf, AtNullOne, AtHeadLf, AtCloseCr, AtCloseLf, AtEnd, InHead, AtArrayHead, AtHead, AtOpenCr, AtOpenLf, AtStart}
+use Rattle.resp_scan.specs.Tokens.{Token, Place, InLine, AtLineLf, AtIntSign, AtIntFirst, InInt, AtIntLf, AtBigSign, AtBigFirst, InBigZeros, AtBigZeroLf, AtBigDigit, InBig, AtTextEnd, at, ended, AtBool, AtBoolCr, AtBoolLf, AtNullCr, AtNullLf, AtNullOne, AtHeadLf, AtCloseCr, AtCloseLf, AtEnd, InHead, AtArrayHead, AtHead, AtOpenCr, AtOpenLf, AtStart, AtBulkHead, AtChunk, AtChunkCr, AtChunkLf, AtContentCr, AtContentLf, AtFormat, AtFormatColon, AtFormatSecond, AtFormatThird, AtStreamCr, AtStreamLf, InChunk, InContent}
+use Rattle.resp_scan.specs.declared.machine.Head.{Head}
 use Rattle.resp_scan.specs.declared.machine.Head.TheVariants as head
+use Rattle.resp_scan.specs.declared.machine.Head.TheVariants.{Bulk, BulkError, Verbatim, Chunk, Array, Set, Map, Attr, Push}
 use Rattle.resp_scan.specs.declared.frame.Frame.{Frame}
 use Rattle.resp_scan.specs.declared.event.OpenKind.{OpenKind}
 use Rattle.resp_scan.specs.Machine.{next}
@@ -133,3 +135,75 @@ OpenEndLeads = (s : Place) (kind : OpenKind) → ALead (at s (AtOpenLf kind))
 
 abbrev pub StartLeads : Type 0
 StartLeads = (s : Place) (byte : ℕ) (front : List ℕ) (es : List Event) → byte < 256 → Counts (at s AtStart) 0 front → Lies (at s AtStart) front es → Leads (at s AtStart) front es byte (next (at s AtStart) 1 byte)
+
+abbrev pub BulkHeadLeads : Type 0
+BulkHeadLeads = (s : Place) → ALead (at s AtBulkHead)
+
+-- the head of a string that isn't streamed
+abbrev pub IsOfString : Head → Type 0
+IsOfString Bulk = Unit {0}
+IsOfString BulkError = Unit {0}
+IsOfString Verbatim = Unit {0}
+IsOfString (Chunk room) = ⊥
+IsOfString Array = ⊥
+IsOfString Set = ⊥
+IsOfString Map = ⊥
+IsOfString Attr = ⊥
+IsOfString Push = ⊥
+
+abbrev pub StringHeadsLead : Type 0
+StringHeadsLead = (s : Place) (h : Head) → IsOfString h → ALead (at s (AtHead h))
+
+abbrev pub StringLengthsLead : Type 0
+StringLengthsLead = (s : Place) (h : Head) (n : ℕ) → IsOfString h → ALead (at s (InHead h n))
+
+abbrev pub StringLengthEndsLead : Type 0
+StringLengthEndsLead = (s : Place) (h : Head) (n : ℕ) → IsOfString h → ALead (at s (AtHeadLf h n))
+
+abbrev pub ContentLeads : Type 0
+ContentLeads = (s : Place) (n : ℕ) → ALead (at s (InContent n))
+
+abbrev pub ContentReturnsLead : Type 0
+ContentReturnsLead = (s : Place) → ALead (at s AtContentCr)
+
+abbrev pub ContentEndsLead : Type 0
+ContentEndsLead = (s : Place) → ALead (at s AtContentLf)
+
+abbrev pub FormatsLead : Type 0
+FormatsLead = (s : Place) (n : ℕ) → ALead (at s (AtFormat n))
+
+abbrev pub SecondFormatBytesLead : Type 0
+SecondFormatBytesLead = (s : Place) (x n : ℕ) → ALead (at s (AtFormatSecond x n))
+
+abbrev pub ThirdFormatBytesLead : Type 0
+ThirdFormatBytesLead = (s : Place) (x y n : ℕ) → ALead (at s (AtFormatThird x y n))
+
+abbrev pub ColonsLead : Type 0
+ColonsLead = (s : Place) (format : List ℕ) (n : ℕ) → ALead (at s (AtFormatColon format n))
+
+abbrev pub StreamsLead : Type 0
+StreamsLead = (s : Place) → ALead (at s AtStreamCr)
+
+abbrev pub StreamEndsLead : Type 0
+StreamEndsLead = (s : Place) → ALead (at s AtStreamLf)
+
+abbrev pub ChunksLead : Type 0
+ChunksLead = (s : Place) (room : ℕ) → ALead (at s (AtChunk room))
+
+abbrev pub ChunkHeadsLead : Type 0
+ChunkHeadsLead = (s : Place) (room : ℕ) → ALead (at s (AtHead (Chunk room)))
+
+abbrev pub ChunkLengthsLead : Type 0
+ChunkLengthsLead = (s : Place) (room n : ℕ) → ALead (at s (InHead (Chunk room) n))
+
+abbrev pub ChunkLengthEndsLead : Type 0
+ChunkLengthEndsLead = (s : Place) (room n : ℕ) → ALead (at s (AtHeadLf (Chunk room) n))
+
+abbrev pub ChunkContentLeads : Type 0
+ChunkContentLeads = (s : Place) (room n : ℕ) → ALead (at s (InChunk room n))
+
+abbrev pub ChunkReturnsLead : Type 0
+ChunkReturnsLead = (s : Place) (room : ℕ) → ALead (at s (AtChunkCr room))
+
+abbrev pub ChunkEndsLead : Type 0
+ChunkEndsLead = (s : Place) (room : ℕ) → ALead (at s (AtChunkLf room))
