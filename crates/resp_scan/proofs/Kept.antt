@@ -8,8 +8,9 @@ use Rattle.resp_scan.specs.declared.frame.Frame.{Frame}
 use Rattle.resp_scan.specs.Tokens.{Token, Place, Happening, Null, Truth, Int, Text, Digit, TextEnd, Open, Close, Move, Go, Byte, Give, Refuse, at, AtStart, AtEnd, InLine, AtLineLf, AtIntSign, AtIntFirst, InInt, AtIntLf, AtBigSign, AtBigFirst, InBigZeros, AtBigZeroLf, AtBigDigit, InBig, AtTextEnd, AtNullOne, AtNullCr, AtNullLf, AtBool, AtBoolCr, AtBoolLf, AtBulkHead, AtArrayHead, AtHead, InHead, AtHeadLf, AtFormat, AtFormatSecond, AtFormatThird, AtFormatColon, InContent, AtContentCr, AtContentLf, AtStreamCr, AtStreamLf, AtChunk, InChunk, AtChunkCr, AtChunkLf, AtOpenCr, AtOpenLf, AtCloseCr, AtCloseLf, Dead}
 use Rattle.resp_scan.specs.Machine.{is_digit, next}
 use Rattle.resp_scan.specs.Scan.{Out, More, Gave, Part, Whole, Bad, and_more, content, answer, scan, closes, advanced_in, advanced}
+use Rattle.resp_scan.specs.Kinds.{rules_of}
 use Rattle.resp_scan.specs.Sound.{Fits, token_needed, frames_owed, IsClosed, IsSoundBy, IsSound}
-use Rattle.resp_scan.proofs.Sound.{is_start, IsPlain, IsNext, IsInside, IsMove, is_move, sound_ended, sound_closed}
+use Rattle.resp_scan.proofs.Sound.{is_outside, IsPlain, IsNext, IsInside, IsMove, is_move, sound_ended, sound_closed}
 
 -- a digit stands behind no byte
 abbrev pub IsGiven : ℕ → Happening → Type 0
@@ -41,7 +42,7 @@ IsOut s (Whole t) = IsSound t × (t.taken ≡ 0)
 IsOut s (Bad n c t) = IsNext n s t × (t.token ≡ Dead c)
 
 joined : (i n : ℕ) (s t u : Place) → IsInside i s t → IsNext n t u → IsNext n s u
-joined i n s t u a b = record { taken = b.taken ∙ a.taken; sound = b.sound }
+joined i n s t u a b = record { taken = b.taken ∙ a.taken; rules = b.rules ∙ a.rules; sound = b.sound }
 
 out_joined : (i : ℕ) (s t : Place) (o : Out) → IsInside i s t → IsOut t o → IsOut s o
 out_joined i s t (More n u) a h = joined i n s t u a h
@@ -51,37 +52,37 @@ out_joined i s t (Whole u) a h = h
 out_joined i s t (Bad n c u) a h = (joined i n s t u a h.0, h.1)
 
 same : (i : ℕ) (s : Place) → IsSoundBy i s → IsNext i s s
-same i s h = record { taken = refl; sound = h }
+same i s h = record { taken = refl; rules = refl; sound = h }
 
-no_start : (i j : ℕ) (t : Token) → is_start t ≡ false → is_start t ≡ true → i ≡ j
-no_start i j t e f = absurd (false≢true (sym e ∙ f))
+no_outside : (i j : ℕ) (t : Token) → is_outside t ≡ false → is_outside t ≡ true → i ≡ j
+no_outside i j t e f = absurd (false≢true (sym e ∙ f))
 
 -- the bytes used of a run, and where it leads
 abbrev IsRun : Place → ℕ × Place → Type 0
 IsRun s r = IsNext r.0 s r.1
 
-content_next : (v : Move) (i : ℕ) (s : Place) (bs : List ℕ) → IsSoundBy i s → IsMove (i + 1) s v → ((t : Place) → IsSoundBy (i + 1) t → is_start t.token ≡ false → IsRun t (content (i + 1) t bs)) → IsRun s (and_more v (i, s) (λ t. content (i + 1) t bs))
+content_next : (v : Move) (i : ℕ) (s : Place) (bs : List ℕ) → IsSoundBy i s → IsMove (i + 1) s v → ((t : Place) → IsSoundBy (i + 1) t → is_outside t.token ≡ false → IsRun t (content (i + 1) t bs)) → IsRun s (and_more v (i, s) (λ t. content (i + 1) t bs))
 content_next (Go t) i s bs h m f = same i s h
 content_next (Byte t) i s bs h m f = joined (i + 1) (content (i + 1) t bs).0 s t (content (i + 1) t bs).1 m (f t m.sound m.inside)
 content_next (Give e t) i s bs h m f = same i s h
 content_next (Refuse c) i s bs h m f = same i s h
 
-is_content : (i : ℕ) (s : Place) (p : List ℕ) → IsSoundBy i s → is_start s.token ≡ false → IsRun s (content i s p)
+is_content : (i : ℕ) (s : Place) (p : List ℕ) → IsSoundBy i s → is_outside s.token ≡ false → IsRun s (content i s p)
 is_content i s [] h g = same i s h
-is_content i s (b ∷ bs) h g = content_next (next s (i + 1) b) i s bs h (is_move s.token s i b h (no_start i 0 s.token g)) (λ t. is_content (i + 1) t bs)
+is_content i s (b ∷ bs) h g = content_next (next s (i + 1) b) i s bs h (is_move s.token s i b h (no_outside i 0 s.token g)) (λ t. is_content (i + 1) t bs)
 
 dead : (i : ℕ) (s : Place) (c : Cause) → IsSoundBy i s → IsNext i s (at s (Dead c))
-dead i s c h = record { taken = refl; sound = record { bounds = h.bounds; nested = h.nested; counted = h.counted; owed = h.owed; total = omega (arith, h.total); token = tt } }
+dead i s c h = record { taken = refl; rules = refl; sound = record { bounds = h.bounds; nested = h.nested; counted = h.counted; owed = h.owed; total = omega (arith, h.total); token = tt } }
 
-scan_next : (v : Move) (i : ℕ) (s : Place) (bs : List ℕ) → IsSoundBy i s → IsMove (i + 1) s v → ((t : Place) → IsSoundBy (i + 1) t → is_start t.token ≡ false → IsOut t (scan (i + 1) t bs)) → IsOut s (answer v i s (λ t. scan (i + 1) t bs) (λ t. content (i + 1) t bs))
+scan_next : (v : Move) (i : ℕ) (s : Place) (bs : List ℕ) → IsSoundBy i s → IsMove (i + 1) s v → ((t : Place) → IsSoundBy (i + 1) t → is_outside t.token ≡ false → IsOut t (scan (i + 1) t bs)) → IsOut s (answer v i s (λ t. scan (i + 1) t bs) (λ t. content (i + 1) t bs))
 scan_next (Go t) i s bs h m f = out_joined (i + 1) s t (scan (i + 1) t bs) m (f t m.sound m.inside)
 scan_next (Byte t) i s bs h m f = joined (i + 1) (content (i + 1) t bs).0 s t (content (i + 1) t bs).1 m (is_content (i + 1) t bs m.sound m.inside)
 scan_next (Give e t) i s bs h m f = (m.0, given (i + 1) e m.1)
 scan_next (Refuse c) i s bs h m f = (dead i s c h, refl)
 
-scan_by : (i : ℕ) (s : Place) (p : List ℕ) → IsSoundBy i s → (is_start s.token ≡ true → i ≡ 0) → IsOut s (scan i s p)
+scan_by : (i : ℕ) (s : Place) (p : List ℕ) → IsSoundBy i s → (is_outside s.token ≡ true → i ≡ 0) → IsOut s (scan i s p)
 scan_by i s [] h g = same i s h
-scan_by i s (b ∷ bs) h g = scan_next (next s (i + 1) b) i s bs h (is_move s.token s i b h g) (λ t k e. scan_by (i + 1) t bs k (no_start (i + 1) 0 t.token e))
+scan_by i s (b ∷ bs) h g = scan_next (next s (i + 1) b) i s bs h (is_move s.token s i b h g) (λ t k e. scan_by (i + 1) t bs k (no_outside (i + 1) 0 t.token e))
 
 pub is_scan : (s : Place) (p : List ℕ) → IsSound s → IsOut s (scan 0 s p)
 is_scan s p h = scan_by 0 s p h (λ e. refl)
@@ -92,18 +93,18 @@ is_closes s [] t e h =
     (record { bounds = h.bounds; nested = h.nested; counted = h.counted; owed = h.owed; total = subst (λ v. 0 + 0 + token_needed AtStart s.bounds.depth v + s.owed ≤ s.bounds.total) (sym e) (omega (arith, o, h.bounds.total_in_range.0)); token = subst (λ v. Fits AtStart s.bounds.depth v) (sym e) tt }, refl)
 is_closes s (f ∷ fs) t e h =
     let c : IsClosed (f ∷ fs) = subst IsClosed e (subst (λ v. Fits v s.bounds.depth s.frames) t h.token) in
-    (record { taken = refl; sound = sound_closed s s.token (f ∷ fs) 0 0 e h c (omega (arith, h.total)) }, tt)
+    (record { taken = refl; rules = refl; sound = sound_closed s s.token (f ∷ fs) 0 0 e h c (omega (arith, h.total)) }, tt)
 
 -- what is owed comes next
 moved : (s : Place) (t u : Token) → s.token ≡ t → IsSound s → token_needed u s.bounds.depth s.frames ≤ token_needed t s.bounds.depth s.frames → Fits u s.bounds.depth s.frames → IsNext 0 s (at s u)
 moved s t u e h q f =
     let w : s.taken + 0 + token_needed s.token s.bounds.depth s.frames + s.owed ≤ s.bounds.total = h.total in
     let r : token_needed s.token s.bounds.depth s.frames ≡ token_needed t s.bounds.depth s.frames = ap (λ v. token_needed v s.bounds.depth s.frames) e in
-    record { taken = refl; sound = record { bounds = h.bounds; nested = h.nested; counted = h.counted; owed = h.owed; total = omega (arith, w, r, q); token = f } }
+    record { taken = refl; rules = refl; sound = record { bounds = h.bounds; nested = h.nested; counted = h.counted; owed = h.owed; total = omega (arith, w, r, q); token = f } }
 
 is_in : (t : Token) (s : Place) (p : List ℕ) → s.token ≡ t → IsSound s → IsOut s (advanced_in t s p)
 is_in AtEnd s p e h = is_closes s s.frames e refl h
-is_in AtTextEnd s p e h = (record { taken = refl; sound = sound_ended s 0 h.bounds h.nested h.counted h.owed (omega (arith, h.total)) }, tt)
+is_in AtTextEnd s p e h = (record { taken = refl; rules = refl; sound = sound_ended s 0 h.bounds h.nested h.counted h.owed (omega (arith, h.total)) }, tt)
 is_in (AtBigDigit d room) s p e h = (moved s (AtBigDigit d room) (InBig room) e h (omega arith) tt, (refl, subst (λ v. Fits v s.bounds.depth s.frames) e h.token))
 is_in (Dead c) s p e h = (same 0 s h, e)
 is_in AtStart s p e h = is_scan s p h

@@ -34,3 +34,6 @@ pub mod ChunksBegun
 pub mod StreamsLead
 pub mod ChunkHeadsLead
 pub mod ChunkContentLead
+pub mod EachLeads
+pub mod EachLeads
+pub mod Heard

@@ -19,25 +19,32 @@ use Rattle.resp_scan.specs.Tokens.{Token, Place, Happening, Null, Truth, Int, Te
 use Rattle.resp_scan.specs.Room.{fits, over_total, is_full, begun, begun_in, begin_cause, items_cause, has_all, shape_begun, begun_count, owed_begun, reshaped}
 use Rattle.resp_scan.specs.Heads.{most_counted, counted_cause, over, first_needed, head_needed, may_end, streamed_kind, by_version, string_cause, aggregate_cause, opened, opened_streamed, content_at, chunk_at, counted}
 use Rattle.resp_scan.specs.Machine.{unless, wants, is_digit, int_digit, int_first, big_digit, big_first, content_byte, open_streamed, head_digit, head_first, bulk_head, array_head, begins, line_begins, aggregate_begins, push_begins, in_three, may_close, may_close_of, closing, start_three, start_next, without_first, next_in}
+use Rattle.resp_scan.specs.Kinds.{rules_of}
 use Rattle.resp_scan.specs.Sound.{owed_streamed, start_needed, frame_owed, frames_owed, token_needed, AreCounted, IsOpenShape, IsOpen, IsClosed, HasLevel, Fits, IsSoundBy}
 
 pub cond_if : {A : Type 0} (P : A → Type 0) (b : Bool) (x y : A) → (b ≡ true → P x) → (b ≡ false → P y) → P (cond b x y)
 cond_if P true x y f g = f refl
 cond_if P false x y f g = g refl
 
--- Whether a token is a value's first byte, at which no more than that byte is used.
-abbrev pub is_start : Token → Bool
-is_start AtStart = true
-is_start _ = false
+-- Whether a token is a value's first byte, at which no more than that byte is used, or one at which no byte is looked at.
+abbrev pub is_outside : Token → Bool
+is_outside AtStart = true
+is_outside AtEnd = true
+is_outside AtTextEnd = true
+is_outside (AtBigDigit d room) = true
+is_outside (Dead c) = true
+is_outside _ = false
 
 pub record IsNext (i : ℕ) (s t : Place) : Type 0 where
   pub taken : t.taken ≡ s.taken
+  pub rules : rules_of t ≡ rules_of s
   pub sound : IsSoundBy i t
 
 pub record IsInside (i : ℕ) (s t : Place) : Type 0 where
   pub taken : t.taken ≡ s.taken
+  pub rules : rules_of t ≡ rules_of s
   pub sound : IsSoundBy i t
-  pub inside : is_start t.token ≡ false
+  pub inside : is_outside t.token ≡ false
 
 -- the digit of a big number is owed and never comes of a byte
 abbrev pub IsPlain : Happening → Type 0
@@ -85,15 +92,19 @@ not_full s e = grind (arith, nat_tests)
 
 -- A token is reached within the same frames.
 
-still : (s : Place) (t u : Token) (i j : ℕ) → IsSoundBy i (at s t) → s.taken + j + token_needed u s.bounds.depth s.frames + s.owed ≤ s.bounds.total → Fits u s.bounds.depth s.frames → is_start u ≡ false → IsInside j s (at s u)
-still s t u i j h w f g = record { taken = refl; sound = record { bounds = h.bounds; nested = h.nested; counted = h.counted; owed = h.owed; total = w; token = f }; inside = g }
+still : (s : Place) (t u : Token) (i j : ℕ) → IsSoundBy i (at s t) → s.taken + j + token_needed u s.bounds.depth s.frames + s.owed ≤ s.bounds.total → Fits u s.bounds.depth s.frames → is_outside u ≡ false → IsInside j s (at s u)
+still s t u i j h w f g = record { taken = refl; rules = refl; sound = record { bounds = h.bounds; nested = h.nested; counted = h.counted; owed = h.owed; total = w; token = f }; inside = g }
+
+-- a token at which no byte is looked at
+stays : (s : Place) (t u : Token) (i j : ℕ) → IsSoundBy i (at s t) → s.taken + j + token_needed u s.bounds.depth s.frames + s.owed ≤ s.bounds.total → Fits u s.bounds.depth s.frames → IsNext j s (at s u) × Unit {0}
+stays s t u i j h w f = (record { taken = refl; rules = refl; sound = record { bounds = h.bounds; nested = h.nested; counted = h.counted; owed = h.owed; total = w; token = f } }, tt)
 
 -- a byte brings the end nearer by one
-less : (s : Place) (t u : Token) (i : ℕ) → IsSoundBy i (at s t) → token_needed u s.bounds.depth s.frames + 1 ≤ token_needed t s.bounds.depth s.frames → Fits u s.bounds.depth s.frames → is_start u ≡ false → IsInside (i + 1) s (at s u)
+less : (s : Place) (t u : Token) (i : ℕ) → IsSoundBy i (at s t) → token_needed u s.bounds.depth s.frames + 1 ≤ token_needed t s.bounds.depth s.frames → Fits u s.bounds.depth s.frames → is_outside u ≡ false → IsInside (i + 1) s (at s u)
 less s t u i h q f g = let w : s.taken + i + token_needed t s.bounds.depth s.frames + s.owed ≤ s.bounds.total = h.total in still s t u i (i + 1) h (omega (arith, w, q)) f g
 
 -- total leaves room for it
-within_total : (s : Place) (t u : Token) (i n : ℕ) → IsSoundBy i (at s t) → s.taken + (i + 1) + n + s.owed ≤ s.bounds.total → token_needed u s.bounds.depth s.frames ≤ n → Fits u s.bounds.depth s.frames → is_start u ≡ false → IsInside (i + 1) s (at s u)
+within_total : (s : Place) (t u : Token) (i n : ℕ) → IsSoundBy i (at s t) → s.taken + (i + 1) + n + s.owed ≤ s.bounds.total → token_needed u s.bounds.depth s.frames ≤ n → Fits u s.bounds.depth s.frames → is_outside u ≡ false → IsInside (i + 1) s (at s u)
 within_total s t u i n h w q f g = still s t u i (i + 1) h (omega (arith, w, q)) f g
 
 -- A value has ended.
@@ -121,7 +132,7 @@ sound_ended s j b n k o w = record { bounds = b; nested = n; counted = k; owed =
 is_ended : (s : Place) (t : Token) (i : ℕ) → IsSoundBy i (at s t) → 1 ≤ token_needed t s.bounds.depth s.frames → IsNext (i + 1) s (ended s)
 is_ended s t i h q =
     let w : s.taken + i + token_needed t s.bounds.depth s.frames + s.owed ≤ s.bounds.total = h.total in
-    record { taken = refl; sound = sound_ended s (i + 1) h.bounds h.nested h.counted h.owed (omega (arith, w, q)) }
+    record { taken = refl; rules = refl; sound = sound_ended s (i + 1) h.bounds h.nested h.counted h.owed (omega (arith, w, q)) }
 
 -- An aggregate opens.
 
@@ -129,7 +140,7 @@ is_pushed : (s : Place) (t : Token) (f : Frame) (i n : ℕ) → IsSoundBy i (at 
 is_pushed s t f i n h l k e q =
     let w : s.taken + i + token_needed t s.bounds.depth s.frames + s.owed ≤ s.bounds.total = h.total in
     let o : s.owed ≡ frames_owed s.frames = h.owed in
-    record { taken = refl; sound = sound_ended (record s { frames = f ∷ s.frames; owed = s.owed + n }) (i + 1) h.bounds (omega (arith, l)) (k, h.counted) (omega (arith, o, e)) (omega (arith, w, q)) }
+    record { taken = refl; rules = refl; sound = sound_ended (record s { frames = f ∷ s.frames; owed = s.owed + n }) (i + 1) h.bounds (omega (arith, l)) (k, h.counted) (omega (arith, o, e)) (omega (arith, w, q)) }
 
 is_opened : (s : Place) (t : Token) (k : OpenKind) (n i : ℕ) → IsSoundBy i (at s t) → length s.frames < s.bounds.depth → n * 3 + 1 ≤ token_needed t s.bounds.depth s.frames → IsNext (i + 1) s (opened s k n)
 is_opened s t k n i h l q = is_pushed s t (record { kind = k; shape = Left n }) i (n * 3) h l (omega arith) refl q
@@ -182,6 +193,10 @@ begun_taken : (s : Place) (fs : List Frame) → (begun_in s fs).taken ≡ s.take
 begun_taken s [] = refl
 begun_taken s (f ∷ fs) = refl
 
+begun_rules : (s : Place) (fs : List Frame) → rules_of (begun_in s fs) ≡ rules_of s
+begun_rules s [] = refl
+begun_rules s (f ∷ fs) = refl
+
 sound_begun : (s : Place) (fs : List Frame) (n : ℕ) (u : Token) → s.frames ≡ fs → IsSoundBy 0 (at s AtStart) → items_cause fs s.bounds.items (over_total (begun_in s fs) 1 n) ≡ None → 0 < n → token_needed u s.bounds.depth (begun_in s fs).frames ≤ n → Fits u s.bounds.depth (begun_in s fs).frames → IsSoundBy 1 (at (begun_in s fs) u)
 sound_begun s [] n u e h c l q f =
     let w = total_room s 1 n c l in
@@ -199,11 +214,11 @@ sound_begun s (x ∷ fs) n u e h c l q f =
       token = f;
     }
 
-is_begun : (s : Place) (n : ℕ) (u : Token) → IsSoundBy 0 (at s AtStart) → 0 < n → token_needed u s.bounds.depth (begun s).frames ≤ n → Fits u s.bounds.depth (begun s).frames → is_start u ≡ false → IsMove 1 s (begins s n u)
-is_begun s n u h l q f g = unless_is 1 s (begin_cause s n) _ (λ c. record { taken = begun_taken s s.frames; sound = sound_begun s s.frames n u refl h c l q f; inside = g })
+is_begun : (s : Place) (n : ℕ) (u : Token) → IsSoundBy 0 (at s AtStart) → 0 < n → token_needed u s.bounds.depth (begun s).frames ≤ n → Fits u s.bounds.depth (begun s).frames → is_outside u ≡ false → IsMove 1 s (begins s n u)
+is_begun s n u h l q f g = unless_is 1 s (begin_cause s n) _ (λ c. record { taken = begun_taken s s.frames; rules = begun_rules s s.frames; sound = sound_begun s s.frames n u refl h c l q f; inside = g })
 
 is_line : (s : Place) (e : Happening) → IsPlain e → IsSoundBy 0 (at s AtStart) → IsMove 1 s (line_begins s e)
-is_line s e y h = unless_is 1 s (begin_cause s 2) _ (λ c. (record { taken = begun_taken s s.frames; sound = sound_begun s s.frames 2 (InLine s.bounds.length) refl h c (omega arith) (omega arith) tt }, y))
+is_line s e y h = unless_is 1 s (begin_cause s 2) _ (λ c. (record { taken = begun_taken s s.frames; rules = begun_rules s s.frames; sound = sound_begun s s.frames 2 (InLine s.bounds.length) refl h c (omega arith) (omega arith) tt }, y))
 
 is_aggregate : (s : Place) (x : Head) → IsSoundBy 0 (at s AtStart) → 0 < first_needed x → IsMove 1 s (aggregate_begins s x)
 is_aggregate s x h l = cond_if (IsMove 1 s) (is_full s) _ _ (λ e. tt) (λ e. is_begun s (first_needed x) (AtHead x) h l (omega arith) (λ o. omega (arith, begun_length s s.frames refl, not_full s e)) refl)
@@ -246,7 +261,7 @@ sound_closing s (x ∷ fs) e h m =
     }
 
 is_closing : (s : Place) → IsSoundBy 0 (at s AtStart) → IsMove 1 s (closing s)
-is_closing s h = cond_if (IsMove 1 s) (may_close s.frames) _ _ (λ e. record { taken = refl; sound = sound_closing s s.frames refl h e; inside = refl }) (λ e. tt)
+is_closing s h = cond_if (IsMove 1 s) (may_close s.frames) _ _ (λ e. record { taken = refl; rules = refl; sound = sound_closing s s.frames refl h e; inside = refl }) (λ e. tt)
 
 -- the innermost aggregate, which has all, ends
 pub sound_closed : (s : Place) (t : Token) (fs : List Frame) (i j : ℕ) → s.frames ≡ fs → IsSoundBy i (at s t) → IsClosed fs → s.taken + j + s.owed ≤ s.bounds.total → IsSoundBy j (ended (record s { frames = without_first fs }))
@@ -351,7 +366,7 @@ is_chunk_at s t i room n h q =
     (λ e. less s t (InChunk room n) i h (omega (arith, q)) (let w : 0 < n = grind (arith, nat_tests) in w) refl)
 
 next_of : (i : ℕ) (s t : Place) → IsInside i s t → IsNext i s t × Unit {0}
-next_of i s t h = (record { taken = h.taken; sound = h.sound }, tt)
+next_of i s t h = (record { taken = h.taken; rules = h.rules; sound = h.sound }, tt)
 
 four_of : (n : ℕ) → nat_le 4 n ≡ true → 4 ≤ n
 four_of n e = grind (arith, nat_tests)
@@ -404,14 +419,14 @@ is_int_digit s t i negative n h =
     cond_if (IsMove (i + 1) s) (nat_le n (most negative)) _ _ (λ e.
     cond_if (IsMove (i + 1) s) (fits s (i + 1) 2) _ _ (λ f. within_total s t (InInt negative n) i 2 h (fits_room s (i + 1) 2 f (omega arith)) (omega arith) (le_of n (most negative) e) refl) (λ f. tt)) (λ e. tt)
 
-is_sign : (s : Place) (t u : Token) (i : ℕ) → IsSoundBy i (at s t) → token_needed u s.bounds.depth s.frames ≤ 3 → Fits u s.bounds.depth s.frames → is_start u ≡ false → IsMove (i + 1) s (unless (over_total s (i + 1) 3) (Go (at s u)))
+is_sign : (s : Place) (t u : Token) (i : ℕ) → IsSoundBy i (at s t) → token_needed u s.bounds.depth s.frames ≤ 3 → Fits u s.bounds.depth s.frames → is_outside u ≡ false → IsMove (i + 1) s (unless (over_total s (i + 1) 3) (Go (at s u)))
 is_sign s t u i h q f g = unless_is (i + 1) s (over_total s (i + 1) 3) _ (λ c. within_total s t u i 3 h (total_room s (i + 1) 3 c (omega arith)) q f g)
 
 is_big_digit : (s : Place) (t : Token) (i : ℕ) (negative : Bool) (b : ℕ) → IsSoundBy i (at s t) → is_digit b ≡ true → s.taken + (i + 1) + 2 + s.owed ≤ s.bounds.total → IsMove (i + 1) s (big_digit s negative b)
 is_big_digit s t i negative b h d w =
     cond_if (IsMove (i + 1) s) (eqb b 48) _ _
     (λ e. within_total s t (InBigZeros negative) i 2 h w (omega arith) tt refl)
-    (λ e. next_of (i + 1) s (at s (AtBigDigit b (s.bounds.length - 1))) (within_total s t (AtBigDigit b (s.bounds.length - 1)) i 2 h w (omega arith) d refl))
+    (λ e. stays s t (AtBigDigit b (s.bounds.length - 1)) i (i + 1) h (omega (arith, w)) d)
 
 is_big_first : (s : Place) (t : Token) (i : ℕ) (negative : Bool) (b : ℕ) → IsSoundBy i (at s t) → 3 ≤ token_needed t s.bounds.depth s.frames → IsMove (i + 1) s (big_first s negative b)
 is_big_first s t i negative b h q =
@@ -423,7 +438,7 @@ wants_is i s x b v m = cond_if (IsMove i s) (eqb b x) v (Refuse cause.Syntax) (�
 
 -- Every token.
 
-pub is_move : (t : Token) (s : Place) (i b : ℕ) → IsSoundBy i (at s t) → (is_start t ≡ true → i ≡ 0) → IsMove (i + 1) s (next_in t s (i + 1) b)
+pub is_move : (t : Token) (s : Place) (i b : ℕ) → IsSoundBy i (at s t) → (is_outside t ≡ true → i ≡ 0) → IsMove (i + 1) s (next_in t s (i + 1) b)
 is_move AtStart s i b h g = subst (λ k. IsMove (k + 1) s (start_next s b)) (sym (g refl)) (is_first s b (subst (λ k. IsSoundBy k (at s AtStart)) (g refl) h))
 is_move AtEnd s i b h g = tt
 is_move (InLine room) s i b h g =
@@ -449,7 +464,7 @@ is_move (InBigZeros negative) s i b h g =
     cond_if (IsMove (i + 1) s) (is_digit b) _ _ (λ e.
     cond_if (IsMove (i + 1) s) (fits s (i + 1) 2) _ _ (λ f. is_big_digit s (InBigZeros negative) i negative b h e (fits_room s (i + 1) 2 f (omega arith))) (λ f. tt)) (λ e.
     wants_is (i + 1) s 13 b _ (less s (InBigZeros negative) AtBigZeroLf i h (omega arith) tt refl))
-is_move AtBigZeroLf s i b h g = wants_is (i + 1) s 10 b _ (next_of (i + 1) s (at s AtTextEnd) (less s AtBigZeroLf AtTextEnd i h (omega arith) tt refl))
+is_move AtBigZeroLf s i b h g = wants_is (i + 1) s 10 b _ (let q : s.taken + i + 1 + s.owed ≤ s.bounds.total = h.total in stays s AtBigZeroLf AtTextEnd i (i + 1) h (omega (arith, q)) tt)
 is_move (AtBigDigit d room) s i b h g = tt
 is_move (InBig room) s i b h g =
     cond_if (IsMove (i + 1) s) (is_digit b) _ _
@@ -491,5 +506,5 @@ is_move (AtOpenLf k) s i b h g = wants_is (i + 1) s 10 b _ (is_opened_streamed s
 is_move AtCloseCr s i b h g = wants_is (i + 1) s 13 b _ (less s AtCloseCr AtCloseLf i h (omega arith) h.token refl)
 is_move AtCloseLf s i b h g =
     let w : s.taken + i + 1 + s.owed ≤ s.bounds.total = h.total in
-    wants_is (i + 1) s 10 b _ (record { taken = refl; sound = sound_closed s AtCloseLf s.frames i (i + 1) refl h h.token (omega (arith, w)) }, tt)
+    wants_is (i + 1) s 10 b _ (record { taken = refl; rules = refl; sound = sound_closed s AtCloseLf s.frames i (i + 1) refl h h.token (omega (arith, w)) }, tt)
 is_move (Dead c) s i b h g = tt
