@@ -48,7 +48,7 @@ follow_least r rule frames byte begun n before_total can_end no_stop some h =
     (l.follow_least (LeafKeeps r rule) (NodeKeeps r rule) frames byte begun n (shortest_keeps r rule) can_end no_stop some h))
 
 -- a tree within the rules before total, whose text is within it, is within all
-all_rules : (r : Rules) (t : Tree) → Keeps r WithinItems t → length (text t) ≤ r.limits.total → Keeps r WithinTotal t
+pub all_rules : (r : Rules) (t : Tree) → Keeps r WithinItems t → length (text t) ≤ r.limits.total → Keeps r WithinTotal t
 all_rules r t keeps fits Grammar e = keeps Grammar (omega arith)
 all_rules r t keeps fits NoDouble e = keeps NoDouble (omega arith)
 all_rules r t keeps fits InVersion e = keeps InVersion (omega arith)

@@ -29,7 +29,7 @@ pub record RefusedAt (r : Rules) (front : List ℕ) (es : List Event) (byte used
 
 -- what came of a piece of which so many bytes are used before these, by an answer
 abbrev pub Came : Rules → ℕ → List ℕ → List Event → List ℕ → Out → Type 0
-Came r i front es p (More n t) = (n ≡ i + length p) × Lies t (front ++ p) es
+Came r i front es p (More n t) = (n ≡ i + length p) × (0 < n → is_outside t.token ≡ false) × Lies t (front ++ p) es
 Came r i front es p (Gave n happening t) = (i < n) × (n ≤ i + length p) × Lies t (front ++ take (n - i) p) (es ++ event_of happening ∷ [])
 Came r i front es p (Part k n t) = (i ≤ k) × (k < n) × (n ≤ i + length p) × Lies t (front ++ take (n - i) p) (es ++ content_events (drop (k - i) (take (n - i) p)))
 Came r i front es p (Whole t) = ⊥
@@ -44,7 +44,7 @@ longer : (front : List ℕ) (i n b : ℕ) (bs : List ℕ) → i + 1 ≤ n → (f
 longer front i n b bs h = append_assoc front (b ∷ []) (take (n - (i + 1)) bs) ∙ ap (λ z. front ++ z) (taken_more i n b bs h)
 
 came_later : (r : Rules) (i : ℕ) (front : List ℕ) (es : List Event) (b : ℕ) (bs : List ℕ) (o : Out) → Came r (i + 1) (front ++ b ∷ []) es bs o → Came r i front es (b ∷ bs) o
-came_later r i front es b bs (More n t) h = (let m : n ≡ i + 1 + length bs = h.0 in omega (arith, m), subst (λ z. Lies t z es) (append_assoc front (b ∷ []) bs) h.1)
+came_later r i front es b bs (More n t) h = (let m : n ≡ i + 1 + length bs = h.0 in omega (arith, m), h.1, subst (λ z. Lies t z es) (append_assoc front (b ∷ []) bs) h.2)
 came_later r i front es b bs (Gave n happening t) h =
     let l : i + 1 < n = h.0 in
     let m : n ≤ i + 1 + length bs = h.1 in
@@ -134,7 +134,10 @@ came_move (Refuse x) r i s front es b bs q c w m l f g =
     (omega arith, omega arith, b, bs, ap (λ z. z ++ b ∷ bs) (sym t0), subst (λ z. RefusedAt r (front ++ z) es b i x) (sym t0) (subst (λ z. RefusedAt r z es b i x) (sym (append-nil front)) (record { before = s; rules = q; sound = c.sound; taken = c.taken; lies = w; cause = subst (λ z. IsRefusedFor z (front ++ b ∷ []) x) q l })))
 
 pub came_scan : (r : Rules) (i : ℕ) (s : Place) (front : List ℕ) (es : List Event) (p : List ℕ) → IsText p → rules_of s ≡ r → Counts s i front → IsLookedAt s.token i → Lies s front es → Came r i front es p (scan i s p)
-came_scan r i s front es [] text q c at_front w = (omega arith, subst (λ z. Lies s z es) (sym (append-nil front)) w)
+came_scan r i s front es [] text q c at_front w = (omega arith, within s.token i at_front, subst (λ z. Lies s z es) (sym (append-nil front)) w)
+  where
+    within : (t : Token) (i : ℕ) → IsLookedAt t i → 0 < i → is_outside t ≡ false
+    within t i h some = elim (is_outside t) as (λ x. is_outside t ≡ x → x ≡ false) [ | true ↦ λ e. absurd (omega (arith, some, (h e).1)) | false ↦ λ e. refl ] refl
 came_scan r i s front es (b ∷ bs) text q c at_front w =
     came_move (next s (i + 1) b) r i s front es b bs q c w (is_move s.token s i b c.sound (λ z. (at_front z).1)) (each_leads s.token s i b front es text.0 c at_front w)
     (λ t q' d z l. came_scan r (i + 1) t (front ++ b ∷ []) es bs text.1 q' d (looked_at t.token (i + 1) z) l)

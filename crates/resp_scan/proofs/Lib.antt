@@ -37,3 +37,4 @@ pub mod ChunkContentLead
 pub mod EachLeads
 pub mod EachLeads
 pub mod Heard
+pub mod Steps

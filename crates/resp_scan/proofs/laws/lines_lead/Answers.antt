@@ -1,5 +1,5 @@
 use Rattle.resp_scan.proofs.LinesLead.{lines_lead}
-use Rattle.resp_scan.proofs.Heard.{came_scan}
+use Rattle.resp_scan.proofs.Steps.{answered}
 use Rattle.resp_scan.proofs.laws.lines_lead.Goals as goal
 
 -- src/laws.rt

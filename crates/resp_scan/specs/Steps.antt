@@ -1,0 +1,69 @@
+-- What a step promises of what has come, in words of texts and trees.
+use Rattle.std.specs.Prelude.{◌≡◌, ℕ, ◌+◌, ◌<◌, ◌≤◌, List, [], ◌∷◌, ◌++◌, length, take, Option, None, Some, Result, Ok, Err}
+use Rattle.resp_value.specs.Trees.{Tree, Spells}
+use Rattle.resp_value.specs.Rules.{Rules, WithinTotal, Keeps}
+use Rattle.resp_value.specs.Spellings.{IsViable}
+use Rattle.resp_follow.specs.Events.{events, given}
+use Rattle.resp_follow.specs.Events as e
+use Rattle.resp_scan.specs.declared.event.Event.{Event}
+use Rattle.resp_scan.specs.declared.event.Event.TheVariants as event
+use Rattle.resp_scan.specs.declared.event.Step.{Step}
+use Rattle.resp_scan.specs.declared.event.Fault.{Fault}
+use Rattle.resp_scan.specs.Tokens.{Place}
+use Rattle.resp_scan.specs.Kinds.{IsRefusedFor, content_events, kind_of, rules_of, text_of}
+use Rattle.resp_scan.specs.Follows.{Lies}
+
+-- these are the bytes taken of the value at the top, and the events given of it
+pub record Follows (s : Place) (front : List ℕ) (es : List e.Event) : Type 0 where
+  pub lies : Lies s front es
+  pub taken : s.taken ≡ length front
+
+-- some tree within the rules spells the front, and these are its events
+pub record IsValue (r : Rules) (front : List ℕ) (es : List e.Event) : Type 0 where
+  pub tree : Tree
+  pub spells : Spells tree front
+  pub keeps : Keeps r WithinTotal tree
+  pub told : es ≡ given (events 0 tree)
+
+-- no tree is spelled by the front and a front of the piece that isn't empty
+abbrev pub HasNoValue : List ℕ → List ℕ → Type 0
+HasNoValue front piece = (n : ℕ) (tree : Tree) → n < length piece → Spells tree (front ++ take (n + 1) piece) → ⊥
+
+-- the events that an event stands for, content byte by byte
+abbrev pub events_of : Event → List e.Event
+events_of event.Null = e.Null ∷ []
+events_of (event.Bool truth) = e.Bool truth ∷ []
+events_of (event.Int number) = e.Int number ∷ []
+events_of (event.Text kind) = e.Text (text_of kind) ∷ []
+events_of (event.Part bytes) = content_events bytes.now
+events_of event.TextEnd = e.TextEnd ∷ []
+events_of (event.Open kind members) = e.Open (kind_of kind) members ∷ []
+events_of event.Close = e.Close ∷ []
+events_of event.Done = []
+
+-- Without an event the piece is used, and no value has ended in it. At Done what has come is a value, and the events
+-- given are its. Any other event adds to the events given.
+abbrev pub Heard : Rules → Place → List ℕ → List e.Event → List ℕ → ℕ → Option Event → Type 0
+Heard r s front es piece n None = (n ≡ length piece) × HasNoValue front piece × Follows s (front ++ piece) es
+Heard r s front es piece n (Some event.Done) = (n ≡ 0) × IsValue r front es × Follows s [] []
+Heard r s front es piece n (Some event.Null) = Follows s (front ++ take n piece) (es ++ events_of event.Null)
+Heard r s front es piece n (Some (event.Bool truth)) = Follows s (front ++ take n piece) (es ++ events_of (event.Bool truth))
+Heard r s front es piece n (Some (event.Int number)) = Follows s (front ++ take n piece) (es ++ events_of (event.Int number))
+Heard r s front es piece n (Some (event.Text kind)) = Follows s (front ++ take n piece) (es ++ events_of (event.Text kind))
+Heard r s front es piece n (Some (event.Part bytes)) = Follows s (front ++ take n piece) (es ++ events_of (event.Part bytes))
+Heard r s front es piece n (Some event.TextEnd) = Follows s (front ++ take n piece) (es ++ events_of event.TextEnd)
+Heard r s front es piece n (Some (event.Open kind members)) = Follows s (front ++ take n piece) (es ++ events_of (event.Open kind members))
+Heard r s front es piece n (Some event.Close) = Follows s (front ++ take n piece) (es ++ events_of event.Close)
+
+-- of the front and the piece, the bytes before the fault are viable, and with the next byte they aren't, by the cause
+-- that the fault names, the first in the order of the rules
+pub record IsRefused (r : Rules) (front piece : List ℕ) (fault : Fault) : Type 0 where
+  pub behind : length front ≤ fault.at
+  pub within : fault.at < length (front ++ piece)
+  pub viable : IsViable r WithinTotal (take fault.at (front ++ piece))
+  pub refused : IsRefusedFor r (take (fault.at + 1) (front ++ piece)) fault.cause
+
+-- from a scanner that has taken this front and given these events: what a step answers, and where it leads
+abbrev pub Stepped : Place → Place → List ℕ → List e.Event → List ℕ → Result Step Fault → Type 0
+Stepped old new front es piece (Ok step) = Heard (rules_of old) new front es piece step.used step.event
+Stepped old new front es piece (Err fault) = IsRefused (rules_of old) front piece fault
