@@ -34,3 +34,4 @@ pub mod ChunksBegun
 pub mod StreamsLead
 pub mod ChunkHeadsLead
 pub mod ChunkContentLead
+pub mod Rows
