@@ -35,3 +35,4 @@ pub mod StreamsLead
 pub mod ChunkHeadsLead
 pub mod ChunkContentLead
 pub mod Rows
+pub mod LeastNeeded
