@@ -40,3 +40,4 @@ pub mod StringTokens
 pub mod PayloadTokens
 pub mod ChunkTokens
 pub mod BrokenChunks
+pub mod WholeValues

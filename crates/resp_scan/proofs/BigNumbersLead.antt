@@ -54,7 +54,8 @@ stripped-more (c ∷ digits) digit x xs e = case (eqb c 48) e (stripped-more dig
 
 -- Rows.
 
-row_of : (r : Rules) (negative : Bool) (kept : List ℕ) (level : ℕ) (bytes : List ℕ) → BigBegun r negative kept level bytes → IsBegunBy r level bytes 2
+-- a big number's digits, zeros or others
+pub row_of : (r : Rules) (negative : Bool) (kept : List ℕ) (level : ℕ) (bytes : List ℕ) → BigBegun r negative kept level bytes → IsBegunBy r level bytes 2
 row_of r negative kept level bytes w = digits_row r Big w.sign (w.first ∷ w.digits) level bytes w.token
 
 -- The first digits.
@@ -262,7 +263,8 @@ digits_more r room byte level bytes shown d some w =
       told = ap (λ z. z ++ e.Byte byte ∷ []) w.told ∙ ap (λ z. e.Text (e.Big w.negative) ∷ z) (sym (content_events-append (w.digit ∷ w.digits) (byte ∷ [])));
     }
 
-shown_row : (r : Rules) (room level : ℕ) (bytes : List ℕ) (shown : List Event) → BigShown r room level bytes shown → IsBegunBy r level bytes 2
+-- and those of which some were given
+pub shown_row : (r : Rules) (room level : ℕ) (bytes : List ℕ) (shown : List Event) → BigShown r room level bytes shown → IsBegunBy r level bytes 2
 shown_row r room level bytes shown w = row_of r w.negative (w.digit ∷ w.digits) level bytes w.token
 
 past_length : (r : Rules) (room byte level : ℕ) (bytes : List ℕ) (shown : List Event) → IsDigit byte → room ≡ 0 → BigShown r room level bytes shown → (head : ℕ) × (tail : List ℕ) × (bytes ++ byte ∷ [] ≡ head ∷ tail) × IsRefusedHere r WithinLength WithinDepth level (head ∷ tail)

@@ -83,10 +83,11 @@ chunk_returns r room level bytes shown w =
 fits : (r : Rules) (room n : ℕ) (behind : List ℕ) (level : ℕ) (bytes : List ℕ) (shown : List Event) (w : ChunkBegun r room n behind level bytes shown) → length (joined w.chunks.chunks) + number w.digits ≤ r.limits.length
 fits r room n behind level bytes shown w = omega (arith, w.chunks.leaves)
 
-content_row : (r : Rules) (room level : ℕ) (bytes : List ℕ) (shown : List Event) → ChunkBegun r room 0 [] level bytes shown → IsBegunBy r level bytes 6
-content_row r room level bytes shown w =
-    let row = chunk_content_begun r level w.chunks.chunks w.digits w.part 0 (are_whole w.chunks) w.are_digits w.is_text w.some w.valued (fits r room 0 [] level bytes shown w) in
-    subst (λ z. IsBegunBy r level z 6) (ap (λ z. streamed_text w.chunks.chunks (chunk_text w.digits z)) (sym (append-nil w.part)) ∙ sym w.chunks.are) row
+-- within its content
+pub content_row : (r : Rules) (room n level : ℕ) (bytes : List ℕ) (shown : List Event) → ChunkBegun r room n [] level bytes shown → IsBegunBy r level bytes (n + 6)
+content_row r room n level bytes shown w =
+    let row = chunk_content_begun r level w.chunks.chunks w.digits w.part n (are_whole w.chunks) w.are_digits w.is_text w.some w.valued (fits r room n [] level bytes shown w) in
+    subst (λ z. IsBegunBy r level z (n + 6)) (ap (λ z. streamed_text w.chunks.chunks (chunk_text w.digits z)) (sym (append-nil w.part)) ∙ sym w.chunks.are) row
 
 pub chunk_returns_lead : ChunkReturnsLead
 chunk_returns_lead s room used byte front es is_byte c w =
@@ -94,7 +95,7 @@ chunk_returns_lead s room used byte front es is_byte c w =
     let v = Go (at s (AtChunkLf room)) in
     wanted (at s (AtChunkCr room)) front es 13 byte v
     (λ is_return. subst (λ z. Leads (at s (AtChunkCr room)) front es z v) (sym is_return) (goes r (ChunkBegun r room 0 []) (ChunkBegun r room 0 (13 ∷ [])) s.frames front (13 ∷ []) es w (λ level bytes shown i t. chunk_returns r room level bytes shown t)))
-    (λ other. broken r (ChunkBegun r room 0 []) s.frames front es 6 byte w (λ level bytes shown i t. content_row r room level bytes shown t)
+    (λ other. broken r (ChunkBegun r room 0 []) s.frames front es 6 byte w (λ level bytes shown i t. content_row r room 0 level bytes shown t)
     (λ level bytes rest shown t d. chunk_content_broken r level t.chunks.chunks t.digits t.part rest byte t.chunks.are_chunks t.are_digits t.some (omega (arith, t.valued)) other (subst (λ z. CompletesUnder r Grammar level z (byte ∷ rest)) t.chunks.are d)))
 
 -- and the LF, with which it is whole
@@ -114,7 +115,8 @@ chunk_ends r room level bytes shown w =
       told = w.told ∙ ap (λ z. z ++ content_events w.part) w.chunks.told ∙ ap (λ z. e.Text e.Bulk ∷ z) (sym (ap content_events all ∙ content_events-append (joined cs) w.part));
     }
 
-returned_row : (r : Rules) (room level : ℕ) (bytes : List ℕ) (shown : List Event) → ChunkBegun r room 0 (13 ∷ []) level bytes shown → IsBegunBy r level bytes 5
+-- behind the CR of its content
+pub returned_row : (r : Rules) (room level : ℕ) (bytes : List ℕ) (shown : List Event) → ChunkBegun r room 0 (13 ∷ []) level bytes shown → IsBegunBy r level bytes 5
 returned_row r room level bytes shown w =
     let cs = w.chunks.chunks in
     let row = chunk_returned_begun r level cs w.digits w.part (are_whole w.chunks) w.are_digits w.is_text w.some (omega (arith, w.valued)) (fits r room 0 (13 ∷ []) level bytes shown w) in

@@ -62,7 +62,7 @@ plain : (r : Rules) (room n level : ℕ) (bytes : List ℕ) (shown : List Event)
 plain r room n level bytes shown w = subst (λ z. ChunksBegun r room (59 ∷ z) level bytes shown) (append-nil w.digits) w.chunks
 
 -- what is needed behind the digits
-length_row : (r : Rules) (room n level : ℕ) (bytes : List ℕ) (shown : List Event) → ChunkLength r room n [] level bytes shown → IsBegunBy r level bytes (chunk_needed n)
+pub length_row : (r : Rules) (room n level : ℕ) (bytes : List ℕ) (shown : List Event) → ChunkLength r room n [] level bytes shown → IsBegunBy r level bytes (chunk_needed n)
 length_row r room n level bytes shown w =
     let c = plain r room n level bytes shown w in
     subst (λ z. IsBegunBy r level z (chunk_needed n)) (sym c.are)
@@ -117,10 +117,11 @@ returned_text : (r : Rules) (room n level : ℕ) (bytes : List ℕ) (shown : Lis
 returned_text r room n level bytes shown w = w.chunks.are ∙ ap (λ z. 36 ∷ 63 ∷ crlf z) (sym (chunks_text-append w.chunks.chunks (59 ∷ w.digits) (13 ∷ [])))
 
 -- one less than before the CR
-returned_needed : ℕ → ℕ
+unfoldable pub returned_needed : ℕ → ℕ
 returned_needed n = cond (eqb n 0) 1 (n + 7)
 
-returned_row : (r : Rules) (room n level : ℕ) (bytes : List ℕ) (shown : List Event) → ChunkLength r room n (13 ∷ []) level bytes shown → IsBegunBy r level bytes (returned_needed n)
+-- what is needed behind the CR
+pub returned_row : (r : Rules) (room n level : ℕ) (bytes : List ℕ) (shown : List Event) → ChunkLength r room n (13 ∷ []) level bytes shown → IsBegunBy r level bytes (returned_needed n)
 unfolding returned_needed
 returned_row r room n level bytes shown w =
     let c = w.chunks in

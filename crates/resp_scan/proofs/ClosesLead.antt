@@ -22,6 +22,7 @@ use Rattle.resp_follow.proofs.EventsAround.{events-closed}
 use Rattle.resp_follow.proofs.FirstRuleBroken.{grammar_cause}
 use Rattle.resp_follow.proofs.Levels as level
 use Rattle.resp_follow.proofs.RefusedFronts.{CompletesFront}
+use Rattle.resp_follow.proofs.WholeValues.{closed_text}
 use Rattle.resp_scan.specs.declared.event.OpenKind.{OpenKind}
 use Rattle.resp_scan.specs.declared.frame.Frame.{Frame}
 use Rattle.resp_scan.specs.Tokens as k
@@ -32,10 +33,6 @@ use Rattle.resp_scan.specs.Follows.{Closing, ClosingIn, Leads, Lies, LiesAt, bus
 use Rattle.resp_scan.specs.Laws.{CloseIsOwed, CloseCrLeads, CloseEndLeads}
 use Rattle.resp_scan.proofs.Moves.{given-append, longer, value_lies}
 use Rattle.resp_scan.proofs.Tests.{if_equal}
-
--- an aggregate and its close are its text
-closed_text : (frame : opened.Frame) (outer : List opened.Frame) → around (frame ∷ outer) (close frame.form) ≡ around outer (text (node frame.kind frame.form frame.done))
-closed_text frame outer = ap (around outer) (append_assoc (kind_byte frame.kind ∷ form_line frame.form) (crlf (texts frame.done)) (close frame.form))
 
 -- the rest of the close ends the aggregate
 closing_ends : (r : Rules) (k : OpenKind) (fs : List Frame) (last rest front : List ℕ) (es : List Event) → Closing r k fs last rest front es → LiesAt r (within fs) fs (front ++ rest) (es ++ e.Close ∷ [])

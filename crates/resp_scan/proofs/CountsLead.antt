@@ -32,6 +32,7 @@ items_of-members_of d.Map n = omega arith
 items_of-members_of d.Attr n = omega arith
 items_of-members_of d.Push n = refl
 
+-- behind a count's digits the line's end and the members
 pub count_row : (r : Rules) (k : Kind) (n needed level : ℕ) (bytes : List ℕ) (shown : List Event) → 3 * members_of k n + 2 ≡ needed → CountBegun r k n level bytes shown → IsBegunBy r level bytes needed
 count_row r k n needed level bytes shown e w = subst (IsBegunBy r level bytes) (ap (λ m. 3 * members_of k m + 2) w.valued ∙ e) (count_begun r k w.first w.digits level bytes w.token)
 

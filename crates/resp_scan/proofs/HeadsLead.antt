@@ -102,7 +102,8 @@ first_digit_leads s T k needed used byte token front es e digit c w may lies =
 
 -- The mark of streamed aggregates.
 
-stream_row : (r : Rules) (k : Kind) (level : ℕ) (bytes : List ℕ) (shown : List Event) → StreamBegun r k [] level bytes shown → IsBegunBy r level bytes 5
+-- a streamed head without the end of its line
+pub stream_row : (r : Rules) (k : Kind) (level : ℕ) (bytes : List ℕ) (shown : List Event) → StreamBegun r k [] level bytes shown → IsBegunBy r level bytes 5
 stream_row r k level bytes shown w = subst (λ z. IsBegunBy r level z 5) (sym (w.are ∙ append-nil (kind_byte k ∷ 63 ∷ []))) (streamed_begun r k level w.has_streamed w.can_stream w.no_push w.below)
 
 mark_more : (r : Rules) (k : Kind) (level byte : ℕ) (bytes : List ℕ) (shown : List Event) → byte ≡ 63 → (r.version ≡ version.Two → ⊥) → (r.limits.streamed ≡ false → ⊥) → CanStream k 0 → MayCount r k level bytes shown → StreamBegun r k [] level (bytes ++ byte ∷ []) shown
@@ -127,6 +128,7 @@ mark_leads s T o used byte front es is can c w may in_two below = by_cases s.ver
           let more = goes (rules_of s) T (StreamBegun (rules_of s) (kind_of o) []) s.frames front (byte ∷ []) es w (λ level bytes shown i t. mark_more (rules_of s) (kind_of o) level byte bytes shown is (no_two_in_three s.version three) (λ off. let e : true ≡ false = sym on ∙ off in cc) can (may level bytes shown i t)) in
           unless_over s front es used byte 5 (Go (at s (AtOpenCr o))) (fits_or_total s (StreamBegun (rules_of s) (kind_of o) []) front es es used byte 5 (Go (at s (AtOpenCr o))) c more (λ level bytes shown i t. stream_row (rules_of s) (kind_of o) level bytes shown t) more))
 
+-- the type byte of an aggregate whose count may be zero
 pub aggregate_row : (r : Rules) (k : Kind) (level : ℕ) (bytes : List ℕ) (shown : List Event) → members_of k 0 ≡ 0 → AggregateBegun r k level bytes shown → IsBegunBy r level bytes 3
 aggregate_row r k level bytes shown none_yet w = subst (λ z. IsBegunBy r level z 3) (sym w.are) (aggregate_begun r k level w.no_two w.no_push w.below none_yet)
 
@@ -274,7 +276,8 @@ no_missing d.Push = refl
 stream_keeps : (r : Rules) (k : Kind) (behind : List ℕ) (level : ℕ) (bytes : List ℕ) (shown : List Event) → StreamBegun r k behind level bytes shown → NodeKeeps r WithinItems level k Streamed 0
 stream_keeps r k behind level bytes shown w = node_keeps r WithinItems level k Streamed 0 (λ two. absurd (w.has_streamed.0 two)) w.no_push (λ off. absurd (w.has_streamed.1 off)) w.below (omega (arith, no_items k))
 
-end_row : (r : Rules) (k : Kind) (level : ℕ) (bytes : List ℕ) (shown : List Event) → StreamBegun r k (13 ∷ []) level bytes shown → IsBegunBy r level bytes 4
+-- a streamed head without its LF
+pub end_row : (r : Rules) (k : Kind) (level : ℕ) (bytes : List ℕ) (shown : List Event) → StreamBegun r k (13 ∷ []) level bytes shown → IsBegunBy r level bytes 4
 end_row r k level bytes shown w =
     let five = streamed_begun r k level w.has_streamed w.can_stream w.no_push w.below in
     record {

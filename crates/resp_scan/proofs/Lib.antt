@@ -35,6 +35,7 @@ pub mod StreamsLead
 pub mod ChunkHeadsLead
 pub mod ChunkContentLead
 pub mod EachLeads
-pub mod EachLeads
 pub mod Heard
 pub mod Steps
+pub mod Rows
+pub mod LeastNeeded

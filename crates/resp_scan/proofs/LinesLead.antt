@@ -21,7 +21,8 @@ use Rattle.resp_scan.proofs.LeafEvents.{content_events-append, given-line, leaf_
 use Rattle.resp_scan.proofs.Moves.{Ends, goes, tells, value_ends}
 use Rattle.resp_scan.proofs.RefusedMoves.{broken, fits_or_total, refused}
 
-line_row : (r : Rules) (room level : ℕ) (bytes : List ℕ) (shown : List Event) → LineBegun r room level bytes shown → IsBegunBy r level bytes 2
+-- a line needs its end
+pub line_row : (r : Rules) (room level : ℕ) (bytes : List ℕ) (shown : List Event) → LineBegun r room level bytes shown → IsBegunBy r level bytes 2
 line_row r room level bytes shown w = line_begun r (line w.kind w.token.content) level bytes (text_token_line r w.kind w.size level bytes w.token)
 
 -- its CR

@@ -29,6 +29,7 @@ use Rattle.resp_scan.proofs.Tests.{if_equal, wants_leads}
 
 -- Nulls.
 
+-- a null's first two bytes
 pub null_first_row : (r : Rules) (level : ℕ) (bytes : List ℕ) → IsNullBegun bytes → IsBegunBy r level bytes 3
 null_first_row r level bytes (inl is) = subst (λ z. IsBegunBy r level z 3) (sym is) (dollar_null_begun r level)
 null_first_row r level bytes (inr is) = subst (λ z. IsBegunBy r level z 3) (sym is) (star_null_begun r level)

@@ -54,9 +54,11 @@ digits_dead r k sign first level byte digits bytes rest no_return no_digit w c =
     byte_broken (LeafKeeps r Grammar) (NodeKeeps r Grammar) level (number_byte k ∷ (sign_text sign ++ first ∷ digits)) rest byte
     (subst IsLine w.are (no_break_in_line r (numeral k sign (first ∷ digits)) level bytes (number_token_line r k sign (first ∷ digits) level bytes w))) no_return (number_broken k sign first digits byte w.are_digits.1.0 no_digit) (subst (λ z. CompletesUnder r Grammar level z (byte ∷ rest)) w.are c)
 
+-- a number without a digit needs one, and its line's end
 pub begun_row : (r : Rules) (k : NumberKind) (negative : Bool) (level : ℕ) (bytes : List ℕ) (shown : List Event) → SignBegun r k negative level bytes shown → IsBegunBy r level bytes 3
 begun_row r k negative level bytes shown w = number_begun r k w.sign level bytes w.token
 
+-- behind a digit it needs the end alone
 pub digits_row : (r : Rules) (k : NumberKind) (sign : Sign) (digits : List ℕ) (level : ℕ) (bytes : List ℕ) → IsNumberToken r k sign digits level bytes → IsBegunBy r level bytes 2
 digits_row r k sign digits level bytes w = line_begun r (numeral k sign digits) level bytes (number_token_line r k sign digits level bytes w)
 
@@ -173,7 +175,8 @@ int_returns r negative n level bytes shown w = record {
   told = w.told;
 }
 
-int_row : (r : Rules) (negative : Bool) (n level : ℕ) (bytes : List ℕ) (shown : List Event) → IntBegun r negative n level bytes shown → IsBegunBy r level bytes 2
+-- an integer's digits
+pub int_row : (r : Rules) (negative : Bool) (n level : ℕ) (bytes : List ℕ) (shown : List Event) → IntBegun r negative n level bytes shown → IsBegunBy r level bytes 2
 int_row r negative n level bytes shown w = digits_row r Int w.sign (w.first ∷ w.digits) level bytes w.token
 
 pub int_leads : IntLeads

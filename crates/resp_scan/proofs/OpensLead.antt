@@ -115,7 +115,8 @@ count_opens r k n m level bytes shown all w =
       told = ap (λ z. z ++ e.Open (kind_of k) (Some n) ∷ []) w.told ∙ ap (λ z. e.Open (kind_of k) (Some z) ∷ []) (sym w.valued);
     }
 
-count_row : (r : Rules) (k : Kind) (n level : ℕ) (bytes : List ℕ) (shown : List Event) → CountReturned r k n level bytes shown → IsBegunBy r level bytes (3 * members_of k n + 1)
+-- behind a count's CR its LF and the members
+pub count_row : (r : Rules) (k : Kind) (n level : ℕ) (bytes : List ℕ) (shown : List Event) → CountReturned r k n level bytes shown → IsBegunBy r level bytes (3 * members_of k n + 1)
 count_row r k n level bytes shown w = subst (λ m. IsBegunBy r level bytes (3 * members_of k m + 1)) w.valued (count_returned_begun r k w.first w.digits level bytes w.returned)
 
 -- the LF of a head

@@ -201,10 +201,12 @@ close_leads s front es w = case s.frames w
 
 -- The bytes, one by one.
 
-aggregate_row_of_attr : (r : Rules) (level : ℕ) (bytes : List ℕ) (shown : List Event) → AggregateBegun r d.Attr level bytes shown → IsBegunBy r level bytes 6
+-- the type byte of attributes, behind which a value comes
+pub aggregate_row_of_attr : (r : Rules) (level : ℕ) (bytes : List ℕ) (shown : List Event) → AggregateBegun r d.Attr level bytes shown → IsBegunBy r level bytes 6
 aggregate_row_of_attr r level bytes shown w = subst (λ z. IsBegunBy r level z 6) (sym w.are) (attribute_begun r level w.no_two w.below)
 
-star_row : (s : Place) (level : ℕ) → level ≡ length s.frames → (bytes : List ℕ) → bytes ≡ 42 ∷ [] → IsBegunBy (rules_of s) level bytes (cond (is_full s) 4 3)
+-- `*`, behind which only a null may come where no further aggregate may open
+pub star_row : (s : Place) (level : ℕ) → level ≡ length s.frames → (bytes : List ℕ) → bytes ≡ 42 ∷ [] → IsBegunBy (rules_of s) level bytes (cond (is_full s) 4 3)
 star_row s level i bytes are =
     if_within s.bounds.depth (length s.frames) (λ x. IsBegunBy (rules_of s) level bytes (cond x 4 3))
     (λ deep. subst (λ z. IsBegunBy (rules_of s) level z 4) (sym are) (star_deep_begun (rules_of s) level (omega (arith, deep, i))))

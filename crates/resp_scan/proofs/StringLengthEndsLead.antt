@@ -38,6 +38,13 @@ payload_token r kind n level bytes shown f w =
     let said = subst (λ m. IsContentToken r kind t.first t.digits [] m level (w.1.before ++ crlf [])) t.valued begun in
     subst (IsContentToken r kind t.first t.digits [] n level) (sym (append_assoc w.1.before (13 ∷ []) (10 ∷ [])) ∙ ap (λ z. z ++ 10 ∷ []) (sym w.1.returned)) said
 
+-- behind a length's CR its LF, the content and the line's end
+pub returned_row : (r : Rules) (h : Head) (kind : StringKind) (k : IsStringHead h kind) (n level : ℕ) (bytes : List ℕ) (shown : List Event) → HeadReturned r h n level bytes shown → IsBegunBy r level bytes (n + 3)
+returned_row r h kind k n level bytes shown u =
+    let t = k.ended r n level bytes shown u in
+    let l = t.1.length in
+    subst (λ z. IsBegunBy r level z (n + 3)) (sym t.1.returned) (subst (λ m. IsBegunBy r level (t.1.before ++ 13 ∷ []) (m + 3)) l.valued (length_returned_begun r kind l.first l.digits level t.1.before k.has_format (subst (HasRoom kind) (sym l.valued) t.0) l.token))
+
 -- the LF alone goes on
 length_end_leads : (s : Place) (h : Head) (kind : StringKind) (k : IsStringHead h kind) (n byte : ℕ) (front : List ℕ) (es : List Event) (v : Move) → Inside (rules_of s) (HeadReturned (rules_of s) h n) s.frames front es → Leads s front es 10 v → Leads s front es byte (wants 10 byte v)
 length_end_leads s h kind k n byte front es v w leads =
@@ -45,10 +52,7 @@ length_end_leads s h kind k n byte front es v w leads =
     wanted s front es 10 byte v
     (λ is_newline. subst (λ z. Leads s front es z v) (sym is_newline) leads)
     (λ other. broken r (HeadReturned r h n) s.frames front es (n + 3) byte w
-    (λ level bytes shown i u.
-    let t = (k.ended r n level bytes shown u) in
-    let l = t.1.length in
-    subst (λ z. IsBegunBy r level z (n + 3)) (sym t.1.returned) (subst (λ m. IsBegunBy r level (t.1.before ++ 13 ∷ []) (m + 3)) l.valued (length_returned_begun r kind l.first l.digits level t.1.before k.has_format (subst (HasRoom kind) (sym l.valued) t.0) l.token)))
+    (λ level bytes shown i u. returned_row r h kind k n level bytes shown u)
     (λ level bytes rest shown u d.
     let t = (k.ended r n level bytes shown u) in
     let l = t.1.length in

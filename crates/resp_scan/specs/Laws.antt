@@ -1,6 +1,10 @@
 -- What a byte makes of what has come, token by token.
-use Rattle.std.specs.Prelude.{◌≡◌, ℕ, ◌+◌, ◌<◌, Bool, List, [], ◌∷◌, ◌++◌}
+use Rattle.std.specs.Prelude.{◌≡◌, ℕ, ◌+◌, ◌<◌, Bool, List, [], ◌∷◌, ◌++◌, length}
+use Rattle.resp_value.specs.Rules.{WithinTotal}
+use Rattle.resp_value.specs.Spellings.{IsViable}
 use Rattle.resp_follow.specs.Events.{Event, Byte, TextEnd, Close}
+use Rattle.resp_follow.specs.LeastCompletions.{IsLeast}
+use Rattle.resp_follow.proofs.BegunFronts.{IsBegunBy}
 use Rattle.resp_scan.specs.Tokens.{Token, Place, InLine, AtLineLf, AtIntSign, AtIntFirst, InInt, AtIntLf, AtBigSign, AtBigFirst, InBigZeros, AtBigZeroLf, AtBigDigit, InBig, AtTextEnd, at, ended, AtBool, AtBoolCr, AtBoolLf, AtNullCr, AtNullLf, AtNullOne, AtHeadLf, AtCloseCr, AtCloseLf, AtEnd, InHead, AtArrayHead, AtHead, AtOpenCr, AtOpenLf, AtStart, AtBulkHead, AtChunk, AtChunkCr, AtChunkLf, AtContentCr, AtContentLf, AtFormat, AtFormatColon, AtFormatSecond, AtFormatThird, AtStreamCr, AtStreamLf, InChunk, InContent}
 use Rattle.resp_scan.specs.declared.machine.Head.{Head}
 use Rattle.resp_scan.specs.declared.machine.Head.TheVariants as head
@@ -8,6 +12,9 @@ use Rattle.resp_scan.specs.declared.machine.Head.TheVariants.{Bulk, BulkError, V
 use Rattle.resp_scan.specs.declared.frame.Frame.{Frame}
 use Rattle.resp_scan.specs.declared.event.OpenKind.{OpenKind}
 use Rattle.resp_scan.specs.Machine.{next}
+use Rattle.resp_scan.specs.Kinds.{rules_of}
+use Rattle.resp_scan.specs.Begun.{Begun}
+use Rattle.resp_scan.specs.Sound.{IsSoundBy, needed, token_needed}
 use Rattle.resp_scan.specs.Follows.{Lies, Leads, Counts}
 
 -- the place that a byte leads to lies at the longer front, and a byte that is refused has its cause
@@ -207,3 +214,15 @@ ChunkReturnsLead = (s : Place) (room : ℕ) → ALead (at s (AtChunkCr room))
 
 abbrev pub ChunkEndsLead : Type 0
 ChunkEndsLead = (s : Place) (room : ℕ) → ALead (at s (AtChunkLf room))
+
+-- inside a value the token needs the least that completes its bytes; at a text's end they are whole
+abbrev pub TokensNeed : Type 0
+TokensNeed = (s : Place) (used level : ℕ) (bytes : List ℕ) (shown : List Event) → IsSoundBy used s → (s.token ≡ AtTextEnd → ⊥) → level ≡ length s.frames → Begun (rules_of s) s.token level bytes shown → IsBegunBy (rules_of s) level bytes (token_needed s.token s.bounds.depth s.frames)
+
+-- where a place lies, it needs the least that completes the front
+abbrev pub LeastIsNeeded : Type 0
+LeastIsNeeded = (s : Place) (used : ℕ) (front : List ℕ) (es : List Event) → IsSoundBy used s → Lies s front es → IsLeast (rules_of s) front (needed s)
+
+-- and total has room for that, so that the front begins a spelling within every rule
+abbrev pub FollowedIsViable : Type 0
+FollowedIsViable = (s : Place) (used : ℕ) (front : List ℕ) (es : List Event) → IsSoundBy used s → length front ≡ s.taken + used → Lies s front es → IsViable (rules_of s) WithinTotal front

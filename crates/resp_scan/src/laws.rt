@@ -1,6 +1,6 @@
 //! Laws of the machine by bytes, each the contract of a function with an empty body.
 
-ghost use Rattle.resp_scan.specs.Laws.{LinesLead, LineEndsLead, IntSignLeads, IntFirstLeads, IntLeads, IntEndLeads, BigSignLeads, BigFirstLeads, BigZerosLead, BigZeroEndLeads, BigDigitIsOwed, BigLeads, TextEndIsOwed, NullOneLeads, NullCrLeads, NullEndLeads, BoolLeads, BoolCrLeads, BoolEndLeads, ArrayHeadEndLeads, SetHeadEndLeads, MapHeadEndLeads, AttrHeadEndLeads, PushHeadEndLeads, CloseIsOwed, CloseCrLeads, CloseEndLeads, ArrayCountLeads, SetCountLeads, MapCountLeads, AttrCountLeads, PushCountLeads, ArrayHeadLeads, SetHeadLeads, MapHeadLeads, AttrHeadLeads, PushHeadLeads, OpenCrLeads, OpenEndLeads, StartLeads, BulkHeadLeads, StringHeadsLead, StringLengthsLead, StringLengthEndsLead, ContentLeads, ContentReturnsLead, ContentEndsLead, FormatsLead, SecondFormatBytesLead, ThirdFormatBytesLead, ColonsLead, StreamsLead, StreamEndsLead, ChunksLead, ChunkHeadsLead, ChunkLengthsLead, ChunkLengthEndsLead, ChunkContentLeads, ChunkReturnsLead, ChunkEndsLead};
+ghost use Rattle.resp_scan.specs.Laws.{LinesLead, LineEndsLead, IntSignLeads, IntFirstLeads, IntLeads, IntEndLeads, BigSignLeads, BigFirstLeads, BigZerosLead, BigZeroEndLeads, BigDigitIsOwed, BigLeads, TextEndIsOwed, NullOneLeads, NullCrLeads, NullEndLeads, BoolLeads, BoolCrLeads, BoolEndLeads, ArrayHeadEndLeads, SetHeadEndLeads, MapHeadEndLeads, AttrHeadEndLeads, PushHeadEndLeads, CloseIsOwed, CloseCrLeads, CloseEndLeads, ArrayCountLeads, SetCountLeads, MapCountLeads, AttrCountLeads, PushCountLeads, ArrayHeadLeads, SetHeadLeads, MapHeadLeads, AttrHeadLeads, PushHeadLeads, OpenCrLeads, OpenEndLeads, StartLeads, BulkHeadLeads, StringHeadsLead, StringLengthsLead, StringLengthEndsLead, ContentLeads, ContentReturnsLead, ContentEndsLead, FormatsLead, SecondFormatBytesLead, ThirdFormatBytesLead, ColonsLead, StreamsLead, StreamEndsLead, ChunksLead, ChunkHeadsLead, ChunkLengthsLead, ChunkLengthEndsLead, ChunkContentLeads, ChunkReturnsLead, ChunkEndsLead, TokensNeed, LeastIsNeeded, FollowedIsViable};
 
 /// A byte of a line.
 pub(crate) fn lines_lead()
@@ -301,4 +301,19 @@ pub(crate) fn chunk_returns_lead()
 /// The LF behind a chunk.
 pub(crate) fn chunk_ends_lead()
     ensures { ChunkEndsLead }
+{}
+
+/// What a token inside a value needs is the least that completes its bytes.
+pub(crate) fn tokens_need()
+    ensures { TokensNeed }
+{}
+
+/// What a place needs is the least that completes what has come.
+pub(crate) fn least_is_needed()
+    ensures { LeastIsNeeded }
+{}
+
+/// What has come is viable under every rule.
+pub(crate) fn followed_is_viable()
+    ensures { FollowedIsViable }
 {}
