@@ -38,7 +38,7 @@ abbrev pub IsOut : Place → Out → Type 0
 IsOut s (More n t) = IsNext n s t
 IsOut s (Gave n e t) = IsNext n s t × IsGiven n e
 IsOut s (Part k n t) = IsNext n s t
-IsOut s (Whole t) = IsSound t × (t.taken ≡ 0)
+IsOut s (Whole t) = IsSound t × (t.taken ≡ 0) × (rules_of t ≡ rules_of s)
 IsOut s (Bad n c t) = IsNext n s t × (t.token ≡ Dead c)
 
 joined : (i n : ℕ) (s t u : Place) → IsInside i s t → IsNext n t u → IsNext n s u
@@ -48,7 +48,7 @@ out_joined : (i : ℕ) (s t : Place) (o : Out) → IsInside i s t → IsOut t o 
 out_joined i s t (More n u) a h = joined i n s t u a h
 out_joined i s t (Gave n e u) a h = (joined i n s t u a h.0, h.1)
 out_joined i s t (Part k n u) a h = joined i n s t u a h
-out_joined i s t (Whole u) a h = h
+out_joined i s t (Whole u) a h = (h.0, h.1, h.2 ∙ a.rules)
 out_joined i s t (Bad n c u) a h = (joined i n s t u a h.0, h.1)
 
 same : (i : ℕ) (s : Place) → IsSoundBy i s → IsNext i s s
@@ -90,7 +90,7 @@ is_scan s p h = scan_by 0 s p h (λ e. refl)
 is_closes : (s : Place) (fs : List Frame) → s.token ≡ AtEnd → s.frames ≡ fs → IsSound s → IsOut s (closes s fs)
 is_closes s [] t e h =
     let o : s.owed ≡ 0 = h.owed ∙ ap frames_owed e in
-    (record { bounds = h.bounds; nested = h.nested; counted = h.counted; owed = h.owed; total = subst (λ v. 0 + 0 + token_needed AtStart s.bounds.depth v + s.owed ≤ s.bounds.total) (sym e) (omega (arith, o, h.bounds.total_in_range.0)); token = subst (λ v. Fits AtStart s.bounds.depth v) (sym e) tt }, refl)
+    (record { bounds = h.bounds; nested = h.nested; counted = h.counted; owed = h.owed; total = subst (λ v. 0 + 0 + token_needed AtStart s.bounds.depth v + s.owed ≤ s.bounds.total) (sym e) (omega (arith, o, h.bounds.total_in_range.0)); token = subst (λ v. Fits AtStart s.bounds.depth v) (sym e) tt }, refl, refl)
 is_closes s (f ∷ fs) t e h =
     let c : IsClosed (f ∷ fs) = subst IsClosed e (subst (λ v. Fits v s.bounds.depth s.frames) t h.token) in
     (record { taken = refl; rules = refl; sound = sound_closed s s.token (f ∷ fs) 0 0 e h c (omega (arith, h.total)) }, tt)

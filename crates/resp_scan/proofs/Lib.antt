@@ -39,3 +39,4 @@ pub mod Heard
 pub mod Steps
 pub mod Rows
 pub mod LeastNeeded
+pub mod Calls

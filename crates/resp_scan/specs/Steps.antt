@@ -1,5 +1,5 @@
 -- What a step promises of what has come, in words of texts and trees.
-use Rattle.std.specs.Prelude.{◌≡◌, ℕ, ◌+◌, ◌<◌, ◌≤◌, List, [], ◌∷◌, ◌++◌, length, take, Option, None, Some, Result, Ok, Err}
+use Rattle.std.specs.Prelude.{◌≡◌, ◌⊎◌, ℕ, ◌+◌, ◌<◌, ◌≤◌, List, [], ◌∷◌, ◌++◌, length, take, Option, None, Some, Result, Ok, Err}
 use Rattle.resp_value.specs.Trees.{Tree, Spells}
 use Rattle.resp_value.specs.Rules.{Rules, WithinTotal, Keeps}
 use Rattle.resp_value.specs.Spellings.{IsViable}
@@ -24,6 +24,16 @@ pub record IsValue (r : Rules) (front : List ℕ) (es : List e.Event) : Type 0 w
   pub spells : Spells tree front
   pub keeps : Keeps r WithinTotal tree
   pub told : es ≡ given (events 0 tree)
+
+-- some tree within the rules spells the front
+pub record IsSpelled (r : Rules) (front : List ℕ) : Type 0 where
+  pub tree : Tree
+  pub spells : Spells tree front
+  pub keeps : Keeps r WithinTotal tree
+
+-- the input may end behind the front: no value was begun, or one is whole
+abbrev pub MayEnd : Rules → List ℕ → Type 0
+MayEnd r front = (front ≡ []) ⊎ IsSpelled r front
 
 -- no tree is spelled by the front and a front of the piece that isn't empty
 abbrev pub HasNoValue : List ℕ → List ℕ → Type 0
