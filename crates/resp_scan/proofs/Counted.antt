@@ -78,7 +78,7 @@ pub counted_out : (s : Place) (o : Out) → IsOut s o → IsCounted (stepped o)
 counted_out s (More n t) h = sound_counted t n h.sound
 counted_out s (Gave n e t) h = sound_counted t n h.0.sound
 counted_out s (Part k n t) h = sound_counted t n h.sound
-counted_out s (Whole t) h = h
+counted_out s (Whole t) h = (h.0, h.1)
 counted_out s (Bad n c t) h = sound_counted t n h.0.sound
 
 part_sound : (b : Bool) (n : ℕ) (p : List ℕ) (t : Place) → IsCounted (heard_part b n p t) → IsSound t

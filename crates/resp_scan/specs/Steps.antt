@@ -9,17 +9,25 @@ use Rattle.resp_scan.specs.declared.event.Event.{Event}
 use Rattle.resp_scan.specs.declared.event.Event.TheVariants as event
 use Rattle.resp_scan.specs.declared.event.Step.{Step}
 use Rattle.resp_scan.specs.declared.event.Fault.{Fault}
-use Rattle.resp_scan.specs.Tokens.{Place}
+use Rattle.resp_scan.specs.Tokens.{Dead, Place}
 use Rattle.resp_scan.specs.Kinds.{IsRefusedFor, content_events, kind_of, rules_of, text_of}
 use Rattle.resp_scan.specs.Follows.{Lies}
 
+-- the events given since a value began, content byte by byte
+abbrev pub Events : Type 0
+Events = List e.Event
+
+-- a byte was refused, and this fault is answered for good
+abbrev pub IsFaulted : Place → Fault → Type 0
+IsFaulted s fault = (s.token ≡ Dead fault.cause) × (s.taken ≡ fault.at)
+
 -- these are the bytes taken of the value at the top, and the events given of it
-pub record Follows (s : Place) (front : List ℕ) (es : List e.Event) : Type 0 where
+pub record Follows (s : Place) (front : List ℕ) (es : Events) : Type 0 where
   pub lies : Lies s front es
   pub taken : s.taken ≡ length front
 
 -- some tree within the rules spells the front, and these are its events
-pub record IsValue (r : Rules) (front : List ℕ) (es : List e.Event) : Type 0 where
+pub record IsValue (r : Rules) (front : List ℕ) (es : Events) : Type 0 where
   pub tree : Tree
   pub spells : Spells tree front
   pub keeps : Keeps r WithinTotal tree
@@ -40,7 +48,7 @@ abbrev pub HasNoValue : List ℕ → List ℕ → Type 0
 HasNoValue front piece = (n : ℕ) (tree : Tree) → n < length piece → Spells tree (front ++ take (n + 1) piece) → ⊥
 
 -- the events that an event stands for, content byte by byte
-abbrev pub events_of : Event → List e.Event
+abbrev pub events_of : Event → Events
 events_of event.Null = e.Null ∷ []
 events_of (event.Bool truth) = e.Bool truth ∷ []
 events_of (event.Int number) = e.Int number ∷ []
@@ -53,7 +61,7 @@ events_of event.Done = []
 
 -- Without an event the piece is used, and no value has ended in it. At Done what has come is a value, and the events
 -- given are its. Any other event adds to the events given.
-abbrev pub Heard : Rules → Place → List ℕ → List e.Event → List ℕ → ℕ → Option Event → Type 0
+abbrev pub Heard : Rules → Place → List ℕ → Events → List ℕ → ℕ → Option Event → Type 0
 Heard r s front es piece n None = (n ≡ length piece) × HasNoValue front piece × Follows s (front ++ piece) es
 Heard r s front es piece n (Some event.Done) = (n ≡ 0) × IsValue r front es × Follows s [] []
 Heard r s front es piece n (Some event.Null) = Follows s (front ++ take n piece) (es ++ events_of event.Null)
@@ -74,6 +82,6 @@ pub record IsRefused (r : Rules) (front piece : List ℕ) (fault : Fault) : Type
   pub refused : IsRefusedFor r (take (fault.at + 1) (front ++ piece)) fault.cause
 
 -- from a scanner that has taken this front and given these events: what a step answers, and where it leads
-abbrev pub Stepped : Place → Place → List ℕ → List e.Event → List ℕ → Result Step Fault → Type 0
+abbrev pub Stepped : Place → Place → List ℕ → Events → List ℕ → Result Step Fault → Type 0
 Stepped old new front es piece (Ok step) = Heard (rules_of old) new front es piece step.used step.event
 Stepped old new front es piece (Err fault) = IsRefused (rules_of old) front piece fault

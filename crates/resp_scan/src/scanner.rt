@@ -2,7 +2,8 @@
 
 ghost use Rattle.resp_value.specs.Bounds.{AreBounds};
 ghost use Rattle.resp_scan.specs.Heads.{first_needed};
-ghost use Rattle.std.specs.Prelude.{◌≡◌, ◌↔◌, ◌≤◌, length, [], true, None, Some, Err, IsOk, OnOk, OnErr, IfOk, IfErr};
+ghost use Rattle.std.specs.Prelude.{◌≡◌, ◌↔◌, ◌≤◌, ℕ, List, length, [], true, None, Some, Err, IsOk, OnOk, OnErr, IfOk, IfErr};
+ghost use Rattle.resp_value.specs.declared.cause.Cause.TheVariants as cause;
 
 use crate::event::{Busy, Event, Fault, OpenKind, Step};
 use crate::heads::needed_behind;
@@ -36,22 +37,19 @@ impl Model for Scanner {
 }
 
 impl Scanner {
+    ghost use Rattle.resp_follow.specs.LeastCompletions.{IsLeast};
+    ghost use Rattle.resp_scan.specs.declared.event.Fault.{Fault};
     ghost use Rattle.resp_scan.specs.End.{end_cause};
-    ghost use Rattle.resp_scan.specs.Heard.{heard, stepped, IsOfPiece};
-    ghost use Rattle.resp_scan.specs.Sound.{needed};
-    ghost use Rattle.resp_scan.specs.Scan.{advanced};
-    ghost use Rattle.resp_scan.specs.Tokens.{AtStart, Dead};
+    ghost use Rattle.resp_scan.specs.Heard.{IsOfPiece};
+    ghost use Rattle.resp_scan.specs.Kinds.{rules_of};
+    ghost use Rattle.resp_scan.specs.Sound.{IsSound, needed};
+    ghost use Rattle.resp_scan.specs.Steps.{Events, Follows, IsFaulted, MayEnd, Stepped};
+    ghost use Rattle.resp_scan.specs.Tokens.{AtStart};
 
     /// A scanner of this version within these limits, between two values.
     pub fn new(version: Version, limits: &Limits) -> Scanner
-        ensures { result ≡ record {
-          token = AtStart;
-          frames = [];
-          version = version;
-          bounds = limits.now;
-          taken = 0;
-          owed = 0;
-        } }
+        ensures followed { Follows result [] [] }
+        ensures rules { rules_of result ≡ record { version = version; limits = limits.now } }
     {
         Scanner {
             machine: Machine {
@@ -85,12 +83,18 @@ impl Scanner {
     /// Double, Version, NestedPush, Range, Streamed, Depth, Length, Items, Total. Every later step answers the same.
     #[inline(always)]
     pub fn step<'a>(&mut self, piece: &'a [u8]) -> Result<Step<'a>, Fault>
-        ensures heard { heard self.old.taken result self.new ≡ stepped (advanced self.old piece.now) }
+        // What has come and what was given of it, over every front that was taken and all events given since the value
+        // began.
+        ensures followed { (front : List ℕ) (es : Events) → Follows self.old front es → Stepped self.old self.new front es piece.now result }
+
         ensures within { IfOk result (λ step. step.used ≤ length piece.now) }
         ensures all { IfOk result (λ step. step.event ≡ None → step.used ≡ length piece.now) }
         ensures lent { IfOk result (λ step. IsOfPiece piece.now step) }
-        ensures fault { IfErr result (λ fault. (fault.at ≡ self.new.taken) × (self.new.token ≡ Dead fault.cause)) }
-        ensures stays { (cause : Cause) → self.old.token ≡ Dead cause → (result ≡ Err (record { cause = cause; at = self.old.taken })) × (self.new ≡ self.old) }
+        ensures rules { rules_of self.new ≡ rules_of self.old }
+
+        // A refused byte is the scanner's end.
+        ensures faulted { IfErr result (IsFaulted self.new) }
+        ensures stays { (fault : Fault) → IsFaulted self.old fault → (result ≡ Err fault) × (self.new ≡ self.old) }
     {
         self.machine.step(piece)
     }
@@ -98,8 +102,18 @@ impl Scanner {
     /// The end of the input. Refuses it by Truncated inside a value, with the number of its bytes that were taken,
     /// and by the fault of a step where one was refused.
     pub fn finish(&self) -> Result<(), Fault>
+        ensures ok { (front : List ℕ) (es : Events) → Follows self.now front es → (IsOk result ↔ MayEnd (rules_of self.now) front) }
+        ensures truncated { (front : List ℕ) (es : Events) → Follows self.now front es → IfErr result (λ fault. (fault.cause ≡ cause.Truncated) × (fault.at ≡ length front)) }
+        ensures stays { (fault : Fault) → IsFaulted self.now fault → result ≡ Err fault }
+    {
+        self.end()
+    }
+
+    /// The same, from the machine's numbers.
+    fn end(&self) -> Result<(), Fault>
         ensures ok { OnOk result (end_cause self.now ≡ None) }
         ensures err { IfErr result (λ fault. (end_cause self.now ≡ Some fault.cause) × (fault.at ≡ self.now.taken)) }
+        ensures sound { IsSound self.now }
     {
         let at = self.machine.taken;
         match self.machine.state {
@@ -125,9 +139,21 @@ impl Scanner {
     /// Refuses, and changes nothing, from a value's first byte until its [`Event::Done`] was given, and after a
     /// fault.
     pub fn set_version(&mut self, version: Version) -> Result<(), Busy>
+        ensures between { (front : List ℕ) (es : Events) → Follows self.old front es → (IsOk result ↔ (front ≡ [])) }
+        ensures followed { (front : List ℕ) (es : Events) → Follows self.old front es → OnOk result (Follows self.new [] []) }
+        ensures rules { OnOk result (rules_of self.new ≡ record { version = version; limits = self.old.bounds }) }
+        ensures busy { OnErr result (self.new ≡ self.old) }
+        ensures faulted { (fault : Fault) → IsFaulted self.old fault → OnOk result ⊥ }
+    {
+        self.change_version(version)
+    }
+
+    /// The same, from the machine's token and frames.
+    fn change_version(&mut self, version: Version) -> Result<(), Busy>
         ensures between { IsOk result ↔ ((self.old.token ≡ AtStart) × (self.old.frames ≡ [])) }
         ensures ok { OnOk result (self.new ≡ record self.old { version = version }) }
         ensures err { OnErr result (self.new ≡ self.old) }
+        ensures sound { IsSound self.old }
     {
         match self.machine.state {
             State::Start => {
@@ -151,14 +177,16 @@ impl Scanner {
 
     /// The number of bytes taken of the value, 0 between values. A refused byte isn't among them.
     pub fn taken(&self) -> u64
-        ensures { result ≡ self.now.taken }
+        ensures taken { result ≡ self.now.taken }
+        ensures front { (front : List ℕ) (es : Events) → Follows self.now front es → result ≡ length front }
     {
         self.machine.taken
     }
 
     /// The least number of bytes that complete the value: 3 between values, and 0 where only its Done is owed.
     pub fn needed(&self) -> u64
-        ensures { result ≡ needed self.now }
+        ensures needed { result ≡ needed self.now }
+        ensures least { (front : List ℕ) (es : Events) → Follows self.now front es → IsLeast (rules_of self.now) front result }
     {
         self.machine.owed + self.machine.token_needed()
     }

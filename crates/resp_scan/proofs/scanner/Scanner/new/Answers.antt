@@ -1,6 +1,11 @@
-use Rattle.std.proofs.Common.{reverse, ap}
+use Rattle.std.proofs.Common.{reverse, ap, refl}
+use Rattle.resp_scan.specs.Said.{place}
 use Rattle.resp_scan.proofs.Kept.{sound_new}
+use Rattle.resp_scan.proofs.Calls.{follows_none}
 use Rattle.resp_scan.proofs.scanner.Scanner.new.Goals as goal
 
 pub invariant_of-result : goal.invariant_of-result
 invariant_of-result c = sound_new c.args.version c.in_range.result (reverse c.new.result.items) c.in_range.ensures.in_range (ap reverse c.new.ensures)
+
+pub returns-clause-followed : goal.returns-clause-followed
+returns-clause-followed c = follows_none _ refl (ap reverse c.new.ensures) refl

@@ -4,6 +4,8 @@ use Rattle.resp_scan.specs.Said.{place}
 use Rattle.resp_scan.proofs.Kept.{is_advanced}
 use Rattle.resp_scan.proofs.Counted.{IsCounted, counted_out, sound_heard}
 use Rattle.resp_scan.proofs.Faults.{none_all, fault_stands}
+use Rattle.resp_scan.proofs.Calls.{is_faulted, is_text, rules_stay}
+use Rattle.resp_scan.proofs.Steps.{stepped_is}
 use Rattle.resp_scan.proofs.scanner.Scanner.step.Goals as goal
 
 pub invariant_of-self : goal.invariant_of-self
@@ -16,7 +18,15 @@ returns-clause-all c =
     let s = place c.self.inside.machine in
     none_all s.taken c.step.result s (place c.step.new.self) c.args.piece.now c.step.ensures.heard
 
-pub returns-clause-fault : goal.returns-clause-fault
-returns-clause-fault c =
+pub returns-clause-followed : goal.returns-clause-followed
+returns-clause-followed c =
     let s = place c.self.inside.machine in
-    fault_stands s.taken c.step.result s (place c.step.new.self) c.args.piece.now c.self.invariant c.step.ensures.heard c.step.ensures.counted
+    rw (← c.self.view_is) (λ front es w. stepped_is c.step.result s (place c.step.new.self) front es c.args.piece.now (is_text c.args.piece.now (λ i. (c.type_inv.piece i).fits)) c.self.invariant c.step.ensures.heard c.step.ensures.lent (fault_stands s.taken c.step.result s (place c.step.new.self) c.args.piece.now c.self.invariant c.step.ensures.heard c.step.ensures.counted) w)
+
+pub returns-clause-rules : goal.returns-clause-rules
+returns-clause-rules c = rw (← c.self.view_is) (rules_stay c.step.result (place c.self.inside.machine) (place c.step.new.self) c.args.piece.now c.self.invariant c.step.ensures.heard)
+
+pub returns-clause-faulted : goal.returns-clause-faulted
+returns-clause-faulted c =
+    let s = place c.self.inside.machine in
+    is_faulted c.step.result (place c.step.new.self) (fault_stands s.taken c.step.result s (place c.step.new.self) c.args.piece.now c.self.invariant c.step.ensures.heard c.step.ensures.counted)

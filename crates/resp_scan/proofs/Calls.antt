@@ -1,0 +1,333 @@
+-- The other calls in words of texts and trees.
+use Rattle.std.specs.Prelude.{Bool, true, false, cond, eqb, get_or, ◌||◌, Option, None, Some, Result, Ok, Err, IsOk, IfErr, OnOk, ◌↔◌}
+use Rattle.std.proofs.lemmas.Bool.{false≢true}
+use Rattle.std.proofs.lemmas.Bool.Decides.{nat_tests}
+use Rattle.std.proofs.Common.{◌≡◌, ◌⊎◌, inl, inr, ℕ, suc, ◌+◌, ◌-◌, ◌<◌, ◌≤◌, List, [], ◌∷◌, ◌++◌, length, refl, sym, ap, subst, ◌∙◌, arith, append-nil}
+use Rattle.resp_value.specs.Bytes.{IsText}
+use Rattle.resp_value.specs.declared.version.Version.{Version}
+use Rattle.resp_scan.specs.declared.event.Busy.{Busy}
+use Rattle.resp_value.specs.Rules.{Rules, WithinItems, WithinTotal}
+use Rattle.resp_value.specs.Trees.{Spells, Tree, leaf, text}
+use Rattle.resp_value.specs.declared.cause.Cause.{Cause}
+use Rattle.resp_value.specs.declared.cause.Cause.TheVariants as cause
+use Rattle.resp_value.proofs.Unique.{unique}
+use Rattle.resp_follow.specs.Events as e
+use Rattle.resp_follow.specs.Frames as opened
+use Rattle.resp_follow.specs.Frames.{around}
+use Rattle.resp_follow.specs.LeastCompletions.{IsLeast}
+use Rattle.resp_follow.proofs.BegunFronts.{IsBegunBy}
+use Rattle.resp_follow.proofs.EventsAround.{length-around, next_member_at}
+use Rattle.resp_follow.proofs.FrontLaws.{all_rules}
+use Rattle.resp_follow.proofs.LeastAround.{text_least}
+use Rattle.resp_follow.proofs.Levels.{AreLevelsOf}
+use Rattle.resp_scan.specs.declared.event.Event.{Event}
+use Rattle.resp_scan.specs.declared.event.Event.TheVariants as event
+use Rattle.resp_scan.specs.declared.event.Step.{Step}
+use Rattle.resp_scan.specs.declared.event.Fault.{Fault}
+use Rattle.resp_scan.specs.declared.frame.Frame.{Frame}
+use Rattle.resp_scan.specs.Tokens.{Token, Place, at, AtStart, AtEnd, InLine, AtLineLf, AtIntSign, AtIntFirst, InInt, AtIntLf, AtBigSign, AtBigFirst, InBigZeros, AtBigZeroLf, AtBigDigit, InBig, AtTextEnd, AtNullOne, AtNullCr, AtNullLf, AtBool, AtBoolCr, AtBoolLf, AtBulkHead, AtArrayHead, AtHead, InHead, AtHeadLf, AtFormat, AtFormatSecond, AtFormatThird, AtFormatColon, InContent, AtContentCr, AtContentLf, AtStreamCr, AtStreamLf, AtChunk, InChunk, AtChunkCr, AtChunkLf, AtOpenCr, AtOpenLf, AtCloseCr, AtCloseLf, Dead}
+use Rattle.resp_scan.specs.Kinds.{rules_of}
+use Rattle.resp_scan.specs.Begun as b
+use Rattle.resp_scan.specs.Begun.{TextWhole}
+use Rattle.resp_scan.specs.End.{end_cause, end_cause_in}
+use Rattle.resp_scan.specs.Follows.{Between, Closing, ClosingIn, Ended, Inside, Lies, LiesAt, Whole, busy_levels, waiting_levels}
+use Rattle.resp_scan.specs.Sound.{IsSound, IsSoundBy, needed, token_needed}
+use Rattle.resp_scan.specs.Steps.{Follows, IsFaulted, IsSpelled, MayEnd}
+use Rattle.resp_scan.specs.Scan as scan
+use Rattle.resp_scan.specs.Scan.{Out, More, Gave, Part, Bad, advanced}
+use Rattle.resp_scan.specs.Heard.{heard, heard_event, heard_part, stepped}
+use Rattle.resp_scan.proofs.Kept.{IsOut, is_advanced}
+use Rattle.resp_scan.proofs.LeastNeeded.{least_is_needed}
+use Rattle.resp_scan.proofs.Moves.{at_level}
+use Rattle.resp_scan.proofs.Rows.{tokens_need}
+
+-- A front that isn't empty.
+
+-- what stands around begun bytes is no shorter
+longer_around : (frames : List opened.Frame) (bytes : List ℕ) → length bytes ≤ length (around frames bytes)
+longer_around frames bytes = omega (arith, length-around frames bytes)
+
+inside_some : (r : Rules) (T : ℕ → List ℕ → List e.Event → Type 0) (fs : List Frame) (front : List ℕ) (es : List e.Event) (n : ℕ) (w : Inside r T fs front es) → IsBegunBy r (length w.frames) w.bytes n → 0 < length front
+inside_some r T fs front es n w row = omega (arith, ap length w.whole, longer_around w.frames w.bytes, ap length row.parts)
+
+open_some : (frames : List opened.Frame) (f : opened.Frame) → 0 < length (around (f ∷ frames) [])
+open_some frames f = omega (arith, next_member_at f frames)
+
+between_some : (r : Rules) (f : Frame) (fs : List Frame) (front : List ℕ) (es : List e.Event) → Between r (f ∷ fs) front es → 0 < length front
+between_some r f fs front es w = case w.frames w.of_levels w.whole
+  where
+    case : (gs : List opened.Frame) → AreLevelsOf (waiting_levels (f ∷ fs)) gs → front ≡ around gs [] → 0 < length front
+    case [] a e = absurd a
+    case (g ∷ gs) a e = omega (arith, ap length e, open_some gs g)
+
+ended_some : (r : Rules) (fs : List Frame) (front : List ℕ) (es : List e.Event) → Ended r fs front es → 0 < length front
+ended_some r [] front es w = omega (arith, ap length w.whole, text_least w.tree)
+ended_some r (f ∷ fs) front es w = omega (arith, ap length w.whole, open_some w.outer w.frame)
+
+closing_some : (r : Rules) (fs : List Frame) (last rest front : List ℕ) (es : List e.Event) → 0 < length last → ClosingIn r fs last rest front es → 0 < length front
+closing_some r [] last rest front es some w = absurd w
+closing_some r (f ∷ fs) last rest front es some w = omega (arith, ap length w.whole, longer_around (w.frame ∷ w.outer) last, some)
+
+-- between two values, or behind a byte
+abbrev AtFrontOrBehind : Token → List Frame → List ℕ → Type 0
+AtFrontOrBehind t fs front = ((t ≡ AtStart) × (fs ≡ [])) ⊎ (0 < length front)
+
+start_or_behind : (s : Place) (front : List ℕ) (es : List e.Event) → Between (rules_of s) s.frames front es → AtFrontOrBehind AtStart s.frames front
+start_or_behind s front es w = case s.frames w
+  where
+    case : (fs : List Frame) → Between (rules_of s) fs front es → AtFrontOrBehind AtStart fs front
+    case [] w = inl (refl, refl)
+    case (f ∷ fs) w = inr (between_some (rules_of s) f fs front es w)
+
+behind_at : (t : Token) (s : Place) (front : List ℕ) (es : List e.Event) → IsSound (at s t) → Lies (at s t) front es → AtFrontOrBehind t s.frames front
+behind_at AtStart s front es c w = start_or_behind s front es w
+behind_at AtEnd s front es c w = inr (ended_some (rules_of s) s.frames front es w)
+behind_at AtTextEnd s front es c w = inr (omega (arith, ap length w.whole, longer_around w.frames w.bytes, ap length w.took.whole, text_least (leaf w.took.leaf)))
+behind_at AtCloseCr s front es c w = inr (closing_some (rules_of s) s.frames (46 ∷ []) (13 ∷ 10 ∷ []) front es (omega arith) w)
+behind_at AtCloseLf s front es c w = inr (closing_some (rules_of s) s.frames (46 ∷ 13 ∷ []) (10 ∷ []) front es (omega arith) w)
+behind_at (Dead x) s front es c w = absurd w.took
+behind_at (InLine room) s front es c w = inr (inside_some (rules_of s) (b.Begun (rules_of s) (InLine room)) s.frames front es (token_needed (InLine room) s.bounds.depth s.frames) w (tokens_need (at s (InLine room)) 0 (length w.frames) w.bytes w.shown c (λ e. cc) (at_level w) w.took))
+behind_at AtLineLf s front es c w = inr (inside_some (rules_of s) (b.Begun (rules_of s) AtLineLf) s.frames front es (token_needed AtLineLf s.bounds.depth s.frames) w (tokens_need (at s AtLineLf) 0 (length w.frames) w.bytes w.shown c (λ e. cc) (at_level w) w.took))
+behind_at AtIntSign s front es c w = inr (inside_some (rules_of s) (b.Begun (rules_of s) AtIntSign) s.frames front es (token_needed AtIntSign s.bounds.depth s.frames) w (tokens_need (at s AtIntSign) 0 (length w.frames) w.bytes w.shown c (λ e. cc) (at_level w) w.took))
+behind_at (AtIntFirst negative) s front es c w = inr (inside_some (rules_of s) (b.Begun (rules_of s) (AtIntFirst negative)) s.frames front es (token_needed (AtIntFirst negative) s.bounds.depth s.frames) w (tokens_need (at s (AtIntFirst negative)) 0 (length w.frames) w.bytes w.shown c (λ e. cc) (at_level w) w.took))
+behind_at (InInt negative n) s front es c w = inr (inside_some (rules_of s) (b.Begun (rules_of s) (InInt negative n)) s.frames front es (token_needed (InInt negative n) s.bounds.depth s.frames) w (tokens_need (at s (InInt negative n)) 0 (length w.frames) w.bytes w.shown c (λ e. cc) (at_level w) w.took))
+behind_at (AtIntLf negative n) s front es c w = inr (inside_some (rules_of s) (b.Begun (rules_of s) (AtIntLf negative n)) s.frames front es (token_needed (AtIntLf negative n) s.bounds.depth s.frames) w (tokens_need (at s (AtIntLf negative n)) 0 (length w.frames) w.bytes w.shown c (λ e. cc) (at_level w) w.took))
+behind_at AtBigSign s front es c w = inr (inside_some (rules_of s) (b.Begun (rules_of s) AtBigSign) s.frames front es (token_needed AtBigSign s.bounds.depth s.frames) w (tokens_need (at s AtBigSign) 0 (length w.frames) w.bytes w.shown c (λ e. cc) (at_level w) w.took))
+behind_at (AtBigFirst negative) s front es c w = inr (inside_some (rules_of s) (b.Begun (rules_of s) (AtBigFirst negative)) s.frames front es (token_needed (AtBigFirst negative) s.bounds.depth s.frames) w (tokens_need (at s (AtBigFirst negative)) 0 (length w.frames) w.bytes w.shown c (λ e. cc) (at_level w) w.took))
+behind_at (InBigZeros negative) s front es c w = inr (inside_some (rules_of s) (b.Begun (rules_of s) (InBigZeros negative)) s.frames front es (token_needed (InBigZeros negative) s.bounds.depth s.frames) w (tokens_need (at s (InBigZeros negative)) 0 (length w.frames) w.bytes w.shown c (λ e. cc) (at_level w) w.took))
+behind_at AtBigZeroLf s front es c w = inr (inside_some (rules_of s) (b.Begun (rules_of s) AtBigZeroLf) s.frames front es (token_needed AtBigZeroLf s.bounds.depth s.frames) w (tokens_need (at s AtBigZeroLf) 0 (length w.frames) w.bytes w.shown c (λ e. cc) (at_level w) w.took))
+behind_at (AtBigDigit digit room) s front es c w = inr (inside_some (rules_of s) (b.Begun (rules_of s) (AtBigDigit digit room)) s.frames front es (token_needed (AtBigDigit digit room) s.bounds.depth s.frames) w (tokens_need (at s (AtBigDigit digit room)) 0 (length w.frames) w.bytes w.shown c (λ e. cc) (at_level w) w.took))
+behind_at (InBig room) s front es c w = inr (inside_some (rules_of s) (b.Begun (rules_of s) (InBig room)) s.frames front es (token_needed (InBig room) s.bounds.depth s.frames) w (tokens_need (at s (InBig room)) 0 (length w.frames) w.bytes w.shown c (λ e. cc) (at_level w) w.took))
+behind_at AtNullOne s front es c w = inr (inside_some (rules_of s) (b.Begun (rules_of s) AtNullOne) s.frames front es (token_needed AtNullOne s.bounds.depth s.frames) w (tokens_need (at s AtNullOne) 0 (length w.frames) w.bytes w.shown c (λ e. cc) (at_level w) w.took))
+behind_at AtNullCr s front es c w = inr (inside_some (rules_of s) (b.Begun (rules_of s) AtNullCr) s.frames front es (token_needed AtNullCr s.bounds.depth s.frames) w (tokens_need (at s AtNullCr) 0 (length w.frames) w.bytes w.shown c (λ e. cc) (at_level w) w.took))
+behind_at AtNullLf s front es c w = inr (inside_some (rules_of s) (b.Begun (rules_of s) AtNullLf) s.frames front es (token_needed AtNullLf s.bounds.depth s.frames) w (tokens_need (at s AtNullLf) 0 (length w.frames) w.bytes w.shown c (λ e. cc) (at_level w) w.took))
+behind_at AtBool s front es c w = inr (inside_some (rules_of s) (b.Begun (rules_of s) AtBool) s.frames front es (token_needed AtBool s.bounds.depth s.frames) w (tokens_need (at s AtBool) 0 (length w.frames) w.bytes w.shown c (λ e. cc) (at_level w) w.took))
+behind_at (AtBoolCr x) s front es c w = inr (inside_some (rules_of s) (b.Begun (rules_of s) (AtBoolCr x)) s.frames front es (token_needed (AtBoolCr x) s.bounds.depth s.frames) w (tokens_need (at s (AtBoolCr x)) 0 (length w.frames) w.bytes w.shown c (λ e. cc) (at_level w) w.took))
+behind_at (AtBoolLf x) s front es c w = inr (inside_some (rules_of s) (b.Begun (rules_of s) (AtBoolLf x)) s.frames front es (token_needed (AtBoolLf x) s.bounds.depth s.frames) w (tokens_need (at s (AtBoolLf x)) 0 (length w.frames) w.bytes w.shown c (λ e. cc) (at_level w) w.took))
+behind_at AtBulkHead s front es c w = inr (inside_some (rules_of s) (b.Begun (rules_of s) AtBulkHead) s.frames front es (token_needed AtBulkHead s.bounds.depth s.frames) w (tokens_need (at s AtBulkHead) 0 (length w.frames) w.bytes w.shown c (λ e. cc) (at_level w) w.took))
+behind_at AtArrayHead s front es c w = inr (inside_some (rules_of s) (b.Begun (rules_of s) AtArrayHead) s.frames front es (token_needed AtArrayHead s.bounds.depth s.frames) w (tokens_need (at s AtArrayHead) 0 (length w.frames) w.bytes w.shown c (λ e. cc) (at_level w) w.took))
+behind_at (AtHead h) s front es c w = inr (inside_some (rules_of s) (b.Begun (rules_of s) (AtHead h)) s.frames front es (token_needed (AtHead h) s.bounds.depth s.frames) w (tokens_need (at s (AtHead h)) 0 (length w.frames) w.bytes w.shown c (λ e. cc) (at_level w) w.took))
+behind_at (InHead h n) s front es c w = inr (inside_some (rules_of s) (b.Begun (rules_of s) (InHead h n)) s.frames front es (token_needed (InHead h n) s.bounds.depth s.frames) w (tokens_need (at s (InHead h n)) 0 (length w.frames) w.bytes w.shown c (λ e. cc) (at_level w) w.took))
+behind_at (AtHeadLf h n) s front es c w = inr (inside_some (rules_of s) (b.Begun (rules_of s) (AtHeadLf h n)) s.frames front es (token_needed (AtHeadLf h n) s.bounds.depth s.frames) w (tokens_need (at s (AtHeadLf h n)) 0 (length w.frames) w.bytes w.shown c (λ e. cc) (at_level w) w.took))
+behind_at (AtFormat n) s front es c w = inr (inside_some (rules_of s) (b.Begun (rules_of s) (AtFormat n)) s.frames front es (token_needed (AtFormat n) s.bounds.depth s.frames) w (tokens_need (at s (AtFormat n)) 0 (length w.frames) w.bytes w.shown c (λ e. cc) (at_level w) w.took))
+behind_at (AtFormatSecond x n) s front es c w = inr (inside_some (rules_of s) (b.Begun (rules_of s) (AtFormatSecond x n)) s.frames front es (token_needed (AtFormatSecond x n) s.bounds.depth s.frames) w (tokens_need (at s (AtFormatSecond x n)) 0 (length w.frames) w.bytes w.shown c (λ e. cc) (at_level w) w.took))
+behind_at (AtFormatThird x y n) s front es c w = inr (inside_some (rules_of s) (b.Begun (rules_of s) (AtFormatThird x y n)) s.frames front es (token_needed (AtFormatThird x y n) s.bounds.depth s.frames) w (tokens_need (at s (AtFormatThird x y n)) 0 (length w.frames) w.bytes w.shown c (λ e. cc) (at_level w) w.took))
+behind_at (AtFormatColon format n) s front es c w = inr (inside_some (rules_of s) (b.Begun (rules_of s) (AtFormatColon format n)) s.frames front es (token_needed (AtFormatColon format n) s.bounds.depth s.frames) w (tokens_need (at s (AtFormatColon format n)) 0 (length w.frames) w.bytes w.shown c (λ e. cc) (at_level w) w.took))
+behind_at (InContent n) s front es c w = inr (inside_some (rules_of s) (b.Begun (rules_of s) (InContent n)) s.frames front es (token_needed (InContent n) s.bounds.depth s.frames) w (tokens_need (at s (InContent n)) 0 (length w.frames) w.bytes w.shown c (λ e. cc) (at_level w) w.took))
+behind_at AtContentCr s front es c w = inr (inside_some (rules_of s) (b.Begun (rules_of s) AtContentCr) s.frames front es (token_needed AtContentCr s.bounds.depth s.frames) w (tokens_need (at s AtContentCr) 0 (length w.frames) w.bytes w.shown c (λ e. cc) (at_level w) w.took))
+behind_at AtContentLf s front es c w = inr (inside_some (rules_of s) (b.Begun (rules_of s) AtContentLf) s.frames front es (token_needed AtContentLf s.bounds.depth s.frames) w (tokens_need (at s AtContentLf) 0 (length w.frames) w.bytes w.shown c (λ e. cc) (at_level w) w.took))
+behind_at AtStreamCr s front es c w = inr (inside_some (rules_of s) (b.Begun (rules_of s) AtStreamCr) s.frames front es (token_needed AtStreamCr s.bounds.depth s.frames) w (tokens_need (at s AtStreamCr) 0 (length w.frames) w.bytes w.shown c (λ e. cc) (at_level w) w.took))
+behind_at AtStreamLf s front es c w = inr (inside_some (rules_of s) (b.Begun (rules_of s) AtStreamLf) s.frames front es (token_needed AtStreamLf s.bounds.depth s.frames) w (tokens_need (at s AtStreamLf) 0 (length w.frames) w.bytes w.shown c (λ e. cc) (at_level w) w.took))
+behind_at (AtChunk room) s front es c w = inr (inside_some (rules_of s) (b.Begun (rules_of s) (AtChunk room)) s.frames front es (token_needed (AtChunk room) s.bounds.depth s.frames) w (tokens_need (at s (AtChunk room)) 0 (length w.frames) w.bytes w.shown c (λ e. cc) (at_level w) w.took))
+behind_at (InChunk room n) s front es c w = inr (inside_some (rules_of s) (b.Begun (rules_of s) (InChunk room n)) s.frames front es (token_needed (InChunk room n) s.bounds.depth s.frames) w (tokens_need (at s (InChunk room n)) 0 (length w.frames) w.bytes w.shown c (λ e. cc) (at_level w) w.took))
+behind_at (AtChunkCr room) s front es c w = inr (inside_some (rules_of s) (b.Begun (rules_of s) (AtChunkCr room)) s.frames front es (token_needed (AtChunkCr room) s.bounds.depth s.frames) w (tokens_need (at s (AtChunkCr room)) 0 (length w.frames) w.bytes w.shown c (λ e. cc) (at_level w) w.took))
+behind_at (AtChunkLf room) s front es c w = inr (inside_some (rules_of s) (b.Begun (rules_of s) (AtChunkLf room)) s.frames front es (token_needed (AtChunkLf room) s.bounds.depth s.frames) w (tokens_need (at s (AtChunkLf room)) 0 (length w.frames) w.bytes w.shown c (λ e. cc) (at_level w) w.took))
+behind_at (AtOpenCr o) s front es c w = inr (inside_some (rules_of s) (b.Begun (rules_of s) (AtOpenCr o)) s.frames front es (token_needed (AtOpenCr o) s.bounds.depth s.frames) w (tokens_need (at s (AtOpenCr o)) 0 (length w.frames) w.bytes w.shown c (λ e. cc) (at_level w) w.took))
+behind_at (AtOpenLf o) s front es c w = inr (inside_some (rules_of s) (b.Begun (rules_of s) (AtOpenLf o)) s.frames front es (token_needed (AtOpenLf o) s.bounds.depth s.frames) w (tokens_need (at s (AtOpenLf o)) 0 (length w.frames) w.bytes w.shown c (λ e. cc) (at_level w) w.took))
+
+front_or_behind : (s : Place) (front : List ℕ) (es : List e.Event) → IsSound s → Lies s front es → AtFrontOrBehind s.token s.frames front
+front_or_behind s front es c w = behind_at s.token s front es c w
+
+-- Between values.
+
+-- a scanner stands between two values exactly where no byte of a value was taken
+pub between_values : (s : Place) (front : List ℕ) (es : List e.Event) → IsSound s → Follows s front es → ((s.token ≡ AtStart) × (s.frames ≡ [])) ↔ (front ≡ [])
+between_values s front es c w = (λ h. none_taken s.token s.frames h.0 h.1 w.lies, λ e. case e (front_or_behind s front es c w.lies))
+  where
+    none_taken : (t : Token) (fs : List Frame) → t ≡ AtStart → fs ≡ [] → LiesAt (rules_of s) t fs front es → front ≡ []
+    none_taken t fs e d l = top (subst (λ x. Between (rules_of s) x front es) d (subst (λ x. LiesAt (rules_of s) x fs front es) e l))
+      where
+        top : Between (rules_of s) [] front es → front ≡ []
+        top w = none w.frames w.of_levels w.whole
+          where
+            none : (gs : List opened.Frame) → AreLevelsOf [] gs → front ≡ around gs [] → front ≡ []
+            none [] a e = e
+            none (g ∷ gs) a e = absurd a
+    case : front ≡ [] → AtFrontOrBehind s.token s.frames front → (s.token ≡ AtStart) × (s.frames ≡ [])
+    case e (inl h) = h
+    case e (inr h) = absurd (omega (arith, h, ap length e))
+
+-- and in another version, then
+pub follows_none : (s : Place) → s.token ≡ AtStart → s.frames ≡ [] → s.taken ≡ 0 → Follows s [] []
+follows_none s e d z = record { lies = subst (λ x. LiesAt (rules_of s) x s.frames [] []) (sym e) (subst (λ x. Between (rules_of s) x [] []) (sym d) (record { frames = []; begun = tt; of_levels = tt; ready = tt; whole = refl; told = refl })); taken = z }
+
+-- The end.
+
+spelled_where_none : (s : Place) (front : List ℕ) (es : List e.Event) → IsSound s → Follows s front es → needed s ≡ 0 → IsSpelled (rules_of s) front
+spelled_where_none s front es c w none =
+    let least = least_is_needed s 0 front es c w.lies in
+    let h = least.holds in
+    let empty : front ++ least.some ≡ front = ap (λ z. front ++ z) (no_bytes least.some (least.size ∙ none)) ∙ append-nil front in
+    record {
+      tree = h.tree;
+      spells = subst (Spells h.tree) empty h.spells;
+      keeps = all_rules (rules_of s) h.tree h.keeps (omega (arith, w.taken, c.total, ap length h.spells.spelled, ap length empty));
+    }
+  where
+    no_bytes : (rest : List ℕ) → length rest ≡ 0 → rest ≡ []
+    no_bytes [] e = refl
+    no_bytes (b ∷ bs) e = absurd (omega (arith, e))
+
+none_where_spelled : (s : Place) (front : List ℕ) (es : List e.Event) → IsSound s → Follows s front es → IsSpelled (rules_of s) front → needed s ≡ 0
+none_where_spelled s front es c w x =
+    let least = least_is_needed s 0 front es c w.lies in
+    let h = least.holds in
+    let u = unique x.tree h.tree least.some [] x.spells.is_tree h.spells.is_tree (ap (λ z. z ++ least.some) x.spells.spelled ∙ sym h.spells.spelled ∙ sym (append-nil (text h.tree))) in
+    sym least.size ∙ ap length u.1
+
+-- a place that follows a front was refused no byte
+alive : (s : Place) (front : List ℕ) (es : List e.Event) (c : Cause) → Lies s front es → s.token ≡ Dead c → ⊥
+alive s front es c w e = no_dead (subst (λ t. LiesAt (rules_of s) t s.frames front es) e w)
+  where
+    no_dead : Inside (rules_of s) (b.Begun (rules_of s) (Dead c)) s.frames front es → ⊥
+    no_dead x = x.took
+
+abbrev ends_by : Place → Option Cause
+ends_by s = cond (eqb s.taken 0 || eqb (needed s) 0) None (Some cause.Truncated)
+
+end_at : (t : Token) (s : Place) → ((c : Cause) → t ≡ Dead c → ⊥) → end_cause_in t s ≡ ends_by s
+end_at (Dead c) s h = absurd (h c refl)
+end_at AtStart s h = refl
+end_at AtEnd s h = refl
+end_at (InLine room) s h = refl
+end_at AtLineLf s h = refl
+end_at AtIntSign s h = refl
+end_at (AtIntFirst negative) s h = refl
+end_at (InInt negative n) s h = refl
+end_at (AtIntLf negative n) s h = refl
+end_at AtBigSign s h = refl
+end_at (AtBigFirst negative) s h = refl
+end_at (InBigZeros negative) s h = refl
+end_at AtBigZeroLf s h = refl
+end_at (AtBigDigit digit room) s h = refl
+end_at (InBig room) s h = refl
+end_at AtTextEnd s h = refl
+end_at AtNullOne s h = refl
+end_at AtNullCr s h = refl
+end_at AtNullLf s h = refl
+end_at AtBool s h = refl
+end_at (AtBoolCr x) s h = refl
+end_at (AtBoolLf x) s h = refl
+end_at AtBulkHead s h = refl
+end_at AtArrayHead s h = refl
+end_at (AtHead x) s h = refl
+end_at (InHead x n) s h = refl
+end_at (AtHeadLf x n) s h = refl
+end_at (AtFormat n) s h = refl
+end_at (AtFormatSecond x n) s h = refl
+end_at (AtFormatThird x y n) s h = refl
+end_at (AtFormatColon format n) s h = refl
+end_at (InContent n) s h = refl
+end_at AtContentCr s h = refl
+end_at AtContentLf s h = refl
+end_at AtStreamCr s h = refl
+end_at AtStreamLf s h = refl
+end_at (AtChunk room) s h = refl
+end_at (InChunk room n) s h = refl
+end_at (AtChunkCr room) s h = refl
+end_at (AtChunkLf room) s h = refl
+end_at (AtOpenCr o) s h = refl
+end_at (AtOpenLf o) s h = refl
+end_at AtCloseCr s h = refl
+end_at AtCloseLf s h = refl
+
+end_is : (s : Place) (front : List ℕ) (es : List e.Event) → Follows s front es → end_cause s ≡ ends_by s
+end_is s front es w = end_at s.token s (λ c e. alive s front es c w.lies e)
+
+-- the end is refused exactly inside a value
+pub end_told : (s : Place) (front : List ℕ) (es : List e.Event) → IsSound s → Follows s front es → (MayEnd (rules_of s) front → end_cause s ≡ None) × (end_cause s ≡ None → MayEnd (rules_of s) front) × ((c : Cause) → end_cause s ≡ Some c → c ≡ cause.Truncated)
+end_told s front es sound w = (λ m. end_is s front es w ∙ ends m, λ e. may (sym (end_is s front es w) ∙ e), λ c e. truncated c (sym (end_is s front es w) ∙ e))
+  where
+    ends : MayEnd (rules_of s) front → ends_by s ≡ None
+    ends (inl e) = let z : eqb s.taken 0 ≡ true = ap (λ n. eqb n 0) (w.taken ∙ ap length e) in ap (λ x. cond (x || eqb (needed s) 0) None (Some cause.Truncated)) z
+    ends (inr x) =
+        let z : eqb (needed s) 0 ≡ true = ap (λ n. eqb n 0) (none_where_spelled s front es sound w x) in
+        ap (λ x. cond (eqb s.taken 0 || x) None (Some cause.Truncated)) z ∙ or_true (eqb s.taken 0)
+      where
+        or_true : (x : Bool) → cond (x || true) None (Some cause.Truncated) ≡ None
+        or_true true = refl
+        or_true false = refl
+    may : ends_by s ≡ None → MayEnd (rules_of s) front
+    may e = elim (eqb s.taken 0) as (λ x. eqb s.taken 0 ≡ x → cond (x || eqb (needed s) 0) None (Some cause.Truncated) ≡ None → MayEnd (rules_of s) front) [
+      | true ↦ λ z y. inl (no_bytes front (omega (arith, w.taken, first_zero s.taken z)))
+      | false ↦ λ z y. elim (eqb (needed s) 0) as (λ x. eqb (needed s) 0 ≡ x → cond x None (Some cause.Truncated) ≡ None → MayEnd (rules_of s) front) [
+          | true ↦ λ q r. inr (spelled_where_none s front es sound w (first_zero (needed s) q))
+          | false ↦ λ q r. absurd cc
+        ] refl y
+    ] refl e
+      where
+        first_zero : (n : ℕ) → eqb n 0 ≡ true → n ≡ 0
+        first_zero n z = grind (arith, nat_tests)
+        no_bytes : (rest : List ℕ) → length rest ≡ 0 → rest ≡ []
+        no_bytes [] e = refl
+        no_bytes (b ∷ bs) e = absurd (omega (arith, e))
+    truncated : (c : Cause) → ends_by s ≡ Some c → c ≡ cause.Truncated
+    truncated c e = elim (eqb s.taken 0 || eqb (needed s) 0) as (λ x. cond x None (Some cause.Truncated) ≡ Some c → c ≡ cause.Truncated) [ | true ↦ λ y. absurd cc | false ↦ λ y. cc ] e
+
+-- Version and limits stay.
+
+abbrev AreRules : Rules → Out → Type 0
+AreRules r (More n t) = rules_of t ≡ r
+AreRules r (Gave n e t) = rules_of t ≡ r
+AreRules r (Part k n t) = rules_of t ≡ r
+AreRules r (scan.Whole t) = rules_of t ≡ r
+AreRules r (Bad n c t) = rules_of t ≡ r
+
+kept_rules : (s : Place) (o : Out) → IsOut s o → AreRules (rules_of s) (stepped o)
+kept_rules s (More n t) h = h.rules
+kept_rules s (Gave n e t) h = h.0.rules
+kept_rules s (Part k n t) h = h.rules
+kept_rules s (scan.Whole t) h = h.2
+kept_rules s (Bad n c t) h = h.0.rules
+
+part_rules : (x : Bool) (n : ℕ) (q : List ℕ) (r : Rules) (t : Place) → AreRules r (heard_part x n q t) → rules_of t ≡ r
+part_rules true n q r t h = h
+part_rules false n q r t h = h
+
+event_rules : (n : ℕ) (x : Option Event) (r : Rules) (t : Place) → AreRules r (heard_event n x t) → rules_of t ≡ r
+event_rules n None r t h = h
+event_rules n (Some event.Null) r t h = h
+event_rules n (Some (event.Bool v)) r t h = h
+event_rules n (Some (event.Int i)) r t h = h
+event_rules n (Some (event.Text k)) r t h = h
+event_rules n (Some (event.Part q)) r t h = part_rules (eqb n 0) n q.now r t h
+event_rules n (Some event.TextEnd) r t h = h
+event_rules n (Some (event.Open k m)) r t h = h
+event_rules n (Some event.Close) r t h = h
+event_rules n (Some event.Done) r t h = h
+
+result_rules : (u : ℕ) (result : Result Step Fault) (r : Rules) (t : Place) → AreRules r (heard u result t) → rules_of t ≡ r
+result_rules u (Ok step) r t h = event_rules step.used step.event r t h
+result_rules u (Err fault) r t h = h
+
+pub rules_stay : (result : Result Step Fault) (s t : Place) (p : List ℕ) → IsSound s → heard s.taken result t ≡ stepped (advanced s p) → rules_of t ≡ rules_of s
+rules_stay result s t p sound h = result_rules s.taken result (rules_of s) t (subst (AreRules (rules_of s)) (sym h) (kept_rules s (advanced s p) (is_advanced s p sound)))
+
+pub is_faulted : (result : Result Step Fault) (t : Place) → IfErr result (λ fault. (fault.at ≡ t.taken) × (t.token ≡ Dead fault.cause)) → IfErr result (IsFaulted t)
+is_faulted (Ok step) t h = tt
+is_faulted (Err fault) t h = (h.1, sym h.0)
+
+-- The calls' results.
+
+-- bytes are numbers below 256
+pub is_text : (p : List ℕ) → ((i : ℕ) → get_or p i 0 < 256) → IsText p
+is_text [] h = tt
+is_text (b ∷ bs) h = (h 0, is_text bs (λ i. h (suc i)))
+
+pub finishes : (result : Result (Unit {0}) Fault) (s : Place) (front : List ℕ) (es : List e.Event) → IsSound s → OnOk result (end_cause s ≡ None) → IfErr result (λ fault. (end_cause s ≡ Some fault.cause) × (fault.at ≡ s.taken)) → Follows s front es → IsOk result ↔ MayEnd (rules_of s) front
+finishes (Ok x) s front es sound ok err w = (λ h. (end_told s front es sound w).1 ok, λ m. refl)
+finishes (Err fault) s front es sound ok err w = (λ h. absurd (false≢true h), λ m. absurd (let z : None ≡ Some fault.cause = sym ((end_told s front es sound w).0 m) ∙ err.0 in cc))
+
+pub truncated_at : (result : Result (Unit {0}) Fault) (s : Place) (front : List ℕ) (es : List e.Event) → IsSound s → IfErr result (λ fault. (end_cause s ≡ Some fault.cause) × (fault.at ≡ s.taken)) → Follows s front es → IfErr result (λ fault. (fault.cause ≡ cause.Truncated) × (fault.at ≡ length front))
+truncated_at (Ok x) s front es sound err w = tt
+truncated_at (Err fault) s front es sound err w = ((end_told s front es sound w).2 fault.cause err.0, err.1 ∙ w.taken)
+
+pub may_change : (result : Result (Unit {0}) Busy) (s : Place) (front : List ℕ) (es : List e.Event) → IsSound s → (IsOk result ↔ ((s.token ≡ AtStart) × (s.frames ≡ []))) → Follows s front es → IsOk result ↔ (front ≡ [])
+may_change result s front es sound between w = (λ h. (between_values s front es sound w).0 (between.0 h), λ e. between.1 ((between_values s front es sound w).1 e))
+
+pub changed : (result : Result (Unit {0}) Busy) (s t : Place) (version : Version) (front : List ℕ) (es : List e.Event) → IsSound s → (IsOk result ↔ ((s.token ≡ AtStart) × (s.frames ≡ []))) → OnOk result (t ≡ record s { version = version }) → Follows s front es → OnOk result (Follows t [] [])
+changed (Ok x) s t version front es sound between is w =
+    let h = between.0 refl in
+    let none : s.taken ≡ 0 = w.taken ∙ ap length ((between_values s front es sound w).0 h) in
+    subst (λ z. Follows z [] []) (sym is) (follows_none (record s { version = version }) h.0 h.1 none)
+changed (Err x) s t version front es sound between is w = tt
