@@ -1,8 +1,7 @@
 -- Behind a whole value within open aggregates, and behind the last member of one of them.
 use Rattle.std.proofs.Common.{◌≡◌, ℕ, suc, ◌+◌, ◌≤◌, List, [], ◌∷◌, ◌++◌, length, refl, sym, ap, subst, ◌∙◌, arith, append_assoc, length-append}
 use Rattle.resp_value.specs.Bytes.{crlf}
-use Rattle.resp_value.specs.LocalRules.{HoldsFrom, LeafKeeps, LeafRule, NodeKeeps, NodeRule}
-use Rattle.resp_value.specs.Rules.{Rules, WithinItems}
+use Rattle.resp_value.specs.LocalRules.{HoldsFrom, LeafRule, NodeRule}
 use Rattle.resp_value.specs.Trees.{Counted, Form, HasMembers, IsTree, Simple, Streamed, Tree, close, count, form_line, kind_byte, line, node, text, texts}
 use Rattle.resp_value.proofs.FirstBytes.{byte_at_start}
 use Rattle.resp_value.proofs.Unique.{not_close, unique}
@@ -11,10 +10,8 @@ use Rattle.resp_follow.specs.LeastCompletions.{HasLeast}
 use Rattle.resp_follow.specs.MayFollow.{CanAllEnd, IsWholeText, MayFollowFrames, MayFollowValue, frames_needed, missing}
 use Rattle.resp_follow.proofs.BetweenValues.{ready_open}
 use Rattle.resp_follow.proofs.Composition.{around-append, compose, determine, first_member, member_rest}
-use Rattle.resp_follow.proofs.KeptNodes.{shortest_keeps}
 use Rattle.resp_follow.proofs.LeastAround.{after_least, are_kept, are_open, text_least}
 use Rattle.resp_follow.proofs.Levels.{AreLevelsOf, AreReady, Level, taken}
-use Rattle.resp_follow.proofs.RefusedFronts.{CompletesFront}
 
 -- a text's first byte is no `.`
 text_no_stop : (t : Tree) (c : List ℕ) → byte_at_start (text t ++ c) ≡ 46 → ⊥

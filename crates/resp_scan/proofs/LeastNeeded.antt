@@ -1,36 +1,30 @@
 -- What a place needs is the least that completes what has come, and so what has come is viable.
-use Rattle.std.specs.Prelude.{Bool, true, false, cond, eqb, ◌%◌}
-use Rattle.std.proofs.lemmas.Bool.Decides.{nat_tests}
-use Rattle.std.proofs.Common.{◌≡◌, ℕ, ◌+◌, ◌-◌, ◌*◌, ◌<◌, ◌≤◌, List, [], ◌∷◌, ◌++◌, length, refl, sym, ap, subst, ◌∙◌, arith, append-nil}
+use Rattle.std.proofs.Common.{◌≡◌, ℕ, ◌+◌, List, [], ◌∷◌, length, refl, sym, ap, subst, ◌∙◌, arith}
 use Rattle.resp_value.specs.LocalRules.{LeafKeeps, NodeKeeps}
 use Rattle.resp_value.specs.Rules.{Rules, WithinItems}
 use Rattle.resp_value.specs.Trees.{leaf, text}
 use Rattle.resp_follow.specs.Events.{Event}
 use Rattle.resp_follow.specs.Frames.{around}
 use Rattle.resp_follow.specs.LeastCompletions.{HasLeast, IsLeast}
-use Rattle.resp_follow.specs.MayFollow.{IsWholeText, frames_needed}
-use Rattle.resp_follow.proofs.BetweenValues.{between_least, between_needed}
+use Rattle.resp_follow.specs.MayFollow.{frames_needed}
+use Rattle.resp_follow.proofs.BetweenValues.{between_least}
 use Rattle.resp_follow.proofs.FrontLaws.{least_continues, viable_in_all}
 use Rattle.resp_follow.proofs.KeptNodes.{shortest_keeps}
-use Rattle.resp_follow.proofs.Levels.{AreLevelsOf, levels_needed, levels_needed_is, shape_needed}
+use Rattle.resp_follow.proofs.Levels.{AreLevelsOf, levels_needed_is}
 use Rattle.resp_follow.proofs.RefusedFronts.{CompletesFront}
 use Rattle.resp_follow.proofs.WholeValues.{closing_least, whole_least}
 use Rattle.resp_follow.specs.Frames as opened
 use Rattle.resp_scan.specs.declared.event.OpenKind.{OpenKind}
-use Rattle.resp_scan.specs.declared.event.OpenKind.TheVariants as kind
 use Rattle.resp_scan.specs.declared.frame.Frame.{Frame}
-use Rattle.resp_scan.specs.declared.frame.Shape.{Shape}
-use Rattle.resp_scan.specs.declared.frame.Shape.TheVariants.{Left, Begun}
-use Rattle.resp_scan.specs.Tokens.{Token, Place, AtStart, AtEnd, InLine, AtLineLf, AtIntSign, AtIntFirst, InInt, AtIntLf, AtBigSign, AtBigFirst, InBigZeros, AtBigZeroLf, AtBigDigit, InBig, AtTextEnd, AtNullOne, AtNullCr, AtNullLf, AtBool, AtBoolCr, AtBoolLf, AtBulkHead, AtArrayHead, AtHead, InHead, AtHeadLf, AtFormat, AtFormatSecond, AtFormatThird, AtFormatColon, InContent, AtContentCr, AtContentLf, AtStreamCr, AtStreamLf, AtChunk, InChunk, AtChunkCr, AtChunkLf, AtOpenCr, AtOpenLf, AtCloseCr, AtCloseLf, Dead, at}
-use Rattle.resp_scan.specs.Kinds.{kind_of, rules_of}
+use Rattle.resp_scan.specs.Tokens.{Token, Place, AtStart, AtEnd, AtTextEnd, AtCloseCr, AtCloseLf, at}
+use Rattle.resp_scan.specs.Kinds.{rules_of}
 use Rattle.resp_scan.specs.Begun as b
 use Rattle.resp_scan.specs.Begun.{TextWhole}
-use Rattle.resp_scan.specs.Follows.{Between, Closing, ClosingIn, Ended, HaveBegun, Inside, Lies, LiesAt, Whole, busy_levels, waiting, waiting_levels}
-use Rattle.resp_scan.specs.Sound.{Fits, IsClosed, IsSoundBy, frame_owed, frames_owed, needed, start_needed, token_needed}
+use Rattle.resp_scan.specs.Follows.{Between, Closing, ClosingIn, Ended, HaveBegun, Inside, LiesAt, Whole, busy_levels, waiting_levels}
+use Rattle.resp_scan.specs.Sound.{IsClosed, IsSoundBy, frame_owed, frames_owed, needed, start_needed, token_needed}
 use Rattle.resp_scan.specs.Laws.{LeastIsNeeded, FollowedIsViable}
 use Rattle.resp_scan.proofs.Begins.{is_between}
-use Rattle.resp_scan.proofs.Moves.{at_level}
-use Rattle.resp_scan.proofs.RefusedMoves.{frames_needed_is, inside_least}
+use Rattle.resp_scan.proofs.RefusedMoves.{frames_needed_is, inside_least, waiting_needed}
 use Rattle.resp_scan.proofs.Rows.{tokens_need}
 
 -- what completes a front by texts continues it
@@ -38,18 +32,6 @@ least_by_texts : (r : Rules) (front others : List ℕ) (m n : ℕ) → front ≡
 least_by_texts r front others m n e i l = least_continues r WithinItems front n (omega arith) (subst (λ z. HasLeast (CompletesFront r WithinItems z) n) (sym e) (subst (HasLeast (CompletesFront r WithinItems others)) i l))
 
 -- Between values.
-
-waiting_needed : (k : OpenKind) (shape : Shape) → shape_needed (kind_of k) (waiting shape) ≡ frame_owed k shape
-waiting_needed k (Left n) = omega arith
-waiting_needed kind.Array (Begun n) = refl
-waiting_needed kind.Set (Begun n) = refl
-waiting_needed kind.Map (Begun n) =
-    elim (eqb (n % 2) 0) as (λ x. eqb (n % 2) 0 ≡ x → 3 * (n % 2) + 3 ≡ cond x 3 6) [
-      | true ↦ λ z. let even : n % 2 ≡ 0 = grind (arith, nat_tests) in omega (arith, even)
-      | false ↦ λ z. let odd : 0 < n % 2 = grind (arith, nat_tests) in omega (arith, odd)
-    ] refl
-waiting_needed kind.Attr (Begun n) = refl
-waiting_needed kind.Push (Begun n) = refl
 
 between_is_least : (r : Rules) (fs : List Frame) (front : List ℕ) (es : List Event) → Between r fs front es → IsLeast r front (start_needed fs + frames_owed fs)
 between_is_least r [] front es w = least_by_texts r front front _ 3 refl (omega arith) (between_least r [] front (is_between r [] front es w))

@@ -22,7 +22,7 @@ use Rattle.resp_scan.specs.Tokens.{Move, Place, Refuse}
 use Rattle.resp_scan.specs.Room.{fits, over_total}
 use Rattle.resp_scan.specs.Machine.{unless}
 use Rattle.resp_scan.specs.Kinds.{IsRefusedFor, kind_of, rules_of}
-use Rattle.resp_scan.specs.Follows.{Counts, HasBegun, HaveBegun, Inside, Leads, busy, busy_levels}
+use Rattle.resp_scan.specs.Follows.{Counts, HasBegun, HaveBegun, Inside, Leads, busy, busy_levels, waiting}
 use Rattle.resp_scan.specs.Sound.{frame_owed, frames_owed}
 use Rattle.resp_scan.proofs.Moves.{Tells, follows_by, length-busy}
 
@@ -32,19 +32,28 @@ level_is fs level e = e ∙ length-busy fs
 
 -- What the frames need.
 
-shape_needed_is : (k : OpenKind) (s : Shape) → HasBegun s → l.shape_needed (kind_of k) (l.shape_after (busy s)) ≡ frame_owed k s
-shape_needed_is k (Left n) h = let e : 3 * (n + 1 - 1) ≡ n * 3 = omega arith in e
-shape_needed_is kind.Map (Begun n) h =
-    let e : n - 1 + 1 ≡ n = omega arith in
-    ap (λ m. 3 * (m % 2) + 3) e ∙ elim (eqb (n % 2) 0) as (λ x. eqb (n % 2) 0 ≡ x → 3 * (n % 2) + 3 ≡ cond x 3 6) [
+-- a frame where no member is open needs what it owes
+pub waiting_needed : (k : OpenKind) (s : Shape) → l.shape_needed (kind_of k) (waiting s) ≡ frame_owed k s
+waiting_needed k (Left n) = omega arith
+waiting_needed kind.Map (Begun n) =
+    elim (eqb (n % 2) 0) as (λ x. eqb (n % 2) 0 ≡ x → 3 * (n % 2) + 3 ≡ cond x 3 6) [
       | true ↦ λ z. let even : n % 2 ≡ 0 = grind (arith, nat_tests) in omega (arith, even)
       | false ↦ λ z. let odd : 0 < n % 2 = grind (arith, nat_tests) in omega (arith, odd)
     ] refl
-shape_needed_is kind.Array (Begun n) h = refl
-shape_needed_is kind.Set (Begun n) h = refl
-shape_needed_is kind.Attr (Begun n) h = refl
-shape_needed_is kind.Push (Begun n) h = refl
+waiting_needed kind.Array (Begun n) = refl
+waiting_needed kind.Set (Begun n) = refl
+waiting_needed kind.Attr (Begun n) = refl
+waiting_needed kind.Push (Begun n) = refl
 
+-- once its open member is whole none is open
+after_busy : (s : Shape) → HasBegun s → l.shape_after (busy s) ≡ waiting s
+after_busy (Left n) h = ap l.left (omega arith)
+after_busy (Begun n) h = ap l.taken (omega (arith, h))
+
+shape_needed_is : (k : OpenKind) (s : Shape) → HasBegun s → l.shape_needed (kind_of k) (l.shape_after (busy s)) ≡ frame_owed k s
+shape_needed_is k s h = ap (l.shape_needed (kind_of k)) (after_busy s h) ∙ waiting_needed k s
+
+-- frames in each of which a member is open need what they owe
 pub frames_needed_is : (fs : List Frame) → HaveBegun fs → l.levels_needed (busy_levels fs) ≡ frames_owed fs
 frames_needed_is [] h = refl
 frames_needed_is (f ∷ fs) h = omega (arith, shape_needed_is f.kind f.shape h.0, frames_needed_is fs h.1)

@@ -1,7 +1,7 @@
 -- What each token inside a value needs is the least that completes its bytes.
-use Rattle.std.specs.Prelude.{Bool, true, false, cond, eqb, nat_le}
+use Rattle.std.specs.Prelude.{Bool, true, false, cond, eqb}
 use Rattle.std.proofs.lemmas.Bool.Decides.{nat_tests}
-use Rattle.std.proofs.Common.{◌≡◌, ℕ, ◌+◌, ◌-◌, ◌*◌, ◌<◌, ◌≤◌, List, [], ◌∷◌, ◌++◌, length, refl, sym, ap, subst, ◌∙◌, arith}
+use Rattle.std.proofs.Common.{◌≡◌, ℕ, ◌+◌, ◌-◌, ◌*◌, ◌≤◌, List, [], ◌∷◌, length, refl, sym, subst, arith}
 use Rattle.resp_value.specs.Bounds.{AreBounds}
 use Rattle.resp_value.specs.Data as d
 use Rattle.resp_value.specs.Numbers.{Unsigned}
@@ -10,7 +10,6 @@ use Rattle.resp_value.specs.Trees as t
 use Rattle.resp_value.specs.Trees.{StringKind, null, numeral, payload, truth}
 use Rattle.resp_follow.specs.Events.{Event}
 use Rattle.resp_follow.proofs.BegunFronts.{IsBegunBy}
-use Rattle.resp_follow.proofs.BegunTypeBytes.{attribute_begun}
 use Rattle.resp_follow.proofs.ChunkTokens.{chunk_mark_begun, chunks_begun, stream_returned_begun}
 use Rattle.resp_follow.proofs.ContentTokens.{content_begun, content_returned_begun}
 use Rattle.resp_follow.proofs.FirstLineRows.{zeros}
@@ -23,7 +22,7 @@ use Rattle.resp_scan.specs.Tokens.{Token, Place, AtStart, AtEnd, InLine, AtLineL
 use Rattle.resp_scan.specs.Heads.{first_needed, head_needed}
 use Rattle.resp_scan.specs.Kinds.{kind_of, rules_of}
 use Rattle.resp_scan.specs.Begun.{Begun, ContentBegun, FormatBegun, HeadBegun, HeadCounts, HeadReturned}
-use Rattle.resp_scan.specs.Sound.{Fits, IsSoundBy, token_needed}
+use Rattle.resp_scan.specs.Sound.{Fits, token_needed}
 use Rattle.resp_scan.specs.Laws.{TokensNeed}
 use Rattle.resp_scan.proofs.BigNumbersLead.{row_of, shown_row}
 use Rattle.resp_scan.proofs.ChunkContentLead as chunk
@@ -37,7 +36,7 @@ use Rattle.resp_scan.proofs.LiteralsLead.{null_first_row}
 use Rattle.resp_scan.proofs.NumbersLead.{begun_row, int_row}
 use Rattle.resp_scan.proofs.OpensLead as opens
 use Rattle.resp_scan.proofs.StartLeads.{aggregate_row_of_attr, star_row}
-use Rattle.resp_scan.proofs.StringHeads.{IsStringHead, bulk, bulk_error, verbatim}
+use Rattle.resp_scan.proofs.StringHeads.{bulk, bulk_error, verbatim}
 use Rattle.resp_scan.proofs.StringLengthEndsLead as string
 
 -- as many bytes under another name
