@@ -101,7 +101,7 @@ impl Scanner {
         ensures ok { OnOk result (end_cause self.now ≡ None) }
         ensures err { IfErr result (λ fault. (end_cause self.now ≡ Some fault.cause) × (fault.at ≡ self.now.taken)) }
     {
-        let at = self.machine.taken;
+        let at = self.taken();
         match self.machine.state {
             State::Failed => Err(Fault {
                 cause: self.machine.cause,
