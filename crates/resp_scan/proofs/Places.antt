@@ -1,5 +1,5 @@
 -- What a token says of the machine's fields.
-use Rattle.std.proofs.Common.{◌≡◌, ◌≢◌, ℕ, ◌+◌, ◌*◌, ◌^◌, ◌<◌, ◌≤◌, true, eqb, List, [], ◌∷◌, length, Option, Some, refl, ap, subst, ◌∙◌, arith}
+use Rattle.std.proofs.Common.{◌≡◌, ◌≢◌, ℕ, ◌+◌, ◌*◌, ◌^◌, ◌<◌, ◌≤◌, true, eqb, List, [], ◌∷◌, length, Some, refl, ap, subst, ◌∙◌, arith}
 use Rattle.std.proofs.lemmas.Bool.{false≢true}
 use Rattle.std.proofs.lemmas.Bool.Decides.{nat_tests}
 use Rattle.resp_scan.specs.declared.frame.Frame.{Frame}
@@ -14,7 +14,7 @@ use Rattle.resp_scan.specs.Heads.{head_needed, may_end, HasFrame}
 use Rattle.resp_scan.specs.Room.{begun_count, innermost}
 use Rattle.resp_scan.specs.Machine.{may_close}
 use Rattle.resp_scan.specs.Said.{place, token_at}
-use Rattle.resp_scan.specs.Sound.{IsOpen, IsOpenShape, frame_owed, frames_owed, IsSound, AreCounted, token_needed}
+use Rattle.resp_scan.specs.Sound.{HasRoom, IsOpen, IsOpenShape, frame_owed, frames_owed, IsSound, AreCounted, token_needed}
 use Rattle.resp_scan.proofs.Sound.{cond_if, head_more, closes_three}
 
 -- the place of a machine whose state is known
@@ -51,7 +51,10 @@ pub first_frame : (m : Machine) → IsSound (place m) → m.state ≡ state.Head
 first_frame m h e = let k = there m state.HeadFirst h e in λ o. let l : length (place m).frames < m.limits.depth = k.token o in omega (arith, l, k.bounds.depth_in_range.1)
 
 pub more_frame : (m : Machine) → IsSound (place m) → m.state ≡ state.HeadMore → HasFrame (place m) m.head
-more_frame m h e = let k = there m state.HeadMore h e in λ o. let l : length (place m).frames < m.limits.depth = k.token o in omega (arith, l, k.bounds.depth_in_range.1)
+more_frame m h e = let k = there m state.HeadMore h e in λ o. let l : length (place m).frames < m.limits.depth = k.token.0 o in omega (arith, l, k.bounds.depth_in_range.1)
+
+pub more_room : (m : Machine) → IsSound (place m) → m.state ≡ state.HeadMore → HasRoom m.head m.count
+more_room m h e = (there m state.HeadMore h e).token.1
 
 pub more_owed : (m : Machine) → IsSound (place m) → m.state ≡ state.HeadMore → m.owed + head_needed m.head m.count ≤ 2 ^ 41
 more_owed m h e = omega (arith, few_needed m state.HeadMore h e)
@@ -80,8 +83,11 @@ format_first_few m h e = omega (arith, few_needed m state.FormatFirst h e)
 pub format_second_few : (m : Machine) → IsSound (place m) → m.state ≡ state.FormatSecond → m.count + 1 ≤ 2 ^ 40
 format_second_few m h e = omega (arith, few_needed m state.FormatSecond h e)
 
+pub lf_room : (m : Machine) → IsSound (place m) → m.state ≡ state.HeadLf → HasRoom m.head m.count
+lf_room m h e = (there m state.HeadLf h e).token.1
+
 pub lf_ends : (m : Machine) → IsSound (place m) → m.state ≡ state.HeadLf → may_end m.head m.count ≡ true
-lf_ends m h e = (there m state.HeadLf h e).token.1
+lf_ends m h e = (there m state.HeadLf h e).token.2
 
 pub first_four : (m : Machine) → IsSound (place m) → m.state ≡ state.FormatFirst → 4 ≤ m.count
 first_four m h e = (there m state.FormatFirst h e).token

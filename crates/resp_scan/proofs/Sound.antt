@@ -20,7 +20,7 @@ use Rattle.resp_scan.specs.Room.{fits, over_total, is_full, begun, begun_in, beg
 use Rattle.resp_scan.specs.Heads.{most_counted, counted_cause, over, first_needed, head_needed, may_end, streamed_kind, by_version, string_cause, aggregate_cause, opened, opened_streamed, content_at, chunk_at, counted}
 use Rattle.resp_scan.specs.Machine.{unless, wants, is_digit, int_digit, int_first, big_digit, big_first, content_byte, open_streamed, head_digit, head_first, bulk_head, array_head, begins, line_begins, aggregate_begins, push_begins, in_three, may_close, may_close_of, closing, start_three, start_next, without_first, next_in}
 use Rattle.resp_scan.specs.Kinds.{rules_of}
-use Rattle.resp_scan.specs.Sound.{owed_streamed, start_needed, frame_owed, frames_owed, token_needed, AreCounted, IsOpenShape, IsOpen, IsClosed, HasLevel, Fits, IsSoundBy}
+use Rattle.resp_scan.specs.Sound.{owed_streamed, start_needed, frame_owed, frames_owed, token_needed, AreCounted, IsOpenShape, IsOpen, IsClosed, HasLevel, HasRoom, Fits, IsSoundBy}
 
 pub cond_if : {A : Type 0} (P : A → Type 0) (b : Bool) (x y : A) → (b ≡ true → P x) → (b ≡ false → P y) → P (cond b x y)
 cond_if P true x y f g = f refl
@@ -321,10 +321,21 @@ head_more head.Push n = omega arith
 head_some : (h : Head) (n : ℕ) → 0 < head_needed h n
 head_some h n = omega (arith, head_more h n)
 
+room_of : (s : Place) (x : Head) (n : ℕ) → nat_lt (most_counted s x) n ≡ false → HasRoom x n
+room_of s (head.Chunk room) n e = grind (arith, nat_tests)
+room_of s head.Bulk n e = tt
+room_of s head.BulkError n e = tt
+room_of s head.Verbatim n e = tt
+room_of s head.Array n e = tt
+room_of s head.Set n e = tt
+room_of s head.Map n e = tt
+room_of s head.Attr n e = tt
+room_of s head.Push n e = tt
+
 is_head_digit : (s : Place) (t : Token) (i : ℕ) (x : Head) (n : ℕ) → IsSoundBy i (at s t) → HasLevel x s.bounds.depth s.frames → IsMove (i + 1) s (head_digit s (i + 1) x n)
 is_head_digit s t i x n h l = unless_is (i + 1) s (over s (i + 1) x n) _ (λ c.
     let z = none_else (nat_lt (most_counted s x) n) (counted_cause x) (over_total s (i + 1) (head_needed x n)) c in
-    within_total s t (InHead x n) i (head_needed x n) h (total_room s (i + 1) (head_needed x n) z.1 (head_some x n)) (omega arith) l refl)
+    within_total s t (InHead x n) i (head_needed x n) h (total_room s (i + 1) (head_needed x n) z.1 (head_some x n)) (omega arith) (l, room_of s x n z.0) refl)
 
 is_open_streamed : (s : Place) (t : Token) (i : ℕ) (o : Option OpenKind) → IsSoundBy i (at s t) → IsMove (i + 1) s (open_streamed s (i + 1) o)
 is_open_streamed s t i None h = tt
@@ -483,9 +494,9 @@ is_move AtBulkHead s i b h g = is_bulk_head s i b h
 is_move AtArrayHead s i b h g = is_array_head s i b h
 is_move (AtHead x) s i b h g = is_head_first s (AtHead x) i x b h h.token
 is_move (InHead x n) s i b h g =
-    cond_if (IsMove (i + 1) s) (is_digit b) _ _ (λ e. is_head_digit s (InHead x n) i x (n * 10 + (b - 48)) h h.token) (λ e.
-    cond_if (IsMove (i + 1) s) (may_end x n) _ _ (λ f. wants_is (i + 1) s 13 b _ (less s (InHead x n) (AtHeadLf x n) i h (omega (arith, head_some x n)) (h.token, f) refl)) (λ f. tt))
-is_move (AtHeadLf x n) s i b h g = wants_is (i + 1) s 10 b _ (is_counted s x n i h h.token.0 h.token.1)
+    cond_if (IsMove (i + 1) s) (is_digit b) _ _ (λ e. is_head_digit s (InHead x n) i x (n * 10 + (b - 48)) h h.token.0) (λ e.
+    cond_if (IsMove (i + 1) s) (may_end x n) _ _ (λ f. wants_is (i + 1) s 13 b _ (less s (InHead x n) (AtHeadLf x n) i h (omega (arith, head_some x n)) (h.token.0, h.token.1, f) refl)) (λ f. tt))
+is_move (AtHeadLf x n) s i b h g = wants_is (i + 1) s 10 b _ (is_counted s x n i h h.token.0 h.token.2)
 is_move (AtFormat n) s i b h g = less s (AtFormat n) (AtFormatSecond b n) i h (omega arith) h.token refl
 is_move (AtFormatSecond x n) s i b h g = less s (AtFormatSecond x n) (AtFormatThird x b n) i h (omega arith) h.token refl
 is_move (AtFormatThird x y n) s i b h g = let f : 4 ≤ n = h.token in less s (AtFormatThird x y n) (AtFormatColon (x ∷ y ∷ b ∷ []) n) i h (omega (arith, f)) f refl

@@ -1,5 +1,5 @@
 -- The room that the limits leave.
-use Rattle.std.specs.Prelude.{ℕ, ◌<◌, ◌^◌, ◌+◌, ◌-◌, ◌/◌, ◌%◌, Bool, false, ◌&&◌, cond, eqb, nat_le, List, [], ◌∷◌, length, Option, None, Some}
+use Rattle.std.specs.Prelude.{ℕ, ◌+◌, ◌-◌, ◌/◌, ◌%◌, Bool, false, ◌&&◌, cond, eqb, nat_le, List, [], ◌∷◌, length, Option, None, Some}
 use Rattle.resp_value.specs.declared.cause.Cause.{Cause}
 use Rattle.resp_value.specs.declared.cause.Cause.TheVariants as cause
 use Rattle.resp_scan.specs.declared.event.OpenKind.{OpenKind}
@@ -77,15 +77,6 @@ begun_count (Begun n) = n
 abbrev pub reshaped : Shape → List Frame → List Frame
 reshaped shape [] = []
 reshaped shape (f ∷ fs) = record f { shape = shape } ∷ fs
-
--- the innermost frame's members are few enough to count one more, and what is owed is
-abbrev pub top_begun : List Frame → ℕ
-top_begun [] = 0
-top_begun (f ∷ fs) = begun_count f.shape
-
-pub record IsRoomy (s : Place) : Type 0 where
-  pub owed : s.owed < 2 ^ 62
-  pub counted : top_begun s.frames < 2 ^ 62
 
 abbrev pub innermost : List Frame → Option Frame
 innermost [] = None

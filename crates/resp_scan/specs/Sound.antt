@@ -7,6 +7,7 @@ use Rattle.resp_scan.specs.declared.frame.Frame.{Frame}
 use Rattle.resp_scan.specs.declared.frame.Shape.{Shape}
 use Rattle.resp_scan.specs.declared.frame.Shape.TheVariants.{Left, Begun}
 use Rattle.resp_scan.specs.declared.machine.Head.{Head}
+use Rattle.resp_scan.specs.declared.machine.Head.TheVariants as head
 use Rattle.resp_scan.specs.Magnitudes.{most}
 use Rattle.resp_scan.specs.Tokens.{Token, Place, AtStart, AtEnd, InLine, AtLineLf, AtIntSign, AtIntFirst, InInt, AtIntLf, AtBigSign, AtBigFirst, InBigZeros, AtBigZeroLf, AtBigDigit, InBig, AtTextEnd, AtNullOne, AtNullCr, AtNullLf, AtBool, AtBoolCr, AtBoolLf, AtBulkHead, AtArrayHead, AtHead, InHead, AtHeadLf, AtFormat, AtFormatSecond, AtFormatThird, AtFormatColon, InContent, AtContentCr, AtContentLf, AtStreamCr, AtStreamLf, AtChunk, InChunk, AtChunkCr, AtChunkLf, AtOpenCr, AtOpenLf, AtCloseCr, AtCloseLf, Dead}
 use Rattle.resp_scan.specs.Room.{begun_count}
@@ -114,6 +115,18 @@ IsClosed (f ∷ fs) = f.shape ≡ Left 0
 abbrev pub HasLevel : Head → ℕ → List Frame → Type 0
 HasLevel h depth fs = opens h ≡ true → length fs < depth
 
+-- a chunk has no more bytes than length leaves
+abbrev pub HasRoom : Head → ℕ → Type 0
+HasRoom (head.Chunk room) n = n ≤ room
+HasRoom head.Bulk n = Unit {0}
+HasRoom head.BulkError n = Unit {0}
+HasRoom head.Verbatim n = Unit {0}
+HasRoom head.Array n = Unit {0}
+HasRoom head.Set n = Unit {0}
+HasRoom head.Map n = Unit {0}
+HasRoom head.Attr n = Unit {0}
+HasRoom head.Push n = Unit {0}
+
 abbrev pub Fits : Token → ℕ → List Frame → Type 0
 Fits AtStart depth fs = IsOpen fs
 Fits AtEnd depth fs = IsClosed fs
@@ -139,8 +152,8 @@ Fits (AtBoolLf v) depth fs = Unit {0}
 Fits AtBulkHead depth fs = Unit {0}
 Fits AtArrayHead depth fs = Unit {0}
 Fits (AtHead h) depth fs = HasLevel h depth fs
-Fits (InHead h n) depth fs = HasLevel h depth fs
-Fits (AtHeadLf h n) depth fs = HasLevel h depth fs × (may_end h n ≡ true)
+Fits (InHead h n) depth fs = HasLevel h depth fs × HasRoom h n
+Fits (AtHeadLf h n) depth fs = HasLevel h depth fs × HasRoom h n × (may_end h n ≡ true)
 Fits (AtFormat n) depth fs = 4 ≤ n
 Fits (AtFormatSecond x n) depth fs = 4 ≤ n
 Fits (AtFormatThird x y n) depth fs = 4 ≤ n

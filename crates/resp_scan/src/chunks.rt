@@ -61,14 +61,15 @@ impl Machine {
     /// Behind a chunk's head: its content, or the text's end where it has none.
     #[inline]
     pub fn chunk_begins(&mut self, piece: &[u8], i: usize, count: u64, room: u64) -> Got
-        requires { i ≤ length piece.now }
+        requires within { i ≤ length piece.now }
+        requires room { count ≤ room }
         ensures ends { count ≡ 0 → said result self.new ≡ Gave i TextEnd (ended (place self.old)) }
         ensures begins { 0 < count → said result self.new ≡ scan i (at (place self.old) (InChunk (room - count) count)) (drop i piece.now) }
     {
         if count == 0 {
             return self.ended(i, What::TextEnd);
         }
-        self.room = room.saturating_sub(count);
+        self.room = room - count;
         self.count = count;
         self.chunk_content(piece, i)
     }

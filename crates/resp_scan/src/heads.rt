@@ -14,6 +14,7 @@ impl Machine {
     ghost use Rattle.resp_scan.specs.Tokens.{at, AtBulkHead, AtArrayHead, AtHead, InHead, AtHeadLf};
     ghost use Rattle.resp_scan.specs.Heads.{over, string_cause, aggregate_cause, HasFrame};
     ghost use Rattle.resp_scan.specs.Machine.{full_cause};
+    ghost use Rattle.resp_scan.specs.Sound.{HasRoom};
 
     /// Behind `$`: a number, `-1` for the null, or `?` for a streamed string.
     #[inline]
@@ -154,6 +155,7 @@ impl Machine {
     pub fn head_more(&mut self, piece: &[u8], from: usize, head: Head, first: u64) -> Got
         requires within { from ≤ length piece.now }
         requires fits { first ≤ 2 ^ 40 }
+        requires room { HasRoom head first }
         requires level { HasFrame (place self.old) head }
         requires owed { self.old.owed + head_needed head first ≤ 2 ^ 41 }
         ensures { said result self.new ≡ scan from (at (place self.old) (InHead head first)) (drop from piece.now) }
@@ -183,6 +185,7 @@ impl Machine {
         requires index { used ≤ 2 ^ 63 }
         requires number { number < 2 ^ 44 }
         ensures few { IfNone result (number ≤ 2 ^ 40) }
+        ensures room { IfNone result (HasRoom head number) }
         ensures owed { IfNone result (self.now.owed + head_needed head number ≤ 2 ^ 40) }
         ensures over { result ≡ over (place self.now) used head number }
     {
@@ -210,6 +213,7 @@ impl Machine {
     pub fn head_lf(&mut self, piece: &[u8], i: usize, head: Head, number: u64) -> Got
         requires within { i ≤ length piece.now }
         requires fits { number ≤ 2 ^ 40 }
+        requires room { HasRoom head number }
         requires ends { may_end head number ≡ true }
         requires level { HasFrame (place self.old) head }
         requires owed { self.old.owed + head_needed head number ≤ 2 ^ 41 }

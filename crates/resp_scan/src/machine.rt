@@ -150,7 +150,7 @@ impl Machine {
     ghost use Rattle.resp_scan.specs.Sound.{IsSound};
     ghost use Rattle.resp_scan.specs.Scan.{More, Bad};
     ghost use Rattle.resp_scan.specs.Tokens.{at, Dead, AtStart};
-    ghost use Rattle.resp_scan.specs.Room.{total_room, fits, over_total, is_full, reshaped, IsRoomy, begun, begin_cause};
+    ghost use Rattle.resp_scan.specs.Room.{total_room, fits, over_total, is_full, reshaped, begun, begin_cause};
 
     /// The end of the piece, in this state.
     #[inline]

@@ -115,7 +115,7 @@ impl Scanner {
         ensures err { IfErr result (λ fault. (end_cause self.now ≡ Some fault.cause) × (fault.at ≡ self.now.taken)) }
         ensures sound { IsSound self.now }
     {
-        let at = self.machine.taken;
+        let at = self.taken();
         match self.machine.state {
             State::Failed => Err(Fault {
                 cause: self.machine.cause,

@@ -81,7 +81,7 @@ impl Machine {
 
     /// The tokens of heads, counted content and closes.
     #[inline]
-    #[tactic(auto, using(crate::proofs::Places::content_some, crate::proofs::Places::chunk_some, crate::proofs::Places::first_frame, crate::proofs::Places::more_frame, crate::proofs::Places::more_owed, crate::proofs::Places::more_few, crate::proofs::Places::lf_few, crate::proofs::Places::lf_ends, crate::proofs::Places::first_four, crate::proofs::Places::second_four, crate::proofs::Places::third_four, crate::proofs::Places::colon_four, crate::proofs::Places::lf_frame, crate::proofs::Places::lf_owed, crate::proofs::Places::open_cr_level, crate::proofs::Places::open_lf_level))]
+    #[tactic(auto, using(crate::proofs::Places::content_some, crate::proofs::Places::chunk_some, crate::proofs::Places::first_frame, crate::proofs::Places::more_frame, crate::proofs::Places::more_owed, crate::proofs::Places::more_few, crate::proofs::Places::lf_few, crate::proofs::Places::lf_ends, crate::proofs::Places::lf_room, crate::proofs::Places::more_room, crate::proofs::Places::first_four, crate::proofs::Places::second_four, crate::proofs::Places::third_four, crate::proofs::Places::colon_four, crate::proofs::Places::lf_frame, crate::proofs::Places::lf_owed, crate::proofs::Places::open_cr_level, crate::proofs::Places::open_lf_level))]
     fn resume_counted(&mut self, piece: &[u8]) -> Got
         requires { IsSound (place self.old) }
         ensures { is_counted self.old.state ≡ true → said result self.new ≡ advanced (place self.old) piece.now }
