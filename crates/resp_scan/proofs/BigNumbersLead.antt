@@ -25,7 +25,7 @@ use Rattle.resp_scan.specs.Kinds.{content_events, rules_of}
 use Rattle.resp_scan.specs.Begun as b
 use Rattle.resp_scan.specs.Begun.{BigBegun, BigDigitOwed, BigShown, IsSigned, SignBegun, TextReturned, TextWhole, ZeroReturned}
 use Rattle.resp_scan.specs.Follows.{Counts, Inside, Leads, Lies}
-use Rattle.resp_scan.specs.Laws.{BigSignLeads, BigFirstLeads, BigZerosLead, BigZeroEndLeads, BigDigitIsOwed, BigLeads, TextEndIsOwed}
+use Rattle.resp_scan.proofs.TokenLaws.{BigSignLeads, BigFirstLeads, BigZerosLead, BigZeroEndLeads, BigDigitIsOwed, BigLeads, TextEndIsOwed}
 use Rattle.resp_scan.proofs.LeafEvents.{content_events-append, given-big, leaf_told}
 use Rattle.resp_scan.proofs.Moves.{Ends, goes, tells, value_ends}
 use Rattle.resp_scan.proofs.NumbersLead.{AnySign, begun_dead, begun_row, digits_dead, digits_row, sign_more, signed_any, unsigned_any}

@@ -17,7 +17,7 @@ use Rattle.resp_scan.specs.Machine.{unless}
 use Rattle.resp_scan.specs.Kinds.{rules_of}
 use Rattle.resp_scan.specs.Begun.{IsNullBegun}
 use Rattle.resp_scan.specs.Follows.{Counts, Leads, Lies}
-use Rattle.resp_scan.specs.Laws.{BulkHeadLeads}
+use Rattle.resp_scan.proofs.TokenLaws.{BulkHeadLeads}
 use Rattle.resp_scan.proofs.ByteTests.{by_byte}
 use Rattle.resp_scan.proofs.StringHeadsLead.{string_head_leads}
 use Rattle.resp_scan.proofs.StringHeads.{bulk}

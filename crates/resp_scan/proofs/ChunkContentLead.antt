@@ -21,7 +21,7 @@ use Rattle.resp_scan.specs.Heads.{chunk_at}
 use Rattle.resp_scan.specs.Kinds.{content_events, rules_of}
 use Rattle.resp_scan.specs.Begun.{ChunkBegun, ChunksBegun}
 use Rattle.resp_scan.specs.Follows.{Inside, Leads, Lies}
-use Rattle.resp_scan.specs.Laws.{ChunkContentLeads, ChunkReturnsLead, ChunkEndsLead}
+use Rattle.resp_scan.proofs.TokenLaws.{ChunkContentLeads, ChunkReturnsLead, ChunkEndsLead}
 use Rattle.resp_scan.proofs.ByteTests.{wanted}
 use Rattle.resp_scan.proofs.ChunksBegun.{are_whole, chunks_more, text_more}
 use Rattle.resp_scan.proofs.LeafEvents.{content_events-append}

@@ -24,7 +24,7 @@ use Rattle.resp_scan.specs.Machine.{head_digit}
 use Rattle.resp_scan.specs.Kinds.{IsRefusedFor, rules_of}
 use Rattle.resp_scan.specs.Begun.{ChunkBegun, ChunkLength, ChunksBegun}
 use Rattle.resp_scan.specs.Follows.{Counts, Inside, Leads, Lies}
-use Rattle.resp_scan.specs.Laws.{ChunkHeadsLead, ChunkLengthsLead, ChunkLengthEndsLead}
+use Rattle.resp_scan.proofs.TokenLaws.{ChunkHeadsLead, ChunkLengthsLead, ChunkLengthEndsLead}
 use Rattle.resp_scan.proofs.ByteTests.{by_byte, by_digit, by_test, wanted}
 use Rattle.resp_scan.proofs.ChunksBegun.{are_whole, chunks_more, text_more}
 use Rattle.resp_scan.proofs.HeadDigits.{head_digit_leads}

@@ -29,7 +29,7 @@ use Rattle.resp_scan.specs.Tokens.{Give, Go, Move, Place, Refuse, AtCloseCr, AtC
 use Rattle.resp_scan.specs.Machine.{wants, without_first}
 use Rattle.resp_scan.specs.Kinds.{IsRefusedFor, kind_of, rules_of}
 use Rattle.resp_scan.specs.Follows.{Closing, ClosingIn, Leads, Lies, LiesAt, busy_levels}
-use Rattle.resp_scan.specs.Laws.{CloseIsOwed, CloseCrLeads, CloseEndLeads}
+use Rattle.resp_scan.proofs.TokenLaws.{CloseIsOwed, CloseCrLeads, CloseEndLeads}
 use Rattle.resp_scan.proofs.Moves.{given-append, longer, value_lies}
 use Rattle.resp_scan.proofs.Tests.{if_equal}
 

@@ -15,7 +15,7 @@ use Rattle.resp_scan.specs.Heads.{content_at}
 use Rattle.resp_scan.specs.Kinds.{rules_of}
 use Rattle.resp_scan.specs.Begun.{ContentBegun, ContentReturned, string_text}
 use Rattle.resp_scan.specs.Follows.{Inside, Lies}
-use Rattle.resp_scan.specs.Laws.{ContentLeads, ContentReturnsLead, ContentEndsLead}
+use Rattle.resp_scan.proofs.TokenLaws.{ContentLeads, ContentReturnsLead, ContentEndsLead}
 use Rattle.resp_scan.proofs.ByteTests.{wanted}
 use Rattle.resp_scan.proofs.LeafEvents.{content_events-append, given-string, leaf_told}
 use Rattle.resp_scan.proofs.Moves.{Ends, goes, retold, tells, value_ends}

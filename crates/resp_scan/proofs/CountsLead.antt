@@ -20,7 +20,7 @@ use Rattle.resp_scan.specs.Machine.{is_digit, unless, wants}
 use Rattle.resp_scan.specs.Kinds.{rules_of}
 use Rattle.resp_scan.specs.Begun.{CountBegun, CountReturned}
 use Rattle.resp_scan.specs.Follows.{Counts, Inside, Leads, Lies}
-use Rattle.resp_scan.specs.Laws.{ArrayCountLeads, SetCountLeads, MapCountLeads, AttrCountLeads, PushCountLeads}
+use Rattle.resp_scan.proofs.TokenLaws.{ArrayCountLeads, SetCountLeads, MapCountLeads, AttrCountLeads, PushCountLeads}
 use Rattle.resp_scan.proofs.Moves.{goes}
 use Rattle.resp_scan.proofs.RefusedMoves.{fits_or_total, refused, unless_over}
 use Rattle.resp_scan.proofs.Tests.{if_below, if_digit, if_equal, wants_leads}

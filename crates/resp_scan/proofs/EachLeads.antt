@@ -7,7 +7,7 @@ use Rattle.resp_scan.specs.declared.machine.Head.TheVariants as head
 use Rattle.resp_scan.specs.Tokens.{Place, Token, at, AtStart, AtEnd, InLine, AtLineLf, AtIntSign, AtIntFirst, InInt, AtIntLf, AtBigSign, AtBigFirst, InBigZeros, AtBigZeroLf, AtBigDigit, InBig, AtTextEnd, AtNullOne, AtNullCr, AtNullLf, AtBool, AtBoolCr, AtBoolLf, AtBulkHead, AtArrayHead, AtHead, InHead, AtHeadLf, AtFormat, AtFormatSecond, AtFormatThird, AtFormatColon, InContent, AtContentCr, AtContentLf, AtStreamCr, AtStreamLf, AtChunk, InChunk, AtChunkCr, AtChunkLf, AtOpenCr, AtOpenLf, AtCloseCr, AtCloseLf, Dead}
 use Rattle.resp_scan.specs.Machine.{next}
 use Rattle.resp_scan.specs.Follows.{Counts, Leads, Lies}
-use Rattle.resp_scan.specs.Laws.{ALead}
+use Rattle.resp_scan.proofs.TokenLaws.{ALead}
 use Rattle.resp_scan.proofs.Sound.{is_outside}
 use Rattle.resp_scan.proofs.BigNumbersLead.{big_first_leads, big_leads, big_sign_leads, big_zero_end_leads, big_zeros_lead}
 use Rattle.resp_scan.proofs.BulkHeadLeads.{bulk_head_leads}

@@ -13,7 +13,7 @@ use Rattle.resp_scan.specs.Heads.{content_at}
 use Rattle.resp_scan.specs.Kinds.{rules_of}
 use Rattle.resp_scan.specs.Begun.{ContentBegun, FormatBegun}
 use Rattle.resp_scan.specs.Follows.{Inside, Leads}
-use Rattle.resp_scan.specs.Laws.{FormatsLead, SecondFormatBytesLead, ThirdFormatBytesLead, ColonsLead}
+use Rattle.resp_scan.proofs.TokenLaws.{FormatsLead, SecondFormatBytesLead, ThirdFormatBytesLead, ColonsLead}
 use Rattle.resp_scan.proofs.ByteTests.{wanted}
 use Rattle.resp_scan.proofs.ContentLead.{content_lies}
 use Rattle.resp_scan.proofs.Moves.{goes, tells}

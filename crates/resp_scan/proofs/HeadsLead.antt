@@ -42,7 +42,7 @@ use Rattle.resp_scan.specs.Kinds.{kind_of, rules_of}
 use Rattle.resp_scan.specs.Begun as b
 use Rattle.resp_scan.specs.Begun.{AggregateBegun, CountBegun, StreamBegun}
 use Rattle.resp_scan.specs.Follows.{Counts, Inside, Leads, Lies}
-use Rattle.resp_scan.specs.Laws.{ArrayHeadLeads, SetHeadLeads, MapHeadLeads, AttrHeadLeads, PushHeadLeads, OpenCrLeads, OpenEndLeads}
+use Rattle.resp_scan.proofs.TokenLaws.{ArrayHeadLeads, SetHeadLeads, MapHeadLeads, AttrHeadLeads, PushHeadLeads, OpenCrLeads, OpenEndLeads}
 use Rattle.resp_scan.proofs.CountsLead.{count_digit, count_row, items_of-members_of}
 use Rattle.resp_scan.proofs.Moves.{at_level, goes}
 use Rattle.resp_scan.proofs.LiteralsLead.{null_first_row}

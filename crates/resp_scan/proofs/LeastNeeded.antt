@@ -22,7 +22,7 @@ use Rattle.resp_scan.specs.Begun as b
 use Rattle.resp_scan.specs.Begun.{TextWhole}
 use Rattle.resp_scan.specs.Follows.{Between, Closing, ClosingIn, Ended, HaveBegun, Inside, LiesAt, Whole, busy_levels, waiting_levels}
 use Rattle.resp_scan.specs.Sound.{IsClosed, IsSoundBy, frame_owed, frames_owed, needed, start_needed, token_needed}
-use Rattle.resp_scan.specs.Laws.{LeastIsNeeded, FollowedIsViable}
+use Rattle.resp_scan.proofs.TokenLaws.{LeastIsNeeded, FollowedIsViable}
 use Rattle.resp_scan.proofs.Begins.{is_between}
 use Rattle.resp_scan.proofs.RefusedMoves.{frames_needed_is, inside_least, waiting_needed}
 use Rattle.resp_scan.proofs.Rows.{tokens_need}

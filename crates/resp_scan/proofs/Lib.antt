@@ -40,3 +40,4 @@ pub mod Steps
 pub mod Rows
 pub mod LeastNeeded
 pub mod Calls
+pub mod TokenLaws

@@ -16,7 +16,7 @@ use Rattle.resp_scan.specs.Machine.{content_byte}
 use Rattle.resp_scan.specs.Kinds.{content_events, rules_of}
 use Rattle.resp_scan.specs.Begun.{LineBegun, TextReturned, line_text}
 use Rattle.resp_scan.specs.Follows.{Counts, Leads, Lies}
-use Rattle.resp_scan.specs.Laws.{LinesLead, LineEndsLead}
+use Rattle.resp_scan.proofs.TokenLaws.{LinesLead, LineEndsLead}
 use Rattle.resp_scan.proofs.LeafEvents.{content_events-append, given-line, leaf_told}
 use Rattle.resp_scan.proofs.Moves.{Ends, goes, tells, value_ends}
 use Rattle.resp_scan.proofs.RefusedMoves.{broken, fits_or_total, refused}

@@ -22,7 +22,7 @@ use Rattle.resp_scan.specs.Kinds.{rules_of}
 use Rattle.resp_scan.specs.Begun as b
 use Rattle.resp_scan.specs.Begun.{IsNullBegun, NullLine, NullReturned}
 use Rattle.resp_scan.specs.Follows.{Counts, Leads, Lies}
-use Rattle.resp_scan.specs.Laws.{NullOneLeads, NullCrLeads, NullEndLeads, BoolLeads, BoolCrLeads, BoolEndLeads}
+use Rattle.resp_scan.proofs.TokenLaws.{NullOneLeads, NullCrLeads, NullEndLeads, BoolLeads, BoolCrLeads, BoolEndLeads}
 use Rattle.resp_scan.proofs.Moves.{Ends, goes, value_ends}
 use Rattle.resp_scan.proofs.RefusedMoves.{broken}
 use Rattle.resp_scan.proofs.Tests.{if_equal, wants_leads}

@@ -28,7 +28,7 @@ use Rattle.resp_scan.specs.Kinds.{rules_of}
 use Rattle.resp_scan.specs.Begun as b
 use Rattle.resp_scan.specs.Begun.{IntBegun, IntReturned, IsSigned, SignBegun}
 use Rattle.resp_scan.specs.Follows.{Counts, Inside, Leads, Lies}
-use Rattle.resp_scan.specs.Laws.{IntSignLeads, IntFirstLeads, IntLeads, IntEndLeads}
+use Rattle.resp_scan.proofs.TokenLaws.{IntSignLeads, IntFirstLeads, IntLeads, IntEndLeads}
 use Rattle.resp_scan.proofs.Moves.{Ends, goes, value_ends}
 use Rattle.resp_scan.proofs.RefusedMoves.{broken, fits_or_total, refused, unless_over}
 use Rattle.resp_scan.proofs.Tests.{if_digit, if_equal, if_within, wants_leads}

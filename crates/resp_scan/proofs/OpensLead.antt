@@ -38,7 +38,7 @@ use Rattle.resp_scan.specs.Machine.{wants}
 use Rattle.resp_scan.specs.Kinds.{kind_of, rules_of}
 use Rattle.resp_scan.specs.Begun.{CountReturned}
 use Rattle.resp_scan.specs.Follows.{Counts, Inside, Leads, Lies, LiesAt}
-use Rattle.resp_scan.specs.Laws.{ArrayHeadEndLeads, SetHeadEndLeads, MapHeadEndLeads, AttrHeadEndLeads, PushHeadEndLeads}
+use Rattle.resp_scan.proofs.TokenLaws.{ArrayHeadEndLeads, SetHeadEndLeads, MapHeadEndLeads, AttrHeadEndLeads, PushHeadEndLeads}
 use Rattle.resp_scan.proofs.Moves.{at_level, given-append, longer}
 use Rattle.resp_scan.proofs.RefusedMoves.{broken}
 use Rattle.resp_scan.proofs.Tests.{wants_leads}

@@ -23,7 +23,7 @@ use Rattle.resp_scan.specs.Heads.{first_needed, head_needed}
 use Rattle.resp_scan.specs.Kinds.{kind_of, rules_of}
 use Rattle.resp_scan.specs.Begun.{Begun, ContentBegun, FormatBegun, HeadBegun, HeadCounts, HeadReturned}
 use Rattle.resp_scan.specs.Sound.{Fits, token_needed}
-use Rattle.resp_scan.specs.Laws.{TokensNeed}
+use Rattle.resp_scan.proofs.TokenLaws.{TokensNeed}
 use Rattle.resp_scan.proofs.BigNumbersLead.{row_of, shown_row}
 use Rattle.resp_scan.proofs.ChunkContentLead as chunk
 use Rattle.resp_scan.proofs.ChunkHeadsLead as chunk_head

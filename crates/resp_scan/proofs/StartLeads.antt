@@ -50,7 +50,7 @@ use Rattle.resp_scan.specs.Kinds.{IsRefusedFor, event_of, kind_of, rules_of}
 use Rattle.resp_scan.specs.Begun as b
 use Rattle.resp_scan.specs.Begun.{AggregateBegun, LineBegun, NullLine}
 use Rattle.resp_scan.specs.Follows.{Between, Closing, Counts, Inside, Leads, Lies, LiesAt, busy_levels, waiting, waiting_levels}
-use Rattle.resp_scan.specs.Laws.{StartLeads}
+use Rattle.resp_scan.proofs.TokenLaws.{StartLeads}
 use Rattle.resp_scan.proofs.Begins.{begins_leads, is_between, length-waiting}
 use Rattle.resp_scan.proofs.HeadsLead.{aggregate_row}
 use Rattle.resp_scan.proofs.Moves.{length-busy}

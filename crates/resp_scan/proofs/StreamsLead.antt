@@ -14,7 +14,7 @@ use Rattle.resp_scan.specs.Tokens.{Go, Give, Text, AtStreamCr, AtStreamLf, AtChu
 use Rattle.resp_scan.specs.Kinds.{rules_of}
 use Rattle.resp_scan.specs.Begun.{ChunksBegun}
 use Rattle.resp_scan.specs.Follows.{Leads, Lies}
-use Rattle.resp_scan.specs.Laws.{StreamsLead, StreamEndsLead, ChunksLead}
+use Rattle.resp_scan.proofs.TokenLaws.{StreamsLead, StreamEndsLead, ChunksLead}
 use Rattle.resp_scan.proofs.ByteTests.{wanted}
 use Rattle.resp_scan.proofs.ChunksBegun.{are_whole, chunks_more}
 use Rattle.resp_scan.proofs.Moves.{goes, tells}

@@ -21,7 +21,7 @@ use Rattle.resp_scan.specs.Machine.{head_digit, head_first, is_digit, open_strea
 use Rattle.resp_scan.specs.Kinds.{IsRefusedFor, rules_of}
 use Rattle.resp_scan.specs.Begun.{HeadCounts, HeadReturned, LengthBegun}
 use Rattle.resp_scan.specs.Follows.{Counts, Inside, Leads, Lies}
-use Rattle.resp_scan.specs.Laws.{StringHeadsLead, StringLengthsLead}
+use Rattle.resp_scan.proofs.TokenLaws.{StringHeadsLead, StringLengthsLead}
 use Rattle.resp_scan.proofs.ByteTests.{by_byte, by_digit, by_test, wanted}
 use Rattle.resp_scan.proofs.HeadDigits.{head_digit_leads}
 use Rattle.resp_scan.proofs.Moves.{goes, retold}

@@ -19,7 +19,7 @@ use Rattle.resp_scan.specs.Heads.{content_at}
 use Rattle.resp_scan.specs.Kinds.{rules_of}
 use Rattle.resp_scan.specs.Begun.{ContentBegun, FormatBegun, HeadReturned, LengthReturned, string_text}
 use Rattle.resp_scan.specs.Follows.{Inside, Leads, Lies}
-use Rattle.resp_scan.specs.Laws.{StringLengthEndsLead}
+use Rattle.resp_scan.proofs.TokenLaws.{StringLengthEndsLead}
 use Rattle.resp_scan.proofs.ByteTests.{wanted}
 use Rattle.resp_scan.proofs.ContentLead.{content_lies}
 use Rattle.resp_scan.proofs.Moves.{goes, retold, tells}

@@ -14,5 +14,4 @@ pub mod Runs
 pub mod Kinds
 pub mod Begun
 pub mod Follows
-pub mod Laws
 pub mod Steps

@@ -13,7 +13,6 @@ pub mod event;
 mod frame;
 mod heads;
 mod integers;
-mod laws;
 mod lines;
 mod literals;
 mod machine;

@@ -1,6 +1,0 @@
-use Rattle.resp_scan.proofs.LiteralsLead.{bool_cr_leads}
-use Rattle.resp_scan.proofs.laws.bool_cr_leads.Goals as goal
-
--- src/laws.rt
-pub returns : goal.returns
-returns c = bool_cr_leads

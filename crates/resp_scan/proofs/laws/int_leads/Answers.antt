@@ -1,6 +1,0 @@
-use Rattle.resp_scan.proofs.NumbersLead.{int_leads}
-use Rattle.resp_scan.proofs.laws.int_leads.Goals as goal
-
--- src/laws.rt
-pub returns : goal.returns
-returns c = int_leads

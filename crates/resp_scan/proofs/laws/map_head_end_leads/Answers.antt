@@ -1,6 +1,0 @@
-use Rattle.resp_scan.proofs.OpensLead.{map_head_end_leads}
-use Rattle.resp_scan.proofs.laws.map_head_end_leads.Goals as goal
-
--- src/laws.rt
-pub returns : goal.returns
-returns c = map_head_end_leads
