@@ -36,7 +36,7 @@ use Rattle.resp_scan.specs.Follows.{Between, Counts, HasBegun, Inside, Leads, bu
 use Rattle.resp_scan.specs.Sound.{frame_owed, frames_owed}
 use Rattle.resp_scan.proofs.Moves.{length-busy}
 use Rattle.resp_scan.proofs.RefusedMoves.{fits_or_past, unless_over}
-use Rattle.resp_scan.proofs.Tests.{if_equal, if_within}
+use Rattle.resp_scan.proofs.Choices.{if_equal, if_within}
 
 pub length-waiting : (fs : List Frame) → length (waiting_levels fs) ≡ length fs
 length-waiting [] = refl

@@ -30,7 +30,7 @@ use Rattle.resp_scan.proofs.LeafEvents.{content_events-append, given-big, leaf_t
 use Rattle.resp_scan.proofs.Moves.{Ends, goes, tells, value_ends}
 use Rattle.resp_scan.proofs.NumbersLead.{AnySign, begun_dead, begun_row, digits_dead, digits_row, sign_more, signed_any, unsigned_any}
 use Rattle.resp_scan.proofs.RefusedMoves.{broken, fits_or_total, refused, unless_over}
-use Rattle.resp_scan.proofs.Tests.{if_digit, if_equal, wants_leads}
+use Rattle.resp_scan.proofs.Choices.{if_digit, if_equal, wants_leads}
 
 -- Digits without leading zeros.
 

@@ -31,7 +31,7 @@ use Rattle.resp_scan.specs.Kinds.{IsRefusedFor, kind_of, rules_of}
 use Rattle.resp_scan.specs.Follows.{Closing, ClosingIn, Leads, Lies, LiesAt, busy_levels}
 use Rattle.resp_scan.proofs.TokenLaws.{CloseIsOwed, CloseCrLeads, CloseEndLeads}
 use Rattle.resp_scan.proofs.Moves.{given-append, longer, value_lies}
-use Rattle.resp_scan.proofs.Tests.{if_equal}
+use Rattle.resp_scan.proofs.Choices.{if_equal}
 
 -- the rest of the close ends the aggregate
 closing_ends : (r : Rules) (k : OpenKind) (fs : List Frame) (last rest front : List ℕ) (es : List Event) → Closing r k fs last rest front es → LiesAt r (within fs) fs (front ++ rest) (es ++ e.Close ∷ [])

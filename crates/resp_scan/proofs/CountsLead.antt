@@ -23,7 +23,7 @@ use Rattle.resp_scan.specs.Follows.{Counts, Inside, Leads, Lies}
 use Rattle.resp_scan.proofs.TokenLaws.{ArrayCountLeads, SetCountLeads, MapCountLeads, AttrCountLeads, PushCountLeads}
 use Rattle.resp_scan.proofs.Moves.{goes}
 use Rattle.resp_scan.proofs.RefusedMoves.{fits_or_total, refused, unless_over}
-use Rattle.resp_scan.proofs.Tests.{if_below, if_digit, if_equal, wants_leads}
+use Rattle.resp_scan.proofs.Choices.{if_below, if_digit, if_equal, wants_leads}
 
 pub items_of-members_of : (k : Kind) (n : ℕ) → items_of k (members_of k n) ≡ n
 items_of-members_of d.Array n = refl

@@ -48,7 +48,7 @@ use Rattle.resp_scan.proofs.Moves.{at_level, goes}
 use Rattle.resp_scan.proofs.LiteralsLead.{null_first_row}
 use Rattle.resp_scan.proofs.OpensLead.{Opened, opens_lie}
 use Rattle.resp_scan.proofs.RefusedMoves.{broken, fits_or_total, refused, unless_over}
-use Rattle.resp_scan.proofs.Tests.{if_below, if_digit, if_equal, if_within, wants_leads}
+use Rattle.resp_scan.proofs.Choices.{if_below, if_digit, if_equal, if_within, wants_leads}
 
 -- an aggregate's type byte, where the depth leaves room for one
 record MayCount (r : Rules) (k : Kind) (level : ℕ) (bytes : List ℕ) (shown : List Event) : Type 0 where

@@ -12,7 +12,7 @@ pub mod Moves
 pub mod RefusedMoves
 pub mod LeafEvents
 pub mod LinesLead
-pub mod Tests
+pub mod Choices
 pub mod NumbersLead
 pub mod BigNumbersLead
 pub mod LiteralsLead

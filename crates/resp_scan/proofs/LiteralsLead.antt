@@ -25,7 +25,7 @@ use Rattle.resp_scan.specs.Follows.{Counts, Leads, Lies}
 use Rattle.resp_scan.proofs.TokenLaws.{NullOneLeads, NullCrLeads, NullEndLeads, BoolLeads, BoolCrLeads, BoolEndLeads}
 use Rattle.resp_scan.proofs.Moves.{Ends, goes, value_ends}
 use Rattle.resp_scan.proofs.RefusedMoves.{broken}
-use Rattle.resp_scan.proofs.Tests.{if_equal, wants_leads}
+use Rattle.resp_scan.proofs.Choices.{if_equal, wants_leads}
 
 -- Nulls.
 

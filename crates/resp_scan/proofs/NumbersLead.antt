@@ -31,7 +31,7 @@ use Rattle.resp_scan.specs.Follows.{Counts, Inside, Leads, Lies}
 use Rattle.resp_scan.proofs.TokenLaws.{IntSignLeads, IntFirstLeads, IntLeads, IntEndLeads}
 use Rattle.resp_scan.proofs.Moves.{Ends, goes, value_ends}
 use Rattle.resp_scan.proofs.RefusedMoves.{broken, fits_or_total, refused, unless_over}
-use Rattle.resp_scan.proofs.Tests.{if_digit, if_equal, if_within, wants_leads}
+use Rattle.resp_scan.proofs.Choices.{if_digit, if_equal, if_within, wants_leads}
 
 -- a byte of a number's beginning that no spelling has there
 pub begun_line : (k : NumberKind) (sign : Sign) → IsLine (number_byte k ∷ (sign_text sign ++ []))

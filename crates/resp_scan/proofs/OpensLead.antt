@@ -41,7 +41,7 @@ use Rattle.resp_scan.specs.Follows.{Counts, Inside, Leads, Lies, LiesAt}
 use Rattle.resp_scan.proofs.TokenLaws.{ArrayHeadEndLeads, SetHeadEndLeads, MapHeadEndLeads, AttrHeadEndLeads, PushHeadEndLeads}
 use Rattle.resp_scan.proofs.Moves.{at_level, given-append, longer}
 use Rattle.resp_scan.proofs.RefusedMoves.{broken}
-use Rattle.resp_scan.proofs.Tests.{wants_leads}
+use Rattle.resp_scan.proofs.Choices.{wants_leads}
 
 -- a form in which so many members haven't begun, or have
 abbrev Shaped : Kind → Shape → Form → Type 0

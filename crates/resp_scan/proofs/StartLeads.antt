@@ -54,7 +54,7 @@ use Rattle.resp_scan.proofs.TokenLaws.{StartLeads}
 use Rattle.resp_scan.proofs.Begins.{begins_leads, is_between, length-waiting}
 use Rattle.resp_scan.proofs.HeadsLead.{aggregate_row}
 use Rattle.resp_scan.proofs.Moves.{length-busy}
-use Rattle.resp_scan.proofs.Tests.{if_equal, if_within}
+use Rattle.resp_scan.proofs.Choices.{if_equal, if_within}
 
 -- Refusals of a first byte by itself.
 

@@ -38,7 +38,7 @@ use Rattle.resp_scan.proofs.BigNumbersLead.{big_digit_is_owed, text_end_is_owed}
 use Rattle.resp_scan.proofs.ClosesLead.{close_is_owed}
 use Rattle.resp_scan.proofs.LeastNeeded.{least_is_needed, followed_is_viable}
 use Rattle.resp_scan.proofs.Sound.{IsNext, is_outside}
-use Rattle.resp_scan.proofs.Tests.{if_below, if_equal, if_within}
+use Rattle.resp_scan.proofs.Choices.{if_below, if_equal, if_within}
 
 -- What is owed, or what comes of the piece.
 
