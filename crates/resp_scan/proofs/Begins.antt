@@ -1,26 +1,22 @@
 -- Where a value begins: items and total test it, and the innermost aggregate counts it.
-use Rattle.std.specs.Prelude.{Bool, true, false, cond, eqb, nat_le, None, Some, Option, ◌&&◌, ◌/◌, ◌%◌}
+use Rattle.std.specs.Prelude.{true, false, cond, eqb, nat_le, None, Some, ◌&&◌, ◌/◌, ◌%◌}
 use Rattle.std.proofs.lemmas.Bool.Decides.{nat_tests}
-use Rattle.std.proofs.Common.{◌≡◌, ℕ, suc, ◌+◌, ◌-◌, ◌*◌, ◌<◌, ◌≤◌, List, [], ◌∷◌, ◌++◌, length, refl, sym, ap, subst, ◌∙◌, arith, append_assoc, append-nil}
+use Rattle.std.proofs.Common.{◌≡◌, ℕ, suc, ◌+◌, ◌-◌, ◌<◌, ◌≤◌, List, [], ◌∷◌, ◌++◌, length, refl, sym, ap, subst, ◌∙◌, arith}
 use Rattle.resp_value.specs.Bounds.{AreBounds}
-use Rattle.resp_value.specs.Data.{Kind, items_of, members_of}
-use Rattle.resp_value.specs.Data as d
-use Rattle.resp_value.specs.Numbers.{number}
-use Rattle.resp_value.specs.Trees.{Counted, Form, HasMembers, Streamed, count}
-use Rattle.resp_value.specs.Rules.{Rules, WithinItems, rank}
+use Rattle.resp_value.specs.Data.{Kind, items_of}
+use Rattle.resp_value.specs.Trees.{Form, HasMembers, Streamed, count}
+use Rattle.resp_value.specs.Rules.{Rules, WithinItems}
 use Rattle.resp_value.specs.LocalRules.{LeafKeeps, NodeKeeps}
-use Rattle.resp_value.specs.declared.cause.Cause.{Cause}
 use Rattle.resp_value.specs.declared.cause.Cause.TheVariants as cause
 use Rattle.resp_follow.specs.Frames as opened
 use Rattle.resp_follow.specs.Frames.{around}
 use Rattle.resp_follow.specs.FirstByteRefusals.{first_byte_refusal}
-use Rattle.resp_follow.specs.MayFollow.{CanAllEnd, CanEnd, missing}
+use Rattle.resp_follow.specs.MayFollow.{CanEnd, missing}
 use Rattle.resp_follow.specs.Events.{Event, events_around, given}
 use Rattle.resp_follow.proofs.BegunBetweenValues as between
 use Rattle.resp_follow.proofs.BegunFronts.{IsBegunBy}
 use Rattle.resp_follow.proofs.BetweenValues.{HasRoom, IsBetween, begun_can_end, room}
 use Rattle.resp_follow.proofs.Composition.{around-append}
-use Rattle.resp_follow.proofs.Levels as level
 use Rattle.resp_follow.proofs.Levels.{AreLevelsOf, AreReady, HasShape, Level, left, taken}
 use Rattle.resp_follow.proofs.LevelsAlone.{same_length}
 use Rattle.resp_scan.specs.declared.event.OpenKind.{OpenKind}
@@ -28,15 +24,15 @@ use Rattle.resp_scan.specs.declared.event.OpenKind.TheVariants as kind
 use Rattle.resp_scan.specs.declared.frame.Frame.{Frame}
 use Rattle.resp_scan.specs.declared.frame.Shape.{Shape}
 use Rattle.resp_scan.specs.declared.frame.Shape.TheVariants.{Left, Begun}
-use Rattle.resp_scan.specs.Tokens.{Byte, Give, Go, Move, Place, Refuse, AtStart, at}
-use Rattle.resp_scan.specs.Room.{begin_cause, begun, begun_in, fits, has_all, has_all_of, items_cause, over_total, owed_begun, shape_begun}
+use Rattle.resp_scan.specs.Tokens.{Byte, Give, Go, Move, Place, Refuse}
+use Rattle.resp_scan.specs.Room.{begin_cause, begun, begun_in, has_all, has_all_of, over_total, owed_begun, shape_begun}
 use Rattle.resp_scan.specs.Machine.{unless}
 use Rattle.resp_scan.specs.Kinds.{IsRefusedFor, kind_of, rules_of}
 use Rattle.resp_scan.specs.Follows.{Between, Counts, HasBegun, Inside, Leads, busy, busy_levels, waiting, waiting_levels}
 use Rattle.resp_scan.specs.Sound.{frame_owed, frames_owed}
 use Rattle.resp_scan.proofs.Moves.{length-busy}
 use Rattle.resp_scan.proofs.RefusedMoves.{fits_or_past, unless_over}
-use Rattle.resp_scan.proofs.Choices.{if_equal, if_within}
+use Rattle.resp_scan.proofs.Choices.{if_equal}
 
 pub length-waiting : (fs : List Frame) → length (waiting_levels fs) ≡ length fs
 length-waiting [] = refl
@@ -81,8 +77,10 @@ owed_is kind.Map (Begun m) owed others some_left e =
   where
     sums : (n : ℕ) → 3 + n + 3 ≡ 6 + n
     sums n = omega arith
+
     some : (n : ℕ) → (n ≡ 0 → ⊥) → 0 < n
     some n h = grind (arith, nat_tests)
+
     evens : (m : ℕ) → (m % 2 ≡ 0 → ⊥) → eqb ((m + 1) % 2) 0 ≡ true
     evens m odd = let z : (m + 1) % 2 ≡ 0 = omega (arith, some (m % 2) odd) in ap (λ n. eqb n 0) z
 
@@ -131,6 +129,7 @@ begins_in r f fs T front es new byte w open_here took = record {
     levels : (gs : List opened.Frame) → AreLevelsOf (waiting_levels (f ∷ fs)) gs → AreLevelsOf (busy_levels (record f { shape = shape_begun f.shape } ∷ fs)) gs
     levels [] a = absurd a
     levels (g ∷ gs) a = (a.0, begun_shape g.kind f.shape g.form (count g.done) a.1, a.2)
+
     here : (shape : Shape) (g : opened.Frame) → HasShape g.kind (waiting shape) g.form (count g.done) → CanEnd (NodeKeeps r WithinItems) (length fs) g.kind g.form (count g.done) → g.kind ≡ kind_of f.kind → has_all f.kind shape r.limits.items ≡ false → HasRoom r (record { kind = kind_of f.kind; shape = waiting shape })
     here (Left m) g h c k e n is = let z : left m ≡ taken n = is in absurd cc
     here (Begun m) g h c k e n is =
@@ -140,6 +139,7 @@ begins_in r f fs T front es new byte w open_here took = record {
         let form : missing g.kind g.form (count g.done) ≡ missing (kind_of f.kind) Streamed m = ap (λ x. missing g.kind x (count g.done)) h.0 ∙ ap (λ x. missing g.kind Streamed x) (sym h.1) ∙ ap (λ x. missing x Streamed m) k in
         let total : items_of g.kind (count g.done + missing g.kind g.form (count g.done)) ≡ items_of (kind_of f.kind) (m + missing (kind_of f.kind) Streamed m) = ap (λ x. items_of g.kind (x + missing g.kind g.form (count g.done))) (sym h.1) ∙ ap (λ x. items_of g.kind (m + x)) form ∙ ap (λ x. items_of x (m + missing (kind_of f.kind) Streamed m)) k in
         subst (λ x. items_of (kind_of f.kind) (room (kind_of f.kind) x) ≤ r.limits.items) same (room_in r f.kind m (omega (arith, keeps, total)) e)
+
     room_of : (gs : List opened.Frame) → AreLevelsOf (waiting_levels (f ∷ fs)) gs → AreReady (LeafKeeps r WithinItems) (NodeKeeps r WithinItems) gs → (v : Level) (outer : List Level) → waiting_levels (f ∷ fs) ≡ v ∷ outer → HasRoom r v
     room_of [] a o v outer e = absurd a
     room_of (g ∷ gs) a o v outer e =
@@ -163,6 +163,7 @@ full_leads s f fs front es byte bounds no_stop none w full = case f.shape refl f
     can (g ∷ gs) m e a o =
         let h : HasShape g.kind (taken m) g.form (count g.done) = subst (λ x. HasShape g.kind (waiting x) g.form (count g.done)) e a.1 in
         (count g.done + missing g.kind g.form (count g.done), subst (λ x. HasMembers x Streamed (count g.done + missing g.kind g.form (count g.done))) (sym a.0) (subst (λ x. HasMembers g.kind x (count g.done + missing g.kind g.form (count g.done))) h.0 o.0.0))
+
     case : (shape : Shape) → f.shape ≡ shape → has_all f.kind shape s.bounds.items ≡ true → IsRefusedFor (rules_of s) (front ++ byte ∷ []) cause.Items
     case (Left m) e full = absurd cc
     case (Begun m) e full = record {
@@ -201,6 +202,7 @@ begins_leads s T front es new byte needed v c no_stop none w took row leads = ca
     more_in : (f : Frame) (fs : List Frame) (gs : List opened.Frame) → AreLevelsOf (waiting_levels (f ∷ fs)) gs → HasMore f.shape
     more_in f fs [] a = absurd a
     more_in f fs (g ∷ gs) a = has_more f.shape g.kind g.form (count g.done) a.1
+
     case : (fs : List Frame) → Counts (record s { frames = fs }) 0 front → first_byte_refusal (rules_of s) (length fs) byte ≡ None → Between (rules_of s) fs front es → ((level : ℕ) → level ≡ length fs → T level (byte ∷ []) new) → ((level : ℕ) (bytes : List ℕ) (shown : List Event) → level ≡ length fs → T level bytes shown → IsBegunBy (rules_of s) level bytes needed) → (Inside (rules_of s) T (begun (record s { frames = fs })).frames (front ++ byte ∷ []) (es ++ new) → Leads (record s { frames = fs }) front es byte v) → Leads (record s { frames = fs }) front es byte (unless (begin_cause (record s { frames = fs }) needed) v)
     case [] c none w took row leads =
         let p = record s { frames = [] } in

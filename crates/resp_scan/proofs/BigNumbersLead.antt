@@ -1,10 +1,9 @@
 -- Big numbers: leading zeros, the first digit that isn't zero, and digits behind it.
 use Rattle.std.specs.Prelude.{Bool, true, false, cond, eqb}
 use Rattle.std.proofs.lemmas.Bool.Decides.{nat_tests}
-use Rattle.std.proofs.Common.{◌≡◌, ℕ, suc, ◌+◌, ◌-◌, ◌*◌, ◌<◌, ◌≤◌, List, [], ◌∷◌, ◌++◌, length, refl, sym, ap, subst, ◌∙◌, arith, append_assoc, append-nil, length-append}
-use Rattle.resp_value.specs.Bounds.{AreBounds}
-use Rattle.resp_value.specs.Numbers.{IsDigit, Sign, Unsigned, Plus, Minus, is_minus, is_negative, kept, number, sign_text, stripped, zero_if_none}
-use Rattle.resp_value.specs.Rules.{Rules, Grammar, WithinDepth, WithinItems, WithinLength}
+use Rattle.std.proofs.Common.{◌≡◌, ℕ, ◌+◌, ◌-◌, ◌<◌, ◌≤◌, List, [], ◌∷◌, ◌++◌, length, refl, sym, ap, subst, ◌∙◌, arith, append-nil, length-append}
+use Rattle.resp_value.specs.Numbers.{IsDigit, Sign, Plus, Minus, is_minus, is_negative, kept, number, sign_text, stripped, zero_if_none}
+use Rattle.resp_value.specs.Rules.{Rules, WithinDepth, WithinLength}
 use Rattle.resp_value.specs.Trees.{leaf, numeral, Big, leaf_text}
 use Rattle.resp_value.specs.declared.cause.Cause.TheVariants as cause
 use Rattle.resp_value.proofs.KeptDigits.{number-stripped}
@@ -15,13 +14,13 @@ use Rattle.resp_follow.proofs.BegunLines.{number-digit}
 use Rattle.resp_follow.proofs.BegunFronts.{IsBegunBy}
 use Rattle.resp_follow.proofs.BegunTypeBytes.{big_token_over}
 use Rattle.resp_follow.proofs.LineTokens.{returned_begun, returned_broken, returned_whole}
-use Rattle.resp_follow.proofs.NumberTokens.{IsNumberBegun, IsNumberToken, MayBe, number_begun, number_token_begins, number_token_line, number_token_more}
+use Rattle.resp_follow.proofs.NumberTokens.{number_begun, number_token_begins, number_token_line, number_token_more}
 use Rattle.resp_scan.specs.declared.event.TextKind.TheVariants as text
 use Rattle.resp_scan.specs.Tokens as k
 use Rattle.resp_scan.specs.Tokens.{Go, Byte, Give, Refuse, Place, AtBigDigit, AtBigFirst, AtBigSign, AtBigZeroLf, AtLineLf, AtTextEnd, InBig, InBigZeros, at, ended}
 use Rattle.resp_scan.specs.Room.{fits, over_total}
-use Rattle.resp_scan.specs.Machine.{big_digit, big_first, content_byte, is_digit, unless, wants}
-use Rattle.resp_scan.specs.Kinds.{content_events, rules_of}
+use Rattle.resp_scan.specs.Machine.{big_digit, big_first, content_byte, unless, wants}
+use Rattle.resp_scan.specs.Kinds.{rules_of}
 use Rattle.resp_scan.specs.Begun as b
 use Rattle.resp_scan.specs.Begun.{BigBegun, BigDigitOwed, BigShown, IsSigned, SignBegun, TextReturned, TextWhole, ZeroReturned}
 use Rattle.resp_scan.specs.Follows.{Counts, Inside, Leads, Lies}
@@ -137,16 +136,16 @@ first_leads s T negative byte front es roomy w any =
     let r = rules_of s in
     if_digit byte (λ x. Leads s front es byte (cond x (big_digit s negative byte) (Refuse cause.Syntax)))
     (λ d. big_digit_leads s T negative byte front es roomy d w (λ level bytes shown t. (any level bytes shown t).told)
-      (λ is level bytes shown t. zero_begins r negative byte level bytes shown is (any level bytes shown t))
-      (λ other level bytes shown t. digit_begins r negative byte level bytes shown d other (any level bytes shown t)))
+    (λ is level bytes shown t. zero_begins r negative byte level bytes shown is (any level bytes shown t))
+    (λ other level bytes shown t. digit_begins r negative byte level bytes shown d other (any level bytes shown t)))
     (λ d. broken r T s.frames front es 3 byte w (λ level bytes shown i t. let a = any level bytes shown t in number_begun r Big a.sign level bytes a.token)
-      (λ level bytes rest shown t c. let a = any level bytes shown t in begun_dead r Big a.sign level byte bytes rest a.no_sign d a.token c))
+    (λ level bytes rest shown t c. let a = any level bytes shown t in begun_dead r Big a.sign level byte bytes rest a.no_sign d a.token c))
 
 sign_leads : (s : Place) (byte used : ℕ) (front : List ℕ) (es : List Event) (sign : Sign) (negative : Bool) → Counts (at s AtBigSign) used front → Lies (at s AtBigSign) front es → byte ∷ [] ≡ sign_text sign → IsSigned negative sign → Leads (at s AtBigSign) front es byte (unless (over_total (at s AtBigSign) (used + 1) 3) (Go (at s (AtBigFirst negative))))
 sign_leads s byte used front es sign negative c w is signed =
     let r = rules_of s in
     let more : Inside r (SignBegun r Big negative) s.frames (front ++ byte ∷ []) es = goes r _ (SignBegun r Big negative) s.frames front (byte ∷ []) es w
-        (λ level bytes shown i t. record { sign = sign; is_signed = signed; token = sign_more r Big level bytes sign byte t.0.0 (sym is) t.0; told = t.1 }) in
+    (λ level bytes shown i t. record { sign = sign; is_signed = signed; token = sign_more r Big level bytes sign byte t.0.0 (sym is) t.0; told = t.1 }) in
     unless_over (at s AtBigSign) front es used byte 3 (Go (at s (AtBigFirst negative)))
     (fits_or_total (at s AtBigSign) (SignBegun r Big negative) front es es used byte 3 (Go (at s (AtBigFirst negative))) c more (λ level bytes shown i t. begun_row r Big negative level bytes shown t) more)
 
@@ -155,8 +154,8 @@ big_sign_leads s used byte front es is_byte c w =
     if_equal byte 45 (λ x. Leads (at s AtBigSign) front es byte (cond x (unless (over_total (at s AtBigSign) (used + 1) 3) (Go (at s (AtBigFirst true)))) (cond (eqb byte 43) (unless (over_total (at s AtBigSign) (used + 1) 3) (Go (at s (AtBigFirst false)))) (big_first (at s AtBigSign) false byte))))
     (λ is. sign_leads s byte used front es Minus true c w (ap (λ z. z ∷ []) is) refl)
     (λ no_minus. if_equal byte 43 (λ x. Leads (at s AtBigSign) front es byte (cond x (unless (over_total (at s AtBigSign) (used + 1) 3) (Go (at s (AtBigFirst false)))) (big_first (at s AtBigSign) false byte)))
-      (λ is. sign_leads s byte used front es Plus false c w (ap (λ z. z ∷ []) is) refl)
-      (λ no_plus. first_leads (at s AtBigSign) (b.Begun (rules_of s) AtBigSign) false byte front es c.sound.bounds.length_in_range.0 w (λ level bytes shown t. unsigned_any (rules_of s) Big byte level bytes shown no_plus no_minus t)))
+    (λ is. sign_leads s byte used front es Plus false c w (ap (λ z. z ∷ []) is) refl)
+    (λ no_plus. first_leads (at s AtBigSign) (b.Begun (rules_of s) AtBigSign) false byte front es c.sound.bounds.length_in_range.0 w (λ level bytes shown t. unsigned_any (rules_of s) Big byte level bytes shown no_plus no_minus t)))
 
 pub big_first_leads : BigFirstLeads
 big_first_leads s negative used byte front es is_byte c w =
@@ -191,8 +190,8 @@ big_zeros_lead s negative used byte front es is_byte c w =
     if_digit byte (λ x. Leads (at s (InBigZeros negative)) front es byte (cond x (cond (fits (at s (InBigZeros negative)) (used + 1) 2) (big_digit (at s (InBigZeros negative)) negative byte) (Refuse cause.Total)) (wants 13 byte (Go (at s AtBigZeroLf)))))
     (λ d. zeros_digit_leads s negative used byte front es d c w)
     (λ d. wants_leads (at s (InBigZeros negative)) (b.Begun r (InBigZeros negative)) front es 2 byte 13 (Go (at s AtBigZeroLf)) w (λ level bytes shown i t. row_of r negative [] level bytes t.0)
-      (λ other level bytes rest shown t dead. digits_dead r Big t.0.sign t.0.first level byte t.0.digits bytes rest other d t.0.token dead)
-      (λ is. subst (λ z. Lies (at s AtBigZeroLf) (front ++ z ∷ []) es) (sym is) (goes r (b.Begun r (InBigZeros negative)) (ZeroReturned r) s.frames front (13 ∷ []) es w (λ level bytes shown i t. zeros_return r negative level bytes shown t))))
+    (λ other level bytes rest shown t dead. digits_dead r Big t.0.sign t.0.first level byte t.0.digits bytes rest other d t.0.token dead)
+    (λ is. subst (λ z. Lies (at s AtBigZeroLf) (front ++ z ∷ []) es) (sym is) (goes r (b.Begun r (InBigZeros negative)) (ZeroReturned r) s.frames front (13 ∷ []) es w (λ level bytes shown i t. zeros_return r negative level bytes shown t))))
 
 zero_is_positive : (sign : Sign) (digits : List ℕ) → stripped digits ≡ [] → is_negative sign digits ≡ false
 zero_is_positive sign digits none =
@@ -218,7 +217,7 @@ big_zero_end_leads s used byte front es is_byte c w =
     (λ level bytes shown i t. returned_begun r (numeral Big t.sign t.digits) level bytes t.returned)
     (λ other level bytes rest shown t dead. returned_broken r (numeral Big t.sign t.digits) level bytes rest byte other t.returned dead)
     (λ is. subst (λ z. Lies (at s AtTextEnd) (front ++ z ∷ []) (es ++ e.Text (e.Big false) ∷ [])) (sym is)
-      (tells r (ZeroReturned r) (TextWhole r) s.frames front (10 ∷ []) es (e.Text (e.Big false) ∷ []) w (λ level bytes shown i t. zero_ends r level bytes shown t)))
+    (tells r (ZeroReturned r) (TextWhole r) s.frames front (10 ∷ []) es (e.Text (e.Big false) ∷ []) w (λ level bytes shown i t. zero_ends r level bytes shown t)))
 
 -- What is owed.
 
@@ -295,8 +294,8 @@ big_byte_leads s room used byte front es d c w =
     if_equal room 0 (λ z. Leads (at s (InBig room)) front es byte (cond z (Refuse cause.Length) (cond (fits (at s (InBig room)) (used + 1) 2) (Byte (at s (InBig (room - 1)))) (Refuse cause.Total))))
     (λ full. refused r (BigShown r room) WithinLength WithinDepth s.frames front (byte ∷ []) es refl (omega arith) w (λ level bytes shown i t. past_length r room byte level bytes shown d full t))
     (λ some.
-      let more = tells r (BigShown r room) (BigShown r (room - 1)) s.frames front (byte ∷ []) es (e.Byte byte ∷ []) w (λ level bytes shown i t. digits_more r room byte level bytes shown d (positive room some) t) in
-      fits_or_total (at s (InBig room)) (BigShown r (room - 1)) front es (es ++ e.Byte byte ∷ []) used byte 2 (Byte (at s (InBig (room - 1)))) c more (λ level bytes shown i t. shown_row r (room - 1) level bytes shown t) more)
+    let more = tells r (BigShown r room) (BigShown r (room - 1)) s.frames front (byte ∷ []) es (e.Byte byte ∷ []) w (λ level bytes shown i t. digits_more r room byte level bytes shown d (positive room some) t) in
+    fits_or_total (at s (InBig room)) (BigShown r (room - 1)) front es (es ++ e.Byte byte ∷ []) used byte 2 (Byte (at s (InBig (room - 1)))) c more (λ level bytes shown i t. shown_row r (room - 1) level bytes shown t) more)
   where
     positive : (n : ℕ) → (n ≡ 0 → ⊥) → 0 < n
     positive n some = grind (arith, nat_tests)
@@ -307,5 +306,5 @@ big_leads s room used byte front es is_byte c w =
     if_digit byte (λ x. Leads (at s (InBig room)) front es byte (cond x (content_byte (at s (InBig room)) (used + 1) room InBig) (wants 13 byte (Go (at s AtLineLf)))))
     (λ d. big_byte_leads s room used byte front es d c w)
     (λ d. wants_leads (at s (InBig room)) (BigShown r room) front es 2 byte 13 (Go (at s AtLineLf)) w (λ level bytes shown i t. shown_row r room level bytes shown t)
-      (λ other level bytes rest shown t dead. digits_dead r Big t.token.sign t.token.first level byte t.token.digits bytes rest other d t.token.token dead)
-      (λ is. subst (λ z. Lies (at s AtLineLf) (front ++ z ∷ []) es) (sym is) (goes r (BigShown r room) (TextReturned r) s.frames front (13 ∷ []) es w (λ level bytes shown i t. shown_returns r room level bytes shown t))))
+    (λ other level bytes rest shown t dead. digits_dead r Big t.token.sign t.token.first level byte t.token.digits bytes rest other d t.token.token dead)
+    (λ is. subst (λ z. Lies (at s AtLineLf) (front ++ z ∷ []) es) (sym is) (goes r (BigShown r room) (TextReturned r) s.frames front (13 ∷ []) es w (λ level bytes shown i t. shown_returns r room level bytes shown t))))

@@ -2,19 +2,18 @@
 use Rattle.std.specs.Prelude.{Bool, true, false, cond, eqb, get_or, ◌||◌, Option, None, Some, Result, Ok, Err, IsOk, IfErr, OnOk, ◌↔◌}
 use Rattle.std.proofs.lemmas.Bool.{false≢true}
 use Rattle.std.proofs.lemmas.Bool.Decides.{nat_tests}
-use Rattle.std.proofs.Common.{◌≡◌, ◌⊎◌, inl, inr, ℕ, suc, ◌+◌, ◌-◌, ◌<◌, ◌≤◌, List, [], ◌∷◌, ◌++◌, length, refl, sym, ap, subst, ◌∙◌, arith, append-nil}
+use Rattle.std.proofs.Common.{◌≡◌, ◌⊎◌, inl, inr, ℕ, suc, ◌<◌, ◌≤◌, List, [], ◌∷◌, ◌++◌, length, refl, sym, ap, subst, ◌∙◌, arith, append-nil}
 use Rattle.resp_value.specs.Bytes.{IsText}
 use Rattle.resp_value.specs.declared.version.Version.{Version}
 use Rattle.resp_scan.specs.declared.event.Busy.{Busy}
-use Rattle.resp_value.specs.Rules.{Rules, WithinItems, WithinTotal}
-use Rattle.resp_value.specs.Trees.{Spells, Tree, leaf, text}
+use Rattle.resp_value.specs.Rules.{Rules}
+use Rattle.resp_value.specs.Trees.{Spells, leaf, text}
 use Rattle.resp_value.specs.declared.cause.Cause.{Cause}
 use Rattle.resp_value.specs.declared.cause.Cause.TheVariants as cause
 use Rattle.resp_value.proofs.Unique.{unique}
 use Rattle.resp_follow.specs.Events as e
 use Rattle.resp_follow.specs.Frames as opened
 use Rattle.resp_follow.specs.Frames.{around}
-use Rattle.resp_follow.specs.LeastCompletions.{IsLeast}
 use Rattle.resp_follow.proofs.BegunFronts.{IsBegunBy}
 use Rattle.resp_follow.proofs.EventsAround.{length-around, next_member_at}
 use Rattle.resp_follow.proofs.FrontLaws.{all_rules}
@@ -30,8 +29,8 @@ use Rattle.resp_scan.specs.Kinds.{rules_of}
 use Rattle.resp_scan.specs.Begun as b
 use Rattle.resp_scan.specs.Begun.{TextWhole}
 use Rattle.resp_scan.specs.End.{end_cause, end_cause_in}
-use Rattle.resp_scan.specs.Follows.{Between, Closing, ClosingIn, Ended, Inside, Lies, LiesAt, Whole, busy_levels, waiting_levels}
-use Rattle.resp_scan.specs.Sound.{IsSound, IsSoundBy, needed, token_needed}
+use Rattle.resp_scan.specs.Follows.{Between, ClosingIn, Ended, Inside, Lies, LiesAt, waiting_levels}
+use Rattle.resp_scan.specs.Sound.{IsSound, needed, token_needed}
 use Rattle.resp_scan.specs.Steps.{Follows, IsFaulted, IsSpelled, MayEnd}
 use Rattle.resp_scan.specs.Scan as scan
 use Rattle.resp_scan.specs.Scan.{Out, More, Gave, Part, Bad, advanced}
@@ -143,6 +142,7 @@ between_values s front es c w = (λ h. none_taken s.token s.frames h.0 h.1 w.lie
             none : (gs : List opened.Frame) → AreLevelsOf [] gs → front ≡ around gs [] → front ≡ []
             none [] a e = e
             none (g ∷ gs) a e = absurd a
+
     case : front ≡ [] → AtFrontOrBehind s.token s.frames front → (s.token ≡ AtStart) × (s.frames ≡ [])
     case e (inl h) = h
     case e (inr h) = absurd (omega (arith, h, ap length e))
@@ -247,22 +247,25 @@ end_told s front es sound w = (λ m. end_is s front es w ∙ ends m, λ e. may (
         or_true : (x : Bool) → cond (x || true) None (Some cause.Truncated) ≡ None
         or_true true = refl
         or_true false = refl
+
     may : ends_by s ≡ None → MayEnd (rules_of s) front
     may e = elim (eqb s.taken 0) as (λ x. eqb s.taken 0 ≡ x → cond (x || eqb (needed s) 0) None (Some cause.Truncated) ≡ None → MayEnd (rules_of s) front) [
       | true ↦ λ z y. inl (no_bytes front (omega (arith, w.taken, first_zero s.taken z)))
       | false ↦ λ z y. elim (eqb (needed s) 0) as (λ x. eqb (needed s) 0 ≡ x → cond x None (Some cause.Truncated) ≡ None → MayEnd (rules_of s) front) [
-          | true ↦ λ q r. inr (spelled_where_none s front es sound w (first_zero (needed s) q))
-          | false ↦ λ q r. absurd cc
-        ] refl y
+        | true ↦ λ q r. inr (spelled_where_none s front es sound w (first_zero (needed s) q))
+        | false ↦ λ q r. absurd cc
+      ] refl y
     ] refl e
       where
         first_zero : (n : ℕ) → eqb n 0 ≡ true → n ≡ 0
         first_zero n z = grind (arith, nat_tests)
+
         no_bytes : (rest : List ℕ) → length rest ≡ 0 → rest ≡ []
         no_bytes [] e = refl
         no_bytes (b ∷ bs) e = absurd (omega (arith, e))
+
     truncated : (c : Cause) → ends_by s ≡ Some c → c ≡ cause.Truncated
-    truncated c e = elim (eqb s.taken 0 || eqb (needed s) 0) as (λ x. cond x None (Some cause.Truncated) ≡ Some c → c ≡ cause.Truncated) [ | true ↦ λ y. absurd cc | false ↦ λ y. cc ] e
+    truncated c e = elim (eqb s.taken 0 || eqb (needed s) 0) as (λ x. cond x None (Some cause.Truncated) ≡ Some c → c ≡ cause.Truncated) [ true ↦ λ y. absurd cc | false ↦ λ y. cc ] e
 
 -- Version and limits stay.
 

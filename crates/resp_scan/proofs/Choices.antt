@@ -1,9 +1,9 @@
 -- Tests of bytes, by what they say.
-use Rattle.std.specs.Prelude.{◌≡◌, ℕ, ◌+◌, ◌<◌, ◌≤◌, Bool, true, false, ◌&&◌, cond, eqb, nat_le, nat_lt, List, [], ◌∷◌, ◌++◌, length, refl}
+use Rattle.std.specs.Prelude.{◌≡◌, ℕ, ◌<◌, ◌≤◌, Bool, true, false, ◌&&◌, cond, eqb, nat_le, nat_lt, List, ◌∷◌, length, refl}
 use Rattle.std.proofs.lemmas.Bool.Decides.{nat_tests}
-use Rattle.std.proofs.Common.{arith, sym, subst}
+use Rattle.std.proofs.Common.{arith}
 use Rattle.resp_value.specs.Numbers.{IsDigit}
-use Rattle.resp_value.specs.Rules.{Rules, Grammar}
+use Rattle.resp_value.specs.Rules.{Grammar}
 use Rattle.resp_value.specs.declared.cause.Cause.TheVariants as cause
 use Rattle.resp_follow.specs.Events.{Event}
 use Rattle.resp_follow.proofs.CountRows.{CompletesUnder}

@@ -1,9 +1,6 @@
 -- Closes: the one that is owed of a counted aggregate, and the line of a streamed one.
-use Rattle.std.specs.Prelude.{Bool, true, false, cond, eqb}
-use Rattle.std.proofs.lemmas.Bool.Decides.{nat_tests}
-use Rattle.std.proofs.Common.{◌≡◌, ℕ, zero, suc, ◌+◌, ◌-◌, ◌*◌, ◌%◌, ◌<◌, ◌≤◌, List, [], ◌∷◌, ◌++◌, length, refl, sym, ap, subst, ◌∙◌, arith, append_assoc, append-nil}
-use Rattle.resp_value.specs.Data.{Kind}
-use Rattle.resp_value.specs.Data as d
+use Rattle.std.specs.Prelude.{cond}
+use Rattle.std.proofs.Common.{◌≡◌, ℕ, ◌+◌, List, [], ◌∷◌, ◌++◌, length, refl, sym, ap, subst, ◌∙◌, arith, append_assoc, append-nil}
 use Rattle.resp_value.specs.Trees as t
 use Rattle.resp_value.specs.Trees.{Form, HasMembers, Streamed, Trees, close, count, form_line, kind_byte, node, text, texts}
 use Rattle.resp_value.specs.Rules.{Rules, Grammar, WithinItems}
@@ -12,10 +9,10 @@ use Rattle.resp_value.specs.declared.cause.Cause.TheVariants as cause
 use Rattle.resp_value.proofs.Unique.{not_close}
 use Rattle.resp_follow.specs.Frames as opened
 use Rattle.resp_follow.specs.Frames.{around, open_text}
-use Rattle.resp_follow.specs.MayFollow.{IsWholeText, MayFollowFrames, MembersThen, missing}
+use Rattle.resp_follow.specs.MayFollow.{IsWholeText, MayFollowFrames, missing}
 use Rattle.resp_follow.specs.Events.{Event, close_event, events, events_around, given}
 use Rattle.resp_follow.specs.Events as e
-use Rattle.resp_follow.proofs.Composition.{around-append, determine}
+use Rattle.resp_follow.proofs.Composition.{determine}
 use Rattle.resp_follow.proofs.BetweenValues.{ready_open}
 use Rattle.resp_follow.proofs.EventsAround.{events-closed}
 use Rattle.resp_follow.proofs.FirstRuleBroken.{grammar_cause}
@@ -27,8 +24,8 @@ use Rattle.resp_scan.specs.declared.frame.Frame.{Frame}
 use Rattle.resp_scan.specs.Tokens as k
 use Rattle.resp_scan.specs.Tokens.{Give, Go, Move, Place, Refuse, AtCloseCr, AtCloseLf, AtEnd, at, ended, within}
 use Rattle.resp_scan.specs.Machine.{wants, without_first}
-use Rattle.resp_scan.specs.Kinds.{IsRefusedFor, kind_of, rules_of}
-use Rattle.resp_scan.specs.Follows.{Closing, ClosingIn, Leads, Lies, LiesAt, busy_levels}
+use Rattle.resp_scan.specs.Kinds.{IsRefusedFor, rules_of}
+use Rattle.resp_scan.specs.Follows.{Closing, ClosingIn, Leads, LiesAt, busy_levels}
 use Rattle.resp_scan.proofs.TokenLaws.{CloseIsOwed, CloseCrLeads, CloseEndLeads}
 use Rattle.resp_scan.proofs.Moves.{given-append, longer, value_lies}
 use Rattle.resp_scan.proofs.Choices.{if_equal}

@@ -1,7 +1,6 @@
 -- The digits of an aggregate's count.
-use Rattle.std.specs.Prelude.{Bool, true, false, cond, eqb, nat_lt, None, Some, ◌/◌}
-use Rattle.std.proofs.lemmas.Bool.Decides.{nat_tests}
-use Rattle.std.proofs.Common.{◌≡◌, ℕ, suc, ◌+◌, ◌-◌, ◌*◌, ◌<◌, ◌≤◌, List, [], ◌∷◌, ◌++◌, length, refl, sym, ap, subst, ◌∙◌, arith}
+use Rattle.std.specs.Prelude.{cond, nat_lt, Some}
+use Rattle.std.proofs.Common.{◌≡◌, ℕ, ◌+◌, ◌-◌, ◌*◌, ◌<◌, ◌≤◌, List, [], ◌∷◌, ◌++◌, refl, sym, ap, subst, ◌∙◌, arith}
 use Rattle.resp_value.specs.Data.{Kind, items_of, members_of}
 use Rattle.resp_value.specs.Data as d
 use Rattle.resp_value.specs.Numbers.{IsDigit, number}
@@ -11,19 +10,18 @@ use Rattle.resp_follow.specs.Events.{Event}
 use Rattle.resp_follow.proofs.CountRows.{IsRefusedHere}
 use Rattle.resp_follow.proofs.BegunLines.{number-digit}
 use Rattle.resp_follow.proofs.BegunFronts.{IsBegunBy}
-use Rattle.resp_follow.proofs.HeadTokens.{IsCountToken, count_begun, count_token_broken, count_token_more, count_token_over}
-use Rattle.resp_scan.specs.declared.machine.Head.{Head}
+use Rattle.resp_follow.proofs.HeadTokens.{count_begun, count_token_broken, count_token_more, count_token_over}
 use Rattle.resp_scan.specs.declared.machine.Head.TheVariants as head
-use Rattle.resp_scan.specs.Tokens.{Go, Move, Place, Refuse, Token, AtHeadLf, InHead, at}
+use Rattle.resp_scan.specs.Tokens.{Go, Move, Place, Token, AtHeadLf, InHead, at}
 use Rattle.resp_scan.specs.Room.{over_total}
-use Rattle.resp_scan.specs.Machine.{is_digit, unless, wants}
+use Rattle.resp_scan.specs.Machine.{unless, wants}
 use Rattle.resp_scan.specs.Kinds.{rules_of}
 use Rattle.resp_scan.specs.Begun.{CountBegun, CountReturned}
 use Rattle.resp_scan.specs.Follows.{Counts, Inside, Leads, Lies}
 use Rattle.resp_scan.proofs.TokenLaws.{ArrayCountLeads, SetCountLeads, MapCountLeads, AttrCountLeads, PushCountLeads}
 use Rattle.resp_scan.proofs.Moves.{goes}
 use Rattle.resp_scan.proofs.RefusedMoves.{fits_or_total, refused, unless_over}
-use Rattle.resp_scan.proofs.Choices.{if_below, if_digit, if_equal, wants_leads}
+use Rattle.resp_scan.proofs.Choices.{if_below, if_digit, wants_leads}
 
 pub items_of-members_of : (k : Kind) (n : ℕ) → items_of k (members_of k n) ≡ n
 items_of-members_of d.Array n = refl
@@ -67,8 +65,8 @@ digit_leads s k n needed used byte token front es e d c w lies =
     if_below s.bounds.items m (λ x. Leads s front es byte (unless (cond x (Some cause.Items) (over_total s (used + 1) needed)) (Go (at s token))))
     (λ past. refused r (CountBegun r k n) WithinItems WithinLength s.frames front (byte ∷ []) es refl (omega arith) w (λ level bytes shown i t. too_many r k n byte level bytes shown d past t))
     (λ fits.
-      let more = goes r (CountBegun r k n) (CountBegun r k m) s.frames front (byte ∷ []) es w (λ level bytes shown i t. counts_more r k n byte level bytes shown d fits t) in
-      unless_over s front es used byte needed (Go (at s token)) (fits_or_total s (CountBegun r k m) front es es used byte needed (Go (at s token)) c more (λ level bytes shown i t. count_row r k m needed level bytes shown e t) (lies more)))
+    let more = goes r (CountBegun r k n) (CountBegun r k m) s.frames front (byte ∷ []) es w (λ level bytes shown i t. counts_more r k n byte level bytes shown d fits t) in
+    unless_over s front es used byte needed (Go (at s token)) (fits_or_total s (CountBegun r k m) front es es used byte needed (Go (at s token)) c more (λ level bytes shown i t. count_row r k m needed level bytes shown e t) (lies more)))
 
 returns : (r : Rules) (k : Kind) (n level : ℕ) (bytes : List ℕ) (shown : List Event) → CountBegun r k n level bytes shown → CountReturned r k n level (bytes ++ 13 ∷ []) shown
 returns r k n level bytes shown w = record { first = w.first; digits = w.digits; returned = record { begun = bytes; count = w.token; returned = refl }; valued = w.valued; told = w.told }

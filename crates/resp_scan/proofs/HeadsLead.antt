@@ -1,14 +1,12 @@
 -- The heads of aggregates before their digits, and the mark of streamed ones.
-use Rattle.std.specs.Prelude.{Bool, true, false, cond, eqb, nat_le, nat_lt, None, Some, ◌⊎◌}
-use Rattle.std.proofs.lemmas.Bool.Decides.{nat_tests}
-use Rattle.std.proofs.Common.{◌≡◌, inl, inr, ℕ, suc, ◌+◌, ◌-◌, ◌*◌, ◌<◌, ◌≤◌, List, [], ◌∷◌, ◌++◌, length, refl, sym, ap, subst, ◌∙◌, arith, append_assoc, append-nil}
-use Rattle.resp_value.specs.Bounds.{AreBounds}
+use Rattle.std.specs.Prelude.{Bool, true, false, cond, None, Some}
+use Rattle.std.proofs.Common.{◌≡◌, inr, ℕ, ◌+◌, ◌-◌, ◌*◌, ◌<◌, ◌≤◌, List, [], ◌∷◌, ◌++◌, length, refl, sym, ap, subst, ◌∙◌, arith, append-nil}
 use Rattle.resp_value.specs.Bytes.{IsLine, crlf}
 use Rattle.resp_value.specs.Data.{Kind, items_of, members_of}
 use Rattle.resp_value.specs.Data as d
 use Rattle.resp_value.specs.Numbers.{IsDigit, number}
-use Rattle.resp_value.specs.Trees.{CanStream, Counted, HasMembers, Streamed, kind_byte, node, none}
-use Rattle.resp_value.specs.Rules.{Rules, Rule, Grammar, NoDouble, InVersion, InRange, IsNodeInTwo, NotStreamed, WithinDepth, WithinItems, rank}
+use Rattle.resp_value.specs.Trees.{CanStream, Counted, Streamed, kind_byte, node, none}
+use Rattle.resp_value.specs.Rules.{Rules, Grammar, NoDouble, InVersion, InRange, IsNodeInTwo, NotStreamed, WithinDepth, WithinItems, rank}
 use Rattle.resp_value.specs.LocalRules.{IsNoPushBelow, LeafKeeps, NodeKeeps, NodeMeets}
 use Rattle.resp_value.specs.declared.cause.Cause.TheVariants as cause
 use Rattle.resp_value.specs.declared.version.Version.{Version}
@@ -16,28 +14,26 @@ use Rattle.resp_value.specs.declared.version.Version.TheVariants as version
 use Rattle.resp_follow.specs.Events.{Event}
 use Rattle.resp_follow.specs.Events as e
 use Rattle.resp_follow.specs.LeastCompletions.{HasLeast}
-use Rattle.resp_follow.specs.MayFollow.{CanEnd, missing}
+use Rattle.resp_follow.specs.MayFollow.{missing}
 use Rattle.resp_follow.proofs.BegunFronts.{IsBegunBy}
 use Rattle.resp_follow.proofs.BegunTypeBytes.{aggregate_begun, attribute_begun, star_begun, star_deep_begun}
 use Rattle.resp_follow.proofs.BrokenHeads.{IsNoCount, count_begun_broken, count_short, no_mark}
 use Rattle.resp_follow.proofs.BrokenLines.{behind_return_broken, byte_broken, return_broken, streamed_broken}
 use Rattle.resp_follow.proofs.CountRows.{CompletesUnder, IsRefusedHere, byte_line}
-use Rattle.resp_follow.proofs.HeadTokens.{IsCountToken}
 use Rattle.resp_follow.proofs.KeptNodes.{at_each_rule, node_keeps}
-use Rattle.resp_follow.proofs.NumberTokens.{star_null_begun}
 use Rattle.resp_follow.proofs.RefusedBytes.{array_too_deep}
 use Rattle.resp_follow.proofs.ShortRows.{next_row}
-use Rattle.resp_follow.proofs.StreamedHeads.{HasStreamed, streamed_array_in_two, streamed_begun, streamed_off, streamed_too_deep}
+use Rattle.resp_follow.proofs.StreamedHeads.{streamed_array_in_two, streamed_begun, streamed_off, streamed_too_deep}
 use Rattle.resp_scan.specs.declared.event.OpenKind.{OpenKind}
 use Rattle.resp_scan.specs.declared.event.OpenKind.TheVariants as kind
-use Rattle.resp_scan.specs.declared.frame.Shape.TheVariants.{Left, Begun}
+use Rattle.resp_scan.specs.declared.frame.Shape.TheVariants.{Begun}
 use Rattle.resp_scan.specs.declared.machine.Head.TheVariants as head
 use Rattle.resp_scan.specs.Tokens as k
 use Rattle.resp_scan.specs.Tokens.{Give, Go, Move, Place, Refuse, Token, AtArrayHead, AtHead, AtNullOne, AtOpenCr, AtOpenLf, InHead, at}
 use Rattle.resp_scan.specs.Heads as h
 use Rattle.resp_scan.specs.Heads.{aggregate_cause, by_version}
 use Rattle.resp_scan.specs.Room.{is_full, over_total}
-use Rattle.resp_scan.specs.Machine.{array_head, full_cause, full_streamed, head_first, is_digit, unless, wants}
+use Rattle.resp_scan.specs.Machine.{full_cause, full_streamed, head_first, is_digit, unless}
 use Rattle.resp_scan.specs.Kinds.{kind_of, rules_of}
 use Rattle.resp_scan.specs.Begun as b
 use Rattle.resp_scan.specs.Begun.{AggregateBegun, CountBegun, StreamBegun}
@@ -97,8 +93,8 @@ first_digit_leads s T k needed used byte token front es e digit c w may lies =
     if_below s.bounds.items (byte - 48) (λ x. Leads s front es byte (unless (cond x (Some cause.Items) (over_total s (used + 1) needed)) (Go (at s token))))
     (λ past. absurd (omega (arith, past, roomy, digit.1)))
     (λ fits.
-      let more = goes r T (CountBegun r k (byte - 48)) s.frames front (byte ∷ []) es w (λ level bytes shown i t. count_begins r k byte level bytes shown roomy digit (may level bytes shown i t)) in
-      unless_over s front es used byte needed (Go (at s token)) (fits_or_total s (CountBegun r k (byte - 48)) front es es used byte needed (Go (at s token)) c more (λ level bytes shown i t. count_row r k (byte - 48) needed level bytes shown e t) (lies more)))
+    let more = goes r T (CountBegun r k (byte - 48)) s.frames front (byte ∷ []) es w (λ level bytes shown i t. count_begins r k byte level bytes shown roomy digit (may level bytes shown i t)) in
+    unless_over s front es used byte needed (Go (at s token)) (fits_or_total s (CountBegun r k (byte - 48)) front es es used byte needed (Go (at s token)) c more (λ level bytes shown i t. count_row r k (byte - 48) needed level bytes shown e t) (lies more)))
 
 -- The mark of streamed aggregates.
 
@@ -118,6 +114,7 @@ mark_leads s T o used byte front es is can c w may in_two below = by_cases s.ver
   where
     two_bytes : (level : ℕ) (bytes : List ℕ) (shown : List Event) → MayCount (rules_of s) (kind_of o) level bytes shown → bytes ++ byte ∷ [] ≡ kind_byte (kind_of o) ∷ 63 ∷ []
     two_bytes level bytes shown t = ap (λ z. z ++ byte ∷ []) t.are ∙ ap (λ z. kind_byte (kind_of o) ∷ z ∷ []) is
+
     by_cases : (v : Version) → s.version ≡ v → (on : Bool) → s.bounds.streamed ≡ on → Leads s front es byte (unless (by_version v (cond on (cond (is_full s) (Some cause.Depth) (over_total s (used + 1) 5)) (Some cause.Streamed))) (Go (at s (AtOpenCr o))))
     by_cases version.Two two on e = refused (rules_of s) T InVersion NoDouble s.frames front (byte ∷ []) es refl (omega arith) w (λ level bytes shown i t. (_, _, two_bytes level bytes shown (may level bytes shown i t), in_two level i two))
     by_cases version.Three three false off = refused (rules_of s) T NotStreamed InRange s.frames front (byte ∷ []) es refl (omega arith) w (λ level bytes shown i t. (_, _, two_bytes level bytes shown (may level bytes shown i t), streamed_off (rules_of s) (kind_of o) level (no_two_in_three s.version three) off can (may level bytes shown i t).no_push))
@@ -125,8 +122,8 @@ mark_leads s T o used byte front es is can c w may in_two below = by_cases s.ver
         if_within s.bounds.depth (length s.frames) (λ x. Leads s front es byte (unless (cond x (Some cause.Depth) (over_total s (used + 1) 5)) (Go (at s (AtOpenCr o)))))
         (λ full. absurd (omega (arith, full, below)))
         (λ open_here.
-          let more = goes (rules_of s) T (StreamBegun (rules_of s) (kind_of o) []) s.frames front (byte ∷ []) es w (λ level bytes shown i t. mark_more (rules_of s) (kind_of o) level byte bytes shown is (no_two_in_three s.version three) (λ off. let e : true ≡ false = sym on ∙ off in cc) can (may level bytes shown i t)) in
-          unless_over s front es used byte 5 (Go (at s (AtOpenCr o))) (fits_or_total s (StreamBegun (rules_of s) (kind_of o) []) front es es used byte 5 (Go (at s (AtOpenCr o))) c more (λ level bytes shown i t. stream_row (rules_of s) (kind_of o) level bytes shown t) more))
+        let more = goes (rules_of s) T (StreamBegun (rules_of s) (kind_of o) []) s.frames front (byte ∷ []) es w (λ level bytes shown i t. mark_more (rules_of s) (kind_of o) level byte bytes shown is (no_two_in_three s.version three) (λ off. let e : true ≡ false = sym on ∙ off in cc) can (may level bytes shown i t)) in
+        unless_over s front es used byte 5 (Go (at s (AtOpenCr o))) (fits_or_total s (StreamBegun (rules_of s) (kind_of o) []) front es es used byte 5 (Go (at s (AtOpenCr o))) c more (λ level bytes shown i t. stream_row (rules_of s) (kind_of o) level bytes shown t) more))
 
 -- the type byte of an aggregate whose count may be zero
 pub aggregate_row : (r : Rules) (k : Kind) (level : ℕ) (bytes : List ℕ) (shown : List Event) → members_of k 0 ≡ 0 → AggregateBegun r k level bytes shown → IsBegunBy r level bytes 3
@@ -146,9 +143,9 @@ set_head_leads s used byte front es is_byte c w =
     if_equal byte 63 (λ x. Leads p front es byte (cond x (unless (aggregate_cause p (used + 1)) (Go (at s (AtOpenCr kind.Set)))) (cond (is_digit byte) (count_digit p (used + 1) (byte - 48) ((byte - 48) * 3 + 2) (InHead head.Set (byte - 48))) (Refuse cause.Syntax))))
     (λ is. mark_leads p (AggregateBegun r d.Set) kind.Set used byte front es is tt c w (λ level bytes shown i t. of_three r d.Set level bytes shown t) (λ level i two. absurd (three_alone s d.Set front es w two)) (room_left s d.Set front es w))
     (λ no_mark_here. if_digit byte (λ x. Leads p front es byte (cond x (count_digit p (used + 1) (byte - 48) ((byte - 48) * 3 + 2) (InHead head.Set (byte - 48))) (Refuse cause.Syntax)))
-      (λ digit. first_digit_leads p (AggregateBegun r d.Set) d.Set ((byte - 48) * 3 + 2) used byte (InHead head.Set (byte - 48)) front es (omega arith) digit c w (λ level bytes shown i t. of_three r d.Set level bytes shown t) (λ x. x))
-      (λ no_digit. broken r (AggregateBegun r d.Set) s.frames front es 3 byte w (λ level bytes shown i t. aggregate_row r d.Set level bytes shown refl t)
-        (λ level bytes rest shown t dead. head_dead r d.Set level byte bytes rest (no_mark_here, no_digit) t.are dead)))
+    (λ digit. first_digit_leads p (AggregateBegun r d.Set) d.Set ((byte - 48) * 3 + 2) used byte (InHead head.Set (byte - 48)) front es (omega arith) digit c w (λ level bytes shown i t. of_three r d.Set level bytes shown t) (λ x. x))
+    (λ no_digit. broken r (AggregateBegun r d.Set) s.frames front es 3 byte w (λ level bytes shown i t. aggregate_row r d.Set level bytes shown refl t)
+    (λ level bytes rest shown t dead. head_dead r d.Set level byte bytes rest (no_mark_here, no_digit) t.are dead)))
 
 pub map_head_leads : MapHeadLeads
 map_head_leads s used byte front es is_byte c w =
@@ -157,9 +154,9 @@ map_head_leads s used byte front es is_byte c w =
     if_equal byte 63 (λ x. Leads p front es byte (cond x (unless (aggregate_cause p (used + 1)) (Go (at s (AtOpenCr kind.Map)))) (cond (is_digit byte) (count_digit p (used + 1) (byte - 48) ((byte - 48) * 6 + 2) (InHead head.Map (byte - 48))) (Refuse cause.Syntax))))
     (λ is. mark_leads p (AggregateBegun r d.Map) kind.Map used byte front es is (0, refl) c w (λ level bytes shown i t. of_three r d.Map level bytes shown t) (λ level i two. absurd (three_alone s d.Map front es w two)) (room_left s d.Map front es w))
     (λ no_mark_here. if_digit byte (λ x. Leads p front es byte (cond x (count_digit p (used + 1) (byte - 48) ((byte - 48) * 6 + 2) (InHead head.Map (byte - 48))) (Refuse cause.Syntax)))
-      (λ digit. first_digit_leads p (AggregateBegun r d.Map) d.Map ((byte - 48) * 6 + 2) used byte (InHead head.Map (byte - 48)) front es (omega arith) digit c w (λ level bytes shown i t. of_three r d.Map level bytes shown t) (λ x. x))
-      (λ no_digit. broken r (AggregateBegun r d.Map) s.frames front es 3 byte w (λ level bytes shown i t. aggregate_row r d.Map level bytes shown refl t)
-        (λ level bytes rest shown t dead. head_dead r d.Map level byte bytes rest (no_mark_here, no_digit) t.are dead)))
+    (λ digit. first_digit_leads p (AggregateBegun r d.Map) d.Map ((byte - 48) * 6 + 2) used byte (InHead head.Map (byte - 48)) front es (omega arith) digit c w (λ level bytes shown i t. of_three r d.Map level bytes shown t) (λ x. x))
+    (λ no_digit. broken r (AggregateBegun r d.Map) s.frames front es 3 byte w (λ level bytes shown i t. aggregate_row r d.Map level bytes shown refl t)
+    (λ level bytes rest shown t dead. head_dead r d.Map level byte bytes rest (no_mark_here, no_digit) t.are dead)))
 
 pub attr_head_leads : AttrHeadLeads
 attr_head_leads s used byte front es is_byte c w =
@@ -169,8 +166,8 @@ attr_head_leads s used byte front es is_byte c w =
     if_equal byte 63 (λ x. Leads p front es byte (cond x (Refuse cause.Syntax) (cond (is_digit byte) (count_digit p (used + 1) (byte - 48) ((byte - 48) * 6 + 5) (InHead head.Attr (byte - 48))) (Refuse cause.Syntax))))
     (λ is. broken r (AggregateBegun r d.Attr) s.frames front es 6 byte w row (λ level bytes rest shown t dead. mark_dead r d.Attr level byte bytes rest is (λ n can. can) t.are dead))
     (λ no_mark_here. if_digit byte (λ x. Leads p front es byte (cond x (count_digit p (used + 1) (byte - 48) ((byte - 48) * 6 + 5) (InHead head.Attr (byte - 48))) (Refuse cause.Syntax)))
-      (λ digit. first_digit_leads p (AggregateBegun r d.Attr) d.Attr ((byte - 48) * 6 + 5) used byte (InHead head.Attr (byte - 48)) front es (omega arith) digit c w (λ level bytes shown i t. of_three r d.Attr level bytes shown t) (λ x. x))
-      (λ no_digit. broken r (AggregateBegun r d.Attr) s.frames front es 6 byte w row (λ level bytes rest shown t dead. head_dead r d.Attr level byte bytes rest no_digit t.are dead)))
+    (λ digit. first_digit_leads p (AggregateBegun r d.Attr) d.Attr ((byte - 48) * 6 + 5) used byte (InHead head.Attr (byte - 48)) front es (omega arith) digit c w (λ level bytes shown i t. of_three r d.Attr level bytes shown t) (λ x. x))
+    (λ no_digit. broken r (AggregateBegun r d.Attr) s.frames front es 6 byte w row (λ level bytes rest shown t dead. head_dead r d.Attr level byte bytes rest no_digit t.are dead)))
 
 pub push_head_leads : PushHeadLeads
 push_head_leads s used byte front es is_byte c w =
@@ -179,9 +176,9 @@ push_head_leads s used byte front es is_byte c w =
     if_equal byte 63 (λ x. Leads p front es byte (cond x (Refuse cause.Syntax) (cond (is_digit byte) (count_digit p (used + 1) (byte - 48) ((byte - 48) * 3 + 2) (InHead head.Push (byte - 48))) (Refuse cause.Syntax))))
     (λ is. broken r (AggregateBegun r d.Push) s.frames front es 3 byte w (λ level bytes shown i t. aggregate_row r d.Push level bytes shown refl t) (λ level bytes rest shown t dead. mark_dead r d.Push level byte bytes rest is (λ n can. can) t.are dead))
     (λ no_mark_here. if_digit byte (λ x. Leads p front es byte (cond x (count_digit p (used + 1) (byte - 48) ((byte - 48) * 3 + 2) (InHead head.Push (byte - 48))) (Refuse cause.Syntax)))
-      (λ digit. first_digit_leads p (AggregateBegun r d.Push) d.Push ((byte - 48) * 3 + 2) used byte (InHead head.Push (byte - 48)) front es (omega arith) digit c w (λ level bytes shown i t. of_three r d.Push level bytes shown t) (λ x. x))
-      (λ no_digit. broken r (AggregateBegun r d.Push) s.frames front es 3 byte w (λ level bytes shown i t. aggregate_row r d.Push level bytes shown refl t)
-        (λ level bytes rest shown t dead. head_dead r d.Push level byte bytes rest no_digit t.are dead)))
+    (λ digit. first_digit_leads p (AggregateBegun r d.Push) d.Push ((byte - 48) * 3 + 2) used byte (InHead head.Push (byte - 48)) front es (omega arith) digit c w (λ level bytes shown i t. of_three r d.Push level bytes shown t) (λ x. x))
+    (λ no_digit. broken r (AggregateBegun r d.Push) s.frames front es 3 byte w (λ level bytes shown i t. aggregate_row r d.Push level bytes shown refl t)
+    (λ level bytes rest shown t dead. head_dead r d.Push level byte bytes rest no_digit t.are dead)))
 
 -- Arrays, which version 2 has too, and whose depth is tested behind `*`.
 
@@ -209,13 +206,14 @@ deep_leads s byte front es no_minus deep w =
     if_equal byte 63 (λ x. Leads p front es byte (Refuse (cond x (full_streamed s.version s.bounds.streamed) (cond (is_digit byte) cause.Depth cause.Syntax))))
     (λ is. by_cases is s.version refl s.bounds.streamed refl)
     (λ no_mark_here. if_digit byte (λ x. Leads p front es byte (Refuse (cond x cause.Depth cause.Syntax)))
-      (λ digit. refused r T WithinDepth NotStreamed s.frames front (byte ∷ []) es refl (omega arith) w
-        (λ level bytes shown i t. (_, _, ap (λ z. z ++ byte ∷ []) t.0, array_too_deep r level byte digit (omega (arith, deep, i)) (array_keeps r level (byte ∷ []) (number (byte ∷ []))))))
-      (λ no_digit. broken r T s.frames front es 4 byte w (deep_row s deep)
-        (λ level bytes rest shown t dead. head_dead r d.Array level byte bytes rest (no_minus, no_mark_here, no_digit) t.0 dead)))
+    (λ digit. refused r T WithinDepth NotStreamed s.frames front (byte ∷ []) es refl (omega arith) w
+    (λ level bytes shown i t. (_, _, ap (λ z. z ++ byte ∷ []) t.0, array_too_deep r level byte digit (omega (arith, deep, i)) (array_keeps r level (byte ∷ []) (number (byte ∷ []))))))
+    (λ no_digit. broken r T s.frames front es 4 byte w (deep_row s deep)
+    (λ level bytes rest shown t dead. head_dead r d.Array level byte bytes rest (no_minus, no_mark_here, no_digit) t.0 dead)))
   where
     two_bytes : (bytes : List ℕ) → byte ≡ 63 → bytes ≡ 42 ∷ [] → bytes ++ byte ∷ [] ≡ 42 ∷ 63 ∷ []
     two_bytes bytes is are = ap (λ z. z ++ byte ∷ []) are ∙ ap (λ z. 42 ∷ z ∷ []) is
+
     by_cases : byte ≡ 63 → (v : Version) → s.version ≡ v → (on : Bool) → s.bounds.streamed ≡ on → Leads (at s AtArrayHead) front es byte (Refuse (full_streamed v on))
     by_cases is version.Two two on e = refused (rules_of s) (b.Begun (rules_of s) AtArrayHead) InVersion NoDouble s.frames front (byte ∷ []) es refl (omega arith) w (λ level bytes shown i t. (_, _, two_bytes bytes is t.0, streamed_array_in_two (rules_of s) level two))
     by_cases is version.Three three false off = refused (rules_of s) (b.Begun (rules_of s) AtArrayHead) NotStreamed InRange s.frames front (byte ∷ []) es refl (omega arith) w (λ level bytes shown i t. (_, _, two_bytes bytes is t.0, streamed_off (rules_of s) d.Array level (no_two_in_three s.version three) off tt tt))
@@ -232,9 +230,9 @@ array_first_leads s used byte front es no_minus below c w =
     if_equal byte 63 (λ x. Leads p front es byte (cond x (unless (aggregate_cause p (used + 1)) (Go (at s (AtOpenCr kind.Array)))) (cond (is_digit byte) (count_digit p (used + 1) (byte - 48) ((byte - 48) * 3 + 2) (InHead head.Array (byte - 48))) (Refuse cause.Syntax))))
     (λ is. mark_leads p T kind.Array used byte front es is tt c w (may_count s below) (λ level i two. streamed_array_in_two r level two) below)
     (λ no_mark_here. if_digit byte (λ x. Leads p front es byte (cond x (count_digit p (used + 1) (byte - 48) ((byte - 48) * 3 + 2) (InHead head.Array (byte - 48))) (Refuse cause.Syntax)))
-      (λ digit. first_digit_leads p T d.Array ((byte - 48) * 3 + 2) used byte (InHead head.Array (byte - 48)) front es (omega arith) digit c w (may_count s below) (λ x. x))
-      (λ no_digit. broken r T s.frames front es 3 byte w (λ level bytes shown i t. subst (λ z. IsBegunBy r level z 3) (sym t.0) (star_begun r level (omega (arith, below, i))))
-        (λ level bytes rest shown t dead. head_dead r d.Array level byte bytes rest (no_minus, no_mark_here, no_digit) t.0 dead)))
+    (λ digit. first_digit_leads p T d.Array ((byte - 48) * 3 + 2) used byte (InHead head.Array (byte - 48)) front es (omega arith) digit c w (may_count s below) (λ x. x))
+    (λ no_digit. broken r T s.frames front es 3 byte w (λ level bytes shown i t. subst (λ z. IsBegunBy r level z 3) (sym t.0) (star_begun r level (omega (arith, below, i))))
+    (λ level bytes rest shown t dead. head_dead r d.Array level byte bytes rest (no_minus, no_mark_here, no_digit) t.0 dead)))
 
 pub array_head_leads : ArrayHeadLeads
 array_head_leads s used byte front es is_byte c w =
@@ -242,8 +240,8 @@ array_head_leads s used byte front es is_byte c w =
     if_equal byte 45 (λ x. Leads p front es byte (cond x (unless (over_total p (used + 1) 3) (Go (at s AtNullOne))) (cond (is_full p) (Refuse (full_cause p byte)) (head_first p (used + 1) head.Array byte))))
     (λ is. null_begins s used byte front es is c w)
     (λ no_minus. if_within s.bounds.depth (length s.frames) (λ x. Leads p front es byte (cond x (Refuse (full_cause p byte)) (head_first p (used + 1) head.Array byte)))
-      (λ deep. deep_leads s byte front es no_minus deep w)
-      (λ below. array_first_leads s used byte front es no_minus below c w))
+    (λ deep. deep_leads s byte front es no_minus deep w)
+    (λ below. array_first_leads s used byte front es no_minus below c w))
 
 -- The line of a streamed head.
 
@@ -257,7 +255,7 @@ open_cr_leads s o used byte front es is_byte c w =
     wants_leads (at s (AtOpenCr o)) T front es 5 byte 13 (Go (at s (AtOpenLf o))) w (λ level bytes shown i t. stream_row r (kind_of o) level bytes shown t)
     (λ other level bytes rest shown t dead. byte_broken (LeafKeeps r Grammar) (NodeKeeps r Grammar) level (kind_byte (kind_of o) ∷ 63 ∷ []) rest byte (mark_line (kind_of o)) other (streamed_broken (kind_of o) byte) (subst (λ z. CompletesUnder r Grammar level z (byte ∷ rest)) t.are dead))
     (λ is. subst (λ z. Lies (at s (AtOpenLf o)) (front ++ z ∷ []) es) (sym is) (goes r T (StreamBegun r (kind_of o) (13 ∷ [])) s.frames front (13 ∷ []) es w
-      (λ level bytes shown i t. record { has_streamed = t.has_streamed; can_stream = t.can_stream; no_push = t.no_push; below = t.below; are = ap (λ z. z ++ 13 ∷ []) t.are; told = t.told })))
+    (λ level bytes shown i t. record { has_streamed = t.has_streamed; can_stream = t.can_stream; no_push = t.no_push; below = t.below; are = ap (λ z. z ++ 13 ∷ []) t.are; told = t.told })))
 
 no_items : (k : Kind) → items_of k 0 ≡ 0
 no_items d.Array = refl
@@ -311,4 +309,4 @@ open_end_leads s o used byte front es is_byte c w =
     wants_leads (at s (AtOpenLf o)) T front es 4 byte 10 (Give (k.Open o None) (h.opened_streamed s o)) w (λ level bytes shown i t. end_row r (kind_of o) level bytes shown t)
     (λ other level bytes rest shown t dead. behind_return_broken (LeafKeeps r Grammar) (NodeKeeps r Grammar) level (kind_byte (kind_of o) ∷ 63 ∷ []) rest byte (mark_line (kind_of o)) other (subst (λ z. CompletesUnder r Grammar level z (byte ∷ rest)) t.are dead))
     (λ is. subst (λ z. Lies (h.opened_streamed s o) (front ++ z ∷ []) (es ++ e.Open (kind_of o) None ∷ [])) (sym is)
-      (opens_lie r T s.frames front (10 ∷ []) es (e.Open (kind_of o) None ∷ []) o (Begun 0) w (λ level bytes shown i t. stream_opens r o level bytes shown t)))
+    (opens_lie r T s.frames front (10 ∷ []) es (e.Open (kind_of o) None ∷ []) o (Begun 0) w (λ level bytes shown i t. stream_opens r o level bytes shown t)))

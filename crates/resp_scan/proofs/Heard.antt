@@ -1,22 +1,20 @@
 -- From one byte to a piece: what a step answers, in words of what came.
-use Rattle.std.specs.Prelude.{Bool, true, false, take, drop, min, Option, None, Some}
-use Rattle.std.proofs.Common.{◌≡◌, ℕ, zero, suc, ◌+◌, ◌-◌, ◌<◌, ◌≤◌, List, [], ◌∷◌, ◌++◌, length, refl, sym, ap, subst, ◌∙◌, arith, append_assoc, append-nil, length-append}
+use Rattle.std.specs.Prelude.{true, false, take, drop}
+use Rattle.std.proofs.Common.{◌≡◌, ℕ, suc, ◌+◌, ◌-◌, ◌<◌, ◌≤◌, List, [], ◌∷◌, ◌++◌, length, refl, sym, ap, subst, ◌∙◌, arith, append_assoc, append-nil, length-append}
 use Rattle.std.proofs.lemmas.Bool.{false≢true}
-use Rattle.resp_value.specs.Bytes.{IsByte, IsText}
+use Rattle.resp_value.specs.Bytes.{IsText}
 use Rattle.resp_value.specs.Rules.{Rules}
 use Rattle.resp_value.specs.declared.cause.Cause.{Cause}
 use Rattle.resp_follow.specs.Events.{Event}
 use Rattle.resp_follow.specs.Events as e
-use Rattle.resp_scan.specs.declared.frame.Frame.{Frame}
-use Rattle.resp_scan.specs.Tokens.{Place, Token, Happening, Move, Go, Byte, Give, Refuse, AtStart, AtEnd, at, ended}
+use Rattle.resp_scan.specs.Tokens.{Place, Token, Move, Go, Byte, Give, Refuse}
 use Rattle.resp_scan.specs.Machine.{next}
 use Rattle.resp_scan.specs.Scan.{Out, More, Gave, Part, Whole, Bad, and_more, answer, content, scan}
 use Rattle.resp_scan.specs.Kinds.{IsRefusedFor, content_events, event_of, rules_of}
 use Rattle.resp_scan.specs.Sound.{IsSoundBy}
 use Rattle.resp_scan.specs.Follows.{Counts, Leads, Lies}
 use Rattle.resp_scan.proofs.EachLeads.{IsLookedAt, each_leads}
-use Rattle.resp_scan.proofs.LeafEvents.{content_events-append}
-use Rattle.resp_scan.proofs.Sound.{IsInside, IsMove, IsNext, is_move, is_outside}
+use Rattle.resp_scan.proofs.Sound.{IsMove, is_move, is_outside}
 
 -- before a refused byte the front was followed, and with it nothing can follow
 pub record RefusedAt (r : Rules) (front : List ℕ) (es : List Event) (byte used : ℕ) (c : Cause) : Type 0 where
@@ -54,16 +52,20 @@ came_later r i front es b bs (Part k n t) h =
     let l : k < n = h.1 in
     let m : n ≤ i + 1 + length bs = h.2 in
     let q : drop (k - (i + 1)) (take (n - (i + 1)) bs) ≡ drop (k - i) (take (n - i) (b ∷ bs)) =
-        (let e : k - i ≡ suc (k - (i + 1)) = omega (arith, j) in
-        sym (ap (λ x. drop x (take (n - i) (b ∷ bs))) e ∙ ap (λ z. drop (suc (k - (i + 1))) z) (sym (taken_more i n b bs (omega (arith, j, l)))))) in
+    (let e : k - i ≡ suc (k - (i + 1)) = omega (arith, j) in
+    sym (ap (λ x. drop x (take (n - i) (b ∷ bs))) e ∙ ap (λ z. drop (suc (k - (i + 1))) z) (sym (taken_more i n b bs (omega (arith, j, l)))))) in
     (omega (arith, j), l, omega (arith, m), subst (λ z. Lies t (front ++ take (n - i) (b ∷ bs)) (es ++ content_events z)) q (subst (λ z. Lies t z (es ++ content_events (drop (k - (i + 1)) (take (n - (i + 1)) bs)))) (longer front i n b bs (omega (arith, j, l))) h.3))
 came_later r i front es b bs (Whole t) h = h
 came_later r i front es b bs (Bad n c t) (j, m, byte, rest, parts, w) =
     let j0 : i + 1 ≤ n = j in
-    let m0 : n < i + 1 + length bs = m in
-    (omega (arith, j0), omega (arith, m0), byte, rest,
-    ap (λ z. b ∷ z) parts ∙ ap (λ z. z ++ byte ∷ rest) (taken_more i n b bs j0),
-    subst (λ z. RefusedAt r z es byte n c) (longer front i n b bs j0) w)
+    let m0 : n < i + 1 + length bs = m in (
+      omega (arith, j0),
+      omega (arith, m0),
+      byte,
+      rest,
+      ap (λ z. b ∷ z) parts ∙ ap (λ z. z ++ byte ∷ rest) (taken_more i n b bs j0),
+      subst (λ z. RefusedAt r z es byte n c) (longer front i n b bs j0) w,
+    )
 
 -- Runs of content.
 
@@ -137,7 +139,7 @@ pub came_scan : (r : Rules) (i : ℕ) (s : Place) (front : List ℕ) (es : List 
 came_scan r i s front es [] text q c at_front w = (omega arith, within s.token i at_front, subst (λ z. Lies s z es) (sym (append-nil front)) w)
   where
     within : (t : Token) (i : ℕ) → IsLookedAt t i → 0 < i → is_outside t ≡ false
-    within t i h some = elim (is_outside t) as (λ x. is_outside t ≡ x → x ≡ false) [ | true ↦ λ e. absurd (omega (arith, some, (h e).1)) | false ↦ λ e. refl ] refl
+    within t i h some = elim (is_outside t) as (λ x. is_outside t ≡ x → x ≡ false) [ true ↦ λ e. absurd (omega (arith, some, (h e).1)) | false ↦ λ e. refl ] refl
 came_scan r i s front es (b ∷ bs) text q c at_front w =
     came_move (next s (i + 1) b) r i s front es b bs q c w (is_move s.token s i b c.sound (λ z. (at_front z).1)) (each_leads s.token s i b front es text.0 c at_front w)
     (λ t q' d z l. came_scan r (i + 1) t (front ++ b ∷ []) es bs text.1 q' d (looked_at t.token (i + 1) z) l)

@@ -1,11 +1,10 @@
 -- The events of leaves, without their places.
-use Rattle.std.proofs.Common.{◌≡◌, ℕ, ◌+◌, ◌-◌, List, [], ◌∷◌, ◌++◌, length, Bool, refl, sym, ap, ◌∙◌, append_assoc, append-nil}
-use Rattle.resp_value.specs.Numbers.{Sign, is_negative, stripped}
+use Rattle.std.proofs.Common.{◌≡◌, ℕ, ◌+◌, ◌-◌, List, [], ◌∷◌, ◌++◌, length, Bool, refl, sym, ap, ◌∙◌, append_assoc}
+use Rattle.resp_value.specs.Numbers.{is_negative, stripped}
 use Rattle.resp_value.specs.Trees as t
 use Rattle.resp_value.specs.Trees.{Leaf, LineKind, StringKind, Chunk, line, numeral, null, truth, string, chunked, joined, leaf_text}
 use Rattle.resp_follow.specs.Events.{Event, Timed, TextKind, bytes_from, big_events, chunk_events, given, leaf_events, text_events}
 use Rattle.resp_follow.specs.Events as e
-use Rattle.resp_follow.proofs.LineTokens.{IsTextToken}
 use Rattle.resp_follow.proofs.TextLines.{IsTextLine}
 use Rattle.resp_scan.specs.Kinds.{content_events}
 use Rattle.resp_scan.specs.Begun.{line_text, string_text}

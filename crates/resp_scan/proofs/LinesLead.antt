@@ -1,7 +1,7 @@
 -- Lines of text.
-use Rattle.std.specs.Prelude.{Bool, true, false, cond, eqb}
+use Rattle.std.specs.Prelude.{true, false, cond, eqb}
 use Rattle.std.proofs.lemmas.Bool.Decides.{nat_tests}
-use Rattle.std.proofs.Common.{◌≡◌, ℕ, ◌+◌, ◌-◌, ◌<◌, ◌≤◌, List, [], ◌∷◌, ◌++◌, length, refl, sym, ap, subst, ◌∙◌, arith, append_assoc, append-nil}
+use Rattle.std.proofs.Common.{◌≡◌, ℕ, ◌+◌, ◌-◌, ◌<◌, ◌≤◌, List, [], ◌∷◌, ◌++◌, refl, sym, ap, subst, ◌∙◌, arith}
 use Rattle.resp_value.specs.Rules.{Rules, Grammar, WithinDepth, WithinLength}
 use Rattle.resp_value.specs.Trees.{leaf, line}
 use Rattle.resp_value.specs.declared.cause.Cause.TheVariants as cause
@@ -9,11 +9,11 @@ use Rattle.resp_follow.specs.Events.{Event}
 use Rattle.resp_follow.specs.Events as e
 use Rattle.resp_follow.proofs.CountRows.{CompletesUnder}
 use Rattle.resp_follow.proofs.BegunFronts.{IsBegunBy}
-use Rattle.resp_follow.proofs.LineTokens.{IsReturned, IsTextToken, line_begun, line_broken_by_newline, returned_begun, returned_broken, returned_whole, text_token_line, text_token_more, text_token_over}
+use Rattle.resp_follow.proofs.LineTokens.{line_begun, line_broken_by_newline, returned_begun, returned_broken, returned_whole, text_token_line, text_token_more, text_token_over}
 use Rattle.resp_scan.specs.Tokens.{Go, Byte, Give, Refuse, TextEnd, Place, ended, InLine, AtLineLf, at}
 use Rattle.resp_scan.specs.Room.{fits}
 use Rattle.resp_scan.specs.Machine.{content_byte}
-use Rattle.resp_scan.specs.Kinds.{content_events, rules_of}
+use Rattle.resp_scan.specs.Kinds.{rules_of}
 use Rattle.resp_scan.specs.Begun.{LineBegun, TextReturned, line_text}
 use Rattle.resp_scan.specs.Follows.{Counts, Leads, Lies}
 use Rattle.resp_scan.proofs.TokenLaws.{LinesLead, LineEndsLead}
@@ -51,9 +51,9 @@ line_byte_leads s room used byte front es is_byte no_return no_newline c w =
     elim (eqb room 0) as (λ z. eqb room 0 ≡ z → Leads (at s (InLine room)) front es byte (cond z (Refuse cause.Length) (cond (fits (at s (InLine room)) (used + 1) 2) (Byte (at s (InLine (room - 1)))) (Refuse cause.Total)))) [
       | true ↦ λ z. refused r (LineBegun r room) WithinLength WithinDepth s.frames front (byte ∷ []) es refl (omega arith) w
           (λ level bytes shown e t.
-            let full : r.limits.length ≤ t.size = (let n : room ≡ 0 = grind (arith, nat_tests) in omega (arith, t.leaves)) in
-            let over = text_token_over r t.kind t.size level bytes byte (no_return, no_newline) is_byte full t.token in
-            (_, _, over.0, over.1))
+          let full : r.limits.length ≤ t.size = (let n : room ≡ 0 = grind (arith, nat_tests) in omega (arith, t.leaves)) in
+          let over = text_token_over r t.kind t.size level bytes byte (no_return, no_newline) is_byte full t.token in
+          (_, _, over.0, over.1))
       | false ↦ λ z.
           let some : 0 < room = grind (arith, nat_tests) in
           let more = tells r (LineBegun r room) (LineBegun r (room - 1)) s.frames front (byte ∷ []) es (e.Byte byte ∷ []) w (λ level bytes shown e t. line_goes_on r room level byte bytes shown is_byte no_return no_newline some t) in

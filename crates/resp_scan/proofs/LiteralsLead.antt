@@ -1,12 +1,10 @@
 -- Nulls and truth values.
-use Rattle.std.specs.Prelude.{Bool, true, false, cond, eqb}
-use Rattle.std.proofs.lemmas.Bool.Decides.{nat_tests}
-use Rattle.std.proofs.Common.{◌≡◌, ◌⊎◌, inl, inr, ℕ, ◌<◌, List, [], ◌∷◌, ◌++◌, length, refl, sym, ap, subst, ◌∙◌, arith}
+use Rattle.std.specs.Prelude.{Bool, true, false, cond}
+use Rattle.std.proofs.Common.{◌≡◌, inl, inr, ℕ, ◌<◌, List, [], ◌∷◌, ◌++◌, refl, sym, ap, subst, ◌∙◌, arith}
 use Rattle.resp_value.specs.Bytes.{IsLine}
 use Rattle.resp_value.specs.Rules.{Rules, Grammar}
 use Rattle.resp_value.specs.LocalRules.{LeafKeeps, NodeKeeps}
-use Rattle.resp_value.specs.Trees.{leaf, null, truth, NullForm, BulkNull, ArrayNull, PlainNull, null_line, truth_line}
-use Rattle.resp_value.specs.declared.cause.Cause.TheVariants as cause
+use Rattle.resp_value.specs.Trees.{leaf, null, truth, NullForm, BulkNull, ArrayNull, null_line, truth_line}
 use Rattle.resp_value.specs.declared.version.Version.TheVariants.{Two}
 use Rattle.resp_follow.specs.Events.{Event}
 use Rattle.resp_follow.specs.Events as e
@@ -21,10 +19,9 @@ use Rattle.resp_scan.specs.Machine.{wants}
 use Rattle.resp_scan.specs.Kinds.{rules_of}
 use Rattle.resp_scan.specs.Begun as b
 use Rattle.resp_scan.specs.Begun.{IsNullBegun, NullLine, NullReturned}
-use Rattle.resp_scan.specs.Follows.{Counts, Leads, Lies}
+use Rattle.resp_scan.specs.Follows.{Leads, Lies}
 use Rattle.resp_scan.proofs.TokenLaws.{NullOneLeads, NullCrLeads, NullEndLeads, BoolLeads, BoolCrLeads, BoolEndLeads}
 use Rattle.resp_scan.proofs.Moves.{Ends, goes, value_ends}
-use Rattle.resp_scan.proofs.RefusedMoves.{broken}
 use Rattle.resp_scan.proofs.Choices.{if_equal, wants_leads}
 
 -- Nulls.
@@ -86,7 +83,7 @@ null_end_leads s used byte front es is_byte c w =
     (λ level bytes shown i t. returned_begun r (null t.form) level bytes t.returned)
     (λ other level bytes rest shown t dead. returned_broken r (null t.form) level bytes rest byte other t.returned dead)
     (λ is. subst (λ z. Lies (ended s) (front ++ z ∷ []) (es ++ e.Null ∷ [])) (sym is)
-      (value_ends r (NullReturned r) s.frames front (10 ∷ []) es (e.Null ∷ []) w (λ level bytes shown i t. null_ends r level bytes shown t)))
+    (value_ends r (NullReturned r) s.frames front (10 ∷ []) es (e.Null ∷ []) w (λ level bytes shown i t. null_ends r level bytes shown t)))
 
 -- Truth values.
 
@@ -110,9 +107,9 @@ bool_leads s used byte front es is_byte c w =
     if_equal byte 116 (λ x. Leads (at s AtBool) front es byte (cond x (Go (at s (AtBoolCr true))) (wants 102 byte (Go (at s (AtBoolCr false))))))
     (λ is. goes_true s true byte front es (ap (λ z. 35 ∷ z ∷ []) (sym is)) w)
     (λ no_t. wants_leads (at s AtBool) (b.Begun r AtBool) front es 3 byte 102 (Go (at s (AtBoolCr false))) w
-      (λ level bytes shown i t. subst (λ z. IsBegunBy r level z 3) (sym t.1) (truth_begun r level t.0))
-      (λ no_f level bytes rest shown t dead. hash_dead r level byte bytes rest no_t no_f t.1 dead)
-      (λ is. goes_true s false byte front es (ap (λ z. 35 ∷ z ∷ []) (sym is)) w))
+    (λ level bytes shown i t. subst (λ z. IsBegunBy r level z 3) (sym t.1) (truth_begun r level t.0))
+    (λ no_f level bytes rest shown t dead. hash_dead r level byte bytes rest no_t no_f t.1 dead)
+    (λ is. goes_true s false byte front es (ap (λ z. 35 ∷ z ∷ []) (sym is)) w))
 
 truth_dead : (r : Rules) (x : Bool) (level byte : ℕ) (bytes rest : List ℕ) → (byte ≡ 13 → ⊥) → IsLineOf r (truth x) level bytes → CompletesUnder r Grammar level bytes (byte ∷ rest) → ⊥
 truth_dead r x level byte bytes rest other w c =
@@ -136,4 +133,4 @@ bool_end_leads s x used byte front es is_byte c w =
     (λ level bytes shown i t. returned_begun r (truth x) level bytes t.0)
     (λ other level bytes rest shown t dead. returned_broken r (truth x) level bytes rest byte other t.0 dead)
     (λ is. subst (λ z. Lies (ended s) (front ++ z ∷ []) (es ++ e.Bool x ∷ [])) (sym is)
-      (value_ends r (b.Begun r (AtBoolLf x)) s.frames front (10 ∷ []) es (e.Bool x ∷ []) w (λ level bytes shown i t. truth_ends r x level bytes shown t.0 t.1)))
+    (value_ends r (b.Begun r (AtBoolLf x)) s.frames front (10 ∷ []) es (e.Bool x ∷ []) w (λ level bytes shown i t. truth_ends r x level bytes shown t.0 t.1)))

@@ -1,13 +1,12 @@
 -- What bytes make of what has come: inside a value, at its end, and where one begins.
-use Rattle.std.specs.Prelude.{Bool, false, cond, eqb}
+use Rattle.std.specs.Prelude.{false, cond, eqb}
 use Rattle.std.proofs.lemmas.Bool.Decides.{nat_tests}
-use Rattle.std.proofs.Common.{◌≡◌, ℕ, zero, suc, ◌+◌, ◌-◌, ◌*◌, ◌<◌, ◌≤◌, List, [], ◌∷◌, ◌++◌, length, refl, sym, ap, subst, ◌∙◌, arith, append_assoc, append-nil}
-use Rattle.resp_value.specs.Bytes.{crlf}
-use Rattle.resp_value.specs.Data.{Kind, members_of}
+use Rattle.std.proofs.Common.{◌≡◌, ℕ, zero, suc, ◌+◌, ◌-◌, List, [], ◌∷◌, ◌++◌, length, refl, sym, ap, subst, ◌∙◌, arith, append_assoc}
+use Rattle.resp_value.specs.Data.{members_of}
 use Rattle.resp_value.specs.Numbers.{number}
 use Rattle.resp_value.specs.Trees as t
 use Rattle.resp_value.specs.Trees.{Tree, Trees, Form, Counted, Streamed, IsTree, close, count, form_line, kind_byte, none, text}
-use Rattle.resp_value.specs.Rules.{Rules, Rule, Grammar, WithinItems, WithinTotal, rank}
+use Rattle.resp_value.specs.Rules.{Rules, WithinItems}
 use Rattle.resp_value.specs.LocalRules.{LeafKeeps, NodeKeeps, HoldsFrom}
 use Rattle.resp_follow.specs.Frames as opened
 use Rattle.resp_follow.specs.Frames.{around}
@@ -15,17 +14,16 @@ use Rattle.resp_follow.specs.MayFollow.{CanAllEnd, CanEnd, missing}
 use Rattle.resp_follow.specs.Events.{Event, Timed, events, events_around, given}
 use Rattle.resp_follow.proofs.Composition.{around-append, joined_trees_hold}
 use Rattle.resp_follow.proofs.OpenFrames.{are_joined, count-joined_trees, joined_trees}
-use Rattle.resp_follow.proofs.Levels as level
-use Rattle.resp_follow.proofs.Levels.{AreLevelsOf, AreReady, HasShape, Level, around-with, left, taken, with_member}
+use Rattle.resp_follow.proofs.Levels.{AreLevelsOf, AreReady, HasShape, around-with, with_member}
 use Rattle.resp_follow.proofs.LevelsAlone.{same_length}
 use Rattle.resp_follow.proofs.EventsAround.{events-member}
-use Rattle.resp_follow.proofs.BegunFronts.{FollowsBy, IsBegunBy}
+use Rattle.resp_follow.proofs.BegunFronts.{FollowsBy}
 use Rattle.resp_scan.specs.declared.frame.Frame.{Frame}
 use Rattle.resp_scan.specs.declared.frame.Shape.{Shape}
 use Rattle.resp_scan.specs.declared.frame.Shape.TheVariants.{Left, Begun}
-use Rattle.resp_scan.specs.Tokens.{Token, Place, AtStart, AtEnd, at, ended, within, within_shape}
-use Rattle.resp_scan.specs.Kinds.{kind_of, rules_of}
-use Rattle.resp_scan.specs.Follows.{HasBegun, HaveBegun, Inside, Lies, LiesAt, busy, busy_levels, waiting}
+use Rattle.resp_scan.specs.Tokens.{AtStart, AtEnd, within, within_shape}
+use Rattle.resp_scan.specs.Kinds.{kind_of}
+use Rattle.resp_scan.specs.Follows.{HasBegun, HaveBegun, Inside, LiesAt, busy, busy_levels}
 
 -- Lists of events.
 

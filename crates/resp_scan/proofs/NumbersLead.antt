@@ -1,7 +1,6 @@
 -- Integers.
 use Rattle.std.specs.Prelude.{Bool, true, false, cond, eqb}
-use Rattle.std.proofs.lemmas.Bool.Decides.{nat_tests}
-use Rattle.std.proofs.Common.{◌≡◌, ℕ, suc, ◌+◌, ◌-◌, ◌*◌, ◌^◌, ◌<◌, ◌≤◌, List, [], ◌∷◌, ◌++◌, length, refl, sym, ap, subst, ◌∙◌, arith, append_assoc, append-nil}
+use Rattle.std.proofs.Common.{◌≡◌, ℕ, ◌+◌, ◌-◌, ◌*◌, ◌<◌, ◌≤◌, List, [], ◌∷◌, ◌++◌, refl, sym, ap, subst, ◌∙◌, arith, append-nil}
 use Rattle.resp_value.specs.Bytes.{IsLine}
 use Rattle.resp_value.specs.Numbers.{IsDigit, Sign, Unsigned, Plus, Minus, is_minus, number, sign_text, signed}
 use Rattle.resp_value.specs.Rules.{Rules, Grammar, InRange, PushAtTop}
@@ -16,7 +15,7 @@ use Rattle.resp_follow.proofs.BegunFronts.{IsBegunBy}
 use Rattle.resp_follow.proofs.BrokenLines.{byte_broken, return_broken}
 use Rattle.resp_follow.proofs.BrokenHeads.{number_begun_broken, number_broken, number_short}
 use Rattle.resp_follow.proofs.IntegerRange.{greatest}
-use Rattle.resp_follow.proofs.LineTokens.{IsReturned, line_begun, no_break_in_line, returned_begun, returned_broken, returned_whole}
+use Rattle.resp_follow.proofs.LineTokens.{line_begun, no_break_in_line, returned_begun, returned_broken, returned_whole}
 use Rattle.resp_follow.proofs.NumberTokens.{IsNumberBegun, IsNumberToken, MayBe, int_token_over, number_begun, number_token_begins, number_token_line, number_token_more}
 use Rattle.resp_scan.specs.Magnitudes.{most}
 use Rattle.resp_scan.specs.Tokens as k
@@ -81,6 +80,7 @@ signed_any r k negative byte level bytes shown w = record { sign = w.sign; is_si
     minus Unsigned negative p = absurd p
     minus Plus negative p = sym p
     minus Minus negative p = sym p
+
     no_unsigned : (sign : Sign) (negative : Bool) → IsSigned negative sign → sign ≡ Unsigned → ⊥
     no_unsigned Unsigned negative p e = p
     no_unsigned Plus negative p e = cc
@@ -116,7 +116,7 @@ first_leads s T negative byte front es w any =
     if_digit byte (λ x. Leads s front es byte (cond x (Go (at s (InInt negative (byte - 48)))) (Refuse cause.Syntax)))
     (λ d. goes r T (IntBegun r negative (byte - 48)) s.frames front (byte ∷ []) es w (λ level bytes shown i t. int_begins r negative byte level bytes shown d (any level bytes shown t)))
     (λ d. broken r T s.frames front es 3 byte w (λ level bytes shown i t. let a = any level bytes shown t in number_begun r Int a.sign level bytes a.token)
-      (λ level bytes rest shown t c. let a = any level bytes shown t in begun_dead r Int a.sign level byte bytes rest a.no_sign d a.token c))
+    (λ level bytes rest shown t c. let a = any level bytes shown t in begun_dead r Int a.sign level byte bytes rest a.no_sign d a.token c))
 
 -- a sign that total lets stand
 sign_leads : (s : Place) (byte used : ℕ) (front : List ℕ) (es : List Event) (sign : Sign) (negative : Bool) → Counts (at s AtIntSign) used front → Lies (at s AtIntSign) front es → byte ∷ [] ≡ sign_text sign → IsSigned negative sign → Leads (at s AtIntSign) front es byte (unless (over_total (at s AtIntSign) (used + 1) 3) (Go (at s (AtIntFirst negative))))
@@ -124,7 +124,7 @@ sign_leads s byte used front es sign negative c w is signed =
     let r = rules_of s in
     let T = λ (level : ℕ) (bytes : List ℕ) (shown : List Event). IsNumberBegun r Int Unsigned level bytes × (shown ≡ []) in
     let more : Inside r (SignBegun r Int negative) s.frames (front ++ byte ∷ []) es = goes r _ (SignBegun r Int negative) s.frames front (byte ∷ []) es w
-        (λ level bytes shown i t. record { sign = sign; is_signed = signed; token = sign_more r Int level bytes sign byte (one_digit sign 48 (omega arith, omega arith)) (sym is) t.0; told = t.1 }) in
+    (λ level bytes shown i t. record { sign = sign; is_signed = signed; token = sign_more r Int level bytes sign byte (one_digit sign 48 (omega arith, omega arith)) (sym is) t.0; told = t.1 }) in
     unless_over (at s AtIntSign) front es used byte 3 (Go (at s (AtIntFirst negative)))
     (fits_or_total (at s AtIntSign) (SignBegun r Int negative) front es es used byte 3 (Go (at s (AtIntFirst negative))) c more (λ level bytes shown i t. begun_row r Int negative level bytes shown t) more)
 
@@ -133,8 +133,8 @@ int_sign_leads s used byte front es is_byte c w =
     if_equal byte 45 (λ x. Leads (at s AtIntSign) front es byte (cond x (unless (over_total (at s AtIntSign) (used + 1) 3) (Go (at s (AtIntFirst true)))) (cond (eqb byte 43) (unless (over_total (at s AtIntSign) (used + 1) 3) (Go (at s (AtIntFirst false)))) (int_first (at s AtIntSign) false byte))))
     (λ is. sign_leads s byte used front es Minus true c w (ap (λ z. z ∷ []) is) refl)
     (λ no_minus. if_equal byte 43 (λ x. Leads (at s AtIntSign) front es byte (cond x (unless (over_total (at s AtIntSign) (used + 1) 3) (Go (at s (AtIntFirst false)))) (int_first (at s AtIntSign) false byte)))
-      (λ is. sign_leads s byte used front es Plus false c w (ap (λ z. z ∷ []) is) refl)
-      (λ no_plus. first_leads (at s AtIntSign) (b.Begun (rules_of s) AtIntSign) false byte front es w (λ level bytes shown t. unsigned_any (rules_of s) Int byte level bytes shown no_plus no_minus t)))
+    (λ is. sign_leads s byte used front es Plus false c w (ap (λ z. z ∷ []) is) refl)
+    (λ no_plus. first_leads (at s AtIntSign) (b.Begun (rules_of s) AtIntSign) false byte front es w (λ level bytes shown t. unsigned_any (rules_of s) Int byte level bytes shown no_plus no_minus t)))
 
 pub int_first_leads : IntFirstLeads
 int_first_leads s negative used byte front es is_byte c w =
@@ -185,13 +185,13 @@ int_leads s negative n used byte front es is_byte c w =
     let m = n * 10 + (byte - 48) in
     if_digit byte (λ x. Leads (at s (InInt negative n)) front es byte (cond x (int_digit (at s (InInt negative n)) (used + 1) negative m) (wants 13 byte (Go (at s (AtIntLf negative n))))))
     (λ d. if_within m (most negative) (λ x. Leads (at s (InInt negative n)) front es byte (cond x (cond (fits (at s (InInt negative n)) (used + 1) 2) (Go (at s (InInt negative m))) (Refuse cause.Total)) (Refuse cause.Range)))
-      (λ within.
-        let more = goes r (IntBegun r negative n) (IntBegun r negative m) s.frames front (byte ∷ []) es w (λ level bytes shown i t. int_goes_on r negative n byte level bytes shown d within t) in
-        fits_or_total (at s (InInt negative n)) (IntBegun r negative m) front es es used byte 2 (Go (at s (InInt negative m))) c more (λ level bytes shown i t. int_row r negative m level bytes shown t) more)
-      (λ past. refused r (IntBegun r negative n) InRange PushAtTop s.frames front (byte ∷ []) es refl (omega arith) w (λ level bytes shown i t. int_past r negative n byte level bytes shown d past t)))
+    (λ within.
+    let more = goes r (IntBegun r negative n) (IntBegun r negative m) s.frames front (byte ∷ []) es w (λ level bytes shown i t. int_goes_on r negative n byte level bytes shown d within t) in
+    fits_or_total (at s (InInt negative n)) (IntBegun r negative m) front es es used byte 2 (Go (at s (InInt negative m))) c more (λ level bytes shown i t. int_row r negative m level bytes shown t) more)
+    (λ past. refused r (IntBegun r negative n) InRange PushAtTop s.frames front (byte ∷ []) es refl (omega arith) w (λ level bytes shown i t. int_past r negative n byte level bytes shown d past t)))
     (λ d. wants_leads (at s (InInt negative n)) (IntBegun r negative n) front es 2 byte 13 (Go (at s (AtIntLf negative n))) w (λ level bytes shown i t. int_row r negative n level bytes shown t)
-      (λ other level bytes rest shown t dead. digits_dead r Int t.sign t.first level byte t.digits bytes rest other d t.token dead)
-      (λ is. subst (λ z. Lies (at s (AtIntLf negative n)) (front ++ z ∷ []) es) (sym is) (goes r (IntBegun r negative n) (IntReturned r negative n) s.frames front (13 ∷ []) es w (λ level bytes shown i t. int_returns r negative n level bytes shown t))))
+    (λ other level bytes rest shown t dead. digits_dead r Int t.sign t.first level byte t.digits bytes rest other d t.token dead)
+    (λ is. subst (λ z. Lies (at s (AtIntLf negative n)) (front ++ z ∷ []) es) (sym is) (goes r (IntBegun r negative n) (IntReturned r negative n) s.frames front (13 ∷ []) es w (λ level bytes shown i t. int_returns r negative n level bytes shown t))))
 
 int_ends : (r : Rules) (negative : Bool) (n level : ℕ) (bytes : List ℕ) (shown : List Event) → IntReturned r negative n level bytes shown → Ends r level (bytes ++ 10 ∷ []) (shown ++ e.Int (machine.signed negative n) ∷ [])
 int_ends r negative n level bytes shown w = record {
@@ -209,4 +209,4 @@ int_end_leads s negative n used byte front es is_byte c w =
     (λ level bytes shown i t. returned_begun r (numeral Int t.sign t.digits) level bytes t.returned)
     (λ other level bytes rest shown t dead. returned_broken r (numeral Int t.sign t.digits) level bytes rest byte other t.returned dead)
     (λ is. subst (λ z. Lies (ended s) (front ++ z ∷ []) (es ++ e.Int (machine.signed negative n) ∷ [])) (sym is)
-      (value_ends r (IntReturned r negative n) s.frames front (10 ∷ []) es (e.Int (machine.signed negative n) ∷ []) w (λ level bytes shown i t. int_ends r negative n level bytes shown t)))
+    (value_ends r (IntReturned r negative n) s.frames front (10 ∷ []) es (e.Int (machine.signed negative n) ∷ []) w (λ level bytes shown i t. int_ends r negative n level bytes shown t)))

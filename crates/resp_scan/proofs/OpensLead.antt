@@ -1,34 +1,25 @@
 -- Heads that open aggregates, counted and streamed.
-use Rattle.std.specs.Prelude.{Bool, true, false, cond, eqb, Option, None, Some}
+use Rattle.std.specs.Prelude.{false, cond, eqb, Some}
 use Rattle.std.proofs.lemmas.Bool.Decides.{nat_tests}
-use Rattle.std.proofs.Common.{◌≡◌, ℕ, zero, suc, ◌+◌, ◌-◌, ◌*◌, ◌<◌, ◌≤◌, List, [], ◌∷◌, ◌++◌, length, refl, sym, ap, subst, ◌∙◌, arith, append_assoc, append-nil}
-use Rattle.resp_value.specs.Bytes.{IsLine, crlf}
+use Rattle.std.proofs.Common.{◌≡◌, ℕ, zero, suc, ◌+◌, ◌-◌, ◌*◌, List, [], ◌∷◌, ◌++◌, length, refl, sym, ap, subst, ◌∙◌, arith, append_assoc}
+use Rattle.resp_value.specs.Bytes.{crlf}
 use Rattle.resp_value.specs.Data.{Kind, members_of}
-use Rattle.resp_value.specs.Data as d
 use Rattle.resp_value.specs.Numbers.{IsDigits, number}
-use Rattle.resp_value.specs.Trees.{CanStream, Counted, Form, HasMembers, Streamed, close, count, form_line, kind_byte, none}
-use Rattle.resp_value.specs.Rules.{Rules, Grammar, WithinItems}
-use Rattle.resp_value.specs.LocalRules.{LeafKeeps, NodeKeeps}
-use Rattle.resp_value.specs.declared.cause.Cause.TheVariants as cause
-use Rattle.resp_value.specs.declared.version.Version.TheVariants.{Two}
-use Rattle.resp_follow.specs.Frames as opened
+use Rattle.resp_value.specs.Trees.{Counted, Form, Streamed, close, form_line, kind_byte, none}
+use Rattle.resp_value.specs.Rules.{Rules, WithinItems}
+use Rattle.resp_value.specs.LocalRules.{NodeKeeps}
 use Rattle.resp_follow.specs.Frames.{around}
 use Rattle.resp_follow.specs.MayFollow.{CanEnd, missing}
 use Rattle.resp_follow.specs.Events.{Event, declared_in, events_around, given}
 use Rattle.resp_follow.specs.Events as e
-use Rattle.resp_follow.proofs.CountRows.{CompletesUnder, byte_line}
-use Rattle.resp_follow.proofs.BegunFronts.{IsBegunBy, Opens}
-use Rattle.resp_follow.proofs.BrokenLines.{behind_return_broken, byte_broken, streamed_broken}
-use Rattle.resp_follow.proofs.HeadTokens.{IsCountReturned, IsCountToken, count_returned_begun, count_returned_broken}
+use Rattle.resp_follow.proofs.BegunFronts.{IsBegunBy}
+use Rattle.resp_follow.proofs.HeadTokens.{count_returned_begun, count_returned_broken}
 use Rattle.resp_follow.proofs.Levels.{around-open}
-use Rattle.resp_follow.proofs.ShortRows.{first_of_least, next_row}
-use Rattle.resp_follow.proofs.StreamedHeads.{HasStreamed, streamed_begun, streamed_opens}
 use Rattle.resp_scan.specs.declared.event.OpenKind.{OpenKind}
 use Rattle.resp_scan.specs.declared.event.OpenKind.TheVariants as kind
 use Rattle.resp_scan.specs.declared.frame.Frame.{Frame}
 use Rattle.resp_scan.specs.declared.frame.Shape.{Shape}
 use Rattle.resp_scan.specs.declared.frame.Shape.TheVariants.{Left, Begun}
-use Rattle.resp_scan.specs.declared.machine.Head.{Head}
 use Rattle.resp_scan.specs.declared.machine.Head.TheVariants as head
 use Rattle.resp_scan.specs.Tokens as k
 use Rattle.resp_scan.specs.Tokens.{Move, Give, Place, Refuse, AtEnd, AtHeadLf, AtStart, at, within_shape}
@@ -37,10 +28,9 @@ use Rattle.resp_scan.specs.Heads.{counted}
 use Rattle.resp_scan.specs.Machine.{wants}
 use Rattle.resp_scan.specs.Kinds.{kind_of, rules_of}
 use Rattle.resp_scan.specs.Begun.{CountReturned}
-use Rattle.resp_scan.specs.Follows.{Counts, Inside, Leads, Lies, LiesAt}
+use Rattle.resp_scan.specs.Follows.{Inside, Leads, Lies, LiesAt}
 use Rattle.resp_scan.proofs.TokenLaws.{ArrayHeadEndLeads, SetHeadEndLeads, MapHeadEndLeads, AttrHeadEndLeads, PushHeadEndLeads}
 use Rattle.resp_scan.proofs.Moves.{at_level, given-append, longer}
-use Rattle.resp_scan.proofs.RefusedMoves.{broken}
 use Rattle.resp_scan.proofs.Choices.{wants_leads}
 
 -- a form in which so many members haven't begun, or have
@@ -128,7 +118,7 @@ head_end_leads s o n m used byte front es all w =
     (λ level bytes shown i t. count_row r (kind_of o) n level bytes shown t)
     (λ other level bytes rest shown t dead. count_returned_broken r (kind_of o) t.first t.digits level bytes rest byte other t.returned dead)
     (λ is. subst (λ z. Lies (h.opened s o m) (front ++ z ∷ []) (es ++ e.Open (kind_of o) (Some n) ∷ [])) (sym is)
-      (opens_lie r T s.frames front (10 ∷ []) es (e.Open (kind_of o) (Some n) ∷ []) o (Left m) w (λ level bytes shown i t. count_opens r o n m level bytes shown all t)))
+    (opens_lie r T s.frames front (10 ∷ []) es (e.Open (kind_of o) (Some n) ∷ []) o (Left m) w (λ level bytes shown i t. count_opens r o n m level bytes shown all t)))
 
 pub array_head_end_leads : ArrayHeadEndLeads
 array_head_end_leads s n used byte front es is_byte c w = head_end_leads (at s (AtHeadLf head.Array n)) kind.Array n n used byte front es refl w

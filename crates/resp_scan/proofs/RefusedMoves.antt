@@ -1,13 +1,13 @@
 -- Bytes that are refused inside a value: by the grammar, by a rule of the value alone, or by total.
-use Rattle.std.specs.Prelude.{Bool, true, false, cond, eqb, nat_le, None, Some, ◌%◌}
+use Rattle.std.specs.Prelude.{Bool, true, false, cond, eqb, None, Some, ◌%◌}
 use Rattle.std.proofs.lemmas.Bool.Decides.{nat_tests}
-use Rattle.std.proofs.Common.{◌≡◌, ℕ, suc, ◌+◌, ◌-◌, ◌*◌, ◌<◌, ◌≤◌, List, [], ◌∷◌, ◌++◌, length, refl, sym, ap, subst, ◌∙◌, arith, length-append}
+use Rattle.std.proofs.Common.{◌≡◌, ℕ, suc, ◌+◌, ◌-◌, ◌*◌, ◌<◌, ◌≤◌, List, [], ◌∷◌, ◌++◌, length, refl, ap, subst, ◌∙◌, arith, length-append}
 use Rattle.resp_value.specs.Rules.{Rules, Rule, Grammar, WithinItems, WithinTotal, rank}
-use Rattle.resp_value.specs.Spellings.{IsCause, IsViable}
+use Rattle.resp_value.specs.Spellings.{IsViable}
 use Rattle.resp_value.specs.Causes.{cause_of}
 use Rattle.resp_value.specs.declared.cause.Cause.TheVariants as cause
 use Rattle.resp_follow.specs.Events.{Event}
-use Rattle.resp_follow.specs.LeastCompletions.{Continues, HasLeast, IsLeast}
+use Rattle.resp_follow.specs.LeastCompletions.{Continues, IsLeast}
 use Rattle.resp_follow.proofs.CountRows.{CompletesUnder, IsRefusedHere}
 use Rattle.resp_follow.proofs.FrontLaws.{least_continues, viable_in_all}
 use Rattle.resp_follow.proofs.Levels as l

@@ -1,8 +1,8 @@
 -- A value's first byte, or a close.
-use Rattle.std.specs.Prelude.{Bool, true, false, cond, eqb, leb, None, Some, Option}
+use Rattle.std.specs.Prelude.{true, false, cond, eqb, leb, None, Some, Option}
 use Rattle.std.proofs.lemmas.Bool.{ne_eqb}
-use Rattle.std.proofs.lemmas.Bool.Decides.{leb_tells, nat_tests}
-use Rattle.std.proofs.Common.{◌≡◌, ◌⊎◌, inl, inr, ℕ, suc, ◌+◌, ◌-◌, ◌*◌, ◌%◌, ◌<◌, ◌≤◌, List, [], ◌∷◌, ◌++◌, length, refl, sym, ap, subst, ◌∙◌, arith, append-nil}
+use Rattle.std.proofs.lemmas.Bool.Decides.{nat_tests}
+use Rattle.std.proofs.Common.{◌≡◌, ℕ, suc, ◌-◌, ◌%◌, ◌<◌, ◌≤◌, List, [], ◌∷◌, ◌++◌, length, refl, sym, ap, subst, ◌∙◌, arith, append-nil}
 use Rattle.resp_value.specs.Data.{Kind}
 use Rattle.resp_value.specs.Data as d
 use Rattle.resp_value.specs.Numbers.{Unsigned}
@@ -26,7 +26,6 @@ use Rattle.resp_follow.proofs.BegunFronts.{IsBegunBy}
 use Rattle.resp_follow.proofs.BegunTypeBytes.{attribute_begun, bulk_error_begun, dollar_begun, star_begun, star_deep_begun, verbatim_begun}
 use Rattle.resp_follow.proofs.Composition.{around-append}
 use Rattle.resp_follow.proofs.FirstRuleBroken.{grammar_cause}
-use Rattle.resp_follow.proofs.Levels as level
 use Rattle.resp_follow.proofs.Levels.{AreLevelsOf, AreReady, HasShape, Level, taken}
 use Rattle.resp_follow.proofs.LineTokens.{line_begun, text_token_begins, text_token_line}
 use Rattle.resp_follow.proofs.NumberTokens.{null_token_line, number_begun, truth_begun}
@@ -43,7 +42,7 @@ use Rattle.resp_scan.specs.declared.machine.Head.TheVariants as head
 use Rattle.resp_scan.specs.Tokens as k
 use Rattle.resp_scan.specs.Tokens.{Give, Go, Move, Place, Refuse, Token, AtArrayHead, AtBigSign, AtBool, AtBulkHead, AtCloseCr, AtHead, AtIntSign, AtNullCr, AtStart, InLine, at}
 use Rattle.resp_scan.specs.Heads.{first_needed}
-use Rattle.resp_scan.specs.Room.{begin_cause, begun, begun_in, is_full, reshaped}
+use Rattle.resp_scan.specs.Room.{begun, begun_in, is_full}
 use Rattle.resp_scan.specs.Machine as machine
 use Rattle.resp_scan.specs.Machine.{aggregate_begins, begins, closing, line_begins, may_close, may_close_of, push_begins, start_next, start_three, unless}
 use Rattle.resp_scan.specs.Kinds.{IsRefusedFor, event_of, kind_of, rules_of}
@@ -53,7 +52,6 @@ use Rattle.resp_scan.specs.Follows.{Between, Closing, Counts, Inside, Leads, Lie
 use Rattle.resp_scan.proofs.TokenLaws.{StartLeads}
 use Rattle.resp_scan.proofs.Begins.{begins_leads, is_between, length-waiting}
 use Rattle.resp_scan.proofs.HeadsLead.{aggregate_row}
-use Rattle.resp_scan.proofs.Moves.{length-busy}
 use Rattle.resp_scan.proofs.Choices.{if_equal, if_within}
 
 -- Refusals of a first byte by itself.
@@ -131,15 +129,16 @@ aggregate_leads s kind h byte front es is no_stop no_two answer no_push c w row 
     if_within s.bounds.depth (length s.frames) (λ x. Leads q front es byte (cond x (Refuse cause.Depth) (begins q (first_needed h) (AtHead h))))
     (λ full. answer_named q front es byte WithinDepth cause.Depth c no_stop w (answer ∙ ap (λ x. cond x (Some WithinDepth) None) (leb_true s.bounds.depth (length s.frames) full)) refl)
     (λ below. begins_leads q (AggregateBegun r kind) front es [] byte (first_needed h) (Go (at (begun q) (AtHead h))) c no_stop (answer ∙ ap (λ x. cond x (Some WithinDepth) None) (leb_false s.bounds.depth (length s.frames) below)) w
-      (λ level i. record { no_two = no_two; no_push = no_push level i; below = omega (arith, below, i); are = ap (λ z. z ∷ []) is; told = refl })
-      (λ level bytes shown i t. row level bytes shown t)
-      (λ inside. lies_begun q (AtHead h) (begun q).frames (front ++ byte ∷ []) es (lies (subst (Inside r (AggregateBegun r kind) (begun q).frames (front ++ byte ∷ [])) (append-nil es) inside))))
+    (λ level i. record { no_two = no_two; no_push = no_push level i; below = omega (arith, below, i); are = ap (λ z. z ∷ []) is; told = refl })
+    (λ level bytes shown i t. row level bytes shown t)
+    (λ inside. lies_begun q (AtHead h) (begun q).frames (front ++ byte ∷ []) es (lies (subst (Inside r (AggregateBegun r kind) (begun q).frames (front ++ byte ∷ [])) (append-nil es) inside))))
 
 push_leads : (s : Place) (byte : ℕ) (front : List ℕ) (es : List Event) → byte ≡ 62 → (s.version ≡ version.Two → ⊥) → first_byte_refusal (rules_of s) (length s.frames) byte ≡ push_on (rules_of s) (length s.frames) → Counts (at s AtStart) 0 front → Lies (at s AtStart) front es → Leads (at s AtStart) front es byte (push_begins (at s AtStart) s.frames)
 push_leads s byte front es is no_two answer c w = case s.frames answer c w
   where
     no_stop : byte ≡ 46 → ⊥
     no_stop z = omega (arith, z, is)
+
     case : (fs : List Frame) → first_byte_refusal (rules_of s) (length fs) byte ≡ push_on (rules_of s) (length fs) → Counts (record s { token = AtStart; frames = fs }) 0 front → Between (rules_of s) fs front es → Leads (record s { token = AtStart; frames = fs }) front es byte (push_begins (record s { token = AtStart; frames = fs }) fs)
     case [] answer c w = aggregate_leads (record s { frames = [] }) d.Push head.Push byte front es is no_stop no_two answer (λ level i. i) c w (λ level bytes shown t. aggregate_row (rules_of s) d.Push level bytes shown refl t) (λ x. x)
     case (f ∷ fs) answer c w = answer_named (record s { token = AtStart; frames = f ∷ fs }) front es byte PushAtTop cause.NestedPush c no_stop w answer refl
@@ -190,13 +189,14 @@ close_leads s front es w = case s.frames w
   where
     goes : (f : Frame) (fs : List Frame) → may_close_of f.kind f.shape ≡ false → (v : Level) (outer : List Level) → waiting_levels (f ∷ fs) ≡ v ∷ outer → GoesOn v.kind v.shape
     goes f fs stays v outer e = let first : record { kind = kind_of f.kind; shape = waiting f.shape } ≡ v = cc in subst (λ x. GoesOn x.kind x.shape) first (goes_on_first f.kind f.shape stays)
+
     case : (fs : List Frame) → Between (rules_of s) fs front es → Leads (record s { token = AtStart; frames = fs }) front es 46 (closing (record s { token = AtStart; frames = fs }))
     case [] w = stop_refused (rules_of s) [] front es w (λ v outer e. absurd (let n : 0 ≡ suc (length outer) = ap length e in omega (arith, n)))
     case (f ∷ fs) w =
         let q = record s { token = AtStart; frames = f ∷ fs } in
         elim (may_close_of f.kind f.shape) as (λ x. may_close_of f.kind f.shape ≡ x → Leads q front es 46 (cond x (Go (record q { token = AtCloseCr; frames = record f { shape = Left 0 } ∷ fs; owed = s.owed - 3 })) (Refuse cause.Syntax))) [
           | true ↦ λ can. closes_from (rules_of s) f fs front es w can
-          | false ↦ λ no. stop_refused (rules_of s) (f ∷ fs) front es w (goes f fs  no)
+          | false ↦ λ no. stop_refused (rules_of s) (f ∷ fs) front es w (goes f fs no)
         ] refl
 
 -- The bytes, one by one.

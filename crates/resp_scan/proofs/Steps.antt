@@ -1,12 +1,11 @@
 -- The contract of a step in words of texts and trees.
 use Rattle.std.specs.Prelude.{Bool, true, false, cond, nat_lt, take, drop, get_or, eqb, Option, None, Some, Result, Ok, Err, IfOk, IfErr}
-use Rattle.std.proofs.Common.{◌≡◌, ℕ, zero, suc, ◌+◌, ◌-◌, ◌*◌, ◌<◌, ◌≤◌, List, [], ◌∷◌, ◌++◌, length, refl, sym, ap, subst, ◌∙◌, arith, append_assoc, append-nil, length-append}
+use Rattle.std.proofs.Common.{◌≡◌, ℕ, suc, ◌+◌, ◌-◌, ◌*◌, ◌<◌, ◌≤◌, List, [], ◌∷◌, ◌++◌, length, refl, sym, ap, subst, ◌∙◌, arith, append_assoc, append-nil, length-append}
 use Rattle.std.proofs.lemmas.Bool.{false≢true}
-use Rattle.std.proofs.lemmas.Bool.Decides.{nat_tests}
 use Rattle.std.proofs.lemmas.Grind.{common_steps}
-use Rattle.resp_value.specs.Bytes.{IsByte, IsText}
-use Rattle.resp_value.specs.Trees.{Spells, Tree, text}
-use Rattle.resp_value.specs.Rules.{Rules, WithinItems, WithinTotal, Keeps}
+use Rattle.resp_value.specs.Bytes.{IsText}
+use Rattle.resp_value.specs.Trees.{text}
+use Rattle.resp_value.specs.Rules.{Rules, WithinItems, WithinTotal}
 use Rattle.resp_value.specs.Spellings.{IsViable}
 use Rattle.resp_value.proofs.LocalRuleLemmas.{keeps_locally}
 use Rattle.resp_value.proofs.Unique.{unique}
@@ -37,7 +36,7 @@ use Rattle.resp_scan.proofs.Kept.{IsOut, is_advanced}
 use Rattle.resp_scan.proofs.BigNumbersLead.{big_digit_is_owed, text_end_is_owed}
 use Rattle.resp_scan.proofs.ClosesLead.{close_is_owed}
 use Rattle.resp_scan.proofs.LeastNeeded.{least_is_needed, followed_is_viable}
-use Rattle.resp_scan.proofs.Sound.{IsNext, is_outside}
+use Rattle.resp_scan.proofs.Sound.{is_outside}
 use Rattle.resp_scan.proofs.Choices.{if_below, if_equal, if_within}
 
 -- What is owed, or what comes of the piece.
@@ -187,7 +186,7 @@ no_value r front piece needed least some n tree within spells =
     let h = least.holds in
     let rest = drop (n + 1) piece in
     let parts : (front ++ take (n + 1) piece) ++ (rest ++ least.some) ≡ (front ++ piece) ++ least.some =
-        append_assoc front (take (n + 1) piece) (rest ++ least.some) ∙ ap (λ z. front ++ z) (sym (append_assoc (take (n + 1) piece) rest least.some) ∙ ap (λ z. z ++ least.some) (whole_piece (n + 1) piece)) ∙ sym (append_assoc front piece least.some) in
+    append_assoc front (take (n + 1) piece) (rest ++ least.some) ∙ ap (λ z. front ++ z) (sym (append_assoc (take (n + 1) piece) rest least.some) ∙ ap (λ z. z ++ least.some) (whole_piece (n + 1) piece)) ∙ sym (append_assoc front piece least.some) in
     let u = unique tree h.tree (rest ++ least.some) [] spells.is_tree h.spells.is_tree (ap (λ z. z ++ (rest ++ least.some)) spells.spelled ∙ parts ∙ sym h.spells.spelled ∙ sym (append-nil (text h.tree))) in
     let none : length (rest ++ least.some) ≡ 0 = ap length u.1 in
     omega (arith, none, length-append rest least.some, least.size, some)
@@ -303,11 +302,14 @@ refused_is s t front es p fault taken at_taken (counted, within, byte, rest, par
   where
     length_taken : (n : ℕ) (p : List ℕ) → n < length p → length (take n p) ≡ n
     length_taken n p h = grind (arith, common_steps)
+
     taken_front : (n : ℕ) (a b : List ℕ) → length a ≡ n → take n (a ++ b) ≡ a
     taken_front n a b h = grind (arith, common_steps)
+
     take_none : (p : List ℕ) → take 0 p ≡ []
     take_none [] = refl
     take_none (b ∷ bs) = refl
+
     taken_one : (n : ℕ) (a : List ℕ) (b : ℕ) (bs : List ℕ) → length a ≡ n → take (n + 1) (a ++ b ∷ bs) ≡ a ++ b ∷ []
     taken_one n [] b bs h = let e : n + 1 ≡ suc 0 = omega (arith, h) in ap (λ m. take m (b ∷ bs)) e ∙ ap (λ z. b ∷ z) (take_none bs)
     taken_one n (c ∷ a) b bs h = let e : n + 1 ≡ suc (n - 1 + 1) = omega (arith, h) in ap (λ m. take m (c ∷ (a ++ b ∷ bs))) e ∙ ap (λ z. c ∷ z) (taken_one (n - 1) a b bs (omega (arith, h)))

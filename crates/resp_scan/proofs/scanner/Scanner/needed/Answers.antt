@@ -1,4 +1,4 @@
-use Rattle.std.proofs.Common.{◌+◌, subst, sym, arith}
+use Rattle.std.proofs.Common.{subst, arith}
 use Rattle.resp_follow.specs.LeastCompletions.{IsLeast}
 use Rattle.resp_scan.specs.Said.{place}
 use Rattle.resp_scan.specs.Kinds.{rules_of}

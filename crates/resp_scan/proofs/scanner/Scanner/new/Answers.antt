@@ -1,5 +1,4 @@
 use Rattle.std.proofs.Common.{reverse, ap, refl}
-use Rattle.resp_scan.specs.Said.{place}
 use Rattle.resp_scan.proofs.Kept.{sound_new}
 use Rattle.resp_scan.proofs.Calls.{follows_none}
 use Rattle.resp_scan.proofs.scanner.Scanner.new.Goals as goal
