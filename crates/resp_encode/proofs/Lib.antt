@@ -5,3 +5,4 @@ pub mod Counts
 pub mod SoFar
 pub mod ValueTexts
 pub mod Found
+pub mod Attempted

@@ -1,6 +1,6 @@
-//! How many digits a number has.
+//! The digits of a number, and how many it has.
 
-ghost use Rattle.std.specs.Prelude.{◌≡◌, ◌≤◌, length, nat_abs};
+ghost use Rattle.std.specs.Prelude.{◌≡◌, ◌+◌, ◌/◌, ◌%◌, ◌≤◌, length, nat_abs};
 ghost use Rattle.resp_value.specs.Numbers.{decimal};
 ghost use Rattle.resp_value.specs.Canonical.{int_sign, int_size};
 
@@ -34,4 +34,22 @@ fn short_digit_count(number: u64) -> u64
     } else {
         4
     }
+}
+
+/// The digits of a number below ten thousand, with leading zeros.
+#[inline]
+pub(crate) fn four_digits(number: u64) -> (u8, u8, u8, u8)
+    requires { number ≤ 9999 }
+    ensures thousands { result.0 ≡ 48 + number / 1000 }
+    ensures hundreds { result.1 ≡ 48 + number / 100 % 10 }
+    ensures tens { result.2 ≡ 48 + number / 10 % 10 }
+    ensures ones { result.3 ≡ 48 + number % 10 }
+{
+    let (front, back) = (number as u32 / 100, number as u32 % 100);
+    (
+        b'0' + (front / 10) as u8,
+        b'0' + (front % 10) as u8,
+        b'0' + (back / 10) as u8,
+        b'0' + (back % 10) as u8,
+    )
 }

@@ -11,8 +11,8 @@ ghost use Rattle.resp_value.specs.Values.{datum_of, pair_data};
 ghost use Rattle.resp_value.specs.declared.version.Version.TheVariants.{Three};
 ghost use Rattle.resp_encode.specs.Writings.{Writes};
 
+use crate::digits::four_digits;
 use bytes::BytesMut;
-use itoa::write_digits;
 use resp_value::value::Value;
 use resp_value::version::Version;
 
@@ -29,25 +29,38 @@ pub(crate) fn write_head(out: &mut BytesMut, byte: u8, number: u64)
         let (tens, ones) = (number as u8 / 10, number as u8 % 10);
         out.extend_reserved(&[byte, b'0' + tens, b'0' + ones, b'\r', b'\n']);
     } else {
-        write_long_head(out, byte, number);
+        write_number(out, byte, number);
+        out.extend_reserved(b"\r\n");
     }
 }
 
-/// The same for a number of any length.
+/// Appends the byte and the number. Each digit is stored where it stays: bytes put together and copied in one piece
+/// would have to be waited for.
 #[inline(never)]
-fn write_long_head(out: &mut BytesMut, byte: u8, number: u64)
-    requires { length (decimal number) + 3 ≤ out.old.spare }
-    ensures { Writes out.old out.new (byte ∷ decimal number ++ crlf []) }
+fn write_number(out: &mut BytesMut, byte: u8, number: u64)
+    requires { length (decimal number) + 1 ≤ out.old.spare }
+    ensures { Writes out.old out.new (byte ∷ decimal number) }
 {
-    let mut line = [b'\r'; 24];
-    line[23] = b'\n';
-    let start = write_digits(number, &mut line, 22) - 1;
-    line[start] = byte;
-    out.extend_reserved(&line[start..]);
+    if number < 10 {
+        out.extend_reserved(&[byte, b'0' + number as u8]);
+    } else if number < 100 {
+        let (tens, ones) = (number as u8 / 10, number as u8 % 10);
+        out.extend_reserved(&[byte, b'0' + tens, b'0' + ones]);
+    } else if number < 1000 {
+        let (_, hundreds, tens, ones) = four_digits(number);
+        out.extend_reserved(&[byte, hundreds, tens, ones]);
+    } else if number < 10_000 {
+        let (thousands, hundreds, tens, ones) = four_digits(number);
+        out.extend_reserved(&[byte, thousands, hundreds, tens, ones]);
+    } else {
+        write_number(out, byte, number / 10_000);
+        let (thousands, hundreds, tens, ones) = four_digits(number % 10_000);
+        out.extend_reserved(&[thousands, hundreds, tens, ones]);
+    }
 }
 
 #[inline]
-fn write_null(out: &mut BytesMut, version: Version)
+pub(crate) fn write_null(out: &mut BytesMut, version: Version)
     requires { length (canonical_text version (scalar d.Null)) ≤ out.old.spare }
     ensures { Writes out.old out.new (canonical_text version (scalar d.Null)) }
 {
@@ -58,7 +71,7 @@ fn write_null(out: &mut BytesMut, version: Version)
 }
 
 #[inline]
-fn write_bool(out: &mut BytesMut, truth: bool)
+pub(crate) fn write_bool(out: &mut BytesMut, truth: bool)
     requires { 4 ≤ out.old.spare }
     ensures { Writes out.old out.new (canonical_text Three (scalar (d.Bool truth))) }
 {
@@ -70,7 +83,7 @@ fn write_bool(out: &mut BytesMut, truth: bool)
 }
 
 #[inline]
-fn write_int(out: &mut BytesMut, number: &i64)
+pub(crate) fn write_int(out: &mut BytesMut, number: &i64)
     requires { length (canonical_text Three (scalar (d.Int number.now))) ≤ out.old.spare }
     ensures { Writes out.old out.new (canonical_text Three (scalar (d.Int number.now))) }
 {
@@ -85,7 +98,7 @@ fn write_int(out: &mut BytesMut, number: &i64)
 
 /// Appends a line: the byte, the text, CR and LF.
 #[inline]
-fn write_line(out: &mut BytesMut, byte: u8, text: &[u8])
+pub(crate) fn write_line(out: &mut BytesMut, byte: u8, text: &[u8])
     requires { length text.now + 3 ≤ out.old.spare }
     ensures { Writes out.old out.new (byte ∷ text.now ++ crlf []) }
 {
@@ -107,7 +120,7 @@ pub(crate) fn write_string(out: &mut BytesMut, byte: u8, bytes: &[u8])
 
 /// Appends a verbatim string: its head, its format, a colon, the text, CR and LF.
 #[inline]
-fn write_verbatim(out: &mut BytesMut, format: &[u8; 3], text: &[u8])
+pub(crate) fn write_verbatim(out: &mut BytesMut, format: &[u8; 3], text: &[u8])
     requires { length (canonical_text Three (scalar (d.Verbatim format.now text.now))) ≤ out.old.spare }
     ensures { Writes out.old out.new (canonical_text Three (scalar (d.Verbatim format.now text.now))) }
 {
@@ -119,7 +132,7 @@ fn write_verbatim(out: &mut BytesMut, format: &[u8; 3], text: &[u8])
 }
 
 #[inline]
-fn write_big(out: &mut BytesMut, negative: bool, digits: &[u8])
+pub(crate) fn write_big(out: &mut BytesMut, negative: bool, digits: &[u8])
     requires { length (canonical_text Three (scalar (d.Big negative digits.now))) ≤ out.old.spare }
     ensures { Writes out.old out.new (canonical_text Three (scalar (d.Big negative digits.now))) }
 {

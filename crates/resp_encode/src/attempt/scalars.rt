@@ -1,0 +1,194 @@
+//! Values without members: each is written where it has no fault and there is room, and else the buffer is left.
+
+ghost use Rattle.std.specs.Prelude.{◌≡◌, ◌≤◌, ℕ};
+ghost use Rattle.std.specs.Bool.{OnTrue};
+ghost use Rattle.resp_value.specs.Data.{Datum, scalar};
+ghost use Rattle.resp_value.specs.Data as d;
+ghost use Rattle.resp_value.specs.Values.{line_text, content_bytes, is_negative, digits_text};
+ghost use Rattle.resp_encode.specs.Attempts.{Attempt, HasRoom};
+ghost use Rattle.resp_encode.specs.Surveys.{Describes};
+
+use crate::findings::Findings;
+use crate::judge::has_types;
+use crate::room::room;
+use crate::survey::{
+    of_big, of_bool, of_bulk, of_bulk_error, of_int, of_line, of_null, of_verbatim,
+};
+use crate::text::{
+    write_big, write_bool, write_int, write_line, write_null, write_string, write_verbatim,
+};
+use bytes::BytesMut;
+use resp_value::content::Content;
+use resp_value::digits::Digits;
+use resp_value::limits::Limits;
+use resp_value::line::Line;
+use resp_value::version::Version;
+
+/// Whether a value without members has no fault but perhaps its total, and there is room for its text.
+#[inline(always)]
+fn has_room(found: &Findings, version: Version, limits: &Limits, out: &BytesMut) -> bool
+    ensures { (x : Datum) → Describes version x found.now → OnTrue result (HasRoom version limits.now out.now.spare x) }
+{
+    if !has_types(found, version) || found.longest > limits.length() {
+        return false;
+    }
+    match found.size {
+        Some(size) => size <= room(out),
+        None => false,
+    }
+}
+
+#[inline(always)]
+pub(super) fn attempt_null(version: Version, limits: &Limits, out: &mut BytesMut) -> bool
+    ensures { (deeper : ℕ) → Attempt version limits.now deeper (scalar d.Null) out.old out.new result }
+{
+    let found = of_null(version);
+    if !has_room(&found, version, limits, out) {
+        return false;
+    }
+    write_null(out, version);
+    true
+}
+
+#[inline(always)]
+pub(super) fn attempt_bool(
+    truth: bool,
+    version: Version,
+    limits: &Limits,
+    out: &mut BytesMut,
+) -> bool
+    ensures { (deeper : ℕ) → Attempt version limits.now deeper (scalar (d.Bool truth)) out.old out.new result }
+{
+    let found = of_bool(truth);
+    if !has_room(&found, version, limits, out) {
+        return false;
+    }
+    write_bool(out, truth);
+    true
+}
+
+#[inline(always)]
+pub(super) fn attempt_int(
+    number: &i64,
+    version: Version,
+    limits: &Limits,
+    out: &mut BytesMut,
+) -> bool
+    ensures { (deeper : ℕ) → Attempt version limits.now deeper (scalar (d.Int number.now)) out.old out.new result }
+{
+    let found = of_int(number);
+    if !has_room(&found, version, limits, out) {
+        return false;
+    }
+    write_int(out, number);
+    true
+}
+
+#[inline(always)]
+pub(super) fn attempt_simple(
+    line: &Line,
+    version: Version,
+    limits: &Limits,
+    out: &mut BytesMut,
+) -> bool
+    ensures { (deeper : ℕ) → Attempt version limits.now deeper (scalar (d.Simple (line_text line.now))) out.old out.new result }
+{
+    let text = line.text();
+    let found = of_line(text);
+    if !has_room(&found, version, limits, out) {
+        return false;
+    }
+    write_line(out, b'+', text);
+    true
+}
+
+#[inline(always)]
+pub(super) fn attempt_error(
+    line: &Line,
+    version: Version,
+    limits: &Limits,
+    out: &mut BytesMut,
+) -> bool
+    ensures { (deeper : ℕ) → Attempt version limits.now deeper (scalar (d.Error (line_text line.now))) out.old out.new result }
+{
+    let text = line.text();
+    let found = of_line(text);
+    if !has_room(&found, version, limits, out) {
+        return false;
+    }
+    write_line(out, b'-', text);
+    true
+}
+
+#[inline(always)]
+pub(super) fn attempt_bulk(
+    content: &Content,
+    version: Version,
+    limits: &Limits,
+    out: &mut BytesMut,
+) -> bool
+    ensures { (deeper : ℕ) → Attempt version limits.now deeper (scalar (d.Bulk (content_bytes content.now))) out.old out.new result }
+{
+    let bytes = content.list();
+    let found = of_bulk(bytes);
+    if !has_room(&found, version, limits, out) {
+        return false;
+    }
+    write_string(out, b'$', bytes);
+    true
+}
+
+#[inline(always)]
+pub(super) fn attempt_bulk_error(
+    content: &Content,
+    version: Version,
+    limits: &Limits,
+    out: &mut BytesMut,
+) -> bool
+    ensures { (deeper : ℕ) → Attempt version limits.now deeper (scalar (d.BulkError (content_bytes content.now))) out.old out.new result }
+{
+    let bytes = content.list();
+    let found = of_bulk_error(bytes);
+    if !has_room(&found, version, limits, out) {
+        return false;
+    }
+    write_string(out, b'!', bytes);
+    true
+}
+
+#[inline(always)]
+pub(super) fn attempt_verbatim(
+    format: &[u8; 3],
+    text: &Content,
+    version: Version,
+    limits: &Limits,
+    out: &mut BytesMut,
+) -> bool
+    ensures { (deeper : ℕ) → Attempt version limits.now deeper (scalar (d.Verbatim format.now (content_bytes text.now))) out.old out.new result }
+{
+    let bytes = text.list();
+    let found = of_verbatim(format, bytes);
+    if !has_room(&found, version, limits, out) {
+        return false;
+    }
+    write_verbatim(out, format, bytes);
+    true
+}
+
+#[inline(always)]
+pub(super) fn attempt_big(
+    digits: &Digits,
+    version: Version,
+    limits: &Limits,
+    out: &mut BytesMut,
+) -> bool
+    ensures { (deeper : ℕ) → Attempt version limits.now deeper (scalar (d.Big (is_negative digits.now) (digits_text digits.now))) out.old out.new result }
+{
+    let (negative, text) = (digits.is_negative(), digits.digits());
+    let found = of_big(negative, text);
+    if !has_room(&found, version, limits, out) {
+        return false;
+    }
+    write_big(out, negative, text);
+    true
+}
