@@ -1,13 +1,13 @@
 -- What holds after each step of a walk that writes as it goes.
-use Rattle.std.proofs.Common.{◌≡◌, ℕ, ◌+◌, ◌-◌, ◌/◌, ◌<◌, ◌≤◌, Bool, true, false, List, [], ◌∷◌, ◌++◌, length, max, refl, sym, ap, ◌∙◌, subst, arith, append_assoc}
+use Rattle.std.proofs.Common.{◌≡◌, ℕ, ◌+◌, ◌-◌, ◌/◌, ◌<◌, ◌≤◌, Bool, true, false, List, [], ◌∷◌, ◌++◌, length, max, refl, sym, ap, ◌∙◌, subst, arith, append_assoc, length-append, ℤ, pos, negsuc, nat_abs, add-one}
 use Rattle.std.specs.Bool.{OnTrue, OnFalse}
 use Rattle.bytes.specs.Filled.{Filled}
 use Rattle.resp_value.specs.Bytes.{crlf}
 use Rattle.resp_value.specs.Bounds.{Bounds}
 use Rattle.resp_value.specs.Numbers.{decimal}
-use Rattle.resp_value.specs.Data.{Kind, Attr, Scalar, Datum, Data, none, more, scalar, aggregate, items_of, count}
+use Rattle.resp_value.specs.Data.{Kind, Attr, Scalar, Int, longest, Datum, Data, none, more, scalar, aggregate, items_of, count}
 use Rattle.resp_value.specs.Trees.{kind_byte, texts}
-use Rattle.resp_value.specs.Canonical.{IsScalarValue, IsWhole, IsKindBelow, HasNoPush, HasTypes, canonical_text, canonical_trees, Fits}
+use Rattle.resp_value.specs.Canonical.{IsScalarValue, IsWhole, IsKindBelow, IsInTwo, HasNoPush, HasTypes, canonical_text, canonical_trees, Fits}
 use Rattle.resp_value.specs.Rules.{Rules}
 use Rattle.resp_value.specs.Values.{extended}
 use Rattle.resp_value.specs.declared.version.Version.{Version}
@@ -56,6 +56,20 @@ scalar_done fits value writes deeper = record {
   };
   part = (_, writes);
 }
+
+-- version 3 has each type that version 2 has
+pub in_each : (version : Version) (x : Datum) → IsInTwo x → HasTypes version x
+in_each Two x p = p
+in_each Three x p = tt
+
+-- a scalar of version 2 within the limits, and room for it
+pub room_for : (version : Version) (bounds : Bounds) {spare : ℕ} (s : Scalar) → IsInTwo (scalar s) → longest (scalar s) ≤ bounds.length → length (canonical_text version (scalar s)) ≤ spare → HasRoom version bounds spare (scalar s)
+room_for version bounds s two long room = record { has_types = in_each version (scalar s) two; within_length = long; room = room }
+
+-- an integer's text is no longer than its digits and four more
+pub int_length : (version : Version) (i : ℤ) → length (canonical_text version (scalar (Int i))) ≤ length (decimal (nat_abs i)) + 4
+int_length version (pos n) = omega (arith, length-append (decimal n) (crlf []))
+int_length version (negsuc n) = omega (arith, ap (λ m. length (decimal m)) (add-one n), length-append (decimal (n + 1)) (crlf []))
 
 -- members, so far
 pub suit_none : (version : Version) (bounds : Bounds) (deeper : ℕ) → SuitEach version bounds deeper none

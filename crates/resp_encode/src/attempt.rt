@@ -82,10 +82,10 @@ fn attempt_value(
     match value {
         Value::Null => attempt_null(version, limits, out),
         Value::Bool(truth) => attempt_bool(*truth, version, limits, out),
-        Value::Int(number) => attempt_int(number, version, limits, out),
+        Value::Int(number) => attempt_int(number, out),
         Value::Simple(line) => attempt_simple(line, version, limits, out),
         Value::Error(line) => attempt_error(line, version, limits, out),
-        Value::Bulk(content) => attempt_bulk(content, version, limits, out),
+        Value::Bulk(content) => attempt_bulk(content, limits, out),
         Value::BulkError(content) => attempt_bulk_error(content, version, limits, out),
         Value::Verbatim(format, text) => attempt_verbatim(format, text, version, limits, out),
         Value::Big(digits) => attempt_big(digits, version, limits, out),
@@ -244,13 +244,14 @@ pub(crate) fn attempt(value: &Value, version: Version, limits: &Limits, out: &mu
     ensures items { OnFalse result (out.new.items ≡ out.old.items) }
     ensures spare { OnFalse result (out.new.spare ≡ out.old.spare) }
 {
-    let before = out.len();
+    let before = room(out);
     if attempt_top(value, version, limits, out) {
-        let written = (out.len() - before) as u64;
+        let written = before - room(out);
         if written <= limits.total() {
             return true;
         }
     }
-    out.truncate(before);
+    let written = before - room(out);
+    out.truncate(out.len() - written as usize);
     false
 }

@@ -57,7 +57,7 @@ pub(crate) fn of_line(text: &[u8]) -> Findings
 
 /// How many bytes a string takes whose head says so many: the head, these, CR and LF.
 #[inline]
-fn string_size(counted: u64) -> u64
+pub(crate) fn string_size(counted: u64) -> u64
     requires { counted ≤ 2 ^ 63 + 4 }
     ensures { result ≡ length (decimal counted) + counted + 5 }
 {

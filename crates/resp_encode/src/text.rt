@@ -29,33 +29,62 @@ pub(crate) fn write_head(out: &mut BytesMut, byte: u8, number: u64)
         let (tens, ones) = (number as u8 / 10, number as u8 % 10);
         out.extend_reserved(&[byte, b'0' + tens, b'0' + ones, b'\r', b'\n']);
     } else {
-        write_number(out, byte, number);
-        out.extend_reserved(b"\r\n");
+        write_long_head(out, byte, number);
     }
 }
 
-/// Appends the byte and the number. Each digit is stored where it stays: bytes put together and copied in one piece
-/// would have to be waited for.
+/// The same of a number of three digits and more. Each byte is stored where it stays: bytes put together elsewhere
+/// and copied in one piece would have to be waited for.
 #[inline(never)]
+fn write_long_head(out: &mut BytesMut, byte: u8, number: u64)
+    requires long { 100 ≤ number }
+    requires room { length (decimal number) + 3 ≤ out.old.spare }
+    ensures { Writes out.old out.new (byte ∷ decimal number ++ crlf []) }
+{
+    if number < 1000 {
+        let (_, hundreds, tens, ones) = four_digits(number);
+        out.extend_reserved(&[byte, hundreds, tens, ones, b'\r', b'\n']);
+    } else if number < 10_000 {
+        let (thousands, hundreds, tens, ones) = four_digits(number);
+        out.extend_reserved(&[byte, thousands, hundreds, tens, ones, b'\r', b'\n']);
+    } else {
+        write_number(out, byte, number / 10_000);
+        let (thousands, hundreds, tens, ones) = four_digits(number % 10_000);
+        out.extend_reserved(&[thousands, hundreds, tens, ones, b'\r', b'\n']);
+    }
+}
+
+/// Appends the byte and the number.
+#[inline]
 fn write_number(out: &mut BytesMut, byte: u8, number: u64)
     requires { length (decimal number) + 1 ≤ out.old.spare }
     ensures { Writes out.old out.new (byte ∷ decimal number) }
 {
-    if number < 10 {
-        out.extend_reserved(&[byte, b'0' + number as u8]);
-    } else if number < 100 {
-        let (tens, ones) = (number as u8 / 10, number as u8 % 10);
-        out.extend_reserved(&[byte, b'0' + tens, b'0' + ones]);
-    } else if number < 1000 {
-        let (_, hundreds, tens, ones) = four_digits(number);
-        out.extend_reserved(&[byte, hundreds, tens, ones]);
-    } else if number < 10_000 {
-        let (thousands, hundreds, tens, ones) = four_digits(number);
-        out.extend_reserved(&[byte, thousands, hundreds, tens, ones]);
+    if number < 10_000 {
+        write_short_number(out, byte, number);
     } else {
         write_number(out, byte, number / 10_000);
         let (thousands, hundreds, tens, ones) = four_digits(number % 10_000);
         out.extend_reserved(&[thousands, hundreds, tens, ones]);
+    }
+}
+
+/// The same of a number of one digit to four.
+#[inline]
+fn write_short_number(out: &mut BytesMut, byte: u8, number: u64)
+    requires short { number ≤ 9999 }
+    requires room { length (decimal number) + 1 ≤ out.old.spare }
+    ensures { Writes out.old out.new (byte ∷ decimal number) }
+{
+    let (thousands, hundreds, tens, ones) = four_digits(number);
+    if number < 10 {
+        out.extend_reserved(&[byte, ones]);
+    } else if number < 100 {
+        out.extend_reserved(&[byte, tens, ones]);
+    } else if number < 1000 {
+        out.extend_reserved(&[byte, hundreds, tens, ones]);
+    } else {
+        out.extend_reserved(&[byte, thousands, hundreds, tens, ones]);
     }
 }
 
@@ -97,7 +126,7 @@ pub(crate) fn write_int(out: &mut BytesMut, number: &i64)
 }
 
 /// Appends a line: the byte, the text, CR and LF.
-#[inline]
+#[inline(always)]
 pub(crate) fn write_line(out: &mut BytesMut, byte: u8, text: &[u8])
     requires { length text.now + 3 ≤ out.old.spare }
     ensures { Writes out.old out.new (byte ∷ text.now ++ crlf []) }
@@ -108,7 +137,7 @@ pub(crate) fn write_line(out: &mut BytesMut, byte: u8, text: &[u8])
 }
 
 /// Appends a string: its head, its bytes, CR and LF.
-#[inline]
+#[inline(always)]
 pub(crate) fn write_string(out: &mut BytesMut, byte: u8, bytes: &[u8])
     requires { length (decimal (length bytes.now)) + length bytes.now + 5 ≤ out.old.spare }
     ensures { Writes out.old out.new (byte ∷ decimal (length bytes.now) ++ crlf (bytes.now ++ crlf [])) }
@@ -145,9 +174,8 @@ pub(crate) fn write_big(out: &mut BytesMut, negative: bool, digits: &[u8])
     out.extend_reserved(b"\r\n");
 }
 
-/// Appends the text of a value. It is inlined where it is called; what leads back to it is not.
+/// Appends the text of a value.
 #[cycle(write)]
-#[inline(always)]
 pub(crate) fn write_value(value: &Value, version: Version, out: &mut BytesMut)
     requires { length (canonical_text version (datum_of value.now)) ≤ out.old.spare }
     ensures { Writes out.old out.new (canonical_text version (datum_of value.now)) }

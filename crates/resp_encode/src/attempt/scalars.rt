@@ -1,19 +1,22 @@
 //! Values without members: each is written where it has no fault and there is room, and else the buffer is left.
 
-ghost use Rattle.std.specs.Prelude.{◌≡◌, ◌≤◌, ℕ};
+ghost use Rattle.std.specs.Prelude.{◌≡◌, ◌+◌, ◌≤◌, ◌^◌, ℕ, length};
 ghost use Rattle.std.specs.Bool.{OnTrue};
+ghost use Rattle.resp_value.specs.Bounds.{Bounds};
+ghost use Rattle.resp_value.specs.Numbers.{decimal};
+ghost use Rattle.resp_value.specs.Canonical.{IsScalarValue, canonical_text};
 ghost use Rattle.resp_value.specs.Data.{Datum, scalar};
 ghost use Rattle.resp_value.specs.Data as d;
+ghost use Rattle.resp_value.specs.declared.version.Version.{Version};
 ghost use Rattle.resp_value.specs.Values.{line_text, content_bytes, is_negative, digits_text};
 ghost use Rattle.resp_encode.specs.Attempts.{Attempt, HasRoom};
 ghost use Rattle.resp_encode.specs.Surveys.{Describes};
 
+use crate::digits::digit_count;
 use crate::findings::Findings;
 use crate::judge::has_types;
 use crate::room::room;
-use crate::survey::{
-    of_big, of_bool, of_bulk, of_bulk_error, of_int, of_line, of_null, of_verbatim,
-};
+use crate::survey::{of_big, of_bool, of_bulk_error, of_line, of_null, of_verbatim, string_size};
 use crate::text::{
     write_big, write_bool, write_int, write_line, write_null, write_string, write_verbatim,
 };
@@ -36,6 +39,27 @@ fn has_room(found: &Findings, version: Version, limits: &Limits, out: &BytesMut)
         Some(size) => size <= room(out),
         None => false,
     }
+}
+
+/// Whether there is surely room for an integer. Its digits are counted only where there is little.
+#[inline(always)]
+fn has_room_for_int(number: &i64, out: &BytesMut) -> bool
+    ensures room { (version : Version) → OnTrue result (length (canonical_text version (scalar (d.Int number.now))) ≤ out.now.spare) }
+    ensures is_value { IsScalarValue (d.Int number.now) }
+{
+    let magnitude = number.unsigned_abs();
+    let room = room(out);
+    room >= 24 || digit_count(magnitude) + 4 <= room
+}
+
+/// Whether there is room for a string whose head says so many bytes. The digits are counted only where there is little.
+#[inline(always)]
+fn has_room_for_string(counted: u64, out: &BytesMut) -> bool
+    requires { counted ≤ 2 ^ 63 + 4 }
+    ensures { OnTrue result (length (decimal counted) + counted + 5 ≤ out.now.spare) }
+{
+    let room = room(out);
+    counted + 25 <= room || string_size(counted) <= room
 }
 
 #[inline(always)]
@@ -68,16 +92,10 @@ pub(super) fn attempt_bool(
 }
 
 #[inline(always)]
-pub(super) fn attempt_int(
-    number: &i64,
-    version: Version,
-    limits: &Limits,
-    out: &mut BytesMut,
-) -> bool
-    ensures { (deeper : ℕ) → Attempt version limits.now deeper (scalar (d.Int number.now)) out.old out.new result }
+pub(super) fn attempt_int(number: &i64, out: &mut BytesMut) -> bool
+    ensures { (version : Version) (bounds : Bounds) (deeper : ℕ) → Attempt version bounds deeper (scalar (d.Int number.now)) out.old out.new result }
 {
-    let found = of_int(number);
-    if !has_room(&found, version, limits, out) {
+    if !has_room_for_int(number, out) {
         return false;
     }
     write_int(out, number);
@@ -121,17 +139,12 @@ pub(super) fn attempt_error(
 }
 
 #[inline(always)]
-pub(super) fn attempt_bulk(
-    content: &Content,
-    version: Version,
-    limits: &Limits,
-    out: &mut BytesMut,
-) -> bool
-    ensures { (deeper : ℕ) → Attempt version limits.now deeper (scalar (d.Bulk (content_bytes content.now))) out.old out.new result }
+pub(super) fn attempt_bulk(content: &Content, limits: &Limits, out: &mut BytesMut) -> bool
+    ensures { (version : Version) (deeper : ℕ) → Attempt version limits.now deeper (scalar (d.Bulk (content_bytes content.now))) out.old out.new result }
 {
     let bytes = content.list();
-    let found = of_bulk(bytes);
-    if !has_room(&found, version, limits, out) {
+    let counted = bytes.len() as u64;
+    if counted > limits.length() || !has_room_for_string(counted, out) {
         return false;
     }
     write_string(out, b'$', bytes);

@@ -30,7 +30,7 @@ pub attempt_value-returns-in-Bool-clause-attempt : goal.attempt_value-returns-in
 attempt_value-returns-in-Bool-clause-attempt t c = subst (λ x. Attempt c.args.version c.args.limits.now c.args.deeper x c.args.out.now c.attempt_bool.new.out c.attempt_bool.result) (sym (ap datum_of c.in-Bool.is)) (c.attempt_bool.ensures c.args.deeper)
 
 pub attempt_value-returns-in-Int-clause-attempt : goal.attempt_value-returns-in-Int-clause-attempt
-attempt_value-returns-in-Int-clause-attempt t c = subst (λ x. Attempt c.args.version c.args.limits.now c.args.deeper x c.args.out.now c.attempt_int.new.out c.attempt_int.result) (sym (ap datum_of c.in-Int.is)) (c.attempt_int.ensures c.args.deeper)
+attempt_value-returns-in-Int-clause-attempt t c = subst (λ x. Attempt c.args.version c.args.limits.now c.args.deeper x c.args.out.now c.attempt_int.new.out c.attempt_int.result) (sym (ap datum_of c.in-Int.is)) (c.attempt_int.ensures c.args.version c.args.limits.now c.args.deeper)
 
 pub attempt_value-returns-in-Simple-clause-attempt : goal.attempt_value-returns-in-Simple-clause-attempt
 attempt_value-returns-in-Simple-clause-attempt t c = subst (λ x. Attempt c.args.version c.args.limits.now c.args.deeper x c.args.out.now c.attempt_simple.new.out c.attempt_simple.result) (sym (ap datum_of c.in-Simple.is)) (c.attempt_simple.ensures c.args.deeper)
@@ -39,7 +39,7 @@ pub attempt_value-returns-in-Error-clause-attempt : goal.attempt_value-returns-i
 attempt_value-returns-in-Error-clause-attempt t c = subst (λ x. Attempt c.args.version c.args.limits.now c.args.deeper x c.args.out.now c.attempt_error.new.out c.attempt_error.result) (sym (ap datum_of c.in-Error.is)) (c.attempt_error.ensures c.args.deeper)
 
 pub attempt_value-returns-in-Bulk-clause-attempt : goal.attempt_value-returns-in-Bulk-clause-attempt
-attempt_value-returns-in-Bulk-clause-attempt t c = subst (λ x. Attempt c.args.version c.args.limits.now c.args.deeper x c.args.out.now c.attempt_bulk.new.out c.attempt_bulk.result) (sym (ap datum_of c.in-Bulk.is)) (c.attempt_bulk.ensures c.args.deeper)
+attempt_value-returns-in-Bulk-clause-attempt t c = subst (λ x. Attempt c.args.version c.args.limits.now c.args.deeper x c.args.out.now c.attempt_bulk.new.out c.attempt_bulk.result) (sym (ap datum_of c.in-Bulk.is)) (c.attempt_bulk.ensures c.args.version c.args.deeper)
 
 pub attempt_value-returns-in-BulkError-clause-attempt : goal.attempt_value-returns-in-BulkError-clause-attempt
 attempt_value-returns-in-BulkError-clause-attempt t c = subst (λ x. Attempt c.args.version c.args.limits.now c.args.deeper x c.args.out.now c.attempt_bulk_error.new.out c.attempt_bulk_error.result) (sym (ap datum_of c.in-BulkError.is)) (c.attempt_bulk_error.ensures c.args.deeper)
