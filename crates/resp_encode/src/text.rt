@@ -18,7 +18,7 @@ use resp_value::version::Version;
 
 /// Appends a head: the byte, the number, CR and LF. A number of one or two digits, as most are, is put there
 /// at once.
-#[inline]
+#[inline(always)]
 pub(crate) fn write_head(out: &mut BytesMut, byte: u8, number: u64)
     requires { length (decimal number) + 3 ≤ out.old.spare }
     ensures { Writes out.old out.new (byte ∷ decimal number ++ crlf []) }
@@ -48,14 +48,37 @@ fn write_long_head(out: &mut BytesMut, byte: u8, number: u64)
         let (thousands, hundreds, tens, ones) = four_digits(number);
         out.extend_reserved(&[byte, thousands, hundreds, tens, ones, b'\r', b'\n']);
     } else {
-        write_number(out, byte, number / 10_000);
-        let (thousands, hundreds, tens, ones) = four_digits(number % 10_000);
-        out.extend_reserved(&[thousands, hundreds, tens, ones, b'\r', b'\n']);
+        write_longer_head(out, byte, number);
+    }
+}
+
+/// The same of a number of five digits and more.
+#[inline(never)]
+fn write_longer_head(out: &mut BytesMut, byte: u8, number: u64)
+    requires long { 10000 ≤ number }
+    requires room { length (decimal number) + 3 ≤ out.old.spare }
+    ensures { Writes out.old out.new (byte ∷ decimal number ++ crlf []) }
+{
+    write_front(out, byte, number / 10_000);
+    let (thousands, hundreds, tens, ones) = four_digits(number % 10_000);
+    out.extend_reserved(&[thousands, hundreds, tens, ones, b'\r', b'\n']);
+}
+
+/// Appends the byte and the number, which stands before the last four digits of another one.
+#[inline(always)]
+fn write_front(out: &mut BytesMut, byte: u8, number: u64)
+    requires { length (decimal number) + 1 ≤ out.old.spare }
+    ensures { Writes out.old out.new (byte ∷ decimal number) }
+{
+    if number < 10_000 {
+        write_short_number(out, byte, number);
+    } else {
+        write_number(out, byte, number);
     }
 }
 
 /// Appends the byte and the number.
-#[inline]
+#[inline(never)]
 fn write_number(out: &mut BytesMut, byte: u8, number: u64)
     requires { length (decimal number) + 1 ≤ out.old.spare }
     ensures { Writes out.old out.new (byte ∷ decimal number) }
@@ -95,7 +118,7 @@ pub(crate) fn write_null(out: &mut BytesMut, version: Version)
 {
     match version {
         Version::Two => out.extend_reserved(b"$-1\r\n"),
-        Version::Three => out.extend_reserved(b"_\r\n"),
+        Version::Three => out.extend_reserved(&[b'_', b'\r', b'\n']),
     }
 }
 
@@ -111,7 +134,7 @@ pub(crate) fn write_bool(out: &mut BytesMut, truth: bool)
     }
 }
 
-#[inline]
+#[inline(always)]
 pub(crate) fn write_int(out: &mut BytesMut, number: &i64)
     requires { length (canonical_text Three (scalar (d.Int number.now))) ≤ out.old.spare }
     ensures { Writes out.old out.new (canonical_text Three (scalar (d.Int number.now))) }
@@ -133,7 +156,7 @@ pub(crate) fn write_line(out: &mut BytesMut, byte: u8, text: &[u8])
 {
     out.extend_reserved(&[byte]);
     out.extend_reserved(text);
-    out.extend_reserved(b"\r\n");
+    out.extend_reserved(&[b'\r', b'\n']);
 }
 
 /// Appends a string: its head, its bytes, CR and LF.
@@ -144,7 +167,7 @@ pub(crate) fn write_string(out: &mut BytesMut, byte: u8, bytes: &[u8])
 {
     write_head(out, byte, bytes.len() as u64);
     out.extend_reserved(bytes);
-    out.extend_reserved(b"\r\n");
+    out.extend_reserved(&[b'\r', b'\n']);
 }
 
 /// Appends a verbatim string: its head, its format, a colon, the text, CR and LF.
@@ -157,7 +180,7 @@ pub(crate) fn write_verbatim(out: &mut BytesMut, format: &[u8; 3], text: &[u8])
     out.extend_reserved(format);
     out.extend_reserved(b":");
     out.extend_reserved(text);
-    out.extend_reserved(b"\r\n");
+    out.extend_reserved(&[b'\r', b'\n']);
 }
 
 #[inline]
@@ -171,7 +194,7 @@ pub(crate) fn write_big(out: &mut BytesMut, negative: bool, digits: &[u8])
         out.extend_reserved(b"(");
     }
     out.extend_reserved(digits);
-    out.extend_reserved(b"\r\n");
+    out.extend_reserved(&[b'\r', b'\n']);
 }
 
 /// Appends the text of a value.

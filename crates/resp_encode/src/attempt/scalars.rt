@@ -151,7 +151,7 @@ pub(super) fn attempt_bulk(content: &Content, limits: &Limits, out: &mut BytesMu
     true
 }
 
-#[inline(always)]
+#[inline(never)]
 pub(super) fn attempt_bulk_error(
     content: &Content,
     version: Version,
@@ -169,7 +169,7 @@ pub(super) fn attempt_bulk_error(
     true
 }
 
-#[inline(always)]
+#[inline(never)]
 pub(super) fn attempt_verbatim(
     format: &[u8; 3],
     text: &Content,
@@ -188,7 +188,7 @@ pub(super) fn attempt_verbatim(
     true
 }
 
-#[inline(always)]
+#[inline(never)]
 pub(super) fn attempt_big(
     digits: &Digits,
     version: Version,

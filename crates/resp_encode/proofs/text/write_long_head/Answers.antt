@@ -6,25 +6,11 @@ use Rattle.resp_encode.proofs.Decimals.{decimal-one, decimal-two, decimal-three,
 use Rattle.resp_encode.proofs.Texts.{Writes-append, Writes-bytes, head_split}
 use Rattle.resp_encode.proofs.text.write_long_head.Goals as goal
 
--- four equal bytes before CR LF
-four : {a b c d a' b' c' d' : ℕ} → a ≡ a' → b ≡ b' → c ≡ c' → d ≡ d' → a ∷ b ∷ c ∷ d ∷ crlf [] ≡ a' ∷ b' ∷ c' ∷ d' ∷ crlf []
-four e f g h = cc
-
 pub extend_reserved-requires : goal.extend_reserved-requires
 extend_reserved-requires c = omega (arith, c.requires.room, length-decimal-three c.args.number (omega arith) (omega arith))
 
 pub extend_reserved-requires-then-number-lt10000 : goal.extend_reserved-requires-then-number-lt10000
 extend_reserved-requires-then-number-lt10000 c = omega (arith, c.requires.room, length-decimal-four c.args.number (omega arith) (omega arith))
-
-pub write_number-requires : goal.write_number-requires
-write_number-requires c =
-    let large : 10000 ≤ c.args.number = c.if-number-lt10000.false in
-    omega (arith, c.requires.room, length-decimal-four_more c.args.number large (omega arith))
-
-pub extend_reserved-requires-else-number-lt10000 : goal.extend_reserved-requires-else-number-lt10000
-extend_reserved-requires-else-number-lt10000 c =
-    let large : 10000 ≤ c.args.number = c.if-number-lt10000.false in
-    omega (arith, c.requires.room, c.write_number.ensures.spare, length-decimal-four_more c.args.number large (omega arith))
 
 pub returns-then-number-lt1000 : goal.returns-then-number-lt1000
 returns-then-number-lt1000 c =
@@ -41,11 +27,3 @@ returns-then-number-lt10000 c =
     let same = ap (λ digits. c.args.byte ∷ digits ++ crlf []) whole in
     let digits = c.four_digits-thousands.ensures in
     Writes-bytes c.extend_reserved-then-number-lt10000.ensures.items c.extend_reserved-then-number-lt10000.ensures.spare cc
-
-pub returns-else-number-lt10000 : goal.returns-else-number-lt10000
-returns-else-number-lt10000 c =
-    let n = c.args.number in
-    let digits = c.four_digits-thousands-else-number-lt10000.ensures in
-    let last = Writes-bytes c.extend_reserved-else-number-lt10000.ensures.items c.extend_reserved-else-number-lt10000.ensures.spare (four digits.thousands digits.hundreds digits.tens digits.ones) in
-    subst (Writes c.args.out.now c.extend_reserved-else-number-lt10000.new.self)
-    (ap (λ digits. c.args.byte ∷ digits) (sym (append_assoc (decimal (n / 10000)) _ (crlf [])) ∙ ap (λ digits. digits ++ crlf []) (sym (decimal-four_more n c.if-number-lt10000.false (omega arith))))) (Writes-append c.write_number.ensures last)
