@@ -45,11 +45,12 @@ pub(crate) fn four_digits(number: u64) -> (u8, u8, u8, u8)
     ensures tens { result.2 ≡ 48 + number / 10 % 10 }
     ensures ones { result.3 ≡ 48 + number % 10 }
 {
-    let (front, back) = (number as u32 / 100, number as u32 % 100);
+    let number = number as u32;
+    let (front, back) = ((number / 100) as u8, (number % 100) as u8);
     (
-        b'0' + (front / 10) as u8,
-        b'0' + (front % 10) as u8,
-        b'0' + (back / 10) as u8,
-        b'0' + (back % 10) as u8,
+        b'0' + front / 10,
+        b'0' + front % 10,
+        b'0' + back / 10,
+        b'0' + back % 10,
     )
 }
