@@ -111,6 +111,16 @@ fn write_short_number(out: &mut BytesMut, byte: u8, number: u64)
     }
 }
 
+/// Appends CR and LF.
+#[inline(always)]
+fn write_end(out: &mut BytesMut)
+    requires { 2 ≤ out.old.spare }
+    ensures { Writes out.old out.new (crlf []) }
+{
+    let end = [b'\r', b'\n'];
+    out.extend_reserved(&end);
+}
+
 #[inline]
 pub(crate) fn write_null(out: &mut BytesMut, version: Version)
     requires { length (canonical_text version (scalar d.Null)) ≤ out.old.spare }
@@ -156,7 +166,7 @@ pub(crate) fn write_line(out: &mut BytesMut, byte: u8, text: &[u8])
 {
     out.extend_reserved(&[byte]);
     out.extend_reserved(text);
-    out.extend_reserved(&[b'\r', b'\n']);
+    write_end(out);
 }
 
 /// Appends a string: its head, its bytes, CR and LF.
@@ -167,7 +177,7 @@ pub(crate) fn write_string(out: &mut BytesMut, byte: u8, bytes: &[u8])
 {
     write_head(out, byte, bytes.len() as u64);
     out.extend_reserved(bytes);
-    out.extend_reserved(&[b'\r', b'\n']);
+    write_end(out);
 }
 
 /// Appends a verbatim string: its head, its format, a colon, the text, CR and LF.
@@ -180,7 +190,7 @@ pub(crate) fn write_verbatim(out: &mut BytesMut, format: &[u8; 3], text: &[u8])
     out.extend_reserved(format);
     out.extend_reserved(b":");
     out.extend_reserved(text);
-    out.extend_reserved(&[b'\r', b'\n']);
+    write_end(out);
 }
 
 #[inline]
@@ -194,7 +204,7 @@ pub(crate) fn write_big(out: &mut BytesMut, negative: bool, digits: &[u8])
         out.extend_reserved(b"(");
     }
     out.extend_reserved(digits);
-    out.extend_reserved(&[b'\r', b'\n']);
+    write_end(out);
 }
 
 /// Appends the text of a value.
