@@ -1,4 +1,5 @@
 pub mod Decimals
+pub mod Pairs
 pub mod Texts
 pub mod Extended
 pub mod Counts

@@ -11,7 +11,7 @@ ghost use Rattle.resp_value.specs.Values.{datum_of, pair_data};
 ghost use Rattle.resp_value.specs.declared.version.Version.TheVariants.{Three};
 ghost use Rattle.resp_encode.specs.Writings.{Writes};
 
-use crate::digits::four_digits;
+use crate::digits::{four_digits, two_digits};
 use bytes::BytesMut;
 use resp_value::value::Value;
 use resp_value::version::Version;
@@ -26,8 +26,8 @@ pub(crate) fn write_head(out: &mut BytesMut, byte: u8, number: u64)
     if number < 10 {
         out.extend_reserved(&[byte, b'0' + number as u8, b'\r', b'\n']);
     } else if number < 100 {
-        let (tens, ones) = (number as u8 / 10, number as u8 % 10);
-        out.extend_reserved(&[byte, b'0' + tens, b'0' + ones, b'\r', b'\n']);
+        let (tens, ones) = two_digits(number);
+        out.extend_reserved(&[byte, tens, ones, b'\r', b'\n']);
     } else {
         write_long_head(out, byte, number);
     }
