@@ -1,11 +1,11 @@
 -- What holds after each step of a walk that writes as it goes.
-use Rattle.std.proofs.Common.{◌≡◌, ℕ, ◌+◌, ◌-◌, ◌/◌, ◌<◌, ◌≤◌, Bool, true, false, List, [], ◌∷◌, ◌++◌, length, max, refl, sym, ap, ◌∙◌, subst, arith, append_assoc, length-append, ℤ, pos, negsuc, nat_abs, add-one}
+use Rattle.std.proofs.Common.{◌≡◌, ℕ, ◌+◌, ◌-◌, ◌/◌, ◌<◌, ◌≤◌, Bool, true, false, List, [], ◌∷◌, ◌++◌, length, sym, ap, ◌∙◌, subst, arith, append_assoc, length-append, ℤ, pos, negsuc, nat_abs, add-one}
 use Rattle.std.specs.Bool.{OnTrue, OnFalse}
 use Rattle.bytes.specs.Filled.{Filled}
 use Rattle.resp_value.specs.Bytes.{crlf}
 use Rattle.resp_value.specs.Bounds.{Bounds}
 use Rattle.resp_value.specs.Numbers.{decimal}
-use Rattle.resp_value.specs.Data.{Kind, Attr, Scalar, Int, longest, Datum, Data, none, more, scalar, aggregate, items_of, count}
+use Rattle.resp_value.specs.Data.{Kind, Attr, Scalar, Int, longest, Datum, Data, none, scalar, aggregate, items_of, count}
 use Rattle.resp_value.specs.Trees.{kind_byte, texts}
 use Rattle.resp_value.specs.Canonical.{IsScalarValue, IsWhole, IsKindBelow, IsInTwo, HasNoPush, HasTypes, canonical_text, canonical_trees, Fits}
 use Rattle.resp_value.specs.Rules.{Rules}

@@ -1,9 +1,7 @@
-use Rattle.std.proofs.Common.{◌≡◌, ◌+◌, ◌/◌, ◌%◌, ◌<◌, ◌≤◌, ◌∷◌, ◌++◌, [], ℕ, length, sym, ap, ◌∙◌, subst, arith, append_assoc}
+use Rattle.std.proofs.Common.{◌≡◌, ◌/◌, ◌%◌, ◌∷◌, ◌++◌, [], ap, arith}
 use Rattle.resp_value.specs.Bytes.{crlf}
-use Rattle.resp_value.specs.Numbers.{decimal}
-use Rattle.resp_encode.specs.Writings.{Writes}
-use Rattle.resp_encode.proofs.Decimals.{decimal-one, decimal-two, decimal-three, decimal-four, decimal-four_more, length-decimal-two, length-decimal-three, length-decimal-four, length-decimal-four_more}
-use Rattle.resp_encode.proofs.Texts.{Writes-append, Writes-bytes, head_split}
+use Rattle.resp_encode.proofs.Decimals.{decimal-three, decimal-four, length-decimal-three, length-decimal-four}
+use Rattle.resp_encode.proofs.Texts.{Writes-bytes}
 use Rattle.resp_encode.proofs.text.write_long_head.Goals as goal
 
 pub extend_reserved-requires : goal.extend_reserved-requires

@@ -1,9 +1,9 @@
-use Rattle.std.proofs.Common.{◌≡◌, ◌+◌, ◌/◌, ◌%◌, ◌<◌, ◌≤◌, ◌∷◌, ◌++◌, [], ℕ, length, sym, ap, ◌∙◌, subst, arith, append_assoc}
+use Rattle.std.proofs.Common.{◌≡◌, ◌/◌, ◌≤◌, ◌∷◌, ◌++◌, [], ℕ, sym, ap, ◌∙◌, subst, arith, append_assoc}
 use Rattle.resp_value.specs.Bytes.{crlf}
 use Rattle.resp_value.specs.Numbers.{decimal}
 use Rattle.resp_encode.specs.Writings.{Writes}
-use Rattle.resp_encode.proofs.Decimals.{decimal-one, decimal-two, decimal-three, decimal-four, decimal-four_more, length-decimal-two, length-decimal-three, length-decimal-four, length-decimal-four_more}
-use Rattle.resp_encode.proofs.Texts.{Writes-append, Writes-bytes, head_split}
+use Rattle.resp_encode.proofs.Decimals.{decimal-four_more, length-decimal-four_more}
+use Rattle.resp_encode.proofs.Texts.{Writes-append, Writes-bytes}
 use Rattle.resp_encode.proofs.text.write_longer_head.Goals as goal
 
 -- four equal bytes before CR LF

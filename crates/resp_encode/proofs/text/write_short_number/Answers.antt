@@ -1,8 +1,6 @@
-use Rattle.std.proofs.Common.{◌≡◌, ◌+◌, ◌/◌, ◌%◌, ◌<◌, ◌≤◌, ◌∷◌, ◌++◌, [], ℕ, length, sym, ap, ◌∙◌, subst, arith}
-use Rattle.resp_value.specs.Bytes.{crlf}
-use Rattle.resp_encode.specs.Writings.{Writes}
-use Rattle.resp_encode.proofs.Decimals.{decimal-one, decimal-two, decimal-three, decimal-four, decimal-four_more, length-decimal-two, length-decimal-three, length-decimal-four, length-decimal-four_more}
-use Rattle.resp_encode.proofs.Texts.{Writes-append, Writes-bytes, head_split}
+use Rattle.std.proofs.Common.{◌≡◌, ◌/◌, ◌%◌, arith}
+use Rattle.resp_encode.proofs.Decimals.{decimal-one, decimal-two, decimal-three, decimal-four, length-decimal-two, length-decimal-three, length-decimal-four}
+use Rattle.resp_encode.proofs.Texts.{Writes-bytes}
 use Rattle.resp_encode.proofs.text.write_short_number.Goals as goal
 
 pub extend_reserved-requires-then-number-lt100 : goal.extend_reserved-requires-then-number-lt100

@@ -1,4 +1,4 @@
-use Rattle.std.proofs.Common.{ℕ, ◌∷◌, ◌++◌, [], true, length, subst, arith, length-append}
+use Rattle.std.proofs.Common.{ℕ, ◌++◌, [], true, length, subst, arith, length-append}
 use Rattle.resp_value.specs.Bytes.{crlf}
 use Rattle.resp_value.specs.Data.{scalar}
 use Rattle.resp_value.specs.Data as d
