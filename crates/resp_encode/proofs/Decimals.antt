@@ -1,5 +1,5 @@
 -- How many digits a number has.
-use Rattle.std.proofs.Common.{◌≡◌, ◌⊎◌, inl, inr, ◌≢◌, ℕ, ◌+◌, ◌/◌, ◌%◌, ◌^◌, ◌<◌, ◌≤◌, true, false, eqb, List, [], ◌∷◌, ◌++◌, length, map, refl, sym, ap, ◌∙◌, arith, length-append}
+use Rattle.std.proofs.Common.{◌≡◌, ◌⊎◌, inl, inr, ◌≢◌, ℕ, ◌+◌, ◌/◌, ◌%◌, ◌^◌, ◌<◌, ◌≤◌, true, false, eqb, List, [], ◌∷◌, ◌++◌, length, map, refl, sym, ap, ◌∙◌, arith, append_assoc, length-append}
 use Rattle.std.specs.Fmt as fmt
 use Rattle.std.specs.Int.Digits.{digits_of}
 use Rattle.std.proofs.lemmas.Fmt.{decimal_digit, decimal_step, decimal_nonempty, length-decimal-le, decimal-digits_of}
@@ -64,3 +64,45 @@ decimal-one n small = sym (decimal-std n (omega arith)) ∙ decimal_digit n smal
 pub decimal-two : (n : ℕ) → 10 ≤ n → n < 100 → decimal n ≡ (48 + n / 10) ∷ (48 + n % 10) ∷ []
 decimal-two n large small =
     sym (decimal-std n (omega arith)) ∙ decimal_step n large (omega arith) ∙ ap (λ digits. digits ++ ((48 + n % 10) ∷ [])) (decimal_digit (n / 10) (omega arith))
+
+-- the last digit stands behind the others
+pub decimal-more : (n : ℕ) → 10 ≤ n → n < 2 ^ 64 → decimal n ≡ decimal (n / 10) ++ ((48 + n % 10) ∷ [])
+decimal-more n large fits = sym (decimal-std n fits) ∙ decimal_step n large fits ∙ ap (λ digits. digits ++ ((48 + n % 10) ∷ [])) (decimal-std (n / 10) (omega arith))
+
+pub decimal-three : (n : ℕ) → 100 ≤ n → n < 1000 → decimal n ≡ (48 + n / 100) ∷ (48 + n / 10 % 10) ∷ (48 + n % 10) ∷ []
+decimal-three n large small =
+    let first : n / 10 / 10 ≡ n / 100 = omega arith in
+    decimal-more n (omega arith) (omega arith)
+    ∙ ap (λ digits. digits ++ ((48 + n % 10) ∷ [])) (decimal-two (n / 10) (omega arith) (omega arith))
+    ∙ ap (λ digit. (48 + digit) ∷ (48 + n / 10 % 10) ∷ (48 + n % 10) ∷ []) first
+
+pub decimal-four : (n : ℕ) → 1000 ≤ n → n < 10000 → decimal n ≡ (48 + n / 1000) ∷ (48 + n / 100 % 10) ∷ (48 + n / 10 % 10) ∷ (48 + n % 10) ∷ []
+decimal-four n large small =
+    let first : n / 10 / 100 ≡ n / 1000 = omega arith in
+    let second : n / 10 / 10 ≡ n / 100 = omega arith in
+    decimal-more n (omega arith) (omega arith)
+    ∙ ap (λ digits. digits ++ ((48 + n % 10) ∷ [])) (decimal-three (n / 10) (omega arith) (omega arith))
+    ∙ ap (λ digit. (48 + digit) ∷ (48 + n / 10 / 10 % 10) ∷ (48 + n / 10 % 10) ∷ (48 + n % 10) ∷ []) first
+    ∙ ap (λ m. (48 + n / 1000) ∷ (48 + m % 10) ∷ (48 + n / 10 % 10) ∷ (48 + n % 10) ∷ []) second
+
+-- the last four digits stand behind the others
+pub decimal-four_more : (n : ℕ) → 10000 ≤ n → n < 2 ^ 64 → decimal n ≡ decimal (n / 10000) ++ ((48 + n % 10000 / 1000) ∷ (48 + n % 10000 / 100 % 10) ∷ (48 + n % 10000 / 10 % 10) ∷ (48 + n % 10000 % 10) ∷ [])
+decimal-four_more n large fits =
+    let front = decimal (n / 10 / 10 / 10 / 10) in
+    let others : n / 10 / 10 / 10 / 10 ≡ n / 10000 = omega arith in
+    let first : n / 10 / 10 / 10 % 10 ≡ n % 10000 / 1000 = omega arith in
+    let second : n / 10 / 10 % 10 ≡ n % 10000 / 100 % 10 = omega arith in
+    let third : n / 10 % 10 ≡ n % 10000 / 10 % 10 = omega arith in
+    let last : n % 10 ≡ n % 10000 % 10 = omega arith in
+    decimal-more n (omega arith) fits
+    ∙ ap (λ digits. digits ++ ((48 + n % 10) ∷ [])) (decimal-more (n / 10) (omega arith) (omega arith))
+    ∙ append_assoc (decimal (n / 10 / 10)) ((48 + n / 10 % 10) ∷ []) ((48 + n % 10) ∷ [])
+    ∙ ap (λ digits. digits ++ ((48 + n / 10 % 10) ∷ (48 + n % 10) ∷ [])) (decimal-more (n / 10 / 10) (omega arith) (omega arith))
+    ∙ append_assoc (decimal (n / 10 / 10 / 10)) ((48 + n / 10 / 10 % 10) ∷ []) ((48 + n / 10 % 10) ∷ (48 + n % 10) ∷ [])
+    ∙ ap (λ digits. digits ++ ((48 + n / 10 / 10 % 10) ∷ (48 + n / 10 % 10) ∷ (48 + n % 10) ∷ [])) (decimal-more (n / 10 / 10 / 10) (omega arith) (omega arith))
+    ∙ append_assoc front ((48 + n / 10 / 10 / 10 % 10) ∷ []) ((48 + n / 10 / 10 % 10) ∷ (48 + n / 10 % 10) ∷ (48 + n % 10) ∷ [])
+    ∙ ap (λ m. decimal m ++ ((48 + n / 10 / 10 / 10 % 10) ∷ (48 + n / 10 / 10 % 10) ∷ (48 + n / 10 % 10) ∷ (48 + n % 10) ∷ [])) others
+    ∙ ap (λ a. decimal (n / 10000) ++ ((48 + a) ∷ (48 + n / 10 / 10 % 10) ∷ (48 + n / 10 % 10) ∷ (48 + n % 10) ∷ [])) first
+    ∙ ap (λ a. decimal (n / 10000) ++ ((48 + n % 10000 / 1000) ∷ (48 + a) ∷ (48 + n / 10 % 10) ∷ (48 + n % 10) ∷ [])) second
+    ∙ ap (λ a. decimal (n / 10000) ++ ((48 + n % 10000 / 1000) ∷ (48 + n % 10000 / 100 % 10) ∷ (48 + a) ∷ (48 + n % 10) ∷ [])) third
+    ∙ ap (λ a. decimal (n / 10000) ++ ((48 + n % 10000 / 1000) ∷ (48 + n % 10000 / 100 % 10) ∷ (48 + n % 10000 / 10 % 10) ∷ (48 + a) ∷ [])) last

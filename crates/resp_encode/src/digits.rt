@@ -1,6 +1,6 @@
-//! How many digits a number has.
+//! The digits of a number, and how many it has.
 
-ghost use Rattle.std.specs.Prelude.{◌≡◌, ◌≤◌, length, nat_abs};
+ghost use Rattle.std.specs.Prelude.{◌≡◌, ◌+◌, ◌/◌, ◌%◌, ◌≤◌, length, nat_abs};
 ghost use Rattle.resp_value.specs.Numbers.{decimal};
 ghost use Rattle.resp_value.specs.Canonical.{int_sign, int_size};
 
@@ -34,4 +34,33 @@ fn short_digit_count(number: u64) -> u64
     } else {
         4
     }
+}
+
+/// The two digits of each number below a hundred, one behind the other.
+static PAIRS: [u8; 200] =
+    *b"00010203040506070809101112131415161718192021222324252627282930313233343536373839404142434445464748495051525354555657585960616263646566676869707172737475767778798081828384858687888990919293949596979899";
+
+/// The two digits of a number below a hundred.
+#[inline(always)]
+pub(crate) fn two_digits(number: u64) -> (u8, u8)
+    requires { number ≤ 99 }
+    ensures tens { result.0 ≡ 48 + number / 10 }
+    ensures ones { result.1 ≡ 48 + number % 10 }
+{
+    let at = number as usize * 2;
+    (PAIRS[at], PAIRS[at + 1])
+}
+
+/// The digits of a number below ten thousand, with leading zeros.
+#[inline(always)]
+pub(crate) fn four_digits(number: u64) -> (u8, u8, u8, u8)
+    requires { number ≤ 9999 }
+    ensures thousands { result.0 ≡ 48 + number / 1000 }
+    ensures hundreds { result.1 ≡ 48 + number / 100 % 10 }
+    ensures tens { result.2 ≡ 48 + number / 10 % 10 }
+    ensures ones { result.3 ≡ 48 + number % 10 }
+{
+    let (thousands, hundreds) = two_digits(number / 100);
+    let (tens, ones) = two_digits(number % 100);
+    (thousands, hundreds, tens, ones)
 }

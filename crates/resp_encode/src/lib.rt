@@ -5,6 +5,7 @@
 //! `$-1` in version 2 and as `_` in version 3.
 #![tactic(auto)]
 
+mod attempt;
 mod digits;
 mod error;
 mod findings;

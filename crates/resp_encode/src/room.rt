@@ -18,3 +18,11 @@ pub(crate) fn reserve(out: &mut BytesMut, size: usize) -> Result<(), EncodeError
         Err(_) => Err(EncodeError::OutOfMemory),
     }
 }
+
+/// How many more bytes the buffer takes without a growth.
+#[inline]
+pub(crate) fn room(out: &BytesMut) -> u64
+    ensures { result ≡ out.now.spare }
+{
+    (out.capacity() - out.len()) as u64
+}

@@ -18,7 +18,7 @@ use resp_value::value::Value;
 use resp_value::version::Version;
 
 #[inline]
-fn of_null(version: Version) -> Findings
+pub(crate) fn of_null(version: Version) -> Findings
     ensures { Describes version (scalar d.Null) result }
 {
     match version {
@@ -28,14 +28,14 @@ fn of_null(version: Version) -> Findings
 }
 
 #[inline]
-fn of_bool(truth: bool) -> Findings
+pub(crate) fn of_bool(truth: bool) -> Findings
     ensures { (version : Version) → Describes version (scalar (d.Bool truth)) result }
 {
     Findings::scalar(false, 0, 4)
 }
 
 #[inline]
-fn of_int(number: &i64) -> Findings
+pub(crate) fn of_int(number: &i64) -> Findings
     ensures found { (version : Version) → Describes version (scalar (d.Int number.now)) result }
     ensures is_value { IsScalarValue (d.Int number.now) }
 {
@@ -46,7 +46,7 @@ fn of_int(number: &i64) -> Findings
 
 /// Of a simple string or an error.
 #[inline]
-fn of_line(text: &[u8]) -> Findings
+pub(crate) fn of_line(text: &[u8]) -> Findings
     ensures simple { (version : Version) → Describes version (scalar (d.Simple text.now)) result }
     ensures error { (version : Version) → Describes version (scalar (d.Error text.now)) result }
     ensures is_text { IsText text.now }
@@ -57,7 +57,7 @@ fn of_line(text: &[u8]) -> Findings
 
 /// How many bytes a string takes whose head says so many: the head, these, CR and LF.
 #[inline]
-fn string_size(counted: u64) -> u64
+pub(crate) fn string_size(counted: u64) -> u64
     requires { counted ≤ 2 ^ 63 + 4 }
     ensures { result ≡ length (decimal counted) + counted + 5 }
 {
@@ -74,7 +74,7 @@ pub(crate) fn of_bulk(bytes: &[u8]) -> Findings
 }
 
 #[inline]
-fn of_bulk_error(bytes: &[u8]) -> Findings
+pub(crate) fn of_bulk_error(bytes: &[u8]) -> Findings
     ensures found { (version : Version) → Describes version (scalar (d.BulkError bytes.now)) result }
     ensures is_text { IsText bytes.now }
 {
@@ -84,7 +84,7 @@ fn of_bulk_error(bytes: &[u8]) -> Findings
 
 /// Of a verbatim string, whose head counts its format and the colon behind that.
 #[inline]
-fn of_verbatim(format: &[u8; 3], text: &[u8]) -> Findings
+pub(crate) fn of_verbatim(format: &[u8; 3], text: &[u8]) -> Findings
     ensures found { (version : Version) → Describes version (scalar (d.Verbatim format.now text.now)) result }
     ensures is_value { IsScalarValue (d.Verbatim format.now text.now) }
 {
@@ -93,7 +93,7 @@ fn of_verbatim(format: &[u8; 3], text: &[u8]) -> Findings
 }
 
 #[inline]
-fn of_big(negative: bool, digits: &[u8]) -> Findings
+pub(crate) fn of_big(negative: bool, digits: &[u8]) -> Findings
     ensures { (version : Version) → Describes version (scalar (d.Big negative digits.now)) result }
 {
     let length = digits.len() as u64;

@@ -41,7 +41,7 @@ fn one_pair(alloc: Global) -> Result<PairList, Fail> {
     Ok(PairList::new(Vec::from_array(alloc, [(key, Value::Int(1))])?))
 }
 
-/// That `encode` appends this text, or refuses so, and that a refused call leaves the buffer.
+/// That `encode` appends this text, or refuses so, where there is room and where there is none.
 fn check_encode(
     rt: &impl Abort,
     alloc: Global,
@@ -50,7 +50,22 @@ fn check_encode(
     value: &Value,
     want: Result<&[u8], EncodeError>,
 ) -> Result<(), Fail> {
-    let mut out = BytesMut::copy_from_slice(alloc, b"kept")?;
+    let bare = BytesMut::copy_from_slice(alloc, b"kept")?;
+    check_into(rt, bare, version, limits, value, want)?;
+    let mut roomy = BytesMut::with_capacity(alloc, 1024)?;
+    roomy.extend_from_slice(b"kept")?;
+    check_into(rt, roomy, version, limits, value, want)
+}
+
+/// The same at one buffer, and that a refused call leaves the buffer.
+fn check_into(
+    rt: &impl Abort,
+    mut out: BytesMut,
+    version: Version,
+    limits: &Limits,
+    value: &Value,
+    want: Result<&[u8], EncodeError>,
+) -> Result<(), Fail> {
     match encode(version, limits, value, &mut out) {
         Ok(()) => {
             assert_eq!(rt;

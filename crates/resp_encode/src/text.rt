@@ -11,14 +11,14 @@ ghost use Rattle.resp_value.specs.Values.{datum_of, pair_data};
 ghost use Rattle.resp_value.specs.declared.version.Version.TheVariants.{Three};
 ghost use Rattle.resp_encode.specs.Writings.{Writes};
 
+use crate::digits::{four_digits, two_digits};
 use bytes::BytesMut;
-use itoa::write_digits;
 use resp_value::value::Value;
 use resp_value::version::Version;
 
 /// Appends a head: the byte, the number, CR and LF. A number of one or two digits, as most are, is put there
 /// at once.
-#[inline]
+#[inline(always)]
 pub(crate) fn write_head(out: &mut BytesMut, byte: u8, number: u64)
     requires { length (decimal number) + 3 ≤ out.old.spare }
     ensures { Writes out.old out.new (byte ∷ decimal number ++ crlf []) }
@@ -26,39 +26,114 @@ pub(crate) fn write_head(out: &mut BytesMut, byte: u8, number: u64)
     if number < 10 {
         out.extend_reserved(&[byte, b'0' + number as u8, b'\r', b'\n']);
     } else if number < 100 {
-        let (tens, ones) = (number as u8 / 10, number as u8 % 10);
-        out.extend_reserved(&[byte, b'0' + tens, b'0' + ones, b'\r', b'\n']);
+        let (tens, ones) = two_digits(number);
+        out.extend_reserved(&[byte, tens, ones, b'\r', b'\n']);
     } else {
         write_long_head(out, byte, number);
     }
 }
 
-/// The same for a number of any length.
+/// The same of a number of three digits and more. Each byte is stored where it stays: bytes put together elsewhere
+/// and copied in one piece would have to be waited for.
 #[inline(never)]
 fn write_long_head(out: &mut BytesMut, byte: u8, number: u64)
-    requires { length (decimal number) + 3 ≤ out.old.spare }
+    requires long { 100 ≤ number }
+    requires room { length (decimal number) + 3 ≤ out.old.spare }
     ensures { Writes out.old out.new (byte ∷ decimal number ++ crlf []) }
 {
-    let mut line = [b'\r'; 24];
-    line[23] = b'\n';
-    let start = write_digits(number, &mut line, 22) - 1;
-    line[start] = byte;
-    out.extend_reserved(&line[start..]);
+    if number < 1000 {
+        let (_, hundreds, tens, ones) = four_digits(number);
+        out.extend_reserved(&[byte, hundreds, tens, ones, b'\r', b'\n']);
+    } else if number < 10_000 {
+        let (thousands, hundreds, tens, ones) = four_digits(number);
+        out.extend_reserved(&[byte, thousands, hundreds, tens, ones, b'\r', b'\n']);
+    } else {
+        write_longer_head(out, byte, number);
+    }
+}
+
+/// The same of a number of five digits and more.
+#[inline(never)]
+fn write_longer_head(out: &mut BytesMut, byte: u8, number: u64)
+    requires long { 10000 ≤ number }
+    requires room { length (decimal number) + 3 ≤ out.old.spare }
+    ensures { Writes out.old out.new (byte ∷ decimal number ++ crlf []) }
+{
+    write_front(out, byte, number / 10_000);
+    let (thousands, hundreds, tens, ones) = four_digits(number % 10_000);
+    out.extend_reserved(&[thousands, hundreds, tens, ones, b'\r', b'\n']);
+}
+
+/// Appends the byte and the number, which stands before the last four digits of another one.
+#[inline(always)]
+fn write_front(out: &mut BytesMut, byte: u8, number: u64)
+    requires { length (decimal number) + 1 ≤ out.old.spare }
+    ensures { Writes out.old out.new (byte ∷ decimal number) }
+{
+    if number < 10_000 {
+        write_short_number(out, byte, number);
+    } else {
+        write_number(out, byte, number);
+    }
+}
+
+/// Appends the byte and the number.
+#[inline(never)]
+fn write_number(out: &mut BytesMut, byte: u8, number: u64)
+    requires { length (decimal number) + 1 ≤ out.old.spare }
+    ensures { Writes out.old out.new (byte ∷ decimal number) }
+{
+    if number < 10_000 {
+        write_short_number(out, byte, number);
+    } else {
+        write_number(out, byte, number / 10_000);
+        let (thousands, hundreds, tens, ones) = four_digits(number % 10_000);
+        out.extend_reserved(&[thousands, hundreds, tens, ones]);
+    }
+}
+
+/// The same of a number of one digit to four.
+#[inline]
+fn write_short_number(out: &mut BytesMut, byte: u8, number: u64)
+    requires short { number ≤ 9999 }
+    requires room { length (decimal number) + 1 ≤ out.old.spare }
+    ensures { Writes out.old out.new (byte ∷ decimal number) }
+{
+    let (thousands, hundreds, tens, ones) = four_digits(number);
+    if number < 10 {
+        out.extend_reserved(&[byte, ones]);
+    } else if number < 100 {
+        out.extend_reserved(&[byte, tens, ones]);
+    } else if number < 1000 {
+        out.extend_reserved(&[byte, hundreds, tens, ones]);
+    } else {
+        out.extend_reserved(&[byte, thousands, hundreds, tens, ones]);
+    }
+}
+
+/// Appends CR and LF.
+#[inline(always)]
+fn write_end(out: &mut BytesMut)
+    requires { 2 ≤ out.old.spare }
+    ensures { Writes out.old out.new (crlf []) }
+{
+    let end = [b'\r', b'\n'];
+    out.extend_reserved(&end);
 }
 
 #[inline]
-fn write_null(out: &mut BytesMut, version: Version)
+pub(crate) fn write_null(out: &mut BytesMut, version: Version)
     requires { length (canonical_text version (scalar d.Null)) ≤ out.old.spare }
     ensures { Writes out.old out.new (canonical_text version (scalar d.Null)) }
 {
     match version {
         Version::Two => out.extend_reserved(b"$-1\r\n"),
-        Version::Three => out.extend_reserved(b"_\r\n"),
+        Version::Three => out.extend_reserved(&[b'_', b'\r', b'\n']),
     }
 }
 
 #[inline]
-fn write_bool(out: &mut BytesMut, truth: bool)
+pub(crate) fn write_bool(out: &mut BytesMut, truth: bool)
     requires { 4 ≤ out.old.spare }
     ensures { Writes out.old out.new (canonical_text Three (scalar (d.Bool truth))) }
 {
@@ -69,8 +144,8 @@ fn write_bool(out: &mut BytesMut, truth: bool)
     }
 }
 
-#[inline]
-fn write_int(out: &mut BytesMut, number: &i64)
+#[inline(always)]
+pub(crate) fn write_int(out: &mut BytesMut, number: &i64)
     requires { length (canonical_text Three (scalar (d.Int number.now))) ≤ out.old.spare }
     ensures { Writes out.old out.new (canonical_text Three (scalar (d.Int number.now))) }
 {
@@ -84,30 +159,30 @@ fn write_int(out: &mut BytesMut, number: &i64)
 }
 
 /// Appends a line: the byte, the text, CR and LF.
-#[inline]
-fn write_line(out: &mut BytesMut, byte: u8, text: &[u8])
+#[inline(always)]
+pub(crate) fn write_line(out: &mut BytesMut, byte: u8, text: &[u8])
     requires { length text.now + 3 ≤ out.old.spare }
     ensures { Writes out.old out.new (byte ∷ text.now ++ crlf []) }
 {
     out.extend_reserved(&[byte]);
     out.extend_reserved(text);
-    out.extend_reserved(b"\r\n");
+    write_end(out);
 }
 
 /// Appends a string: its head, its bytes, CR and LF.
-#[inline]
+#[inline(always)]
 pub(crate) fn write_string(out: &mut BytesMut, byte: u8, bytes: &[u8])
     requires { length (decimal (length bytes.now)) + length bytes.now + 5 ≤ out.old.spare }
     ensures { Writes out.old out.new (byte ∷ decimal (length bytes.now) ++ crlf (bytes.now ++ crlf [])) }
 {
     write_head(out, byte, bytes.len() as u64);
     out.extend_reserved(bytes);
-    out.extend_reserved(b"\r\n");
+    write_end(out);
 }
 
 /// Appends a verbatim string: its head, its format, a colon, the text, CR and LF.
 #[inline]
-fn write_verbatim(out: &mut BytesMut, format: &[u8; 3], text: &[u8])
+pub(crate) fn write_verbatim(out: &mut BytesMut, format: &[u8; 3], text: &[u8])
     requires { length (canonical_text Three (scalar (d.Verbatim format.now text.now))) ≤ out.old.spare }
     ensures { Writes out.old out.new (canonical_text Three (scalar (d.Verbatim format.now text.now))) }
 {
@@ -115,11 +190,11 @@ fn write_verbatim(out: &mut BytesMut, format: &[u8; 3], text: &[u8])
     out.extend_reserved(format);
     out.extend_reserved(b":");
     out.extend_reserved(text);
-    out.extend_reserved(b"\r\n");
+    write_end(out);
 }
 
 #[inline]
-fn write_big(out: &mut BytesMut, negative: bool, digits: &[u8])
+pub(crate) fn write_big(out: &mut BytesMut, negative: bool, digits: &[u8])
     requires { length (canonical_text Three (scalar (d.Big negative digits.now))) ≤ out.old.spare }
     ensures { Writes out.old out.new (canonical_text Three (scalar (d.Big negative digits.now))) }
 {
@@ -129,12 +204,11 @@ fn write_big(out: &mut BytesMut, negative: bool, digits: &[u8])
         out.extend_reserved(b"(");
     }
     out.extend_reserved(digits);
-    out.extend_reserved(b"\r\n");
+    write_end(out);
 }
 
-/// Appends the text of a value. It is inlined where it is called; what leads back to it is not.
+/// Appends the text of a value.
 #[cycle(write)]
-#[inline(always)]
 pub(crate) fn write_value(value: &Value, version: Version, out: &mut BytesMut)
     requires { length (canonical_text version (datum_of value.now)) ≤ out.old.spare }
     ensures { Writes out.old out.new (canonical_text version (datum_of value.now)) }

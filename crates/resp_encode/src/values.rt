@@ -10,6 +10,7 @@ ghost use Rattle.resp_encode.specs.Writings.{Writes};
 ghost use Rattle.resp_encode.specs.declared.error.EncodeError.{EncodeError};
 ghost use Rattle.resp_value.specs.declared.version.Version.TheVariants.{Three};
 
+use crate::attempt::attempt;
 use crate::error::EncodeError;
 use crate::judge::{has_types, judge};
 use crate::kind::Kind;
@@ -47,11 +48,36 @@ pub fn encode(
     ensures spare { OnOk result (out.old.spare ≤ out.new.spare + length (canonical_text version (datum_of value.now))) }
     ensures spare_kept { OnErr result (out.old.spare ≤ out.new.spare) }
 {
-    let found = survey(value, version);
-    let size = judge(&found, version, limits)?;
+    if attempt(value, version, limits, out) {
+        return Ok(());
+    }
+    let size = judge_value(value, version, limits)?;
     reserve(out, size)?;
-    write_value(value, version, out);
+    write_whole(value, version, out);
     Ok(())
+}
+
+/// The length of the text of a value, or its first fault.
+#[cold]
+#[inline(never)]
+fn judge_value(value: &Value, version: Version, limits: &Limits) -> Result<usize, EncodeError>
+    ensures fits { IfOk result (λ size. Fits (record { version = version; limits = limits.now }) (datum_of value.now) × (size ≡ length (canonical_text version (datum_of value.now)))) }
+    ensures fault { IfErr result (IsFirstFault (record { version = version; limits = limits.now }) (datum_of value.now)) }
+    ensures spelling { OnOk result (IsSpelling (record { version = version; limits = limits.now }) (datum_of value.now) (canonical_text version (datum_of value.now))) }
+    ensures not_memory { IsErrOf result EncodeError.OutOfMemory → ⊥ }
+{
+    let found = survey(value, version);
+    judge(&found, version, limits)
+}
+
+/// Appends the text of a value into room that is there.
+#[cold]
+#[inline(never)]
+fn write_whole(value: &Value, version: Version, out: &mut BytesMut)
+    requires { length (canonical_text version (datum_of value.now)) ≤ out.old.spare }
+    ensures { Writes out.old out.new (canonical_text version (datum_of value.now)) }
+{
+    write_value(value, version, out);
 }
 
 /// The length of the text of a push of these values, or its first fault.

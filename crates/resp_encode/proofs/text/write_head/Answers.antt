@@ -11,4 +11,7 @@ pub returns-then-number-lt10 : goal.returns-then-number-lt10
 returns-then-number-lt10 c = Writes-bytes c.extend_reserved.ensures.items c.extend_reserved.ensures.spare (ap (λ digits. c.args.byte ∷ digits ++ crlf []) (sym (decimal-one c.args.number (omega arith))))
 
 pub returns-then-number-lt100 : goal.returns-then-number-lt100
-returns-then-number-lt100 c = Writes-bytes c.extend_reserved-then-number-lt100.ensures.items c.extend_reserved-then-number-lt100.ensures.spare (ap (λ digits. c.args.byte ∷ digits ++ crlf []) (sym (decimal-two c.args.number (omega arith) (omega arith))))
+returns-then-number-lt100 c =
+    let digits = c.two_digits-tens.ensures in
+    let same = ap (λ digits. c.args.byte ∷ digits ++ crlf []) (decimal-two c.args.number (omega arith) (omega arith)) in
+    Writes-bytes c.extend_reserved-then-number-lt100.ensures.items c.extend_reserved-then-number-lt100.ensures.spare cc

@@ -1,33 +1,27 @@
-use Rattle.std.proofs.Common.{◌≡◌, ◌+◌, ◌-◌, ◌∷◌, ◌++◌, [], length, take, drop, set, sym, ap, ◌∙◌, arith}
+use Rattle.std.proofs.Common.{◌≡◌, ◌/◌, ◌%◌, ◌∷◌, ◌++◌, [], ap, arith}
 use Rattle.resp_value.specs.Bytes.{crlf}
-use Rattle.resp_value.specs.Numbers.{decimal}
-use Rattle.resp_encode.proofs.Decimals.{decimal-std, length-decimal-few}
-use Rattle.resp_encode.proofs.Texts.{line_with, length-head}
+use Rattle.resp_encode.proofs.Decimals.{decimal-three, decimal-four, length-decimal-three, length-decimal-four}
+use Rattle.resp_encode.proofs.Texts.{Writes-bytes}
 use Rattle.resp_encode.proofs.text.write_long_head.Goals as goal
-use Rattle.resp_encode.proofs.text.write_long_head.Goals.{After-extend_reserved-arg-2-1}
-
-pub write_digits-start-requires : goal.write_digits-start-requires
-write_digits-start-requires c = (omega (arith, ap length (decimal-std c.args.number (omega arith)), length-decimal-few c.args.number (omega arith)), omega arith)
-
-pub overflow_sub-start : goal.overflow_sub-start
-overflow_sub-start c = omega (arith, ap length (decimal-std c.args.number (omega arith)), length-decimal-few c.args.number (omega arith))
-
--- what stands from the byte on
-head : (c : After-extend_reserved-arg-2-1) → take (24 - (c.write_digits-start.result - 1)) (drop (c.write_digits-start.result - 1) (set c.write_digits-start.new.buf (c.write_digits-start.result - 1) c.args.byte)) ≡ c.args.byte ∷ decimal c.args.number ++ crlf []
-head c =
-    let same = decimal-std c.args.number (omega arith) in
-    line_with c.write_digits-start.new.buf c.write_digits-start.result c.args.byte _ (omega arith)
-    (omega (arith, ap length same, length-decimal-few c.args.number (omega arith)))
-    (omega arith)
-    (c.write_digits-start.ensures.written ∙ ap (λ ds. ds ++ crlf []) same)
 
 pub extend_reserved-requires : goal.extend_reserved-requires
-extend_reserved-requires c = omega (arith, ap length (head c), length-head c.args.byte c.args.number [])
+extend_reserved-requires c = omega (arith, c.requires.room, length-decimal-three c.args.number (omega arith) (omega arith))
 
-pub returns : goal.returns
-returns c =
-    let text = head (goal.at.returns c).After-extend_reserved-arg-2-1 in
-    record {
-      items = c.extend_reserved.ensures.items ∙ ap (λ xs. c.args.out.now.items ++ xs) text;
-      spare = ap (λ xs. c.extend_reserved.new.self.spare + length xs) (sym text) ∙ c.extend_reserved.ensures.spare;
-    }
+pub extend_reserved-requires-then-number-lt10000 : goal.extend_reserved-requires-then-number-lt10000
+extend_reserved-requires-then-number-lt10000 c = omega (arith, c.requires.room, length-decimal-four c.args.number (omega arith) (omega arith))
+
+pub returns-then-number-lt1000 : goal.returns-then-number-lt1000
+returns-then-number-lt1000 c =
+    let n = c.args.number in
+    let whole = decimal-three n (omega arith) (omega arith) in
+    let small : n / 100 % 10 ≡ n / 100 = omega arith in
+    let digits = c.four_digits-hundreds.ensures in
+    let same = ap (λ digits. c.args.byte ∷ digits ++ crlf []) whole in
+    Writes-bytes c.extend_reserved.ensures.items c.extend_reserved.ensures.spare cc
+
+pub returns-then-number-lt10000 : goal.returns-then-number-lt10000
+returns-then-number-lt10000 c =
+    let whole = decimal-four c.args.number (omega arith) (omega arith) in
+    let same = ap (λ digits. c.args.byte ∷ digits ++ crlf []) whole in
+    let digits = c.four_digits-thousands.ensures in
+    Writes-bytes c.extend_reserved-then-number-lt10000.ensures.items c.extend_reserved-then-number-lt10000.ensures.spare cc

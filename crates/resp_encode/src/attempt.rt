@@ -1,0 +1,257 @@
+//! A value in one walk, which writes as it goes and stops where something is refused or there is no room.
+//!
+//! Most values have no fault and there is room for them. They are not walked over twice.
+
+ghost use Rattle.std.specs.Prelude.{◌≡◌, ◌+◌, ◌<◌, ◌≤◌, ◌++◌, ◌∷◌, [], ℕ, length, map, IsTrue};
+ghost use Rattle.std.specs.Bool.{OnTrue, OnFalse};
+ghost use Rattle.resp_value.specs.Bytes.{crlf};
+ghost use Rattle.resp_value.specs.Numbers.{decimal};
+ghost use Rattle.resp_value.specs.Data.{aggregate, items_of, data_of_list, in_turn};
+ghost use Rattle.resp_value.specs.Data as d;
+ghost use Rattle.resp_value.specs.Trees.{kind_byte};
+ghost use Rattle.resp_value.specs.Canonical.{IsValue, HasNoPush, canonical_text, Fits};
+ghost use Rattle.resp_value.specs.Values.{datum_of, pair_data};
+ghost use Rattle.resp_encode.specs.Attempts.{HasKind, Attempt, AttemptEach, AttemptNotes};
+ghost use Rattle.resp_encode.specs.Kinds.{kind_of};
+ghost use Rattle.resp_encode.specs.Writings.{Writes};
+
+use crate::findings::head_size;
+use crate::kind::Kind;
+use crate::room::room;
+use crate::text::write_head;
+use bytes::BytesMut;
+use resp_value::limits::Limits;
+use resp_value::value::Value;
+use resp_value::version::Version;
+use scalars::{
+    attempt_big, attempt_bool, attempt_bulk, attempt_bulk_error, attempt_error, attempt_int,
+    attempt_null, attempt_simple, attempt_verbatim,
+};
+
+mod scalars;
+
+#[inline]
+fn has_kind(version: Version, kind: Kind) -> bool
+    ensures { OnTrue result (HasKind version (kind_of kind)) }
+{
+    match version {
+        Version::Two => kind.is_in_two(),
+        Version::Three => true,
+    }
+}
+
+/// Appends the head of an aggregate, or leaves the buffer.
+#[inline]
+fn attempt_head(
+    items: u64,
+    kind: Kind,
+    version: Version,
+    limits: &Limits,
+    deeper: u64,
+    out: &mut BytesMut,
+) -> bool
+    ensures writes { OnTrue result (Writes out.old out.new (kind_byte (kind_of kind) ∷ decimal items ++ crlf [])) }
+    ensures has_kind { OnTrue result (HasKind version (kind_of kind)) }
+    ensures within_items { OnTrue result (items ≤ limits.now.items) }
+    ensures within_depth { OnTrue result (0 < deeper) }
+    ensures unchanged { OnFalse result (out.new ≡ out.old) }
+{
+    if !has_kind(version, kind) || deeper == 0 {
+        return false;
+    }
+    if items > limits.items() || head_size(items) > room(out) {
+        return false;
+    }
+    write_head(out, kind.byte(), items);
+    true
+}
+
+/// Appends the text of a value that stands in another one, as far as nothing is in the way.
+#[cycle(attempt)]
+#[inline(always)]
+fn attempt_value(
+    value: &Value,
+    version: Version,
+    limits: &Limits,
+    deeper: u64,
+    out: &mut BytesMut,
+) -> bool
+    ensures attempt { Attempt version limits.now deeper (datum_of value.now) out.old out.new result }
+    ensures no_push { OnTrue result (HasNoPush (datum_of value.now)) }
+{
+    match value {
+        Value::Null => attempt_null(version, limits, out),
+        Value::Bool(truth) => attempt_bool(*truth, version, limits, out),
+        Value::Int(number) => attempt_int(number, out),
+        Value::Simple(line) => attempt_simple(line, version, limits, out),
+        Value::Error(line) => attempt_error(line, version, limits, out),
+        Value::Bulk(content) => attempt_bulk(content, limits, out),
+        Value::BulkError(content) => attempt_bulk_error(content, version, limits, out),
+        Value::Verbatim(format, text) => attempt_verbatim(format, text, version, limits, out),
+        Value::Big(digits) => attempt_big(digits, version, limits, out),
+        Value::Array(members) => {
+            attempt_group(members.list(), Kind::Array, version, limits, deeper, out)
+        }
+        Value::Set(members) => {
+            attempt_group(members.list(), Kind::Set, version, limits, deeper, out)
+        }
+        Value::Map(pairs) => attempt_map(pairs.list(), version, limits, deeper, out),
+        Value::Attr(pairs, annotated) => {
+            if !attempt_notes(pairs.list(), version, limits, deeper, out) {
+                return false;
+            }
+            attempt_annotated(annotated, version, limits, deeper - 1, out)
+        }
+        Value::Push(_) => false,
+    }
+}
+
+/// The same of an aggregate that counts its members one by one.
+#[cycle(attempt)]
+#[inline(never)]
+fn attempt_group(
+    members: &[Value],
+    kind: Kind,
+    version: Version,
+    limits: &Limits,
+    deeper: u64,
+    out: &mut BytesMut,
+) -> bool
+    requires { (n : ℕ) → items_of (kind_of kind) n ≡ n }
+    ensures { Attempt version limits.now deeper (aggregate (kind_of kind) (data_of_list (map datum_of members.now))) out.old out.new result }
+{
+    if !attempt_head(members.len() as u64, kind, version, limits, deeper, out) {
+        return false;
+    }
+    attempt_members(members, version, limits, deeper - 1, out)
+}
+
+/// The same of a map of these pairs.
+#[cycle(attempt)]
+#[inline(never)]
+fn attempt_map(
+    pairs: &[(Value, Value)],
+    version: Version,
+    limits: &Limits,
+    deeper: u64,
+    out: &mut BytesMut,
+) -> bool
+    ensures { Attempt version limits.now deeper (aggregate d.Map (data_of_list (in_turn (map pair_data pairs.now)))) out.old out.new result }
+{
+    if !attempt_head(pairs.len() as u64, Kind::Map, version, limits, deeper, out) {
+        return false;
+    }
+    attempt_pairs(pairs, version, limits, deeper - 1, out)
+}
+
+/// The same of the head and the pairs of an attribute.
+#[cycle(attempt)]
+#[inline(never)]
+fn attempt_notes(
+    pairs: &[(Value, Value)],
+    version: Version,
+    limits: &Limits,
+    deeper: u64,
+    out: &mut BytesMut,
+) -> bool
+    ensures { AttemptNotes version limits.now deeper (length pairs.now) (data_of_list (in_turn (map pair_data pairs.now))) out.old out.new result }
+{
+    if !attempt_head(pairs.len() as u64, Kind::Attr, version, limits, deeper, out) {
+        return false;
+    }
+    attempt_pairs(pairs, version, limits, deeper - 1, out)
+}
+
+/// The same of the value that an attribute annotates.
+#[cycle(attempt)]
+#[inline(never)]
+fn attempt_annotated(
+    value: &Value,
+    version: Version,
+    limits: &Limits,
+    deeper: u64,
+    out: &mut BytesMut,
+) -> bool
+    ensures attempt { Attempt version limits.now deeper (datum_of value.now) out.old out.new result }
+    ensures no_push { OnTrue result (HasNoPush (datum_of value.now)) }
+{
+    attempt_value(value, version, limits, deeper, out)
+}
+
+/// The same of values that stand side by side.
+#[cycle(attempt)]
+#[inline(never)]
+fn attempt_members(
+    members: &[Value],
+    version: Version,
+    limits: &Limits,
+    deeper: u64,
+    out: &mut BytesMut,
+) -> bool
+    ensures { AttemptEach version limits.now deeper (data_of_list (map datum_of members.now)) out.old out.new result }
+{
+    for member in members {
+        if !attempt_value(member, version, limits, deeper, out) {
+            return false;
+        }
+    }
+    true
+}
+
+/// The same of keys and values in turn.
+#[cycle(attempt)]
+#[inline(never)]
+fn attempt_pairs(
+    pairs: &[(Value, Value)],
+    version: Version,
+    limits: &Limits,
+    deeper: u64,
+    out: &mut BytesMut,
+) -> bool
+    ensures { AttemptEach version limits.now deeper (data_of_list (in_turn (map pair_data pairs.now))) out.old out.new result }
+{
+    for pair in pairs {
+        if !attempt_value(&pair.0, version, limits, deeper, out) {
+            return false;
+        }
+        if !attempt_value(&pair.1, version, limits, deeper, out) {
+            return false;
+        }
+    }
+    true
+}
+
+/// The same of a value that may be a push.
+#[inline(always)]
+fn attempt_top(value: &Value, version: Version, limits: &Limits, out: &mut BytesMut) -> bool
+    ensures { Attempt version limits.now limits.now.depth (datum_of value.now) out.old out.new result }
+{
+    let deeper = limits.depth();
+    match value {
+        Value::Push(members) => {
+            attempt_group(members.list(), Kind::Push, version, limits, deeper, out)
+        }
+        _ => attempt_value(value, version, limits, deeper, out),
+    }
+}
+
+/// Appends the text of a value where it has no fault and there is room, and else leaves the buffer.
+#[inline(always)]
+pub(crate) fn attempt(value: &Value, version: Version, limits: &Limits, out: &mut BytesMut) -> bool
+    ensures writes { OnTrue result (Writes out.old out.new (canonical_text version (datum_of value.now))) }
+    ensures fits { OnTrue result (Fits (record { version = version; limits = limits.now }) (datum_of value.now)) }
+    ensures is_value { OnTrue result (IsValue (datum_of value.now)) }
+    ensures items { OnFalse result (out.new.items ≡ out.old.items) }
+    ensures spare { OnFalse result (out.new.spare ≡ out.old.spare) }
+{
+    let before = room(out);
+    if attempt_top(value, version, limits, out) {
+        let written = before - room(out);
+        if written <= limits.total() {
+            return true;
+        }
+    }
+    let written = before - room(out);
+    out.truncate(out.len() - written as usize);
+    false
+}

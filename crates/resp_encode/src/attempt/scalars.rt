@@ -1,0 +1,207 @@
+//! Values without members: each is written where it has no fault and there is room, and else the buffer is left.
+
+ghost use Rattle.std.specs.Prelude.{◌≡◌, ◌+◌, ◌≤◌, ◌^◌, ℕ, length};
+ghost use Rattle.std.specs.Bool.{OnTrue};
+ghost use Rattle.resp_value.specs.Bounds.{Bounds};
+ghost use Rattle.resp_value.specs.Numbers.{decimal};
+ghost use Rattle.resp_value.specs.Canonical.{IsScalarValue, canonical_text};
+ghost use Rattle.resp_value.specs.Data.{Datum, scalar};
+ghost use Rattle.resp_value.specs.Data as d;
+ghost use Rattle.resp_value.specs.declared.version.Version.{Version};
+ghost use Rattle.resp_value.specs.Values.{line_text, content_bytes, is_negative, digits_text};
+ghost use Rattle.resp_encode.specs.Attempts.{Attempt, HasRoom};
+ghost use Rattle.resp_encode.specs.Surveys.{Describes};
+
+use crate::digits::digit_count;
+use crate::findings::Findings;
+use crate::judge::has_types;
+use crate::room::room;
+use crate::survey::{of_big, of_bool, of_bulk_error, of_line, of_null, of_verbatim, string_size};
+use crate::text::{
+    write_big, write_bool, write_int, write_line, write_null, write_string, write_verbatim,
+};
+use bytes::BytesMut;
+use resp_value::content::Content;
+use resp_value::digits::Digits;
+use resp_value::limits::Limits;
+use resp_value::line::Line;
+use resp_value::version::Version;
+
+/// Whether a value without members has no fault but perhaps its total, and there is room for its text.
+#[inline(always)]
+fn has_room(found: &Findings, version: Version, limits: &Limits, out: &BytesMut) -> bool
+    ensures { (x : Datum) → Describes version x found.now → OnTrue result (HasRoom version limits.now out.now.spare x) }
+{
+    if !has_types(found, version) || found.longest > limits.length() {
+        return false;
+    }
+    match found.size {
+        Some(size) => size <= room(out),
+        None => false,
+    }
+}
+
+/// Whether there is surely room for an integer. Its digits are counted only where there is little.
+#[inline(always)]
+fn has_room_for_int(number: &i64, out: &BytesMut) -> bool
+    ensures room { (version : Version) → OnTrue result (length (canonical_text version (scalar (d.Int number.now))) ≤ out.now.spare) }
+    ensures is_value { IsScalarValue (d.Int number.now) }
+{
+    let magnitude = number.unsigned_abs();
+    let room = room(out);
+    room >= 24 || digit_count(magnitude) + 4 <= room
+}
+
+/// Whether there is room for a string whose head says so many bytes. The digits are counted only where there is little.
+#[inline(always)]
+fn has_room_for_string(counted: u64, out: &BytesMut) -> bool
+    requires { counted ≤ 2 ^ 63 + 4 }
+    ensures { OnTrue result (length (decimal counted) + counted + 5 ≤ out.now.spare) }
+{
+    let room = room(out);
+    counted + 25 <= room || string_size(counted) <= room
+}
+
+#[inline(always)]
+pub(super) fn attempt_null(version: Version, limits: &Limits, out: &mut BytesMut) -> bool
+    ensures { (deeper : ℕ) → Attempt version limits.now deeper (scalar d.Null) out.old out.new result }
+{
+    let found = of_null(version);
+    if !has_room(&found, version, limits, out) {
+        return false;
+    }
+    write_null(out, version);
+    true
+}
+
+#[inline(always)]
+pub(super) fn attempt_bool(
+    truth: bool,
+    version: Version,
+    limits: &Limits,
+    out: &mut BytesMut,
+) -> bool
+    ensures { (deeper : ℕ) → Attempt version limits.now deeper (scalar (d.Bool truth)) out.old out.new result }
+{
+    let found = of_bool(truth);
+    if !has_room(&found, version, limits, out) {
+        return false;
+    }
+    write_bool(out, truth);
+    true
+}
+
+#[inline(always)]
+pub(super) fn attempt_int(number: &i64, out: &mut BytesMut) -> bool
+    ensures { (version : Version) (bounds : Bounds) (deeper : ℕ) → Attempt version bounds deeper (scalar (d.Int number.now)) out.old out.new result }
+{
+    if !has_room_for_int(number, out) {
+        return false;
+    }
+    write_int(out, number);
+    true
+}
+
+#[inline(always)]
+pub(super) fn attempt_simple(
+    line: &Line,
+    version: Version,
+    limits: &Limits,
+    out: &mut BytesMut,
+) -> bool
+    ensures { (deeper : ℕ) → Attempt version limits.now deeper (scalar (d.Simple (line_text line.now))) out.old out.new result }
+{
+    let text = line.text();
+    let found = of_line(text);
+    if !has_room(&found, version, limits, out) {
+        return false;
+    }
+    write_line(out, b'+', text);
+    true
+}
+
+#[inline(always)]
+pub(super) fn attempt_error(
+    line: &Line,
+    version: Version,
+    limits: &Limits,
+    out: &mut BytesMut,
+) -> bool
+    ensures { (deeper : ℕ) → Attempt version limits.now deeper (scalar (d.Error (line_text line.now))) out.old out.new result }
+{
+    let text = line.text();
+    let found = of_line(text);
+    if !has_room(&found, version, limits, out) {
+        return false;
+    }
+    write_line(out, b'-', text);
+    true
+}
+
+#[inline(always)]
+pub(super) fn attempt_bulk(content: &Content, limits: &Limits, out: &mut BytesMut) -> bool
+    ensures { (version : Version) (deeper : ℕ) → Attempt version limits.now deeper (scalar (d.Bulk (content_bytes content.now))) out.old out.new result }
+{
+    let bytes = content.list();
+    let counted = bytes.len() as u64;
+    if counted > limits.length() || !has_room_for_string(counted, out) {
+        return false;
+    }
+    write_string(out, b'$', bytes);
+    true
+}
+
+#[inline(never)]
+pub(super) fn attempt_bulk_error(
+    content: &Content,
+    version: Version,
+    limits: &Limits,
+    out: &mut BytesMut,
+) -> bool
+    ensures { (deeper : ℕ) → Attempt version limits.now deeper (scalar (d.BulkError (content_bytes content.now))) out.old out.new result }
+{
+    let bytes = content.list();
+    let found = of_bulk_error(bytes);
+    if !has_room(&found, version, limits, out) {
+        return false;
+    }
+    write_string(out, b'!', bytes);
+    true
+}
+
+#[inline(never)]
+pub(super) fn attempt_verbatim(
+    format: &[u8; 3],
+    text: &Content,
+    version: Version,
+    limits: &Limits,
+    out: &mut BytesMut,
+) -> bool
+    ensures { (deeper : ℕ) → Attempt version limits.now deeper (scalar (d.Verbatim format.now (content_bytes text.now))) out.old out.new result }
+{
+    let bytes = text.list();
+    let found = of_verbatim(format, bytes);
+    if !has_room(&found, version, limits, out) {
+        return false;
+    }
+    write_verbatim(out, format, bytes);
+    true
+}
+
+#[inline(never)]
+pub(super) fn attempt_big(
+    digits: &Digits,
+    version: Version,
+    limits: &Limits,
+    out: &mut BytesMut,
+) -> bool
+    ensures { (deeper : ℕ) → Attempt version limits.now deeper (scalar (d.Big (is_negative digits.now) (digits_text digits.now))) out.old out.new result }
+{
+    let (negative, text) = (digits.is_negative(), digits.digits());
+    let found = of_big(negative, text);
+    if !has_room(&found, version, limits, out) {
+        return false;
+    }
+    write_big(out, negative, text);
+    true
+}
