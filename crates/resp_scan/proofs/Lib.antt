@@ -41,3 +41,4 @@ pub mod Rows
 pub mod LeastNeeded
 pub mod Calls
 pub mod TokenLaws
+pub mod Judged

@@ -15,3 +15,4 @@ pub mod Kinds
 pub mod Begun
 pub mod Follows
 pub mod Steps
+pub mod Laws

@@ -13,6 +13,7 @@ pub mod event;
 mod frame;
 mod heads;
 mod integers;
+pub mod laws;
 mod lines;
 mod literals;
 mod machine;
