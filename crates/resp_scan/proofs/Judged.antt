@@ -1,8 +1,7 @@
 -- The scanner decides every text: it is viable, or has one cause at one first byte.
-use Rattle.std.specs.Prelude.{Bool, true, false, cond, eqb}
+use Rattle.std.specs.Prelude.{false, cond, eqb}
 use Rattle.std.proofs.lemmas.Bool.Decides.{nat_tests}
-use Rattle.std.proofs.Common.{◌≡◌, ◌⊎◌, inl, inr, ℕ, zero, suc, ◌+◌, ◌<◌, ◌≤◌, List, [], ◌∷◌, ◌++◌, length, refl, sym, ap, subst, ◌∙◌, arith, append_assoc, append-nil, length-append}
-use Rattle.resp_value.specs.Bounds.{AreBounds}
+use Rattle.std.proofs.Common.{◌≡◌, ◌⊎◌, inl, inr, ℕ, zero, suc, ◌<◌, List, [], ◌∷◌, ◌++◌, length, refl, sym, ap, subst, ◌∙◌, arith, append_assoc, append-nil, length-append}
 use Rattle.resp_value.specs.Bytes.{IsText}
 use Rattle.resp_value.specs.Rules.{Rules, Rule, Grammar, WithinTotal}
 use Rattle.resp_value.specs.Spellings.{FaultOf, IsCause, IsViable}
@@ -60,7 +59,6 @@ fault_here r front b bs rule viable cause = (rule, length front, subst (λ z. Fa
 
 judged_more : (r : Rules) (front : List ℕ) (b : ℕ) (bs : List ℕ) → Judged r ((front ++ b ∷ []) ++ bs) → Judged r (front ++ b ∷ bs)
 judged_more r front b bs h = subst (Judged r) (append_assoc front (b ∷ []) bs) h
-
 
 followed : (r : Rules) (s : Place) (front : List ℕ) → Stands r s front → IsViable r WithinTotal front
 followed r s front w = subst (λ x. IsViable x WithinTotal front) w.rules (followed_is_viable s 0 front w.events w.sound (omega (arith, w.taken)) w.lies)
@@ -160,6 +158,7 @@ every_text_is_judged r whole bounds bytes = one (judge r (record { token = AtSta
       events = [];
       lies = record { frames = []; begun = tt; of_levels = tt; ready = tt; whole = refl; told = refl };
     }
+
     one : Judged r whole → IsViable r WithinTotal whole ⊎ HasOneFault r whole
     one (inl v) = inl v
     one (inr (rule, place, fault)) = inr (rule, place, fault, λ other there w. a_rest_has_one_fault r whole other rule there place w fault)
