@@ -52,6 +52,7 @@ use Rattle.resp_scan.specs.Follows.{Between, Closing, Counts, Inside, Leads, Lie
 use Rattle.resp_scan.proofs.TokenLaws.{StartLeads}
 use Rattle.resp_scan.proofs.Begins.{begins_leads, is_between, length-waiting}
 use Rattle.resp_scan.proofs.HeadsLead.{aggregate_row}
+use Rattle.resp_scan.proofs.ByteTests.{by_byte}
 use Rattle.resp_scan.proofs.Choices.{if_equal, if_within}
 
 -- Refusals of a first byte by itself.
@@ -212,55 +213,6 @@ star_row s level i bytes are =
     (λ deep. subst (λ z. IsBegunBy (rules_of s) level z 4) (sym are) (star_deep_begun (rules_of s) level (omega (arith, deep, i))))
     (λ below. subst (λ z. IsBegunBy (rules_of s) level z 3) (sym are) (star_begun (rules_of s) level (omega (arith, below, i))))
 
--- what is left to test behind each byte
-abbrev behind_greater : Place → ℕ → Move
-behind_greater s byte = Refuse cause.Syntax
-
-abbrev behind_bar : Place → ℕ → Move
-behind_bar s byte = cond (eqb byte 62) (machine.in_three s.version (push_begins s s.frames)) (behind_greater s byte)
-
-abbrev behind_percent : Place → ℕ → Move
-behind_percent s byte = cond (eqb byte 124) (machine.in_three s.version (aggregate_begins s head.Attr)) (behind_bar s byte)
-
-abbrev behind_tilde : Place → ℕ → Move
-behind_tilde s byte = cond (eqb byte 37) (machine.in_three s.version (aggregate_begins s head.Map)) (behind_percent s byte)
-
-abbrev behind_equals : Place → ℕ → Move
-behind_equals s byte = cond (eqb byte 126) (machine.in_three s.version (aggregate_begins s head.Set)) (behind_tilde s byte)
-
-abbrev behind_bang : Place → ℕ → Move
-behind_bang s byte = cond (eqb byte 61) (machine.in_three s.version (begins s 9 (AtHead head.Verbatim))) (behind_equals s byte)
-
-abbrev behind_paren : Place → ℕ → Move
-behind_paren s byte = cond (eqb byte 33) (machine.in_three s.version (begins s 5 (AtHead head.BulkError))) (behind_bang s byte)
-
-abbrev behind_hash : Place → ℕ → Move
-behind_hash s byte = cond (eqb byte 40) (machine.in_three s.version (begins s 3 AtBigSign)) (behind_paren s byte)
-
-abbrev behind_underscore : Place → ℕ → Move
-behind_underscore s byte = cond (eqb byte 35) (machine.in_three s.version (begins s 3 AtBool)) (behind_hash s byte)
-
-abbrev behind_comma : Place → ℕ → Move
-behind_comma s byte = cond (eqb byte 95) (machine.in_three s.version (begins s 2 AtNullCr)) (behind_underscore s byte)
-
-abbrev behind_stop : Place → ℕ → Move
-behind_stop s byte = cond (eqb byte 44) (Refuse cause.Double) (behind_comma s byte)
-
-abbrev behind_star : Place → ℕ → Move
-behind_star s byte = cond (eqb byte 46) (closing s) (behind_stop s byte)
-
-abbrev behind_dollar : Place → ℕ → Move
-behind_dollar s byte = cond (eqb byte 42) (begins s (cond (is_full s) 4 3) AtArrayHead) (behind_star s byte)
-
-abbrev behind_colon : Place → ℕ → Move
-behind_colon s byte = cond (eqb byte 36) (begins s 4 AtBulkHead) (behind_dollar s byte)
-
-abbrev behind_minus : Place → ℕ → Move
-behind_minus s byte = cond (eqb byte 58) (begins s 3 AtIntSign) (behind_colon s byte)
-
-abbrev behind_plus : Place → ℕ → Move
-behind_plus s byte = cond (eqb byte 45) (line_begins s (k.Text text.Error)) (behind_minus s byte)
-
 plus_leads : (s : Place) (front : List ℕ) (es : List Event) → Counts (at s AtStart) 0 front → Lies (at s AtStart) front es → Leads (at s AtStart) front es 43 (line_begins (at s AtStart) (k.Text text.Simple))
 plus_leads s front es c w =
     let q = at s AtStart in
@@ -373,6 +325,10 @@ greater_leads s front es c w =
     let roomy : 64 ≤ s.bounds.length = c.sound.bounds.length_in_range.0 in
     three_leads s 62 front es (push_on r (length s.frames)) (push_begins q s.frames) (λ z. omega arith) refl c w (λ no_two answer. push_leads s 62 front es refl no_two answer c w)
 
+-- at the byte itself
+at_byte : (s : Place) (front : List ℕ) (es : List Event) (byte x : ℕ) (v : Move) → Leads s front es x v → byte ≡ x → Leads s front es byte v
+at_byte s front es byte x v leads is = subst (λ z. Leads s front es z v) (sym is) leads
+
 -- any other byte
 other_refused : (r : Rules) (level byte : ℕ) → (byte ≡ 44 → ⊥) → (byte ≡ 43 → ⊥) → (byte ≡ 45 → ⊥) → (byte ≡ 58 → ⊥) → (byte ≡ 36 → ⊥) → (byte ≡ 42 → ⊥) → (byte ≡ 95 → ⊥) → (byte ≡ 35 → ⊥) → (byte ≡ 40 → ⊥) → (byte ≡ 33 → ⊥) → (byte ≡ 61 → ⊥) → (byte ≡ 126 → ⊥) → (byte ≡ 37 → ⊥) → (byte ≡ 124 → ⊥) → (byte ≡ 62 → ⊥) → first_byte_refusal r level byte ≡ Some Grammar
 other_refused r level byte n44 n43 n45 n58 n36 n42 n95 n35 n40 n33 n61 n126 n37 n124 n62 = rw (ne_eqb byte 44 n44, ne_eqb byte 43 n43, ne_eqb byte 45 n45, ne_eqb byte 58 n58, ne_eqb byte 36 n36, ne_eqb byte 42 n42, ne_eqb byte 95 n95, ne_eqb byte 35 n35, ne_eqb byte 40 n40, ne_eqb byte 33 n33, ne_eqb byte 61 n61, ne_eqb byte 126 n126, ne_eqb byte 37 n37, ne_eqb byte 124 n124, ne_eqb byte 62 n62) refl
@@ -380,36 +336,20 @@ other_refused r level byte n44 n43 n45 n58 n36 n42 n95 n35 n40 n33 n61 n126 n37 
 pub start_leads : StartLeads
 start_leads s byte front es is_byte c w =
     let q = at s AtStart in
-    if_equal byte 43 (λ x. Leads q front es byte (cond x (line_begins q (k.Text text.Simple)) (behind_plus q byte)))
-    (λ is. subst (λ x. Leads q front es x (line_begins q (k.Text text.Simple))) (sym is) (plus_leads s front es c w))
-    (λ n43. if_equal byte 45 (λ x. Leads q front es byte (cond x (line_begins q (k.Text text.Error)) (behind_minus q byte)))
-    (λ is. subst (λ x. Leads q front es x (line_begins q (k.Text text.Error))) (sym is) (minus_leads s front es c w))
-    (λ n45. if_equal byte 58 (λ x. Leads q front es byte (cond x (begins q 3 AtIntSign) (behind_colon q byte)))
-    (λ is. subst (λ x. Leads q front es x (begins q 3 AtIntSign)) (sym is) (colon_leads s front es c w))
-    (λ n58. if_equal byte 36 (λ x. Leads q front es byte (cond x (begins q 4 AtBulkHead) (behind_dollar q byte)))
-    (λ is. subst (λ x. Leads q front es x (begins q 4 AtBulkHead)) (sym is) (dollar_leads s front es c w))
-    (λ n36. if_equal byte 42 (λ x. Leads q front es byte (cond x (begins q (cond (is_full q) 4 3) AtArrayHead) (behind_star q byte)))
-    (λ is. subst (λ x. Leads q front es x (begins q (cond (is_full q) 4 3) AtArrayHead)) (sym is) (star_leads s front es c w))
-    (λ n42. if_equal byte 46 (λ x. Leads q front es byte (cond x (closing q) (behind_stop q byte)))
-    (λ is. subst (λ x. Leads q front es x (closing q)) (sym is) (stop_leads s front es c w))
-    (λ n46. if_equal byte 44 (λ x. Leads q front es byte (cond x (Refuse cause.Double) (behind_comma q byte)))
-    (λ is. subst (λ x. Leads q front es x (Refuse cause.Double)) (sym is) (comma_leads s front es c w))
-    (λ n44. if_equal byte 95 (λ x. Leads q front es byte (cond x (machine.in_three s.version (begins q 2 AtNullCr)) (behind_underscore q byte)))
-    (λ is. subst (λ x. Leads q front es x (machine.in_three s.version (begins q 2 AtNullCr))) (sym is) (underscore_leads s front es c w))
-    (λ n95. if_equal byte 35 (λ x. Leads q front es byte (cond x (machine.in_three s.version (begins q 3 AtBool)) (behind_hash q byte)))
-    (λ is. subst (λ x. Leads q front es x (machine.in_three s.version (begins q 3 AtBool))) (sym is) (hash_leads s front es c w))
-    (λ n35. if_equal byte 40 (λ x. Leads q front es byte (cond x (machine.in_three s.version (begins q 3 AtBigSign)) (behind_paren q byte)))
-    (λ is. subst (λ x. Leads q front es x (machine.in_three s.version (begins q 3 AtBigSign))) (sym is) (paren_leads s front es c w))
-    (λ n40. if_equal byte 33 (λ x. Leads q front es byte (cond x (machine.in_three s.version (begins q 5 (AtHead head.BulkError))) (behind_bang q byte)))
-    (λ is. subst (λ x. Leads q front es x (machine.in_three s.version (begins q 5 (AtHead head.BulkError)))) (sym is) (bang_leads s front es c w))
-    (λ n33. if_equal byte 61 (λ x. Leads q front es byte (cond x (machine.in_three s.version (begins q 9 (AtHead head.Verbatim))) (behind_equals q byte)))
-    (λ is. subst (λ x. Leads q front es x (machine.in_three s.version (begins q 9 (AtHead head.Verbatim)))) (sym is) (equals_leads s front es c w))
-    (λ n61. if_equal byte 126 (λ x. Leads q front es byte (cond x (machine.in_three s.version (aggregate_begins q head.Set)) (behind_tilde q byte)))
-    (λ is. subst (λ x. Leads q front es x (machine.in_three s.version (aggregate_begins q head.Set))) (sym is) (tilde_leads s front es c w))
-    (λ n126. if_equal byte 37 (λ x. Leads q front es byte (cond x (machine.in_three s.version (aggregate_begins q head.Map)) (behind_percent q byte)))
-    (λ is. subst (λ x. Leads q front es x (machine.in_three s.version (aggregate_begins q head.Map))) (sym is) (percent_leads s front es c w))
-    (λ n37. if_equal byte 124 (λ x. Leads q front es byte (cond x (machine.in_three s.version (aggregate_begins q head.Attr)) (behind_bar q byte)))
-    (λ is. subst (λ x. Leads q front es x (machine.in_three s.version (aggregate_begins q head.Attr))) (sym is) (bar_leads s front es c w))
-    (λ n124. if_equal byte 62 (λ x. Leads q front es byte (cond x (machine.in_three s.version (push_begins q s.frames)) (behind_greater q byte)))
-    (λ is. subst (λ x. Leads q front es x (machine.in_three s.version (push_begins q s.frames))) (sym is) (greater_leads s front es c w))
+    by_byte q front es 43 byte _ _ (at_byte q front es byte 43 _ (plus_leads s front es c w))
+    (λ n43. by_byte q front es 45 byte _ _ (at_byte q front es byte 45 _ (minus_leads s front es c w))
+    (λ n45. by_byte q front es 58 byte _ _ (at_byte q front es byte 58 _ (colon_leads s front es c w))
+    (λ n58. by_byte q front es 36 byte _ _ (at_byte q front es byte 36 _ (dollar_leads s front es c w))
+    (λ n36. by_byte q front es 42 byte _ _ (at_byte q front es byte 42 _ (star_leads s front es c w))
+    (λ n42. by_byte q front es 46 byte _ _ (at_byte q front es byte 46 _ (stop_leads s front es c w))
+    (λ n46. by_byte q front es 44 byte _ _ (at_byte q front es byte 44 (Refuse cause.Double) (comma_leads s front es c w))
+    (λ n44. by_byte q front es 95 byte _ _ (at_byte q front es byte 95 _ (underscore_leads s front es c w))
+    (λ n95. by_byte q front es 35 byte _ _ (at_byte q front es byte 35 _ (hash_leads s front es c w))
+    (λ n35. by_byte q front es 40 byte _ _ (at_byte q front es byte 40 _ (paren_leads s front es c w))
+    (λ n40. by_byte q front es 33 byte _ _ (at_byte q front es byte 33 _ (bang_leads s front es c w))
+    (λ n33. by_byte q front es 61 byte _ _ (at_byte q front es byte 61 _ (equals_leads s front es c w))
+    (λ n61. by_byte q front es 126 byte _ _ (at_byte q front es byte 126 _ (tilde_leads s front es c w))
+    (λ n126. by_byte q front es 37 byte _ _ (at_byte q front es byte 37 _ (percent_leads s front es c w))
+    (λ n37. by_byte q front es 124 byte _ _ (at_byte q front es byte 124 _ (bar_leads s front es c w))
+    (λ n124. by_byte q front es 62 byte _ _ (at_byte q front es byte 62 _ (greater_leads s front es c w))
     (λ n62. answer_named q front es byte Grammar cause.Syntax c n46 w (other_refused (rules_of s) (length s.frames) byte n44 n43 n45 n58 n36 n42 n95 n35 n40 n33 n61 n126 n37 n124 n62) refl))))))))))))))))
