@@ -15,13 +15,13 @@ use Rattle.resp_follow.specs.Frames.{around}
 use Rattle.resp_follow.specs.MayFollow.{IsWholeText, MayFollowFrames}
 use Rattle.resp_follow.specs.FirstByteRefusals.{in_three, aggregate_on, push_on, first_byte_answers, first_byte_refusal}
 use Rattle.resp_follow.proofs.Composition.{around-append, determine, first_member}
-use Rattle.resp_follow.proofs.Levels.{Level, taken}
 use Rattle.resp_follow.proofs.LevelsAlone.{same_length}
 use Rattle.resp_follow.proofs.CountRows.{CompletesUnder}
 use Rattle.resp_follow.proofs.BetweenValues.{IsBetween, room, ready_open}
 use Rattle.resp_follow.proofs.RefusedBetweenValues.{refuse_first, refuse_member}
 use Rattle.resp_follow.proofs.FirstRuleBroken.{refused_cause, grammar_cause}
 use Rattle.resp_follow.proofs.FirstByteCauses.{GoesOn, IsAnswered, goes_on_before, at_answer, first_byte_answered}
+use Rattle.resp_follow.specs.OpenLevels.{Level, taken}
 
 -- a first byte that no value has
 pub begin_broken : (r : Rules) (levels : List Level) (front : List ℕ) (byte : ℕ) → (byte ≡ 46 → ⊥) → (w : IsBetween r levels front) → ((rest : List ℕ) → CompletesUnder r Grammar (length w.0) (byte ∷ []) rest → ⊥) → IsCause r (front ++ byte ∷ []) Grammar

@@ -16,11 +16,12 @@ use Rattle.resp_follow.proofs.LeastAround as l
 use Rattle.resp_follow.proofs.LeastAround.{IsBegun, are_open}
 use Rattle.resp_follow.proofs.KeptNodes.{shortest_keeps}
 use Rattle.resp_follow.proofs.CountRows.{CompletesUnder, IsRefusedHere}
-use Rattle.resp_follow.proofs.Levels.{Level, Shape, AreLevelsOf, HasShape, IsEnded, finish, within_frames, levels_needed, levels_needed_is, ended, opened}
+use Rattle.resp_follow.proofs.Levels.{IsEnded, finish, within_frames, levels_needed, levels_needed_is, ended, opened}
 use Rattle.resp_follow.proofs.LevelsAlone.{same_length}
 use Rattle.resp_follow.proofs.RefusedFronts.{CompletesFront, IsRefused, refuse, hopeless, fewer_rules_can_end}
 use Rattle.resp_follow.proofs.BetweenValues.{IsBetween, HasRoom, begun_can_end}
 use Rattle.resp_follow.proofs.FirstRuleBroken.{refused_cause, grammar_cause}
+use Rattle.resp_follow.specs.OpenLevels.{AreLevelsOf, HasShape, Level, Shape}
 
 -- bytes of one value, with their least completion on a level
 pub record IsBegunBy (r : Rules) (level : ℕ) (bytes : List ℕ) (n : ℕ) : Type 0 where

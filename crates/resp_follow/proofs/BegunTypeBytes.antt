@@ -8,14 +8,14 @@ use Rattle.resp_value.specs.LocalRules.{LeafKeeps, NodeKeeps, LeafMeets, IsNoPus
 use Rattle.resp_value.specs.declared.version.Version.TheVariants.{Two}
 use Rattle.resp_follow.proofs.KeptNodes.{at_each_rule, leaf_keeps, node_keeps, shortest_keeps}
 use Rattle.resp_follow.proofs.CountRows.{IsRefusedHere, star_row, star_row_deep}
-use Rattle.resp_follow.proofs.FirstLineRows.{zeros, are_zeros}
+use Rattle.resp_follow.proofs.FirstLineRows.{are_zeros}
 use Rattle.resp_follow.proofs.MoreFirstLineRows.{dollar_row, bulk_error_row, verbatim_row, attr_row}
 use Rattle.resp_follow.proofs.ContentLength.{string_too_long}
 use Rattle.resp_follow.proofs.StringTokens.{HasRoom, of_size}
 use Rattle.resp_follow.proofs.BigNumberLength.{big_too_long}
-use Rattle.resp_follow.proofs.HeadTokens.{HasString, IsLengthToken, string_keeps, more_digits}
-use Rattle.resp_follow.proofs.NumberTokens.{IsNumberToken}
+use Rattle.resp_follow.proofs.HeadTokens.{string_keeps, more_digits}
 use Rattle.resp_follow.proofs.BegunFronts.{IsBegunBy}
+use Rattle.resp_follow.specs.Tokens.{HasString, IsLengthToken, IsNumberToken, zeros}
 
 -- `$`: 4
 pub dollar_begun : (r : Rules) (level : ℕ) → IsBegunBy r level (36 ∷ []) 4

@@ -10,10 +10,11 @@ use Rattle.resp_follow.specs.LeastCompletions.{HasLeast}
 use Rattle.resp_follow.specs.MayFollow.{AreKept, AreOpen, CanAllEnd, CanEnd, IsWholeText, MayFollowFrames, MayFollowValue, frames_needed, members_needed, missing}
 use Rattle.resp_follow.proofs.Composition.{around-append, compose, determine}
 use Rattle.resp_follow.proofs.LeastAround.{after_least, are_kept, are_open, members_least, text_least}
-use Rattle.resp_follow.proofs.Levels.{AreLevelsOf, AreReady, HasShape, IsEnded, Level, Shape, left, levels_needed, levels_needed_is, shape_needed, shape_needed_is, taken, within_frames}
+use Rattle.resp_follow.proofs.Levels.{IsEnded, levels_needed, levels_needed_is, shape_needed, shape_needed_is, within_frames}
 use Rattle.resp_follow.proofs.OpenFrames.{shortest_tree}
 use Rattle.resp_follow.proofs.RefusedFronts.{CompletesFront}
 use Rattle.resp_follow.proofs.KeptNodes.{shortest_keeps}
+use Rattle.resp_follow.specs.OpenLevels.{AreLevelsOf, AreReady, HasShape, Level, Shape, left, taken}
 
 -- a value or a close may come next
 abbrev pub IsBetween : Rules → List Level → List ℕ → Type 0

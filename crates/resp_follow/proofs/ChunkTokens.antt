@@ -10,12 +10,13 @@ use Rattle.resp_value.proofs.FirstBytes.{all_append}
 use Rattle.resp_follow.specs.LeastCompletions.{HasLeast}
 use Rattle.resp_follow.proofs.KeptNodes.{at_each_rule, leaf_keeps}
 use Rattle.resp_follow.proofs.CountRows.{CompletesUnder, IsRefusedHere}
-use Rattle.resp_follow.proofs.FirstLineRows.{are_zeros, length-zeros, zero_digits, zeros}
+use Rattle.resp_follow.proofs.FirstLineRows.{are_zeros, length-zeros, zero_digits}
 use Rattle.resp_follow.proofs.StreamedStrings.{chunk_row, chunks_complete, chunks_row, last, with_chunks}
 use Rattle.resp_follow.proofs.ShortRows.{before_newline_row, chunk_begun_row, chunk_zero_row, next_row}
 use Rattle.resp_follow.proofs.ContentLength.{chunk_content_row, chunk_too_long, joined-with}
-use Rattle.resp_follow.proofs.StreamedHeads.{HasStreamed, mark_line}
+use Rattle.resp_follow.proofs.StreamedHeads.{mark_line}
 use Rattle.resp_follow.proofs.BegunFronts.{IsBegunBy}
+use Rattle.resp_follow.specs.Tokens.{HasStreamed, zeros}
 
 -- a streamed string's line, whole chunks, and these bytes behind them
 abbrev pub streamed_text : List Chunk → List ℕ → List ℕ

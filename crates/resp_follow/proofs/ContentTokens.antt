@@ -9,23 +9,9 @@ use Rattle.resp_follow.specs.LeastCompletions.{HasLeast}
 use Rattle.resp_follow.proofs.CountRows.{CompletesUnder}
 use Rattle.resp_follow.proofs.CountedContent.{content_row, content_end_dead}
 use Rattle.resp_follow.proofs.ShortRows.{next_row}
-use Rattle.resp_follow.proofs.HeadTokens.{HasString, string_keeps}
+use Rattle.resp_follow.proofs.HeadTokens.{string_keeps}
 use Rattle.resp_follow.proofs.BegunFronts.{IsBegunBy}
-
--- behind a length's line, begun bytes of a payload of which so many are left
-pub record IsContentToken (r : Rules) (k : StringKind) (first : ℕ) (digits begun : List ℕ) (left : ℕ) (level : ℕ) (bytes : List ℕ) : Type 0 where
-  pub are_digits : IsDigits (first ∷ digits)
-  pub has_string : HasString r k
-  pub has_format : HasFormat k
-  pub fits : number (first ∷ digits) ≤ r.limits.length
-  -- one content that begins so
-  pub content : List ℕ
-  pub is_text : IsText content
-  pub size : number (first ∷ digits) ≡ length (payload k content)
-  pub rest : List ℕ
-  pub split : payload k content ≡ begun ++ rest
-  pub rest_size : length rest ≡ left
-  pub are : bytes ≡ (string_byte k ∷ first ∷ digits) ++ crlf begun
+use Rattle.resp_follow.specs.Tokens.{HasString, IsContentToken}
 
 -- the bytes that are left, and 2
 pub content_begun : (r : Rules) (k : StringKind) (first : ℕ) (digits begun : List ℕ) (left level : ℕ) (bytes : List ℕ) → IsContentToken r k first digits begun left level bytes → IsBegunBy r level bytes (left + 2)

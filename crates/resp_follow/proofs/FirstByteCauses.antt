@@ -18,11 +18,12 @@ use Rattle.resp_value.proofs.ByTests.{apart_by_test}
 use Rattle.resp_value.proofs.FirstBytes.{first_byte, first_byte_is, at_first_byte, at_first_byte_of_two}
 use Rattle.resp_follow.specs.FirstByteRefusals.{answer_beside, in_three, aggregate_on, push_on, first_byte_answers, first_byte_refusal}
 use Rattle.resp_follow.proofs.KeptNodes.{at_each_rule, leaf_keeps, node_keeps}
-use Rattle.resp_follow.proofs.FirstLineRows.{zeros, are_zeros, zero_digits}
+use Rattle.resp_follow.proofs.FirstLineRows.{are_zeros, zero_digits}
 use Rattle.resp_follow.proofs.IntegerRange.{range_in}
 use Rattle.resp_follow.proofs.RefusedFronts.{fewer_rules}
 use Rattle.resp_follow.proofs.RefusedBytes.{IsOther, kind_too_deep, push_below, double_refused}
 use Rattle.resp_follow.proofs.CountRows.{CompletesUnder, IsRefusedHere, count_ends}
+use Rattle.resp_follow.specs.Tokens.{zeros}
 
 abbrev Tells : Bool → Type 0 → Type 0 → Type 0
 Tells b A B = ((b ≡ true) × A) ⊎ ((b ≡ false) × B)

@@ -12,6 +12,7 @@ use Rattle.resp_value.proofs.Splitting.{digit_is_no, digit_is_no_mark, line_from
 use Rattle.resp_follow.specs.LeastCompletions.{HasLeast}
 use Rattle.resp_follow.specs.MayFollow.{CompletesValue}
 use Rattle.resp_follow.proofs.BegunLines.{completes_line, number-more, text_first}
+use Rattle.resp_follow.specs.Tokens.{zeros}
 
 -- a line that can go on by l0
 pub line_row : (L : LeafRule) (N : NodeRule) (k : ℕ) (b l0 : List ℕ) (t : Tree) (m : ℕ) → IsLine b → IsTree t → HoldsFrom L N k t → first_line t ≡ b ++ l0 → m ≡ length l0 + length (after_line t) → ((u : Tree) (l : List ℕ) → IsTree u → HoldsFrom L N k u → sort_of u ≡ sort (b ++ l) → m ≤ length l + length (after_line u)) → HasLeast (CompletesValue L N k b) (m + 2)
@@ -115,11 +116,6 @@ pub truth_row : (L : LeafRule) (N : NodeRule) (k : ℕ) (b : Bool) → L k (trut
 unfolding first_line
 truth_row L N k true h = line_row L N k (35 ∷ 116 ∷ []) [] (leaf (truth true)) 0 ((λ e. omega arith, λ e. omega arith), ((λ e. omega arith, λ e. omega arith), tt)) tt h refl refl (λ u l i j e. omega arith)
 truth_row L N k false h = line_row L N k (35 ∷ 102 ∷ []) [] (leaf (truth false)) 0 ((λ e. omega arith, λ e. omega arith), ((λ e. omega arith, λ e. omega arith), tt)) tt h refl refl (λ u l i j e. omega arith)
-
--- so many zeros
-abbrev pub zeros : ℕ → List ℕ
-zeros zero = []
-zeros (suc n) = 48 ∷ zeros n
 
 -- so many they are
 pub length-zeros : (n : ℕ) → length (zeros n) ≡ n

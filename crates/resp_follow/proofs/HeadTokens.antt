@@ -11,25 +11,20 @@ use Rattle.resp_follow.specs.LeastCompletions.{HasLeast}
 use Rattle.resp_follow.specs.MayFollow.{missing}
 use Rattle.resp_follow.proofs.OpenFrames.{shortest_trees}
 use Rattle.resp_follow.proofs.LeastAround.{length-shortest_trees}
-use Rattle.resp_follow.proofs.Levels.{left}
 use Rattle.resp_follow.proofs.KeptNodes.{leaf_keeps}
 use Rattle.resp_follow.proofs.CountRows.{CompletesUnder, IsRefusedHere, kind_line, count_row, count_ends, node_counts, node_recounts, count_too_many}
-use Rattle.resp_follow.proofs.FirstLineRows.{string_row, zeros, length-zeros, are_zeros}
+use Rattle.resp_follow.proofs.FirstLineRows.{string_row, length-zeros, are_zeros}
 use Rattle.resp_follow.proofs.MoreFirstLineRows.{short_verbatim_row}
 use Rattle.resp_follow.proofs.ShortRows.{next_row, zero_verbatim_row}
 use Rattle.resp_follow.proofs.BrokenLines.{byte_broken, behind_return_broken}
 use Rattle.resp_follow.proofs.BrokenHeads.{count_broken}
 use Rattle.resp_follow.proofs.BegunFronts.{IsBegunBy, Opens}
+use Rattle.resp_follow.specs.OpenLevels.{left}
+use Rattle.resp_follow.specs.Tokens.{HasString, IsCountReturned, IsCountToken, IsLengthToken, zeros}
 
 -- a digit more
 pub more_digits : (digits : List ℕ) (digit : ℕ) → IsDigits digits → IsDigit digit → IsDigits (digits ++ digit ∷ [])
 more_digits digits digit p q = (omega (arith, length-append digits (digit ∷ [])), all_append IsDigit digits (digit ∷ []) p.1 (q, tt))
-
--- an aggregate's type byte and the digits of its count
-pub record IsCountToken (r : Rules) (k : Kind) (first : ℕ) (digits : List ℕ) (level : ℕ) (bytes : List ℕ) : Type 0 where
-  pub are_digits : IsDigits (first ∷ digits)
-  pub keeps : NodeKeeps r WithinItems level k (Counted (first ∷ digits)) (members_of k (number (first ∷ digits)))
-  pub are : bytes ≡ kind_byte k ∷ first ∷ digits
 
 -- three bytes for each member, and 2
 pub count_begun : (r : Rules) (k : Kind) (first : ℕ) (digits : List ℕ) (level : ℕ) (bytes : List ℕ) → IsCountToken r k first digits level bytes → IsBegunBy r level bytes (3 * members_of k (number (first ∷ digits)) + 2)
@@ -60,12 +55,6 @@ count_token_over r k first digits level digit bytes p past w = (
 pub count_token_broken : (r : Rules) (k : Kind) (first : ℕ) (digits : List ℕ) (level : ℕ) (bytes rest : List ℕ) (byte : ℕ) → (byte ≡ 13 → ⊥) → (IsDigit byte → ⊥) → IsCountToken r k first digits level bytes → CompletesUnder r Grammar level bytes (byte ∷ rest) → ⊥
 count_token_broken r k first digits level bytes rest byte no_return no_digit w c =
     byte_broken (LeafKeeps r Grammar) (NodeKeeps r Grammar) level (kind_byte k ∷ first ∷ digits) rest byte (kind_line k (first ∷ digits) w.are_digits) no_return (count_broken k first digits byte w.are_digits.1.0 no_digit) (subst (λ z. CompletesUnder r Grammar level z (byte ∷ rest)) w.are c)
-
--- a count and its CR
-pub record IsCountReturned (r : Rules) (k : Kind) (first : ℕ) (digits : List ℕ) (level : ℕ) (bytes : List ℕ) : Type 0 where
-  pub begun : List ℕ
-  pub count : IsCountToken r k first digits level begun
-  pub returned : bytes ≡ begun ++ 13 ∷ []
 
 -- one less than before it
 pub count_returned_begun : (r : Rules) (k : Kind) (first : ℕ) (digits : List ℕ) (level : ℕ) (bytes : List ℕ) → IsCountReturned r k first digits level bytes → IsBegunBy r level bytes (3 * members_of k (number (first ∷ digits)) + 1)
@@ -108,24 +97,11 @@ pub count_returned_broken : (r : Rules) (k : Kind) (first : ℕ) (digits : List 
 count_returned_broken r k first digits level bytes rest byte no_newline w c =
     behind_return_broken (LeafKeeps r Grammar) (NodeKeeps r Grammar) level (kind_byte k ∷ first ∷ digits) rest byte (kind_line k (first ∷ digits) w.count.are_digits) no_newline (subst (λ z. CompletesUnder r Grammar level z (byte ∷ rest)) (w.returned ∙ ap (λ z. z ++ 13 ∷ []) w.count.are) c)
 
--- whether a version has strings of this kind
-abbrev pub HasString : Rules → StringKind → Type 0
-HasString r Bulk = Unit {0}
-HasString r BulkError = r.version ≡ Two → ⊥
-HasString r (Verbatim format) = r.version ≡ Two → ⊥
-
 -- a string up to the limit of length is within every rule
 pub string_keeps : (r : Rules) (rule : Rule) (level : ℕ) (k : StringKind) (digits s : List ℕ) → HasString r k → HasFormat k → length (payload k s) ≤ r.limits.length → LeafKeeps r rule level (string k digits s)
 string_keeps r rule level Bulk digits s p f fits = leaf_keeps r rule level (string Bulk digits s) tt (λ is_two. tt) tt (λ off. tt) fits
 string_keeps r rule level BulkError digits s p f fits = leaf_keeps r rule level (string BulkError digits s) tt (λ is_two. absurd (p is_two)) tt (λ off. tt) fits
 string_keeps r rule level (Verbatim format) digits s p f fits = leaf_keeps r rule level (string (Verbatim format) digits s) tt (λ is_two. absurd (p is_two)) tt (λ off. tt) (omega (arith, f.0, length-append format (58 ∷ s)))
-
--- a string's type byte and the digits of its length
-pub record IsLengthToken (r : Rules) (k : StringKind) (first : ℕ) (digits : List ℕ) (level : ℕ) (bytes : List ℕ) : Type 0 where
-  pub are_digits : IsDigits (first ∷ digits)
-  pub has_string : HasString r k
-  pub fits : number (first ∷ digits) ≤ r.limits.length
-  pub are : bytes ≡ string_byte k ∷ first ∷ digits
 
 length_least : (r : Rules) (k : StringKind) (first : ℕ) (digits : List ℕ) (level n : ℕ) (bytes : List ℕ) → IsLengthToken r k first digits level bytes → 0 < n → HasLeast (CompletesUnder r WithinItems level (string_byte k ∷ first ∷ digits)) n → IsBegunBy r level bytes n
 length_least r k first digits level n bytes w some least = record { head = string_byte k; tail = first ∷ digits; parts = w.are; some = some; least = subst (λ z. HasLeast (CompletesUnder r WithinItems level z) n) (sym w.are) least }

@@ -11,12 +11,7 @@ use Rattle.resp_value.proofs.Splitting.{digit_is_no}
 use Rattle.resp_follow.proofs.BegunLines.{completes_line, number-more}
 use Rattle.resp_follow.proofs.FirstLineRows.{number_line, tree_of_numeral}
 use Rattle.resp_follow.proofs.CountRows.{IsRefusedHere}
-
--- the greatest digits of a sign
-abbrev pub greatest : Sign → ℕ
-greatest Unsigned = 9223372036854775807
-greatest Plus = 9223372036854775807
-greatest Minus = 9223372036854775808
+use Rattle.resp_follow.specs.Tokens.{greatest}
 
 in_range : (g : Sign) (ds : List ℕ) → IsInRange (numeral Int g ds) → number ds ≤ greatest g
 in_range Unsigned ds p = omega (arith, ints, p.0, p.1)

@@ -9,28 +9,7 @@ use Rattle.resp_follow.specs.Frames.{Frame, around, open_text}
 use Rattle.resp_follow.specs.MayFollow.{CanAllEnd, CanEnd, IsWholeText, frames_needed, missing}
 use Rattle.resp_follow.proofs.Composition.{joined_is, joined_trees_hold}
 use Rattle.resp_follow.proofs.OpenFrames.{are_joined, count-joined_trees, joined_trees, texts-joined_trees}
-
--- members that a scanner still counts: those to come in a counted aggregate, those taken of a streamed one
-pub data Shape : Type 0 where
-  left : ℕ → Shape
-  taken : ℕ → Shape
-
--- an aggregate that is open, as a scanner counts it
-pub record Level : Type 0 where
-  pub kind : Kind
-  pub shape : Shape
-
--- an aggregate of this form that has n members
-abbrev pub HasShape : Kind → Shape → Form → ℕ → Type 0
-HasShape k (left m) f n = (ds : List ℕ) × (f ≡ Counted ds) × IsDigits ds × (members_of k (number ds) ≡ n + m) × (0 < m)
-HasShape k (taken m) f n = (f ≡ Streamed) × (m ≡ n)
-
--- the levels count these frames
-abbrev pub AreLevelsOf : List Level → List Frame → Type 0
-AreLevelsOf [] [] = Unit {0}
-AreLevelsOf [] (f ∷ fs) = ⊥
-AreLevelsOf (v ∷ vs) [] = ⊥
-AreLevelsOf (v ∷ vs) (f ∷ fs) = (v.kind ≡ f.kind) × HasShape f.kind v.shape f.form (count f.done) × AreLevelsOf vs fs
+use Rattle.resp_follow.specs.OpenLevels.{Shape, left, taken, Level, HasShape, AreLevelsOf, AreReady}
 
 -- the members and the close that must still come, where the next member hasn't begun
 abbrev pub shape_needed : Kind → Shape → ℕ
@@ -117,11 +96,6 @@ around-close f fs e =
 -- a head opens an aggregate
 pub around-open : (k : Kind) (f : Form) (fs : List Frame) → around fs ((kind_byte k ∷ form_line f) ++ crlf []) ≡ around (record { kind = k; form = f; done = none } ∷ fs) []
 around-open k f fs = ap (around fs) (sym (append-nil ((kind_byte k ∷ form_line f) ++ crlf [])))
-
--- what a scanner that waits for a member stands behind
-abbrev pub AreReady : LeafRule → NodeRule → List Frame → Type 0
-AreReady L N [] = Unit {0}
-AreReady L N (f ∷ fs) = CanEnd N (length fs) f.kind f.form (count f.done) × AreTrees f.done × HoldsFromEach L N (suc (length fs)) f.done × CanAllEnd L N fs
 
 -- a value is whole within open aggregates; each aggregate that it ends is whole too
 pub data Ended : Type 0 where

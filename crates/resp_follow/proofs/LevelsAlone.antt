@@ -7,7 +7,7 @@ use Rattle.resp_value.specs.Numbers.{number}
 use Rattle.resp_value.specs.Trees.{AreTrees, CanStream, Counted, Form, HasMembers, Streamed, Trees, close, count, texts}
 use Rattle.resp_follow.specs.Frames.{Frame}
 use Rattle.resp_follow.specs.MayFollow.{CanAllEnd, CanEnd, MayFollowValue, missing}
-use Rattle.resp_follow.proofs.Levels.{AreLevelsOf, HasShape, Level, Shape, left, taken}
+use Rattle.resp_follow.specs.OpenLevels.{AreLevelsOf, HasShape, Level, Shape, left, taken}
 
 -- so many members may come behind the open one
 abbrev pub MayCount : NodeRule → ℕ → Kind → Shape → ℕ → Type 0

@@ -11,21 +11,9 @@ use Rattle.resp_follow.proofs.CountRows.{CompletesUnder, IsRefusedHere}
 use Rattle.resp_follow.proofs.FirstLineRows.{line_row}
 use Rattle.resp_follow.proofs.ShortRows.{next_row}
 use Rattle.resp_follow.proofs.BrokenLines.{behind_return_broken, newline_broken}
-use Rattle.resp_follow.proofs.TextLines.{IsTextLine, text_line_keeps, text_line_too_long}
+use Rattle.resp_follow.proofs.TextLines.{text_line_keeps, text_line_too_long}
 use Rattle.resp_follow.proofs.BegunFronts.{IsBegunBy}
-
--- the bytes are the line of a leaf that has nothing behind its line
-pub record IsLineOf (r : Rules) (l : Leaf) (level : ℕ) (bytes : List ℕ) : Type 0 where
-  pub is_leaf : IsLeaf l
-  pub keeps : LeafKeeps r WithinItems level l
-  pub is_line : bytes ≡ leaf_line l
-  pub no_rest : leaf_rest l ≡ []
-
--- and that line's CR
-pub record IsReturned (r : Rules) (l : Leaf) (level : ℕ) (bytes : List ℕ) : Type 0 where
-  pub begun : List ℕ
-  pub line_of : IsLineOf r l level begun
-  pub returned : bytes ≡ begun ++ 13 ∷ []
+use Rattle.resp_follow.specs.Tokens.{IsLineOf, IsReturned, IsTextLine, IsTextToken}
 
 -- it has no break in it
 pub no_break_in_line : (r : Rules) (l : Leaf) (level : ℕ) (bytes : List ℕ) → IsLineOf r l level bytes → IsLine bytes
@@ -81,16 +69,6 @@ returned_broken r l level bytes rest byte no_newline w c =
 -- a line has no LF in it
 pub line_broken_by_newline : (r : Rules) (l : Leaf) (level : ℕ) (bytes rest : List ℕ) → IsLineOf r l level bytes → CompletesUnder r Grammar level bytes (10 ∷ rest) → ⊥
 line_broken_by_newline r l level bytes rest w c = newline_broken (LeafKeeps r Grammar) (NodeKeeps r Grammar) level bytes rest (no_break_in_line r l level bytes w) c
-
--- the line of a simple string or of an error, with so many bytes of text
-pub record IsTextToken (r : Rules) (k : LineKind) (n : ℕ) (level : ℕ) (bytes : List ℕ) : Type 0 where
-  pub content : List ℕ
-  pub is_text_line : IsTextLine k
-  pub is_line : IsLine content
-  pub is_text : IsText content
-  pub size : length content ≡ n
-  pub fits : n ≤ r.limits.length
-  pub are : bytes ≡ line_byte k ∷ content
 
 -- it is a line that may end
 pub text_token_line : (r : Rules) (k : LineKind) (n level : ℕ) (bytes : List ℕ) → (w : IsTextToken r k n level bytes) → IsLineOf r (line k w.content) level bytes

@@ -13,10 +13,11 @@ use Rattle.resp_follow.specs.LeastCompletions.{HasLeast}
 use Rattle.resp_follow.specs.MayFollow.{CompletesValue}
 use Rattle.resp_follow.proofs.BegunLines.{completes_line, number-digit, tree_of_node}
 use Rattle.resp_follow.proofs.CountedContent.{verbatim_kind}
-use Rattle.resp_follow.proofs.FirstLineRows.{are_zeros, dollar_more, length-zeros, line_row, string_line, tree_of_string, zeros}
+use Rattle.resp_follow.proofs.FirstLineRows.{are_zeros, dollar_more, length-zeros, line_row, string_line, tree_of_string}
 use Rattle.resp_follow.proofs.LeastAround.{texts_least}
 use Rattle.resp_follow.proofs.OpenFrames.{shortest_trees}
 use Rattle.resp_follow.proofs.CountRows.{byte_line, line_after}
+use Rattle.resp_follow.specs.Tokens.{zeros}
 
 -- `$`: 4
 pub dollar_row : (L : LeafRule) (N : NodeRule) (k : ℕ) → L k (null BulkNull) → HasLeast (CompletesValue L N k (36 ∷ [])) 4

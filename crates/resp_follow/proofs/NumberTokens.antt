@@ -8,26 +8,17 @@ use Rattle.resp_value.specs.declared.version.Version.TheVariants.{Two}
 use Rattle.resp_value.proofs.FirstBytes.{all_append}
 use Rattle.resp_follow.specs.LeastCompletions.{HasLeast}
 use Rattle.resp_follow.proofs.KeptNodes.{leaf_keeps}
-use Rattle.resp_follow.proofs.IntegerRange.{greatest, range_in, int_too_far}
+use Rattle.resp_follow.proofs.IntegerRange.{range_in, int_too_far}
 use Rattle.resp_follow.proofs.FirstLineRows.{number_begin_row, truth_begin_row}
 use Rattle.resp_follow.proofs.ShortRows.{null_begun_row}
 use Rattle.resp_follow.proofs.CountRows.{CompletesUnder, IsRefusedHere}
 use Rattle.resp_follow.proofs.BegunFronts.{IsBegunBy}
-use Rattle.resp_follow.proofs.LineTokens.{IsLineOf}
-
--- what numbers of this kind may be: integers of 64 bits, and in version 3 big numbers up to the limit of length
-abbrev pub MayBe : Rules → NumberKind → Sign → List ℕ → Type 0
-MayBe r Int sign digits = number digits ≤ greatest sign
-MayBe r Big sign digits = (r.version ≡ Two → ⊥) × (length (kept digits) ≤ r.limits.length)
+use Rattle.resp_follow.specs.Tokens.{IsLineOf, IsNumberBegun, IsNumberToken, MayBe, greatest}
 
 -- such a number is within every rule
 pub number_keeps : (r : Rules) (rule : Rule) (level : ℕ) (k : NumberKind) (sign : Sign) (digits : List ℕ) → MayBe r k sign digits → LeafKeeps r rule level (numeral k sign digits)
 number_keeps r rule level Int sign digits p = leaf_keeps r rule level (numeral Int sign digits) tt (λ is_two. tt) (range_in sign digits p) (λ off. tt) (omega arith)
 number_keeps r rule level Big sign digits p = leaf_keeps r rule level (numeral Big sign digits) tt (λ is_two. absurd (p.0 is_two)) tt (λ off. tt) p.1
-
--- the type byte of a number, and a sign or none
-abbrev pub IsNumberBegun : Rules → NumberKind → Sign → ℕ → List ℕ → Type 0
-IsNumberBegun r k sign level bytes = MayBe r k sign (48 ∷ []) × (bytes ≡ number_byte k ∷ (sign_text sign ++ []))
 
 -- 3
 pub number_begun : (r : Rules) (k : NumberKind) (sign : Sign) (level : ℕ) (bytes : List ℕ) → IsNumberBegun r k sign level bytes → IsBegunBy r level bytes 3
@@ -38,12 +29,6 @@ number_begun r k sign level bytes w = record {
   some = omega arith;
   least = subst (λ z. HasLeast (CompletesUnder r WithinItems level z) 3) (sym w.1) (number_begin_row (LeafKeeps r WithinItems) (NodeKeeps r WithinItems) level k sign (number_keeps r WithinItems level k sign (48 ∷ []) w.0));
 }
-
--- with digits
-pub record IsNumberToken (r : Rules) (k : NumberKind) (sign : Sign) (digits : List ℕ) (level : ℕ) (bytes : List ℕ) : Type 0 where
-  pub are_digits : IsDigits digits
-  pub may_be : MayBe r k sign digits
-  pub are : bytes ≡ number_byte k ∷ (sign_text sign ++ digits)
 
 -- it is a line that may end
 pub number_token_line : (r : Rules) (k : NumberKind) (sign : Sign) (digits : List ℕ) (level : ℕ) (bytes : List ℕ) → IsNumberToken r k sign digits level bytes → IsLineOf r (numeral k sign digits) level bytes

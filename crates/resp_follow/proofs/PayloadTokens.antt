@@ -8,10 +8,10 @@ use Rattle.resp_value.specs.LocalRules.{LeafKeeps, NodeKeeps}
 use Rattle.resp_value.proofs.FirstBytes.{all_append, all_front}
 use Rattle.resp_value.proofs.Splitting.{length_split}
 use Rattle.resp_follow.proofs.CountRows.{CompletesUnder}
-use Rattle.resp_follow.proofs.FirstLineRows.{zeros, length-zeros, are_zeros}
+use Rattle.resp_follow.proofs.FirstLineRows.{length-zeros, are_zeros}
 use Rattle.resp_follow.proofs.CountedContent.{colon_dead, completes_content}
 use Rattle.resp_follow.proofs.HeadTokens.{string_keeps}
-use Rattle.resp_follow.proofs.ContentTokens.{IsContentToken}
+use Rattle.resp_follow.specs.Tokens.{IsContentToken, zeros}
 
 -- Formats.
 

@@ -13,10 +13,11 @@ use Rattle.resp_follow.specs.MayFollow.{CanAllEnd, IsWholeText, MayFollowFrames,
 use Rattle.resp_follow.proofs.BetweenValues.{IsBetween, can_end_with_more, ready_open, room}
 use Rattle.resp_follow.proofs.Composition.{around-append, compose, determine}
 use Rattle.resp_follow.proofs.LeastAround.{after_least, are_kept, parts_follow}
-use Rattle.resp_follow.proofs.Levels.{AreLevelsOf, AreReady, HasShape, IsEnded, Level, Shape, finish, left, shape_needed, shape_needed_is, stopped, taken}
+use Rattle.resp_follow.proofs.Levels.{IsEnded, finish, shape_needed, shape_needed_is, stopped}
 use Rattle.resp_follow.proofs.RefusedFronts.{CompletesFront, IsRefused, fewer_rules_can_end, full_node, no_stop, no_stop_top, refuse}
 use Rattle.resp_follow.proofs.CountRows.{CompletesUnder, IsRefusedHere}
 use Rattle.resp_follow.proofs.KeptNodes.{shortest_keeps}
+use Rattle.resp_follow.specs.OpenLevels.{AreLevelsOf, AreReady, HasShape, Level, Shape, left, taken}
 
 -- a byte on the shortest way
 pub lower_front : (r : Rules) (g : Rule) (p : List ℕ) (x m : ℕ) (c : List ℕ) → HasLeast (CompletesFront r g p) (suc m) → CompletesFront r g (p ++ x ∷ []) c → length c ≡ m → HasLeast (CompletesFront r g (p ++ x ∷ [])) m

@@ -11,10 +11,11 @@ use Rattle.resp_value.proofs.Unique.{chunk_line}
 use Rattle.resp_follow.specs.LeastCompletions.{HasLeast}
 use Rattle.resp_follow.specs.MayFollow.{CompletesValue}
 use Rattle.resp_follow.proofs.BegunLines.{line_begins, completes_line, completes_return, number-digit, text_first}
-use Rattle.resp_follow.proofs.FirstLineRows.{line_row, zeros, are_zeros, zero_digits, string_line}
+use Rattle.resp_follow.proofs.FirstLineRows.{line_row, are_zeros, zero_digits, string_line}
 use Rattle.resp_follow.proofs.MoreFirstLineRows.{string_size, verbatim_least}
 use Rattle.resp_follow.proofs.StreamedStrings.{with_chunks, last, completes_chunks, chunks_complete}
 use Rattle.resp_follow.proofs.BrokenLines.{null_short}
+use Rattle.resp_follow.specs.Tokens.{zeros}
 
 -- a byte on the shortest way lowers what a value needs by one
 pub next_row : (L : LeafRule) (N : NodeRule) (level : ℕ) (begun : List ℕ) (byte n : ℕ) (rest : List ℕ) → HasLeast (CompletesValue L N level begun) (suc n) → CompletesValue L N level begun (byte ∷ rest) → length rest ≡ n → HasLeast (CompletesValue L N level (begun ++ byte ∷ [])) n

@@ -11,15 +11,12 @@ use Rattle.resp_value.proofs.FirstLines.{sort, sort_is}
 use Rattle.resp_follow.specs.MayFollow.{missing}
 use Rattle.resp_follow.proofs.KeptNodes.{at_each_rule, leaf_keeps, node_keeps}
 use Rattle.resp_follow.proofs.BegunLines.{completes_line, tree_of_node}
-use Rattle.resp_follow.proofs.Levels.{taken}
 use Rattle.resp_follow.proofs.CountRows.{IsRefusedHere, byte_line}
 use Rattle.resp_follow.proofs.FirstLineRows.{tree_of_chunked, chunked_row, zero_digits}
 use Rattle.resp_follow.proofs.MoreFirstLineRows.{sort_mark, mark_row}
 use Rattle.resp_follow.proofs.BegunFronts.{IsBegunBy, Opens}
-
--- where nothing refuses a streamed string: version 3, with streamed forms allowed
-abbrev pub HasStreamed : Rules → Type 0
-HasStreamed r = (r.version ≡ Two → ⊥) × (r.limits.streamed ≡ false → ⊥)
+use Rattle.resp_follow.specs.OpenLevels.{taken}
+use Rattle.resp_follow.specs.Tokens.{HasStreamed}
 
 -- `$?`: 6
 pub streamed_string_begun : (r : Rules) (level : ℕ) → HasStreamed r → IsBegunBy r level (36 ∷ 63 ∷ []) 6

@@ -11,8 +11,9 @@ use Rattle.resp_value.proofs.Unique.{chunk_line, chunks_text-append}
 use Rattle.resp_follow.specs.LeastCompletions.{HasLeast}
 use Rattle.resp_follow.specs.MayFollow.{CompletesValue}
 use Rattle.resp_follow.proofs.BegunLines.{line_begins, number-more, text_first}
-use Rattle.resp_follow.proofs.FirstLineRows.{are_zeros, length-zeros, tree_of_chunked, zeros}
+use Rattle.resp_follow.proofs.FirstLineRows.{are_zeros, length-zeros, tree_of_chunked}
 use Rattle.resp_follow.proofs.FirstLineRows.{zero_digits}
+use Rattle.resp_follow.specs.Tokens.{zeros}
 
 -- the line that ends a streamed string
 abbrev pub last : List ℕ → List ℕ

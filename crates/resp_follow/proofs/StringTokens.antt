@@ -7,13 +7,13 @@ use Rattle.resp_value.specs.Rules.{Rules, Grammar, WithinItems}
 use Rattle.resp_value.specs.LocalRules.{LeafKeeps, NodeKeeps}
 use Rattle.resp_follow.specs.LeastCompletions.{HasLeast}
 use Rattle.resp_follow.proofs.CountRows.{CompletesUnder}
-use Rattle.resp_follow.proofs.FirstLineRows.{string_line, zeros, length-zeros, are_zeros}
+use Rattle.resp_follow.proofs.FirstLineRows.{string_line, length-zeros, are_zeros}
 use Rattle.resp_follow.proofs.ShortRows.{before_newline_row}
 use Rattle.resp_follow.proofs.BrokenLines.{behind_return_broken, byte_broken, line_broken}
 use Rattle.resp_follow.proofs.BrokenHeads.{IsNoLength, length_begun_broken, length_broken, length_short, verbatim_short}
-use Rattle.resp_follow.proofs.HeadTokens.{HasString, IsLengthToken}
-use Rattle.resp_follow.proofs.ContentTokens.{IsContentToken, content_begun}
+use Rattle.resp_follow.proofs.ContentTokens.{content_begun}
 use Rattle.resp_follow.proofs.BegunFronts.{IsBegunBy}
+use Rattle.resp_follow.specs.Tokens.{HasString, IsContentToken, IsLengthToken, zeros}
 
 -- Type bytes.
 

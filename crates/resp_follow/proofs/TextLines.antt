@@ -12,12 +12,7 @@ use Rattle.resp_follow.specs.LeastCompletions.{HasLeast}
 use Rattle.resp_follow.proofs.BegunLines.{line_least, completes_line, tree_of_line}
 use Rattle.resp_follow.proofs.KeptNodes.{at_each_rule, leaf_keeps}
 use Rattle.resp_follow.proofs.CountRows.{CompletesUnder, IsRefusedHere}
-
--- a simple string or an error
-abbrev pub IsTextLine : LineKind → Type 0
-IsTextLine Simple = Unit {0}
-IsTextLine Error = Unit {0}
-IsTextLine Double = ⊥
+use Rattle.resp_follow.specs.Tokens.{IsTextLine}
 
 -- such a line up to the limit of length is within every rule
 pub text_line_keeps : (r : Rules) (rule : Rule) (level : ℕ) (k : LineKind) (s : List ℕ) → IsTextLine k → length s ≤ r.limits.length → LeafKeeps r rule level (line k s)

@@ -11,7 +11,7 @@ use Rattle.resp_follow.specs.MayFollow.{CanAllEnd, IsWholeText, MayFollowFrames,
 use Rattle.resp_follow.proofs.BetweenValues.{ready_open}
 use Rattle.resp_follow.proofs.Composition.{around-append, compose, determine, first_member, member_rest}
 use Rattle.resp_follow.proofs.LeastAround.{after_least, are_kept, are_open, text_least}
-use Rattle.resp_follow.proofs.Levels.{AreLevelsOf, AreReady, Level, taken}
+use Rattle.resp_follow.specs.OpenLevels.{AreLevelsOf, AreReady, Level, taken}
 
 -- a text's first byte is no `.`
 text_no_stop : (t : Tree) (c : List ℕ) → byte_at_start (text t ++ c) ≡ 46 → ⊥

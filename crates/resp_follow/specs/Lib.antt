@@ -5,3 +5,5 @@ pub mod Events
 pub mod EventExamples
 pub mod FirstByteRefusals
 pub mod Laws
+pub mod OpenLevels
+pub mod Tokens

@@ -17,7 +17,6 @@ use Rattle.resp_follow.proofs.BegunBetweenValues as between
 use Rattle.resp_follow.proofs.BegunFronts.{IsBegunBy}
 use Rattle.resp_follow.proofs.BetweenValues.{HasRoom, IsBetween, begun_can_end, room}
 use Rattle.resp_follow.proofs.Composition.{around-append}
-use Rattle.resp_follow.proofs.Levels.{AreLevelsOf, AreReady, HasShape, Level, left, taken}
 use Rattle.resp_follow.proofs.LevelsAlone.{same_length}
 use Rattle.resp_scan.specs.declared.event.OpenKind.{OpenKind}
 use Rattle.resp_scan.specs.declared.event.OpenKind.TheVariants as kind
@@ -33,6 +32,7 @@ use Rattle.resp_scan.specs.Sound.{frame_owed, frames_owed}
 use Rattle.resp_scan.proofs.Moves.{length-busy}
 use Rattle.resp_scan.proofs.RefusedMoves.{fits_or_past, unless_over}
 use Rattle.resp_scan.proofs.Choices.{if_equal}
+use Rattle.resp_follow.specs.OpenLevels.{AreLevelsOf, AreReady, HasShape, Level, left, taken}
 
 pub length-waiting : (fs : List Frame) → length (waiting_levels fs) ≡ length fs
 length-waiting [] = refl

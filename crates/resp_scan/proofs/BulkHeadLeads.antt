@@ -8,7 +8,7 @@ use Rattle.resp_value.specs.declared.version.Version.TheVariants as version
 use Rattle.resp_value.specs.declared.cause.Cause.TheVariants as cause
 use Rattle.resp_follow.specs.Events.{Event}
 use Rattle.resp_follow.proofs.BegunFronts.{IsBegunBy}
-use Rattle.resp_follow.proofs.StreamedHeads.{HasStreamed, streamed_string_begun, streamed_string_in_two, streamed_string_off}
+use Rattle.resp_follow.proofs.StreamedHeads.{streamed_string_begun, streamed_string_in_two, streamed_string_off}
 use Rattle.resp_scan.specs.declared.machine.Head.TheVariants as head
 use Rattle.resp_scan.specs.Tokens.{Place, Go, AtBulkHead, AtNullOne, AtStreamCr, at}
 use Rattle.resp_scan.specs.Heads.{by_version, string_cause}
@@ -23,6 +23,7 @@ use Rattle.resp_scan.proofs.StringHeadsLead.{string_head_leads}
 use Rattle.resp_scan.proofs.StringHeads.{bulk}
 use Rattle.resp_scan.proofs.Moves.{goes, retold}
 use Rattle.resp_scan.proofs.RefusedMoves.{fits_or_total, refused, unless_over}
+use Rattle.resp_follow.specs.Tokens.{HasStreamed}
 
 -- `$` alone
 abbrev IsDollar : ℕ → List ℕ → List Event → Type 0

@@ -18,7 +18,6 @@ use Rattle.resp_follow.proofs.BegunFronts.{IsBegunBy}
 use Rattle.resp_follow.proofs.EventsAround.{length-around, next_member_at}
 use Rattle.resp_follow.proofs.FrontLaws.{all_rules}
 use Rattle.resp_follow.proofs.LeastAround.{text_least}
-use Rattle.resp_follow.proofs.Levels.{AreLevelsOf}
 use Rattle.resp_scan.specs.declared.event.Event.{Event}
 use Rattle.resp_scan.specs.declared.event.Event.TheVariants as event
 use Rattle.resp_scan.specs.declared.event.Step.{Step}
@@ -39,6 +38,7 @@ use Rattle.resp_scan.proofs.Kept.{IsOut, is_advanced}
 use Rattle.resp_scan.proofs.LeastNeeded.{least_is_needed}
 use Rattle.resp_scan.proofs.Moves.{at_level}
 use Rattle.resp_scan.proofs.Rows.{tokens_need}
+use Rattle.resp_follow.specs.OpenLevels.{AreLevelsOf}
 
 -- A front that isn't empty.
 

@@ -16,7 +16,7 @@ use Rattle.resp_follow.proofs.Composition.{determine}
 use Rattle.resp_follow.proofs.BetweenValues.{ready_open}
 use Rattle.resp_follow.proofs.EventsAround.{events-closed}
 use Rattle.resp_follow.proofs.FirstRuleBroken.{grammar_cause}
-use Rattle.resp_follow.proofs.Levels as level
+use Rattle.resp_follow.specs.OpenLevels as level
 use Rattle.resp_follow.proofs.RefusedFronts.{CompletesFront}
 use Rattle.resp_follow.proofs.WholeValues.{closed_text}
 use Rattle.resp_scan.specs.declared.event.OpenKind.{OpenKind}

@@ -5,9 +5,9 @@ use Rattle.resp_value.specs.Trees as t
 use Rattle.resp_value.specs.Trees.{Leaf, LineKind, StringKind, Chunk, line, numeral, null, truth, string, chunked, joined, leaf_text}
 use Rattle.resp_follow.specs.Events.{Event, Timed, TextKind, bytes_from, big_events, chunk_events, given, leaf_events, text_events}
 use Rattle.resp_follow.specs.Events as e
-use Rattle.resp_follow.proofs.TextLines.{IsTextLine}
 use Rattle.resp_scan.specs.Kinds.{content_events}
 use Rattle.resp_scan.specs.Begun.{line_text, string_text}
+use Rattle.resp_follow.specs.Tokens.{IsTextLine}
 
 pub content_events-append : (a b : List ℕ) → content_events (a ++ b) ≡ content_events a ++ content_events b
 content_events-append [] b = refl

@@ -10,7 +10,7 @@ use Rattle.resp_follow.specs.MayFollow.{frames_needed}
 use Rattle.resp_follow.proofs.BetweenValues.{between_least}
 use Rattle.resp_follow.proofs.FrontLaws.{least_continues, viable_in_all}
 use Rattle.resp_follow.proofs.KeptNodes.{shortest_keeps}
-use Rattle.resp_follow.proofs.Levels.{AreLevelsOf, levels_needed_is}
+use Rattle.resp_follow.proofs.Levels.{levels_needed_is}
 use Rattle.resp_follow.proofs.RefusedFronts.{CompletesFront}
 use Rattle.resp_follow.proofs.WholeValues.{closing_least, whole_least}
 use Rattle.resp_follow.specs.Frames as opened
@@ -26,6 +26,7 @@ use Rattle.resp_scan.proofs.TokenLaws.{LeastIsNeeded, FollowedIsViable}
 use Rattle.resp_scan.proofs.Begins.{is_between}
 use Rattle.resp_scan.proofs.RefusedMoves.{frames_needed_is, inside_least, waiting_needed}
 use Rattle.resp_scan.proofs.Rows.{tokens_need}
+use Rattle.resp_follow.specs.OpenLevels.{AreLevelsOf}
 
 -- what completes a front by texts continues it
 least_by_texts : (r : Rules) (front others : List ℕ) (m n : ℕ) → front ≡ others → m ≡ n → HasLeast (CompletesFront r WithinItems others) m → IsLeast r front n

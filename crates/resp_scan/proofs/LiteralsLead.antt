@@ -11,7 +11,7 @@ use Rattle.resp_follow.specs.Events as e
 use Rattle.resp_follow.proofs.CountRows.{CompletesUnder}
 use Rattle.resp_follow.proofs.BegunFronts.{IsBegunBy}
 use Rattle.resp_follow.proofs.BrokenLines.{byte_broken, return_broken, null_begun_broken, null_broken, null_short, truth_begun_broken, truth_broken, truth_short}
-use Rattle.resp_follow.proofs.LineTokens.{IsLineOf, IsReturned, line_begun, no_break_in_line, returned_begun, returned_broken, returned_whole}
+use Rattle.resp_follow.proofs.LineTokens.{line_begun, no_break_in_line, returned_begun, returned_broken, returned_whole}
 use Rattle.resp_follow.proofs.NumberTokens.{dollar_null_begun, null_token_line, star_null_begun, truth_begun, truth_token_line}
 use Rattle.resp_scan.specs.Tokens as k
 use Rattle.resp_scan.specs.Tokens.{Go, Give, Refuse, Place, AtBool, AtBoolCr, AtBoolLf, AtNullCr, AtNullLf, AtNullOne, at, ended}
@@ -23,6 +23,7 @@ use Rattle.resp_scan.specs.Follows.{Leads, Lies}
 use Rattle.resp_scan.proofs.TokenLaws.{NullOneLeads, NullCrLeads, NullEndLeads, BoolLeads, BoolCrLeads, BoolEndLeads}
 use Rattle.resp_scan.proofs.Moves.{Ends, goes, value_ends}
 use Rattle.resp_scan.proofs.Choices.{if_equal, wants_leads}
+use Rattle.resp_follow.specs.Tokens.{IsLineOf, IsReturned}
 
 -- Nulls.
 

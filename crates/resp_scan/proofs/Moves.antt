@@ -14,7 +14,7 @@ use Rattle.resp_follow.specs.MayFollow.{CanAllEnd, CanEnd, missing}
 use Rattle.resp_follow.specs.Events.{Event, Timed, events, events_around, given}
 use Rattle.resp_follow.proofs.Composition.{around-append, joined_trees_hold}
 use Rattle.resp_follow.proofs.OpenFrames.{are_joined, count-joined_trees, joined_trees}
-use Rattle.resp_follow.proofs.Levels.{AreLevelsOf, AreReady, HasShape, around-with, with_member}
+use Rattle.resp_follow.proofs.Levels.{around-with, with_member}
 use Rattle.resp_follow.proofs.LevelsAlone.{same_length}
 use Rattle.resp_follow.proofs.EventsAround.{events-member}
 use Rattle.resp_follow.proofs.BegunFronts.{FollowsBy}
@@ -24,6 +24,7 @@ use Rattle.resp_scan.specs.declared.frame.Shape.TheVariants.{Left, Begun}
 use Rattle.resp_scan.specs.Tokens.{AtStart, AtEnd, within, within_shape}
 use Rattle.resp_scan.specs.Kinds.{kind_of}
 use Rattle.resp_scan.specs.Follows.{HasBegun, HaveBegun, Inside, LiesAt, busy, busy_levels}
+use Rattle.resp_follow.specs.OpenLevels.{AreLevelsOf, AreReady, HasShape}
 
 -- Lists of events.
 

@@ -14,9 +14,8 @@ use Rattle.resp_follow.proofs.BegunLines.{number-digit}
 use Rattle.resp_follow.proofs.BegunFronts.{IsBegunBy}
 use Rattle.resp_follow.proofs.BrokenLines.{byte_broken, return_broken}
 use Rattle.resp_follow.proofs.BrokenHeads.{number_begun_broken, number_broken, number_short}
-use Rattle.resp_follow.proofs.IntegerRange.{greatest}
 use Rattle.resp_follow.proofs.LineTokens.{line_begun, no_break_in_line, returned_begun, returned_broken, returned_whole}
-use Rattle.resp_follow.proofs.NumberTokens.{IsNumberBegun, IsNumberToken, MayBe, int_token_over, number_begun, number_token_begins, number_token_line, number_token_more}
+use Rattle.resp_follow.proofs.NumberTokens.{int_token_over, number_begun, number_token_begins, number_token_line, number_token_more}
 use Rattle.resp_scan.specs.Magnitudes.{most}
 use Rattle.resp_scan.specs.Tokens as k
 use Rattle.resp_scan.specs.Tokens.{Go, Give, Refuse, Place, AtIntFirst, AtIntLf, AtIntSign, InInt, at, ended}
@@ -31,6 +30,7 @@ use Rattle.resp_scan.proofs.TokenLaws.{IntSignLeads, IntFirstLeads, IntLeads, In
 use Rattle.resp_scan.proofs.Moves.{Ends, goes, value_ends}
 use Rattle.resp_scan.proofs.RefusedMoves.{broken, fits_or_total, refused, unless_over}
 use Rattle.resp_scan.proofs.Choices.{if_digit, if_equal, if_within, wants_leads}
+use Rattle.resp_follow.specs.Tokens.{IsNumberBegun, IsNumberToken, MayBe, greatest}
 
 -- a byte of a number's beginning that no spelling has there
 pub begun_line : (k : NumberKind) (sign : Sign) → IsLine (number_byte k ∷ (sign_text sign ++ []))

@@ -11,6 +11,7 @@ use Rattle.resp_follow.specs.LeastCompletions.{Continues, IsLeast}
 use Rattle.resp_follow.proofs.CountRows.{CompletesUnder, IsRefusedHere}
 use Rattle.resp_follow.proofs.FrontLaws.{least_continues, viable_in_all}
 use Rattle.resp_follow.proofs.Levels as l
+use Rattle.resp_follow.specs.OpenLevels as o
 use Rattle.resp_follow.proofs.BegunFronts as b
 use Rattle.resp_follow.proofs.BegunFronts.{IsBegunBy}
 use Rattle.resp_scan.specs.declared.event.OpenKind.{OpenKind}
@@ -47,8 +48,8 @@ waiting_needed kind.Push (Begun n) = refl
 
 -- once its open member is whole none is open
 after_busy : (s : Shape) → HasBegun s → l.shape_after (busy s) ≡ waiting s
-after_busy (Left n) h = ap l.left (omega arith)
-after_busy (Begun n) h = ap l.taken (omega (arith, h))
+after_busy (Left n) h = ap o.left (omega arith)
+after_busy (Begun n) h = ap o.taken (omega (arith, h))
 
 shape_needed_is : (k : OpenKind) (s : Shape) → HasBegun s → l.shape_needed (kind_of k) (l.shape_after (busy s)) ≡ frame_owed k s
 shape_needed_is k s h = ap (l.shape_needed (kind_of k)) (after_busy s h) ∙ waiting_needed k s

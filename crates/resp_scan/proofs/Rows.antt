@@ -12,7 +12,6 @@ use Rattle.resp_follow.specs.Events.{Event}
 use Rattle.resp_follow.proofs.BegunFronts.{IsBegunBy}
 use Rattle.resp_follow.proofs.ChunkTokens.{chunk_mark_begun, chunks_begun, stream_returned_begun}
 use Rattle.resp_follow.proofs.ContentTokens.{content_begun, content_returned_begun}
-use Rattle.resp_follow.proofs.FirstLineRows.{zeros}
 use Rattle.resp_follow.proofs.LineTokens.{line_begun, returned_begun}
 use Rattle.resp_follow.proofs.NumberTokens.{number_begun, truth_begun}
 use Rattle.resp_follow.proofs.StreamedHeads.{streamed_string_begun}
@@ -38,6 +37,7 @@ use Rattle.resp_scan.proofs.OpensLead as opens
 use Rattle.resp_scan.proofs.StartLeads.{aggregate_row_of_attr, star_row}
 use Rattle.resp_scan.proofs.StringHeads.{bulk, bulk_error, verbatim}
 use Rattle.resp_scan.proofs.StringLengthEndsLead as string
+use Rattle.resp_follow.specs.Tokens.{zeros}
 
 -- as many bytes under another name
 by_sum : {r : Rules} {level m n : ℕ} {bytes : List ℕ} → m ≡ n → IsBegunBy r level bytes m → IsBegunBy r level bytes n

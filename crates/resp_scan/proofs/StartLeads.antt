@@ -26,11 +26,9 @@ use Rattle.resp_follow.proofs.BegunFronts.{IsBegunBy}
 use Rattle.resp_follow.proofs.BegunTypeBytes.{attribute_begun, bulk_error_begun, dollar_begun, star_begun, star_deep_begun, verbatim_begun}
 use Rattle.resp_follow.proofs.Composition.{around-append}
 use Rattle.resp_follow.proofs.FirstRuleBroken.{grammar_cause}
-use Rattle.resp_follow.proofs.Levels.{AreLevelsOf, AreReady, HasShape, Level, taken}
 use Rattle.resp_follow.proofs.LineTokens.{line_begun, text_token_begins, text_token_line}
 use Rattle.resp_follow.proofs.NumberTokens.{null_token_line, number_begun, truth_begun}
 use Rattle.resp_follow.proofs.RefusedBetweenValues.{GoesOn, refuse_stop}
-use Rattle.resp_follow.proofs.TextLines.{IsTextLine}
 use Rattle.resp_scan.specs.declared.event.OpenKind.{OpenKind}
 use Rattle.resp_scan.specs.declared.event.OpenKind.TheVariants as kind
 use Rattle.resp_scan.specs.declared.event.TextKind.TheVariants as text
@@ -54,6 +52,8 @@ use Rattle.resp_scan.proofs.Begins.{begins_leads, is_between, length-waiting}
 use Rattle.resp_scan.proofs.HeadsLead.{aggregate_row}
 use Rattle.resp_scan.proofs.ByteTests.{by_byte}
 use Rattle.resp_scan.proofs.Choices.{if_equal, if_within}
+use Rattle.resp_follow.specs.OpenLevels.{AreLevelsOf, AreReady, HasShape, Level, taken}
+use Rattle.resp_follow.specs.Tokens.{IsTextLine}
 
 -- Refusals of a first byte by itself.
 

@@ -5,7 +5,7 @@ use Rattle.resp_follow.specs.Events.{Event}
 use Rattle.resp_follow.specs.Events as e
 use Rattle.resp_follow.proofs.CountRows.{CompletesUnder}
 use Rattle.resp_follow.proofs.BegunFronts.{IsBegunBy}
-use Rattle.resp_follow.proofs.StreamedHeads.{HasStreamed, streamed_string_begun}
+use Rattle.resp_follow.proofs.StreamedHeads.{streamed_string_begun}
 use Rattle.resp_follow.proofs.ChunkTokens.{chunks_begun, stream_returned_begun}
 use Rattle.resp_follow.proofs.BrokenChunks.{chunks_broken, stream_mark_broken, stream_returned_broken}
 use Rattle.resp_scan.specs.declared.event.TextKind.TheVariants as text
@@ -19,6 +19,7 @@ use Rattle.resp_scan.proofs.ByteTests.{wanted}
 use Rattle.resp_scan.proofs.ChunksBegun.{are_whole, chunks_more}
 use Rattle.resp_scan.proofs.Moves.{goes, tells}
 use Rattle.resp_scan.proofs.RefusedMoves.{broken}
+use Rattle.resp_follow.specs.Tokens.{HasStreamed}
 
 -- these bytes of a streamed string's line
 abbrev IsStream : Rules → List ℕ → ℕ → List ℕ → List Event → Type 0

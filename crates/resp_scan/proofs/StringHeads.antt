@@ -9,7 +9,7 @@ use Rattle.resp_value.specs.Rules.{Rules, Grammar}
 use Rattle.resp_value.specs.declared.cause.Cause.TheVariants as cause
 use Rattle.resp_follow.specs.Events.{Event}
 use Rattle.resp_follow.proofs.CountRows.{CompletesUnder}
-use Rattle.resp_follow.proofs.FirstLineRows.{zeros, are_zeros}
+use Rattle.resp_follow.proofs.FirstLineRows.{are_zeros}
 use Rattle.resp_follow.proofs.BegunFronts.{IsBegunBy}
 use Rattle.resp_follow.proofs.BegunTypeBytes.{dollar_begun, bulk_error_begun, verbatim_begun}
 use Rattle.resp_follow.proofs.HeadTokens.{bulk_length_begun, error_length_begun, verbatim_length_begun, short_length_begun, zero_length_begun}
@@ -19,6 +19,7 @@ use Rattle.resp_scan.specs.declared.machine.Head.TheVariants as head
 use Rattle.resp_scan.specs.Tokens.{Place}
 use Rattle.resp_scan.specs.Heads.{counted_cause, first_needed, head_needed, may_end, most_counted, streamed_kind}
 use Rattle.resp_scan.specs.Begun.{HeadCounts, HeadReturned, LengthBegun, LengthReturned}
+use Rattle.resp_follow.specs.Tokens.{zeros}
 
 -- a head that is one of a counted string of this kind, and what is said of it in the words of strings
 pub record IsStringHead (h : Head) (kind : StringKind) : Type 0 where

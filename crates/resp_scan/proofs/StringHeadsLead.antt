@@ -8,7 +8,6 @@ use Rattle.resp_value.specs.Rules.{Rules, WithinDepth, WithinLength}
 use Rattle.resp_value.specs.declared.cause.Cause.TheVariants as cause
 use Rattle.resp_follow.specs.Events.{Event}
 use Rattle.resp_follow.proofs.BegunLines.{number-digit}
-use Rattle.resp_follow.proofs.FirstLineRows.{zeros}
 use Rattle.resp_follow.proofs.BrokenHeads.{IsNoLength}
 use Rattle.resp_follow.proofs.BegunTypeBytes.{length_token_over}
 use Rattle.resp_follow.proofs.HeadTokens.{length_token_more}
@@ -27,6 +26,7 @@ use Rattle.resp_scan.proofs.HeadDigits.{head_digit_leads}
 use Rattle.resp_scan.proofs.Moves.{goes, retold}
 use Rattle.resp_scan.proofs.RefusedMoves.{broken, refused}
 use Rattle.resp_scan.proofs.StringHeads.{IsStringHead, bulk, bulk_error, verbatim}
+use Rattle.resp_follow.specs.Tokens.{zeros}
 
 -- a string's type byte
 abbrev pub TypeByte : Rules → StringKind → ℕ → List ℕ → List Event → Type 0

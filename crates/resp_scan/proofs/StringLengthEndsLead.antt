@@ -7,9 +7,7 @@ use Rattle.resp_value.specs.Rules.{Rules, Grammar}
 use Rattle.resp_follow.specs.Events.{Event}
 use Rattle.resp_follow.specs.Events as e
 use Rattle.resp_follow.proofs.CountRows.{CompletesUnder}
-use Rattle.resp_follow.proofs.FirstLineRows.{zeros}
 use Rattle.resp_follow.proofs.BegunFronts.{IsBegunBy}
-use Rattle.resp_follow.proofs.ContentTokens.{IsContentToken}
 use Rattle.resp_follow.proofs.StringTokens.{HasRoom, length_returned_begun, length_returned_broken, payload_begins}
 use Rattle.resp_scan.specs.declared.machine.Head.{Head}
 use Rattle.resp_scan.specs.declared.machine.Head.TheVariants as head
@@ -25,6 +23,7 @@ use Rattle.resp_scan.proofs.ContentLead.{content_lies}
 use Rattle.resp_scan.proofs.Moves.{goes, retold, tells}
 use Rattle.resp_scan.proofs.RefusedMoves.{broken}
 use Rattle.resp_scan.proofs.StringHeads.{IsStringHead, bulk, bulk_error, verbatim}
+use Rattle.resp_follow.specs.Tokens.{IsContentToken, zeros}
 
 -- a length that is whole, with its CR
 abbrev Returned : Rules → StringKind → ℕ → ℕ → List ℕ → List Event → Type 0

@@ -12,17 +12,12 @@ use Rattle.resp_value.specs.LocalRules.{LeafKeeps, IsNoPushBelow}
 use Rattle.resp_value.specs.declared.version.Version.TheVariants.{Two}
 use Rattle.resp_follow.specs.Events.{Event, TextKind, leaf_events, given}
 use Rattle.resp_follow.specs.Events as e
-use Rattle.resp_follow.proofs.LineTokens.{IsTextToken, IsLineOf, IsReturned}
-use Rattle.resp_follow.proofs.NumberTokens.{IsNumberBegun, IsNumberToken}
-use Rattle.resp_follow.proofs.HeadTokens.{IsCountToken, IsCountReturned, IsLengthToken}
-use Rattle.resp_follow.proofs.FirstLineRows.{zeros}
-use Rattle.resp_follow.proofs.ContentTokens.{IsContentToken}
-use Rattle.resp_follow.proofs.StreamedHeads.{HasStreamed}
 use Rattle.resp_scan.specs.declared.machine.Head.{Head}
 use Rattle.resp_scan.specs.declared.machine.Head.TheVariants as head
 use Rattle.resp_scan.specs.Tokens.{Token, AtStart, AtEnd, InLine, AtLineLf, AtIntSign, AtIntFirst, InInt, AtIntLf, AtBigSign, AtBigFirst, InBigZeros, AtBigZeroLf, AtBigDigit, InBig, AtTextEnd, AtNullOne, AtNullCr, AtNullLf, AtBool, AtBoolCr, AtBoolLf, AtBulkHead, AtArrayHead, AtHead, InHead, AtHeadLf, AtFormat, AtFormatSecond, AtFormatThird, AtFormatColon, InContent, AtContentCr, AtContentLf, AtStreamCr, AtStreamLf, AtChunk, InChunk, AtChunkCr, AtChunkLf, AtOpenCr, AtOpenLf, AtCloseCr, AtCloseLf, Dead}
 use Rattle.resp_scan.specs.Kinds.{kind_of, content_events}
 use Rattle.resp_scan.specs.Machine as machine
+use Rattle.resp_follow.specs.Tokens.{HasStreamed, IsContentToken, IsCountReturned, IsCountToken, IsLengthToken, IsLineOf, IsNumberBegun, IsNumberToken, IsReturned, IsTextToken, zeros}
 
 -- Lines and numbers.
 

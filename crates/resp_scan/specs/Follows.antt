@@ -9,8 +9,7 @@ use Rattle.resp_follow.specs.Frames.{around}
 use Rattle.resp_follow.specs.MayFollow.{CanAllEnd, missing}
 use Rattle.resp_follow.specs.Events.{Event, events, events_around, given}
 use Rattle.resp_follow.specs.Events as e
-use Rattle.resp_follow.proofs.Levels as level
-use Rattle.resp_follow.proofs.Levels.{Level, AreLevelsOf, AreReady, left, taken}
+use Rattle.resp_follow.specs.OpenLevels as level
 use Rattle.resp_scan.specs.declared.event.OpenKind.{OpenKind}
 use Rattle.resp_scan.specs.declared.frame.Frame.{Frame}
 use Rattle.resp_scan.specs.declared.frame.Shape.{Shape}
@@ -19,6 +18,7 @@ use Rattle.resp_scan.specs.Tokens.{Token, Place, Move, Go, Byte, Give, Refuse, A
 use Rattle.resp_scan.specs.Sound.{IsSoundBy}
 use Rattle.resp_scan.specs.Kinds.{kind_of, event_of, rules_of, IsRefusedFor}
 use Rattle.resp_scan.specs.Begun as b
+use Rattle.resp_follow.specs.OpenLevels.{AreLevelsOf, AreReady, Level, left, taken}
 
 -- Open aggregates.
 
