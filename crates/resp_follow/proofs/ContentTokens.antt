@@ -1,8 +1,8 @@
 -- Tokens of counted content: the bytes still to come, and its end.
-use Rattle.std.proofs.Common.{◌≡◌, ℕ, ◌+◌, ◌≤◌, List, [], ◌∷◌, ◌++◌, length, refl, sym, ap, subst, ◌∙◌, arith, append_assoc, append-nil, length-append}
-use Rattle.resp_value.specs.Bytes.{IsText, crlf}
-use Rattle.resp_value.specs.Numbers.{IsDigits, number}
-use Rattle.resp_value.specs.Trees.{leaf, string, StringKind, string_byte, payload, HasFormat}
+use Rattle.std.proofs.Common.{◌≡◌, ℕ, ◌+◌, List, [], ◌∷◌, ◌++◌, length, refl, sym, ap, subst, ◌∙◌, arith, append_assoc, append-nil, length-append}
+use Rattle.resp_value.specs.Bytes.{crlf}
+use Rattle.resp_value.specs.Numbers.{number}
+use Rattle.resp_value.specs.Trees.{leaf, string, StringKind, string_byte}
 use Rattle.resp_value.specs.Rules.{Rules, Grammar, WithinItems}
 use Rattle.resp_value.specs.LocalRules.{LeafKeeps, NodeKeeps}
 use Rattle.resp_follow.specs.LeastCompletions.{HasLeast}
@@ -11,7 +11,7 @@ use Rattle.resp_follow.proofs.CountedContent.{content_row, content_end_dead}
 use Rattle.resp_follow.proofs.ShortRows.{next_row}
 use Rattle.resp_follow.proofs.HeadTokens.{string_keeps}
 use Rattle.resp_follow.proofs.BegunFronts.{IsBegunBy}
-use Rattle.resp_follow.specs.Tokens.{HasString, IsContentToken}
+use Rattle.resp_follow.specs.Tokens.{IsContentToken}
 
 -- the bytes that are left, and 2
 pub content_begun : (r : Rules) (k : StringKind) (first : ℕ) (digits begun : List ℕ) (left level : ℕ) (bytes : List ℕ) → IsContentToken r k first digits begun left level bytes → IsBegunBy r level bytes (left + 2)

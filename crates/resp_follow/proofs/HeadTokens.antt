@@ -5,7 +5,6 @@ use Rattle.resp_value.specs.Data.{Kind, members_of, items_of}
 use Rattle.resp_value.specs.Trees.{node, none, string, StringKind, Bulk, BulkError, Verbatim, Counted, string_byte, kind_byte, payload, texts, HasFormat}
 use Rattle.resp_value.specs.Rules.{Rules, Rule, Grammar, WithinLength, WithinItems}
 use Rattle.resp_value.specs.LocalRules.{LeafKeeps, NodeKeeps}
-use Rattle.resp_value.specs.declared.version.Version.TheVariants.{Two}
 use Rattle.resp_value.proofs.FirstBytes.{all_append}
 use Rattle.resp_follow.specs.LeastCompletions.{HasLeast}
 use Rattle.resp_follow.specs.MayFollow.{missing}

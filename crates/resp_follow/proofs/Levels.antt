@@ -1,10 +1,10 @@
 -- How open aggregates change: a head opens one, a whole value ends in one, and a close ends one.
-use Rattle.std.proofs.Common.{◌%◌, ◌*◌, ◌++◌, ◌+◌, ◌-◌, ◌<◌, ◌∙◌, ◌∷◌, ◌≡◌, List, [], ap, append-nil, append_assoc, arith, length, refl, subst, suc, sym, zero, ℕ}
+use Rattle.std.proofs.Common.{◌%◌, ◌*◌, ◌++◌, ◌+◌, ◌-◌, ◌∙◌, ◌∷◌, ◌≡◌, List, [], ap, append-nil, append_assoc, arith, length, refl, subst, suc, sym, zero, ℕ}
 use Rattle.resp_value.specs.Bytes.{crlf}
 use Rattle.resp_value.specs.Data.{Array, Attr, Kind, Map, Push, Set, members_of}
-use Rattle.resp_value.specs.LocalRules.{HoldsFrom, HoldsFromEach, LeafRule, NodeRule}
-use Rattle.resp_value.specs.Numbers.{IsDigits, number}
-use Rattle.resp_value.specs.Trees.{AreTrees, Counted, Form, HasMembers, IsTree, Streamed, Tree, Trees, close, count, form_line, kind_byte, more, node, none, text, texts}
+use Rattle.resp_value.specs.LocalRules.{HoldsFrom, LeafRule, NodeRule}
+use Rattle.resp_value.specs.Numbers.{number}
+use Rattle.resp_value.specs.Trees.{Counted, Form, HasMembers, IsTree, Streamed, Tree, Trees, close, count, form_line, kind_byte, more, node, none, text, texts}
 use Rattle.resp_follow.specs.Frames.{Frame, around, open_text}
 use Rattle.resp_follow.specs.MayFollow.{CanAllEnd, CanEnd, IsWholeText, frames_needed, missing}
 use Rattle.resp_follow.proofs.Composition.{joined_is, joined_trees_hold}

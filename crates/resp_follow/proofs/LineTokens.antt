@@ -1,7 +1,7 @@
 -- Tokens that are one line: texts, numbers, nulls and truth values, and what stands behind their CR.
 use Rattle.std.proofs.Common.{◌≡◌, ℕ, ◌+◌, ◌≤◌, List, [], ◌∷◌, ◌++◌, length, refl, sym, ap, subst, ◌∙◌, arith, append_assoc, append-nil, length-append}
 use Rattle.resp_value.specs.Bytes.{IsLine, IsPlain, IsByte, IsText, crlf}
-use Rattle.resp_value.specs.Trees.{leaf, Leaf, line, LineKind, line_byte, leaf_line, leaf_rest, leaf_text, IsLeaf}
+use Rattle.resp_value.specs.Trees.{leaf, Leaf, line, LineKind, line_byte, leaf_line, leaf_text}
 use Rattle.resp_value.specs.Rules.{Rules, Grammar, WithinDepth, WithinLength, WithinItems}
 use Rattle.resp_value.specs.LocalRules.{LeafKeeps, NodeKeeps}
 use Rattle.resp_value.proofs.FirstBytes.{leaf_begins, leaf_byte, all_append}

@@ -1,6 +1,6 @@
 -- Tokens of integers, big numbers, nulls and truth values.
-use Rattle.std.proofs.Common.{◌≡◌, ℕ, ◌<◌, ◌≤◌, Bool, true, List, [], ◌∷◌, ◌++◌, length, refl, sym, ap, subst, ◌∙◌, arith, append_assoc, length-append}
-use Rattle.resp_value.specs.Numbers.{IsDigit, IsDigits, Sign, sign_text, number, kept}
+use Rattle.std.proofs.Common.{◌≡◌, ℕ, ◌<◌, Bool, true, List, [], ◌∷◌, ◌++◌, refl, sym, ap, subst, ◌∙◌, arith, append_assoc, length-append}
+use Rattle.resp_value.specs.Numbers.{IsDigit, Sign, sign_text, number}
 use Rattle.resp_value.specs.Trees.{numeral, null, truth, NumberKind, Int, Big, NullForm, BulkNull, ArrayNull, PlainNull, number_byte, null_line, truth_line}
 use Rattle.resp_value.specs.Rules.{Rules, Rule, InRange, PushAtTop, WithinItems}
 use Rattle.resp_value.specs.LocalRules.{LeafKeeps, NodeKeeps}

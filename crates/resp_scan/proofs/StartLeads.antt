@@ -1,5 +1,5 @@
 -- A value's first byte, or a close.
-use Rattle.std.specs.Prelude.{true, false, cond, eqb, leb, None, Some, Option}
+use Rattle.std.specs.Prelude.{true, false, cond, leb, None, Some, Option}
 use Rattle.std.proofs.lemmas.Bool.{ne_eqb}
 use Rattle.std.proofs.lemmas.Bool.Decides.{nat_tests}
 use Rattle.std.proofs.Common.{◌≡◌, ℕ, suc, ◌-◌, ◌%◌, ◌<◌, ◌≤◌, List, [], ◌∷◌, ◌++◌, length, refl, sym, ap, subst, ◌∙◌, arith, append-nil}
@@ -51,7 +51,7 @@ use Rattle.resp_scan.proofs.TokenLaws.{StartLeads}
 use Rattle.resp_scan.proofs.Begins.{begins_leads, is_between, length-waiting}
 use Rattle.resp_scan.proofs.HeadsLead.{aggregate_row}
 use Rattle.resp_scan.proofs.ByteTests.{by_byte}
-use Rattle.resp_scan.proofs.Choices.{if_equal, if_within}
+use Rattle.resp_scan.proofs.Choices.{if_within}
 use Rattle.resp_follow.specs.OpenLevels.{AreLevelsOf, AreReady, HasShape, Level, taken}
 use Rattle.resp_follow.specs.Tokens.{IsTextLine}
 
