@@ -170,7 +170,8 @@ impl Scanner {
 
     /// The number of aggregates whose Open was given and whose Close wasn't.
     pub fn depth(&self) -> usize
-        ensures { result ≡ length self.now.frames }
+        ensures frames { result ≡ length self.now.frames }
+        ensures few { result ≤ (rules_of self.now).limits.depth }
     {
         self.machine.frames.len()
     }
