@@ -31,7 +31,7 @@ use Rattle.resp_scan.specs.Follows.{Between, Counts, HasBegun, Inside, Leads, bu
 use Rattle.resp_scan.specs.Sound.{frame_owed, frames_owed}
 use Rattle.resp_scan.proofs.Moves.{length-busy}
 use Rattle.resp_scan.proofs.RefusedMoves.{fits_or_past, unless_over}
-use Rattle.resp_scan.proofs.Choices.{if_equal}
+use Rattle.resp_scan.proofs.Choices.{if_equal, positive}
 use Rattle.resp_follow.specs.OpenLevels.{AreLevelsOf, AreReady, HasShape, Level, left, taken}
 
 pub length-waiting : (fs : List Frame) → length (waiting_levels fs) ≡ length fs
@@ -78,11 +78,9 @@ owed_is kind.Map (Begun m) owed others some_left e =
     sums : (n : ℕ) → 3 + n + 3 ≡ 6 + n
     sums n = omega arith
 
-    some : (n : ℕ) → (n ≡ 0 → ⊥) → 0 < n
-    some n h = grind (arith, nat_tests)
 
     evens : (m : ℕ) → (m % 2 ≡ 0 → ⊥) → eqb ((m + 1) % 2) 0 ≡ true
-    evens m odd = let z : (m + 1) % 2 ≡ 0 = omega (arith, some (m % 2) odd) in ap (λ n. eqb n 0) z
+    evens m odd = let z : (m + 1) % 2 ≡ 0 = omega (arith, positive (m % 2) odd) in ap (λ n. eqb n 0) z
 
 -- items let one more begin in a streamed aggregate
 room_in : (r : Rules) (k : OpenKind) (m : ℕ) → items_of (kind_of k) (m + missing (kind_of k) Streamed m) ≤ r.limits.items → has_all_of k m r.limits.items ≡ false → items_of (kind_of k) (room (kind_of k) m) ≤ r.limits.items
@@ -93,11 +91,8 @@ room_in r kind.Attr m keeps e = let below : m < r.limits.items = grind (arith, n
 room_in r kind.Map m keeps e =
     if_equal (m % 2) 0 (λ x. (x && nat_le r.limits.items (m / 2)) ≡ false → (m + 1 + (m + 1) % 2) / 2 ≤ r.limits.items)
     (λ even z. let below : m / 2 < r.limits.items = grind (arith, nat_tests) in omega (arith, below, even))
-    (λ odd z. omega (arith, keeps, some (m % 2) odd))
+    (λ odd z. omega (arith, keeps, positive (m % 2) odd))
     e
-  where
-    some : (n : ℕ) → (n ≡ 0 → ⊥) → 0 < n
-    some n h = grind (arith, nat_tests)
 
 -- or do not
 full_in : (r : Rules) (k : OpenKind) (m n : ℕ) → HasMembers (kind_of k) Streamed n → has_all_of k m r.limits.items ≡ true → r.limits.items < items_of (kind_of k) (room (kind_of k) m)

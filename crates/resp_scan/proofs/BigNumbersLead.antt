@@ -29,7 +29,7 @@ use Rattle.resp_scan.proofs.LeafEvents.{content_events-append, given-big, leaf_t
 use Rattle.resp_scan.proofs.Moves.{Ends, goes, tells, value_ends}
 use Rattle.resp_scan.proofs.NumbersLead.{AnySign, begun_dead, begun_row, digits_dead, digits_row, sign_more, signed_any, unsigned_any}
 use Rattle.resp_scan.proofs.RefusedMoves.{broken, fits_or_total, refused, unless_over}
-use Rattle.resp_scan.proofs.Choices.{if_digit, if_equal, wants_leads}
+use Rattle.resp_scan.proofs.Choices.{if_digit, if_equal, positive, wants_leads}
 
 -- Digits without leading zeros.
 
@@ -296,9 +296,6 @@ big_byte_leads s room used byte front es d c w =
     (λ some.
     let more = tells r (BigShown r room) (BigShown r (room - 1)) s.frames front (byte ∷ []) es (e.Byte byte ∷ []) w (λ level bytes shown i t. digits_more r room byte level bytes shown d (positive room some) t) in
     fits_or_total (at s (InBig room)) (BigShown r (room - 1)) front es (es ++ e.Byte byte ∷ []) used byte 2 (Byte (at s (InBig (room - 1)))) c more (λ level bytes shown i t. shown_row r (room - 1) level bytes shown t) more)
-  where
-    positive : (n : ℕ) → (n ≡ 0 → ⊥) → 0 < n
-    positive n some = grind (arith, nat_tests)
 
 pub big_leads : BigLeads
 big_leads s room used byte front es is_byte c w =

@@ -34,6 +34,7 @@ use Rattle.resp_scan.specs.Steps.{Follows, IsFaulted, IsSpelled, MayEnd}
 use Rattle.resp_scan.specs.Scan as scan
 use Rattle.resp_scan.specs.Scan.{Out, More, Gave, Part, Bad, advanced}
 use Rattle.resp_scan.specs.Heard.{heard, heard_event, heard_part, stepped}
+use Rattle.resp_scan.proofs.Fronts.{none-of-length}
 use Rattle.resp_scan.proofs.Kept.{IsOut, is_advanced}
 use Rattle.resp_scan.proofs.LeastNeeded.{least_is_needed}
 use Rattle.resp_scan.proofs.Moves.{at_level}
@@ -157,16 +158,12 @@ spelled_where_none : (s : Place) (front : List ℕ) (es : List e.Event) → IsSo
 spelled_where_none s front es c w none =
     let least = least_is_needed s 0 front es c w.lies in
     let h = least.holds in
-    let empty : front ++ least.some ≡ front = ap (λ z. front ++ z) (no_bytes least.some (least.size ∙ none)) ∙ append-nil front in
+    let empty : front ++ least.some ≡ front = ap (λ z. front ++ z) (none-of-length least.some (least.size ∙ none)) ∙ append-nil front in
     record {
       tree = h.tree;
       spells = subst (Spells h.tree) empty h.spells;
       keeps = all_rules (rules_of s) h.tree h.keeps (omega (arith, w.taken, c.total, ap length h.spells.spelled, ap length empty));
     }
-  where
-    no_bytes : (rest : List ℕ) → length rest ≡ 0 → rest ≡ []
-    no_bytes [] e = refl
-    no_bytes (b ∷ bs) e = absurd (omega (arith, e))
 
 none_where_spelled : (s : Place) (front : List ℕ) (es : List e.Event) → IsSound s → Follows s front es → IsSpelled (rules_of s) front → needed s ≡ 0
 none_where_spelled s front es c w x =
@@ -250,7 +247,7 @@ end_told s front es sound w = (λ m. end_is s front es w ∙ ends m, λ e. may (
 
     may : ends_by s ≡ None → MayEnd (rules_of s) front
     may e = elim (eqb s.taken 0) as (λ x. eqb s.taken 0 ≡ x → cond (x || eqb (needed s) 0) None (Some cause.Truncated) ≡ None → MayEnd (rules_of s) front) [
-      | true ↦ λ z y. inl (no_bytes front (omega (arith, w.taken, first_zero s.taken z)))
+      | true ↦ λ z y. inl (none-of-length front (omega (arith, w.taken, first_zero s.taken z)))
       | false ↦ λ z y. elim (eqb (needed s) 0) as (λ x. eqb (needed s) 0 ≡ x → cond x None (Some cause.Truncated) ≡ None → MayEnd (rules_of s) front) [
         | true ↦ λ q r. inr (spelled_where_none s front es sound w (first_zero (needed s) q))
         | false ↦ λ q r. absurd cc
@@ -260,9 +257,6 @@ end_told s front es sound w = (λ m. end_is s front es w ∙ ends m, λ e. may (
         first_zero : (n : ℕ) → eqb n 0 ≡ true → n ≡ 0
         first_zero n z = grind (arith, nat_tests)
 
-        no_bytes : (rest : List ℕ) → length rest ≡ 0 → rest ≡ []
-        no_bytes [] e = refl
-        no_bytes (b ∷ bs) e = absurd (omega (arith, e))
 
     truncated : (c : Cause) → ends_by s ≡ Some c → c ≡ cause.Truncated
     truncated c e = elim (eqb s.taken 0 || eqb (needed s) 0) as (λ x. cond x None (Some cause.Truncated) ≡ Some c → c ≡ cause.Truncated) [ true ↦ λ y. absurd cc | false ↦ λ y. cc ] e

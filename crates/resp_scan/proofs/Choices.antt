@@ -39,6 +39,10 @@ pub if_digit : (b : ℕ) (P : Bool → Type 0) → (IsDigit b → P true) → ((
 if_digit b P holds fails =
     if_within 48 b (λ x. P (x && nat_le b 57)) (λ low. if_within b 57 P (λ high. holds (low, high)) (λ high. fails (λ d. omega (arith, high, d.1)))) (λ low. fails (λ d. omega (arith, low, d.0)))
 
+-- what isn't 0 is above it
+pub positive : (n : ℕ) → (n ≡ 0 → ⊥) → 0 < n
+positive n some = grind (arith, nat_tests)
+
 -- one byte alone goes on
 pub wants_leads : (s : Place) (T : ℕ → List ℕ → List Event → Type 0) (front : List ℕ) (es : List Event) (n byte x : ℕ) (v : Move) → Inside (rules_of s) T s.frames front es → ((level : ℕ) (bytes : List ℕ) (shown : List Event) → level ≡ length s.frames → T level bytes shown → IsBegunBy (rules_of s) level bytes n) → ((byte ≡ x → ⊥) → (level : ℕ) (bytes rest : List ℕ) (shown : List Event) → T level bytes shown → CompletesUnder (rules_of s) Grammar level bytes (byte ∷ rest) → ⊥) → (byte ≡ x → Leads s front es byte v) → Leads s front es byte (wants x byte v)
 wants_leads s T front es n byte x v w row dead leads =

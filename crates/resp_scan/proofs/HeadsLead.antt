@@ -105,7 +105,8 @@ stream_row r k level bytes shown w = subst (λ z. IsBegunBy r level z 5) (sym (w
 mark_more : (r : Rules) (k : Kind) (level byte : ℕ) (bytes : List ℕ) (shown : List Event) → byte ≡ 63 → (r.version ≡ version.Two → ⊥) → (r.limits.streamed ≡ false → ⊥) → CanStream k 0 → MayCount r k level bytes shown → StreamBegun r k [] level (bytes ++ byte ∷ []) shown
 mark_more r k level byte bytes shown is no_two on can w = record { has_streamed = (no_two, on); can_stream = can; no_push = w.no_push; below = w.below; are = ap (λ z. z ++ byte ∷ []) w.are ∙ ap (λ z. kind_byte k ∷ z ∷ []) is; told = w.told }
 
-no_two_in_three : (v : Version) → v ≡ version.Three → v ≡ version.Two → ⊥
+-- version 3 isn't version 2
+pub no_two_in_three : (v : Version) → v ≡ version.Three → v ≡ version.Two → ⊥
 no_two_in_three v three two = let e : version.Three ≡ version.Two = sym three ∙ two in cc
 
 -- `?` where an aggregate may be streamed, which version 2 refuses for an array

@@ -13,6 +13,7 @@ use Rattle.resp_scan.specs.Scan.{Out, More, Gave, Part, Whole, Bad, and_more, an
 use Rattle.resp_scan.specs.Kinds.{IsRefusedFor, content_events, event_of, rules_of}
 use Rattle.resp_scan.specs.Sound.{IsSoundBy}
 use Rattle.resp_scan.specs.Follows.{Counts, Leads, Lies}
+use Rattle.resp_scan.proofs.Fronts.{take-none}
 use Rattle.resp_scan.proofs.EachLeads.{IsLookedAt, each_leads}
 use Rattle.resp_scan.proofs.Sound.{IsMove, is_move, is_outside}
 
@@ -76,12 +77,8 @@ Ran i front es p out = (i ≤ out.0) × (out.0 ≤ i + length p) × Lies out.1 (
 none_taken : (i : ℕ) (s : Place) (front : List ℕ) (es : List Event) (p : List ℕ) → Lies s front es → Ran i front es p (i, s)
 none_taken i s front es p w =
     let z : i - i ≡ 0 = omega arith in
-    let t : take (i - i) p ≡ [] = ap (λ n. take n p) z ∙ take_zero p in
+    let t : take (i - i) p ≡ [] = ap (λ n. take n p) z ∙ take-none p in
     (omega arith, omega arith, subst (λ x. Lies s (front ++ x) (es ++ content_events x)) (sym t) (subst (λ x. Lies s x (es ++ [])) (sym (append-nil front)) (subst (Lies s front) (sym (append-nil es)) w)))
-  where
-    take_zero : (p : List ℕ) → take 0 p ≡ []
-    take_zero [] = refl
-    take_zero (b ∷ bs) = refl
 
 one_more : (i : ℕ) (front : List ℕ) (es : List Event) (b : ℕ) (bs : List ℕ) (out : ℕ × Place) → Ran (i + 1) (front ++ b ∷ []) (es ++ e.Byte b ∷ []) bs out → Ran i front es (b ∷ bs) out
 one_more i front es b bs out h =
@@ -124,12 +121,8 @@ came_move (Go t) r i s front es b bs q c w m l f g = came_later r i front es b b
 came_move (Byte t) r i s front es b bs q c w m l f g = came_run r i front es b bs (content (i + 1) t bs) (g t (counts_more i s t front b c m.taken m.sound) m.inside l)
 came_move (Give x t) r i s front es b bs q c w m l f g =
     let one : i + 1 - i ≡ suc 0 = omega arith in
-    let t1 : b ∷ [] ≡ take (i + 1 - i) (b ∷ bs) = sym (ap (λ n. take n (b ∷ bs)) one ∙ ap (λ z. b ∷ z) (take_none bs)) in
+    let t1 : b ∷ [] ≡ take (i + 1 - i) (b ∷ bs) = sym (ap (λ n. take n (b ∷ bs)) one ∙ ap (λ z. b ∷ z) (take-none bs)) in
     (omega arith, omega arith, subst (λ z. Lies t (front ++ z) (es ++ event_of x ∷ [])) t1 l)
-  where
-    take_none : (p : List ℕ) → take 0 p ≡ []
-    take_none [] = refl
-    take_none (b ∷ bs) = refl
 came_move (Refuse x) r i s front es b bs q c w m l f g =
     let none : i - i ≡ 0 = omega arith in
     let t0 : take (i - i) (b ∷ bs) ≡ [] = ap (λ n. take n (b ∷ bs)) none in

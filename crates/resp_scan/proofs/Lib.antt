@@ -42,3 +42,4 @@ pub mod LeastNeeded
 pub mod Calls
 pub mod TokenLaws
 pub mod Judged
+pub mod Fronts

@@ -49,7 +49,8 @@ use Rattle.resp_scan.specs.Begun.{AggregateBegun, LineBegun, NullLine}
 use Rattle.resp_scan.specs.Follows.{Between, Closing, Counts, Inside, Leads, Lies, LiesAt, busy_levels, waiting, waiting_levels}
 use Rattle.resp_scan.proofs.TokenLaws.{StartLeads}
 use Rattle.resp_scan.proofs.Begins.{begins_leads, is_between, length-waiting}
-use Rattle.resp_scan.proofs.HeadsLead.{aggregate_row}
+use Rattle.resp_scan.proofs.HeadsLead.{aggregate_row, no_two_in_three}
+use Rattle.resp_scan.proofs.LinesLead.{line_row}
 use Rattle.resp_scan.proofs.ByteTests.{by_byte}
 use Rattle.resp_scan.proofs.Choices.{if_within}
 use Rattle.resp_follow.specs.OpenLevels.{AreLevelsOf, AreReady, HasShape, Level, taken}
@@ -72,9 +73,6 @@ answer_named s front es byte rule c counts no_stop w answer names =
 line_begun_by : (r : Rules) (kind : LineKind) (level : ℕ) → IsTextLine kind → LineBegun r r.limits.length level (t.line_byte kind ∷ []) (e.Text (b.line_text kind) ∷ [])
 unfolding text_token_begins
 line_begun_by r kind level p = record { kind = kind; size = 0; token = text_token_begins r kind level p; leaves = omega arith; told = refl }
-
-line_row : (r : Rules) (room level : ℕ) (bytes : List ℕ) (shown : List Event) → LineBegun r room level bytes shown → IsBegunBy r level bytes 2
-line_row r room level bytes shown w = line_begun r (t.line w.kind w.token.content) level bytes (text_token_line r w.kind w.size level bytes w.token)
 
 -- Values of one byte so far, in version 3 or in both.
 
@@ -105,9 +103,6 @@ line_leads s kind byte happening front es p is told no_stop none c w =
     (λ inside. lies_begun q (InLine s.bounds.length) (begun q).frames (front ++ byte ∷ []) (es ++ event_of happening ∷ []) inside)
 
 -- Values of version 3 alone.
-
-no_two_in_three : (v : Version) → v ≡ version.Three → v ≡ version.Two → ⊥
-no_two_in_three v three two = let e : version.Three ≡ version.Two = sym three ∙ two in cc
 
 three_leads : (s : Place) (byte : ℕ) (front : List ℕ) (es : List Event) (answer : Option Rule) (v : Move) → (byte ≡ 46 → ⊥) → first_byte_refusal (rules_of s) (length s.frames) byte ≡ in_three s.version answer → Counts (at s AtStart) 0 front → Lies (at s AtStart) front es → ((s.version ≡ version.Two → ⊥) → first_byte_refusal (rules_of s) (length s.frames) byte ≡ answer → Leads (at s AtStart) front es byte v) → Leads (at s AtStart) front es byte (machine.in_three s.version v)
 three_leads s byte front es answer v no_stop is c w leads = case s.version refl

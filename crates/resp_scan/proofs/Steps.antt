@@ -32,6 +32,7 @@ use Rattle.resp_scan.specs.Follows.{Between, Counts, Ended, Lies, LiesAt}
 use Rattle.resp_scan.specs.Steps.{Follows, Heard, HasNoValue, IsRefused, IsValue, Stepped, events_of}
 use Rattle.resp_scan.proofs.EachLeads.{IsLookedAt}
 use Rattle.resp_scan.proofs.Heard.{Came, RefusedAt, came_scan}
+use Rattle.resp_scan.proofs.Fronts.{front-append, front-one-more, length-front, take-none}
 use Rattle.resp_scan.proofs.Kept.{IsOut, is_advanced}
 use Rattle.resp_scan.proofs.BigNumbersLead.{big_digit_is_owed, text_end_is_owed}
 use Rattle.resp_scan.proofs.ClosesLead.{close_is_owed}
@@ -63,11 +64,7 @@ from_start r front es p (Bad n c t) (j, m, byte, rest, parts, w) =
 -- an event that is owed at no byte
 owed : (r : Rules) (front : List ℕ) (es : List e.Event) (p : List ℕ) (x : Happening) (t : Place) → Lies t front (es ++ event_of x ∷ []) → Answered r front es p (Gave 0 x t)
 owed r front es p x t w =
-    (omega arith, subst (λ z. Lies t z (es ++ event_of x ∷ [])) (sym (ap (λ z. front ++ z) (none p) ∙ append-nil front)) w)
-  where
-    none : (p : List ℕ) → take 0 p ≡ []
-    none [] = refl
-    none (b ∷ bs) = refl
+    (omega arith, subst (λ z. Lies t z (es ++ event_of x ∷ [])) (sym (ap (λ z. front ++ z) (take-none p) ∙ append-nil front)) w)
 
 at_top : (r : Rules) → Between r [] [] []
 at_top r = record { frames = []; begun = tt; of_levels = tt; ready = tt; whole = refl; told = refl }
@@ -154,10 +151,7 @@ shown s front es p (Whole t) h a = (h.1, a.0, a.1)
 shown s front es p (Bad n c t) h (within, byte, rest, parts, w) = (ap (λ x. x + n) h.0.taken, within, byte, rest, parts, w)
 
 follows : (s t : Place) (front : List ℕ) (es : List e.Event) (p : List ℕ) (n : ℕ) → s.taken ≡ length front → n ≤ length p → t.taken ≡ s.taken + n → Lies t (front ++ take n p) es → Follows t (front ++ take n p) es
-follows s t front es p n taken within counts w = record { lies = w; taken = omega (arith, taken, counts, length-append front (take n p), length_taken n p within) }
-  where
-    length_taken : (n : ℕ) (p : List ℕ) → n ≤ length p → length (take n p) ≡ n
-    length_taken n p h = grind (arith, common_steps)
+follows s t front es p n taken within counts w = record { lies = w; taken = omega (arith, taken, counts, length-append front (take n p), length-front n p (omega (arith, within))) }
 
 -- a digit that was owed, or a run of the piece
 part_heard : (zero_bytes : Bool) (s t : Place) (front : List ℕ) (es : List e.Event) (p q : List ℕ) (n : ℕ) → s.taken ≡ length front → IsRun zero_bytes p n q → Shown s front es p (heard_part zero_bytes n q t) → Follows t (front ++ take n p) (es ++ content_events q)
@@ -292,27 +286,13 @@ refused_is : (s t : Place) (front : List ℕ) (es : List e.Event) (p : List ℕ)
 refused_is s t front es p fault taken at_taken (counted, within, byte, rest, parts, w) =
     let n = fault.at - s.taken in
     let before : front ++ p ≡ (front ++ take n p) ++ byte ∷ rest = ap (λ z. front ++ z) parts ∙ sym (append_assoc front (take n p) (byte ∷ rest)) in
-    let size : length (front ++ take n p) ≡ fault.at = omega (arith, taken, at_taken, counted, length-append front (take n p), length_taken n p within) in
+    let size : length (front ++ take n p) ≡ fault.at = omega (arith, taken, at_taken, counted, length-append front (take n p), length-front n p (omega (arith, within))) in
     record {
       behind = omega (arith, taken, at_taken, counted);
       within = omega (arith, taken, at_taken, counted, within, length-append front p);
-      viable = subst (IsViable (rules_of s) WithinTotal) (sym (ap (take fault.at) before ∙ taken_front fault.at (front ++ take n p) (byte ∷ rest) size)) (subst (λ r. IsViable r WithinTotal (front ++ take n p)) w.rules (followed_is_viable w.before n (front ++ take n p) es w.sound w.taken w.lies));
-      refused = subst (λ z. IsRefusedFor (rules_of s) z fault.cause) (sym (ap (take (fault.at + 1)) before ∙ taken_one fault.at (front ++ take n p) byte rest size)) w.cause;
+      viable = subst (IsViable (rules_of s) WithinTotal) (sym (ap (take fault.at) before ∙ front-append fault.at (front ++ take n p) (byte ∷ rest) size)) (subst (λ r. IsViable r WithinTotal (front ++ take n p)) w.rules (followed_is_viable w.before n (front ++ take n p) es w.sound w.taken w.lies));
+      refused = subst (λ z. IsRefusedFor (rules_of s) z fault.cause) (sym (ap (take (fault.at + 1)) before ∙ front-one-more fault.at (front ++ take n p) byte rest size)) w.cause;
     }
-  where
-    length_taken : (n : ℕ) (p : List ℕ) → n < length p → length (take n p) ≡ n
-    length_taken n p h = grind (arith, common_steps)
-
-    taken_front : (n : ℕ) (a b : List ℕ) → length a ≡ n → take n (a ++ b) ≡ a
-    taken_front n a b h = grind (arith, common_steps)
-
-    take_none : (p : List ℕ) → take 0 p ≡ []
-    take_none [] = refl
-    take_none (b ∷ bs) = refl
-
-    taken_one : (n : ℕ) (a : List ℕ) (b : ℕ) (bs : List ℕ) → length a ≡ n → take (n + 1) (a ++ b ∷ bs) ≡ a ++ b ∷ []
-    taken_one n [] b bs h = let e : n + 1 ≡ suc 0 = omega (arith, h) in ap (λ m. take m (b ∷ bs)) e ∙ ap (λ z. b ∷ z) (take_none bs)
-    taken_one n (c ∷ a) b bs h = let e : n + 1 ≡ suc (n - 1 + 1) = omega (arith, h) in ap (λ m. take m (c ∷ (a ++ b ∷ bs))) e ∙ ap (λ z. c ∷ z) (taken_one (n - 1) a b bs (omega (arith, h)))
 
 -- What a step answers.
 pub stepped_is : (result : Result Step Fault) (s t : Place) (front : List ℕ) (es : List e.Event) (p : List ℕ) → IsText p → IsSound s → heard s.taken result t ≡ stepped (advanced s p) → IfOk result (λ step. IsOfPiece p step) → IfErr result (λ fault. (fault.at ≡ t.taken) × (t.token ≡ Dead fault.cause)) → Follows s front es → Stepped s t front es p result
