@@ -39,3 +39,7 @@ pub mod Heard
 pub mod Steps
 pub mod Rows
 pub mod LeastNeeded
+pub mod Opens
+pub mod FewEvents
+pub mod Shown
+pub mod GivenCounts

@@ -1,5 +1,5 @@
 -- What a byte makes of what has come, token by token.
-use Rattle.std.specs.Prelude.{◌≡◌, ℕ, ◌+◌, ◌<◌, Bool, List, [], ◌∷◌, ◌++◌, length}
+use Rattle.std.specs.Prelude.{◌≡◌, ℕ, ◌+◌, ◌<◌, ◌≤◌, Bool, List, [], ◌∷◌, ◌++◌, length}
 use Rattle.resp_value.specs.Rules.{WithinTotal}
 use Rattle.resp_value.specs.Spellings.{IsViable}
 use Rattle.resp_follow.specs.Events.{Event, Byte, TextEnd, Close}
@@ -16,6 +16,7 @@ use Rattle.resp_scan.specs.Kinds.{rules_of}
 use Rattle.resp_scan.specs.Begun.{Begun}
 use Rattle.resp_scan.specs.Sound.{IsSoundBy, needed, token_needed}
 use Rattle.resp_scan.specs.Follows.{Lies, Leads, Counts}
+use Rattle.resp_scan.specs.Given.{opens, closes}
 
 -- the place that a byte leads to lies at the longer front, and a byte that is refused has its cause
 abbrev pub ALead : Place → Type 0
@@ -226,3 +227,11 @@ LeastIsNeeded = (s : Place) (used : ℕ) (front : List ℕ) (es : List Event) �
 -- and total has room for that, so that the front begins a spelling within every rule
 abbrev pub FollowedIsViable : Type 0
 FollowedIsViable = (s : Place) (used : ℕ) (front : List ℕ) (es : List Event) → IsSoundBy used s → length front ≡ s.taken + used → Lies s front es → IsViable (rules_of s) WithinTotal front
+
+-- in what was given, each aggregate that opened has closed but for the frames
+abbrev pub OpensAreFrames : Type 0
+OpensAreFrames = (s : Place) (front : List ℕ) (es : List Event) → Lies s front es → opens es ≡ length s.frames + closes es
+
+-- a byte comes with one event at most, on the whole
+abbrev pub EventsAreFew : Type 0
+EventsAreFew = (s : Place) (front : List ℕ) (es : List Event) → Lies s front es → length es ≤ length front

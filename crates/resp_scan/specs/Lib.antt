@@ -14,5 +14,6 @@ pub mod Runs
 pub mod Kinds
 pub mod Begun
 pub mod Follows
+pub mod Given
 pub mod Laws
 pub mod Steps
