@@ -1,7 +1,13 @@
 -- What the events given of a value count, and what a place has still to give of the bytes taken.
-use Rattle.std.specs.Prelude.{ℕ, ◌+◌, List, [], ◌∷◌}
+use Rattle.std.specs.Prelude.{◌≡◌, ℕ, ◌+◌, Bool, cond, eqb, List, [], ◌∷◌, ◌++◌}
 use Rattle.resp_follow.specs.Events as e
 use Rattle.resp_follow.specs.Events.{Event}
+use Rattle.resp_scan.specs.declared.frame.Frame.{Frame}
+use Rattle.resp_scan.specs.declared.frame.Shape.{Shape}
+use Rattle.resp_scan.specs.declared.frame.Shape.TheVariants.{Left, Begun}
+use Rattle.resp_scan.specs.Tokens.{Token, Place, AtEnd, AtBigDigit, AtTextEnd}
+
+-- Counts.
 
 abbrev pub open_in : Event → ℕ
 open_in e.Null = 0
@@ -34,3 +40,29 @@ opens (event ∷ es) = open_in event + opens es
 abbrev pub closes : List Event → ℕ
 closes [] = 0
 closes (event ∷ es) = close_in event + closes es
+
+-- What is owed.
+
+-- an aggregate that counts no member more closes, and so may those around it
+abbrev pub shape_owed : Shape → List Event → List Event
+shape_owed (Left n) outer = cond (eqb n 0) (e.Close ∷ outer) []
+shape_owed (Begun n) outer = []
+
+-- where a value has ended within these frames
+abbrev pub ended_owed : List Frame → List Event
+ended_owed [] = e.Done ∷ []
+ended_owed (f ∷ fs) = shape_owed f.shape (ended_owed fs)
+
+abbrev pub owed_at : Token → List Frame → List Event
+owed_at AtEnd fs = ended_owed fs
+owed_at AtTextEnd fs = e.TextEnd ∷ ended_owed fs
+owed_at (AtBigDigit digit room) fs = e.Byte digit ∷ []
+owed_at token fs = []
+
+-- the events that a place has still to give of the bytes taken
+abbrev pub owed : Place → List Event
+owed s = owed_at s.token s.frames
+
+-- the last event given isn't that a big number begins
+abbrev pub EndsWithNoSign : List Event → Type 0
+EndsWithNoSign es = (before : List Event) (negative : Bool) → es ≡ before ++ e.Text (e.Big negative) ∷ [] → ⊥

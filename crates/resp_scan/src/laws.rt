@@ -1,6 +1,6 @@
 //! Laws of the machine by bytes, each the contract of a function with an empty body.
 
-ghost use Rattle.resp_scan.specs.Laws.{LinesLead, LineEndsLead, IntSignLeads, IntFirstLeads, IntLeads, IntEndLeads, BigSignLeads, BigFirstLeads, BigZerosLead, BigZeroEndLeads, BigDigitIsOwed, BigLeads, TextEndIsOwed, NullOneLeads, NullCrLeads, NullEndLeads, BoolLeads, BoolCrLeads, BoolEndLeads, ArrayHeadEndLeads, SetHeadEndLeads, MapHeadEndLeads, AttrHeadEndLeads, PushHeadEndLeads, CloseIsOwed, CloseCrLeads, CloseEndLeads, ArrayCountLeads, SetCountLeads, MapCountLeads, AttrCountLeads, PushCountLeads, ArrayHeadLeads, SetHeadLeads, MapHeadLeads, AttrHeadLeads, PushHeadLeads, OpenCrLeads, OpenEndLeads, StartLeads, BulkHeadLeads, StringHeadsLead, StringLengthsLead, StringLengthEndsLead, ContentLeads, ContentReturnsLead, ContentEndsLead, FormatsLead, SecondFormatBytesLead, ThirdFormatBytesLead, ColonsLead, StreamsLead, StreamEndsLead, ChunksLead, ChunkHeadsLead, ChunkLengthsLead, ChunkLengthEndsLead, ChunkContentLeads, ChunkReturnsLead, ChunkEndsLead, TokensNeed, LeastIsNeeded, FollowedIsViable, OpensAreFrames, EventsAreFew};
+ghost use Rattle.resp_scan.specs.Laws.{LinesLead, LineEndsLead, IntSignLeads, IntFirstLeads, IntLeads, IntEndLeads, BigSignLeads, BigFirstLeads, BigZerosLead, BigZeroEndLeads, BigDigitIsOwed, BigLeads, TextEndIsOwed, NullOneLeads, NullCrLeads, NullEndLeads, BoolLeads, BoolCrLeads, BoolEndLeads, ArrayHeadEndLeads, SetHeadEndLeads, MapHeadEndLeads, AttrHeadEndLeads, PushHeadEndLeads, CloseIsOwed, CloseCrLeads, CloseEndLeads, ArrayCountLeads, SetCountLeads, MapCountLeads, AttrCountLeads, PushCountLeads, ArrayHeadLeads, SetHeadLeads, MapHeadLeads, AttrHeadLeads, PushHeadLeads, OpenCrLeads, OpenEndLeads, StartLeads, BulkHeadLeads, StringHeadsLead, StringLengthsLead, StringLengthEndsLead, ContentLeads, ContentReturnsLead, ContentEndsLead, FormatsLead, SecondFormatBytesLead, ThirdFormatBytesLead, ColonsLead, StreamsLead, StreamEndsLead, ChunksLead, ChunkHeadsLead, ChunkLengthsLead, ChunkLengthEndsLead, ChunkContentLeads, ChunkReturnsLead, ChunkEndsLead, TokensNeed, LeastIsNeeded, FollowedIsViable, OpensAreFrames, EventsAreFew, EventsAreDue};
 
 /// A byte of a line.
 pub(crate) fn lines_lead()
@@ -326,4 +326,9 @@ pub(crate) fn opens_are_frames()
 /// No more events were given than bytes were taken.
 pub(crate) fn events_are_few()
     ensures { EventsAreFew }
+{}
+
+/// What was given, and is still owed, is what is due by then of every value that goes on so.
+pub(crate) fn events_are_due()
+    ensures { EventsAreDue }
 {}
