@@ -1,7 +1,7 @@
 -- The events due of a big number: none before its first digit that isn't zero, and from that one on its digits.
 use Rattle.std.specs.Prelude.{false, cond, eqb}
 use Rattle.std.proofs.lemmas.Bool.Decides.{nat_tests}
-use Rattle.std.proofs.Common.{◌≡◌, ℕ, suc, ◌+◌, ◌-◌, ◌<◌, ◌≤◌, Bool, true, List, [], ◌∷◌, ◌++◌, length, refl, sym, ap, subst, ◌∙◌, arith, append_assoc, append-nil, length-append}
+use Rattle.std.proofs.Common.{◌≡◌, ℕ, ◌+◌, ◌-◌, ◌<◌, ◌≤◌, Bool, true, List, [], ◌∷◌, ◌++◌, length, refl, sym, ap, subst, ◌∙◌, arith, append_assoc, append-nil, length-append}
 use Rattle.resp_value.specs.Bytes.{crlf}
 use Rattle.resp_value.specs.Data as d
 use Rattle.resp_value.specs.Numbers.{IsDigits, Sign, Unsigned, Plus, Minus, is_minus, is_negative, number, sign_text, stripped}
@@ -17,7 +17,6 @@ use Rattle.resp_follow.proofs.BrokenHeads.{sort_of_signed}
 use Rattle.resp_follow.proofs.EventsDue.{AreFrom, due_none}
 use Rattle.resp_follow.proofs.FirstLineRows.{number_line, tree_of_numeral}
 use Rattle.resp_follow.proofs.NumberTokens.{IsNumberBegun}
-use Rattle.resp_scan.specs.Kinds.{content_events}
 use Rattle.resp_scan.specs.Begun.{BigBegun, BigShown, ZeroReturned}
 use Rattle.resp_scan.proofs.FewEvents.{length-stripped}
 use Rattle.resp_scan.proofs.InsideDue.{AreDueWithin}

@@ -1,5 +1,5 @@
 -- The events due of a streamed string: the content of its whole chunks, and of a begun one the content so far.
-use Rattle.std.proofs.Common.{◌≡◌, ℕ, suc, ◌+◌, ◌-◌, ◌<◌, ◌≤◌, List, [], ◌∷◌, ◌++◌, length, refl, sym, ap, subst, ◌∙◌, arith, append_assoc, append-nil, length-append}
+use Rattle.std.proofs.Common.{◌≡◌, ℕ, ◌+◌, ◌-◌, ◌<◌, ◌≤◌, List, [], ◌∷◌, ◌++◌, length, refl, sym, ap, subst, ◌∙◌, arith, append_assoc, append-nil, length-append}
 use Rattle.std.proofs.lemmas.Bool.{lt-ltb}
 use Rattle.std.specs.List.{AllByRecursion}
 use Rattle.resp_value.specs.Bytes.{crlf}
@@ -11,13 +11,13 @@ use Rattle.resp_value.proofs.Splitting.{line_split}
 use Rattle.resp_value.proofs.Unique.{chunk_line, chunks_text-append}
 use Rattle.resp_follow.specs.Events as e
 use Rattle.resp_follow.specs.Events.{Event, Timed, bytes_from, chunk_events, due, events, last_of, leaf_events}
-use Rattle.resp_follow.proofs.BegunLines.{line_begins, return_split, text_first}
+use Rattle.resp_follow.proofs.BegunLines.{line_begins, text_first}
 use Rattle.resp_follow.proofs.EventsDue.{AreFrom, due-append, due_none}
 use Rattle.resp_follow.proofs.FirstLineRows.{tree_of_chunked}
 use Rattle.resp_follow.proofs.StreamedHeads.{mark_line}
 use Rattle.resp_follow.proofs.StreamedStrings.{chunks_begin, last, with_chunks}
 use Rattle.resp_scan.specs.Kinds.{content_events}
-use Rattle.resp_scan.specs.Begun.{ChunkBegun, ChunkLength, ChunksBegun}
+use Rattle.resp_scan.specs.Begun.{ChunkBegun, ChunksBegun}
 use Rattle.resp_scan.proofs.FramesDue.{from-append}
 use Rattle.resp_scan.proofs.InsideDue.{AreDueWithin, longer_front}
 use Rattle.resp_scan.proofs.LeafEvents.{content_events-append}

@@ -1,5 +1,5 @@
 -- The events due of a counted string: none before its content, and then the content so far.
-use Rattle.std.proofs.Common.{◌≡◌, ℕ, suc, ◌+◌, ◌-◌, ◌<◌, ◌≤◌, List, [], ◌∷◌, ◌++◌, length, refl, sym, ap, subst, ◌∙◌, arith, append_assoc, append-nil, length-append}
+use Rattle.std.proofs.Common.{◌≡◌, ℕ, ◌+◌, ◌-◌, ◌≤◌, List, [], ◌∷◌, ◌++◌, length, refl, sym, ap, subst, ◌∙◌, arith, append_assoc, length-append}
 use Rattle.resp_value.specs.Bytes.{crlf}
 use Rattle.resp_value.specs.Numbers.{IsDigits, number}
 use Rattle.resp_value.specs.Rules.{Rules}
@@ -10,7 +10,6 @@ use Rattle.resp_value.proofs.Splitting.{length_split, line_split}
 use Rattle.resp_follow.specs.Events as e
 use Rattle.resp_follow.specs.Events.{Event, bytes_from, due, events, last_of, leaf_events}
 use Rattle.resp_follow.proofs.BegunLines.{text_first}
-use Rattle.resp_follow.proofs.ContentTokens.{IsContentToken}
 use Rattle.resp_follow.proofs.EventsDue.{AreFrom, due_none}
 use Rattle.resp_follow.proofs.FirstLineRows.{is_string, string_line}
 use Rattle.resp_scan.specs.Kinds.{content_events}

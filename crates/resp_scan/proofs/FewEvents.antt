@@ -1,12 +1,12 @@
 -- A tree has no more events than its text has bytes, and so have the frames of a front.
-use Rattle.std.proofs.Common.{◌≡◌, ℕ, ◌+◌, ◌-◌, ◌≤◌, List, [], ◌∷◌, ◌++◌, length, Bool, true, false, cond, eqb, refl, sym, ap, ◌∙◌, arith, length-append}
+use Rattle.std.proofs.Common.{◌≡◌, ℕ, ◌+◌, ◌-◌, ◌≤◌, List, [], ◌∷◌, ◌++◌, length, Bool, true, false, cond, eqb, refl, ap, arith, length-append}
 use Rattle.resp_value.specs.Bytes.{crlf}
 use Rattle.resp_value.specs.Numbers.{is_negative, sign_text, stripped}
 use Rattle.resp_value.specs.Trees as t
-use Rattle.resp_value.specs.Trees.{Chunk, Tree, Trees, Leaf, StringKind, leaf, node, line, numeral, null, truth, string, chunked, chunks_text, close, form_line, joined, kind_byte, leaf_text, number_byte, payload, string_byte, text, texts}
+use Rattle.resp_value.specs.Trees.{Chunk, Tree, Trees, Leaf, StringKind, leaf, node, line, numeral, null, truth, string, chunked, chunks_text, close, form_line, joined, kind_byte, leaf_text, payload, string_byte, text, texts}
 use Rattle.resp_follow.specs.Frames.{Frame, around}
 use Rattle.resp_follow.specs.Events as e
-use Rattle.resp_follow.specs.Events.{Event, Timed, big_events, close_event, events, events_around, events_each, frame_events, given, last_of, leaf_events}
+use Rattle.resp_follow.specs.Events.{Event, big_events, close_event, events, events_around, events_each, frame_events, given, last_of, leaf_events}
 use Rattle.resp_follow.proofs.EventsAround.{next_member_at}
 use Rattle.resp_follow.proofs.LeastAround.{text_least}
 use Rattle.resp_scan.specs.Kinds.{content_events}

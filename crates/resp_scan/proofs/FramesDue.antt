@@ -1,5 +1,5 @@
 -- The events due of a front: those of its open frames, and of the begun value those at its begun bytes.
-use Rattle.std.proofs.Common.{◌≡◌, ◌⊎◌, inl, inr, ℕ, suc, ◌+◌, ◌-◌, ◌<◌, ◌≤◌, List, [], ◌∷◌, ◌++◌, length, refl, sym, ap, subst, ◌∙◌, arith, append_assoc, append-nil, length-append}
+use Rattle.std.proofs.Common.{◌≡◌, ◌⊎◌, inl, inr, ℕ, ◌+◌, ◌-◌, ◌<◌, ◌≤◌, List, [], ◌∷◌, ◌++◌, length, refl, sym, ap, subst, ◌∙◌, arith, append_assoc, append-nil, length-append}
 use Rattle.resp_value.specs.Bytes.{crlf}
 use Rattle.resp_value.specs.Data.{Kind, members_of}
 use Rattle.resp_value.specs.Data as d
@@ -12,7 +12,7 @@ use Rattle.resp_follow.specs.Frames as opened
 use Rattle.resp_follow.specs.Frames.{around, open_text}
 use Rattle.resp_follow.specs.MayFollow.{AreOpen}
 use Rattle.resp_follow.specs.Events as e
-use Rattle.resp_follow.specs.Events.{Event, Timed, all_events, close_event, due, events, events_around, events_each, frame_events, given, last_of, open_event}
+use Rattle.resp_follow.specs.Events.{Timed, all_events, close_event, due, events, events_around, events_each, frame_events, given, last_of, open_event}
 use Rattle.resp_follow.proofs.Composition.{parted, text-node}
 use Rattle.resp_follow.proofs.EventPlaces.{AreWithin, each_within, within_wider}
 use Rattle.resp_follow.proofs.EventsAround.{events_each-joined, length-around, length-open_text}

@@ -1,20 +1,16 @@
 -- What was given where a place lies: it leaves the frames open, and is no more than the bytes taken.
 use Rattle.std.proofs.Common.{◌≡◌, ℕ, ◌+◌, ◌≤◌, List, [], ◌∷◌, ◌++◌, length, refl, sym, ap, subst, ◌∙◌, arith, append-nil, length-append, suc}
-use Rattle.resp_value.specs.Trees.{text}
 use Rattle.resp_value.specs.Rules.{Rules}
 use Rattle.resp_follow.specs.Events.{Event, events_around, given}
 use Rattle.resp_follow.specs.Frames as opened
 use Rattle.resp_follow.specs.Frames.{around}
-use Rattle.resp_follow.proofs.Levels.{AreLevelsOf, Level}
 use Rattle.resp_follow.proofs.LevelsAlone.{same_length}
 use Rattle.resp_follow.proofs.EventsAround.{length-around}
-use Rattle.resp_scan.specs.declared.event.OpenKind.{OpenKind}
 use Rattle.resp_scan.specs.declared.frame.Frame.{Frame}
-use Rattle.resp_scan.specs.Tokens.{Token, Place, AtStart, AtEnd, AtCloseCr, AtCloseLf}
+use Rattle.resp_scan.specs.Tokens.{Token, AtStart, AtEnd, AtCloseCr, AtCloseLf}
 use Rattle.resp_scan.specs.Kinds.{rules_of}
 use Rattle.resp_scan.specs.Begun as b
-use Rattle.resp_scan.specs.Given.{opens, closes}
-use Rattle.resp_scan.specs.Follows.{Between, Closing, ClosingIn, Ended, Inside, Lies, LiesAt, Whole, busy_levels, waiting_levels}
+use Rattle.resp_scan.specs.Follows.{Between, Closing, ClosingIn, Ended, Inside, LiesAt, busy_levels, waiting_levels}
 use Rattle.resp_scan.specs.Laws.{OpensAreFrames, EventsAreFew}
 use Rattle.resp_scan.proofs.FewEvents.{frames_few, tree_few}
 use Rattle.resp_scan.proofs.Moves.{at_level, length-busy}

@@ -10,7 +10,7 @@ use Rattle.resp_value.proofs.Unique.{unique}
 use Rattle.resp_follow.specs.Events as e
 use Rattle.resp_follow.specs.Events.{Event, TextKind, big_events, due, events, given, last_of, leaf_events, text_events}
 use Rattle.resp_follow.proofs.BegunLines.{line_begins, return_split, text_first, tree_of_line}
-use Rattle.resp_follow.proofs.LineTokens.{IsReturned, IsTextToken, no_break_in_line, returned_whole, text_token_line}
+use Rattle.resp_follow.proofs.LineTokens.{IsReturned, no_break_in_line, returned_whole, text_token_line}
 use Rattle.resp_follow.proofs.TextLines.{IsTextLine}
 use Rattle.resp_scan.specs.Kinds.{content_events}
 use Rattle.resp_scan.specs.Begun.{LineBegun, TextReturned, line_text}

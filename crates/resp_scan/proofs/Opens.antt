@@ -1,15 +1,15 @@
 -- Each open aggregate has its close among the events of a tree, and those of the open frames have none yet.
-use Rattle.std.proofs.Common.{◌≡◌, ℕ, ◌+◌, ◌-◌, List, [], ◌∷◌, ◌++◌, length, Bool, refl, sym, ap, subst, ◌∙◌, arith}
+use Rattle.std.proofs.Common.{◌≡◌, ℕ, ◌+◌, ◌-◌, List, [], ◌∷◌, ◌++◌, length, Bool, refl, sym, ap, subst, arith}
 use Rattle.resp_value.specs.Numbers.{is_negative, stripped}
 use Rattle.resp_value.specs.Trees as t
 use Rattle.resp_value.specs.Trees.{Tree, Trees, Leaf, leaf, node, line, numeral, null, truth, string, chunked, form_line, leaf_text, text}
 use Rattle.resp_follow.specs.Frames.{Frame, around}
 use Rattle.resp_follow.specs.Events as e
-use Rattle.resp_follow.specs.Events.{Event, Timed, TextKind, big_events, close_event, events, events_around, events_each, frame_events, given, last_of, leaf_events, open_event, text_events}
+use Rattle.resp_follow.specs.Events.{Event, TextKind, big_events, close_event, events, events_around, events_each, frame_events, given, last_of, leaf_events}
 use Rattle.resp_scan.specs.Begun.{string_text}
-use Rattle.resp_scan.specs.Given.{open_in, close_in, opens, closes}
+use Rattle.resp_scan.specs.Given.{opens, closes}
 use Rattle.resp_scan.specs.Kinds.{content_events}
-use Rattle.resp_scan.proofs.LeafEvents.{given-big, given-chunked, given-line, given-string, given-text}
+use Rattle.resp_scan.proofs.LeafEvents.{given-big, given-chunked, given-line, given-string}
 use Rattle.resp_scan.proofs.Moves.{given-append}
 
 -- so many more open than close

@@ -1,8 +1,8 @@
 -- The events due where no value is begun: between values, within a close, and where a value has ended.
-use Rattle.std.specs.Prelude.{Bool, false, cond, eqb}
+use Rattle.std.specs.Prelude.{false, cond, eqb}
 use Rattle.std.proofs.lemmas.Bool.Decides.{nat_tests}
 use Rattle.std.proofs.lemmas.Bool.{lt-ltb}
-use Rattle.std.proofs.Common.{◌≡◌, ◌⊎◌, inl, inr, ℕ, zero, suc, ◌+◌, ◌-◌, ◌<◌, ◌≤◌, List, [], ◌∷◌, ◌++◌, length, refl, sym, ap, subst, ◌∙◌, arith, append_assoc, append-nil, length-append}
+use Rattle.std.proofs.Common.{◌≡◌, ◌⊎◌, inl, inr, ℕ, zero, suc, ◌+◌, ◌-◌, ◌<◌, List, [], ◌∷◌, ◌++◌, length, refl, sym, ap, subst, ◌∙◌, arith, append_assoc, append-nil}
 use Rattle.resp_value.specs.Rules.{Rules, WithinItems}
 use Rattle.resp_value.specs.LocalRules.{LeafKeeps, NodeKeeps}
 use Rattle.resp_value.specs.Trees.{Tree, Form, Counted, Streamed, IsTree, close, count, text}
@@ -16,13 +16,12 @@ use Rattle.resp_follow.proofs.EventPlaces.{events_within, within_wider}
 use Rattle.resp_follow.proofs.EventsDue.{AreFrom, due-append, due_all, due_none}
 use Rattle.resp_follow.proofs.LeastAround.{text_least}
 use Rattle.resp_follow.proofs.Levels.{AreLevelsOf, AreReady, Level, taken}
-use Rattle.resp_scan.specs.declared.event.OpenKind.{OpenKind}
 use Rattle.resp_scan.specs.declared.frame.Frame.{Frame}
 use Rattle.resp_scan.specs.declared.frame.Shape.{Shape}
 use Rattle.resp_scan.specs.declared.frame.Shape.TheVariants.{Left, Begun}
-use Rattle.resp_scan.specs.Tokens.{Token, Place, AtStart, AtEnd, AtTextEnd, at, ended, within, within_shape}
+use Rattle.resp_scan.specs.Tokens.{Place, AtStart, AtEnd, AtTextEnd, at, within, within_shape}
 use Rattle.resp_scan.specs.Kinds.{rules_of}
-use Rattle.resp_scan.specs.Follows.{Between, Closing, ClosingIn, Ended, Lies, LiesAt, Whole, busy_levels, waiting_levels}
+use Rattle.resp_scan.specs.Follows.{Between, ClosingIn, LiesAt, busy_levels, waiting_levels}
 use Rattle.resp_scan.specs.Given.{ended_owed, shape_owed}
 use Rattle.resp_scan.specs.Sound.{IsClosed}
 use Rattle.resp_scan.proofs.ClosesLead.{close_is_owed}

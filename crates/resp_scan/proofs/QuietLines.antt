@@ -1,14 +1,13 @@
 -- Where a value doesn't begin as a text or a big number, no event comes before the end of its first line.
-use Rattle.std.proofs.Common.{◌≡◌, ℕ, suc, ◌+◌, ◌-◌, ◌<◌, ◌≤◌, List, [], ◌∷◌, ◌++◌, length, refl, sym, ap, subst, ◌∙◌, arith, append_assoc, append-nil, length-append}
+use Rattle.std.proofs.Common.{◌≡◌, ℕ, suc, ◌+◌, ◌-◌, List, [], ◌∷◌, ◌++◌, length, refl, sym, ap, subst, ◌∙◌, arith, append_assoc, append-nil, length-append}
 use Rattle.resp_value.specs.Bytes.{IsLine, crlf}
-use Rattle.resp_value.specs.Data.{Kind}
 use Rattle.resp_value.specs.Trees as t
-use Rattle.resp_value.specs.Trees.{Tree, Leaf, IsTree, leaf, node, line, numeral, null, truth, string, chunked, chunks_text, close, form_line, kind_byte, leaf_line, leaf_rest, leaf_text, payload, string_byte, text, texts}
+use Rattle.resp_value.specs.Trees.{Tree, Leaf, leaf, node, line, numeral, null, truth, string, chunked, close, form_line, kind_byte, leaf_line, leaf_text, text, texts}
 use Rattle.resp_value.specs.Rules.{Rules}
 use Rattle.resp_value.proofs.FirstBytes.{leaf_begins, first_byte, first_byte_is, leaf_byte}
 use Rattle.resp_value.proofs.FirstLines.{after_line, first_is_line, first_line}
 use Rattle.resp_follow.specs.Events as e
-use Rattle.resp_follow.specs.Events.{Event, TextKind, Timed, chunk_events, due, events, events_each, last_of, leaf_events, text_events}
+use Rattle.resp_follow.specs.Events.{Event, chunk_events, events, events_each, last_of, leaf_events}
 use Rattle.resp_follow.proofs.BegunLines.{line_begins, return_split, text_first}
 use Rattle.resp_follow.proofs.EventPlaces.{each_within}
 use Rattle.resp_follow.proofs.EventsDue.{AreFrom, due_none}

@@ -1,11 +1,11 @@
 -- Tokens of which no event has come: their first line hasn't ended, and it is none of a text or a big number.
-use Rattle.std.proofs.Common.{◌≡◌, ◌⊎◌, inl, inr, ℕ, ◌<◌, Bool, List, [], ◌∷◌, ◌++◌, refl, sym, ap, subst, ◌∙◌, arith, append-nil}
+use Rattle.std.proofs.Common.{◌≡◌, inl, inr, ℕ, ◌<◌, Bool, List, [], ◌∷◌, ◌++◌, refl, ap, ◌∙◌, arith, append-nil}
 use Rattle.resp_value.specs.Bytes.{IsLine}
 use Rattle.resp_value.specs.Data.{Kind}
 use Rattle.resp_value.specs.Data as d
-use Rattle.resp_value.specs.Numbers.{Sign, Unsigned, sign_text}
+use Rattle.resp_value.specs.Numbers.{Sign, sign_text}
 use Rattle.resp_value.specs.Trees as t
-use Rattle.resp_value.specs.Trees.{NullForm, StringKind, kind_byte, null, numeral, string_byte, truth}
+use Rattle.resp_value.specs.Trees.{NullForm, StringKind, kind_byte, null, numeral, string_byte}
 use Rattle.resp_value.specs.Rules.{Rules}
 use Rattle.resp_value.proofs.FirstBytes.{leaf_byte}
 use Rattle.resp_value.proofs.Splitting.{plain_above}

@@ -1,9 +1,8 @@
 -- The events shown of a token: none opens or closes an aggregate, and there are no more than the token has bytes.
-use Rattle.std.proofs.Common.{◌≡◌, ℕ, ◌+◌, ◌-◌, ◌≤◌, List, [], ◌∷◌, ◌++◌, length, Bool, refl, sym, ap, subst, ◌∙◌, arith, length-append}
+use Rattle.std.proofs.Common.{◌≡◌, ℕ, ◌+◌, ◌-◌, ◌≤◌, List, [], ◌∷◌, ◌++◌, length, Bool, refl, sym, ap, subst, arith, length-append}
 use Rattle.resp_value.specs.Bytes.{crlf}
-use Rattle.resp_value.specs.Numbers.{number, sign_text, stripped}
-use Rattle.resp_value.specs.Trees as t
-use Rattle.resp_value.specs.Trees.{Leaf, chunks_text, joined, leaf_text, payload, string_byte}
+use Rattle.resp_value.specs.Numbers.{number, sign_text}
+use Rattle.resp_value.specs.Trees.{Leaf, joined, leaf_text, payload, string_byte}
 use Rattle.resp_value.specs.Rules.{Rules}
 use Rattle.resp_follow.specs.Events as e
 use Rattle.resp_follow.specs.Events.{Event, given, leaf_events}

@@ -1,9 +1,9 @@
 -- The events due of a text: that it begins, and of its content the bytes that have come.
-use Rattle.std.proofs.Common.{◌≡◌, ℕ, suc, ◌+◌, ◌-◌, ◌<◌, ◌≤◌, List, [], ◌∷◌, ◌++◌, length, refl, sym, ap, subst, ◌∙◌, arith}
+use Rattle.std.proofs.Common.{◌≡◌, ℕ, suc, ◌+◌, ◌-◌, ◌<◌, ◌≤◌, List, [], ◌∷◌, ◌++◌, length, sym, ap, subst, ◌∙◌, arith}
 use Rattle.std.proofs.lemmas.Bool.{lt-ltb}
 use Rattle.resp_value.specs.Trees.{Chunk}
 use Rattle.resp_follow.specs.Events as e
-use Rattle.resp_follow.specs.Events.{Event, TextKind, Timed, bytes_from, chunk_events, due, text_events}
+use Rattle.resp_follow.specs.Events.{TextKind, Timed, bytes_from, chunk_events, due, text_events}
 use Rattle.resp_follow.proofs.EventsDue.{AreFrom, due_none}
 use Rattle.resp_scan.specs.Kinds.{content_events}
 use Rattle.resp_scan.proofs.FramesDue.{from-append}
