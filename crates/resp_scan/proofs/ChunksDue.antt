@@ -106,6 +106,7 @@ has_line (c ∷ cs) zeros = record {
 abbrev pub IsInLine : List ℕ → Type 0
 IsInLine begun = (digits after behind : List ℕ) → (59 ∷ digits) ++ crlf after ≡ begun ++ behind → length begun ≤ length digits + 2
 
+-- whole chunks, and bytes of the next line
 pub chunks_due : (r : Rules) (room : ℕ) (begun : List ℕ) (level : ℕ) (bytes : List ℕ) (shown : List Event) → IsInLine begun → ChunksBegun r room begun level bytes shown → AreDueWithin bytes shown
 chunks_due r room begun level bytes shown in_line w from value behind is_tree whole =
     let v = stream_of w.chunks begun behind value w.are_chunks is_tree (whole ∙ ap (λ z. z ++ behind) w.are) in
@@ -121,10 +122,11 @@ chunks_due r room begun level bytes shown in_line w from value behind is_tree wh
     ∙ append-nil (e.Text e.Bulk ∷ content_events (joined w.chunks))
     ∙ sym w.told
 
--- behind whole chunks, and at a chunk's type byte
+-- no byte
 pub none_in_line : IsInLine []
 none_in_line digits after behind same = omega arith
 
+-- a chunk's type byte
 pub mark_in_line : IsInLine (59 ∷ [])
 mark_in_line digits after behind same = omega arith
 
@@ -180,6 +182,7 @@ short_behind : (size : ℕ) (behind : List ℕ) → IsBehind size behind → len
 short_behind size [] p = omega arith
 short_behind size (c ∷ cs) p = omega (arith, p.1)
 
+-- whole chunks, and the content so far of the next
 pub chunk_due : (r : Rules) (room n : ℕ) (after : List ℕ) (level : ℕ) (bytes : List ℕ) (shown : List Event) → IsBehind n after → ChunkBegun r room n after level bytes shown → AreDueWithin bytes shown
 chunk_due r room n after level bytes shown short w from value behind is_tree whole =
     let c = w.chunks in

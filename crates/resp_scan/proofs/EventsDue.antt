@@ -114,5 +114,6 @@ due_at s (AtBigDigit digit room) used front es c no_sign w =
     inside_token s (InBig room) used front (es ++ e.Byte digit ∷ []) d (λ i. cc, λ x y i. cc) (λ i. absurd (cc)) (big_digit_is_owed s digit room front es w)
 due_at s token used front es c no_sign w = no_more front es (inside_token s token used front es c (λ i. cc, λ x y i. cc) no_sign w)
 
+-- at every place
 pub events_are_due : EventsAreDue
 events_are_due s used front es c w no_sign rest whole spells = due_at s s.token used front es c no_sign w rest whole spells.is_tree spells.spelled

@@ -33,10 +33,12 @@ pub from_later : (low n : ℕ) (es : List Timed) → n ≤ low → AreFrom low e
 from_later low n [] l p = tt
 from_later low n (x ∷ es) l p = (omega (arith, p.0), from_later low n es l p.1)
 
+-- from where they come
 pub from_within : (low high : ℕ) (es : List Timed) → AreWithin low high es → AreFrom low es
 from_within low high [] p = tt
 from_within low high (x ∷ es) p = (p.0.0, from_within low high es p.1)
 
+-- one list behind another
 pub from-append : (n : ℕ) (a b : List Timed) → AreFrom n a → AreFrom n b → AreFrom n (a ++ b)
 from-append n [] b p q = q
 from-append n (x ∷ a) b p q = (p.0, from-append n a b p.1 q)

@@ -60,8 +60,10 @@ are_given r AtCloseCr fs front es w = closing_in_given r fs (46 ∷ []) (13 ∷ 
 are_given r AtCloseLf fs front es w = closing_in_given r fs (46 ∷ 13 ∷ []) (10 ∷ []) front es w
 are_given r token fs front es w = inside_given r token fs front es w
 
+-- the opens without a close are the frames'
 pub opens_are_frames : OpensAreFrames
 opens_are_frames s front es w = (are_given (rules_of s) s.token s.frames front es w).0
 
+-- and there are no more events than bytes
 pub events_are_few : EventsAreFew
 events_are_few s front es w = (are_given (rules_of s) s.token s.frames front es w).1

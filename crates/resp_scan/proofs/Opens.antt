@@ -16,10 +16,12 @@ use Rattle.resp_scan.proofs.Moves.{given-append}
 abbrev pub LeaveOpen : ℕ → List Event → Type 0
 LeaveOpen n es = opens es ≡ n + closes es
 
+-- the opens of one list behind another
 pub opens-append : (a b : List Event) → opens (a ++ b) ≡ opens a + opens b
 opens-append [] b = omega arith
 opens-append (x ∷ a) b = omega (arith, opens-append a b)
 
+-- and the closes
 pub closes-append : (a b : List Event) → closes (a ++ b) ≡ closes a + closes b
 closes-append [] b = omega arith
 closes-append (x ∷ a) b = omega (arith, closes-append a b)

@@ -2,7 +2,7 @@
 use Rattle.std.specs.Prelude.{false, cond, eqb}
 use Rattle.std.proofs.lemmas.Bool.Decides.{nat_tests}
 use Rattle.std.proofs.lemmas.Bool.{lt-ltb}
-use Rattle.std.proofs.Common.{◌≡◌, ◌⊎◌, inl, inr, ℕ, zero, suc, ◌+◌, ◌-◌, ◌<◌, List, [], ◌∷◌, ◌++◌, length, refl, sym, ap, subst, ◌∙◌, arith, append_assoc, append-nil}
+use Rattle.std.proofs.Common.{◌≡◌, inl, inr, ℕ, zero, suc, ◌+◌, ◌-◌, ◌<◌, List, [], ◌∷◌, ◌++◌, length, refl, sym, ap, subst, ◌∙◌, arith, append_assoc, append-nil}
 use Rattle.resp_value.specs.Rules.{Rules, WithinItems}
 use Rattle.resp_value.specs.LocalRules.{LeafKeeps, NodeKeeps}
 use Rattle.resp_value.specs.Trees.{Tree, Form, Counted, Streamed, IsTree, close, count, text}
@@ -26,7 +26,7 @@ use Rattle.resp_scan.specs.Given.{ended_owed, shape_owed}
 use Rattle.resp_scan.specs.Sound.{IsClosed}
 use Rattle.resp_scan.proofs.ClosesLead.{close_is_owed}
 use Rattle.resp_scan.proofs.BigNumbersLead.{text_end_is_owed}
-use Rattle.resp_scan.proofs.FramesDue.{frames_due}
+use Rattle.resp_scan.proofs.FramesDue.{IsStop, frames_due}
 
 -- in every tree that the front begins these are the events due by then
 abbrev pub AreDue : List ℕ → List Event → Type 0
@@ -38,7 +38,7 @@ from_first [] = tt
 from_first (x ∷ es) = (omega arith, from_first es)
 
 -- a front is what frames have taken, and perhaps the begin of a close
-taken_due : (g : opened.Frame) (gs : List opened.Frame) (last front : List ℕ) (es : List Event) (vs : List Level) (r : Rules) → AreLevelsOf vs (g ∷ gs) → AreReady (LeafKeeps r WithinItems) (NodeKeeps r WithinItems) (g ∷ gs) → length last < 3 → (last ≡ []) ⊎ ((x : List ℕ) × (last ≡ 46 ∷ x)) → front ≡ around (g ∷ gs) last → es ≡ given (events_around (g ∷ gs)) → AreDue front es
+taken_due : (g : opened.Frame) (gs : List opened.Frame) (last front : List ℕ) (es : List Event) (vs : List Level) (r : Rules) → AreLevelsOf vs (g ∷ gs) → AreReady (LeafKeeps r WithinItems) (NodeKeeps r WithinItems) (g ∷ gs) → length last < 3 → IsStop last → front ≡ around (g ∷ gs) last → es ≡ given (events_around (g ∷ gs)) → AreDue front es
 taken_due g gs last front es vs r a o short stop e told rest whole is_tree spelled =
     ap (λ z. due (length z) (all_events whole)) e
     ∙ frames_due g gs last rest whole (ready_open (LeafKeeps r WithinItems) (NodeKeeps r WithinItems) vs (g ∷ gs) a o) short stop is_tree (spelled ∙ ap (λ z. z ++ rest) e)

@@ -72,12 +72,14 @@ quiet_returned bytes shown head tail are told q is_line from value behind is_tre
 
 -- Leaves that are one line.
 
+-- such a line, whole
 pub line_of_quiet : (r : Rules) (l : Leaf) (level : ℕ) (bytes : List ℕ) (shown : List Event) → IsLineOf r l level bytes → shown ≡ [] → IsQuiet (leaf_byte l) → AreDueWithin bytes shown
 line_of_quiet r l level bytes shown w told q =
     let (cs, begins) = leaf_begins l in
     let are : bytes ≡ leaf_byte l ∷ cs = w.is_line ∙ begins in
     quiet_line bytes shown (leaf_byte l) cs are told q (subst IsLine are (no_break_in_line r l level bytes w))
 
+-- and with its CR
 pub returned_quiet : (r : Rules) (l : Leaf) (level : ℕ) (bytes : List ℕ) (shown : List Event) → IsReturned r l level bytes → shown ≡ [] → IsQuiet (leaf_byte l) → AreDueWithin bytes shown
 returned_quiet r l level bytes shown w told q =
     let (cs, begins) = leaf_begins l in

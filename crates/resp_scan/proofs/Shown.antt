@@ -16,6 +16,7 @@ use Rattle.resp_scan.specs.Given.{opens, closes}
 use Rattle.resp_scan.proofs.FewEvents.{content_in_chunks, content_in_payload, leaf_few, length-content, length-stripped}
 use Rattle.resp_scan.proofs.Opens.{LeaveOpen, closes-append, content_opens, leaf_opens, open-append, opens-append}
 
+-- as many opens as closes, and no more events than bytes
 pub record IsShown (bytes : List ℕ) (shown : List Event) : Type 0 where
   pub none_open : LeaveOpen 0 shown
   pub few : length shown ≤ length bytes

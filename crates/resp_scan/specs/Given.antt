@@ -9,6 +9,7 @@ use Rattle.resp_scan.specs.Tokens.{Token, Place, AtEnd, AtBigDigit, AtTextEnd}
 
 -- Counts.
 
+-- 1 for an open
 abbrev pub open_in : Event → ℕ
 open_in e.Null = 0
 open_in (e.Bool b) = 0
@@ -20,6 +21,7 @@ open_in (e.Open k n) = 1
 open_in e.Close = 0
 open_in e.Done = 0
 
+-- 1 for a close
 abbrev pub close_in : Event → ℕ
 close_in e.Null = 0
 close_in (e.Bool b) = 0
@@ -53,6 +55,7 @@ abbrev pub ended_owed : List Frame → List Event
 ended_owed [] = e.Done ∷ []
 ended_owed (f ∷ fs) = shape_owed f.shape (ended_owed fs)
 
+-- at a token within these frames
 abbrev pub owed_at : Token → List Frame → List Event
 owed_at AtEnd fs = ended_owed fs
 owed_at AtTextEnd fs = e.TextEnd ∷ ended_owed fs

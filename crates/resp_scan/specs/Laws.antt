@@ -237,6 +237,7 @@ OpensAreFrames = (s : Place) (front : List ℕ) (es : List Event) → Lies s fro
 abbrev pub EventsAreFew : Type 0
 EventsAreFew = (s : Place) (front : List ℕ) (es : List Event) → Lies s front es → length es ≤ length front
 
--- of every tree that the front begins the events due by then are those given, and those owed
+-- of every tree that the front begins the events due by then are those given, and those owed; behind a line's CR
+-- the last one given isn't that a big number begins, since that of a big zero begins at the LF
 abbrev pub EventsAreDue : Type 0
 EventsAreDue = (s : Place) (used : ℕ) (front : List ℕ) (es : List Event) → IsSoundBy used s → Lies s front es → (s.token ≡ AtLineLf → EndsWithNoSign es) → (rest : List ℕ) (whole : Tree) → Spells whole (front ++ rest) → due (length front) (all_events whole) ≡ es ++ owed s
