@@ -1,8 +1,8 @@
 -- What a byte makes of what has come, token by token.
-use Rattle.std.specs.Prelude.{◌≡◌, ℕ, ◌+◌, ◌<◌, Bool, List, [], ◌∷◌, ◌++◌, length}
+use Rattle.std.specs.Prelude.{◌≡◌, ℕ, ◌+◌, ◌<◌, ◌≤◌, Bool, List, [], ◌∷◌, ◌++◌, length}
 use Rattle.resp_value.specs.Rules.{WithinTotal}
 use Rattle.resp_value.specs.Spellings.{IsViable}
-use Rattle.resp_follow.specs.Events.{Event, Byte, TextEnd, Close}
+use Rattle.resp_follow.specs.Events.{Event, Byte, TextEnd, Close, all_events, due}
 use Rattle.resp_follow.specs.LeastCompletions.{IsLeast}
 use Rattle.resp_follow.proofs.BegunFronts.{IsBegunBy}
 use Rattle.resp_scan.specs.Tokens.{Place, InLine, AtLineLf, AtIntSign, AtIntFirst, InInt, AtIntLf, AtBigSign, AtBigFirst, InBigZeros, AtBigZeroLf, AtBigDigit, InBig, AtTextEnd, at, ended, AtBool, AtBoolCr, AtBoolLf, AtNullCr, AtNullLf, AtNullOne, AtHeadLf, AtCloseCr, AtCloseLf, AtEnd, InHead, AtArrayHead, AtHead, AtOpenCr, AtOpenLf, AtStart, AtBulkHead, AtChunk, AtChunkCr, AtChunkLf, AtContentCr, AtContentLf, AtFormat, AtFormatColon, AtFormatSecond, AtFormatThird, AtStreamCr, AtStreamLf, InChunk, InContent}
@@ -16,6 +16,8 @@ use Rattle.resp_scan.specs.Kinds.{rules_of}
 use Rattle.resp_scan.specs.Begun.{Begun}
 use Rattle.resp_scan.specs.Sound.{IsSoundBy, needed, token_needed}
 use Rattle.resp_scan.specs.Follows.{Lies, Leads, Counts}
+use Rattle.resp_value.specs.Trees.{Tree, Spells}
+use Rattle.resp_scan.specs.Given.{opens, closes, owed, EndsWithNoSign}
 
 -- the place that a byte leads to lies at the longer front, and a byte that is refused has its cause
 abbrev pub ALead : Place → Type 0
@@ -226,3 +228,16 @@ LeastIsNeeded = (s : Place) (used : ℕ) (front : List ℕ) (es : List Event) �
 -- and total has room for that, so that the front begins a spelling within every rule
 abbrev pub FollowedIsViable : Type 0
 FollowedIsViable = (s : Place) (used : ℕ) (front : List ℕ) (es : List Event) → IsSoundBy used s → length front ≡ s.taken + used → Lies s front es → IsViable (rules_of s) WithinTotal front
+
+-- in what was given, each aggregate that opened has closed but for the frames
+abbrev pub OpensAreFrames : Type 0
+OpensAreFrames = (s : Place) (front : List ℕ) (es : List Event) → Lies s front es → opens es ≡ length s.frames + closes es
+
+-- a byte comes with one event at most, on the whole
+abbrev pub EventsAreFew : Type 0
+EventsAreFew = (s : Place) (front : List ℕ) (es : List Event) → Lies s front es → length es ≤ length front
+
+-- of every tree that the front begins the events due by then are those given, and those owed; behind a line's CR
+-- the last one given isn't that a big number begins, since that of a big zero begins at the LF
+abbrev pub EventsAreDue : Type 0
+EventsAreDue = (s : Place) (used : ℕ) (front : List ℕ) (es : List Event) → IsSoundBy used s → Lies s front es → (s.token ≡ AtLineLf → EndsWithNoSign es) → (rest : List ℕ) (whole : Tree) → Spells whole (front ++ rest) → due (length front) (all_events whole) ≡ es ++ owed s

@@ -16,3 +16,4 @@ pub mod Begun
 pub mod Follows
 pub mod Steps
 pub mod Laws
+pub mod Given
