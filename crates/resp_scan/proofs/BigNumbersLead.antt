@@ -286,6 +286,7 @@ shown_returns r room level bytes shown w =
       leaf = l;
       returned = record { begun = bytes; line_of = number_token_line r Big t.sign ds level bytes t.token; returned = refl };
       told = ap (λ x. given (big_events x (stripped ds) last)) (positive_is t.sign w.negative ds t.is_signed (λ n. omega (arith, ap length (t.zero n)))) ∙ ap (λ x. given (big_events w.negative x last)) t.left ∙ given-big w.negative w.digit w.digits last ∙ ap (λ z. z ++ e.TextEnd ∷ []) (sym w.told);
+      begun = λ negative same. (let one : e.Text (e.Big w.negative) ∷ content_events (w.digit ∷ w.digits) ≡ e.Text (e.Big negative) ∷ [] = sym w.told ∙ same in cc);
     }
 
 big_byte_leads : (s : Place) (room used byte : ℕ) (front : List ℕ) (es : List Event) → IsDigit byte → Counts (at s (InBig room)) used front → Lies (at s (InBig room)) front es → Leads (at s (InBig room)) front es byte (content_byte (at s (InBig room)) (used + 1) room InBig)

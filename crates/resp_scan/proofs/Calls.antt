@@ -27,13 +27,15 @@ use Rattle.resp_scan.specs.Tokens.{Token, Place, at, AtStart, AtEnd, InLine, AtL
 use Rattle.resp_scan.specs.Kinds.{rules_of}
 use Rattle.resp_scan.specs.Begun as b
 use Rattle.resp_scan.specs.Begun.{TextWhole}
+use Rattle.resp_scan.specs.Given.{owed}
 use Rattle.resp_scan.specs.End.{end_cause, end_cause_in}
 use Rattle.resp_scan.specs.Follows.{Between, ClosingIn, Ended, Inside, Lies, LiesAt, waiting_levels}
 use Rattle.resp_scan.specs.Sound.{IsSound, needed, token_needed}
-use Rattle.resp_scan.specs.Steps.{Follows, IsFaulted, IsSpelled, MayEnd}
+use Rattle.resp_scan.specs.Steps.{BeginDue, Follows, IsFaulted, IsSpelled, MayEnd}
 use Rattle.resp_scan.specs.Scan as scan
 use Rattle.resp_scan.specs.Scan.{Out, More, Gave, Part, Bad, advanced}
 use Rattle.resp_scan.specs.Heard.{heard, heard_event, heard_part, stepped}
+use Rattle.resp_scan.proofs.EventsDue.{events_are_due}
 use Rattle.resp_scan.proofs.Fronts.{none-of-length}
 use Rattle.resp_scan.proofs.Kept.{IsOut, is_advanced}
 use Rattle.resp_scan.proofs.LeastNeeded.{least_is_needed}
@@ -328,3 +330,7 @@ changed (Ok x) s t version front es sound between is w =
     let none : s.taken ≡ 0 = w.taken ∙ ap length ((between_values s front es sound w).0 h) in
     subst (λ z. Follows z [] []) (sym is) (follows_none (record s { version = version }) h.0 h.1 none)
 changed (Err x) s t version front es sound between is w = tt
+
+-- the events given are the first of those due
+pub begin_due : (s : Place) (front : List ℕ) (es : List e.Event) → IsSound s → Follows s front es → BeginDue front es
+begin_due s front es sound w rest whole spells = (owed s, events_are_due s 0 front es sound w.lies rest whole spells)

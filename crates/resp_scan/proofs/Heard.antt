@@ -24,11 +24,12 @@ pub record RefusedAt (r : Rules) (front : List ℕ) (es : List Event) (byte used
   pub sound : IsSoundBy used before
   pub taken : length front ≡ before.taken + used
   pub lies : Lies before front es
+  pub looked : IsLookedAt before.token used
   pub cause : IsRefusedFor r (front ++ byte ∷ []) c
 
 -- what came of a piece of which so many bytes are used before these, by an answer
 abbrev pub Came : Rules → ℕ → List ℕ → List Event → List ℕ → Out → Type 0
-Came r i front es p (More n t) = (n ≡ i + length p) × (0 < n → is_outside t.token ≡ false) × Lies t (front ++ p) es
+Came r i front es p (More n t) = (n ≡ i + length p) × IsLookedAt t.token n × Lies t (front ++ p) es
 Came r i front es p (Gave n happening t) = (i < n) × (n ≤ i + length p) × Lies t (front ++ take (n - i) p) (es ++ event_of happening ∷ [])
 Came r i front es p (Part k n t) = (i ≤ k) × (k < n) × (n ≤ i + length p) × Lies t (front ++ take (n - i) p) (es ++ content_events (drop (k - i) (take (n - i) p)))
 Came r i front es p (Whole t) = ⊥
@@ -116,24 +117,21 @@ came_run r i front es b bs out h =
     let m : out.0 ≤ i + length (b ∷ bs) = w.1 in
     (omega arith, omega (arith, l), m, subst (λ x. Lies out.1 (front ++ take (out.0 - i) (b ∷ bs)) (es ++ content_events x)) (sym (ap (λ n. drop n (take (out.0 - i) (b ∷ bs))) z)) w.2)
 
-came_move : (v : Move) (r : Rules) (i : ℕ) (s : Place) (front : List ℕ) (es : List Event) (b : ℕ) (bs : List ℕ) → rules_of s ≡ r → Counts s i front → Lies s front es → IsMove (i + 1) s v → Leads s front es b v → ((t : Place) → rules_of t ≡ r → Counts t (i + 1) (front ++ b ∷ []) → is_outside t.token ≡ false → Lies t (front ++ b ∷ []) es → Came r (i + 1) (front ++ b ∷ []) es bs (scan (i + 1) t bs)) → ((t : Place) → Counts t (i + 1) (front ++ b ∷ []) → is_outside t.token ≡ false → Lies t (front ++ b ∷ []) (es ++ e.Byte b ∷ []) → Ran (i + 1) (front ++ b ∷ []) (es ++ e.Byte b ∷ []) bs (content (i + 1) t bs)) → Came r i front es (b ∷ bs) (answer v i s (λ t. scan (i + 1) t bs) (λ t. content (i + 1) t bs))
-came_move (Go t) r i s front es b bs q c w m l f g = came_later r i front es b bs (scan (i + 1) t bs) (f t (m.rules ∙ q) (counts_more i s t front b c m.taken m.sound) m.inside l)
-came_move (Byte t) r i s front es b bs q c w m l f g = came_run r i front es b bs (content (i + 1) t bs) (g t (counts_more i s t front b c m.taken m.sound) m.inside l)
-came_move (Give x t) r i s front es b bs q c w m l f g =
+came_move : (v : Move) (r : Rules) (i : ℕ) (s : Place) (front : List ℕ) (es : List Event) (b : ℕ) (bs : List ℕ) → rules_of s ≡ r → Counts s i front → Lies s front es → IsLookedAt s.token i → IsMove (i + 1) s v → Leads s front es b v → ((t : Place) → rules_of t ≡ r → Counts t (i + 1) (front ++ b ∷ []) → is_outside t.token ≡ false → Lies t (front ++ b ∷ []) es → Came r (i + 1) (front ++ b ∷ []) es bs (scan (i + 1) t bs)) → ((t : Place) → Counts t (i + 1) (front ++ b ∷ []) → is_outside t.token ≡ false → Lies t (front ++ b ∷ []) (es ++ e.Byte b ∷ []) → Ran (i + 1) (front ++ b ∷ []) (es ++ e.Byte b ∷ []) bs (content (i + 1) t bs)) → Came r i front es (b ∷ bs) (answer v i s (λ t. scan (i + 1) t bs) (λ t. content (i + 1) t bs))
+came_move (Go t) r i s front es b bs q c w at_front m l f g = came_later r i front es b bs (scan (i + 1) t bs) (f t (m.rules ∙ q) (counts_more i s t front b c m.taken m.sound) m.inside l)
+came_move (Byte t) r i s front es b bs q c w at_front m l f g = came_run r i front es b bs (content (i + 1) t bs) (g t (counts_more i s t front b c m.taken m.sound) m.inside l)
+came_move (Give x t) r i s front es b bs q c w at_front m l f g =
     let one : i + 1 - i ≡ suc 0 = omega arith in
     let t1 : b ∷ [] ≡ take (i + 1 - i) (b ∷ bs) = sym (ap (λ n. take n (b ∷ bs)) one ∙ ap (λ z. b ∷ z) (take-none bs)) in
     (omega arith, omega arith, subst (λ z. Lies t (front ++ z) (es ++ event_of x ∷ [])) t1 l)
-came_move (Refuse x) r i s front es b bs q c w m l f g =
+came_move (Refuse x) r i s front es b bs q c w at_front m l f g =
     let none : i - i ≡ 0 = omega arith in
     let t0 : take (i - i) (b ∷ bs) ≡ [] = ap (λ n. take n (b ∷ bs)) none in
-    (omega arith, omega arith, b, bs, ap (λ z. z ++ b ∷ bs) (sym t0), subst (λ z. RefusedAt r (front ++ z) es b i x) (sym t0) (subst (λ z. RefusedAt r z es b i x) (sym (append-nil front)) (record { before = s; rules = q; sound = c.sound; taken = c.taken; lies = w; cause = subst (λ z. IsRefusedFor z (front ++ b ∷ []) x) q l })))
+    (omega arith, omega arith, b, bs, ap (λ z. z ++ b ∷ bs) (sym t0), subst (λ z. RefusedAt r (front ++ z) es b i x) (sym t0) (subst (λ z. RefusedAt r z es b i x) (sym (append-nil front)) (record { before = s; rules = q; sound = c.sound; taken = c.taken; lies = w; looked = at_front; cause = subst (λ z. IsRefusedFor z (front ++ b ∷ []) x) q l })))
 
 pub came_scan : (r : Rules) (i : ℕ) (s : Place) (front : List ℕ) (es : List Event) (p : List ℕ) → IsText p → rules_of s ≡ r → Counts s i front → IsLookedAt s.token i → Lies s front es → Came r i front es p (scan i s p)
-came_scan r i s front es [] text q c at_front w = (omega arith, within s.token i at_front, subst (λ z. Lies s z es) (sym (append-nil front)) w)
-  where
-    within : (t : Token) (i : ℕ) → IsLookedAt t i → 0 < i → is_outside t ≡ false
-    within t i h some = elim (is_outside t) as (λ x. is_outside t ≡ x → x ≡ false) [ true ↦ λ e. absurd (omega (arith, some, (h e).1)) | false ↦ λ e. refl ] refl
+came_scan r i s front es [] text q c at_front w = (omega arith, at_front, subst (λ z. Lies s z es) (sym (append-nil front)) w)
 came_scan r i s front es (b ∷ bs) text q c at_front w =
-    came_move (next s (i + 1) b) r i s front es b bs q c w (is_move s.token s i b c.sound (λ z. (at_front z).1)) (each_leads s.token s i b front es text.0 c at_front w)
+    came_move (next s (i + 1) b) r i s front es b bs q c w at_front (is_move s.token s i b c.sound (λ z. (at_front z).1)) (each_leads s.token s i b front es text.0 c at_front w)
     (λ t q' d z l. came_scan r (i + 1) t (front ++ b ∷ []) es bs text.1 q' d (looked_at t.token (i + 1) z) l)
     (λ t d z l. came_content (i + 1) t (front ++ b ∷ []) (es ++ e.Byte b ∷ []) bs text.1 d z l)

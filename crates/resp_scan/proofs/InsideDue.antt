@@ -49,7 +49,7 @@ goes_behind r level bytes n value behind rest b is_tree e =
     ] refl
 
 -- the events of the frames, and those shown of the token
-pub inside_due : (r : Rules) (T : ℕ → List ℕ → List Event → Type 0) (fs : List Frame) (front : List ℕ) (es : List Event) (n : ℕ) → Inside r T fs front es → ((level : ℕ) (bytes : List ℕ) (shown : List Event) → level ≡ length fs → T level bytes shown → IsBegunBy r level bytes n) → ((level : ℕ) (bytes : List ℕ) (before shown : List Event) → es ≡ before ++ shown → T level bytes shown → AreDueWithin bytes shown) → AreDue front es
+pub inside_due : (r : Rules) (T : ℕ → List ℕ → List Event → Type 0) (fs : List Frame) (front : List ℕ) (es : List Event) (n : ℕ) → Inside r T fs front es → ((level : ℕ) (bytes : List ℕ) (shown : List Event) → level ≡ length fs → T level bytes shown → IsBegunBy r level bytes n) → ((level : ℕ) (bytes : List ℕ) (shown : List Event) → T level bytes shown → AreDueWithin bytes shown) → AreDue front es
 inside_due r T fs front es n w row told rest whole is_tree spelled =
     let begun = row (length w.frames) w.bytes w.shown (at_level w) w.took in
     let h = begun.least.holds in
@@ -60,5 +60,5 @@ inside_due r T fs front es n w row told rest whole is_tree spelled =
     let g = goes_behind r (length w.frames) w.bytes n b.value b.behind rest begun b.is_tree b.begins in
     ap (λ z. due (length z) (all_events whole)) w.whole
     ∙ due_in w.frames w.bytes rest whole b g.0 spelled_in
-    ∙ ap (λ z. given (events_around w.frames) ++ z) (told (length w.frames) w.bytes (given (events_around w.frames)) w.shown w.told w.took (length (around w.frames [])) b.value g.1.0 b.is_tree g.1.1)
+    ∙ ap (λ z. given (events_around w.frames) ++ z) (told (length w.frames) w.bytes w.shown w.took (length (around w.frames [])) b.value g.1.0 b.is_tree g.1.1)
     ∙ sym w.told

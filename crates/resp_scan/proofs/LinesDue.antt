@@ -80,7 +80,7 @@ due_but_end n k begins from s ends shown a b c told =
     ∙ but_last (e.Text k ∷ content_events s) shown e.TextEnd told
 
 -- a text is more than the sign of a big number
-abbrev pub HasMore : List Event → Type 0
+abbrev HasMore : List Event → Type 0
 HasMore shown = (negative : Bool) → shown ≡ e.Text (e.Big negative) ∷ [] → ⊥
 
 leaf_but_end : (from : ℕ) (l : Leaf) (shown : List Event) → leaf_rest l ≡ [] → given (leaf_events from l) ≡ shown ++ e.TextEnd ∷ [] → HasMore shown → due (last_of from (leaf_text l)) (leaf_events from l) ≡ shown
@@ -105,8 +105,8 @@ leaf_but_end from (string k digits s) shown p told some = absurd (omega (arith, 
 leaf_but_end from (chunked cs zeros) shown p told some = absurd (omega (arith, ap length p, content_in_chunks cs ((59 ∷ zeros) ++ crlf [])))
 
 -- before the LF of a text all but its end
-pub text_returned_due : (r : Rules) (level : ℕ) (bytes : List ℕ) (shown : List Event) → HasMore shown → TextReturned r level bytes shown → AreDueWithin bytes shown
-text_returned_due r level bytes shown some w from value behind is_tree whole =
+pub text_returned_due : (r : Rules) (level : ℕ) (bytes : List ℕ) (shown : List Event) → TextReturned r level bytes shown → AreDueWithin bytes shown
+text_returned_due r level bytes shown w from value behind is_tree whole =
     ap (λ n. due n (events from value)) (returned_last r w.leaf level bytes from w.returned)
     ∙ ap (λ z. due (last_of from (leaf_text w.leaf)) (events from z)) (returned_is r w.leaf level bytes value behind w.returned is_tree whole)
-    ∙ leaf_but_end from w.leaf shown w.returned.line_of.no_rest (leaf_told w.leaf (shown ++ e.TextEnd ∷ []) w.told from) some
+    ∙ leaf_but_end from w.leaf shown w.returned.line_of.no_rest (leaf_told w.leaf (shown ++ e.TextEnd ∷ []) w.told from) w.begun

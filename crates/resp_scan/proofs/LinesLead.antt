@@ -3,7 +3,8 @@ use Rattle.std.specs.Prelude.{true, false, cond, eqb}
 use Rattle.std.proofs.lemmas.Bool.Decides.{nat_tests}
 use Rattle.std.proofs.Common.{◌≡◌, ℕ, ◌+◌, ◌-◌, ◌<◌, ◌≤◌, List, [], ◌∷◌, ◌++◌, refl, sym, ap, subst, ◌∙◌, arith}
 use Rattle.resp_value.specs.Rules.{Rules, Grammar, WithinDepth, WithinLength}
-use Rattle.resp_value.specs.Trees.{leaf, line}
+use Rattle.resp_value.specs.Trees as t
+use Rattle.resp_value.specs.Trees.{LineKind, leaf, line}
 use Rattle.resp_value.specs.declared.cause.Cause.TheVariants as cause
 use Rattle.resp_follow.specs.Events.{Event}
 use Rattle.resp_follow.specs.Events as e
@@ -25,12 +26,19 @@ use Rattle.resp_scan.proofs.RefusedMoves.{broken, fits_or_total, refused}
 pub line_row : (r : Rules) (room level : ℕ) (bytes : List ℕ) (shown : List Event) → LineBegun r room level bytes shown → IsBegunBy r level bytes 2
 line_row r room level bytes shown w = line_begun r (line w.kind w.token.content) level bytes (text_token_line r w.kind w.size level bytes w.token)
 
+-- it is no big number
+text_of_line : (k : LineKind) (negative : Bool) (es : List Event) → e.Text (line_text k) ∷ es ≡ e.Text (e.Big negative) ∷ [] → ⊥
+text_of_line t.Simple negative es same = cc
+text_of_line t.Error negative es same = cc
+text_of_line t.Double negative es same = cc
+
 -- its CR
 line_returns : (r : Rules) (room level : ℕ) (bytes : List ℕ) (shown : List Event) → LineBegun r room level bytes shown → TextReturned r level (bytes ++ 13 ∷ []) shown
 line_returns r room level bytes shown w = record {
   leaf = line w.kind w.token.content;
   returned = record { begun = bytes; line_of = text_token_line r w.kind w.size level bytes w.token; returned = refl };
   told = given-line 0 w.kind w.token.content w.token.is_text_line ∙ ap (λ z. z ++ e.TextEnd ∷ []) (sym w.told);
+  begun = λ negative same. text_of_line w.kind negative (content_events w.token.content) (sym w.told ∙ same);
 }
 
 -- a byte more of its text

@@ -27,10 +27,12 @@ use Rattle.resp_scan.specs.declared.machine.Head.{Head}
 use Rattle.resp_scan.specs.declared.machine.Head.TheVariants as head
 use Rattle.resp_scan.specs.Heads.{first_needed, head_needed}
 use Rattle.resp_scan.specs.Sound.{Fits, IsSound, IsSoundBy, needed, token_needed}
+use Rattle.resp_scan.specs.Given.{owed_at}
 use Rattle.resp_scan.specs.Follows as f
 use Rattle.resp_scan.specs.Follows.{Between, Counts, Ended, Lies, LiesAt}
-use Rattle.resp_scan.specs.Steps.{Follows, Heard, HasNoValue, IsRefused, IsValue, Stepped, events_of}
+use Rattle.resp_scan.specs.Steps.{AreDue, Follows, Heard, HasNoValue, IsRefused, IsValue, Stepped, events_of}
 use Rattle.resp_scan.proofs.EachLeads.{IsLookedAt}
+use Rattle.resp_scan.proofs.EventsDue.{events_are_due}
 use Rattle.resp_scan.proofs.Heard.{Came, RefusedAt, came_scan}
 use Rattle.resp_scan.proofs.Fronts.{front-append, front-one-more, length-front, take-none}
 use Rattle.resp_scan.proofs.Kept.{IsOut, is_advanced}
@@ -43,7 +45,7 @@ use Rattle.resp_scan.proofs.Choices.{if_below, if_equal, if_within}
 -- What is owed, or what comes of the piece.
 
 abbrev pub Answered : Rules → List ℕ → List e.Event → List ℕ → Out → Type 0
-Answered r front es p (More n t) = (n ≡ length p) × (0 < n → is_outside t.token ≡ false) × Lies t (front ++ p) es
+Answered r front es p (More n t) = (n ≡ length p) × IsLookedAt t.token n × Lies t (front ++ p) es
 Answered r front es p (Gave n happening t) = (n ≤ length p) × Lies t (front ++ take n p) (es ++ event_of happening ∷ [])
 Answered r front es p (Part k n t) = (k < n) × (n ≤ length p) × Lies t (front ++ take n p) (es ++ content_events (drop k (take n p)))
 Answered r front es p (Whole t) = f.Whole r front es × Lies t [] []
@@ -133,7 +135,7 @@ answered s front es p text sound taken w = answered_at s.token s front es p text
 
 -- with the bytes that a step counts
 abbrev Shown : Place → List ℕ → List e.Event → List ℕ → Out → Type 0
-Shown s front es p (More n t) = (n ≡ length p) × (t.taken ≡ s.taken + n) × IsSound t × (rules_of t ≡ rules_of s) × (0 < n → is_outside t.token ≡ false) × Lies t (front ++ p) es
+Shown s front es p (More n t) = (n ≡ length p) × (t.taken ≡ s.taken + n) × IsSound t × (rules_of t ≡ rules_of s) × IsLookedAt t.token n × Lies t (front ++ p) es
 Shown s front es p (Gave n happening t) = (n ≤ length p) × (t.taken ≡ s.taken + n) × Lies t (front ++ take n p) (es ++ event_of happening ∷ [])
 Shown s front es p (Part k n t) = (k < n) × (n ≤ length p) × (t.taken ≡ s.taken + n) × Lies t (front ++ take n p) (es ++ content_events (drop k (take n p)))
 Shown s front es p (Whole t) = (t.taken ≡ 0) × f.Whole (rules_of s) front es × Lies t [] []
@@ -258,16 +260,34 @@ some_needed (AtOpenLf o) depth fs f e = omega arith
 some_needed AtCloseCr depth fs f e = omega arith
 some_needed AtCloseLf depth fs f e = omega arith
 
+-- behind a byte, a token at which bytes are looked at is inside
+is_inside : (t : Token) (n : ℕ) → IsLookedAt t n → 0 < n → is_outside t ≡ false
+is_inside t n h some = elim (is_outside t) as (λ x. is_outside t ≡ x → x ≡ false) [ | true ↦ λ e. absurd (omega (arith, some, (h e).1)) | false ↦ λ e. refl ] refl
+
+-- where a byte is looked at nothing is owed
+none_owed : (t : Token) (n : ℕ) (fs : List Frame) → IsLookedAt t n → owed_at t fs ≡ []
+none_owed AtEnd n fs h = absurd (let e : AtEnd ≡ AtStart = (h refl).0 in cc)
+none_owed AtTextEnd n fs h = absurd (let e : AtTextEnd ≡ AtStart = (h refl).0 in cc)
+none_owed (AtBigDigit digit room) n fs h = absurd (let e : AtBigDigit digit room ≡ AtStart = (h refl).0 in cc)
+none_owed token n fs h = refl
+
+looked_on : (t : Token) (n : ℕ) → IsLookedAt t n → IsLookedAt t 0
+looked_on t n h e = ((h e).0, refl)
+
+-- and all events due were given
+all_due : (t : Place) (n : ℕ) (front : List ℕ) (es : List e.Event) → IsSoundBy n t → IsLookedAt t.token n → Lies t front es → AreDue front es
+all_due t n front es sound looked w rest whole spells = events_are_due t n front es sound w rest whole spells ∙ ap (λ z. es ++ z) (none_owed t.token n t.frames looked) ∙ append-nil es
+
 -- so a piece that gives no event ends no value
-none_ended : (r : Rules) (t : Place) (front : List ℕ) (es : List e.Event) (p : List ℕ) (n : ℕ) → n ≡ length p → IsSound t → rules_of t ≡ r → (0 < n → is_outside t.token ≡ false) → Lies t (front ++ p) es → HasNoValue front p
+none_ended : (r : Rules) (t : Place) (front : List ℕ) (es : List e.Event) (p : List ℕ) (n : ℕ) → n ≡ length p → IsSound t → rules_of t ≡ r → IsLookedAt t.token n → Lies t (front ++ p) es → HasNoValue front p
 none_ended r t front es p n all sound rules within w m tree some spells =
-    let needs : 0 < token_needed t.token t.bounds.depth t.frames = some_needed t.token t.bounds.depth t.frames sound.token (within (omega (arith, all, some))) in
+    let needs : 0 < token_needed t.token t.bounds.depth t.frames = some_needed t.token t.bounds.depth t.frames sound.token (is_inside t.token n within (omega (arith, all, some))) in
     no_value (rules_of t) front p (needed t) (least_is_needed t 0 (front ++ p) es sound w) (omega (arith, needs)) m tree some spells
 
 -- the event
 
 heard_is : (s t : Place) (front : List ℕ) (es : List e.Event) (p : List ℕ) (n : ℕ) (x : Option Event) → s.taken ≡ length front → length front ≤ s.bounds.total → IsPartOf p n x → Shown s front es p (heard_event n x t) → Heard (rules_of s) t front es p n x
-heard_is s t front es p n None taken fits part h = (h.0, none_ended (rules_of s) t front es p n h.0 h.2 h.3 h.4 h.5, record { lies = h.5; taken = omega (arith, taken, h.1, h.0, length-append front p) })
+heard_is s t front es p n None taken fits part h = (h.0, none_ended (rules_of s) t front es p n h.0 h.2 h.3 h.4 h.5, all_due t 0 (front ++ p) es h.2 (looked_on t.token n h.4) h.5, record { lies = h.5; taken = omega (arith, taken, h.1, h.0, length-append front p) })
 heard_is s t front es p n (Some event.Null) taken fits part h = follows s t front (es ++ e.Null ∷ []) p n taken h.0 h.1 h.2
 heard_is s t front es p n (Some (event.Bool x)) taken fits part h = follows s t front (es ++ e.Bool x ∷ []) p n taken h.0 h.1 h.2
 heard_is s t front es p n (Some (event.Int x)) taken fits part h = follows s t front (es ++ e.Int x ∷ []) p n taken h.0 h.1 h.2
@@ -282,7 +302,7 @@ heard_is s t front es p n (Some event.Done) taken fits part h =
 
 -- A fault.
 
-refused_is : (s t : Place) (front : List ℕ) (es : List e.Event) (p : List ℕ) (fault : Fault) → s.taken ≡ length front → fault.at ≡ t.taken → Shown s front es p (Bad (fault.at - s.taken) fault.cause t) → IsRefused (rules_of s) front p fault
+refused_is : (s t : Place) (front : List ℕ) (es : List e.Event) (p : List ℕ) (fault : Fault) → s.taken ≡ length front → fault.at ≡ t.taken → Shown s front es p (Bad (fault.at - s.taken) fault.cause t) → IsRefused (rules_of s) front es p fault
 refused_is s t front es p fault taken at_taken (counted, within, byte, rest, parts, w) =
     let n = fault.at - s.taken in
     let before : front ++ p ≡ (front ++ take n p) ++ byte ∷ rest = ap (λ z. front ++ z) parts ∙ sym (append_assoc front (take n p) (byte ∷ rest)) in
@@ -291,6 +311,7 @@ refused_is s t front es p fault taken at_taken (counted, within, byte, rest, par
       behind = omega (arith, taken, at_taken, counted);
       within = omega (arith, taken, at_taken, counted, within, length-append front p);
       viable = subst (IsViable (rules_of s) WithinTotal) (sym (ap (take fault.at) before ∙ front-append fault.at (front ++ take n p) (byte ∷ rest) size)) (subst (λ r. IsViable r WithinTotal (front ++ take n p)) w.rules (followed_is_viable w.before n (front ++ take n p) es w.sound w.taken w.lies));
+      told = subst (λ z. AreDue z es) (sym (ap (take fault.at) before ∙ front-append fault.at (front ++ take n p) (byte ∷ rest) size)) (all_due w.before n (front ++ take n p) es w.sound w.looked w.lies);
       refused = subst (λ z. IsRefusedFor (rules_of s) z fault.cause) (sym (ap (take (fault.at + 1)) before ∙ front-one-more fault.at (front ++ take n p) byte rest size)) w.cause;
     }
 

@@ -17,7 +17,7 @@ use Rattle.resp_scan.specs.Begun.{Begun}
 use Rattle.resp_scan.specs.Sound.{IsSoundBy, needed, token_needed}
 use Rattle.resp_scan.specs.Follows.{Lies, Leads, Counts}
 use Rattle.resp_value.specs.Trees.{Tree, Spells}
-use Rattle.resp_scan.specs.Given.{opens, closes, owed, EndsWithNoSign}
+use Rattle.resp_scan.specs.Given.{opens, closes, owed}
 
 -- the place that a byte leads to lies at the longer front, and a byte that is refused has its cause
 abbrev pub ALead : Place → Type 0
@@ -237,7 +237,6 @@ OpensAreFrames = (s : Place) (front : List ℕ) (es : List Event) → Lies s fro
 abbrev pub EventsAreFew : Type 0
 EventsAreFew = (s : Place) (front : List ℕ) (es : List Event) → Lies s front es → length es ≤ length front
 
--- of every tree that the front begins the events due by then are those given, and those owed; behind a line's CR
--- the last one given isn't that a big number begins, since that of a big zero begins at the LF
+-- of every tree that the front begins the events due by then are those given, and those owed
 abbrev pub EventsAreDue : Type 0
-EventsAreDue = (s : Place) (used : ℕ) (front : List ℕ) (es : List Event) → IsSoundBy used s → Lies s front es → (s.token ≡ AtLineLf → EndsWithNoSign es) → (rest : List ℕ) (whole : Tree) → Spells whole (front ++ rest) → due (length front) (all_events whole) ≡ es ++ owed s
+EventsAreDue = (s : Place) (used : ℕ) (front : List ℕ) (es : List Event) → IsSoundBy used s → Lies s front es → (rest : List ℕ) (whole : Tree) → Spells whole (front ++ rest) → due (length front) (all_events whole) ≡ es ++ owed s

@@ -34,11 +34,12 @@ pub record LineBegun (r : Rules) (room : ℕ) (level : ℕ) (bytes : List ℕ) (
   pub leaves : room + size ≡ r.limits.length
   pub told : shown ≡ e.Text (line_text kind) ∷ content_events token.content
 
--- a leaf's line and its CR, and all of its events but the end of its text
+-- a leaf's line and its CR, and all of its events but the end of its text; a big zero isn't one, whose text begins at its LF
 pub record TextReturned (r : Rules) (level : ℕ) (bytes : List ℕ) (shown : List Event) : Type 0 where
   pub leaf : Leaf
   pub returned : IsReturned r leaf level bytes
   pub told : given (leaf_events 0 leaf) ≡ shown ++ e.TextEnd ∷ []
+  pub begun : (negative : Bool) → shown ≡ e.Text (e.Big negative) ∷ [] → ⊥
 
 -- a type byte, and a sign of this kind
 abbrev pub IsSigned : Bool → Sign → Type 0

@@ -1,5 +1,5 @@
 -- What the events given of a value count, and what a place has still to give of the bytes taken.
-use Rattle.std.specs.Prelude.{◌≡◌, ℕ, ◌+◌, Bool, cond, eqb, List, [], ◌∷◌, ◌++◌}
+use Rattle.std.specs.Prelude.{ℕ, ◌+◌, cond, eqb, List, [], ◌∷◌}
 use Rattle.resp_follow.specs.Events as e
 use Rattle.resp_follow.specs.Events.{Event}
 use Rattle.resp_scan.specs.declared.frame.Frame.{Frame}
@@ -65,7 +65,3 @@ owed_at token fs = []
 -- the events that a place has still to give of the bytes taken
 abbrev pub owed : Place → List Event
 owed s = owed_at s.token s.frames
-
--- the last event given isn't that a big number begins
-abbrev pub EndsWithNoSign : List Event → Type 0
-EndsWithNoSign es = (before : List Event) (negative : Bool) → es ≡ before ++ e.Text (e.Big negative) ∷ [] → ⊥

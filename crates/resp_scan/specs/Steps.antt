@@ -3,7 +3,7 @@ use Rattle.std.specs.Prelude.{◌≡◌, ◌⊎◌, ℕ, ◌+◌, ◌<◌, ◌�
 use Rattle.resp_value.specs.Trees.{Tree, Spells}
 use Rattle.resp_value.specs.Rules.{Rules, WithinTotal, Keeps}
 use Rattle.resp_value.specs.Spellings.{IsViable}
-use Rattle.resp_follow.specs.Events.{events, given}
+use Rattle.resp_follow.specs.Events.{all_events, due, events, given}
 use Rattle.resp_follow.specs.Events as e
 use Rattle.resp_scan.specs.declared.event.Event.{Event}
 use Rattle.resp_scan.specs.declared.event.Event.TheVariants as event
@@ -43,6 +43,14 @@ pub record IsSpelled (r : Rules) (front : List ℕ) : Type 0 where
 abbrev pub MayEnd : Rules → List ℕ → Type 0
 MayEnd r front = (front ≡ []) ⊎ IsSpelled r front
 
+-- of every tree that the front begins, these events are due by then
+abbrev pub AreDue : List ℕ → Events → Type 0
+AreDue front es = (rest : List ℕ) (whole : Tree) → Spells whole (front ++ rest) → due (length front) (all_events whole) ≡ es
+
+-- and these are the first of them
+abbrev pub BeginDue : List ℕ → Events → Type 0
+BeginDue front es = (rest : List ℕ) (whole : Tree) → Spells whole (front ++ rest) → (owed : Events) × (due (length front) (all_events whole) ≡ es ++ owed)
+
 -- no tree is spelled by the front and a front of the piece that isn't empty
 abbrev pub HasNoValue : List ℕ → List ℕ → Type 0
 HasNoValue front piece = (n : ℕ) (tree : Tree) → n < length piece → Spells tree (front ++ take (n + 1) piece) → ⊥
@@ -59,10 +67,10 @@ events_of (event.Open kind members) = e.Open (kind_of kind) members ∷ []
 events_of event.Close = e.Close ∷ []
 events_of event.Done = []
 
--- Without an event the piece is used, and no value has ended in it. At Done what has come is a value, and the events
--- given are its. Any other event adds to the events given.
+-- Without an event the piece is used, no value has ended in it, and the events given are those due. At Done what has
+-- come is a value, and the events given are its. Any other event adds to the events given.
 abbrev pub Heard : Rules → Place → List ℕ → Events → List ℕ → ℕ → Option Event → Type 0
-Heard r s front es piece n None = (n ≡ length piece) × HasNoValue front piece × Follows s (front ++ piece) es
+Heard r s front es piece n None = (n ≡ length piece) × HasNoValue front piece × AreDue (front ++ piece) es × Follows s (front ++ piece) es
 Heard r s front es piece n (Some event.Done) = (n ≡ 0) × IsValue r front es × Follows s [] []
 Heard r s front es piece n (Some event.Null) = Follows s (front ++ take n piece) (es ++ events_of event.Null)
 Heard r s front es piece n (Some (event.Bool truth)) = Follows s (front ++ take n piece) (es ++ events_of (event.Bool truth))
@@ -74,14 +82,15 @@ Heard r s front es piece n (Some (event.Open kind members)) = Follows s (front +
 Heard r s front es piece n (Some event.Close) = Follows s (front ++ take n piece) (es ++ events_of event.Close)
 
 -- of the front and the piece, the bytes before the fault are viable, and with the next byte they aren't, by the cause
--- that the fault names, the first in the order of the rules
-pub record IsRefused (r : Rules) (front piece : List ℕ) (fault : Fault) : Type 0 where
+-- that the fault names, the first in the order of the rules; all events due before were given
+pub record IsRefused (r : Rules) (front : List ℕ) (es : Events) (piece : List ℕ) (fault : Fault) : Type 0 where
   pub behind : length front ≤ fault.at
   pub within : fault.at < length (front ++ piece)
   pub viable : IsViable r WithinTotal (take fault.at (front ++ piece))
   pub refused : IsRefusedFor r (take (fault.at + 1) (front ++ piece)) fault.cause
+  pub told : AreDue (take fault.at (front ++ piece)) es
 
 -- from a scanner that has taken this front and given these events: what a step answers, and where it leads
 abbrev pub Stepped : Place → Place → List ℕ → Events → List ℕ → Result Step Fault → Type 0
 Stepped old new front es piece (Ok step) = Heard (rules_of old) new front es piece step.used step.event
-Stepped old new front es piece (Err fault) = IsRefused (rules_of old) front piece fault
+Stepped old new front es piece (Err fault) = IsRefused (rules_of old) front es piece fault

@@ -2,7 +2,7 @@
 
 ghost use Rattle.resp_value.specs.Bounds.{AreBounds};
 ghost use Rattle.resp_scan.specs.Heads.{first_needed};
-ghost use Rattle.std.specs.Prelude.{◌≡◌, ◌↔◌, ◌≤◌, ℕ, List, length, [], true, None, Some, Err, IsOk, OnOk, OnErr, IfOk, IfErr};
+ghost use Rattle.std.specs.Prelude.{◌≡◌, ◌↔◌, ◌≤◌, ◌+◌, ℕ, List, length, [], true, None, Some, Err, IsOk, OnOk, OnErr, IfOk, IfErr};
 ghost use Rattle.resp_value.specs.declared.cause.Cause.TheVariants as cause;
 
 use crate::event::{Busy, Event, Fault, OpenKind, Step};
@@ -40,10 +40,11 @@ impl Scanner {
     ghost use Rattle.resp_follow.specs.LeastCompletions.{IsLeast};
     ghost use Rattle.resp_scan.specs.declared.event.Fault.{Fault};
     ghost use Rattle.resp_scan.specs.End.{end_cause};
+    ghost use Rattle.resp_scan.specs.Given.{closes, opens};
     ghost use Rattle.resp_scan.specs.Heard.{IsOfPiece};
     ghost use Rattle.resp_scan.specs.Kinds.{rules_of};
     ghost use Rattle.resp_scan.specs.Sound.{IsSound, needed};
-    ghost use Rattle.resp_scan.specs.Steps.{Events, Follows, IsFaulted, MayEnd, Stepped};
+    ghost use Rattle.resp_scan.specs.Steps.{BeginDue, Events, Follows, IsFaulted, MayEnd, Stepped};
     ghost use Rattle.resp_scan.specs.Tokens.{AtStart};
 
     /// A scanner of this version within these limits, between two values.
@@ -86,6 +87,9 @@ impl Scanner {
         // What has come and what was given of it, over every front that was taken and all events given since the value
         // began.
         ensures followed { (front : List ℕ) (es : Events) → Follows self.old front es → Stepped self.old self.new front es piece.now result }
+
+        // And at any time the events given are the first of those due.
+        ensures given { (front : List ℕ) (es : Events) → Follows self.old front es → BeginDue front es }
 
         ensures within { IfOk result (λ step. step.used ≤ length piece.now) }
         ensures all { IfOk result (λ step. step.event ≡ None → step.used ≡ length piece.now) }
@@ -172,6 +176,7 @@ impl Scanner {
     pub fn depth(&self) -> usize
         ensures frames { result ≡ length self.now.frames }
         ensures few { result ≤ (rules_of self.now).limits.depth }
+        ensures opens { (front : List ℕ) (es : Events) → Follows self.now front es → opens es ≡ result + closes es }
     {
         self.machine.frames.len()
     }
@@ -180,6 +185,7 @@ impl Scanner {
     pub fn taken(&self) -> u64
         ensures taken { result ≡ self.now.taken }
         ensures front { (front : List ℕ) (es : Events) → Follows self.now front es → result ≡ length front }
+        ensures few { (front : List ℕ) (es : Events) → Follows self.now front es → length es ≤ result }
     {
         self.machine.taken
     }

@@ -4,7 +4,7 @@ use Rattle.resp_scan.specs.Said.{place}
 use Rattle.resp_scan.proofs.Kept.{is_advanced}
 use Rattle.resp_scan.proofs.Counted.{IsCounted, counted_out, sound_heard}
 use Rattle.resp_scan.proofs.Faults.{none_all, fault_stands}
-use Rattle.resp_scan.proofs.Calls.{is_faulted, is_text, rules_stay}
+use Rattle.resp_scan.proofs.Calls.{begin_due, is_faulted, is_text, rules_stay}
 use Rattle.resp_scan.proofs.Steps.{stepped_is}
 use Rattle.resp_scan.proofs.scanner.Scanner.step.Goals as goal
 
@@ -30,3 +30,6 @@ pub returns-clause-faulted : goal.returns-clause-faulted
 returns-clause-faulted c =
     let s = place c.self.inside.machine in
     is_faulted c.step.result (place c.step.new.self) (fault_stands s.taken c.step.result s (place c.step.new.self) c.args.piece.now c.self.invariant c.step.ensures.heard c.step.ensures.counted)
+
+pub returns-clause-given : goal.returns-clause-given
+returns-clause-given c = rw (← c.self.view_is) (λ front es w. begin_due (place c.self.inside.machine) front es c.self.invariant w)
