@@ -20,7 +20,7 @@ use Rattle.resp_scan.specs.Tokens as k
 use Rattle.resp_scan.specs.Tokens.{Go, Byte, Give, Refuse, Place, AtBigDigit, AtBigFirst, AtBigSign, AtBigZeroLf, AtLineLf, AtTextEnd, InBig, InBigZeros, at, ended}
 use Rattle.resp_scan.specs.Room.{fits, over_total}
 use Rattle.resp_scan.specs.Machine.{big_digit, big_first, content_byte, unless, wants}
-use Rattle.resp_scan.specs.Kinds.{rules_of}
+use Rattle.resp_scan.specs.Kinds.{content_events, rules_of}
 use Rattle.resp_scan.specs.Begun as b
 use Rattle.resp_scan.specs.Begun.{BigBegun, BigDigitOwed, BigShown, IsSigned, SignBegun, TextReturned, TextWhole, ZeroReturned}
 use Rattle.resp_scan.specs.Follows.{Counts, Inside, Leads, Lies}

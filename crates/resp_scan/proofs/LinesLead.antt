@@ -1,5 +1,5 @@
 -- Lines of text.
-use Rattle.std.specs.Prelude.{true, false, cond, eqb}
+use Rattle.std.specs.Prelude.{Bool, true, false, cond, eqb}
 use Rattle.std.proofs.lemmas.Bool.Decides.{nat_tests}
 use Rattle.std.proofs.Common.{◌≡◌, ℕ, ◌+◌, ◌-◌, ◌<◌, ◌≤◌, List, [], ◌∷◌, ◌++◌, refl, sym, ap, subst, ◌∙◌, arith}
 use Rattle.resp_value.specs.Rules.{Rules, Grammar, WithinDepth, WithinLength}
@@ -14,7 +14,7 @@ use Rattle.resp_follow.proofs.LineTokens.{line_begun, line_broken_by_newline, re
 use Rattle.resp_scan.specs.Tokens.{Go, Byte, Give, Refuse, TextEnd, Place, ended, InLine, AtLineLf, at}
 use Rattle.resp_scan.specs.Room.{fits}
 use Rattle.resp_scan.specs.Machine.{content_byte}
-use Rattle.resp_scan.specs.Kinds.{rules_of}
+use Rattle.resp_scan.specs.Kinds.{content_events, rules_of}
 use Rattle.resp_scan.specs.Begun.{LineBegun, TextReturned, line_text}
 use Rattle.resp_scan.specs.Follows.{Counts, Leads, Lies}
 use Rattle.resp_scan.proofs.TokenLaws.{LinesLead, LineEndsLead}
