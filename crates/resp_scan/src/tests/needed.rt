@@ -13,8 +13,8 @@ use std::test::Fail;
 /// A text, and what is needed before its first byte and behind each one. Behind a whole value, 0.
 type Row = (&'static [u8], &'static [u64]);
 
-/// Gives the scanner a piece, and compares what is needed after each step, by the number of bytes taken. Behind the
-/// value's last event that number is 0 again.
+/// Gives the scanner a piece, and after each step compares what is needed with the number behind the bytes taken.
+/// Where the value's end was told none is taken, and the first number holds again.
 fn feed(rt: &impl Abort, scanner: &mut Scanner, row: &Row, piece: &[u8]) -> Result<(), Fail> {
     let (text, needed) = row;
     let mut from = 0;
@@ -36,7 +36,7 @@ fn feed(rt: &impl Abort, scanner: &mut Scanner, row: &Row, piece: &[u8]) -> Resu
     Err("endless".into())
 }
 
-/// So many bytes of the row's text were given: whether the input may end here.
+/// So many bytes of the row's text were given, and all their events: whether the input may end here.
 fn end(rt: &impl Abort, scanner: &Scanner, row: &Row, size: usize) {
     let (text, needed) = row;
     let is_whole = needed.get(size) == Some(&0);
