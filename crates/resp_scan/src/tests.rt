@@ -1,7 +1,9 @@
 //! What the scanner says of whole inputs, however they are cut. Wanted values are worked out by hand from the table
 //! of spellings.
 
+mod lifetimes;
 mod limits;
+mod needed;
 
 use crate::event::{Busy, Event, Fault, OpenKind, TextKind};
 use crate::scanner::Scanner;

@@ -1,0 +1,75 @@
+//! Parts are lent from the caller's piece, and live as long as it does. That no part lives longer is tested by
+//! `tests/lifetimes` at the top of the repository, which breaks a line of this file.
+
+use crate::event::Event;
+use crate::scanner::Scanner;
+use resp_value::limits::Limits;
+use resp_value::version::Version;
+use std::alloc::Global;
+use std::process::Abort;
+use std::test::Fail;
+
+/// The parts of a piece, kept while the scanner goes on.
+fn parts<'a>(alloc: Global, scanner: &mut Scanner, piece: &'a [u8]) -> Result<Vec<&'a [u8]>, Fail> {
+    let mut kept = Vec::new(alloc);
+    let mut from = 0;
+    for _ in 0..100 {
+        let rest = piece.get(from..).ok_or("past the piece")?;
+        let step = scanner.step(rest).ok().ok_or("refused")?;
+        from = from.saturating_add(step.used);
+        match step.event {
+            Some(Event::Part(part)) => kept.push(part)?,
+            Some(_) => {}
+            None => return Ok(kept),
+        }
+    }
+    Err("endless".into())
+}
+
+fn are(rt: &impl Abort, kept: &[&[u8]], wanted: &[&[u8]]) {
+    assert_eq!(rt; kept.len(), wanted.len());
+    for (part, bytes) in kept.iter().zip(wanted) {
+        assert_eq!(rt; *part, *bytes);
+    }
+}
+
+#[test]
+fn parts_outlive_further_steps(rt: HostRuntime) -> Result<(), Fail> {
+    let mut scanner = Scanner::new(Version::Two, &Limits::standard());
+    let first = *b"*3\r\n+ab\r\n$5\r\ncd";
+    let mut kept = parts(rt.alloc(), &mut scanner, &first)?;
+    are(&rt, &kept, &[b"ab", b"cd"]);
+    {
+        let second = *b"efg\r\n-no\r\n+yes\r\n";
+        let others = parts(rt.alloc(), &mut scanner, &second)?;
+        are(&rt, &others, &[b"efg", b"no", b"yes"]);
+        kept.push(b"and a constant")?;
+    }
+    are(&rt, &kept, &[b"ab", b"cd", b"and a constant"]);
+    Ok(())
+}
+
+#[test]
+fn parts_outlive_their_scanner(rt: HostRuntime) -> Result<(), Fail> {
+    let piece = *b"+ab\r\n(-00120\r\n";
+    let kept = {
+        let mut scanner = Scanner::new(Version::Three, &Limits::standard());
+        parts(rt.alloc(), &mut scanner, &piece)?
+    };
+    are(&rt, &kept, &[b"ab", b"1", b"20"]);
+    Ok(())
+}
+
+#[test]
+fn a_piece_changes_behind_its_parts(rt: HostRuntime) -> Result<(), Fail> {
+    let mut scanner = Scanner::new(Version::Two, &Limits::standard());
+    let mut piece = *b"+ab\r\n+";
+    let parts_of_it = parts(rt.alloc(), &mut scanner, &piece)?;
+    let part = *parts_of_it.first().ok_or("no part")?;
+    drop(parts_of_it);
+    are(&rt, &[part], &[b"ab"]);
+    piece = *b"cdef\r\n";
+    let others = parts(rt.alloc(), &mut scanner, &piece)?;
+    are(&rt, &others, &[b"cdef"]);
+    Ok(())
+}
