@@ -78,7 +78,6 @@ owed_is kind.Map (Begun m) owed others some_left e =
     sums : (n : ℕ) → 3 + n + 3 ≡ 6 + n
     sums n = omega arith
 
-
     evens : (m : ℕ) → (m % 2 ≡ 0 → ⊥) → eqb ((m + 1) % 2) 0 ≡ true
     evens m odd = let z : (m + 1) % 2 ≡ 0 = omega (arith, positive (m % 2) odd) in ap (λ n. eqb n 0) z
 

@@ -259,7 +259,6 @@ end_told s front es sound w = (λ m. end_is s front es w ∙ ends m, λ e. may (
         first_zero : (n : ℕ) → eqb n 0 ≡ true → n ≡ 0
         first_zero n z = grind (arith, nat_tests)
 
-
     truncated : (c : Cause) → ends_by s ≡ Some c → c ≡ cause.Truncated
     truncated c e = elim (eqb s.taken 0 || eqb (needed s) 0) as (λ x. cond x None (Some cause.Truncated) ≡ Some c → c ≡ cause.Truncated) [ true ↦ λ y. absurd cc | false ↦ λ y. cc ] e
 

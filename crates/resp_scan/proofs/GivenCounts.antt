@@ -1,5 +1,5 @@
 -- What was given where a place lies: it leaves the frames open, and is no more than the bytes taken.
-use Rattle.std.proofs.Common.{◌≡◌, ℕ, ◌+◌, ◌≤◌, List, [], ◌∷◌, ◌++◌, length, refl, sym, ap, subst, ◌∙◌, arith, append-nil, length-append, suc}
+use Rattle.std.proofs.Common.{◌≡◌, ℕ, ◌≤◌, List, [], ◌∷◌, ◌++◌, length, refl, sym, ap, subst, ◌∙◌, arith, append-nil, length-append, suc}
 use Rattle.resp_value.specs.Rules.{Rules}
 use Rattle.resp_follow.specs.Events.{Event, events_around, given}
 use Rattle.resp_follow.specs.Frames as opened

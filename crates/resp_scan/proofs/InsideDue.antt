@@ -1,7 +1,7 @@
 -- The events due where a value is begun: those of its frames, and those due of every value that its bytes begin.
 use Rattle.std.specs.Prelude.{true, false, nat_le}
 use Rattle.std.proofs.lemmas.Bool.Decides.{nat_tests}
-use Rattle.std.proofs.Common.{◌≡◌, ℕ, ◌+◌, ◌-◌, ◌<◌, ◌≤◌, List, [], ◌∷◌, ◌++◌, length, refl, sym, ap, ◌∙◌, arith, append_assoc, append-nil, length-append}
+use Rattle.std.proofs.Common.{◌≡◌, ℕ, ◌+◌, ◌<◌, ◌≤◌, List, [], ◌∷◌, ◌++◌, length, refl, sym, ap, ◌∙◌, arith, append_assoc, append-nil, length-append}
 use Rattle.resp_value.specs.Rules.{Rules, WithinItems}
 use Rattle.resp_value.specs.LocalRules.{LeafKeeps, NodeKeeps}
 use Rattle.resp_value.specs.Trees.{Tree, IsTree, text}
@@ -54,7 +54,7 @@ inside_due r T fs front es n w row told rest whole is_tree spelled =
     let begun = row (length w.frames) w.bytes w.shown (at_level w) w.took in
     let h = begun.least.holds in
     let no_stop : byte_at_start (w.bytes ++ rest) ≡ 46 → ⊥ = λ i.
-        not_close h.tree [] (begun.tail ++ begun.least.some) (append-nil (text h.tree) ∙ h.whole ∙ ap (λ z. z ++ begun.least.some) begun.parts ∙ ap (λ z. z ∷ (begun.tail ++ begun.least.some)) (sym (ap (λ z. byte_at_start (z ++ rest)) begun.parts) ∙ i)) in
+    not_close h.tree [] (begun.tail ++ begun.least.some) (append-nil (text h.tree) ∙ h.whole ∙ ap (λ z. z ++ begun.least.some) begun.parts ∙ ap (λ z. z ∷ (begun.tail ++ begun.least.some)) (sym (ap (λ z. byte_at_start (z ++ rest)) begun.parts) ∙ i)) in
     let spelled_in : text whole ≡ around w.frames w.bytes ++ rest = spelled ∙ ap (λ z. z ++ rest) w.whole in
     let b = front_events w.frames w.bytes rest whole (are_open (LeafKeeps r WithinItems) (NodeKeeps r WithinItems) w.frames w.can_end) no_stop is_tree spelled_in in
     let g = goes_behind r (length w.frames) w.bytes n b.value b.behind rest begun b.is_tree b.begins in

@@ -1,5 +1,5 @@
 -- Each open aggregate has its close among the events of a tree, and those of the open frames have none yet.
-use Rattle.std.proofs.Common.{◌≡◌, ℕ, ◌+◌, ◌-◌, List, [], ◌∷◌, ◌++◌, length, Bool, refl, sym, ap, subst, arith}
+use Rattle.std.proofs.Common.{◌≡◌, ℕ, ◌+◌, List, [], ◌∷◌, ◌++◌, length, Bool, refl, sym, ap, subst, arith}
 use Rattle.resp_value.specs.Numbers.{is_negative, stripped}
 use Rattle.resp_value.specs.Trees as t
 use Rattle.resp_value.specs.Trees.{Tree, Trees, Leaf, leaf, node, line, numeral, null, truth, string, chunked, form_line, leaf_text, text}

@@ -26,7 +26,7 @@ use Rattle.resp_follow.proofs.BegunFronts.{IsBegunBy}
 use Rattle.resp_follow.proofs.BegunTypeBytes.{attribute_begun, bulk_error_begun, dollar_begun, star_begun, star_deep_begun, verbatim_begun}
 use Rattle.resp_follow.proofs.Composition.{around-append}
 use Rattle.resp_follow.proofs.FirstRuleBroken.{grammar_cause}
-use Rattle.resp_follow.proofs.LineTokens.{line_begun, text_token_begins, text_token_line}
+use Rattle.resp_follow.proofs.LineTokens.{line_begun, text_token_begins}
 use Rattle.resp_follow.proofs.NumberTokens.{null_token_line, number_begun, truth_begun}
 use Rattle.resp_follow.proofs.RefusedBetweenValues.{GoesOn, refuse_stop}
 use Rattle.resp_scan.specs.declared.event.OpenKind.{OpenKind}

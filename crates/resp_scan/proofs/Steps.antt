@@ -1,6 +1,6 @@
 -- The contract of a step in words of texts and trees.
 use Rattle.std.specs.Prelude.{Bool, true, false, cond, nat_lt, take, drop, get_or, eqb, Option, None, Some, Result, Ok, Err, IfOk, IfErr}
-use Rattle.std.proofs.Common.{◌≡◌, ℕ, suc, ◌+◌, ◌-◌, ◌*◌, ◌<◌, ◌≤◌, List, [], ◌∷◌, ◌++◌, length, refl, sym, ap, subst, ◌∙◌, arith, append_assoc, append-nil, length-append}
+use Rattle.std.proofs.Common.{◌≡◌, ℕ, ◌+◌, ◌-◌, ◌*◌, ◌<◌, ◌≤◌, List, [], ◌∷◌, ◌++◌, length, refl, sym, ap, subst, ◌∙◌, arith, append_assoc, append-nil, length-append}
 use Rattle.std.proofs.lemmas.Bool.{false≢true}
 use Rattle.std.proofs.lemmas.Grind.{common_steps}
 use Rattle.resp_value.specs.Bytes.{IsText}
@@ -262,7 +262,7 @@ some_needed AtCloseLf depth fs f e = omega arith
 
 -- behind a byte, a token at which bytes are looked at is inside
 is_inside : (t : Token) (n : ℕ) → IsLookedAt t n → 0 < n → is_outside t ≡ false
-is_inside t n h some = elim (is_outside t) as (λ x. is_outside t ≡ x → x ≡ false) [ | true ↦ λ e. absurd (omega (arith, some, (h e).1)) | false ↦ λ e. refl ] refl
+is_inside t n h some = elim (is_outside t) as (λ x. is_outside t ≡ x → x ≡ false) [ true ↦ λ e. absurd (omega (arith, some, (h e).1)) | false ↦ λ e. refl ] refl
 
 -- where a byte is looked at nothing is owed
 none_owed : (t : Token) (n : ℕ) (fs : List Frame) → IsLookedAt t n → owed_at t fs ≡ []

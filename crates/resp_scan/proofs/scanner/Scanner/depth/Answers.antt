@@ -1,4 +1,4 @@
-use Rattle.std.proofs.Common.{◌≡◌, ℕ, ◌+◌, arith, length, reverse}
+use Rattle.std.proofs.Common.{◌≡◌, arith, length}
 use Rattle.std.proofs.lemmas.Grind.{common_steps}
 use Rattle.resp_scan.specs.Said.{place}
 use Rattle.resp_scan.proofs.GivenCounts.{opens_are_frames}
