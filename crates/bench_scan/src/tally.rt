@@ -28,7 +28,7 @@ impl Tally {
     }
 
     #[inline(always)]
-    fn add(&mut self, event: Event<'_>) {
+    fn add(&mut self, event: &Event<'_>) {
         self.events = self.events.wrapping_add(1);
         match event {
             Event::Null | Event::Bool(_) | Event::Text(_) | Event::Open(_, _) => {
@@ -36,7 +36,7 @@ impl Tally {
             }
             Event::Int(number) => {
                 self.values = self.values.wrapping_add(1);
-                self.sum = self.sum.wrapping_add(number);
+                self.sum = self.sum.wrapping_add(*number);
             }
             Event::Part(part) => {
                 self.content = self.content.wrapping_add(part.len() as u64);
@@ -67,7 +67,7 @@ fn scan_piece(scanner: &mut Scanner, piece: &[u8], tally: &mut Tally) -> Result<
     for _ in 0..u64::MAX {
         let step = scanner.step(rest)?;
         rest = &rest[step.used..];
-        match step.event {
+        match &step.event {
             Some(event) => tally.add(event),
             None => break,
         }
