@@ -1,7 +1,8 @@
 /* How long the reader of hiredis takes the texts of bench_scan, by object functions that build nothing.
  *
- * It prints the lines of bench_scan, of the same texts in the same pieces: with no argument of short texts, and with
- * the argument `times` of 32 MiB each, with microseconds. Where the counts differ, the two didn't read the same. */
+ * It prints the lines of bench_scan, of the same texts in the same pieces: with no argument of short texts, read once,
+ * and with the argument `times` of longer ones, 32 MiB in all for each, with microseconds. Where the counts differ,
+ * the two didn't read the same. */
 
 #include <hiredis/hiredis.h>
 #include <stdio.h>
@@ -22,10 +23,11 @@ typedef int member_count;
 #define MAP_HEAD "*20\r\n"
 #endif
 
-enum { SHORT_TEXT = 4096, LONG_TEXT = 33554432, UNIT_ROOM = 70000 };
+enum { SHORT_TEXT = 4096, LONG_TEXT = 262144, ROUNDS = 128, UNIT_ROOM = 70000 };
 
+/* In this order no two of them are changed as one by a wider instruction, which the next change would wait for. */
 static struct {
-	unsigned long long replies, values, content;
+	unsigned long long values, replies, content;
 	long long sum;
 } tally;
 
@@ -114,7 +116,8 @@ static void count(const char *name, const char *text, size_t length, size_t size
 		stop("no memory");
 	memset(&tally, 0, sizeof tally);
 	clock_t start = clock();
-	read_text(reader, text, length, size);
+	for (int round = 0; round < (timed ? ROUNDS : 1); round++)
+		read_text(reader, text, length, size);
 	clock_t end = clock();
 	redisReaderFree(reader);
 	printf("%s by %zu: %llu replies, %llu values, %llu bytes, sum %lld;", name, size, tally.replies, tally.values,

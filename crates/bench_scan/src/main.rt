@@ -1,7 +1,8 @@
 //! How long the scanner takes a text, to be laid beside another reader of the same text.
 //!
 //! With no argument it scans short texts in pieces of several sizes and prints what it counted, the same on every
-//! run. With the argument `times` it scans 32 MiB of each text in pieces of two sizes and prints microseconds too.
+//! run. With the argument `times` it scans longer ones in pieces of two sizes, 32 MiB in all for each, and prints
+//! microseconds too.
 #![tactic(auto)]
 
 mod tally;
@@ -19,8 +20,11 @@ use tally::{Tally, scan_text};
 /// The least length of a text that is only counted.
 const SHORT: usize = 4_096;
 
-/// The least length of a text that is timed: 32 MiB.
-const LONG: usize = 33_554_432;
+/// The least length of a text that is timed, which a processor's cache holds, as it holds what was just received.
+const LONG: usize = 262_144;
+
+/// How often such a text is scanned: 32 MiB in all.
+const ROUNDS: usize = 128;
 
 /// Prints a line of counts, and with them the events.
 fn count(rt: &impl Print, name: &str, text: &[u8], size: usize) -> Result<()> {
@@ -28,7 +32,7 @@ fn count(rt: &impl Print, name: &str, text: &[u8], size: usize) -> Result<()> {
     let mut tally = Tally::new();
     scan_text(&mut scanner, text, size, &mut tally)?;
     scanner.finish()?;
-    let events = tally.events;
+    let events = tally.events();
     print_counts(rt, name, size, &tally)?;
     println!(rt; "{events} events")?;
     Ok(())
@@ -39,7 +43,9 @@ fn measure(rt: &(impl Print + CpuClock), name: &str, text: &[u8], size: usize) -
     let mut scanner = Scanner::new(Version::Three, &Limits::standard());
     let mut tally = Tally::new();
     let start = rt.thread_cpu_time()?.as_nanos();
-    scan_text(&mut scanner, text, size, &mut tally)?;
+    for _ in 0..ROUNDS {
+        scan_text(&mut scanner, text, size, &mut tally)?;
+    }
     let end = rt.thread_cpu_time()?.as_nanos();
     scanner.finish()?;
     let micros = end.saturating_sub(start) / 1_000;
