@@ -17,7 +17,7 @@ impl Machine {
     ghost use Rattle.resp_scan.specs.Sound.{HasRoom};
 
     /// Behind `$`: a number, `-1` for the null, or `?` for a streamed string.
-    #[inline]
+    #[inline(never)]
     pub fn bulk_head(&mut self, piece: &[u8], i: usize) -> Got
         requires { i ≤ length piece.now }
         ensures { said result self.new ≡ scan i (at (place self.old) AtBulkHead) (drop i piece.now) }
@@ -36,7 +36,7 @@ impl Machine {
     }
 
     /// Behind `*`: a number, `-1` for the null, or `?` for a streamed array.
-    #[inline]
+    #[inline(never)]
     pub fn array_head(&mut self, piece: &[u8], i: usize) -> Got
         requires { i ≤ length piece.now }
         ensures { said result self.new ≡ scan i (at (place self.old) AtArrayHead) (drop i piece.now) }
@@ -121,7 +121,7 @@ impl Machine {
     }
 
     /// At a head's first digit, or at the `?` of a streamed aggregate.
-    #[inline]
+    #[inline(always)]
     pub fn head_first(&mut self, piece: &[u8], i: usize, head: Head) -> Got
         requires within { i ≤ length piece.now }
         requires level { HasFrame (place self.old) head }
@@ -151,7 +151,7 @@ impl Machine {
         }
     }
 
-    #[inline]
+    #[inline(always)]
     pub fn head_more(&mut self, piece: &[u8], from: usize, head: Head, first: u64) -> Got
         requires within { from ≤ length piece.now }
         requires fits { first ≤ 2 ^ 40 }
@@ -209,7 +209,7 @@ impl Machine {
         self.over_total(used, needed_behind(head, number))
     }
 
-    #[inline]
+    #[inline(always)]
     pub fn head_lf(&mut self, piece: &[u8], i: usize, head: Head, number: u64) -> Got
         requires within { i ≤ length piece.now }
         requires fits { number ≤ 2 ^ 40 }

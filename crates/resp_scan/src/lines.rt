@@ -21,14 +21,14 @@ impl Machine {
         if piece.is_empty() {
             return self.rest(State::Line, piece);
         }
+        if piece[0] == b'\r' {
+            return self.line_lf(piece, 1);
+        }
         let most = self.text_room().min(piece.len() as u64) as usize;
         let run = line_run(&piece[..most]);
         if run > 0 {
             self.room -= run as u64;
             return self.gives(run, What::Part);
-        }
-        if piece[0] == b'\r' {
-            return self.line_lf(piece, 1);
         }
         if piece[0] == b'\n' {
             return self.fail(0, Cause::Syntax);

@@ -107,7 +107,7 @@ impl Machine {
         }
     }
 
-    #[inline]
+    #[inline(never)]
     #[tactic(auto, using(crate::proofs::Starts::refused_answer, crate::proofs::Starts::begun_answer))]
     fn head_begins(&mut self, piece: &[u8], head: Head, needed: u64) -> Got
         requires some { 0 < length piece.now }

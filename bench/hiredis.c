@@ -1,0 +1,181 @@
+/* How long the reader of hiredis takes the texts of bench_scan, by object functions that build nothing.
+ *
+ * It prints the lines of bench_scan, of the same texts in the same pieces: with no argument of short texts, read once,
+ * and with the argument `times` of longer ones, 32 MiB in all for each, with microseconds. Where the counts differ,
+ * the two didn't read the same. */
+
+#include <hiredis/hiredis.h>
+#include <stdio.h>
+#include <stdlib.h>
+#include <string.h>
+#include <time.h>
+
+#if HIREDIS_MAJOR >= 1
+typedef size_t member_count;
+#else
+typedef int member_count;
+#endif
+
+/* A hiredis that knows no RESP3 reads the members of a map as those of an array, whose head is as long. */
+#ifdef REDIS_REPLY_MAP
+#define MAP_HEAD "%10\r\n"
+#else
+#define MAP_HEAD "*20\r\n"
+#endif
+
+enum { SHORT_TEXT = 4096, LONG_TEXT = 262144, ROUNDS = 128, UNIT_ROOM = 70000 };
+
+/* In this order no two of them are changed as one by a wider instruction, which the next change would wait for. */
+static struct {
+	unsigned long long values, replies, content;
+	long long sum;
+} tally;
+
+/* What stands for every reply. */
+static char built;
+
+static void *on_string(const redisReadTask *task, char *text, size_t length)
+{
+	(void)task;
+	(void)text;
+	tally.values++;
+	tally.content += length;
+	return &built;
+}
+
+static void *on_array(const redisReadTask *task, member_count members)
+{
+	(void)task;
+	(void)members;
+	tally.values++;
+	return &built;
+}
+
+static void *on_integer(const redisReadTask *task, long long number)
+{
+	(void)task;
+	tally.values++;
+	tally.sum += number;
+	return &built;
+}
+
+static void *on_nil(const redisReadTask *task)
+{
+	(void)task;
+	tally.values++;
+	return &built;
+}
+
+static void on_free(void *object)
+{
+	(void)object;
+}
+
+static redisReplyObjectFunctions functions = {
+	.createString = on_string,
+	.createArray = on_array,
+	.createInteger = on_integer,
+	.createNil = on_nil,
+	.freeObject = on_free,
+};
+
+static void stop(const char *why)
+{
+	fprintf(stderr, "hiredis: %s\n", why);
+	exit(1);
+}
+
+static void read_piece(redisReader *reader, const char *piece, size_t length)
+{
+	void *reply;
+	if (redisReaderFeed(reader, piece, length) != REDIS_OK)
+		stop(reader->errstr);
+	do {
+		if (redisReaderGetReply(reader, &reply) != REDIS_OK)
+			stop(reader->errstr);
+		if (reply != NULL)
+			tally.replies++;
+	} while (reply != NULL);
+}
+
+__attribute__((noinline)) static void read_text(redisReader *reader, const char *text, size_t length, size_t size)
+{
+	while (length > 0) {
+		size_t taken = size < length ? size : length;
+		read_piece(reader, text, taken);
+		text += taken;
+		length -= taken;
+	}
+}
+
+/* Reads the text in pieces of so many bytes, and prints what it counted. */
+static void count(const char *name, const char *text, size_t length, size_t size, int timed)
+{
+	redisReader *reader = redisReaderCreateWithFunctions(&functions);
+	if (reader == NULL)
+		stop("no memory");
+	memset(&tally, 0, sizeof tally);
+	clock_t start = clock();
+	for (int round = 0; round < (timed ? ROUNDS : 1); round++)
+		read_text(reader, text, length, size);
+	clock_t end = clock();
+	redisReaderFree(reader);
+	printf("%s by %zu: %llu replies, %llu values, %llu bytes, sum %lld;", name, size, tally.replies, tally.values,
+	       tally.content, tally.sum);
+	if (timed)
+		printf(" %lld us", (long long)(end - start) * 1000000 / CLOCKS_PER_SEC);
+	printf("\n");
+}
+
+/* Reads a text that is this one over and over, in pieces of each size. */
+static void run(const char *name, const char *unit, size_t length, int timed)
+{
+	static const size_t sizes[] = {1, 7, 1000, 4096, 16384};
+	size_t least = timed ? LONG_TEXT : SHORT_TEXT;
+	char *all = malloc(least + length);
+	size_t filled = 0;
+	if (all == NULL)
+		stop("no memory");
+	while (filled < least) {
+		memcpy(all + filled, unit, length);
+		filled += length;
+	}
+	for (size_t i = timed ? 3 : 0; i < 5; i++)
+		count(name, all, filled, sizes[i], timed);
+	free(all);
+}
+
+/* Reads texts of so many bytes of content behind this head. */
+static void run_filled(const char *name, const char *head, size_t length, int timed)
+{
+	static char unit[UNIT_ROOM];
+	size_t used = strlen(head);
+	memcpy(unit, head, used);
+	memset(unit + used, 'x', length);
+	memcpy(unit + used + length, "\r\n", 2);
+	run(name, unit, used + length + 2, timed);
+}
+
+/* Reads texts of so many equal members behind this head. */
+static void run_members(const char *name, const char *head, const char *member, int members, int timed)
+{
+	static char unit[UNIT_ROOM];
+	strcpy(unit, head);
+	for (int i = 0; i < members; i++)
+		strcat(unit, member);
+	run(name, unit, strlen(unit), timed);
+}
+
+int main(int argc, char **argv)
+{
+	int timed = argc > 1 && strcmp(argv[1], "times") == 0;
+	run("simple OK", "+OK\r\n", 5, timed);
+	run("integers", ":123456\r\n", 9, timed);
+	run_filled("80-byte lines", "+", 80, timed);
+	run_filled("16-byte bulks", "$16\r\n", 16, timed);
+	run_filled("1 KiB bulks", "$1024\r\n", 1024, timed);
+	run_filled("64 KiB bulks", "$65536\r\n", 65536, timed);
+	run_members("arrays of three bulks", "*3\r\n", "$3\r\nxxx\r\n", 3, timed);
+	run_members("maps of ten pairs", MAP_HEAD, "$8\r\nxxxxxxxx\r\n:7\r\n", 10, timed);
+	return 0;
+}
