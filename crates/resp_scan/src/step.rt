@@ -16,6 +16,7 @@ impl Machine {
     ghost use Rattle.resp_scan.specs.Scan.{advanced};
     ghost use Rattle.resp_scan.specs.Sound.{IsSound};
     ghost use Rattle.resp_scan.specs.States.{is_counted};
+    ghost use Rattle.resp_scan.specs.Tokens.{Place};
 
     /// Behind a value: its end or its parent's close is owed, or the next member may begin.
     #[inline]
@@ -111,31 +112,15 @@ impl Machine {
         }
     }
 
+    /// The answer of a step whose token came to this.
     #[inline(always)]
-    #[tactic(auto, using(crate::proofs::Places::sound_start, crate::proofs::Places::content_some))]
-    fn advance(&mut self, piece: &[u8]) -> Got
-        requires { IsSound (place self.old) }
-        ensures { said result self.new ≡ advanced (place self.old) piece.now }
-    {
-        match self.state {
-            State::Start => self.start(piece),
-            State::Ended => self.after_value(piece),
-            State::Line => self.line(piece),
-            State::Content => self.content(piece),
-            State::ContentCr => self.content_cr(piece),
-            _ => self.resume(piece),
-        }
-    }
-
-    #[inline(always)]
-    pub fn step<'a>(&mut self, piece: &'a [u8]) -> Result<Step<'a>, Fault>
-        requires { IsSound (place self.old) }
-        ensures heard { heard (place self.old).taken result (place self.new) ≡ stepped (advanced (place self.old) piece.now) }
+    fn answer<'a>(&mut self, piece: &'a [u8], got: Got) -> Result<Step<'a>, Fault>
+        requires { (s : Place) × IsSound s × (said got self.old ≡ advanced s piece.now) }
+        ensures heard { (s : Place) → IsSound s → said got self.old ≡ advanced s piece.now → heard s.taken result (place self.new) ≡ stepped (advanced s piece.now) }
         ensures within { IfOk result (λ step. step.used ≤ length piece.now) }
         ensures lent { IfOk result (λ step. IsOfPiece piece.now step) }
         ensures counted { IfErr result (λ fault. fault.at ≡ self.new.taken) }
     {
-        let got = self.advance(piece);
         let used = got.used;
         self.taken += used as u64;
         let event = match got.what {
@@ -167,6 +152,43 @@ impl Machine {
             What::Done => Some(Event::Done),
         };
         Ok(Step { used, event })
+    }
+
+    #[inline(always)]
+    #[tactic(auto, using(crate::proofs::Places::sound_start, crate::proofs::Places::content_some))]
+    pub fn step<'a>(&mut self, piece: &'a [u8]) -> Result<Step<'a>, Fault>
+        requires { IsSound (place self.old) }
+        ensures heard { heard (place self.old).taken result (place self.new) ≡ stepped (advanced (place self.old) piece.now) }
+        ensures within { IfOk result (λ step. step.used ≤ length piece.now) }
+        ensures lent { IfOk result (λ step. IsOfPiece piece.now step) }
+        ensures counted { IfErr result (λ fault. fault.at ≡ self.new.taken) }
+    {
+        match self.state {
+            State::Start => {
+                let got = self.start(piece);
+                self.answer(piece, got)
+            }
+            State::Ended => {
+                let got = self.after_value(piece);
+                self.answer(piece, got)
+            }
+            State::Line => {
+                let got = self.line(piece);
+                self.answer(piece, got)
+            }
+            State::Content => {
+                let got = self.content(piece);
+                self.answer(piece, got)
+            }
+            State::ContentCr => {
+                let got = self.content_cr(piece);
+                self.answer(piece, got)
+            }
+            _ => {
+                let got = self.resume(piece);
+                self.answer(piece, got)
+            }
+        }
     }
 }
 

@@ -10,47 +10,41 @@ use Rattle.resp_scan.specs.Said.{place}
 use Rattle.resp_scan.proofs.Pieces.{used_within, few_taken, part_some, chunk_part_some, digit_owed, done_none, failed_is}
 use Rattle.resp_scan.proofs.Counted.{place_counted}
 use Rattle.resp_scan.proofs.Told.{told, part_heard, digit_heard, done_heard, run_length, run_is, digit_is}
-use Rattle.resp_scan.proofs.machine.Machine.step.Goals as goal
-use Rattle.resp_scan.proofs.machine.Machine.step.Goals.{in-More, in-Null, in-Bool, in-Int, in-Simple, in-Error, in-Bulk, in-BulkError, in-Verbatim, in-Big, in-Part, in-ChunkPart, in-Digit, in-TextEnd, in-Open, in-OpenStreamed, in-Close, in-Done}
+use Rattle.resp_scan.proofs.machine.Machine.answer.Goals as goal
+use Rattle.resp_scan.proofs.machine.Machine.answer.Goals.{in-More, in-Null, in-Bool, in-Int, in-Simple, in-Error, in-Bulk, in-BulkError, in-Verbatim, in-Big, in-Part, in-ChunkPart, in-Digit, in-TextEnd, in-Open, in-OpenStreamed, in-Close, in-Done}
 
 pub overflow_add-self : goal.overflow_add-self
-overflow_add-self c = omega (arith, few_taken c.advance-got.result c.advance-got.new.self (place c.args.self.now) c.args.piece.now c.requires c.advance-got.ensures)
+overflow_add-self c = omega (arith, few_taken c.args.got c.args.self.now c.requires.0 c.args.piece.now c.requires.1 c.requires.2)
 
 pub returns-in-Failed-clause-heard : goal.returns-in-Failed-clause-heard
-returns-in-Failed-clause-heard c =
-    let g = c.advance-got.result in
-    let m = c.advance-got.new.self in
-    let s = place c.args.self.now in
+returns-in-Failed-clause-heard c s h e =
+    let g = c.args.got in
+    let m = c.args.self.now in
     let p = c.args.piece.now in
-    let h = c.requires in
-    let e = c.advance-got.ensures in
     let f = failed_is g m s p h e c.in-Failed.is in
-    let d : (m.taken + g.used) - c.args.self.now.taken ≡ g.used = omega (arith, f.1) in
-    ap (λ t. Bad ((m.taken + g.used) - c.args.self.now.taken) m.cause t) (place_counted m g.used) ∙ ap (λ n. Bad n m.cause (after g.used (place m))) d ∙ ap stepped (sym f.0)
+    let d : (m.taken + g.used) - s.taken ≡ g.used = omega (arith, f.1) in
+    ap (λ t. Bad ((m.taken + g.used) - s.taken) m.cause t) (place_counted m g.used) ∙ ap (λ n. Bad n m.cause (after g.used (place m))) d ∙ ap stepped (sym f.0)
 
 pub slice_bounds-event-end : goal.slice_bounds-event-end
-slice_bounds-event-end c = sym (length-take-le _ _ (used_within c.advance-got.result c.advance-got.new.self (place c.args.self.now) c.args.piece.now c.requires c.advance-got.ensures).0)
+slice_bounds-event-end c = sym (length-take-le _ _ (used_within c.args.got c.args.self.now c.requires.0 c.args.piece.now c.requires.1 c.requires.2).0)
 
 pub run-requires-clause-start : goal.run-requires-clause-start
-run-requires-clause-start c = omega (arith, chunk_part_some c.advance-got.result c.advance-got.new.self (place c.args.self.now) c.args.piece.now c.requires c.advance-got.ensures c.in-ChunkPart.is)
+run-requires-clause-start c = omega (arith, chunk_part_some c.args.got c.args.self.now c.requires.0 c.args.piece.now c.requires.1 c.requires.2 c.in-ChunkPart.is)
 
 pub run-requires-clause-within : goal.run-requires-clause-within
-run-requires-clause-within c = (used_within c.advance-got.result c.advance-got.new.self (place c.args.self.now) c.args.piece.now c.requires c.advance-got.ensures).0
+run-requires-clause-within c = (used_within c.args.got c.args.self.now c.requires.0 c.args.piece.now c.requires.1 c.requires.2).0
 
 pub digit_text-requires : goal.digit_text-requires
-digit_text-requires c = (digit_owed c.advance-got.result c.advance-got.new.self (place c.args.self.now) c.args.piece.now c.requires c.advance-got.ensures c.in-Digit.is).1
+digit_text-requires c = (digit_owed c.args.got c.args.self.now c.requires.0 c.args.piece.now c.requires.1 c.requires.2 c.in-Digit.is).1
 
 pub returns-clause-within : goal.returns-clause-within
-returns-clause-within c = (used_within c.advance-got.result c.advance-got.new.self (place c.args.self.now) c.args.piece.now c.requires c.advance-got.ensures).0
+returns-clause-within c = (used_within c.args.got c.args.self.now c.requires.0 c.args.piece.now c.requires.1 c.requires.2).0
 
 pub returns-clause-heard : goal.returns-clause-heard
-returns-clause-heard c =
-    let g = c.advance-got.result in
-    let m = c.advance-got.new.self in
-    let s = place c.args.self.now in
+returns-clause-heard c s h e =
+    let g = c.args.got in
+    let m = c.args.self.now in
     let p = c.args.piece.now in
-    let h = c.requires in
-    let e = c.advance-got.ensures in
     let u = used_within g m s p h e in
     elim c.match-got.branch [
       | in-More w ↦ rw w.event-is (told g m s p what.More None e w.in-More.is refl)
@@ -75,12 +69,12 @@ returns-clause-heard c =
 
 pub returns-clause-lent : goal.returns-clause-lent
 returns-clause-lent c =
-    let g = c.advance-got.result in
-    let m = c.advance-got.new.self in
-    let s = place c.args.self.now in
+    let g = c.args.got in
+    let m = c.args.self.now in
+    let s = c.requires.0 in
     let p = c.args.piece.now in
-    let h = c.requires in
-    let e = c.advance-got.ensures in
+    let h = c.requires.1 in
+    let e = c.requires.2 in
     let u = used_within g m s p h e in
     elim c.match-got.branch [
       | in-More w ↦ rw w.event-is tt
