@@ -81,6 +81,10 @@ start_or_behind s front es w = case s.frames w
     case [] w = inl (refl, refl)
     case (f ∷ fs) w = inr (between_some (rules_of s) f fs front es w)
 
+-- inside a value, but for its text's end
+behind_in : (t : Token) (s : Place) (front : List ℕ) (es : List e.Event) → IsSound (at s t) → (t ≡ AtTextEnd → ⊥) → Inside (rules_of s) (b.Begun (rules_of s) t) s.frames front es → AtFrontOrBehind t s.frames front
+behind_in t s front es c no_end w = inr (inside_some (rules_of s) (b.Begun (rules_of s) t) s.frames front es (token_needed t s.bounds.depth s.frames) w (tokens_need (at s t) 0 (length w.frames) w.bytes w.shown c no_end (at_level w) w.took))
+
 behind_at : (t : Token) (s : Place) (front : List ℕ) (es : List e.Event) → IsSound (at s t) → Lies (at s t) front es → AtFrontOrBehind t s.frames front
 behind_at AtStart s front es c w = start_or_behind s front es w
 behind_at AtEnd s front es c w = inr (ended_some (rules_of s) s.frames front es w)
@@ -88,44 +92,7 @@ behind_at AtTextEnd s front es c w = inr (omega (arith, ap length w.whole, longe
 behind_at AtCloseCr s front es c w = inr (closing_some (rules_of s) s.frames (46 ∷ []) (13 ∷ 10 ∷ []) front es (omega arith) w)
 behind_at AtCloseLf s front es c w = inr (closing_some (rules_of s) s.frames (46 ∷ 13 ∷ []) (10 ∷ []) front es (omega arith) w)
 behind_at (Dead x) s front es c w = absurd w.took
-behind_at (InLine room) s front es c w = inr (inside_some (rules_of s) (b.Begun (rules_of s) (InLine room)) s.frames front es (token_needed (InLine room) s.bounds.depth s.frames) w (tokens_need (at s (InLine room)) 0 (length w.frames) w.bytes w.shown c (λ e. cc) (at_level w) w.took))
-behind_at AtLineLf s front es c w = inr (inside_some (rules_of s) (b.Begun (rules_of s) AtLineLf) s.frames front es (token_needed AtLineLf s.bounds.depth s.frames) w (tokens_need (at s AtLineLf) 0 (length w.frames) w.bytes w.shown c (λ e. cc) (at_level w) w.took))
-behind_at AtIntSign s front es c w = inr (inside_some (rules_of s) (b.Begun (rules_of s) AtIntSign) s.frames front es (token_needed AtIntSign s.bounds.depth s.frames) w (tokens_need (at s AtIntSign) 0 (length w.frames) w.bytes w.shown c (λ e. cc) (at_level w) w.took))
-behind_at (AtIntFirst negative) s front es c w = inr (inside_some (rules_of s) (b.Begun (rules_of s) (AtIntFirst negative)) s.frames front es (token_needed (AtIntFirst negative) s.bounds.depth s.frames) w (tokens_need (at s (AtIntFirst negative)) 0 (length w.frames) w.bytes w.shown c (λ e. cc) (at_level w) w.took))
-behind_at (InInt negative n) s front es c w = inr (inside_some (rules_of s) (b.Begun (rules_of s) (InInt negative n)) s.frames front es (token_needed (InInt negative n) s.bounds.depth s.frames) w (tokens_need (at s (InInt negative n)) 0 (length w.frames) w.bytes w.shown c (λ e. cc) (at_level w) w.took))
-behind_at (AtIntLf negative n) s front es c w = inr (inside_some (rules_of s) (b.Begun (rules_of s) (AtIntLf negative n)) s.frames front es (token_needed (AtIntLf negative n) s.bounds.depth s.frames) w (tokens_need (at s (AtIntLf negative n)) 0 (length w.frames) w.bytes w.shown c (λ e. cc) (at_level w) w.took))
-behind_at AtBigSign s front es c w = inr (inside_some (rules_of s) (b.Begun (rules_of s) AtBigSign) s.frames front es (token_needed AtBigSign s.bounds.depth s.frames) w (tokens_need (at s AtBigSign) 0 (length w.frames) w.bytes w.shown c (λ e. cc) (at_level w) w.took))
-behind_at (AtBigFirst negative) s front es c w = inr (inside_some (rules_of s) (b.Begun (rules_of s) (AtBigFirst negative)) s.frames front es (token_needed (AtBigFirst negative) s.bounds.depth s.frames) w (tokens_need (at s (AtBigFirst negative)) 0 (length w.frames) w.bytes w.shown c (λ e. cc) (at_level w) w.took))
-behind_at (InBigZeros negative) s front es c w = inr (inside_some (rules_of s) (b.Begun (rules_of s) (InBigZeros negative)) s.frames front es (token_needed (InBigZeros negative) s.bounds.depth s.frames) w (tokens_need (at s (InBigZeros negative)) 0 (length w.frames) w.bytes w.shown c (λ e. cc) (at_level w) w.took))
-behind_at AtBigZeroLf s front es c w = inr (inside_some (rules_of s) (b.Begun (rules_of s) AtBigZeroLf) s.frames front es (token_needed AtBigZeroLf s.bounds.depth s.frames) w (tokens_need (at s AtBigZeroLf) 0 (length w.frames) w.bytes w.shown c (λ e. cc) (at_level w) w.took))
-behind_at (AtBigDigit digit room) s front es c w = inr (inside_some (rules_of s) (b.Begun (rules_of s) (AtBigDigit digit room)) s.frames front es (token_needed (AtBigDigit digit room) s.bounds.depth s.frames) w (tokens_need (at s (AtBigDigit digit room)) 0 (length w.frames) w.bytes w.shown c (λ e. cc) (at_level w) w.took))
-behind_at (InBig room) s front es c w = inr (inside_some (rules_of s) (b.Begun (rules_of s) (InBig room)) s.frames front es (token_needed (InBig room) s.bounds.depth s.frames) w (tokens_need (at s (InBig room)) 0 (length w.frames) w.bytes w.shown c (λ e. cc) (at_level w) w.took))
-behind_at AtNullOne s front es c w = inr (inside_some (rules_of s) (b.Begun (rules_of s) AtNullOne) s.frames front es (token_needed AtNullOne s.bounds.depth s.frames) w (tokens_need (at s AtNullOne) 0 (length w.frames) w.bytes w.shown c (λ e. cc) (at_level w) w.took))
-behind_at AtNullCr s front es c w = inr (inside_some (rules_of s) (b.Begun (rules_of s) AtNullCr) s.frames front es (token_needed AtNullCr s.bounds.depth s.frames) w (tokens_need (at s AtNullCr) 0 (length w.frames) w.bytes w.shown c (λ e. cc) (at_level w) w.took))
-behind_at AtNullLf s front es c w = inr (inside_some (rules_of s) (b.Begun (rules_of s) AtNullLf) s.frames front es (token_needed AtNullLf s.bounds.depth s.frames) w (tokens_need (at s AtNullLf) 0 (length w.frames) w.bytes w.shown c (λ e. cc) (at_level w) w.took))
-behind_at AtBool s front es c w = inr (inside_some (rules_of s) (b.Begun (rules_of s) AtBool) s.frames front es (token_needed AtBool s.bounds.depth s.frames) w (tokens_need (at s AtBool) 0 (length w.frames) w.bytes w.shown c (λ e. cc) (at_level w) w.took))
-behind_at (AtBoolCr x) s front es c w = inr (inside_some (rules_of s) (b.Begun (rules_of s) (AtBoolCr x)) s.frames front es (token_needed (AtBoolCr x) s.bounds.depth s.frames) w (tokens_need (at s (AtBoolCr x)) 0 (length w.frames) w.bytes w.shown c (λ e. cc) (at_level w) w.took))
-behind_at (AtBoolLf x) s front es c w = inr (inside_some (rules_of s) (b.Begun (rules_of s) (AtBoolLf x)) s.frames front es (token_needed (AtBoolLf x) s.bounds.depth s.frames) w (tokens_need (at s (AtBoolLf x)) 0 (length w.frames) w.bytes w.shown c (λ e. cc) (at_level w) w.took))
-behind_at AtBulkHead s front es c w = inr (inside_some (rules_of s) (b.Begun (rules_of s) AtBulkHead) s.frames front es (token_needed AtBulkHead s.bounds.depth s.frames) w (tokens_need (at s AtBulkHead) 0 (length w.frames) w.bytes w.shown c (λ e. cc) (at_level w) w.took))
-behind_at AtArrayHead s front es c w = inr (inside_some (rules_of s) (b.Begun (rules_of s) AtArrayHead) s.frames front es (token_needed AtArrayHead s.bounds.depth s.frames) w (tokens_need (at s AtArrayHead) 0 (length w.frames) w.bytes w.shown c (λ e. cc) (at_level w) w.took))
-behind_at (AtHead h) s front es c w = inr (inside_some (rules_of s) (b.Begun (rules_of s) (AtHead h)) s.frames front es (token_needed (AtHead h) s.bounds.depth s.frames) w (tokens_need (at s (AtHead h)) 0 (length w.frames) w.bytes w.shown c (λ e. cc) (at_level w) w.took))
-behind_at (InHead h n) s front es c w = inr (inside_some (rules_of s) (b.Begun (rules_of s) (InHead h n)) s.frames front es (token_needed (InHead h n) s.bounds.depth s.frames) w (tokens_need (at s (InHead h n)) 0 (length w.frames) w.bytes w.shown c (λ e. cc) (at_level w) w.took))
-behind_at (AtHeadLf h n) s front es c w = inr (inside_some (rules_of s) (b.Begun (rules_of s) (AtHeadLf h n)) s.frames front es (token_needed (AtHeadLf h n) s.bounds.depth s.frames) w (tokens_need (at s (AtHeadLf h n)) 0 (length w.frames) w.bytes w.shown c (λ e. cc) (at_level w) w.took))
-behind_at (AtFormat n) s front es c w = inr (inside_some (rules_of s) (b.Begun (rules_of s) (AtFormat n)) s.frames front es (token_needed (AtFormat n) s.bounds.depth s.frames) w (tokens_need (at s (AtFormat n)) 0 (length w.frames) w.bytes w.shown c (λ e. cc) (at_level w) w.took))
-behind_at (AtFormatSecond x n) s front es c w = inr (inside_some (rules_of s) (b.Begun (rules_of s) (AtFormatSecond x n)) s.frames front es (token_needed (AtFormatSecond x n) s.bounds.depth s.frames) w (tokens_need (at s (AtFormatSecond x n)) 0 (length w.frames) w.bytes w.shown c (λ e. cc) (at_level w) w.took))
-behind_at (AtFormatThird x y n) s front es c w = inr (inside_some (rules_of s) (b.Begun (rules_of s) (AtFormatThird x y n)) s.frames front es (token_needed (AtFormatThird x y n) s.bounds.depth s.frames) w (tokens_need (at s (AtFormatThird x y n)) 0 (length w.frames) w.bytes w.shown c (λ e. cc) (at_level w) w.took))
-behind_at (AtFormatColon format n) s front es c w = inr (inside_some (rules_of s) (b.Begun (rules_of s) (AtFormatColon format n)) s.frames front es (token_needed (AtFormatColon format n) s.bounds.depth s.frames) w (tokens_need (at s (AtFormatColon format n)) 0 (length w.frames) w.bytes w.shown c (λ e. cc) (at_level w) w.took))
-behind_at (InContent n) s front es c w = inr (inside_some (rules_of s) (b.Begun (rules_of s) (InContent n)) s.frames front es (token_needed (InContent n) s.bounds.depth s.frames) w (tokens_need (at s (InContent n)) 0 (length w.frames) w.bytes w.shown c (λ e. cc) (at_level w) w.took))
-behind_at AtContentCr s front es c w = inr (inside_some (rules_of s) (b.Begun (rules_of s) AtContentCr) s.frames front es (token_needed AtContentCr s.bounds.depth s.frames) w (tokens_need (at s AtContentCr) 0 (length w.frames) w.bytes w.shown c (λ e. cc) (at_level w) w.took))
-behind_at AtContentLf s front es c w = inr (inside_some (rules_of s) (b.Begun (rules_of s) AtContentLf) s.frames front es (token_needed AtContentLf s.bounds.depth s.frames) w (tokens_need (at s AtContentLf) 0 (length w.frames) w.bytes w.shown c (λ e. cc) (at_level w) w.took))
-behind_at AtStreamCr s front es c w = inr (inside_some (rules_of s) (b.Begun (rules_of s) AtStreamCr) s.frames front es (token_needed AtStreamCr s.bounds.depth s.frames) w (tokens_need (at s AtStreamCr) 0 (length w.frames) w.bytes w.shown c (λ e. cc) (at_level w) w.took))
-behind_at AtStreamLf s front es c w = inr (inside_some (rules_of s) (b.Begun (rules_of s) AtStreamLf) s.frames front es (token_needed AtStreamLf s.bounds.depth s.frames) w (tokens_need (at s AtStreamLf) 0 (length w.frames) w.bytes w.shown c (λ e. cc) (at_level w) w.took))
-behind_at (AtChunk room) s front es c w = inr (inside_some (rules_of s) (b.Begun (rules_of s) (AtChunk room)) s.frames front es (token_needed (AtChunk room) s.bounds.depth s.frames) w (tokens_need (at s (AtChunk room)) 0 (length w.frames) w.bytes w.shown c (λ e. cc) (at_level w) w.took))
-behind_at (InChunk room n) s front es c w = inr (inside_some (rules_of s) (b.Begun (rules_of s) (InChunk room n)) s.frames front es (token_needed (InChunk room n) s.bounds.depth s.frames) w (tokens_need (at s (InChunk room n)) 0 (length w.frames) w.bytes w.shown c (λ e. cc) (at_level w) w.took))
-behind_at (AtChunkCr room) s front es c w = inr (inside_some (rules_of s) (b.Begun (rules_of s) (AtChunkCr room)) s.frames front es (token_needed (AtChunkCr room) s.bounds.depth s.frames) w (tokens_need (at s (AtChunkCr room)) 0 (length w.frames) w.bytes w.shown c (λ e. cc) (at_level w) w.took))
-behind_at (AtChunkLf room) s front es c w = inr (inside_some (rules_of s) (b.Begun (rules_of s) (AtChunkLf room)) s.frames front es (token_needed (AtChunkLf room) s.bounds.depth s.frames) w (tokens_need (at s (AtChunkLf room)) 0 (length w.frames) w.bytes w.shown c (λ e. cc) (at_level w) w.took))
-behind_at (AtOpenCr o) s front es c w = inr (inside_some (rules_of s) (b.Begun (rules_of s) (AtOpenCr o)) s.frames front es (token_needed (AtOpenCr o) s.bounds.depth s.frames) w (tokens_need (at s (AtOpenCr o)) 0 (length w.frames) w.bytes w.shown c (λ e. cc) (at_level w) w.took))
-behind_at (AtOpenLf o) s front es c w = inr (inside_some (rules_of s) (b.Begun (rules_of s) (AtOpenLf o)) s.frames front es (token_needed (AtOpenLf o) s.bounds.depth s.frames) w (tokens_need (at s (AtOpenLf o)) 0 (length w.frames) w.bytes w.shown c (λ e. cc) (at_level w) w.took))
+behind_at t s front es c w = behind_in t s front es c (λ e. cc) w
 
 front_or_behind : (s : Place) (front : List ℕ) (es : List e.Event) → IsSound s → Lies s front es → AtFrontOrBehind s.token s.frames front
 front_or_behind s front es c w = behind_at s.token s front es c w
@@ -186,49 +153,7 @@ ends_by s = cond (eqb s.taken 0 || eqb (needed s) 0) None (Some cause.Truncated)
 
 end_at : (t : Token) (s : Place) → ((c : Cause) → t ≡ Dead c → ⊥) → end_cause_in t s ≡ ends_by s
 end_at (Dead c) s h = absurd (h c refl)
-end_at AtStart s h = refl
-end_at AtEnd s h = refl
-end_at (InLine room) s h = refl
-end_at AtLineLf s h = refl
-end_at AtIntSign s h = refl
-end_at (AtIntFirst negative) s h = refl
-end_at (InInt negative n) s h = refl
-end_at (AtIntLf negative n) s h = refl
-end_at AtBigSign s h = refl
-end_at (AtBigFirst negative) s h = refl
-end_at (InBigZeros negative) s h = refl
-end_at AtBigZeroLf s h = refl
-end_at (AtBigDigit digit room) s h = refl
-end_at (InBig room) s h = refl
-end_at AtTextEnd s h = refl
-end_at AtNullOne s h = refl
-end_at AtNullCr s h = refl
-end_at AtNullLf s h = refl
-end_at AtBool s h = refl
-end_at (AtBoolCr x) s h = refl
-end_at (AtBoolLf x) s h = refl
-end_at AtBulkHead s h = refl
-end_at AtArrayHead s h = refl
-end_at (AtHead x) s h = refl
-end_at (InHead x n) s h = refl
-end_at (AtHeadLf x n) s h = refl
-end_at (AtFormat n) s h = refl
-end_at (AtFormatSecond x n) s h = refl
-end_at (AtFormatThird x y n) s h = refl
-end_at (AtFormatColon format n) s h = refl
-end_at (InContent n) s h = refl
-end_at AtContentCr s h = refl
-end_at AtContentLf s h = refl
-end_at AtStreamCr s h = refl
-end_at AtStreamLf s h = refl
-end_at (AtChunk room) s h = refl
-end_at (InChunk room n) s h = refl
-end_at (AtChunkCr room) s h = refl
-end_at (AtChunkLf room) s h = refl
-end_at (AtOpenCr o) s h = refl
-end_at (AtOpenLf o) s h = refl
-end_at AtCloseCr s h = refl
-end_at AtCloseLf s h = refl
+end_at t s h = refl
 
 end_is : (s : Place) (front : List ℕ) (es : List e.Event) → Follows s front es → end_cause s ≡ ends_by s
 end_is s front es w = end_at s.token s (λ c e. alive s front es c w.lies e)

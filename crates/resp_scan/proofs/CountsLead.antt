@@ -11,17 +11,19 @@ use Rattle.resp_follow.proofs.CountRows.{IsRefusedHere}
 use Rattle.resp_follow.proofs.BegunLines.{number-digit}
 use Rattle.resp_follow.proofs.BegunFronts.{IsBegunBy}
 use Rattle.resp_follow.proofs.HeadTokens.{count_begun, count_token_broken, count_token_more, count_token_over}
+use Rattle.resp_scan.specs.declared.machine.Head.{Head}
 use Rattle.resp_scan.specs.declared.machine.Head.TheVariants as head
 use Rattle.resp_scan.specs.Tokens.{Go, Move, Place, Token, AtHeadLf, InHead, at}
 use Rattle.resp_scan.specs.Room.{over_total}
-use Rattle.resp_scan.specs.Machine.{unless, wants}
+use Rattle.resp_scan.specs.Machine.{is_digit, unless, wants}
 use Rattle.resp_scan.specs.Kinds.{rules_of}
 use Rattle.resp_scan.specs.Begun.{CountBegun, CountReturned}
 use Rattle.resp_scan.specs.Follows.{Counts, Inside, Leads, Lies}
-use Rattle.resp_scan.proofs.TokenLaws.{ArrayCountLeads, SetCountLeads, MapCountLeads, AttrCountLeads, PushCountLeads}
+use Rattle.resp_scan.proofs.TokenLaws.{CountsLead}
 use Rattle.resp_scan.proofs.Moves.{goes}
 use Rattle.resp_scan.proofs.RefusedMoves.{fits_or_total, refused, unless_over}
-use Rattle.resp_scan.proofs.Choices.{if_below, if_digit, wants_leads}
+use Rattle.resp_scan.proofs.ByteTests.{by_digit}
+use Rattle.resp_scan.proofs.Choices.{if_below, wants_leads}
 
 pub items_of-members_of : (k : Kind) (n : ℕ) → items_of k (members_of k n) ≡ n
 items_of-members_of d.Array n = refl
@@ -79,37 +81,22 @@ return_leads s k n byte token front es no_digit w lies =
     (λ other level bytes rest shown t dead. count_token_broken r k t.first t.digits level bytes rest byte other no_digit t.token dead)
     (λ is. subst (λ z. Lies (at s token) (front ++ z ∷ []) es) (sym is) (lies (goes r (CountBegun r k n) (CountReturned r k n) s.frames front (13 ∷ []) es w (λ level bytes shown i t. returns r k n level bytes shown t))))
 
-pub array_count_leads : ArrayCountLeads
-array_count_leads s n used byte front es is_byte c w =
+-- a digit more, or the CR
+count_leads : (s : Place) (h : Head) (k : Kind) (n needed used byte : ℕ) (front : List ℕ) (es : List Event) → 3 * members_of k (n * 10 + (byte - 48)) + 2 ≡ needed → Counts (at s (InHead h n)) used front → Inside (rules_of s) (CountBegun (rules_of s) k n) s.frames front es → ((m : ℕ) (longer : List ℕ) → Inside (rules_of s) (CountBegun (rules_of s) k m) s.frames longer es → Lies (at s (InHead h m)) longer es) → ((longer : List ℕ) → Inside (rules_of s) (CountReturned (rules_of s) k n) s.frames longer es → Lies (at s (AtHeadLf h n)) longer es) → Leads (at s (InHead h n)) front es byte (cond (is_digit byte) (count_digit (at s (InHead h n)) (used + 1) (n * 10 + (byte - 48)) needed (InHead h (n * 10 + (byte - 48)))) (wants 13 byte (Go (at s (AtHeadLf h n)))))
+count_leads s h k n needed used byte front es e c w counts ends =
+    let p = at s (InHead h n) in
     let m = n * 10 + (byte - 48) in
-    if_digit byte (λ x. Leads (at s (InHead head.Array n)) front es byte (cond x (count_digit (at s (InHead head.Array n)) (used + 1) m (m * 3 + 2) (InHead head.Array m)) (wants 13 byte (Go (at s (AtHeadLf head.Array n))))))
-    (λ digit. digit_leads (at s (InHead head.Array n)) d.Array n (m * 3 + 2) used byte (InHead head.Array m) front es (omega arith) digit c w (λ x. x))
-    (λ no_digit. return_leads (at s (InHead head.Array n)) d.Array n byte (AtHeadLf head.Array n) front es no_digit w (λ x. x))
+    by_digit p front es byte _ _
+    (λ digit. digit_leads p k n needed used byte (InHead h m) front es e digit c w (λ x. counts m (front ++ byte ∷ []) x))
+    (λ no_digit. return_leads p k n byte (AtHeadLf h n) front es no_digit w (λ x. ends (front ++ 13 ∷ []) x))
 
-pub set_count_leads : SetCountLeads
-set_count_leads s n used byte front es is_byte c w =
-    let m = n * 10 + (byte - 48) in
-    if_digit byte (λ x. Leads (at s (InHead head.Set n)) front es byte (cond x (count_digit (at s (InHead head.Set n)) (used + 1) m (m * 3 + 2) (InHead head.Set m)) (wants 13 byte (Go (at s (AtHeadLf head.Set n))))))
-    (λ digit. digit_leads (at s (InHead head.Set n)) d.Set n (m * 3 + 2) used byte (InHead head.Set m) front es (omega arith) digit c w (λ x. x))
-    (λ no_digit. return_leads (at s (InHead head.Set n)) d.Set n byte (AtHeadLf head.Set n) front es no_digit w (λ x. x))
-
-pub map_count_leads : MapCountLeads
-map_count_leads s n used byte front es is_byte c w =
-    let m = n * 10 + (byte - 48) in
-    if_digit byte (λ x. Leads (at s (InHead head.Map n)) front es byte (cond x (count_digit (at s (InHead head.Map n)) (used + 1) m (m * 6 + 2) (InHead head.Map m)) (wants 13 byte (Go (at s (AtHeadLf head.Map n))))))
-    (λ digit. digit_leads (at s (InHead head.Map n)) d.Map n (m * 6 + 2) used byte (InHead head.Map m) front es (omega arith) digit c w (λ x. x))
-    (λ no_digit. return_leads (at s (InHead head.Map n)) d.Map n byte (AtHeadLf head.Map n) front es no_digit w (λ x. x))
-
-pub attr_count_leads : AttrCountLeads
-attr_count_leads s n used byte front es is_byte c w =
-    let m = n * 10 + (byte - 48) in
-    if_digit byte (λ x. Leads (at s (InHead head.Attr n)) front es byte (cond x (count_digit (at s (InHead head.Attr n)) (used + 1) m (m * 6 + 5) (InHead head.Attr m)) (wants 13 byte (Go (at s (AtHeadLf head.Attr n))))))
-    (λ digit. digit_leads (at s (InHead head.Attr n)) d.Attr n (m * 6 + 5) used byte (InHead head.Attr m) front es (omega arith) digit c w (λ x. x))
-    (λ no_digit. return_leads (at s (InHead head.Attr n)) d.Attr n byte (AtHeadLf head.Attr n) front es no_digit w (λ x. x))
-
-pub push_count_leads : PushCountLeads
-push_count_leads s n used byte front es is_byte c w =
-    let m = n * 10 + (byte - 48) in
-    if_digit byte (λ x. Leads (at s (InHead head.Push n)) front es byte (cond x (count_digit (at s (InHead head.Push n)) (used + 1) m (m * 3 + 2) (InHead head.Push m)) (wants 13 byte (Go (at s (AtHeadLf head.Push n))))))
-    (λ digit. digit_leads (at s (InHead head.Push n)) d.Push n (m * 3 + 2) used byte (InHead head.Push m) front es (omega arith) digit c w (λ x. x))
-    (λ no_digit. return_leads (at s (InHead head.Push n)) d.Push n byte (AtHeadLf head.Push n) front es no_digit w (λ x. x))
+pub counts_lead : CountsLead
+counts_lead s head.Bulk n h used byte front es is_byte c w = absurd h
+counts_lead s head.BulkError n h used byte front es is_byte c w = absurd h
+counts_lead s head.Verbatim n h used byte front es is_byte c w = absurd h
+counts_lead s (head.Chunk room) n h used byte front es is_byte c w = absurd h
+counts_lead s head.Array n h used byte front es is_byte c w = count_leads s head.Array d.Array n ((n * 10 + (byte - 48)) * 3 + 2) used byte front es (omega arith) c w (λ m longer x. x) (λ longer x. x)
+counts_lead s head.Set n h used byte front es is_byte c w = count_leads s head.Set d.Set n ((n * 10 + (byte - 48)) * 3 + 2) used byte front es (omega arith) c w (λ m longer x. x) (λ longer x. x)
+counts_lead s head.Map n h used byte front es is_byte c w = count_leads s head.Map d.Map n ((n * 10 + (byte - 48)) * 6 + 2) used byte front es (omega arith) c w (λ m longer x. x) (λ longer x. x)
+counts_lead s head.Attr n h used byte front es is_byte c w = count_leads s head.Attr d.Attr n ((n * 10 + (byte - 48)) * 6 + 5) used byte front es (omega arith) c w (λ m longer x. x) (λ longer x. x)
+counts_lead s head.Push n h used byte front es is_byte c w = count_leads s head.Push d.Push n ((n * 10 + (byte - 48)) * 3 + 2) used byte front es (omega arith) c w (λ m longer x. x) (λ longer x. x)

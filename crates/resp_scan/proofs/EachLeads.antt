@@ -15,13 +15,13 @@ use Rattle.resp_scan.proofs.ChunkContentLead.{chunk_content_leads, chunk_ends_le
 use Rattle.resp_scan.proofs.ChunkHeadsLead.{chunk_heads_lead, chunk_length_ends_lead, chunk_lengths_lead}
 use Rattle.resp_scan.proofs.ClosesLead.{close_cr_leads, close_end_leads}
 use Rattle.resp_scan.proofs.ContentLead.{content_ends_lead, content_leads, content_returns_lead}
-use Rattle.resp_scan.proofs.CountsLead.{array_count_leads, attr_count_leads, map_count_leads, push_count_leads, set_count_leads}
+use Rattle.resp_scan.proofs.CountsLead.{counts_lead}
 use Rattle.resp_scan.proofs.FormatsLead.{colons_lead, formats_lead, second_format_bytes_lead, third_format_bytes_lead}
-use Rattle.resp_scan.proofs.HeadsLead.{array_head_leads, attr_head_leads, map_head_leads, open_cr_leads, open_end_leads, push_head_leads, set_head_leads}
+use Rattle.resp_scan.proofs.HeadsLead.{array_head_leads, heads_lead, open_cr_leads, open_end_leads}
 use Rattle.resp_scan.proofs.LinesLead.{line_ends_lead, lines_lead}
 use Rattle.resp_scan.proofs.LiteralsLead.{bool_cr_leads, bool_end_leads, bool_leads, null_cr_leads, null_end_leads, null_one_leads}
 use Rattle.resp_scan.proofs.NumbersLead.{int_end_leads, int_first_leads, int_leads, int_sign_leads}
-use Rattle.resp_scan.proofs.OpensLead.{array_head_end_leads, attr_head_end_leads, map_head_end_leads, push_head_end_leads, set_head_end_leads}
+use Rattle.resp_scan.proofs.OpensLead.{head_ends_lead}
 use Rattle.resp_scan.proofs.StartLeads.{start_leads}
 use Rattle.resp_scan.proofs.StreamsLead.{chunks_lead, stream_ends_lead, streams_lead}
 use Rattle.resp_scan.proofs.StringHeadsLead.{string_heads_lead, string_lengths_lead}
@@ -34,38 +34,38 @@ IsLookedAt t used = is_outside t ≡ true → (t ≡ AtStart) × (used ≡ 0)
 abbrev LeadsFrom : Token → Place → ℕ → ℕ → List ℕ → List Event → Type 0
 LeadsFrom t s used byte front es = Leads (at s t) front es byte (next (at s t) (used + 1) byte)
 
-heads_lead : (h : Head) (s : Place) → ALead (at s (AtHead h))
-heads_lead head.Bulk s = string_heads_lead s head.Bulk tt
-heads_lead head.BulkError s = string_heads_lead s head.BulkError tt
-heads_lead head.Verbatim s = string_heads_lead s head.Verbatim tt
-heads_lead (head.Chunk room) s = chunk_heads_lead s room
-heads_lead head.Array s = λ used byte front es is_byte c w. absurd w.took
-heads_lead head.Set s = set_head_leads s
-heads_lead head.Map s = map_head_leads s
-heads_lead head.Attr s = attr_head_leads s
-heads_lead head.Push s = push_head_leads s
+a_head_leads : (h : Head) (s : Place) → ALead (at s (AtHead h))
+a_head_leads head.Bulk s = string_heads_lead s head.Bulk tt
+a_head_leads head.BulkError s = string_heads_lead s head.BulkError tt
+a_head_leads head.Verbatim s = string_heads_lead s head.Verbatim tt
+a_head_leads (head.Chunk room) s = chunk_heads_lead s room
+a_head_leads head.Array s = λ used byte front es is_byte c w. absurd w.took
+a_head_leads head.Set s = heads_lead s head.Set tt
+a_head_leads head.Map s = heads_lead s head.Map tt
+a_head_leads head.Attr s = heads_lead s head.Attr tt
+a_head_leads head.Push s = heads_lead s head.Push tt
 
-counts_lead : (h : Head) (n : ℕ) (s : Place) → ALead (at s (InHead h n))
-counts_lead head.Bulk n s = string_lengths_lead s head.Bulk n tt
-counts_lead head.BulkError n s = string_lengths_lead s head.BulkError n tt
-counts_lead head.Verbatim n s = string_lengths_lead s head.Verbatim n tt
-counts_lead (head.Chunk room) n s = chunk_lengths_lead s room n
-counts_lead head.Array n s = array_count_leads s n
-counts_lead head.Set n s = set_count_leads s n
-counts_lead head.Map n s = map_count_leads s n
-counts_lead head.Attr n s = attr_count_leads s n
-counts_lead head.Push n s = push_count_leads s n
+a_count_leads : (h : Head) (n : ℕ) (s : Place) → ALead (at s (InHead h n))
+a_count_leads head.Bulk n s = string_lengths_lead s head.Bulk n tt
+a_count_leads head.BulkError n s = string_lengths_lead s head.BulkError n tt
+a_count_leads head.Verbatim n s = string_lengths_lead s head.Verbatim n tt
+a_count_leads (head.Chunk room) n s = chunk_lengths_lead s room n
+a_count_leads head.Array n s = counts_lead s head.Array n tt
+a_count_leads head.Set n s = counts_lead s head.Set n tt
+a_count_leads head.Map n s = counts_lead s head.Map n tt
+a_count_leads head.Attr n s = counts_lead s head.Attr n tt
+a_count_leads head.Push n s = counts_lead s head.Push n tt
 
-head_ends_lead : (h : Head) (n : ℕ) (s : Place) → ALead (at s (AtHeadLf h n))
-head_ends_lead head.Bulk n s = string_length_ends_lead s head.Bulk n tt
-head_ends_lead head.BulkError n s = string_length_ends_lead s head.BulkError n tt
-head_ends_lead head.Verbatim n s = string_length_ends_lead s head.Verbatim n tt
-head_ends_lead (head.Chunk room) n s = chunk_length_ends_lead s room n
-head_ends_lead head.Array n s = array_head_end_leads s n
-head_ends_lead head.Set n s = set_head_end_leads s n
-head_ends_lead head.Map n s = map_head_end_leads s n
-head_ends_lead head.Attr n s = attr_head_end_leads s n
-head_ends_lead head.Push n s = push_head_end_leads s n
+a_head_end_leads : (h : Head) (n : ℕ) (s : Place) → ALead (at s (AtHeadLf h n))
+a_head_end_leads head.Bulk n s = string_length_ends_lead s head.Bulk n tt
+a_head_end_leads head.BulkError n s = string_length_ends_lead s head.BulkError n tt
+a_head_end_leads head.Verbatim n s = string_length_ends_lead s head.Verbatim n tt
+a_head_end_leads (head.Chunk room) n s = chunk_length_ends_lead s room n
+a_head_end_leads head.Array n s = head_ends_lead s head.Array n tt
+a_head_end_leads head.Set n s = head_ends_lead s head.Set n tt
+a_head_end_leads head.Map n s = head_ends_lead s head.Map n tt
+a_head_end_leads head.Attr n s = head_ends_lead s head.Attr n tt
+a_head_end_leads head.Push n s = head_ends_lead s head.Push n tt
 
 -- the place that a byte leads to lies at the longer front, and a byte that is refused has its cause
 pub each_leads : (t : Token) (s : Place) (used byte : ℕ) (front : List ℕ) (es : List Event) → byte < 256 → Counts (at s t) used front → IsLookedAt t used → Lies (at s t) front es → LeadsFrom t s used byte front es
@@ -95,9 +95,9 @@ each_leads (AtBoolCr x) s used byte front es is_byte c at_front w = bool_cr_lead
 each_leads (AtBoolLf x) s used byte front es is_byte c at_front w = bool_end_leads s x used byte front es is_byte c w
 each_leads AtBulkHead s used byte front es is_byte c at_front w = bulk_head_leads s used byte front es is_byte c w
 each_leads AtArrayHead s used byte front es is_byte c at_front w = array_head_leads s used byte front es is_byte c w
-each_leads (AtHead h) s used byte front es is_byte c at_front w = heads_lead h s used byte front es is_byte c w
-each_leads (InHead h n) s used byte front es is_byte c at_front w = counts_lead h n s used byte front es is_byte c w
-each_leads (AtHeadLf h n) s used byte front es is_byte c at_front w = head_ends_lead h n s used byte front es is_byte c w
+each_leads (AtHead h) s used byte front es is_byte c at_front w = a_head_leads h s used byte front es is_byte c w
+each_leads (InHead h n) s used byte front es is_byte c at_front w = a_count_leads h n s used byte front es is_byte c w
+each_leads (AtHeadLf h n) s used byte front es is_byte c at_front w = a_head_end_leads h n s used byte front es is_byte c w
 each_leads (AtFormat n) s used byte front es is_byte c at_front w = formats_lead s n used byte front es is_byte c w
 each_leads (AtFormatSecond x n) s used byte front es is_byte c at_front w = second_format_bytes_lead s x n used byte front es is_byte c w
 each_leads (AtFormatThird x y n) s used byte front es is_byte c at_front w = third_format_bytes_lead s x y n used byte front es is_byte c w

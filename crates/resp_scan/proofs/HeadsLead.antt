@@ -1,5 +1,5 @@
 -- The heads of aggregates before their digits, and the mark of streamed ones.
-use Rattle.std.specs.Prelude.{Bool, true, false, cond, None, Some}
+use Rattle.std.specs.Prelude.{Bool, true, false, cond, eqb, None, Some}
 use Rattle.std.proofs.Common.{◌≡◌, inr, ℕ, ◌+◌, ◌-◌, ◌*◌, ◌<◌, ◌≤◌, List, [], ◌∷◌, ◌++◌, length, refl, sym, ap, subst, ◌∙◌, arith, append-nil}
 use Rattle.resp_value.specs.Bytes.{IsLine, crlf}
 use Rattle.resp_value.specs.Data.{Kind, items_of, members_of}
@@ -29,6 +29,7 @@ use Rattle.resp_scan.specs.declared.event.OpenKind.TheVariants as kind
 use Rattle.resp_scan.specs.declared.frame.Shape.TheVariants.{Begun}
 use Rattle.resp_scan.specs.declared.machine.Head.TheVariants as head
 use Rattle.resp_scan.specs.Tokens as k
+use Rattle.resp_scan.specs.declared.machine.Head.{Head}
 use Rattle.resp_scan.specs.Tokens.{Give, Go, Move, Place, Refuse, Token, AtArrayHead, AtHead, AtNullOne, AtOpenCr, AtOpenLf, InHead, at}
 use Rattle.resp_scan.specs.Heads as h
 use Rattle.resp_scan.specs.Heads.{aggregate_cause, by_version}
@@ -38,12 +39,13 @@ use Rattle.resp_scan.specs.Kinds.{kind_of, rules_of}
 use Rattle.resp_scan.specs.Begun as b
 use Rattle.resp_scan.specs.Begun.{AggregateBegun, CountBegun, StreamBegun}
 use Rattle.resp_scan.specs.Follows.{Counts, Inside, Leads, Lies}
-use Rattle.resp_scan.proofs.TokenLaws.{ArrayHeadLeads, SetHeadLeads, MapHeadLeads, AttrHeadLeads, PushHeadLeads, OpenCrLeads, OpenEndLeads}
+use Rattle.resp_scan.proofs.TokenLaws.{ArrayHeadLeads, HeadsLead, OpenCrLeads, OpenEndLeads}
 use Rattle.resp_scan.proofs.CountsLead.{count_digit, count_row, items_of-members_of}
 use Rattle.resp_scan.proofs.Moves.{at_level, goes}
 use Rattle.resp_scan.proofs.LiteralsLead.{null_first_row}
 use Rattle.resp_scan.proofs.OpensLead.{Opened, opens_lie}
 use Rattle.resp_scan.proofs.RefusedMoves.{broken, fits_or_total, refused, unless_over}
+use Rattle.resp_scan.proofs.ByteTests.{by_byte, by_digit}
 use Rattle.resp_scan.proofs.Choices.{if_below, if_digit, if_equal, if_within, wants_leads}
 
 -- an aggregate's type byte, where the depth leaves room for one
@@ -130,56 +132,50 @@ mark_leads s T o used byte front es is can c w may in_two below = by_cases s.ver
 pub aggregate_row : (r : Rules) (k : Kind) (level : ℕ) (bytes : List ℕ) (shown : List Event) → members_of k 0 ≡ 0 → AggregateBegun r k level bytes shown → IsBegunBy r level bytes 3
 aggregate_row r k level bytes shown none_yet w = subst (λ z. IsBegunBy r level z 3) (sym w.are) (aggregate_begun r k level w.no_two w.no_push w.below none_yet)
 
--- the depth leaves room
-room_left : (s : Place) (k : Kind) (front : List ℕ) (es : List Event) (w : Inside (rules_of s) (AggregateBegun (rules_of s) k) s.frames front es) → length s.frames < s.bounds.depth
-room_left s k front es w = let e : length w.frames ≡ length s.frames = at_level w in let p : length w.frames < s.bounds.depth = w.took.below in omega arith
+-- behind a type byte a digit, or the mark of streamed ones
+head_leads : (s : Place) (T : ℕ → List ℕ → List Event → Type 0) (h : Head) (k : Kind) (least needed used byte : ℕ) (marked : Move) (front : List ℕ) (es : List Event) → 3 * members_of k (byte - 48) + 2 ≡ needed → Counts s used front → Inside (rules_of s) T s.frames front es → ((level : ℕ) (bytes : List ℕ) (shown : List Event) → level ≡ length s.frames → T level bytes shown → MayCount (rules_of s) k level bytes shown × IsBegunBy (rules_of s) level bytes least) → ((level : ℕ) (bytes : List ℕ) (shown : List Event) → T level bytes shown → bytes ≡ kind_byte k ∷ []) → (byte ≡ 63 → Leads s front es byte marked) → ((byte ≡ 63 → ⊥) → (IsDigit byte → ⊥) → IsNoCount k byte) → (Inside (rules_of s) (CountBegun (rules_of s) k (byte - 48)) s.frames (front ++ byte ∷ []) es → Lies (at s (InHead h (byte - 48))) (front ++ byte ∷ []) es) → Leads s front es byte (cond (eqb byte 63) marked (cond (is_digit byte) (count_digit s (used + 1) (byte - 48) needed (InHead h (byte - 48))) (Refuse cause.Syntax)))
+head_leads s T h k least needed used byte marked front es e c w may are mark no_count lies =
+    by_byte s front es 63 byte _ _ mark
+    (λ no_mark_here. by_digit s front es byte _ _
+    (λ digit. first_digit_leads s T k needed used byte (InHead h (byte - 48)) front es e digit c w (λ level bytes shown i t. (may level bytes shown i t).0) lies)
+    (λ no_digit. broken (rules_of s) T s.frames front es least byte w (λ level bytes shown i t. (may level bytes shown i t).1)
+    (λ level bytes rest shown t dead. head_dead (rules_of s) k level byte bytes rest (no_count no_mark_here no_digit) (are level bytes shown t) dead)))
 
-three_alone : (s : Place) (k : Kind) (front : List ℕ) (es : List Event) (w : Inside (rules_of s) (AggregateBegun (rules_of s) k) s.frames front es) → s.version ≡ version.Two → ⊥
-three_alone s k front es w two = w.took.no_two two
+-- `?` where version 3 may have a streamed aggregate
+stream_leads : (s : Place) (o : OpenKind) (used byte : ℕ) (front : List ℕ) (es : List Event) → CanStream (kind_of o) 0 → Counts s used front → Inside (rules_of s) (AggregateBegun (rules_of s) (kind_of o)) s.frames front es → byte ≡ 63 → Leads s front es byte (unless (aggregate_cause s (used + 1)) (Go (at s (AtOpenCr o))))
+stream_leads s o used byte front es can c w is =
+    let level : length w.frames ≡ length s.frames = at_level w in
+    let below : length w.frames < s.bounds.depth = w.took.below in
+    mark_leads s (AggregateBegun (rules_of s) (kind_of o)) o used byte front es is can c w (λ level bytes shown i t. of_three (rules_of s) (kind_of o) level bytes shown t) (λ level i two. absurd (w.took.no_two two)) (omega arith)
 
-pub set_head_leads : SetHeadLeads
-set_head_leads s used byte front es is_byte c w =
-    let r = rules_of s in
+-- `?` where no aggregate may be streamed
+no_stream_leads : (s : Place) (k : Kind) (least byte : ℕ) (front : List ℕ) (es : List Event) → ((n : ℕ) → CanStream k n → ⊥) → Inside (rules_of s) (AggregateBegun (rules_of s) k) s.frames front es → ((level : ℕ) (bytes : List ℕ) (shown : List Event) → AggregateBegun (rules_of s) k level bytes shown → IsBegunBy (rules_of s) level bytes least) → byte ≡ 63 → Leads s front es byte (Refuse cause.Syntax)
+no_stream_leads s k least byte front es no_stream w row is =
+    broken (rules_of s) (AggregateBegun (rules_of s) k) s.frames front es least byte w (λ level bytes shown i t. row level bytes shown t) (λ level bytes rest shown t dead. mark_dead (rules_of s) k level byte bytes rest is no_stream t.are dead)
+
+attribute_row : (r : Rules) (level : ℕ) (bytes : List ℕ) (shown : List Event) → AggregateBegun r d.Attr level bytes shown → IsBegunBy r level bytes 6
+attribute_row r level bytes shown t = subst (λ z. IsBegunBy r level z 6) (sym t.are) (attribute_begun r level t.no_two t.below)
+
+pub heads_lead : HeadsLead
+heads_lead s head.Bulk h used byte front es is_byte c w = absurd h
+heads_lead s head.BulkError h used byte front es is_byte c w = absurd h
+heads_lead s head.Verbatim h used byte front es is_byte c w = absurd h
+heads_lead s (head.Chunk room) h used byte front es is_byte c w = absurd h
+heads_lead s head.Array h used byte front es is_byte c w = absurd w.took
+heads_lead s head.Set h used byte front es is_byte c w =
     let p = at s (AtHead head.Set) in
-    if_equal byte 63 (λ x. Leads p front es byte (cond x (unless (aggregate_cause p (used + 1)) (Go (at s (AtOpenCr kind.Set)))) (cond (is_digit byte) (count_digit p (used + 1) (byte - 48) ((byte - 48) * 3 + 2) (InHead head.Set (byte - 48))) (Refuse cause.Syntax))))
-    (λ is. mark_leads p (AggregateBegun r d.Set) kind.Set used byte front es is tt c w (λ level bytes shown i t. of_three r d.Set level bytes shown t) (λ level i two. absurd (three_alone s d.Set front es w two)) (room_left s d.Set front es w))
-    (λ no_mark_here. if_digit byte (λ x. Leads p front es byte (cond x (count_digit p (used + 1) (byte - 48) ((byte - 48) * 3 + 2) (InHead head.Set (byte - 48))) (Refuse cause.Syntax)))
-    (λ digit. first_digit_leads p (AggregateBegun r d.Set) d.Set ((byte - 48) * 3 + 2) used byte (InHead head.Set (byte - 48)) front es (omega arith) digit c w (λ level bytes shown i t. of_three r d.Set level bytes shown t) (λ x. x))
-    (λ no_digit. broken r (AggregateBegun r d.Set) s.frames front es 3 byte w (λ level bytes shown i t. aggregate_row r d.Set level bytes shown refl t)
-    (λ level bytes rest shown t dead. head_dead r d.Set level byte bytes rest (no_mark_here, no_digit) t.are dead)))
-
-pub map_head_leads : MapHeadLeads
-map_head_leads s used byte front es is_byte c w =
-    let r = rules_of s in
+    head_leads p (AggregateBegun (rules_of s) d.Set) head.Set d.Set 3 ((byte - 48) * 3 + 2) used byte _ front es (omega arith) c w (λ level bytes shown i t. (of_three (rules_of s) d.Set level bytes shown t, aggregate_row (rules_of s) d.Set level bytes shown refl t)) (λ level bytes shown t. t.are) (stream_leads p kind.Set used byte front es tt c w) (λ no_mark_here no_digit. (no_mark_here, no_digit)) (λ x. x)
+heads_lead s head.Map h used byte front es is_byte c w =
     let p = at s (AtHead head.Map) in
-    if_equal byte 63 (λ x. Leads p front es byte (cond x (unless (aggregate_cause p (used + 1)) (Go (at s (AtOpenCr kind.Map)))) (cond (is_digit byte) (count_digit p (used + 1) (byte - 48) ((byte - 48) * 6 + 2) (InHead head.Map (byte - 48))) (Refuse cause.Syntax))))
-    (λ is. mark_leads p (AggregateBegun r d.Map) kind.Map used byte front es is (0, refl) c w (λ level bytes shown i t. of_three r d.Map level bytes shown t) (λ level i two. absurd (three_alone s d.Map front es w two)) (room_left s d.Map front es w))
-    (λ no_mark_here. if_digit byte (λ x. Leads p front es byte (cond x (count_digit p (used + 1) (byte - 48) ((byte - 48) * 6 + 2) (InHead head.Map (byte - 48))) (Refuse cause.Syntax)))
-    (λ digit. first_digit_leads p (AggregateBegun r d.Map) d.Map ((byte - 48) * 6 + 2) used byte (InHead head.Map (byte - 48)) front es (omega arith) digit c w (λ level bytes shown i t. of_three r d.Map level bytes shown t) (λ x. x))
-    (λ no_digit. broken r (AggregateBegun r d.Map) s.frames front es 3 byte w (λ level bytes shown i t. aggregate_row r d.Map level bytes shown refl t)
-    (λ level bytes rest shown t dead. head_dead r d.Map level byte bytes rest (no_mark_here, no_digit) t.are dead)))
-
-pub attr_head_leads : AttrHeadLeads
-attr_head_leads s used byte front es is_byte c w =
-    let r = rules_of s in
+    head_leads p (AggregateBegun (rules_of s) d.Map) head.Map d.Map 3 ((byte - 48) * 6 + 2) used byte _ front es (omega arith) c w (λ level bytes shown i t. (of_three (rules_of s) d.Map level bytes shown t, aggregate_row (rules_of s) d.Map level bytes shown refl t)) (λ level bytes shown t. t.are) (stream_leads p kind.Map used byte front es (0, refl) c w) (λ no_mark_here no_digit. (no_mark_here, no_digit)) (λ x. x)
+heads_lead s head.Attr h used byte front es is_byte c w =
     let p = at s (AtHead head.Attr) in
-    let row : (level : ℕ) (bytes : List ℕ) (shown : List Event) → level ≡ length s.frames → AggregateBegun r d.Attr level bytes shown → IsBegunBy r level bytes 6 = λ level bytes shown i t. subst (λ z. IsBegunBy r level z 6) (sym t.are) (attribute_begun r level t.no_two t.below) in
-    if_equal byte 63 (λ x. Leads p front es byte (cond x (Refuse cause.Syntax) (cond (is_digit byte) (count_digit p (used + 1) (byte - 48) ((byte - 48) * 6 + 5) (InHead head.Attr (byte - 48))) (Refuse cause.Syntax))))
-    (λ is. broken r (AggregateBegun r d.Attr) s.frames front es 6 byte w row (λ level bytes rest shown t dead. mark_dead r d.Attr level byte bytes rest is (λ n can. can) t.are dead))
-    (λ no_mark_here. if_digit byte (λ x. Leads p front es byte (cond x (count_digit p (used + 1) (byte - 48) ((byte - 48) * 6 + 5) (InHead head.Attr (byte - 48))) (Refuse cause.Syntax)))
-    (λ digit. first_digit_leads p (AggregateBegun r d.Attr) d.Attr ((byte - 48) * 6 + 5) used byte (InHead head.Attr (byte - 48)) front es (omega arith) digit c w (λ level bytes shown i t. of_three r d.Attr level bytes shown t) (λ x. x))
-    (λ no_digit. broken r (AggregateBegun r d.Attr) s.frames front es 6 byte w row (λ level bytes rest shown t dead. head_dead r d.Attr level byte bytes rest no_digit t.are dead)))
-
-pub push_head_leads : PushHeadLeads
-push_head_leads s used byte front es is_byte c w =
-    let r = rules_of s in
+    let row = attribute_row (rules_of s) in
+    head_leads p (AggregateBegun (rules_of s) d.Attr) head.Attr d.Attr 6 ((byte - 48) * 6 + 5) used byte _ front es (omega arith) c w (λ level bytes shown i t. (of_three (rules_of s) d.Attr level bytes shown t, row level bytes shown t)) (λ level bytes shown t. t.are) (no_stream_leads p d.Attr 6 byte front es (λ n can. can) w row) (λ no_mark_here no_digit. no_digit) (λ x. x)
+heads_lead s head.Push h used byte front es is_byte c w =
     let p = at s (AtHead head.Push) in
-    if_equal byte 63 (λ x. Leads p front es byte (cond x (Refuse cause.Syntax) (cond (is_digit byte) (count_digit p (used + 1) (byte - 48) ((byte - 48) * 3 + 2) (InHead head.Push (byte - 48))) (Refuse cause.Syntax))))
-    (λ is. broken r (AggregateBegun r d.Push) s.frames front es 3 byte w (λ level bytes shown i t. aggregate_row r d.Push level bytes shown refl t) (λ level bytes rest shown t dead. mark_dead r d.Push level byte bytes rest is (λ n can. can) t.are dead))
-    (λ no_mark_here. if_digit byte (λ x. Leads p front es byte (cond x (count_digit p (used + 1) (byte - 48) ((byte - 48) * 3 + 2) (InHead head.Push (byte - 48))) (Refuse cause.Syntax)))
-    (λ digit. first_digit_leads p (AggregateBegun r d.Push) d.Push ((byte - 48) * 3 + 2) used byte (InHead head.Push (byte - 48)) front es (omega arith) digit c w (λ level bytes shown i t. of_three r d.Push level bytes shown t) (λ x. x))
-    (λ no_digit. broken r (AggregateBegun r d.Push) s.frames front es 3 byte w (λ level bytes shown i t. aggregate_row r d.Push level bytes shown refl t)
-    (λ level bytes rest shown t dead. head_dead r d.Push level byte bytes rest no_digit t.are dead)))
+    let row : (level : ℕ) (bytes : List ℕ) (shown : List Event) → AggregateBegun (rules_of s) d.Push level bytes shown → IsBegunBy (rules_of s) level bytes 3 = λ level bytes shown t. aggregate_row (rules_of s) d.Push level bytes shown refl t in
+    head_leads p (AggregateBegun (rules_of s) d.Push) head.Push d.Push 3 ((byte - 48) * 3 + 2) used byte _ front es (omega arith) c w (λ level bytes shown i t. (of_three (rules_of s) d.Push level bytes shown t, row level bytes shown t)) (λ level bytes shown t. t.are) (no_stream_leads p d.Push 3 byte front es (λ n can. can) w row) (λ no_mark_here no_digit. no_digit) (λ x. x)
 
 -- Arrays, which version 2 has too, and whose depth is tested behind `*`.
 
@@ -228,12 +224,9 @@ array_first_leads s used byte front es no_minus below c w =
     let r = rules_of s in
     let p = at s AtArrayHead in
     let T = b.Begun r AtArrayHead in
-    if_equal byte 63 (λ x. Leads p front es byte (cond x (unless (aggregate_cause p (used + 1)) (Go (at s (AtOpenCr kind.Array)))) (cond (is_digit byte) (count_digit p (used + 1) (byte - 48) ((byte - 48) * 3 + 2) (InHead head.Array (byte - 48))) (Refuse cause.Syntax))))
+    head_leads p T head.Array d.Array 3 ((byte - 48) * 3 + 2) used byte _ front es (omega arith) c w (λ level bytes shown i t. (may_count s below level bytes shown i t, subst (λ z. IsBegunBy r level z 3) (sym t.0) (star_begun r level (omega (arith, below, i))))) (λ level bytes shown t. t.0)
     (λ is. mark_leads p T kind.Array used byte front es is tt c w (may_count s below) (λ level i two. streamed_array_in_two r level two) below)
-    (λ no_mark_here. if_digit byte (λ x. Leads p front es byte (cond x (count_digit p (used + 1) (byte - 48) ((byte - 48) * 3 + 2) (InHead head.Array (byte - 48))) (Refuse cause.Syntax)))
-    (λ digit. first_digit_leads p T d.Array ((byte - 48) * 3 + 2) used byte (InHead head.Array (byte - 48)) front es (omega arith) digit c w (may_count s below) (λ x. x))
-    (λ no_digit. broken r T s.frames front es 3 byte w (λ level bytes shown i t. subst (λ z. IsBegunBy r level z 3) (sym t.0) (star_begun r level (omega (arith, below, i))))
-    (λ level bytes rest shown t dead. head_dead r d.Array level byte bytes rest (no_minus, no_mark_here, no_digit) t.0 dead)))
+    (λ no_mark_here no_digit. (no_minus, no_mark_here, no_digit)) (λ x. x)
 
 pub array_head_leads : ArrayHeadLeads
 array_head_leads s used byte front es is_byte c w =

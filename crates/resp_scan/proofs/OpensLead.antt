@@ -29,7 +29,7 @@ use Rattle.resp_scan.specs.Machine.{wants}
 use Rattle.resp_scan.specs.Kinds.{kind_of, rules_of}
 use Rattle.resp_scan.specs.Begun.{CountReturned}
 use Rattle.resp_scan.specs.Follows.{Inside, Leads, Lies, LiesAt}
-use Rattle.resp_scan.proofs.TokenLaws.{ArrayHeadEndLeads, SetHeadEndLeads, MapHeadEndLeads, AttrHeadEndLeads, PushHeadEndLeads}
+use Rattle.resp_scan.proofs.TokenLaws.{HeadEndsLead}
 use Rattle.resp_scan.proofs.Moves.{at_level, given-append, longer}
 use Rattle.resp_scan.proofs.Choices.{wants_leads}
 
@@ -120,17 +120,13 @@ head_end_leads s o n m used byte front es all w =
     (λ is. subst (λ z. Lies (h.opened s o m) (front ++ z ∷ []) (es ++ e.Open (kind_of o) (Some n) ∷ [])) (sym is)
     (opens_lie r T s.frames front (10 ∷ []) es (e.Open (kind_of o) (Some n) ∷ []) o (Left m) w (λ level bytes shown i t. count_opens r o n m level bytes shown all t)))
 
-pub array_head_end_leads : ArrayHeadEndLeads
-array_head_end_leads s n used byte front es is_byte c w = head_end_leads (at s (AtHeadLf head.Array n)) kind.Array n n used byte front es refl w
-
-pub set_head_end_leads : SetHeadEndLeads
-set_head_end_leads s n used byte front es is_byte c w = head_end_leads (at s (AtHeadLf head.Set n)) kind.Set n n used byte front es refl w
-
-pub map_head_end_leads : MapHeadEndLeads
-map_head_end_leads s n used byte front es is_byte c w = head_end_leads (at s (AtHeadLf head.Map n)) kind.Map n (n * 2) used byte front es (omega arith) w
-
-pub attr_head_end_leads : AttrHeadEndLeads
-attr_head_end_leads s n used byte front es is_byte c w = head_end_leads (at s (AtHeadLf head.Attr n)) kind.Attr n (n * 2 + 1) used byte front es (omega arith) w
-
-pub push_head_end_leads : PushHeadEndLeads
-push_head_end_leads s n used byte front es is_byte c w = head_end_leads (at s (AtHeadLf head.Push n)) kind.Push n n used byte front es refl w
+pub head_ends_lead : HeadEndsLead
+head_ends_lead s head.Bulk n h used byte front es is_byte c w = absurd h
+head_ends_lead s head.BulkError n h used byte front es is_byte c w = absurd h
+head_ends_lead s head.Verbatim n h used byte front es is_byte c w = absurd h
+head_ends_lead s (head.Chunk room) n h used byte front es is_byte c w = absurd h
+head_ends_lead s head.Array n h used byte front es is_byte c w = head_end_leads (at s (AtHeadLf head.Array n)) kind.Array n n used byte front es refl w
+head_ends_lead s head.Set n h used byte front es is_byte c w = head_end_leads (at s (AtHeadLf head.Set n)) kind.Set n n used byte front es refl w
+head_ends_lead s head.Map n h used byte front es is_byte c w = head_end_leads (at s (AtHeadLf head.Map n)) kind.Map n (n * 2) used byte front es (omega arith) w
+head_ends_lead s head.Attr n h used byte front es is_byte c w = head_end_leads (at s (AtHeadLf head.Attr n)) kind.Attr n (n * 2 + 1) used byte front es (omega arith) w
+head_ends_lead s head.Push n h used byte front es is_byte c w = head_end_leads (at s (AtHeadLf head.Push n)) kind.Push n n used byte front es refl w

@@ -106,24 +106,10 @@ said_kept g m s p h e = (subst (IsOut s) (sym e) (is_advanced s p h), subst (Tak
 
 used_by : (w : What) (n l : ℕ) (m : Machine) (s : Place) → IsOut s (said_by w n m) → Takes l (said_by w n m) → (n ≤ l) × (m.taken ≤ s.taken)
 used_by what.More n l m s h k = (omega (arith, k), omega (arith, h.taken))
-used_by what.Failed n l m s h k = (k, omega (arith, h.0.taken))
-used_by what.Null n l m s h k = (k, omega (arith, h.0.taken))
-used_by what.Bool n l m s h k = (k, omega (arith, h.0.taken))
-used_by what.Int n l m s h k = (k, omega (arith, h.0.taken))
-used_by what.Simple n l m s h k = (k, omega (arith, h.0.taken))
-used_by what.Error n l m s h k = (k, omega (arith, h.0.taken))
-used_by what.Bulk n l m s h k = (k, omega (arith, h.0.taken))
-used_by what.BulkError n l m s h k = (k, omega (arith, h.0.taken))
-used_by what.Verbatim n l m s h k = (k, omega (arith, h.0.taken))
-used_by what.Big n l m s h k = (k, omega (arith, h.0.taken))
 used_by what.Part n l m s h k = (k.1, omega (arith, h.taken))
 used_by what.ChunkPart n l m s h k = (k.1, omega (arith, h.taken))
-used_by what.Digit n l m s h k = (k, omega (arith, h.0.taken))
-used_by what.TextEnd n l m s h k = (k, omega (arith, h.0.taken))
-used_by what.Open n l m s h k = (k, omega (arith, h.0.taken))
-used_by what.OpenStreamed n l m s h k = (k, omega (arith, h.0.taken))
-used_by what.Close n l m s h k = (k, omega (arith, h.0.taken))
 used_by what.Done n l m s h k = (omega (arith, h.1), omega (arith, h.1))
+used_by w n l m s h k = (k, omega (arith, h.0.taken))
 
 -- no more than the piece is used, and no byte was counted before
 pub used_within : (g : Got) (m : Machine) (s : Place) (p : List ℕ) → IsSound s → said g m ≡ advanced s p → (g.used ≤ length p) × (m.taken ≤ s.taken)
@@ -134,24 +120,10 @@ few_at n t h = omega (arith, h.total, h.bounds.total_in_range.1)
 
 few_by : (w : What) (n : ℕ) (m : Machine) (s : Place) → IsOut s (said_by w n m) → m.taken + n ≤ 2 ^ 40
 few_by what.More n m s h = few_at n (place m) h.sound
-few_by what.Failed n m s h = few_at n (place m) h.0.sound
-few_by what.Null n m s h = few_at n (place m) h.0.sound
-few_by what.Bool n m s h = few_at n (place m) h.0.sound
-few_by what.Int n m s h = few_at n (place m) h.0.sound
-few_by what.Simple n m s h = few_at n (place m) h.0.sound
-few_by what.Error n m s h = few_at n (place m) h.0.sound
-few_by what.Bulk n m s h = few_at n (place m) h.0.sound
-few_by what.BulkError n m s h = few_at n (place m) h.0.sound
-few_by what.Verbatim n m s h = few_at n (place m) h.0.sound
-few_by what.Big n m s h = few_at n (place m) h.0.sound
 few_by what.Part n m s h = few_at n (place m) h.sound
 few_by what.ChunkPart n m s h = few_at n (place m) h.sound
-few_by what.Digit n m s h = few_at n (place m) h.0.sound
-few_by what.TextEnd n m s h = few_at n (place m) h.0.sound
-few_by what.Open n m s h = few_at n (place m) h.0.sound
-few_by what.OpenStreamed n m s h = few_at n (place m) h.0.sound
-few_by what.Close n m s h = few_at n (place m) h.0.sound
 few_by what.Done n m s h = omega (arith, h.1)
+few_by w n m s h = few_at n (place m) h.0.sound
 
 pub few_taken : (g : Got) (m : Machine) (s : Place) (p : List ℕ) → IsSound s → said g m ≡ advanced s p → m.taken + g.used ≤ 2 ^ 40
 few_taken g m s p h e = few_by g.what g.used m s (said_kept g m s p h e).0

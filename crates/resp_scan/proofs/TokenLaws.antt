@@ -82,20 +82,20 @@ BoolCrLeads = (s : Place) (truth : Bool) → ALead (at s (AtBoolCr truth))
 abbrev pub BoolEndLeads : Type 0
 BoolEndLeads = (s : Place) (truth : Bool) → ALead (at s (AtBoolLf truth))
 
-abbrev pub ArrayHeadEndLeads : Type 0
-ArrayHeadEndLeads = (s : Place) (n : ℕ) → ALead (at s (AtHeadLf head.Array n))
+-- the head of an aggregate
+abbrev pub IsOfAggregate : Head → Type 0
+IsOfAggregate Bulk = ⊥
+IsOfAggregate BulkError = ⊥
+IsOfAggregate Verbatim = ⊥
+IsOfAggregate (Chunk room) = ⊥
+IsOfAggregate Array = Unit {0}
+IsOfAggregate Set = Unit {0}
+IsOfAggregate Map = Unit {0}
+IsOfAggregate Attr = Unit {0}
+IsOfAggregate Push = Unit {0}
 
-abbrev pub SetHeadEndLeads : Type 0
-SetHeadEndLeads = (s : Place) (n : ℕ) → ALead (at s (AtHeadLf head.Set n))
-
-abbrev pub MapHeadEndLeads : Type 0
-MapHeadEndLeads = (s : Place) (n : ℕ) → ALead (at s (AtHeadLf head.Map n))
-
-abbrev pub AttrHeadEndLeads : Type 0
-AttrHeadEndLeads = (s : Place) (n : ℕ) → ALead (at s (AtHeadLf head.Attr n))
-
-abbrev pub PushHeadEndLeads : Type 0
-PushHeadEndLeads = (s : Place) (n : ℕ) → ALead (at s (AtHeadLf head.Push n))
+abbrev pub HeadEndsLead : Type 0
+HeadEndsLead = (s : Place) (h : Head) (n : ℕ) → IsOfAggregate h → ALead (at s (AtHeadLf h n))
 
 abbrev pub CloseIsOwed : Type 0
 CloseIsOwed = (s : Place) (f : Frame) (fs : List Frame) (front : List ℕ) (es : List Event) → Lies (record s { token = AtEnd; frames = f ∷ fs }) front es → Lies (ended (record s { frames = fs })) front (es ++ Close ∷ [])
@@ -106,35 +106,14 @@ CloseCrLeads = (s : Place) → ALead (at s AtCloseCr)
 abbrev pub CloseEndLeads : Type 0
 CloseEndLeads = (s : Place) → ALead (at s AtCloseLf)
 
-abbrev pub ArrayCountLeads : Type 0
-ArrayCountLeads = (s : Place) (n : ℕ) → ALead (at s (InHead head.Array n))
-
-abbrev pub SetCountLeads : Type 0
-SetCountLeads = (s : Place) (n : ℕ) → ALead (at s (InHead head.Set n))
-
-abbrev pub MapCountLeads : Type 0
-MapCountLeads = (s : Place) (n : ℕ) → ALead (at s (InHead head.Map n))
-
-abbrev pub AttrCountLeads : Type 0
-AttrCountLeads = (s : Place) (n : ℕ) → ALead (at s (InHead head.Attr n))
-
-abbrev pub PushCountLeads : Type 0
-PushCountLeads = (s : Place) (n : ℕ) → ALead (at s (InHead head.Push n))
+abbrev pub CountsLead : Type 0
+CountsLead = (s : Place) (h : Head) (n : ℕ) → IsOfAggregate h → ALead (at s (InHead h n))
 
 abbrev pub ArrayHeadLeads : Type 0
 ArrayHeadLeads = (s : Place) → ALead (at s AtArrayHead)
 
-abbrev pub SetHeadLeads : Type 0
-SetHeadLeads = (s : Place) → ALead (at s (AtHead head.Set))
-
-abbrev pub MapHeadLeads : Type 0
-MapHeadLeads = (s : Place) → ALead (at s (AtHead head.Map))
-
-abbrev pub AttrHeadLeads : Type 0
-AttrHeadLeads = (s : Place) → ALead (at s (AtHead head.Attr))
-
-abbrev pub PushHeadLeads : Type 0
-PushHeadLeads = (s : Place) → ALead (at s (AtHead head.Push))
+abbrev pub HeadsLead : Type 0
+HeadsLead = (s : Place) (h : Head) → IsOfAggregate h → ALead (at s (AtHead h))
 
 abbrev pub OpenCrLeads : Type 0
 OpenCrLeads = (s : Place) (kind : OpenKind) → ALead (at s (AtOpenCr kind))
