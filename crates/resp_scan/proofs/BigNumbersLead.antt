@@ -2,7 +2,7 @@
 use Rattle.std.specs.Prelude.{Bool, true, false, cond, eqb}
 use Rattle.std.proofs.lemmas.Bool.Decides.{nat_tests}
 use Rattle.std.proofs.Common.{◌≡◌, ℕ, ◌+◌, ◌-◌, ◌<◌, ◌≤◌, List, [], ◌∷◌, ◌++◌, length, refl, sym, ap, subst, ◌∙◌, arith, append-nil, length-append}
-use Rattle.resp_value.specs.Numbers.{IsDigit, Sign, Plus, Minus, is_minus, is_negative, kept, number, sign_text, stripped, zero_if_none}
+use Rattle.resp_value.specs.Numbers.{IsDigit, Sign, is_minus, is_negative, kept, number, stripped, zero_if_none}
 use Rattle.resp_value.specs.Rules.{Rules, WithinDepth, WithinLength}
 use Rattle.resp_value.specs.Trees.{leaf, numeral, Big, leaf_text}
 use Rattle.resp_value.specs.declared.cause.Cause.TheVariants as cause
@@ -18,8 +18,8 @@ use Rattle.resp_follow.proofs.NumberTokens.{number_begun, number_token_begins, n
 use Rattle.resp_scan.specs.declared.event.TextKind.TheVariants as text
 use Rattle.resp_scan.specs.Tokens as k
 use Rattle.resp_scan.specs.Tokens.{Go, Byte, Give, Refuse, Place, AtBigDigit, AtBigFirst, AtBigSign, AtBigZeroLf, AtLineLf, AtTextEnd, InBig, InBigZeros, at, ended}
-use Rattle.resp_scan.specs.Room.{fits, over_total}
-use Rattle.resp_scan.specs.Machine.{big_digit, big_first, content_byte, unless, wants}
+use Rattle.resp_scan.specs.Room.{fits}
+use Rattle.resp_scan.specs.Machine.{big_digit, big_first, content_byte}
 use Rattle.resp_scan.specs.Kinds.{content_events, rules_of}
 use Rattle.resp_scan.specs.Begun as b
 use Rattle.resp_scan.specs.Begun.{BigBegun, BigDigitOwed, BigShown, IsSigned, SignBegun, TextReturned, TextWhole, ZeroReturned}
@@ -27,9 +27,10 @@ use Rattle.resp_scan.specs.Follows.{Counts, Inside, Leads, Lies}
 use Rattle.resp_scan.proofs.TokenLaws.{BigSignLeads, BigFirstLeads, BigZerosLead, BigZeroEndLeads, BigDigitIsOwed, BigLeads, TextEndIsOwed}
 use Rattle.resp_scan.proofs.LeafEvents.{content_events-append, given-big, leaf_told}
 use Rattle.resp_scan.proofs.Moves.{Ends, goes, tells, value_ends}
-use Rattle.resp_scan.proofs.NumbersLead.{AnySign, begun_dead, begun_row, digits_dead, digits_row, sign_more, signed_any, unsigned_any}
-use Rattle.resp_scan.proofs.RefusedMoves.{broken, fits_or_total, refused, unless_over}
-use Rattle.resp_scan.proofs.Choices.{if_digit, if_equal, positive, wants_leads}
+use Rattle.resp_scan.proofs.NumbersLead.{AnySign, begun_dead, digits_dead, digits_row, signed_any, signs_lead, unsigned_any}
+use Rattle.resp_scan.proofs.RefusedMoves.{broken, fits_or_total, refused}
+use Rattle.resp_scan.proofs.ByteTests.{by_byte, by_digit}
+use Rattle.resp_scan.proofs.Choices.{if_equal, positive, wants_leads}
 
 -- Digits without leading zeros.
 
@@ -127,35 +128,24 @@ owes r negative level byte bytes shown roomy none w = record { negative = negati
 big_digit_leads : (s : Place) (T : ℕ → List ℕ → List Event → Type 0) (negative : Bool) (byte : ℕ) (front : List ℕ) (es : List Event) → 64 ≤ s.bounds.length → IsDigit byte → Inside (rules_of s) T s.frames front es → ((level : ℕ) (bytes : List ℕ) (shown : List Event) → T level bytes shown → shown ≡ []) → (byte ≡ 48 → (level : ℕ) (bytes : List ℕ) (shown : List Event) → T level bytes shown → BigBegun (rules_of s) negative [] level (bytes ++ byte ∷ [])) → ((byte ≡ 48 → ⊥) → (level : ℕ) (bytes : List ℕ) (shown : List Event) → T level bytes shown → BigBegun (rules_of s) negative (byte ∷ []) level (bytes ++ byte ∷ [])) → Leads s front es byte (big_digit s negative byte)
 big_digit_leads s T negative byte front es roomy d w none zero digit =
     let r = rules_of s in
-    if_equal byte 48 (λ x. Leads s front es byte (cond x (Go (at s (InBigZeros negative))) (Give (k.Text (text.Big negative)) (at s (AtBigDigit byte (s.bounds.length - 1))))))
+    by_byte s front es 48 byte _ _
     (λ is. goes r T (b.Begun r (InBigZeros negative)) s.frames front (byte ∷ []) es w (λ level bytes shown i t. (zero is level bytes shown t, none level bytes shown t)))
     (λ other. tells r T (BigDigitOwed r byte (s.bounds.length - 1)) s.frames front (byte ∷ []) es (e.Text (e.Big negative) ∷ []) w (λ level bytes shown i t. owes r negative level byte (bytes ++ byte ∷ []) shown roomy (none level bytes shown t) (digit other level bytes shown t)))
 
 first_leads : (s : Place) (T : ℕ → List ℕ → List Event → Type 0) (negative : Bool) (byte : ℕ) (front : List ℕ) (es : List Event) → 64 ≤ s.bounds.length → Inside (rules_of s) T s.frames front es → ((level : ℕ) (bytes : List ℕ) (shown : List Event) → T level bytes shown → AnySign (rules_of s) Big negative byte level bytes shown) → Leads s front es byte (big_first s negative byte)
 first_leads s T negative byte front es roomy w any =
     let r = rules_of s in
-    if_digit byte (λ x. Leads s front es byte (cond x (big_digit s negative byte) (Refuse cause.Syntax)))
+    by_digit s front es byte _ _
     (λ d. big_digit_leads s T negative byte front es roomy d w (λ level bytes shown t. (any level bytes shown t).told)
     (λ is level bytes shown t. zero_begins r negative byte level bytes shown is (any level bytes shown t))
     (λ other level bytes shown t. digit_begins r negative byte level bytes shown d other (any level bytes shown t)))
     (λ d. broken r T s.frames front es 3 byte w (λ level bytes shown i t. let a = any level bytes shown t in number_begun r Big a.sign level bytes a.token)
     (λ level bytes rest shown t c. let a = any level bytes shown t in begun_dead r Big a.sign level byte bytes rest a.no_sign d a.token c))
 
-sign_leads : (s : Place) (byte used : ℕ) (front : List ℕ) (es : List Event) (sign : Sign) (negative : Bool) → Counts (at s AtBigSign) used front → Lies (at s AtBigSign) front es → byte ∷ [] ≡ sign_text sign → IsSigned negative sign → Leads (at s AtBigSign) front es byte (unless (over_total (at s AtBigSign) (used + 1) 3) (Go (at s (AtBigFirst negative))))
-sign_leads s byte used front es sign negative c w is signed =
-    let r = rules_of s in
-    let more : Inside r (SignBegun r Big negative) s.frames (front ++ byte ∷ []) es = goes r _ (SignBegun r Big negative) s.frames front (byte ∷ []) es w
-    (λ level bytes shown i t. record { sign = sign; is_signed = signed; token = sign_more r Big level bytes sign byte t.0.0 (sym is) t.0; told = t.1 }) in
-    unless_over (at s AtBigSign) front es used byte 3 (Go (at s (AtBigFirst negative)))
-    (fits_or_total (at s AtBigSign) (SignBegun r Big negative) front es es used byte 3 (Go (at s (AtBigFirst negative))) c more (λ level bytes shown i t. begun_row r Big negative level bytes shown t) more)
-
 pub big_sign_leads : BigSignLeads
 big_sign_leads s used byte front es is_byte c w =
-    if_equal byte 45 (λ x. Leads (at s AtBigSign) front es byte (cond x (unless (over_total (at s AtBigSign) (used + 1) 3) (Go (at s (AtBigFirst true)))) (cond (eqb byte 43) (unless (over_total (at s AtBigSign) (used + 1) 3) (Go (at s (AtBigFirst false)))) (big_first (at s AtBigSign) false byte))))
-    (λ is. sign_leads s byte used front es Minus true c w (ap (λ z. z ∷ []) is) refl)
-    (λ no_minus. if_equal byte 43 (λ x. Leads (at s AtBigSign) front es byte (cond x (unless (over_total (at s AtBigSign) (used + 1) 3) (Go (at s (AtBigFirst false)))) (big_first (at s AtBigSign) false byte)))
-    (λ is. sign_leads s byte used front es Plus false c w (ap (λ z. z ∷ []) is) refl)
-    (λ no_plus. first_leads (at s AtBigSign) (b.Begun (rules_of s) AtBigSign) false byte front es c.sound.bounds.length_in_range.0 w (λ level bytes shown t. unsigned_any (rules_of s) Big byte level bytes shown no_plus no_minus t)))
+    signs_lead (at s AtBigSign) Big AtBigFirst used byte _ front es c w (λ sign level bytes t. t.0) (λ negative x. x)
+    (λ no_plus no_minus. first_leads (at s AtBigSign) (b.Begun (rules_of s) AtBigSign) false byte front es c.sound.bounds.length_in_range.0 w (λ level bytes shown t. unsigned_any (rules_of s) Big byte level bytes shown no_plus no_minus t))
 
 pub big_first_leads : BigFirstLeads
 big_first_leads s negative used byte front es is_byte c w =
@@ -187,7 +177,7 @@ zeros_digit_leads s negative used byte front es d c w =
 pub big_zeros_lead : BigZerosLead
 big_zeros_lead s negative used byte front es is_byte c w =
     let r = rules_of s in
-    if_digit byte (λ x. Leads (at s (InBigZeros negative)) front es byte (cond x (cond (fits (at s (InBigZeros negative)) (used + 1) 2) (big_digit (at s (InBigZeros negative)) negative byte) (Refuse cause.Total)) (wants 13 byte (Go (at s AtBigZeroLf)))))
+    by_digit (at s (InBigZeros negative)) front es byte _ _
     (λ d. zeros_digit_leads s negative used byte front es d c w)
     (λ d. wants_leads (at s (InBigZeros negative)) (b.Begun r (InBigZeros negative)) front es 2 byte 13 (Go (at s AtBigZeroLf)) w (λ level bytes shown i t. row_of r negative [] level bytes t.0)
     (λ other level bytes rest shown t dead. digits_dead r Big t.0.sign t.0.first level byte t.0.digits bytes rest other d t.0.token dead)
@@ -301,7 +291,7 @@ big_byte_leads s room used byte front es d c w =
 pub big_leads : BigLeads
 big_leads s room used byte front es is_byte c w =
     let r = rules_of s in
-    if_digit byte (λ x. Leads (at s (InBig room)) front es byte (cond x (content_byte (at s (InBig room)) (used + 1) room InBig) (wants 13 byte (Go (at s AtLineLf)))))
+    by_digit (at s (InBig room)) front es byte _ _
     (λ d. big_byte_leads s room used byte front es d c w)
     (λ d. wants_leads (at s (InBig room)) (BigShown r room) front es 2 byte 13 (Go (at s AtLineLf)) w (λ level bytes shown i t. shown_row r room level bytes shown t)
     (λ other level bytes rest shown t dead. digits_dead r Big t.token.sign t.token.first level byte t.token.digits bytes rest other d t.token.token dead)

@@ -231,7 +231,7 @@ array_first_leads s used byte front es no_minus below c w =
 pub array_head_leads : ArrayHeadLeads
 array_head_leads s used byte front es is_byte c w =
     let p = at s AtArrayHead in
-    if_equal byte 45 (λ x. Leads p front es byte (cond x (unless (over_total p (used + 1) 3) (Go (at s AtNullOne))) (cond (is_full p) (Refuse (full_cause p byte)) (head_first p (used + 1) head.Array byte))))
+    by_byte p front es 45 byte _ _
     (λ is. null_begins s used byte front es is c w)
     (λ no_minus. if_within s.bounds.depth (length s.frames) (λ x. Leads p front es byte (cond x (Refuse (full_cause p byte)) (head_first p (used + 1) head.Array byte)))
     (λ deep. deep_leads s byte front es no_minus deep w)

@@ -1,5 +1,5 @@
 -- Nulls and truth values.
-use Rattle.std.specs.Prelude.{Bool, true, false, cond}
+use Rattle.std.specs.Prelude.{Bool, true, false}
 use Rattle.std.proofs.Common.{◌≡◌, inl, inr, ℕ, ◌<◌, List, [], ◌∷◌, ◌++◌, refl, sym, ap, subst, ◌∙◌, arith}
 use Rattle.resp_value.specs.Bytes.{IsLine}
 use Rattle.resp_value.specs.Rules.{Rules, Grammar}
@@ -15,13 +15,13 @@ use Rattle.resp_follow.proofs.LineTokens.{line_begun, no_break_in_line, returned
 use Rattle.resp_follow.proofs.NumberTokens.{dollar_null_begun, null_token_line, star_null_begun, truth_begun, truth_token_line}
 use Rattle.resp_scan.specs.Tokens as k
 use Rattle.resp_scan.specs.Tokens.{Go, Give, Refuse, Place, AtBool, AtBoolCr, AtBoolLf, AtNullCr, AtNullLf, AtNullOne, at, ended}
-use Rattle.resp_scan.specs.Machine.{wants}
 use Rattle.resp_scan.specs.Kinds.{rules_of}
 use Rattle.resp_scan.specs.Begun as b
 use Rattle.resp_scan.specs.Begun.{IsNullBegun, NullLine, NullReturned}
 use Rattle.resp_scan.specs.Follows.{Leads, Lies}
 use Rattle.resp_scan.proofs.TokenLaws.{NullOneLeads, NullCrLeads, NullEndLeads, BoolLeads, BoolCrLeads, BoolEndLeads}
 use Rattle.resp_scan.proofs.Moves.{Ends, goes, value_ends}
+use Rattle.resp_scan.proofs.ByteTests.{by_byte}
 use Rattle.resp_scan.proofs.Choices.{if_equal, wants_leads}
 use Rattle.resp_follow.specs.Tokens.{IsLineOf, IsReturned}
 
@@ -105,7 +105,7 @@ goes_true s x byte front es is w = goes (rules_of s) (b.Begun (rules_of s) AtBoo
 pub bool_leads : BoolLeads
 bool_leads s used byte front es is_byte c w =
     let r = rules_of s in
-    if_equal byte 116 (λ x. Leads (at s AtBool) front es byte (cond x (Go (at s (AtBoolCr true))) (wants 102 byte (Go (at s (AtBoolCr false))))))
+    by_byte (at s AtBool) front es 116 byte _ _
     (λ is. goes_true s true byte front es (ap (λ z. 35 ∷ z ∷ []) (sym is)) w)
     (λ no_t. wants_leads (at s AtBool) (b.Begun r AtBool) front es 3 byte 102 (Go (at s (AtBoolCr false))) w
     (λ level bytes shown i t. subst (λ z. IsBegunBy r level z 3) (sym t.1) (truth_begun r level t.0))

@@ -18,7 +18,7 @@ use Rattle.resp_follow.proofs.LineTokens.{line_begun, no_break_in_line, returned
 use Rattle.resp_follow.proofs.NumberTokens.{int_token_over, number_begun, number_token_begins, number_token_line, number_token_more}
 use Rattle.resp_scan.specs.Magnitudes.{most}
 use Rattle.resp_scan.specs.Tokens as k
-use Rattle.resp_scan.specs.Tokens.{Go, Give, Refuse, Place, AtIntFirst, AtIntLf, AtIntSign, InInt, at, ended}
+use Rattle.resp_scan.specs.Tokens.{Go, Give, Move, Refuse, Place, Token, AtIntFirst, AtIntLf, AtIntSign, InInt, at, ended}
 use Rattle.resp_scan.specs.Room.{fits, over_total}
 use Rattle.resp_scan.specs.Machine as machine
 use Rattle.resp_scan.specs.Machine.{int_digit, int_first, is_digit, unless, wants}
@@ -29,7 +29,8 @@ use Rattle.resp_scan.specs.Follows.{Counts, Inside, Leads, Lies}
 use Rattle.resp_scan.proofs.TokenLaws.{IntSignLeads, IntFirstLeads, IntLeads, IntEndLeads}
 use Rattle.resp_scan.proofs.Moves.{Ends, goes, value_ends}
 use Rattle.resp_scan.proofs.RefusedMoves.{broken, fits_or_total, refused, unless_over}
-use Rattle.resp_scan.proofs.Choices.{if_digit, if_equal, if_within, wants_leads}
+use Rattle.resp_scan.proofs.ByteTests.{by_byte, by_digit}
+use Rattle.resp_scan.proofs.Choices.{if_equal, if_within, wants_leads}
 use Rattle.resp_follow.specs.Tokens.{IsNumberBegun, IsNumberToken, MayBe, greatest}
 
 -- a byte of a number's beginning that no spelling has there
@@ -113,28 +114,29 @@ int_begins r negative byte level bytes shown d w = record {
 first_leads : (s : Place) (T : ℕ → List ℕ → List Event → Type 0) (negative : Bool) (byte : ℕ) (front : List ℕ) (es : List Event) → Inside (rules_of s) T s.frames front es → ((level : ℕ) (bytes : List ℕ) (shown : List Event) → T level bytes shown → AnySign (rules_of s) Int negative byte level bytes shown) → Leads s front es byte (int_first s negative byte)
 first_leads s T negative byte front es w any =
     let r = rules_of s in
-    if_digit byte (λ x. Leads s front es byte (cond x (Go (at s (InInt negative (byte - 48)))) (Refuse cause.Syntax)))
+    by_digit s front es byte _ _
     (λ d. goes r T (IntBegun r negative (byte - 48)) s.frames front (byte ∷ []) es w (λ level bytes shown i t. int_begins r negative byte level bytes shown d (any level bytes shown t)))
     (λ d. broken r T s.frames front es 3 byte w (λ level bytes shown i t. let a = any level bytes shown t in number_begun r Int a.sign level bytes a.token)
     (λ level bytes rest shown t c. let a = any level bytes shown t in begun_dead r Int a.sign level byte bytes rest a.no_sign d a.token c))
 
--- a sign that total lets stand
-sign_leads : (s : Place) (byte used : ℕ) (front : List ℕ) (es : List Event) (sign : Sign) (negative : Bool) → Counts (at s AtIntSign) used front → Lies (at s AtIntSign) front es → byte ∷ [] ≡ sign_text sign → IsSigned negative sign → Leads (at s AtIntSign) front es byte (unless (over_total (at s AtIntSign) (used + 1) 3) (Go (at s (AtIntFirst negative))))
-sign_leads s byte used front es sign negative c w is signed =
-    let r = rules_of s in
-    let T = λ (level : ℕ) (bytes : List ℕ) (shown : List Event). IsNumberBegun r Int Unsigned level bytes × (shown ≡ []) in
-    let more : Inside r (SignBegun r Int negative) s.frames (front ++ byte ∷ []) es = goes r _ (SignBegun r Int negative) s.frames front (byte ∷ []) es w
-    (λ level bytes shown i t. record { sign = sign; is_signed = signed; token = sign_more r Int level bytes sign byte (one_digit sign 48 (omega arith, omega arith)) (sym is) t.0; told = t.1 }) in
-    unless_over (at s AtIntSign) front es used byte 3 (Go (at s (AtIntFirst negative)))
-    (fits_or_total (at s AtIntSign) (SignBegun r Int negative) front es es used byte 3 (Go (at s (AtIntFirst negative))) c more (λ level bytes shown i t. begun_row r Int negative level bytes shown t) more)
+-- behind the type byte a sign that total lets stand, or what stands there without one
+pub signs_lead : (s : Place) (k : NumberKind) (first : Bool → Token) (used byte : ℕ) (unsigned : Move) (front : List ℕ) (es : List Event) → Counts s used front → Inside (rules_of s) (λ level bytes shown. IsNumberBegun (rules_of s) k Unsigned level bytes × (shown ≡ [])) s.frames front es → ((sign : Sign) (level : ℕ) (bytes : List ℕ) → IsNumberBegun (rules_of s) k Unsigned level bytes → MayBe (rules_of s) k sign (48 ∷ [])) → ((negative : Bool) → Inside (rules_of s) (SignBegun (rules_of s) k negative) s.frames (front ++ byte ∷ []) es → Lies (at s (first negative)) (front ++ byte ∷ []) es) → ((byte ≡ 43 → ⊥) → (byte ≡ 45 → ⊥) → Leads s front es byte unsigned) → Leads s front es byte (cond (eqb byte 45) (unless (over_total s (used + 1) 3) (Go (at s (first true)))) (cond (eqb byte 43) (unless (over_total s (used + 1) 3) (Go (at s (first false)))) unsigned))
+signs_lead s k first used byte unsigned front es c w may_be lies leads =
+    by_byte s front es 45 byte _ _ (λ is. sign Minus true (ap (λ z. z ∷ []) is) refl)
+    (λ no_minus. by_byte s front es 43 byte _ _ (λ is. sign Plus false (ap (λ z. z ∷ []) is) refl) (λ no_plus. leads no_plus no_minus))
+  where
+    sign : (x : Sign) (negative : Bool) → byte ∷ [] ≡ sign_text x → IsSigned negative x → Leads s front es byte (unless (over_total s (used + 1) 3) (Go (at s (first negative))))
+    sign x negative is signed =
+        let r = rules_of s in
+        let more : Inside r (SignBegun r k negative) s.frames (front ++ byte ∷ []) es = goes r _ (SignBegun r k negative) s.frames front (byte ∷ []) es w
+        (λ level bytes shown i t. record { sign = x; is_signed = signed; token = sign_more r k level bytes x byte (may_be x level bytes t.0) (sym is) t.0; told = t.1 }) in
+        unless_over s front es used byte 3 (Go (at s (first negative)))
+        (fits_or_total s (SignBegun r k negative) front es es used byte 3 (Go (at s (first negative))) c more (λ level bytes shown i t. begun_row r k negative level bytes shown t) (lies negative more))
 
 pub int_sign_leads : IntSignLeads
 int_sign_leads s used byte front es is_byte c w =
-    if_equal byte 45 (λ x. Leads (at s AtIntSign) front es byte (cond x (unless (over_total (at s AtIntSign) (used + 1) 3) (Go (at s (AtIntFirst true)))) (cond (eqb byte 43) (unless (over_total (at s AtIntSign) (used + 1) 3) (Go (at s (AtIntFirst false)))) (int_first (at s AtIntSign) false byte))))
-    (λ is. sign_leads s byte used front es Minus true c w (ap (λ z. z ∷ []) is) refl)
-    (λ no_minus. if_equal byte 43 (λ x. Leads (at s AtIntSign) front es byte (cond x (unless (over_total (at s AtIntSign) (used + 1) 3) (Go (at s (AtIntFirst false)))) (int_first (at s AtIntSign) false byte)))
-    (λ is. sign_leads s byte used front es Plus false c w (ap (λ z. z ∷ []) is) refl)
-    (λ no_plus. first_leads (at s AtIntSign) (b.Begun (rules_of s) AtIntSign) false byte front es w (λ level bytes shown t. unsigned_any (rules_of s) Int byte level bytes shown no_plus no_minus t)))
+    signs_lead (at s AtIntSign) Int AtIntFirst used byte _ front es c w (λ sign level bytes t. one_digit sign 48 (omega arith, omega arith)) (λ negative x. x)
+    (λ no_plus no_minus. first_leads (at s AtIntSign) (b.Begun (rules_of s) AtIntSign) false byte front es w (λ level bytes shown t. unsigned_any (rules_of s) Int byte level bytes shown no_plus no_minus t))
 
 pub int_first_leads : IntFirstLeads
 int_first_leads s negative used byte front es is_byte c w =
@@ -183,7 +185,7 @@ pub int_leads : IntLeads
 int_leads s negative n used byte front es is_byte c w =
     let r = rules_of s in
     let m = n * 10 + (byte - 48) in
-    if_digit byte (λ x. Leads (at s (InInt negative n)) front es byte (cond x (int_digit (at s (InInt negative n)) (used + 1) negative m) (wants 13 byte (Go (at s (AtIntLf negative n))))))
+    by_digit (at s (InInt negative n)) front es byte _ _
     (λ d. if_within m (most negative) (λ x. Leads (at s (InInt negative n)) front es byte (cond x (cond (fits (at s (InInt negative n)) (used + 1) 2) (Go (at s (InInt negative m))) (Refuse cause.Total)) (Refuse cause.Range)))
     (λ within.
     let more = goes r (IntBegun r negative n) (IntBegun r negative m) s.frames front (byte ∷ []) es w (λ level bytes shown i t. int_goes_on r negative n byte level bytes shown d within t) in
