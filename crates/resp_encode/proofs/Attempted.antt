@@ -12,11 +12,11 @@ use Rattle.resp_value.specs.Rules.{Rules}
 use Rattle.resp_value.specs.Values.{extended}
 use Rattle.resp_value.specs.declared.version.Version.{Version}
 use Rattle.resp_value.specs.declared.version.Version.TheVariants.{Two, Three}
-use Rattle.resp_encode.specs.declared.kind.Kind as e
-use Rattle.resp_encode.specs.declared.kind.Kind.TheVariants as v
-use Rattle.resp_encode.specs.Kinds.{kind_of}
-use Rattle.resp_encode.specs.Attempts.{HasKind, HaveTypes, Suits, SuitEach, Attempt, AttemptEach, AttemptNotes, HasRoom}
-use Rattle.resp_encode.specs.Writings.{Writes}
+use Rattle.resp_value.specs.declared.kind.OpenKind as e
+use Rattle.resp_value.specs.declared.kind.OpenKind.TheVariants as v
+use Rattle.resp_value.specs.Kinds.{kind_of}
+use Rattle.resp_encode.specs.Attempts.{HasKind, HaveTypes, Suits, SuitEach, Attempt, AttemptEach, AttemptNotes, FitsSpare}
+use Rattle.resp_encode.specs.Writings.{Fills}
 use Rattle.resp_encode.proofs.Extended.{in_two_with, no_push_with, values_with, greatest_depth-extended, longest_among-extended, most_items_among-extended, texts-extended}
 use Rattle.resp_encode.proofs.Texts.{Writes-none, Writes-append, aggregate_text, head_split}
 
@@ -32,18 +32,18 @@ pub left : {version : Version} {bounds : Bounds} {deeper : ℕ} {x : Datum} (a :
 left a = record { whole = tt; suits = tt; part = ([], Writes-none a) }
 
 -- the walk stopped behind a part
-pub stopped : {version : Version} {bounds : Bounds} {deeper : ℕ} {x : Datum} {a b : Filled} → (text : List ℕ) × Writes a b text → Attempt version bounds deeper x a b false
+pub stopped : {version : Version} {bounds : Bounds} {deeper : ℕ} {x : Datum} {a b : Filled} → (text : List ℕ) × Fills a b text → Attempt version bounds deeper x a b false
 stopped part = record { whole = tt; suits = tt; part = part }
 
-pub stopped_each : {version : Version} {bounds : Bounds} {deeper : ℕ} {xs : Data} {a b : Filled} → (text : List ℕ) × Writes a b text → AttemptEach version bounds deeper xs a b false
+pub stopped_each : {version : Version} {bounds : Bounds} {deeper : ℕ} {xs : Data} {a b : Filled} → (text : List ℕ) × Fills a b text → AttemptEach version bounds deeper xs a b false
 stopped_each part = record { whole = tt; suits = tt; part = part }
 
 -- a part behind a text
-pub part_behind : {a b c : Filled} {x : List ℕ} → Writes a b x → (text : List ℕ) × Writes b c text → (text : List ℕ) × Writes a c text
+pub part_behind : {a b c : Filled} {x : List ℕ} → Fills a b x → (text : List ℕ) × Fills b c text → (text : List ℕ) × Fills a c text
 part_behind {x = x} first rest = (x ++ rest.0, Writes-append first rest.1)
 
 -- a value without members was written
-pub scalar_done : {version : Version} {bounds : Bounds} {spare : ℕ} {s : Scalar} {a b : Filled} → HasRoom version bounds spare (scalar s) → IsScalarValue s → Writes a b (canonical_text version (scalar s)) → (deeper : ℕ) → Attempt version bounds deeper (scalar s) a b true
+pub scalar_done : {version : Version} {bounds : Bounds} {spare : ℕ} {s : Scalar} {a b : Filled} → FitsSpare version bounds spare (scalar s) → IsScalarValue s → Fills a b (canonical_text version (scalar s)) → (deeper : ℕ) → Attempt version bounds deeper (scalar s) a b true
 scalar_done fits value writes deeper = record {
   whole = writes;
   suits = record {
@@ -63,7 +63,7 @@ in_each Two x p = p
 in_each Three x p = tt
 
 -- a scalar of version 2 within the limits, and room for it
-pub room_for : (version : Version) (bounds : Bounds) {spare : ℕ} (s : Scalar) → IsInTwo (scalar s) → longest (scalar s) ≤ bounds.length → length (canonical_text version (scalar s)) ≤ spare → HasRoom version bounds spare (scalar s)
+pub room_for : (version : Version) (bounds : Bounds) {spare : ℕ} (s : Scalar) → IsInTwo (scalar s) → longest (scalar s) ≤ bounds.length → length (canonical_text version (scalar s)) ≤ spare → FitsSpare version bounds spare (scalar s)
 room_for version bounds s two long room = record { has_types = in_each version (scalar s) two; within_length = long; room = room }
 
 -- an integer's text is no longer than its digits and four more
@@ -107,10 +107,10 @@ suits_inside version bounds deeper k xs items kind deep few same whole each = re
 }
 
 -- a head was written, and then the members were tried
-pub inside_tried : (version : Version) (bounds : Bounds) (deeper : ℕ) (k : Kind) (xs : Data) (items : ℕ) (done : Bool) {a b c : Filled} → Writes a b (kind_byte k ∷ decimal items ++ crlf []) → HasKind version k → 0 < deeper → items ≤ bounds.items → items_of k (count xs) ≡ items → IsWhole k (count xs) → AttemptEach version bounds (deeper - 1) xs b c done → Attempt version bounds deeper (aggregate k xs) a c done
+pub inside_tried : (version : Version) (bounds : Bounds) (deeper : ℕ) (k : Kind) (xs : Data) (items : ℕ) (done : Bool) {a b c : Filled} → Fills a b (kind_byte k ∷ decimal items ++ crlf []) → HasKind version k → 0 < deeper → items ≤ bounds.items → items_of k (count xs) ≡ items → IsWhole k (count xs) → AttemptEach version bounds (deeper - 1) xs b c done → Attempt version bounds deeper (aggregate k xs) a c done
 inside_tried version bounds deeper k xs items false {a = a} {c = c} head kind deep few same whole each = stopped (part_behind head each.part)
 inside_tried version bounds deeper k xs items true {a = a} {c = c} head kind deep few same whole each =
-    let text = subst (Writes a c) (head_split (kind_byte k) items (texts (canonical_trees version xs)) ∙ sym (aggregate_text version k xs items same)) (Writes-append head each.whole) in
+    let text = subst (Fills a c) (head_split (kind_byte k) items (texts (canonical_trees version xs)) ∙ sym (aggregate_text version k xs items same)) (Writes-append head each.whole) in
     record {
       whole = text;
       suits = suits_inside version bounds deeper k xs items kind deep few same whole each.suits;
@@ -118,10 +118,10 @@ inside_tried version bounds deeper k xs items true {a = a} {c = c} head kind dee
     }
 
 -- members were written, and then one more was tried
-pub one_more_tried : (version : Version) (bounds : Bounds) (deeper : ℕ) (xs : Data) (x : Datum) (done : Bool) {a b c : Filled} → Writes a b (texts (canonical_trees version xs)) → SuitEach version bounds deeper xs → Attempt version bounds deeper x b c done → OnTrue done (HasNoPush x) → AttemptEach version bounds deeper (extended xs x) a c done
+pub one_more_tried : (version : Version) (bounds : Bounds) (deeper : ℕ) (xs : Data) (x : Datum) (done : Bool) {a b c : Filled} → Fills a b (texts (canonical_trees version xs)) → SuitEach version bounds deeper xs → Attempt version bounds deeper x b c done → OnTrue done (HasNoPush x) → AttemptEach version bounds deeper (extended xs x) a c done
 one_more_tried version bounds deeper xs x false front each one below = stopped_each (part_behind front one.part)
 one_more_tried version bounds deeper xs x true {a = a} {c = c} front each one below =
-    let text = subst (Writes a c) (sym (texts-extended version xs x)) (Writes-append front one.whole) in
+    let text = subst (Fills a c) (sym (texts-extended version xs x)) (Writes-append front one.whole) in
     record { whole = text; suits = suit_with version bounds deeper xs x each one.suits below; part = (_, text) }
 
 -- a value that suits fits, where its text is within the total
@@ -136,10 +136,10 @@ fits_within rules x suits total = record {
 }
 
 -- the head and the pairs of an attribute were tried
-pub notes_tried : (version : Version) (bounds : Bounds) (deeper : ℕ) (xs : Data) (items : ℕ) (done : Bool) {a b c : Filled} → Writes a b (124 ∷ decimal items ++ crlf []) → HasKind version Attr → 0 < deeper → items ≤ bounds.items → AttemptEach version bounds (deeper - 1) xs b c done → AttemptNotes version bounds deeper items xs a c done
+pub notes_tried : (version : Version) (bounds : Bounds) (deeper : ℕ) (xs : Data) (items : ℕ) (done : Bool) {a b c : Filled} → Fills a b (124 ∷ decimal items ++ crlf []) → HasKind version Attr → 0 < deeper → items ≤ bounds.items → AttemptEach version bounds (deeper - 1) xs b c done → AttemptNotes version bounds deeper items xs a c done
 notes_tried version bounds deeper xs items false head kind deep few each = record { whole = tt; has_kind = tt; within_items = tt; within_depth = tt; suits = tt; part = part_behind head each.part }
 notes_tried version bounds deeper xs items true {a = a} {c = c} head kind deep few each =
-    let text = subst (Writes a c) (head_split 124 items (texts (canonical_trees version xs))) (Writes-append head each.whole) in
+    let text = subst (Fills a c) (head_split 124 items (texts (canonical_trees version xs))) (Writes-append head each.whole) in
     record { whole = text; has_kind = kind; within_items = few; within_depth = deep; suits = each.suits; part = (_, text) }
 
 -- they were written, and then the value that they annotate was tried
@@ -149,7 +149,7 @@ annotated_tried version bounds deeper xs x items true {a = a} {c = c} notes same
     let front = texts (canonical_trees version xs) in
     let under = canonical_text version x in
     let same_text = ap (λ rest. 124 ∷ rest) (append_assoc (decimal items) (crlf front) under) ∙ ap (λ rest. 124 ∷ decimal items ++ crlf rest) (sym (texts-extended version xs x)) ∙ sym (aggregate_text version Attr (extended xs x) items same) in
-    let text = subst (Writes a c) same_text (Writes-append notes.whole one.whole) in
+    let text = subst (Fills a c) same_text (Writes-append notes.whole one.whole) in
     record {
       whole = text;
       suits = suits_inside version bounds deeper Attr (extended xs x) items notes.has_kind notes.within_depth notes.within_items same whole (suit_with version bounds (deeper - 1) xs x notes.suits one.suits below);
@@ -162,7 +162,7 @@ is_below version bounds deeper k xs false below suits = tt
 is_below version bounds deeper k xs true below suits = (below, suits.push_at_top)
 
 -- a kind whose head counts the members one by one has no pairs
-pub is_whole : (kind : e.Kind) → ((n : ℕ) → items_of (kind_of kind) n ≡ n) → (n : ℕ) → IsWhole (kind_of kind) n
+pub is_whole : (kind : e.OpenKind) → ((n : ℕ) → items_of (kind_of kind) n ≡ n) → (n : ℕ) → IsWhole (kind_of kind) n
 is_whole v.Array each n = tt
 is_whole v.Set each n = tt
 is_whole v.Map each n = absurd (let one : 1 / 2 ≡ 1 = each 1 in omega (arith, one))

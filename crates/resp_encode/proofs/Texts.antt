@@ -14,14 +14,14 @@ use Rattle.resp_value.specs.Spellings.{IsSpelling}
 use Rattle.resp_value.proofs.SpellingLaws.{canonical_text_spells_what_fits}
 use Rattle.resp_value.specs.declared.version.Version.{Version}
 use Rattle.resp_value.specs.declared.version.Version.TheVariants.{Three}
-use Rattle.resp_encode.specs.Writings.{Writes}
+use Rattle.resp_encode.specs.Writings.{Fills}
 
 -- nothing was appended
-pub Writes-none : (a : Filled) → Writes a a []
+pub Writes-none : (a : Filled) → Fills a a []
 Writes-none a = record { items = sym (append-nil a.items); spare = omega arith }
 
 -- one text was appended, and then another
-pub Writes-append : {a b c : Filled} {x y : List ℕ} → Writes a b x → Writes b c y → Writes a c (x ++ y)
+pub Writes-append : {a b c : Filled} {x y : List ℕ} → Fills a b x → Fills b c y → Fills a c (x ++ y)
 Writes-append {a = a} {x = x} {y = y} first second = record {
   items = second.items ∙ ap (λ items. items ++ y) first.items ∙ append_assoc a.items x y;
   spare = omega (arith, first.spare, second.spare, length-append x y);
@@ -62,5 +62,5 @@ pub spells_if_fits : (rules : Rules) (x : Datum) → IsValue x → Fits rules x 
 spells_if_fits rules x value fits = (canonical_text_spells_what_fits rules x value).1 fits
 
 -- one append writes its bytes
-pub Writes-bytes : {a b : Filled} {written text : List ℕ} → b.items ≡ a.items ++ written → b.spare + length written ≡ a.spare → written ≡ text → Writes a b text
+pub Writes-bytes : {a b : Filled} {written text : List ℕ} → b.items ≡ a.items ++ written → b.spare + length written ≡ a.spare → written ≡ text → Fills a b text
 Writes-bytes {a = a} {b = b} items spare same = record { items = items ∙ ap (λ xs. a.items ++ xs) same; spare = ap (λ xs. b.spare + length xs) (sym same) ∙ spare }

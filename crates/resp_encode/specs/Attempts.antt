@@ -10,7 +10,7 @@ use Rattle.resp_value.specs.Trees.{texts}
 use Rattle.resp_value.specs.Canonical.{IsValue, AreValues, IsKindInTwo, AreInTwo, HasTypes, HaveNoPush, HasPushAtTop, canonical_text, canonical_trees}
 use Rattle.resp_value.specs.declared.version.Version.{Version}
 use Rattle.resp_value.specs.declared.version.Version.TheVariants.{Two, Three}
-use Rattle.resp_encode.specs.Writings.{Writes}
+use Rattle.resp_encode.specs.Writings.{Fills}
 
 -- the version has the kind
 abbrev pub HasKind : Version → Kind → Type 0
@@ -42,27 +42,27 @@ pub record SuitEach (version : Version) (bounds : Bounds) (deeper : ℕ) (xs : D
 
 -- where it is done, the value suits and its text was appended; else it may be that only a part was
 pub record Attempt (version : Version) (bounds : Bounds) (deeper : ℕ) (x : Datum) (old new : Filled) (done : Bool) : Type 0 where
-  pub whole : OnTrue done (Writes old new (canonical_text version x))
+  pub whole : OnTrue done (Fills old new (canonical_text version x))
   pub suits : OnTrue done (Suits version bounds deeper x)
-  pub part : (text : List ℕ) × Writes old new text
+  pub part : (text : List ℕ) × Fills old new text
 
 -- the same of members
 pub record AttemptEach (version : Version) (bounds : Bounds) (deeper : ℕ) (xs : Data) (old new : Filled) (done : Bool) : Type 0 where
-  pub whole : OnTrue done (Writes old new (texts (canonical_trees version xs)))
+  pub whole : OnTrue done (Fills old new (texts (canonical_trees version xs)))
   pub suits : OnTrue done (SuitEach version bounds deeper xs)
-  pub part : (text : List ℕ) × Writes old new text
+  pub part : (text : List ℕ) × Fills old new text
 
 -- the same of the head of an attribute, with this number, and of its keys and values in turn
 pub record AttemptNotes (version : Version) (bounds : Bounds) (deeper items : ℕ) (xs : Data) (old new : Filled) (done : Bool) : Type 0 where
-  pub whole : OnTrue done (Writes old new (124 ∷ decimal items ++ crlf (texts (canonical_trees version xs))))
+  pub whole : OnTrue done (Fills old new (124 ∷ decimal items ++ crlf (texts (canonical_trees version xs))))
   pub has_kind : OnTrue done (HasKind version Attr)
   pub within_items : OnTrue done (items ≤ bounds.items)
   pub within_depth : OnTrue done (0 < deeper)
   pub suits : OnTrue done (SuitEach version bounds (deeper - 1) xs)
-  pub part : (text : List ℕ) × Writes old new text
+  pub part : (text : List ℕ) × Fills old new text
 
 -- nothing of a value without members is refused but for its total, and so much room holds its text
-pub record HasRoom (version : Version) (bounds : Bounds) (spare : ℕ) (x : Datum) : Type 0 where
+pub record FitsSpare (version : Version) (bounds : Bounds) (spare : ℕ) (x : Datum) : Type 0 where
   pub has_types : HasTypes version x
   pub within_length : longest x ≤ bounds.length
   pub room : length (canonical_text version x) ≤ spare

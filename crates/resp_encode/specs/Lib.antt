@@ -1,5 +1,4 @@
 pub mod Attempts
-pub mod Kinds
 pub mod Refusals
 pub mod Sizes
 pub mod Surveys

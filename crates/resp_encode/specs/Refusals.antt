@@ -4,19 +4,19 @@ use Rattle.resp_value.specs.Data.{Datum, depth, longest, most_items}
 use Rattle.resp_value.specs.Rules.{Rules}
 use Rattle.resp_value.specs.Canonical.{HasTypes, HasPushAtTop, canonical_text, Fits}
 use Rattle.resp_value.specs.declared.version.Version.{Version}
-use Rattle.resp_value.specs.declared.cause.Over.{Over}
-use Rattle.resp_value.specs.declared.cause.Over.TheVariants.{Depth, Length, Items, Total}
+use Rattle.resp_value.specs.declared.cause.Limit.{Limit}
+use Rattle.resp_value.specs.declared.cause.Limit.TheVariants.{Depth, Length, Items, Total}
 use Rattle.resp_encode.specs.declared.error.EncodeError.{EncodeError}
 use Rattle.resp_encode.specs.declared.error.EncodeError.TheVariants.{NotInVersion, NestedPush, OverLimits, OutOfMemory}
-use Rattle.resp_encode.specs.declared.error.ToError.{ToError}
-use Rattle.resp_encode.specs.declared.error.ToError.TheVariants as to
+use Rattle.resp_encode.specs.declared.error.EncodeToError.{EncodeToError}
+use Rattle.resp_encode.specs.declared.error.EncodeToError.TheVariants as to
 
 -- the version has each type of the value, and no push stands below its top
 abbrev pub HasText : Version → Datum → Type 0
 HasText version x = HasTypes version x × HasPushAtTop x
 
 -- the value breaks this limit, and none before it
-abbrev pub IsFirstOver : Rules → Datum → Over → Type 0
+abbrev pub IsFirstOver : Rules → Datum → Limit → Type 0
 IsFirstOver rules x Depth = rules.limits.depth < depth x
 IsFirstOver rules x Length = (depth x ≤ rules.limits.depth) × (rules.limits.length < longest x)
 IsFirstOver rules x Items = (depth x ≤ rules.limits.depth) × (longest x ≤ rules.limits.length) × (rules.limits.items < most_items x)
@@ -30,7 +30,7 @@ IsFirstFault rules x (OverLimits over) = HasText rules.version x × IsFirstOver 
 IsFirstFault rules x OutOfMemory = Fits rules x
 
 -- the same of a call that writes to a device; a write is tried only where the value has no fault
-abbrev pub IsFirstRefusal : Rules → Datum → ToError → Type 0
+abbrev pub IsFirstRefusal : Rules → Datum → EncodeToError → Type 0
 IsFirstRefusal rules x to.NotInVersion = IsFirstFault rules x NotInVersion
 IsFirstRefusal rules x to.NestedPush = IsFirstFault rules x NestedPush
 IsFirstRefusal rules x (to.OverLimits over) = IsFirstFault rules x (OverLimits over)
@@ -38,7 +38,7 @@ IsFirstRefusal rules x to.OutOfMemory = Fits rules x
 IsFirstRefusal rules x (to.Write written) = Fits rules x
 
 -- this holds of how many bytes were written, where a write failed
-abbrev pub IfWrite : (ℕ → Type 0) → ToError → Type 0
+abbrev pub IfWrite : (ℕ → Type 0) → EncodeToError → Type 0
 IfWrite P to.NotInVersion = Unit {0}
 IfWrite P to.NestedPush = Unit {0}
 IfWrite P (to.OverLimits over) = Unit {0}
@@ -46,7 +46,7 @@ IfWrite P to.OutOfMemory = Unit {0}
 IfWrite P (to.Write written) = P written
 
 -- the fault as a call that writes to a device names it
-abbrev pub to_error : EncodeError → ToError
+abbrev pub to_error : EncodeError → EncodeToError
 to_error NotInVersion = to.NotInVersion
 to_error NestedPush = to.NestedPush
 to_error (OverLimits over) = to.OverLimits over

@@ -7,5 +7,5 @@ IsSize (Some n) size = size ≡ n
 IsSize None size = 2 ^ 64 ≤ size
 
 -- a number, or the greatest that a `u64` holds
-abbrev pub IsCounted : ℕ → ℕ → Type 0
-IsCounted found n = found ≡ min n (2 ^ 64 - 1)
+abbrev pub IsSaturated : ℕ → ℕ → Type 0
+IsSaturated found n = found ≡ min n (2 ^ 64 - 1)

@@ -4,7 +4,7 @@ use Rattle.resp_value.specs.Data.{Datum, Data, depth, greatest_depth, longest, l
 use Rattle.resp_value.specs.Trees.{texts}
 use Rattle.resp_value.specs.Canonical.{IsInTwo, AreInTwo, HasNoPush, HaveNoPush, HasPushAtTop, canonical_text, canonical_trees}
 use Rattle.resp_value.specs.declared.version.Version.{Version}
-use Rattle.resp_encode.specs.Sizes.{IsSize, IsCounted}
+use Rattle.resp_encode.specs.Sizes.{IsSize, IsSaturated}
 use Rattle.resp_encode.specs.declared.findings.Findings.{Findings}
 
 -- what was found of a value
@@ -12,7 +12,7 @@ pub record Describes (version : Version) (x : Datum) (found : Findings) : Type 0
   pub in_two : IsTrue found.in_two ↔ IsInTwo x
   pub no_push : IsTrue found.no_push ↔ HasNoPush x
   pub push_at_top : IsTrue found.push_at_top ↔ HasPushAtTop x
-  pub depth_found : IsCounted found.depth (depth x)
+  pub depth_found : IsSaturated found.depth (depth x)
   pub longest_found : found.longest ≡ longest x
   pub most_items_found : found.most_items ≡ most_items x
   pub size_found : IsSize found.size (length (canonical_text version x))
@@ -21,7 +21,7 @@ pub record Describes (version : Version) (x : Datum) (found : Findings) : Type 0
 pub record DescribesEach (version : Version) (xs : Data) (found : Findings) : Type 0 where
   pub in_two : IsTrue found.in_two ↔ AreInTwo xs
   pub no_push : IsTrue found.no_push ↔ HaveNoPush xs
-  pub depth_found : IsCounted found.depth (greatest_depth xs)
+  pub depth_found : IsSaturated found.depth (greatest_depth xs)
   pub longest_found : found.longest ≡ longest_among xs
   pub most_items_found : found.most_items ≡ most_items_among xs
   pub size_found : IsSize found.size (length (texts (canonical_trees version xs)))

@@ -12,11 +12,11 @@ ghost use Rattle.resp_value.specs.Trees.{kind_byte};
 ghost use Rattle.resp_value.specs.Canonical.{IsValue, HasNoPush, canonical_text, Fits};
 ghost use Rattle.resp_value.specs.Values.{datum_of, pair_data};
 ghost use Rattle.resp_encode.specs.Attempts.{HasKind, Attempt, AttemptEach, AttemptNotes};
-ghost use Rattle.resp_encode.specs.Kinds.{kind_of};
-ghost use Rattle.resp_encode.specs.Writings.{Writes};
+ghost use Rattle.resp_value.specs.Kinds.{kind_of};
+ghost use Rattle.resp_encode.specs.Writings.{Fills};
 
 use crate::findings::head_size;
-use crate::kind::Kind;
+use resp_value::kind::OpenKind;
 use crate::room::room;
 use crate::text::write_head;
 use bytes::BytesMut;
@@ -31,7 +31,7 @@ use scalars::{
 mod scalars;
 
 #[inline]
-fn has_kind(version: Version, kind: Kind) -> bool
+fn has_kind(version: Version, kind: OpenKind) -> bool
     ensures { OnTrue result (HasKind version (kind_of kind)) }
 {
     match version {
@@ -44,13 +44,13 @@ fn has_kind(version: Version, kind: Kind) -> bool
 #[inline]
 fn attempt_head(
     items: u64,
-    kind: Kind,
+    kind: OpenKind,
     version: Version,
     limits: &Limits,
     deeper: u64,
     out: &mut BytesMut,
 ) -> bool
-    ensures writes { OnTrue result (Writes out.old out.new (kind_byte (kind_of kind) ∷ decimal items ++ crlf [])) }
+    ensures writes { OnTrue result (Fills out.old out.new (kind_byte (kind_of kind) ∷ decimal items ++ crlf [])) }
     ensures has_kind { OnTrue result (HasKind version (kind_of kind)) }
     ensures within_items { OnTrue result (items ≤ limits.now.items) }
     ensures within_depth { OnTrue result (0 < deeper) }
@@ -90,10 +90,10 @@ fn attempt_value(
         Value::Verbatim(format, text) => attempt_verbatim(format, text, version, limits, out),
         Value::Big(digits) => attempt_big(digits, version, limits, out),
         Value::Array(members) => {
-            attempt_group(members.list(), Kind::Array, version, limits, deeper, out)
+            attempt_group(members.list(), OpenKind::Array, version, limits, deeper, out)
         }
         Value::Set(members) => {
-            attempt_group(members.list(), Kind::Set, version, limits, deeper, out)
+            attempt_group(members.list(), OpenKind::Set, version, limits, deeper, out)
         }
         Value::Map(pairs) => attempt_map(pairs.list(), version, limits, deeper, out),
         Value::Attr(pairs, annotated) => {
@@ -111,7 +111,7 @@ fn attempt_value(
 #[inline(never)]
 fn attempt_group(
     members: &[Value],
-    kind: Kind,
+    kind: OpenKind,
     version: Version,
     limits: &Limits,
     deeper: u64,
@@ -138,7 +138,7 @@ fn attempt_map(
 ) -> bool
     ensures { Attempt version limits.now deeper (aggregate d.Map (data_of_list (in_turn (map pair_data pairs.now)))) out.old out.new result }
 {
-    if !attempt_head(pairs.len() as u64, Kind::Map, version, limits, deeper, out) {
+    if !attempt_head(pairs.len() as u64, OpenKind::Map, version, limits, deeper, out) {
         return false;
     }
     attempt_pairs(pairs, version, limits, deeper - 1, out)
@@ -156,7 +156,7 @@ fn attempt_notes(
 ) -> bool
     ensures { AttemptNotes version limits.now deeper (length pairs.now) (data_of_list (in_turn (map pair_data pairs.now))) out.old out.new result }
 {
-    if !attempt_head(pairs.len() as u64, Kind::Attr, version, limits, deeper, out) {
+    if !attempt_head(pairs.len() as u64, OpenKind::Attr, version, limits, deeper, out) {
         return false;
     }
     attempt_pairs(pairs, version, limits, deeper - 1, out)
@@ -229,7 +229,7 @@ fn attempt_top(value: &Value, version: Version, limits: &Limits, out: &mut Bytes
     let deeper = limits.depth();
     match value {
         Value::Push(members) => {
-            attempt_group(members.list(), Kind::Push, version, limits, deeper, out)
+            attempt_group(members.list(), OpenKind::Push, version, limits, deeper, out)
         }
         _ => attempt_value(value, version, limits, deeper, out),
     }
@@ -238,7 +238,7 @@ fn attempt_top(value: &Value, version: Version, limits: &Limits, out: &mut Bytes
 /// Appends the text of a value where it has no fault and there is room, and else leaves the buffer.
 #[inline(always)]
 pub(crate) fn attempt(value: &Value, version: Version, limits: &Limits, out: &mut BytesMut) -> bool
-    ensures writes { OnTrue result (Writes out.old out.new (canonical_text version (datum_of value.now))) }
+    ensures writes { OnTrue result (Fills out.old out.new (canonical_text version (datum_of value.now))) }
     ensures fits { OnTrue result (Fits (record { version = version; limits = limits.now }) (datum_of value.now)) }
     ensures is_value { OnTrue result (IsValue (datum_of value.now)) }
     ensures items { OnFalse result (out.new.items ≡ out.old.items) }

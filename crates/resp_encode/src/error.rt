@@ -1,6 +1,6 @@
 //! Why a value is not encoded.
 
-use resp_value::cause::Over;
+use resp_value::cause::Limit;
 use thiserror::Error;
 
 /// Why a value was not appended. Where a value has several faults, the first in this order is named.
@@ -14,7 +14,7 @@ pub enum EncodeError {
     NestedPush,
     /// The value breaks this limit, and none before it.
     #[error("the value is over a limit")]
-    OverLimits(Over),
+    OverLimits(Limit),
     /// A growth of the buffer was refused.
     #[error("out of memory")]
     OutOfMemory,
@@ -22,7 +22,7 @@ pub enum EncodeError {
 
 /// Why a value was not written whole to a device. All but the last are found before anything is written.
 #[derive(Clone, Copy, Debug, PartialEq, Eq, Error)]
-pub enum ToError {
+pub enum EncodeToError {
     /// The value holds a type that the version hasn't.
     #[error("the version has no such type")]
     NotInVersion,
@@ -31,7 +31,7 @@ pub enum ToError {
     NestedPush,
     /// The value breaks this limit, and none before it.
     #[error("the value is over a limit")]
-    OverLimits(Over),
+    OverLimits(Limit),
     /// No memory was found for the text.
     #[error("out of memory")]
     OutOfMemory,
@@ -43,18 +43,18 @@ pub enum ToError {
     },
 }
 
-impl From<EncodeError> for ToError {
+impl From<EncodeError> for EncodeToError {
     ghost use Rattle.std.specs.Prelude.{◌≡◌};
     ghost use Rattle.resp_encode.specs.Refusals.{to_error};
 
     ghost from_gives = { λ error converted. converted ≡ to_error error };
 
-    fn from(error: EncodeError) -> ToError {
+    fn from(error: EncodeError) -> EncodeToError {
         match error {
-            EncodeError::NotInVersion => ToError::NotInVersion,
-            EncodeError::NestedPush => ToError::NestedPush,
-            EncodeError::OverLimits(over) => ToError::OverLimits(over),
-            EncodeError::OutOfMemory => ToError::OutOfMemory,
+            EncodeError::NotInVersion => EncodeToError::NotInVersion,
+            EncodeError::NestedPush => EncodeToError::NestedPush,
+            EncodeError::OverLimits(over) => EncodeToError::OverLimits(over),
+            EncodeError::OutOfMemory => EncodeToError::OutOfMemory,
         }
     }
 }

@@ -8,7 +8,7 @@ ghost use Rattle.resp_value.specs.declared.version.Version.{Version};
 ghost use Rattle.resp_encode.specs.Sizes.{IsSize};
 
 use crate::digits::digit_count;
-use crate::kind::Kind;
+use resp_value::kind::OpenKind;
 
 /// What was found of a value, or of the members of one.
 #[derive(Clone, Copy)]
@@ -49,7 +49,7 @@ pub(crate) fn head_size(number: u64) -> u64
 }
 
 impl Findings {
-    ghost use Rattle.resp_encode.specs.Kinds.{kind_of};
+    ghost use Rattle.resp_value.specs.Kinds.{kind_of};
     ghost use Rattle.resp_encode.specs.Surveys.{DescribesEach, Describes};
 
     /// Of no members.
@@ -94,7 +94,7 @@ impl Findings {
 
     /// Of the aggregate that has these members, and this number in its head.
     #[inline]
-    pub(crate) fn inside(&self, kind: Kind, items: u64) -> Findings
+    pub(crate) fn inside(&self, kind: OpenKind, items: u64) -> Findings
         ensures { (version : Version) (xs : Data) → DescribesEach version xs self.now → items ≡ items_of (kind_of kind) (count xs) → Describes version (aggregate (kind_of kind) xs) result }
     {
         Findings {

@@ -9,7 +9,7 @@ ghost use Rattle.resp_encode.specs.Surveys.{Describes};
 
 use crate::error::EncodeError;
 use crate::findings::Findings;
-use resp_value::cause::Over;
+use resp_value::cause::Limit;
 use resp_value::limits::Limits;
 use resp_value::version::Version;
 
@@ -43,17 +43,17 @@ pub(crate) fn judge(
         return Err(EncodeError::NestedPush);
     }
     if found.depth > limits.depth() {
-        return Err(EncodeError::OverLimits(Over::Depth));
+        return Err(EncodeError::OverLimits(Limit::Depth));
     }
     if found.longest > limits.length() {
-        return Err(EncodeError::OverLimits(Over::Length));
+        return Err(EncodeError::OverLimits(Limit::Length));
     }
     if found.most_items > limits.items() {
-        return Err(EncodeError::OverLimits(Over::Items));
+        return Err(EncodeError::OverLimits(Limit::Items));
     }
     let total = limits.total();
     match found.size {
         Some(size) if size <= total => Ok(size as usize),
-        _ => Err(EncodeError::OverLimits(Over::Total)),
+        _ => Err(EncodeError::OverLimits(Limit::Total)),
     }
 }

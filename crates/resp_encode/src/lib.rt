@@ -10,7 +10,6 @@ mod digits;
 mod error;
 mod findings;
 mod judge;
-mod kind;
 mod room;
 mod survey;
 #[cfg(test)]
@@ -20,7 +19,7 @@ mod values;
 mod words;
 mod writer;
 
-pub use error::{EncodeError, ToError};
+pub use error::{EncodeError, EncodeToError};
 pub use values::{encode, encode_push, size};
 pub use words::{check_words, encode_words};
 pub use writer::encode_to;

@@ -8,12 +8,12 @@ ghost use Rattle.resp_value.specs.Data as d;
 ghost use Rattle.resp_value.specs.Canonical.{IsValue, AreValues, IsScalarValue};
 ghost use Rattle.resp_value.specs.Values.{datum_of, pair_data};
 ghost use Rattle.resp_value.specs.declared.version.Version.{Version};
-ghost use Rattle.resp_encode.specs.Kinds.{kind_of};
+ghost use Rattle.resp_value.specs.Kinds.{kind_of};
 ghost use Rattle.resp_encode.specs.Surveys.{Describes, DescribesEach};
 
 use crate::digits::digit_count;
 use crate::findings::{Findings, head_size};
-use crate::kind::Kind;
+use resp_value::kind::OpenKind;
 use resp_value::value::Value;
 use resp_value::version::Version;
 
@@ -120,9 +120,9 @@ pub(crate) fn survey(value: &Value, version: Version) -> Findings
         Value::BulkError(content) => of_bulk_error(content.list()),
         Value::Verbatim(format, text) => of_verbatim(format, text.list()),
         Value::Big(digits) => of_big(digits.is_negative(), digits.digits()),
-        Value::Array(members) => survey_group(members.list(), version, Kind::Array),
-        Value::Set(members) => survey_group(members.list(), version, Kind::Set),
-        Value::Push(members) => survey_group(members.list(), version, Kind::Push),
+        Value::Array(members) => survey_group(members.list(), version, OpenKind::Array),
+        Value::Set(members) => survey_group(members.list(), version, OpenKind::Set),
+        Value::Push(members) => survey_group(members.list(), version, OpenKind::Push),
         Value::Map(pairs) => survey_map(pairs.list(), version),
         Value::Attr(pairs, annotated) => {
             let under = survey_annotated(annotated, version);
@@ -138,7 +138,7 @@ fn survey_map(pairs: &[(Value, Value)], version: Version) -> Findings
     ensures found { Describes version (aggregate d.Map (data_of_list (in_turn (map pair_data pairs.now)))) result }
     ensures is_value { IsValue (aggregate d.Map (data_of_list (in_turn (map pair_data pairs.now)))) }
 {
-    survey_pairs(pairs, version).inside(Kind::Map, pairs.len() as u64)
+    survey_pairs(pairs, version).inside(OpenKind::Map, pairs.len() as u64)
 }
 
 #[cycle(survey)]
@@ -158,13 +158,13 @@ fn survey_attr(pairs: &[(Value, Value)], version: Version, under: &Findings) -> 
     ensures are_values { AreValues (data_of_list (in_turn (map pair_data pairs.now))) }
 {
     let found = survey_pairs(pairs, version).with(under);
-    found.inside(Kind::Attr, pairs.len() as u64)
+    found.inside(OpenKind::Attr, pairs.len() as u64)
 }
 
 /// What is found of an aggregate that counts its members one by one.
 #[cycle(survey)]
 #[inline(never)]
-pub(crate) fn survey_group(members: &[Value], version: Version, kind: Kind) -> Findings
+pub(crate) fn survey_group(members: &[Value], version: Version, kind: OpenKind) -> Findings
     requires { (n : ℕ) → items_of (kind_of kind) n ≡ n }
     ensures found { Describes version (aggregate (kind_of kind) (data_of_list (map datum_of members.now))) result }
     ensures are_values { AreValues (data_of_list (map datum_of members.now)) }

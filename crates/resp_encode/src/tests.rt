@@ -1,10 +1,10 @@
 //! Texts and refusals from outside: what the calls give on worked values, with ample memory.
 
 use crate::{
-    EncodeError, ToError, check_words, encode, encode_push, encode_to, encode_words, size,
+    EncodeError, EncodeToError, check_words, encode, encode_push, encode_to, encode_words, size,
 };
 use bytes::BytesMut;
-use resp_value::cause::Over;
+use resp_value::cause::Limit;
 use resp_value::content::Content;
 use resp_value::device::MemorySink;
 use resp_value::digits::Digits;
@@ -257,7 +257,7 @@ fn limits(rt: HostRuntime) -> Result<(), Fail> {
         two,
         &small,
         &long,
-        Err(EncodeError::OverLimits(Over::Length)),
+        Err(EncodeError::OverLimits(Limit::Length)),
     )?;
     let mut deep = long;
     for _ in 0..5 {
@@ -269,7 +269,7 @@ fn limits(rt: HostRuntime) -> Result<(), Fail> {
         two,
         &small,
         &deep,
-        Err(EncodeError::OverLimits(Over::Depth)),
+        Err(EncodeError::OverLimits(Limit::Depth)),
     )?;
     Ok(())
 }
@@ -296,7 +296,7 @@ fn totals(rt: HostRuntime) -> Result<(), Fail> {
         two,
         &small,
         &four,
-        Err(EncodeError::OverLimits(Over::Total)),
+        Err(EncodeError::OverLimits(Limit::Total)),
     )?;
     let three = array(
         alloc,
@@ -327,7 +327,7 @@ fn items(rt: HostRuntime) -> Result<(), Fail> {
         Version::Two,
         &small,
         &many,
-        Err(EncodeError::OverLimits(Over::Items)),
+        Err(EncodeError::OverLimits(Limit::Items)),
     )
 }
 
@@ -352,7 +352,7 @@ fn pushes_and_words(rt: HostRuntime) -> Result<(), Fail> {
         b"*3\r\n$3\r\nSET\r\n$1\r\na\r\n$1\r\n1\r\n".as_slice()
     );
     let long = [vec![in alloc; b'a'; 65]?];
-    let over = Err(EncodeError::OverLimits(Over::Length));
+    let over = Err(EncodeError::OverLimits(Limit::Length));
     assert_eq!(rt; check_words(&small, &long), over);
     assert_eq!(rt; encode_words(&small, &long, &mut text), over);
     assert_eq!(rt; text.len(), 27);
@@ -366,11 +366,11 @@ fn devices(rt: HostRuntime) -> Result<(), Fail> {
     let foo = bulk(alloc, b"foo")?;
     let mut sink = MemorySink::new(alloc, 2, 3)?;
     let answer = encode_to(alloc, Version::Two, &standard, &foo, &mut sink);
-    if answer == Err(ToError::OutOfMemory) {
+    if answer == Err(EncodeToError::OutOfMemory) {
         assert_eq!(rt; sink.bytes(), b"".as_slice());
-        return Err(Fail::from(ToError::OutOfMemory));
+        return Err(Fail::from(EncodeToError::OutOfMemory));
     }
-    assert_eq!(rt; answer, Err(ToError::Write { written: 3 }));
+    assert_eq!(rt; answer, Err(EncodeToError::Write { written: 3 }));
     assert_eq!(rt; sink.bytes(), b"$3\r".as_slice());
     let mut sink = MemorySink::new(alloc, 1, 100)?;
     assert_eq!(rt;
@@ -385,7 +385,7 @@ fn devices(rt: HostRuntime) -> Result<(), Fail> {
         &Value::Bool(true),
         &mut sink,
     );
-    assert_eq!(rt; answer, Err(ToError::NotInVersion));
+    assert_eq!(rt; answer, Err(EncodeToError::NotInVersion));
     assert_eq!(rt; sink.bytes().len(), 9);
     Ok(())
 }

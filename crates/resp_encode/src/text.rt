@@ -9,7 +9,7 @@ ghost use Rattle.resp_value.specs.Trees.{texts};
 ghost use Rattle.resp_value.specs.Canonical.{canonical_text, canonical_trees};
 ghost use Rattle.resp_value.specs.Values.{datum_of, pair_data};
 ghost use Rattle.resp_value.specs.declared.version.Version.TheVariants.{Three};
-ghost use Rattle.resp_encode.specs.Writings.{Writes};
+ghost use Rattle.resp_encode.specs.Writings.{Fills};
 
 use crate::digits::{four_digits, two_digits};
 use bytes::BytesMut;
@@ -21,7 +21,7 @@ use resp_value::version::Version;
 #[inline(always)]
 pub(crate) fn write_head(out: &mut BytesMut, byte: u8, number: u64)
     requires { length (decimal number) + 3 ≤ out.old.spare }
-    ensures { Writes out.old out.new (byte ∷ decimal number ++ crlf []) }
+    ensures { Fills out.old out.new (byte ∷ decimal number ++ crlf []) }
 {
     if number < 10 {
         out.extend_reserved(&[byte, b'0' + number as u8, b'\r', b'\n']);
@@ -39,7 +39,7 @@ pub(crate) fn write_head(out: &mut BytesMut, byte: u8, number: u64)
 fn write_long_head(out: &mut BytesMut, byte: u8, number: u64)
     requires long { 100 ≤ number }
     requires room { length (decimal number) + 3 ≤ out.old.spare }
-    ensures { Writes out.old out.new (byte ∷ decimal number ++ crlf []) }
+    ensures { Fills out.old out.new (byte ∷ decimal number ++ crlf []) }
 {
     if number < 1000 {
         let (_, hundreds, tens, ones) = four_digits(number);
@@ -57,7 +57,7 @@ fn write_long_head(out: &mut BytesMut, byte: u8, number: u64)
 fn write_longer_head(out: &mut BytesMut, byte: u8, number: u64)
     requires long { 10000 ≤ number }
     requires room { length (decimal number) + 3 ≤ out.old.spare }
-    ensures { Writes out.old out.new (byte ∷ decimal number ++ crlf []) }
+    ensures { Fills out.old out.new (byte ∷ decimal number ++ crlf []) }
 {
     write_front(out, byte, number / 10_000);
     let (thousands, hundreds, tens, ones) = four_digits(number % 10_000);
@@ -68,7 +68,7 @@ fn write_longer_head(out: &mut BytesMut, byte: u8, number: u64)
 #[inline(always)]
 fn write_front(out: &mut BytesMut, byte: u8, number: u64)
     requires { length (decimal number) + 1 ≤ out.old.spare }
-    ensures { Writes out.old out.new (byte ∷ decimal number) }
+    ensures { Fills out.old out.new (byte ∷ decimal number) }
 {
     if number < 10_000 {
         write_short_number(out, byte, number);
@@ -81,7 +81,7 @@ fn write_front(out: &mut BytesMut, byte: u8, number: u64)
 #[inline(never)]
 fn write_number(out: &mut BytesMut, byte: u8, number: u64)
     requires { length (decimal number) + 1 ≤ out.old.spare }
-    ensures { Writes out.old out.new (byte ∷ decimal number) }
+    ensures { Fills out.old out.new (byte ∷ decimal number) }
 {
     if number < 10_000 {
         write_short_number(out, byte, number);
@@ -97,7 +97,7 @@ fn write_number(out: &mut BytesMut, byte: u8, number: u64)
 fn write_short_number(out: &mut BytesMut, byte: u8, number: u64)
     requires short { number ≤ 9999 }
     requires room { length (decimal number) + 1 ≤ out.old.spare }
-    ensures { Writes out.old out.new (byte ∷ decimal number) }
+    ensures { Fills out.old out.new (byte ∷ decimal number) }
 {
     let (thousands, hundreds, tens, ones) = four_digits(number);
     if number < 10 {
@@ -115,7 +115,7 @@ fn write_short_number(out: &mut BytesMut, byte: u8, number: u64)
 #[inline(always)]
 fn write_end(out: &mut BytesMut)
     requires { 2 ≤ out.old.spare }
-    ensures { Writes out.old out.new (crlf []) }
+    ensures { Fills out.old out.new (crlf []) }
 {
     let end = [b'\r', b'\n'];
     out.extend_reserved(&end);
@@ -124,7 +124,7 @@ fn write_end(out: &mut BytesMut)
 #[inline]
 pub(crate) fn write_null(out: &mut BytesMut, version: Version)
     requires { length (canonical_text version (scalar d.Null)) ≤ out.old.spare }
-    ensures { Writes out.old out.new (canonical_text version (scalar d.Null)) }
+    ensures { Fills out.old out.new (canonical_text version (scalar d.Null)) }
 {
     match version {
         Version::Two => out.extend_reserved(b"$-1\r\n"),
@@ -135,7 +135,7 @@ pub(crate) fn write_null(out: &mut BytesMut, version: Version)
 #[inline]
 pub(crate) fn write_bool(out: &mut BytesMut, truth: bool)
     requires { 4 ≤ out.old.spare }
-    ensures { Writes out.old out.new (canonical_text Three (scalar (d.Bool truth))) }
+    ensures { Fills out.old out.new (canonical_text Three (scalar (d.Bool truth))) }
 {
     if truth {
         out.extend_reserved(b"#t\r\n");
@@ -147,7 +147,7 @@ pub(crate) fn write_bool(out: &mut BytesMut, truth: bool)
 #[inline(always)]
 pub(crate) fn write_int(out: &mut BytesMut, number: &i64)
     requires { length (canonical_text Three (scalar (d.Int number.now))) ≤ out.old.spare }
-    ensures { Writes out.old out.new (canonical_text Three (scalar (d.Int number.now))) }
+    ensures { Fills out.old out.new (canonical_text Three (scalar (d.Int number.now))) }
 {
     let magnitude = number.unsigned_abs();
     if *number < 0 {
@@ -162,7 +162,7 @@ pub(crate) fn write_int(out: &mut BytesMut, number: &i64)
 #[inline(always)]
 pub(crate) fn write_line(out: &mut BytesMut, byte: u8, text: &[u8])
     requires { length text.now + 3 ≤ out.old.spare }
-    ensures { Writes out.old out.new (byte ∷ text.now ++ crlf []) }
+    ensures { Fills out.old out.new (byte ∷ text.now ++ crlf []) }
 {
     out.extend_reserved(&[byte]);
     out.extend_reserved(text);
@@ -173,7 +173,7 @@ pub(crate) fn write_line(out: &mut BytesMut, byte: u8, text: &[u8])
 #[inline(always)]
 pub(crate) fn write_string(out: &mut BytesMut, byte: u8, bytes: &[u8])
     requires { length (decimal (length bytes.now)) + length bytes.now + 5 ≤ out.old.spare }
-    ensures { Writes out.old out.new (byte ∷ decimal (length bytes.now) ++ crlf (bytes.now ++ crlf [])) }
+    ensures { Fills out.old out.new (byte ∷ decimal (length bytes.now) ++ crlf (bytes.now ++ crlf [])) }
 {
     write_head(out, byte, bytes.len() as u64);
     out.extend_reserved(bytes);
@@ -184,7 +184,7 @@ pub(crate) fn write_string(out: &mut BytesMut, byte: u8, bytes: &[u8])
 #[inline]
 pub(crate) fn write_verbatim(out: &mut BytesMut, format: &[u8; 3], text: &[u8])
     requires { length (canonical_text Three (scalar (d.Verbatim format.now text.now))) ≤ out.old.spare }
-    ensures { Writes out.old out.new (canonical_text Three (scalar (d.Verbatim format.now text.now))) }
+    ensures { Fills out.old out.new (canonical_text Three (scalar (d.Verbatim format.now text.now))) }
 {
     write_head(out, b'=', text.len() as u64 + 4);
     out.extend_reserved(format);
@@ -196,7 +196,7 @@ pub(crate) fn write_verbatim(out: &mut BytesMut, format: &[u8; 3], text: &[u8])
 #[inline]
 pub(crate) fn write_big(out: &mut BytesMut, negative: bool, digits: &[u8])
     requires { length (canonical_text Three (scalar (d.Big negative digits.now))) ≤ out.old.spare }
-    ensures { Writes out.old out.new (canonical_text Three (scalar (d.Big negative digits.now))) }
+    ensures { Fills out.old out.new (canonical_text Three (scalar (d.Big negative digits.now))) }
 {
     if negative {
         out.extend_reserved(b"(-");
@@ -211,7 +211,7 @@ pub(crate) fn write_big(out: &mut BytesMut, negative: bool, digits: &[u8])
 #[cycle(write)]
 pub(crate) fn write_value(value: &Value, version: Version, out: &mut BytesMut)
     requires { length (canonical_text version (datum_of value.now)) ≤ out.old.spare }
-    ensures { Writes out.old out.new (canonical_text version (datum_of value.now)) }
+    ensures { Fills out.old out.new (canonical_text version (datum_of value.now)) }
 {
     match value {
         Value::Null => write_null(out, version),
@@ -244,7 +244,7 @@ pub(crate) fn write_value(value: &Value, version: Version, out: &mut BytesMut)
 #[inline(never)]
 fn write_annotated(value: &Value, version: Version, out: &mut BytesMut)
     requires { length (canonical_text version (datum_of value.now)) ≤ out.old.spare }
-    ensures { Writes out.old out.new (canonical_text version (datum_of value.now)) }
+    ensures { Fills out.old out.new (canonical_text version (datum_of value.now)) }
 {
     write_value(value, version, out);
 }
@@ -254,7 +254,7 @@ fn write_annotated(value: &Value, version: Version, out: &mut BytesMut)
 #[inline(never)]
 pub(crate) fn write_group(members: &[Value], version: Version, byte: u8, out: &mut BytesMut)
     requires { length (decimal (length members.now)) + 3 + length (texts (canonical_trees version (data_of_list (map datum_of members.now)))) ≤ out.old.spare }
-    ensures { Writes out.old out.new (byte ∷ decimal (length members.now) ++ crlf (texts (canonical_trees version (data_of_list (map datum_of members.now))))) }
+    ensures { Fills out.old out.new (byte ∷ decimal (length members.now) ++ crlf (texts (canonical_trees version (data_of_list (map datum_of members.now))))) }
 {
     write_head(out, byte, members.len() as u64);
     write_members(members, version, out);
@@ -264,7 +264,7 @@ pub(crate) fn write_group(members: &[Value], version: Version, byte: u8, out: &m
 #[cycle(write)]
 fn write_members(members: &[Value], version: Version, out: &mut BytesMut)
     requires { length (texts (canonical_trees version (data_of_list (map datum_of members.now)))) ≤ out.old.spare }
-    ensures { Writes out.old out.new (texts (canonical_trees version (data_of_list (map datum_of members.now)))) }
+    ensures { Fills out.old out.new (texts (canonical_trees version (data_of_list (map datum_of members.now)))) }
 {
     for member in members {
         write_value(member, version, out);
@@ -276,7 +276,7 @@ fn write_members(members: &[Value], version: Version, out: &mut BytesMut)
 #[inline(never)]
 fn write_pairs(pairs: &[(Value, Value)], version: Version, out: &mut BytesMut)
     requires { length (texts (canonical_trees version (data_of_list (in_turn (map pair_data pairs.now))))) ≤ out.old.spare }
-    ensures { Writes out.old out.new (texts (canonical_trees version (data_of_list (in_turn (map pair_data pairs.now))))) }
+    ensures { Fills out.old out.new (texts (canonical_trees version (data_of_list (in_turn (map pair_data pairs.now))))) }
 {
     for pair in pairs {
         write_value(&pair.0, version, out);

@@ -6,14 +6,14 @@ ghost use Rattle.resp_value.specs.Canonical.{canonical_text, Fits};
 ghost use Rattle.resp_value.specs.Values.{datum_of};
 ghost use Rattle.resp_encode.specs.Refusals.{HasText, IsFirstFault};
 ghost use Rattle.resp_encode.specs.Words.{push_of};
-ghost use Rattle.resp_encode.specs.Writings.{Writes};
+ghost use Rattle.resp_encode.specs.Writings.{Fills};
 ghost use Rattle.resp_encode.specs.declared.error.EncodeError.{EncodeError};
 ghost use Rattle.resp_value.specs.declared.version.Version.TheVariants.{Three};
 
 use crate::attempt::attempt;
 use crate::error::EncodeError;
 use crate::judge::{has_types, judge};
-use crate::kind::Kind;
+use resp_value::kind::OpenKind;
 use crate::room::reserve;
 use crate::survey::{survey, survey_group};
 use crate::text::{write_group, write_value};
@@ -75,7 +75,7 @@ fn judge_value(value: &Value, version: Version, limits: &Limits) -> Result<usize
 #[inline(never)]
 fn write_whole(value: &Value, version: Version, out: &mut BytesMut)
     requires { length (canonical_text version (datum_of value.now)) ≤ out.old.spare }
-    ensures { Writes out.old out.new (canonical_text version (datum_of value.now)) }
+    ensures { Fills out.old out.new (canonical_text version (datum_of value.now)) }
 {
     write_value(value, version, out);
 }
@@ -87,14 +87,14 @@ fn judge_push(limits: &Limits, items: &[Value]) -> Result<usize, EncodeError>
     ensures spelling { OnOk result (IsSpelling (record { version = Three; limits = limits.now }) (push_of items.now) (canonical_text Three (push_of items.now))) }
     ensures not_memory { IsErrOf result EncodeError.OutOfMemory → ⊥ }
 {
-    let found = survey_group(items, Version::Three, Kind::Push);
+    let found = survey_group(items, Version::Three, OpenKind::Push);
     judge(&found, Version::Three, limits)
 }
 
 /// Appends the text of a push of these values into room that is there.
 fn write_push(items: &[Value], out: &mut BytesMut)
     requires { length (canonical_text Three (push_of items.now)) ≤ out.old.spare }
-    ensures { Writes out.old out.new (canonical_text Three (push_of items.now)) }
+    ensures { Fills out.old out.new (canonical_text Three (push_of items.now)) }
 {
     write_group(items, Version::Three, b'>', out);
 }

@@ -8,14 +8,14 @@ ghost use Rattle.resp_value.specs.Canonical.{AreValues, canonical_text, canonica
 ghost use Rattle.resp_encode.specs.Refusals.{IsFirstFault};
 ghost use Rattle.resp_encode.specs.Surveys.{DescribesEach};
 ghost use Rattle.resp_encode.specs.Words.{texts_of, word_datum, command_of};
-ghost use Rattle.resp_encode.specs.Writings.{Writes};
+ghost use Rattle.resp_encode.specs.Writings.{Fills};
 ghost use Rattle.resp_encode.specs.declared.error.EncodeError.{EncodeError};
 ghost use Rattle.resp_value.specs.declared.version.Version.TheVariants.{Two};
 
 use crate::error::EncodeError;
 use crate::findings::Findings;
 use crate::judge::judge;
-use crate::kind::Kind;
+use resp_value::kind::OpenKind;
 use crate::room::reserve;
 use crate::survey::of_bulk;
 use crate::text::{write_head, write_string};
@@ -36,7 +36,7 @@ fn survey_words(words: &[Vec<u8>]) -> Findings
 
 fn write_each(words: &[Vec<u8>], out: &mut BytesMut)
     requires { length (texts (canonical_trees Two (data_of_list (map word_datum (texts_of words.now))))) ≤ out.old.spare }
-    ensures { Writes out.old out.new (texts (canonical_trees Two (data_of_list (map word_datum (texts_of words.now))))) }
+    ensures { Fills out.old out.new (texts (canonical_trees Two (data_of_list (map word_datum (texts_of words.now))))) }
 {
     for word in words {
         write_string(out, b'$', word.as_slice());
@@ -46,7 +46,7 @@ fn write_each(words: &[Vec<u8>], out: &mut BytesMut)
 /// Appends the text of a command into room that is there.
 fn write_words(words: &[Vec<u8>], out: &mut BytesMut)
     requires { length (canonical_text Two (command_of (texts_of words.now))) ≤ out.old.spare }
-    ensures { Writes out.old out.new (canonical_text Two (command_of (texts_of words.now))) }
+    ensures { Fills out.old out.new (canonical_text Two (command_of (texts_of words.now))) }
 {
     write_head(out, b'*', words.len() as u64);
     write_each(words, out);
@@ -59,7 +59,7 @@ fn judge_words(limits: &Limits, words: &[Vec<u8>]) -> Result<usize, EncodeError>
     ensures fault { IfErr result (IsFirstFault (record { version = Two; limits = limits.now }) (command_of (texts_of words.now))) }
     ensures not_memory { IsErrOf result EncodeError.OutOfMemory → ⊥ }
 {
-    let found = survey_words(words).inside(Kind::Array, words.len() as u64);
+    let found = survey_words(words).inside(OpenKind::Array, words.len() as u64);
     judge(&found, Version::Two, limits)
 }
 

@@ -7,7 +7,7 @@ ghost use Rattle.resp_value.specs.Values.{datum_of};
 ghost use Rattle.resp_encode.specs.Refusals.{IsFirstFault, IsFirstRefusal, IfWrite, to_error};
 ghost use Rattle.resp_encode.specs.declared.error.EncodeError.{EncodeError};
 
-use crate::error::{EncodeError, ToError};
+use crate::error::{EncodeError, EncodeToError};
 use crate::values::encode;
 use bytes::BytesMut;
 use resp_value::device::{Sink, write_all};
@@ -26,7 +26,7 @@ pub fn encode_to<W: Sink>(
     limits: &Limits,
     value: &Value,
     writer: &mut W,
-) -> Result<u64, ToError>
+) -> Result<u64, EncodeToError>
     ensures length { IfOk result (λ n. n ≡ length (canonical_text version (datum_of value.now))) }
     ensures ok { OnOk result (Appends (W.written writer.old) (W.written writer.new) (canonical_text version (datum_of value.now))) }
     ensures fits { OnOk result (Fits (record { version = version; limits = limits.now }) (datum_of value.now)) }
@@ -48,7 +48,7 @@ pub fn encode_to<W: Sink>(
     let length = text.len() as u64;
     match write_all(writer, text.as_slice()) {
         Ok(()) => Ok(length),
-        Err(fault) => Err(ToError::Write {
+        Err(fault) => Err(EncodeToError::Write {
             written: fault.written as u64,
         }),
     }

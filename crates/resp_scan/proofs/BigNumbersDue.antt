@@ -4,49 +4,49 @@ use Rattle.std.proofs.lemmas.Bool.Decides.{nat_tests}
 use Rattle.std.proofs.Common.{◌≡◌, ℕ, ◌+◌, ◌-◌, ◌<◌, ◌≤◌, Bool, true, List, [], ◌∷◌, ◌++◌, length, refl, sym, ap, subst, ◌∙◌, arith, append_assoc, append-nil, length-append}
 use Rattle.resp_value.specs.Bytes.{crlf}
 use Rattle.resp_value.specs.Data as d
-use Rattle.resp_value.specs.Numbers.{IsDigits, Sign, Unsigned, Plus, Minus, is_minus, is_negative, number, sign_text, stripped}
+use Rattle.resp_value.specs.Numbers.{IsDigits, Sign, Unsigned, Plus, Minus, is_minus, is_below_zero, number, sign_text, significant_digits}
 use Rattle.resp_value.specs.Rules.{Rules}
 use Rattle.resp_value.specs.Trees as t
 use Rattle.resp_value.specs.Trees.{Tree, IsTree, leaf, node, line, numeral, null, truth, string, chunked, leaf_text, text}
 use Rattle.resp_value.proofs.FirstBytes.{first_byte, first_byte_is}
 use Rattle.resp_value.proofs.FirstLines.{after_line, first_line, sort, sort_is}
-use Rattle.resp_follow.specs.Events as e
-use Rattle.resp_follow.specs.Events.{Event, big_events, due, events, last_of, leaf_events}
-use Rattle.resp_follow.proofs.BegunLines.{line_begins, number-more, text_first}
-use Rattle.resp_follow.proofs.BrokenHeads.{sort_of_signed}
-use Rattle.resp_follow.proofs.EventsDue.{AreFrom, due_none}
-use Rattle.resp_follow.proofs.FirstLineRows.{number_line, tree_of_numeral}
-use Rattle.resp_scan.specs.Begun.{BigBegun, BigShown, ZeroReturned}
+use Rattle.resp_fronts.specs.Events as e
+use Rattle.resp_fronts.specs.Events.{Event, big_events, events_due, events, last_of, leaf_events}
+use Rattle.resp_fronts.proofs.BegunLines.{line_begins, number-more, text_first}
+use Rattle.resp_fronts.proofs.BrokenHeads.{sort_of_signed}
+use Rattle.resp_fronts.proofs.EventsDue.{AreFrom, due_none}
+use Rattle.resp_fronts.proofs.FirstLineRows.{number_line, tree_of_numeral}
+use Rattle.resp_scan.specs.Machine.Beginnings.{BigBegun, BigShown, ZeroReturned}
 use Rattle.resp_scan.proofs.FewEvents.{length-stripped}
 use Rattle.resp_scan.proofs.InsideDue.{AreDueWithin}
 use Rattle.resp_scan.proofs.LinesDue.{returned_is, returned_last}
 use Rattle.resp_scan.proofs.TextsDue.{bytes_later, due_text, text_later}
-use Rattle.resp_follow.specs.Tokens.{IsNumberBegun}
+use Rattle.resp_fronts.specs.Tokens.{IsNumberBegun}
 
 length_of : (sign : Sign) (digits : List ℕ) → length (leaf_text (numeral t.Big sign digits)) ≡ length (sign_text sign) + length digits + 3
 length_of sign digits = omega (arith, length-append (40 ∷ (sign_text sign ++ digits)) (crlf []), length-append (sign_text sign) digits)
 
 -- leading zeros before more digits
-stripped_zeros : (a b : List ℕ) → stripped a ≡ [] → stripped (a ++ b) ≡ stripped b
+stripped_zeros : (a b : List ℕ) → significant_digits a ≡ [] → significant_digits (a ++ b) ≡ significant_digits b
 stripped_zeros [] b none = refl
 stripped_zeros (c ∷ a) b none = cases (eqb c 48) (stripped_zeros a b) none
   where
-    cases : (x : Bool) → (stripped a ≡ [] → stripped (a ++ b) ≡ stripped b) → cond x (stripped a) (c ∷ a) ≡ [] → cond x (stripped (a ++ b)) (c ∷ (a ++ b)) ≡ stripped b
+    cases : (x : Bool) → (significant_digits a ≡ [] → significant_digits (a ++ b) ≡ significant_digits b) → cond x (significant_digits a) (c ∷ a) ≡ [] → cond x (significant_digits (a ++ b)) (c ∷ (a ++ b)) ≡ significant_digits b
     cases true behind h = behind h
     cases false behind h = absurd (cc)
 
 -- and digits that aren't all zeros
-stripped_kept : (a b : List ℕ) (digit : ℕ) (digits : List ℕ) → stripped a ≡ digit ∷ digits → stripped (a ++ b) ≡ digit ∷ (digits ++ b)
+stripped_kept : (a b : List ℕ) (digit : ℕ) (digits : List ℕ) → significant_digits a ≡ digit ∷ digits → significant_digits (a ++ b) ≡ digit ∷ (digits ++ b)
 stripped_kept [] b digit digits some = absurd (cc)
 stripped_kept (c ∷ a) b digit digits some = cases (eqb c 48) (stripped_kept a b digit digits) some
   where
-    cases : (x : Bool) → (stripped a ≡ digit ∷ digits → stripped (a ++ b) ≡ digit ∷ (digits ++ b)) → cond x (stripped a) (c ∷ a) ≡ digit ∷ digits → cond x (stripped (a ++ b)) (c ∷ (a ++ b)) ≡ digit ∷ (digits ++ b)
+    cases : (x : Bool) → (significant_digits a ≡ digit ∷ digits → significant_digits (a ++ b) ≡ digit ∷ (digits ++ b)) → cond x (significant_digits a) (c ∷ a) ≡ digit ∷ digits → cond x (significant_digits (a ++ b)) (c ∷ (a ++ b)) ≡ digit ∷ (digits ++ b)
     cases true behind h = behind h
     cases false behind h = ap (λ z. z ++ b) h
 
 -- no event before the first digit that isn't zero
-big_later : (from n : ℕ) (sign : Sign) (digits : List ℕ) → n + length (stripped digits) ≤ from + 1 + length (sign_text sign) + length digits → AreFrom n (leaf_events from (numeral t.Big sign digits))
-big_later from n sign digits l = case (is_negative sign digits) (stripped digits) (last_of from (leaf_text (numeral t.Big sign digits))) (omega (arith, l, length_of sign digits))
+big_later : (from n : ℕ) (sign : Sign) (digits : List ℕ) → n + length (significant_digits digits) ≤ from + 1 + length (sign_text sign) + length digits → AreFrom n (leaf_events from (numeral t.Big sign digits))
+big_later from n sign digits l = case (is_below_zero sign digits) (significant_digits digits) (last_of from (leaf_text (numeral t.Big sign digits))) (omega (arith, l, length_of sign digits))
   where
     case : (negative : Bool) (kept : List ℕ) (last : ℕ) → n + length kept + 1 ≤ last → AreFrom n (big_events negative kept last)
     case negative [] last m = text_later n (e.Big negative) last last [] last (omega (arith, m)) (omega (arith, m)) (omega (arith, m))
@@ -94,7 +94,7 @@ big_begun_due r sign level bytes shown w told from value behind is_tree whole =
     let (other, digits, same) = big_by_byte value (first_byte_is value [] ((sign_text sign ++ []) ++ behind) 40 (append-nil (text value) ∙ spelled)) in
     let are : IsDigits digits = subst IsTree same is_tree in
     let within = sign_within sign other digits behind are (ap text (sym same) ∙ spelled) in
-    ap (λ z. due (from + length bytes) (events from z)) same
+    ap (λ z. events_due (from + length bytes) (events from z)) same
     ∙ due_none (from + length bytes) (leaf_events from (numeral t.Big other digits)) (big_later from (from + length bytes) other digits (omega (arith, within, ap length w.1, ap length (append-nil (sign_text sign)), length-stripped digits)))
     ∙ sym told
 
@@ -114,7 +114,7 @@ pub big_zeros_due : (r : Rules) (negative : Bool) (level : ℕ) (bytes : List �
 big_zeros_due r negative level bytes shown w told from value behind is_tree whole =
     let (l, same) = big_goes_on r negative [] level bytes w value behind is_tree whole in
     let zeros = w.first ∷ w.digits in
-    ap (λ z. due (from + length bytes) (events from z)) same
+    ap (λ z. events_due (from + length bytes) (events from z)) same
     ∙ due_none (from + length bytes) (leaf_events from (numeral t.Big w.sign (zeros ++ l))) (big_later from (from + length bytes) w.sign (zeros ++ l) (omega (arith, ap length w.token.are, length-append (sign_text w.sign) zeros, length-append zeros l, ap length (stripped_zeros zeros l w.left), length-stripped l)))
     ∙ sym told
 
@@ -123,10 +123,10 @@ pub big_zero_returned_due : (r : Rules) (level : ℕ) (bytes : List ℕ) (shown 
 big_zero_returned_due r level bytes shown w from value behind is_tree whole =
     let l = numeral t.Big w.sign w.digits in
     let last = last_of from (leaf_text l) in
-    ap (λ n. due n (events from value)) (returned_last r l level bytes from w.returned)
-    ∙ ap (λ z. due last (events from z)) (returned_is r l level bytes value behind w.returned is_tree whole)
-    ∙ ap (λ z. due last (big_events (is_negative w.sign w.digits) z last)) w.left
-    ∙ due_none last (big_events (is_negative w.sign w.digits) [] last) (text_later last (e.Big (is_negative w.sign w.digits)) last last [] last (omega arith) (omega arith) (omega arith))
+    ap (λ n. events_due n (events from value)) (returned_last r l level bytes from w.returned)
+    ∙ ap (λ z. events_due last (events from z)) (returned_is r l level bytes value behind w.returned is_tree whole)
+    ∙ ap (λ z. events_due last (big_events (is_below_zero w.sign w.digits) z last)) w.left
+    ∙ due_none last (big_events (is_below_zero w.sign w.digits) [] last) (text_later last (e.Big (is_below_zero w.sign w.digits)) last last [] last (omega arith) (omega arith) (omega arith))
     ∙ sym w.told
 
 -- the digits from the first that isn't zero on
@@ -140,13 +140,13 @@ big_shown_due r room level bytes shown w from value behind is_tree whole =
     let begins = last - 2 - length (w.digits ++ l) in
     let kept : length (w.digit ∷ w.digits) ≤ length ds = omega (arith, ap length b.left, length-stripped ds) in
     let place : begins + length (w.digit ∷ w.digits) ≡ n = omega (arith, kept, length_of b.sign (ds ++ l), length-append ds l, length-append w.digits l, ap length b.token.are, length-append (sign_text b.sign) ds) in
-    ap (λ z. due n (events from z)) same
-    ∙ ap (λ z. due n (big_events z (stripped (ds ++ l)) last)) (negative l)
-    ∙ ap (λ z. due n (big_events w.negative z last)) (stripped_kept ds l w.digit w.digits b.left)
+    ap (λ z. events_due n (events from z)) same
+    ∙ ap (λ z. events_due n (big_events z (significant_digits (ds ++ l)) last)) (negative l)
+    ∙ ap (λ z. events_due n (big_events w.negative z last)) (stripped_kept ds l w.digit w.digits b.left)
     ∙ due_text n (e.Big w.negative) begins begins (w.digit ∷ w.digits) l last (omega (arith, place)) (omega (arith, place)) (bytes_later n (begins + length (w.digit ∷ w.digits)) l (omega (arith, place))) (omega (arith, place, kept, length_of b.sign (ds ++ l), length-append ds l, length-append w.digits l))
     ∙ sym w.told
   where
-    negative : (l : List ℕ) → is_negative w.token.sign ((w.token.first ∷ w.token.digits) ++ l) ≡ w.negative
+    negative : (l : List ℕ) → is_below_zero w.token.sign ((w.token.first ∷ w.token.digits) ++ l) ≡ w.negative
     negative l =
         let ds = w.token.first ∷ w.token.digits in
         elim (eqb (number (ds ++ l)) 0) as (λ x. eqb (number (ds ++ l)) 0 ≡ x → cond x false (is_minus w.token.sign) ≡ w.negative) [

@@ -6,34 +6,34 @@ use Rattle.resp_value.specs.Trees as t
 use Rattle.resp_value.specs.declared.version.Version.{Version}
 use Rattle.resp_value.specs.declared.version.Version.TheVariants as version
 use Rattle.resp_value.specs.declared.cause.Cause.TheVariants as cause
-use Rattle.resp_follow.specs.Events.{Event}
-use Rattle.resp_follow.proofs.BegunFronts.{IsBegunBy}
-use Rattle.resp_follow.proofs.StreamedHeads.{streamed_string_begun, streamed_string_in_two, streamed_string_off}
+use Rattle.resp_fronts.specs.Events.{Event}
+use Rattle.resp_fronts.proofs.BegunFronts.{IsBegunBy}
+use Rattle.resp_fronts.proofs.StreamedHeads.{streamed_string_begun, streamed_string_in_two, streamed_string_off}
 use Rattle.resp_scan.specs.declared.machine.Head.TheVariants as head
-use Rattle.resp_scan.specs.Tokens.{Place, Go, AtBulkHead, AtNullOne, AtStreamCr, at}
-use Rattle.resp_scan.specs.Heads.{by_version, string_cause}
-use Rattle.resp_scan.specs.Room.{over_total}
-use Rattle.resp_scan.specs.Machine.{unless}
+use Rattle.resp_scan.specs.Machine.Tokens.{Place, Go, AtBulkHead, AtNullOne, AtStreamCr, at}
+use Rattle.resp_scan.specs.Machine.Heads.{cause_in_three, string_cause}
+use Rattle.resp_scan.specs.Machine.Room.{over_total}
+use Rattle.resp_scan.specs.Machine.Moves.{move_unless}
 use Rattle.resp_scan.specs.Kinds.{rules_of}
-use Rattle.resp_scan.specs.Begun.{IsNullBegun}
-use Rattle.resp_scan.specs.Follows.{Counts, Leads, Lies}
+use Rattle.resp_scan.specs.Machine.Beginnings.{IsNullBegun}
+use Rattle.resp_scan.specs.Machine.Standing.{HasCountsOf, Leads, StandsAfter}
 use Rattle.resp_scan.proofs.TokenLaws.{BulkHeadLeads}
 use Rattle.resp_scan.proofs.ByteTests.{by_byte}
 use Rattle.resp_scan.proofs.StringHeadsLead.{string_head_leads}
 use Rattle.resp_scan.proofs.StringHeads.{bulk}
 use Rattle.resp_scan.proofs.Moves.{goes, retold}
 use Rattle.resp_scan.proofs.RefusedMoves.{fits_or_total, refused, unless_over}
-use Rattle.resp_follow.specs.Tokens.{HasStreamed}
+use Rattle.resp_fronts.specs.Tokens.{HasStreamed}
 
 -- `$` alone
 abbrev IsDollar : ℕ → List ℕ → List Event → Type 0
 IsDollar level bytes shown = (bytes ≡ 36 ∷ []) × (shown ≡ [])
 
 -- `?` begins a streamed string, in version 3 where such are allowed
-mark_leads : (s : Place) (used : ℕ) (front : List ℕ) (es : List Event) → Counts (at s AtBulkHead) used front → Lies (at s AtBulkHead) front es → Leads (at s AtBulkHead) front es 63 (unless (string_cause (at s AtBulkHead) (used + 1)) (Go (at s AtStreamCr)))
+mark_leads : (s : Place) (used : ℕ) (front : List ℕ) (es : List Event) → HasCountsOf (at s AtBulkHead) used front → StandsAfter (at s AtBulkHead) front es → Leads (at s AtBulkHead) front es 63 (move_unless (string_cause (at s AtBulkHead) (used + 1)) (Go (at s AtStreamCr)))
 mark_leads s used front es c w = cases s.version s.bounds.streamed refl refl
   where
-    cases : (v : Version) (on : Bool) → s.version ≡ v → s.bounds.streamed ≡ on → Leads (at s AtBulkHead) front es 63 (unless (by_version v (cond on (over_total (at s AtBulkHead) (used + 1) 6) (Some cause.Streamed))) (Go (at s AtStreamCr)))
+    cases : (v : Version) (on : Bool) → s.version ≡ v → s.bounds.streamed ≡ on → Leads (at s AtBulkHead) front es 63 (move_unless (cause_in_three v (cond on (over_total (at s AtBulkHead) (used + 1) 6) (Some cause.Streamed))) (Go (at s AtStreamCr)))
     cases version.Two on e o = refused (rules_of s) IsDollar InVersion NoDouble s.frames front (63 ∷ []) es refl (omega arith) w (λ level bytes shown i t. (36, 63 ∷ [], ap (λ z. z ++ 63 ∷ []) t.0, streamed_string_in_two (rules_of s) level e))
     cases version.Three true e o =
         let h : HasStreamed (rules_of s) = (λ two. (let x : version.Three ≡ version.Two = sym e ∙ two in absurd (cc)), λ off. (let x : true ≡ false = sym o ∙ off in absurd (cc))) in
@@ -44,7 +44,7 @@ mark_leads s used front es c w = cases s.version s.bounds.streamed refl refl
 
 pub bulk_head_leads : BulkHeadLeads
 bulk_head_leads s used byte front es is_byte c w = by_byte (at s AtBulkHead) front es 45 byte _ _
-    (λ is_minus. subst (λ z. Lies (at s AtNullOne) (front ++ z ∷ []) es) (sym is_minus) (goes (rules_of s) IsDollar (λ level bytes shown. IsNullBegun bytes × (shown ≡ [])) s.frames front (45 ∷ []) es w (λ level bytes shown e t. (inl (ap (λ z. z ++ 45 ∷ []) t.0), t.1))))
+    (λ is_minus. subst (λ z. StandsAfter (at s AtNullOne) (front ++ z ∷ []) es) (sym is_minus) (goes (rules_of s) IsDollar (λ level bytes shown. IsNullBegun bytes × (shown ≡ [])) s.frames front (45 ∷ []) es w (λ level bytes shown e t. (inl (ap (λ z. z ++ 45 ∷ []) t.0), t.1))))
     (λ no_minus. by_byte (at s AtBulkHead) front es 63 byte _ _
-    (λ is_mark. subst (λ z. Leads (at s AtBulkHead) front es z (unless (string_cause (at s AtBulkHead) (used + 1)) (Go (at s AtStreamCr)))) (sym is_mark) (mark_leads s used front es c w))
+    (λ is_mark. subst (λ z. Leads (at s AtBulkHead) front es z (move_unless (string_cause (at s AtBulkHead) (used + 1)) (Go (at s AtStreamCr)))) (sym is_mark) (mark_leads s used front es c w))
     (λ no_mark. string_head_leads (at s AtBulkHead) head.Bulk t.Bulk bulk used byte front es c (retold (rules_of s) _ _ s.frames front es w (λ level bytes shown i. ((tt, i.0), i.1))) (λ other. (no_minus, no_mark, other))))

@@ -5,11 +5,11 @@ use Rattle.std.proofs.Common.{◌≡◌, ℕ, List, [], ◌∷◌, ◌++◌, ref
 use Rattle.resp_value.specs.Numbers.{IsDigit}
 use Rattle.resp_value.specs.declared.cause.Cause.{Cause}
 use Rattle.resp_value.specs.declared.cause.Cause.TheVariants as cause
-use Rattle.resp_follow.specs.Events.{Event}
-use Rattle.resp_scan.specs.Tokens.{Move, Place, Refuse}
-use Rattle.resp_scan.specs.Machine.{is_digit, unless, wants}
+use Rattle.resp_fronts.specs.Events.{Event}
+use Rattle.resp_scan.specs.Machine.Tokens.{Move, Place, Refuse}
+use Rattle.resp_scan.specs.Machine.Moves.{is_digit, move_unless, only_byte}
 use Rattle.resp_scan.specs.Kinds.{IsRefusedFor, rules_of}
-use Rattle.resp_scan.specs.Follows.{Leads}
+use Rattle.resp_scan.specs.Machine.Standing.{Leads}
 
 -- either answer of a test
 pub by_test : (s : Place) (front : List ℕ) (es : List Event) (byte : ℕ) (b : Bool) (v w : Move) → (b ≡ true → Leads s front es byte v) → (b ≡ false → Leads s front es byte w) → Leads s front es byte (cond b v w)
@@ -20,10 +20,10 @@ by_test s front es byte b v w holds fails = cases b holds fails
     cases false h f = f refl
 
 -- a test that refuses before another cause does
-pub unless_test : (s : Place) (front : List ℕ) (es : List Event) (byte : ℕ) (b : Bool) (c : Cause) (other : Option Cause) (v : Move) → (b ≡ true → IsRefusedFor (rules_of s) (front ++ byte ∷ []) c) → (b ≡ false → Leads s front es byte (unless other v)) → Leads s front es byte (unless (cond b (Some c) other) v)
+pub unless_test : (s : Place) (front : List ℕ) (es : List Event) (byte : ℕ) (b : Bool) (c : Cause) (other : Option Cause) (v : Move) → (b ≡ true → IsRefusedFor (rules_of s) (front ++ byte ∷ []) c) → (b ≡ false → Leads s front es byte (move_unless other v)) → Leads s front es byte (move_unless (cond b (Some c) other) v)
 unless_test s front es byte b c other v holds fails = cases b holds fails
   where
-    cases : (z : Bool) → (z ≡ true → IsRefusedFor (rules_of s) (front ++ byte ∷ []) c) → (z ≡ false → Leads s front es byte (unless other v)) → Leads s front es byte (unless (cond z (Some c) other) v)
+    cases : (z : Bool) → (z ≡ true → IsRefusedFor (rules_of s) (front ++ byte ∷ []) c) → (z ≡ false → Leads s front es byte (move_unless other v)) → Leads s front es byte (move_unless (cond z (Some c) other) v)
     cases true h f = h refl
     cases false h f = f refl
 
@@ -36,5 +36,5 @@ pub by_digit : (s : Place) (front : List ℕ) (es : List Event) (byte : ℕ) (v 
 by_digit s front es byte v w digit other = by_test s front es byte (is_digit byte) v w (λ z. digit (grind (arith, nat_tests), grind (arith, nat_tests))) (λ z. other (λ d. grind (arith, nat_tests, d.0, d.1)))
 
 -- this byte alone goes on
-pub wanted : (s : Place) (front : List ℕ) (es : List Event) (x byte : ℕ) (v : Move) → (byte ≡ x → Leads s front es byte v) → ((byte ≡ x → ⊥) → IsRefusedFor (rules_of s) (front ++ byte ∷ []) cause.Syntax) → Leads s front es byte (wants x byte v)
+pub wanted : (s : Place) (front : List ℕ) (es : List Event) (x byte : ℕ) (v : Move) → (byte ≡ x → Leads s front es byte v) → ((byte ≡ x → ⊥) → IsRefusedFor (rules_of s) (front ++ byte ∷ []) cause.Syntax) → Leads s front es byte (only_byte x byte v)
 wanted s front es x byte v same other = by_byte s front es x byte v (Refuse cause.Syntax) same other

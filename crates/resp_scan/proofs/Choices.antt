@@ -5,13 +5,13 @@ use Rattle.std.proofs.Common.{arith}
 use Rattle.resp_value.specs.Numbers.{IsDigit}
 use Rattle.resp_value.specs.Rules.{Grammar}
 use Rattle.resp_value.specs.declared.cause.Cause.TheVariants as cause
-use Rattle.resp_follow.specs.Events.{Event}
-use Rattle.resp_follow.proofs.CountRows.{CompletesUnder}
-use Rattle.resp_follow.proofs.BegunFronts.{IsBegunBy}
-use Rattle.resp_scan.specs.Tokens.{Move, Place, Refuse}
-use Rattle.resp_scan.specs.Machine.{is_digit, wants}
+use Rattle.resp_fronts.specs.Events.{Event}
+use Rattle.resp_fronts.proofs.CountRows.{CompletesUnder}
+use Rattle.resp_fronts.proofs.BegunFronts.{IsBegunBy}
+use Rattle.resp_scan.specs.Machine.Tokens.{Move, Place, Refuse}
+use Rattle.resp_scan.specs.Machine.Moves.{is_digit, only_byte}
 use Rattle.resp_scan.specs.Kinds.{rules_of}
-use Rattle.resp_scan.specs.Follows.{Inside, Leads}
+use Rattle.resp_scan.specs.Machine.Standing.{IsInside, Leads}
 use Rattle.resp_scan.proofs.RefusedMoves.{broken}
 
 pub if_equal : (a b : ℕ) (P : Bool → Type 0) → (a ≡ b → P true) → ((a ≡ b → ⊥) → P false) → P (eqb a b)
@@ -44,6 +44,6 @@ pub positive : (n : ℕ) → (n ≡ 0 → ⊥) → 0 < n
 positive n some = grind (arith, nat_tests)
 
 -- one byte alone goes on
-pub wants_leads : (s : Place) (T : ℕ → List ℕ → List Event → Type 0) (front : List ℕ) (es : List Event) (n byte x : ℕ) (v : Move) → Inside (rules_of s) T s.frames front es → ((level : ℕ) (bytes : List ℕ) (shown : List Event) → level ≡ length s.frames → T level bytes shown → IsBegunBy (rules_of s) level bytes n) → ((byte ≡ x → ⊥) → (level : ℕ) (bytes rest : List ℕ) (shown : List Event) → T level bytes shown → CompletesUnder (rules_of s) Grammar level bytes (byte ∷ rest) → ⊥) → (byte ≡ x → Leads s front es byte v) → Leads s front es byte (wants x byte v)
+pub wants_leads : (s : Place) (T : ℕ → List ℕ → List Event → Type 0) (front : List ℕ) (es : List Event) (n byte x : ℕ) (v : Move) → IsInside (rules_of s) T s.frames front es → ((level : ℕ) (bytes : List ℕ) (shown : List Event) → level ≡ length s.frames → T level bytes shown → IsBegunBy (rules_of s) level bytes n) → ((byte ≡ x → ⊥) → (level : ℕ) (bytes rest : List ℕ) (shown : List Event) → T level bytes shown → CompletesUnder (rules_of s) Grammar level bytes (byte ∷ rest) → ⊥) → (byte ≡ x → Leads s front es byte v) → Leads s front es byte (only_byte x byte v)
 wants_leads s T front es n byte x v w row dead leads =
     if_equal byte x (λ z. Leads s front es byte (cond z v (Refuse cause.Syntax))) leads (λ other. broken (rules_of s) T s.frames front es n byte w row (dead other))

@@ -4,23 +4,23 @@ use Rattle.std.proofs.lemmas.Bool.Decides.{nat_tests}
 use Rattle.std.proofs.Common.{◌≡◌, ℕ, ◌+◌, ◌-◌, ◌<◌, ◌≤◌, List, [], ◌∷◌, ◌++◌, length, refl, sym, ap, subst, ◌∙◌, arith, append_assoc, append-nil, length-append}
 use Rattle.resp_value.specs.Bytes.{IsByte, crlf}
 use Rattle.resp_value.specs.Numbers.{number}
-use Rattle.resp_value.specs.Trees.{Chunk, chunks_text, joined}
+use Rattle.resp_value.specs.Trees.{Chunk, chunks_text, joined_content}
 use Rattle.resp_value.specs.Rules.{Rules, Grammar}
 use Rattle.resp_value.proofs.FirstBytes.{all_append}
 use Rattle.resp_value.proofs.Unique.{chunks_text-append}
-use Rattle.resp_follow.specs.Events.{Event}
-use Rattle.resp_follow.specs.Events as e
-use Rattle.resp_follow.proofs.CountRows.{CompletesUnder}
-use Rattle.resp_follow.proofs.BegunFronts.{IsBegunBy}
-use Rattle.resp_follow.proofs.StreamedStrings.{all_with, chunks_text-with, with_chunks}
-use Rattle.resp_follow.proofs.ContentLength.{joined-with}
-use Rattle.resp_follow.proofs.ChunkTokens.{chunk_content_begun, chunk_returned_begun, joined_behind, streamed_text}
-use Rattle.resp_follow.proofs.BrokenChunks.{chunk_content_broken, chunk_returned_broken}
-use Rattle.resp_scan.specs.Tokens.{Place, Go, AtChunk, InChunk, AtChunkCr, AtChunkLf, at}
-use Rattle.resp_scan.specs.Heads.{chunk_at}
+use Rattle.resp_fronts.specs.Events.{Event}
+use Rattle.resp_fronts.specs.Events as e
+use Rattle.resp_fronts.proofs.CountRows.{CompletesUnder}
+use Rattle.resp_fronts.proofs.BegunFronts.{IsBegunBy}
+use Rattle.resp_fronts.proofs.StreamedStrings.{all_with, chunks_text-with, with_chunks}
+use Rattle.resp_fronts.proofs.ContentLength.{joined-with}
+use Rattle.resp_fronts.proofs.ChunkTokens.{chunk_content_begun, chunk_returned_begun, joined_behind, streamed_text}
+use Rattle.resp_fronts.proofs.BrokenChunks.{chunk_content_broken, chunk_returned_broken}
+use Rattle.resp_scan.specs.Machine.Tokens.{Place, Go, AtChunk, InChunk, AtChunkCr, AtChunkLf, at}
+use Rattle.resp_scan.specs.Machine.Heads.{chunk_at}
 use Rattle.resp_scan.specs.Kinds.{content_events, rules_of}
-use Rattle.resp_scan.specs.Begun.{ChunkBegun, ChunksBegun}
-use Rattle.resp_scan.specs.Follows.{Inside, Leads, Lies}
+use Rattle.resp_scan.specs.Machine.Beginnings.{ChunkBegun, ChunksBegun}
+use Rattle.resp_scan.specs.Machine.Standing.{IsInside, Leads, StandsAfter}
 use Rattle.resp_scan.proofs.TokenLaws.{ChunkContentLeads, ChunkReturnsLead, ChunkEndsLead}
 use Rattle.resp_scan.proofs.ByteTests.{wanted}
 use Rattle.resp_scan.proofs.ChunksBegun.{are_whole, chunks_more, text_more}
@@ -36,10 +36,10 @@ text_grows : (digits begun more : List ℕ) → chunk_text digits begun ++ more 
 text_grows digits begun more = append_assoc (59 ∷ digits) (crlf begun) more
 
 -- content, whether bytes of it are left or none
-chunk_lies : (s : Place) (room n : ℕ) (front : List ℕ) (es : List Event) → Inside (rules_of s) (ChunkBegun (rules_of s) room n []) s.frames front es → Lies (chunk_at room n s) front es
+chunk_lies : (s : Place) (room n : ℕ) (front : List ℕ) (es : List Event) → IsInside (rules_of s) (ChunkBegun (rules_of s) room n []) s.frames front es → StandsAfter (chunk_at room n s) front es
 chunk_lies s room n front es w =
-    elim (eqb n 0) as (λ z. eqb n 0 ≡ z → Lies (at s (cond z (AtChunkCr room) (InChunk room n))) front es) [
-      | true ↦ λ z. let none : n ≡ 0 = grind (arith, nat_tests) in subst (λ m. Inside (rules_of s) (ChunkBegun (rules_of s) room m []) s.frames front es) none w
+    elim (eqb n 0) as (λ z. eqb n 0 ≡ z → StandsAfter (at s (cond z (AtChunkCr room) (InChunk room n))) front es) [
+      | true ↦ λ z. let none : n ≡ 0 = grind (arith, nat_tests) in subst (λ m. IsInside (rules_of s) (ChunkBegun (rules_of s) room m []) s.frames front es) none w
       | false ↦ λ z. retold (rules_of s) (ChunkBegun (rules_of s) room n []) (λ level bytes shown. ChunkBegun (rules_of s) room n [] level bytes shown × (0 < n)) s.frames front es w (λ level bytes shown t. (t, grind (arith, nat_tests)))
     ] refl
 
@@ -80,7 +80,7 @@ chunk_returns r room level bytes shown w =
       told = w.told;
     }
 
-fits : (r : Rules) (room n : ℕ) (behind : List ℕ) (level : ℕ) (bytes : List ℕ) (shown : List Event) (w : ChunkBegun r room n behind level bytes shown) → length (joined w.chunks.chunks) + number w.digits ≤ r.limits.length
+fits : (r : Rules) (room n : ℕ) (behind : List ℕ) (level : ℕ) (bytes : List ℕ) (shown : List Event) (w : ChunkBegun r room n behind level bytes shown) → length (joined_content w.chunks.chunks) + number w.digits ≤ r.limits.length
 fits r room n behind level bytes shown w = omega (arith, w.chunks.leaves)
 
 -- within its content
@@ -105,14 +105,14 @@ chunk_ends r room level bytes shown w =
     let cs = w.chunks.chunks in
     let size : number w.digits ≡ length w.part = omega (arith, w.valued) in
     let grown : chunk_text w.digits (w.part ++ 13 ∷ []) ++ 10 ∷ [] ≡ chunks_text one [] = text_grows w.digits (w.part ++ 13 ∷ []) (10 ∷ []) ∙ ap (chunk_text w.digits) (append_assoc w.part (13 ∷ []) (10 ∷ [])) in
-    let all : joined (with_chunks cs one) ≡ joined cs ++ w.part = joined_behind cs one ∙ ap (λ z. joined cs ++ z) (append-nil w.part) in
+    let all : joined_content (with_chunks cs one) ≡ joined_content cs ++ w.part = joined_behind cs one ∙ ap (λ z. joined_content cs ++ z) (append-nil w.part) in
     record {
       chunks = with_chunks cs one;
       are_chunks = all_with cs one w.chunks.are_chunks (((w.are_digits, size), omega (arith, size, w.some), w.is_text), tt);
       has_streamed = w.chunks.has_streamed;
       leaves = omega (arith, w.chunks.leaves, size, joined-with cs one, length-append w.part []);
       are = text_more (10 ∷ []) w.chunks ∙ ap (λ z. streamed_text cs z) grown ∙ ap (λ z. 36 ∷ 63 ∷ crlf z) (sym (chunks_text-with cs one []));
-      told = w.told ∙ ap (λ z. z ++ content_events w.part) w.chunks.told ∙ ap (λ z. e.Text e.Bulk ∷ z) (sym (ap content_events all ∙ content_events-append (joined cs) w.part));
+      told = w.told ∙ ap (λ z. z ++ content_events w.part) w.chunks.told ∙ ap (λ z. e.Text e.Bulk ∷ z) (sym (ap content_events all ∙ content_events-append (joined_content cs) w.part));
     }
 
 -- behind the CR of its content

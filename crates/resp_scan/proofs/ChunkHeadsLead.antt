@@ -10,20 +10,20 @@ use Rattle.resp_value.specs.Rules.{Rules, Grammar, WithinDepth, WithinItems, Wit
 use Rattle.resp_value.specs.declared.cause.Cause.TheVariants as cause
 use Rattle.resp_value.proofs.Unique.{chunks_text-append}
 use Rattle.resp_value.proofs.FirstBytes.{all_append}
-use Rattle.resp_follow.specs.Events.{Event}
-use Rattle.resp_follow.specs.Events as e
-use Rattle.resp_follow.proofs.BegunLines.{number-digit}
-use Rattle.resp_follow.proofs.CountRows.{CompletesUnder, IsRefusedHere}
-use Rattle.resp_follow.proofs.BegunFronts.{IsBegunBy}
-use Rattle.resp_follow.proofs.ChunkTokens.{chunk_length_begun, chunk_length_over, chunk_length_returned_begun, chunk_mark_begun, chunk_zero_begun, chunk_zero_returned_begun, chunked_keeps, streamed_text}
-use Rattle.resp_follow.proofs.BrokenChunks.{chunk_length_broken, chunk_length_returned_broken, chunk_mark_broken}
+use Rattle.resp_fronts.specs.Events.{Event}
+use Rattle.resp_fronts.specs.Events as e
+use Rattle.resp_fronts.proofs.BegunLines.{number-digit}
+use Rattle.resp_fronts.proofs.CountRows.{CompletesUnder, IsRefusedHere}
+use Rattle.resp_fronts.proofs.BegunFronts.{IsBegunBy}
+use Rattle.resp_fronts.proofs.ChunkTokens.{chunk_length_begun, chunk_length_over, chunk_length_returned_begun, chunk_mark_begun, chunk_zero_begun, chunk_zero_returned_begun, chunked_keeps, streamed_text}
+use Rattle.resp_fronts.proofs.BrokenChunks.{chunk_length_broken, chunk_length_returned_broken, chunk_mark_broken}
 use Rattle.resp_scan.specs.declared.machine.Head.TheVariants as head
-use Rattle.resp_scan.specs.Tokens.{Move, Place, Go, Give, TextEnd, AtHead, InHead, AtHeadLf, InChunk, at, ended}
-use Rattle.resp_scan.specs.Heads.{chunk_needed}
-use Rattle.resp_scan.specs.Machine.{head_digit}
+use Rattle.resp_scan.specs.Machine.Tokens.{Move, Place, Go, Give, TextEnd, AtHead, InHead, AtHeadLf, InChunk, at, after_end}
+use Rattle.resp_scan.specs.Machine.Heads.{chunk_needed}
+use Rattle.resp_scan.specs.Machine.Moves.{head_digit}
 use Rattle.resp_scan.specs.Kinds.{IsRefusedFor, rules_of}
-use Rattle.resp_scan.specs.Begun.{ChunkBegun, ChunkLength, ChunksBegun}
-use Rattle.resp_scan.specs.Follows.{Counts, Inside, Leads, Lies}
+use Rattle.resp_scan.specs.Machine.Beginnings.{ChunkBegun, ChunkLength, ChunksBegun}
+use Rattle.resp_scan.specs.Machine.Standing.{HasCountsOf, IsInside, Leads, StandsAfter}
 use Rattle.resp_scan.proofs.TokenLaws.{ChunkHeadsLead, ChunkLengthsLead, ChunkLengthEndsLead}
 use Rattle.resp_scan.proofs.ByteTests.{by_byte, by_digit, by_test, wanted}
 use Rattle.resp_scan.proofs.ChunksBegun.{are_whole, chunks_more, text_more}
@@ -71,7 +71,7 @@ length_row r room n level bytes shown w =
       | false ↦ λ z. let some : 0 < n = grind (arith, nat_tests) in subst (IsBegunBy r level (streamed_text c.chunks (59 ∷ w.digits))) (omega (arith, w.valued)) (chunk_length_begun r level c.chunks w.digits (are_whole c) w.are_digits (omega (arith, w.valued)) (omega (arith, w.valued, w.fits, c.leaves)))
     ] refl)
 
-chunk_digit_leads : (s : Place) (room n used byte : ℕ) (front : List ℕ) (es : List Event) → IsDigit byte → Counts s used front → Inside (rules_of s) (Digits (rules_of s) room n) s.frames front es → Leads s front es byte (head_digit s (used + 1) (head.Chunk room) (n * 10 + (byte - 48)))
+chunk_digit_leads : (s : Place) (room n used byte : ℕ) (front : List ℕ) (es : List Event) → IsDigit byte → HasCountsOf s used front → IsInside (rules_of s) (Digits (rules_of s) room n) s.frames front es → Leads s front es byte (head_digit s (used + 1) (head.Chunk room) (n * 10 + (byte - 48)))
 chunk_digit_leads s room n used byte front es digit c w =
     let r = rules_of s in
     let m = n * 10 + (byte - 48) in
@@ -103,7 +103,7 @@ chunk_lengths_lead s room n used byte front es is_byte c w =
     by_digit here front es byte _ _
     (λ digit. chunk_digit_leads here room n used byte front es digit c (retold r (ChunkLength r room n []) (Digits r room n) s.frames front es w (λ level bytes shown t. record { digits = t.digits; are_digits = t.are_digits.1; valued = t.valued; chunks = plain r room n level bytes shown t })))
     (λ other. wanted here front es 13 byte (Go (at s (AtHeadLf (head.Chunk room) n)))
-    (λ is_return. subst (λ z. Lies (at s (AtHeadLf (head.Chunk room) n)) (front ++ z ∷ []) es) (sym is_return)
+    (λ is_return. subst (λ z. StandsAfter (at s (AtHeadLf (head.Chunk room) n)) (front ++ z ∷ []) es) (sym is_return)
     (goes r (ChunkLength r room n []) (ChunkLength r room n (13 ∷ [])) s.frames front (13 ∷ []) es w
     (λ level bytes shown i t. record { digits = t.digits; are_digits = t.are_digits; valued = t.valued; fits = t.fits; chunks = chunks_more r room (59 ∷ t.digits) (13 ∷ []) level bytes shown (plain r room n level bytes shown t) })))
     (λ no_return. broken r (ChunkLength r room n []) s.frames front es (chunk_needed n) byte w (λ level bytes shown i t. length_row r room n level bytes shown t)
@@ -165,10 +165,10 @@ pub chunk_length_ends_lead : ChunkLengthEndsLead
 chunk_length_ends_lead s room n used byte front es is_byte c w =
     let r = rules_of s in
     let here = at s (AtHeadLf (head.Chunk room) n) in
-    let v : Move = cond (eqb n 0) (Give TextEnd (ended s)) (Go (at s (InChunk (room - n) n))) in
+    let v : Move = cond (eqb n 0) (Give TextEnd (after_end s)) (Go (at s (InChunk (room - n) n))) in
     wanted here front es 10 byte v
     (λ is_newline. subst (λ z. Leads here front es z v) (sym is_newline)
-    (by_test here front es 10 (eqb n 0) (Give TextEnd (ended s)) (Go (at s (InChunk (room - n) n)))
+    (by_test here front es 10 (eqb n 0) (Give TextEnd (after_end s)) (Go (at s (InChunk (room - n) n)))
     (λ z. (let none : n ≡ 0 = grind (arith, nat_tests) in
     value_ends r (ChunkLength r room n (13 ∷ [])) s.frames front (10 ∷ []) es (e.TextEnd ∷ []) w (λ level bytes shown i t. string_ends r room level bytes shown (subst (λ m. ChunkLength r room m (13 ∷ []) level bytes shown) none t))))
     (λ z. (let some : 0 < n = grind (arith, nat_tests) in

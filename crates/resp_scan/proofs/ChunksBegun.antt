@@ -3,9 +3,9 @@ use Rattle.std.proofs.Common.{◌≡◌, ℕ, List, ◌∷◌, ◌++◌, ap, ◌
 use Rattle.resp_value.specs.Bytes.{crlf}
 use Rattle.resp_value.specs.Rules.{Rules}
 use Rattle.resp_value.proofs.Unique.{chunks_text-append}
-use Rattle.resp_follow.specs.Events.{Event}
-use Rattle.resp_follow.proofs.ChunkTokens.{AreWhole, streamed_text}
-use Rattle.resp_scan.specs.Begun.{ChunksBegun}
+use Rattle.resp_fronts.specs.Events.{Event}
+use Rattle.resp_fronts.proofs.ChunkTokens.{AreWhole, streamed_text}
+use Rattle.resp_scan.specs.Machine.Beginnings.{ChunksBegun}
 
 -- they are within the limit of length
 pub are_whole : {r : Rules} {room : ℕ} {begun : List ℕ} {level : ℕ} {bytes : List ℕ} {shown : List Event} (w : ChunksBegun r room begun level bytes shown) → AreWhole r w.chunks

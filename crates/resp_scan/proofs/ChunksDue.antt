@@ -5,19 +5,19 @@ use Rattle.std.specs.List.{AllByRecursion}
 use Rattle.resp_value.specs.Bytes.{crlf}
 use Rattle.resp_value.specs.Numbers.{IsDigits, IsNumber, number}
 use Rattle.resp_value.specs.Rules.{Rules}
-use Rattle.resp_value.specs.Trees.{Chunk, IsChunk, Tree, IsTree, leaf, chunked, chunks_text, joined, leaf_text, text}
+use Rattle.resp_value.specs.Trees.{Chunk, IsChunk, Tree, IsTree, leaf, chunked, chunks_text, joined_content, leaf_text, text}
 use Rattle.resp_value.proofs.FirstLines.{after_line, first_is_line, first_line, sort, sort_is}
 use Rattle.resp_value.proofs.Splitting.{line_split}
 use Rattle.resp_value.proofs.Unique.{chunk_line, chunks_text-append}
-use Rattle.resp_follow.specs.Events as e
-use Rattle.resp_follow.specs.Events.{Event, Timed, bytes_from, chunk_events, due, events, last_of, leaf_events}
-use Rattle.resp_follow.proofs.BegunLines.{line_begins, text_first}
-use Rattle.resp_follow.proofs.EventsDue.{AreFrom, due-append, due_none}
-use Rattle.resp_follow.proofs.FirstLineRows.{tree_of_chunked}
-use Rattle.resp_follow.proofs.StreamedHeads.{mark_line}
-use Rattle.resp_follow.proofs.StreamedStrings.{chunks_begin, last, with_chunks}
+use Rattle.resp_fronts.specs.Events as e
+use Rattle.resp_fronts.specs.Events.{Event, Timed, bytes_from, chunk_events, events_due, events, last_of, leaf_events}
+use Rattle.resp_fronts.proofs.BegunLines.{line_begins, text_first}
+use Rattle.resp_fronts.proofs.EventsDue.{AreFrom, due-append, due_none}
+use Rattle.resp_fronts.proofs.FirstLineRows.{tree_of_chunked}
+use Rattle.resp_fronts.proofs.StreamedHeads.{mark_line}
+use Rattle.resp_fronts.proofs.StreamedStrings.{chunks_begin, last, with_chunks}
 use Rattle.resp_scan.specs.Kinds.{content_events}
-use Rattle.resp_scan.specs.Begun.{ChunkBegun, ChunksBegun}
+use Rattle.resp_scan.specs.Machine.Beginnings.{ChunkBegun, ChunksBegun}
 use Rattle.resp_scan.proofs.FramesDue.{from-append}
 use Rattle.resp_scan.proofs.InsideDue.{AreDueWithin, longer_front}
 use Rattle.resp_scan.proofs.LeafEvents.{content_events-append}
@@ -39,32 +39,32 @@ chunk_events-with at (c ∷ cs) more =
     ap (λ z. bytes ++ z) (chunk_events-with next cs more ∙ ap (λ n. chunk_events next cs ++ chunk_events n more) here)
     ∙ sym (append_assoc bytes (chunk_events next cs) (chunk_events (at + length (chunks_text (c ∷ cs) [])) more))
 
-bytes_all : (n from : ℕ) (s : List ℕ) → from + length s ≤ n → due n (bytes_from from s) ≡ content_events s
+bytes_all : (n from : ℕ) (s : List ℕ) → from + length s ≤ n → events_due n (bytes_from from s) ≡ content_events s
 bytes_all n from [] l = refl
 bytes_all n from (b ∷ s) l = let before : from < n = omega (arith, l) in rw (lt-ltb from n before) (ap (λ z. e.Byte b ∷ z) (bytes_all n (from + 1) s (omega (arith, l))))
 
-chunks_all : (n at : ℕ) (cs : List Chunk) → at + length (chunks_text cs []) ≤ n → due n (chunk_events at cs) ≡ content_events (joined cs)
+chunks_all : (n at : ℕ) (cs : List Chunk) → at + length (chunks_text cs []) ≤ n → events_due n (chunk_events at cs) ≡ content_events (joined_content cs)
 chunks_all n at [] l = refl
 chunks_all n at (c ∷ cs) l =
     let size = length-chunk c (chunks_text cs []) in
     let next = at + length c.digits + length c.content + 5 in
     due-append n (bytes_from (at + length c.digits + 3) c.content) (chunk_events next cs)
-    ∙ ap (λ z. z ++ due n (chunk_events next cs)) (bytes_all n (at + length c.digits + 3) c.content (omega (arith, l, size)))
+    ∙ ap (λ z. z ++ events_due n (chunk_events next cs)) (bytes_all n (at + length c.digits + 3) c.content (omega (arith, l, size)))
     ∙ ap (λ z. content_events c.content ++ z) (chunks_all n next cs (omega (arith, l, size)))
-    ∙ sym (content_events-append c.content (joined cs))
+    ∙ sym (content_events-append c.content (joined_content cs))
 
 -- whole chunks first, and then what is due behind them
-stream_due : (from n : ℕ) (cs more : List Chunk) (zeros : List ℕ) (shown : List Event) → from + 4 + length (chunks_text cs []) ≤ n → due n (chunk_events (from + 4 + length (chunks_text cs [])) more ++ record { at = last_of from (leaf_text (chunked (with_chunks cs more) zeros)); event = e.TextEnd } ∷ []) ≡ shown → due n (leaf_events from (chunked (with_chunks cs more) zeros)) ≡ (e.Text e.Bulk ∷ content_events (joined cs)) ++ shown
+stream_due : (from n : ℕ) (cs more : List Chunk) (zeros : List ℕ) (shown : List Event) → from + 4 + length (chunks_text cs []) ≤ n → events_due n (chunk_events (from + 4 + length (chunks_text cs [])) more ++ record { at = last_of from (leaf_text (chunked (with_chunks cs more) zeros)); event = e.TextEnd } ∷ []) ≡ shown → events_due n (leaf_events from (chunked (with_chunks cs more) zeros)) ≡ (e.Text e.Bulk ∷ content_events (joined_content cs)) ++ shown
 stream_due from n cs more zeros shown l behind =
     let end : List Timed = record { at = last_of from (leaf_text (chunked (with_chunks cs more) zeros)); event = e.TextEnd } ∷ [] in
     let next = from + 4 + length (chunks_text cs []) in
     let begun : from + 3 < n = omega (arith, l) in
     rw (lt-ltb (from + 3) n begun) (ap (λ z. e.Text e.Bulk ∷ z)
-    (ap (λ z. due n (z ++ end)) (chunk_events-with (from + 4) cs more)
-    ∙ ap (due n) (append_assoc (chunk_events (from + 4) cs) (chunk_events next more) end)
+    (ap (λ z. events_due n (z ++ end)) (chunk_events-with (from + 4) cs more)
+    ∙ ap (events_due n) (append_assoc (chunk_events (from + 4) cs) (chunk_events next more) end)
     ∙ due-append n (chunk_events (from + 4) cs) (chunk_events next more ++ end)
-    ∙ ap (λ z. z ++ due n (chunk_events next more ++ end)) (chunks_all n (from + 4) cs l)
-    ∙ ap (λ z. content_events (joined cs) ++ z) behind))
+    ∙ ap (λ z. z ++ events_due n (chunk_events next more ++ end)) (chunks_all n (from + 4) cs l)
+    ∙ ap (λ z. content_events (joined_content cs) ++ z) behind))
 
 -- the streamed string that a value is of which whole chunks have come
 record IsStreamOf (cs : List Chunk) (begun behind : List ℕ) (value : Tree) : Type 0 where
@@ -117,9 +117,9 @@ chunks_due r room begun level bytes shown in_line w from value behind is_tree wh
     let place : n ≡ next + length begun = omega (arith, ap length w.are, length-chunks w.chunks begun) in
     let some : 0 < length behind = omega (arith, short, ap length (sym h.are ∙ v.goes_on), length-append (59 ∷ h.digits) (crlf h.behind), length-append begun behind) in
     let end : n ≤ last_of from (leaf_text (chunked (with_chunks w.chunks v.more) v.zeros)) = omega (arith, ap (λ z. length (text z)) v.same, ap length whole, length-append bytes behind, some) in
-    ap (λ z. due n (events from z)) v.same
+    ap (λ z. events_due n (events from z)) v.same
     ∙ stream_due from n w.chunks v.more v.zeros [] (omega (arith, place)) (due_none n _ (from-append n (chunk_events next v.more) _ (h.quiet next n (omega (arith, place, short))) (end, tt)))
-    ∙ append-nil (e.Text e.Bulk ∷ content_events (joined w.chunks))
+    ∙ append-nil (e.Text e.Bulk ∷ content_events (joined_content w.chunks))
     ∙ sym w.told
 
 -- no byte
@@ -205,10 +205,10 @@ chunk_due r room n after level bytes shown short w from value behind is_tree who
     let later : AreFrom now (bytes_from (at + length w.part) k.content ++ (chunk_events rest k.rest ++ end)) =
     from-append now (bytes_from (at + length w.part) k.content) (chunk_events rest k.rest ++ end) (later_content now (at + length w.part) k.content n after short k.size place)
     (from-append now (chunk_events rest k.rest) end (chunks_later now rest k.rest (omega (arith, place, few, length-append w.part k.content))) (ended, tt)) in
-    ap (λ z. due now (events from z)) v.same
+    ap (λ z. events_due now (events from z)) v.same
     ∙ stream_due from now c.chunks v.more v.zeros (content_events w.part) (omega (arith, place))
-    (ap (λ z. due now (chunk_events next z ++ end)) k.are
-    ∙ ap (due now) (append_assoc (bytes_from at (w.part ++ k.content)) (chunk_events rest k.rest) end)
+    (ap (λ z. events_due now (chunk_events next z ++ end)) k.are
+    ∙ ap (events_due now) (append_assoc (bytes_from at (w.part ++ k.content)) (chunk_events rest k.rest) end)
     ∙ due_bytes now at w.part k.content (chunk_events rest k.rest ++ end) (omega (arith, place)) later)
     ∙ ap (λ z. z ++ content_events w.part) (sym c.told)
     ∙ sym w.told

@@ -7,13 +7,13 @@ use Rattle.resp_value.specs.Trees as t
 use Rattle.resp_value.specs.Trees.{Tree, StringKind, HasFormat, IsTree, leaf, string, leaf_text, payload, string_byte, text}
 use Rattle.resp_value.proofs.FirstLines.{after_line, first_is_line, first_line, sort, sort_is}
 use Rattle.resp_value.proofs.Splitting.{length_split, line_split}
-use Rattle.resp_follow.specs.Events as e
-use Rattle.resp_follow.specs.Events.{Event, bytes_from, due, events, last_of, leaf_events}
-use Rattle.resp_follow.proofs.BegunLines.{text_first}
-use Rattle.resp_follow.proofs.EventsDue.{AreFrom, due_none}
-use Rattle.resp_follow.proofs.FirstLineRows.{is_string, string_line}
+use Rattle.resp_fronts.specs.Events as e
+use Rattle.resp_fronts.specs.Events.{Event, bytes_from, events_due, events, last_of, leaf_events}
+use Rattle.resp_fronts.proofs.BegunLines.{text_first}
+use Rattle.resp_fronts.proofs.EventsDue.{AreFrom, due_none}
+use Rattle.resp_fronts.proofs.FirstLineRows.{is_string, string_line}
 use Rattle.resp_scan.specs.Kinds.{content_events}
-use Rattle.resp_scan.specs.Begun.{ContentBegun, ContentReturned, FormatBegun, string_text}
+use Rattle.resp_scan.specs.Machine.Beginnings.{ContentBegun, ContentReturned, FormatBegun, string_text_kind}
 use Rattle.resp_scan.proofs.InsideDue.{AreDueWithin, longer_front}
 use Rattle.resp_scan.proofs.TextsDue.{bytes_later, due_text, text_later}
 
@@ -49,7 +49,7 @@ pub format_due : (r : Rules) (format begun : List ℕ) (n level : ℕ) (bytes : 
 format_due r format begun n level bytes shown short w from value behind is_tree whole =
     let digits = w.first ∷ w.digits in
     let v = string_of (t.Verbatim format) w.first w.digits begun behind value w.token.are_digits is_tree (whole ∙ ap (λ z. z ++ behind) w.token.are) in
-    ap (λ z. due (from + length bytes) (events from z)) v.same
+    ap (λ z. events_due (from + length bytes) (events from z)) v.same
     ∙ due_none (from + length bytes) (leaf_events from (string v.kind digits v.content)) (verbatim_later from (from + length bytes) v.kind digits v.content v.byte v.format (omega (arith, ap length w.token.are, length-append (61 ∷ digits) (crlf begun), short)))
     ∙ sym w.told
 
@@ -82,7 +82,7 @@ content_goes_on r n level bytes shown w value behind is_tree whole =
     let longer : length (payload v.kind v.content) ≡ length (payload w.kind (w.part ++ l)) = ap (λ z. length (payload z v.content)) kind ∙ ap (λ z. length (payload w.kind z)) content in
     (l, v.same ∙ ap (λ z. leaf (string z digits v.content)) kind ∙ ap (λ z. leaf (string w.kind digits z)) content, omega (arith, longer, v.size, size, length-payload w.kind w.part l))
 
-string_due : (from n m : ℕ) (k : StringKind) (digits part l : List ℕ) → m ≡ from + length digits + 3 + length (payload k part) → m ≤ n → n ≤ m + length l + 1 → AreFrom n (bytes_from m l) → due n (leaf_events from (string k digits (part ++ l))) ≡ e.Text (string_text k) ∷ content_events part
+string_due : (from n m : ℕ) (k : StringKind) (digits part l : List ℕ) → m ≡ from + length digits + 3 + length (payload k part) → m ≤ n → n ≤ m + length l + 1 → AreFrom n (bytes_from m l) → events_due n (leaf_events from (string k digits (part ++ l))) ≡ e.Text (string_text_kind k) ∷ content_events part
 string_due from n m t.Bulk digits part l at low high later =
     let s = part ++ l in
     let here : m ≡ from + length digits + 3 + length part = at in
@@ -107,7 +107,7 @@ content_due r n level bytes shown w from value behind is_tree whole =
     let (l, same, size) = content_goes_on r n level bytes shown w value behind is_tree whole in
     let at = from + length bytes in
     let place : at ≡ from + length digits + 3 + length (payload w.kind w.part) = omega (arith, ap length w.token.are, length-append (string_byte w.kind ∷ digits) (crlf (payload w.kind w.part))) in
-    ap (λ z. due at (events from z)) same
+    ap (λ z. events_due at (events from z)) same
     ∙ string_due from at at w.kind digits w.part l place (omega arith) (omega arith) (bytes_later at at l (omega arith))
     ∙ sym w.told
 
@@ -121,7 +121,7 @@ content_returned_due r level bytes shown w from value behind is_tree whole =
     let m = from + length w.before in
     let place : m ≡ from + length digits + 3 + length (payload c.kind c.part) = omega (arith, ap length c.token.are, length-append (string_byte c.kind ∷ digits) (crlf (payload c.kind c.part))) in
     let next : n ≡ m + 1 = omega (arith, ap length w.returned, length-append w.before (13 ∷ [])) in
-    ap (λ z. due n (events from z)) same
+    ap (λ z. events_due n (events from z)) same
     ∙ string_due from n m c.kind digits c.part l place (omega (arith, next)) (omega (arith, next)) (none_later n m l size)
     ∙ sym c.told
   where

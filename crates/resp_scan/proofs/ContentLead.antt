@@ -4,17 +4,17 @@ use Rattle.std.proofs.lemmas.Bool.Decides.{nat_tests}
 use Rattle.std.proofs.Common.{◌≡◌, ℕ, ◌-◌, ◌<◌, List, [], ◌∷◌, ◌++◌, refl, sym, ap, subst, ◌∙◌, arith, append_assoc}
 use Rattle.resp_value.specs.Rules.{Rules, Grammar}
 use Rattle.resp_value.specs.Trees.{leaf, string}
-use Rattle.resp_follow.specs.Events.{Event}
-use Rattle.resp_follow.specs.Events as e
-use Rattle.resp_follow.proofs.CountRows.{CompletesUnder}
-use Rattle.resp_follow.proofs.BegunFronts.{IsBegunBy}
-use Rattle.resp_follow.proofs.ContentTokens.{content_begun, content_broken, content_returned_begun}
-use Rattle.resp_follow.proofs.PayloadTokens.{content_returned_broken, payload_more, whole_content}
-use Rattle.resp_scan.specs.Tokens.{Place, Go, Give, TextEnd, AtContentCr, AtContentLf, InContent, at, ended}
-use Rattle.resp_scan.specs.Heads.{content_at}
+use Rattle.resp_fronts.specs.Events.{Event}
+use Rattle.resp_fronts.specs.Events as e
+use Rattle.resp_fronts.proofs.CountRows.{CompletesUnder}
+use Rattle.resp_fronts.proofs.BegunFronts.{IsBegunBy}
+use Rattle.resp_fronts.proofs.ContentTokens.{content_begun, content_broken, content_returned_begun}
+use Rattle.resp_fronts.proofs.PayloadTokens.{content_returned_broken, payload_more, whole_content}
+use Rattle.resp_scan.specs.Machine.Tokens.{Place, Go, Give, TextEnd, AtContentCr, AtContentLf, InContent, at, after_end}
+use Rattle.resp_scan.specs.Machine.Heads.{content_at}
 use Rattle.resp_scan.specs.Kinds.{rules_of}
-use Rattle.resp_scan.specs.Begun.{ContentBegun, ContentReturned, string_text}
-use Rattle.resp_scan.specs.Follows.{Inside, Lies}
+use Rattle.resp_scan.specs.Machine.Beginnings.{ContentBegun, ContentReturned, string_text_kind}
+use Rattle.resp_scan.specs.Machine.Standing.{IsInside, StandsAfter}
 use Rattle.resp_scan.proofs.TokenLaws.{ContentLeads, ContentReturnsLead, ContentEndsLead}
 use Rattle.resp_scan.proofs.ByteTests.{wanted}
 use Rattle.resp_scan.proofs.LeafEvents.{content_events-append, given-string, leaf_told}
@@ -22,10 +22,10 @@ use Rattle.resp_scan.proofs.Moves.{Ends, goes, retold, tells, value_ends}
 use Rattle.resp_scan.proofs.RefusedMoves.{broken}
 
 -- content, whether bytes of it are left or none
-pub content_lies : (s : Place) (n : ℕ) (front : List ℕ) (es : List Event) → Inside (rules_of s) (ContentBegun (rules_of s) n) s.frames front es → Lies (content_at n s) front es
+pub content_lies : (s : Place) (n : ℕ) (front : List ℕ) (es : List Event) → IsInside (rules_of s) (ContentBegun (rules_of s) n) s.frames front es → StandsAfter (content_at n s) front es
 content_lies s n front es w =
-    elim (eqb n 0) as (λ z. eqb n 0 ≡ z → Lies (at s (cond z AtContentCr (InContent n))) front es) [
-      | true ↦ λ z. let e : n ≡ 0 = grind (arith, nat_tests) in subst (λ m. Inside (rules_of s) (ContentBegun (rules_of s) m) s.frames front es) e w
+    elim (eqb n 0) as (λ z. eqb n 0 ≡ z → StandsAfter (at s (cond z AtContentCr (InContent n))) front es) [
+      | true ↦ λ z. let e : n ≡ 0 = grind (arith, nat_tests) in subst (λ m. IsInside (rules_of s) (ContentBegun (rules_of s) m) s.frames front es) e w
       | false ↦ λ z. retold (rules_of s) (ContentBegun (rules_of s) n) (λ level bytes shown. ContentBegun (rules_of s) n level bytes shown × (0 < n)) s.frames front es w (λ level bytes shown t. (t, grind (arith, nat_tests)))
     ] refl
 
@@ -36,7 +36,7 @@ content_more r n level byte bytes shown is_byte some w = record {
   digits = w.digits;
   part = w.part ++ byte ∷ [];
   token = payload_more r w.kind w.first w.digits w.part (byte ∷ []) n level bytes (is_byte, tt) (omega arith) w.token;
-  told = ap (λ z. z ++ e.Byte byte ∷ []) w.told ∙ ap (λ z. e.Text (string_text w.kind) ∷ z) (sym (content_events-append w.part (byte ∷ [])));
+  told = ap (λ z. z ++ e.Byte byte ∷ []) w.told ∙ ap (λ z. e.Text (string_text_kind w.kind) ∷ z) (sym (content_events-append w.part (byte ∷ [])));
 }
 
 pub content_leads : ContentLeads
@@ -46,7 +46,7 @@ content_leads s n used byte front es is_byte c w =
 
 pub content_returns_lead : ContentReturnsLead
 content_returns_lead s used byte front es is_byte c w = wanted (at s AtContentCr) front es 13 byte (Go (at s AtContentLf))
-    (λ is_return. subst (λ z. Lies (at s AtContentLf) (front ++ z ∷ []) es) (sym is_return) (goes (rules_of s) (ContentBegun (rules_of s) 0) (ContentReturned (rules_of s)) s.frames front (13 ∷ []) es w (λ level bytes shown i t. record { before = bytes; content = t; returned = refl })))
+    (λ is_return. subst (λ z. StandsAfter (at s AtContentLf) (front ++ z ∷ []) es) (sym is_return) (goes (rules_of s) (ContentBegun (rules_of s) 0) (ContentReturned (rules_of s)) s.frames front (13 ∷ []) es w (λ level bytes shown i t. record { before = bytes; content = t; returned = refl })))
     (λ other. broken (rules_of s) (ContentBegun (rules_of s) 0) s.frames front es 2 byte w (λ level bytes shown i t. content_begun (rules_of s) t.kind t.first t.digits _ 0 level bytes t.token)
     (λ level bytes rest shown t d. content_broken (rules_of s) t.kind t.first t.digits _ level bytes rest byte other t.token d))
 
@@ -63,8 +63,8 @@ content_ends_value r level bytes shown w =
     }
 
 pub content_ends_lead : ContentEndsLead
-content_ends_lead s used byte front es is_byte c w = wanted (at s AtContentLf) front es 10 byte (Give TextEnd (ended s))
-    (λ is_newline. subst (λ z. Lies (ended s) (front ++ z ∷ []) (es ++ e.TextEnd ∷ [])) (sym is_newline) (value_ends (rules_of s) (ContentReturned (rules_of s)) s.frames front (10 ∷ []) es (e.TextEnd ∷ []) w (λ level bytes shown i t. content_ends_value (rules_of s) level bytes shown t)))
+content_ends_lead s used byte front es is_byte c w = wanted (at s AtContentLf) front es 10 byte (Give TextEnd (after_end s))
+    (λ is_newline. subst (λ z. StandsAfter (after_end s) (front ++ z ∷ []) (es ++ e.TextEnd ∷ [])) (sym is_newline) (value_ends (rules_of s) (ContentReturned (rules_of s)) s.frames front (10 ∷ []) es (e.TextEnd ∷ []) w (λ level bytes shown i t. content_ends_value (rules_of s) level bytes shown t)))
     (λ other. broken (rules_of s) (ContentReturned (rules_of s)) s.frames front es 1 byte w
     (λ level bytes shown i t. subst (λ z. IsBegunBy (rules_of s) level z 1) (sym t.returned) (content_returned_begun (rules_of s) t.content.kind t.content.first t.content.digits _ level t.before t.content.token))
     (λ level bytes rest shown t d. content_returned_broken (rules_of s) t.content.kind t.content.first t.content.digits _ level t.before rest byte other t.content.token (subst (λ z. CompletesUnder (rules_of s) Grammar level z (byte ∷ rest)) t.returned d)))

@@ -6,19 +6,19 @@ use Rattle.resp_value.specs.Data as d
 use Rattle.resp_value.specs.Numbers.{IsDigit, number}
 use Rattle.resp_value.specs.Rules.{Rules, WithinItems, WithinLength}
 use Rattle.resp_value.specs.declared.cause.Cause.TheVariants as cause
-use Rattle.resp_follow.specs.Events.{Event}
-use Rattle.resp_follow.proofs.CountRows.{IsRefusedHere}
-use Rattle.resp_follow.proofs.BegunLines.{number-digit}
-use Rattle.resp_follow.proofs.BegunFronts.{IsBegunBy}
-use Rattle.resp_follow.proofs.HeadTokens.{count_begun, count_token_broken, count_token_more, count_token_over}
+use Rattle.resp_fronts.specs.Events.{Event}
+use Rattle.resp_fronts.proofs.CountRows.{IsRefusedHere}
+use Rattle.resp_fronts.proofs.BegunLines.{number-digit}
+use Rattle.resp_fronts.proofs.BegunFronts.{IsBegunBy}
+use Rattle.resp_fronts.proofs.HeadTokens.{count_begun, count_token_broken, count_token_more, count_token_over}
 use Rattle.resp_scan.specs.declared.machine.Head.{Head}
 use Rattle.resp_scan.specs.declared.machine.Head.TheVariants as head
-use Rattle.resp_scan.specs.Tokens.{Go, Move, Place, Token, AtHeadLf, InHead, at}
-use Rattle.resp_scan.specs.Room.{over_total}
-use Rattle.resp_scan.specs.Machine.{is_digit, unless, wants}
+use Rattle.resp_scan.specs.Machine.Tokens.{Go, Move, Place, Token, AtHeadLf, InHead, at}
+use Rattle.resp_scan.specs.Machine.Room.{over_total}
+use Rattle.resp_scan.specs.Machine.Moves.{is_digit, move_unless, only_byte}
 use Rattle.resp_scan.specs.Kinds.{rules_of}
-use Rattle.resp_scan.specs.Begun.{CountBegun, CountReturned}
-use Rattle.resp_scan.specs.Follows.{Counts, Inside, Leads, Lies}
+use Rattle.resp_scan.specs.Machine.Beginnings.{CountBegun, CountReturned}
+use Rattle.resp_scan.specs.Machine.Standing.{HasCountsOf, IsInside, Leads, StandsAfter}
 use Rattle.resp_scan.proofs.TokenLaws.{CountsLead}
 use Rattle.resp_scan.proofs.Moves.{goes}
 use Rattle.resp_scan.proofs.RefusedMoves.{fits_or_total, refused, unless_over}
@@ -57,14 +57,14 @@ too_many r k n byte level bytes shown d past w =
 
 -- a digit of a count, where items and total test the number m
 abbrev pub count_digit : Place → ℕ → ℕ → ℕ → Token → Move
-count_digit s used m needed token = unless (cond (nat_lt s.bounds.items m) (Some cause.Items) (over_total s used needed)) (Go (at s token))
+count_digit s used m needed token = move_unless (cond (nat_lt s.bounds.items m) (Some cause.Items) (over_total s used needed)) (Go (at s token))
 
 -- a digit more
-digit_leads : (s : Place) (k : Kind) (n needed used byte : ℕ) (token : Token) (front : List ℕ) (es : List Event) → 3 * members_of k (n * 10 + (byte - 48)) + 2 ≡ needed → IsDigit byte → Counts s used front → Inside (rules_of s) (CountBegun (rules_of s) k n) s.frames front es → (Inside (rules_of s) (CountBegun (rules_of s) k (n * 10 + (byte - 48))) s.frames (front ++ byte ∷ []) es → Lies (at s token) (front ++ byte ∷ []) es) → Leads s front es byte (count_digit s (used + 1) (n * 10 + (byte - 48)) needed token)
+digit_leads : (s : Place) (k : Kind) (n needed used byte : ℕ) (token : Token) (front : List ℕ) (es : List Event) → 3 * members_of k (n * 10 + (byte - 48)) + 2 ≡ needed → IsDigit byte → HasCountsOf s used front → IsInside (rules_of s) (CountBegun (rules_of s) k n) s.frames front es → (IsInside (rules_of s) (CountBegun (rules_of s) k (n * 10 + (byte - 48))) s.frames (front ++ byte ∷ []) es → StandsAfter (at s token) (front ++ byte ∷ []) es) → Leads s front es byte (count_digit s (used + 1) (n * 10 + (byte - 48)) needed token)
 digit_leads s k n needed used byte token front es e d c w lies =
     let r = rules_of s in
     let m = n * 10 + (byte - 48) in
-    if_below s.bounds.items m (λ x. Leads s front es byte (unless (cond x (Some cause.Items) (over_total s (used + 1) needed)) (Go (at s token))))
+    if_below s.bounds.items m (λ x. Leads s front es byte (move_unless (cond x (Some cause.Items) (over_total s (used + 1) needed)) (Go (at s token))))
     (λ past. refused r (CountBegun r k n) WithinItems WithinLength s.frames front (byte ∷ []) es refl (omega arith) w (λ level bytes shown i t. too_many r k n byte level bytes shown d past t))
     (λ fits.
     let more = goes r (CountBegun r k n) (CountBegun r k m) s.frames front (byte ∷ []) es w (λ level bytes shown i t. counts_more r k n byte level bytes shown d fits t) in
@@ -74,15 +74,15 @@ returns : (r : Rules) (k : Kind) (n level : ℕ) (bytes : List ℕ) (shown : Lis
 returns r k n level bytes shown w = record { first = w.first; digits = w.digits; returned = record { begun = bytes; count = w.token; returned = refl }; valued = w.valued; told = w.told }
 
 -- the CR of a count
-return_leads : (s : Place) (k : Kind) (n byte : ℕ) (token : Token) (front : List ℕ) (es : List Event) → (IsDigit byte → ⊥) → Inside (rules_of s) (CountBegun (rules_of s) k n) s.frames front es → (Inside (rules_of s) (CountReturned (rules_of s) k n) s.frames (front ++ 13 ∷ []) es → Lies (at s token) (front ++ 13 ∷ []) es) → Leads s front es byte (wants 13 byte (Go (at s token)))
+return_leads : (s : Place) (k : Kind) (n byte : ℕ) (token : Token) (front : List ℕ) (es : List Event) → (IsDigit byte → ⊥) → IsInside (rules_of s) (CountBegun (rules_of s) k n) s.frames front es → (IsInside (rules_of s) (CountReturned (rules_of s) k n) s.frames (front ++ 13 ∷ []) es → StandsAfter (at s token) (front ++ 13 ∷ []) es) → Leads s front es byte (only_byte 13 byte (Go (at s token)))
 return_leads s k n byte token front es no_digit w lies =
     let r = rules_of s in
     wants_leads s (CountBegun r k n) front es (3 * members_of k n + 2) byte 13 (Go (at s token)) w (λ level bytes shown i t. count_row r k n (3 * members_of k n + 2) level bytes shown refl t)
     (λ other level bytes rest shown t dead. count_token_broken r k t.first t.digits level bytes rest byte other no_digit t.token dead)
-    (λ is. subst (λ z. Lies (at s token) (front ++ z ∷ []) es) (sym is) (lies (goes r (CountBegun r k n) (CountReturned r k n) s.frames front (13 ∷ []) es w (λ level bytes shown i t. returns r k n level bytes shown t))))
+    (λ is. subst (λ z. StandsAfter (at s token) (front ++ z ∷ []) es) (sym is) (lies (goes r (CountBegun r k n) (CountReturned r k n) s.frames front (13 ∷ []) es w (λ level bytes shown i t. returns r k n level bytes shown t))))
 
 -- a digit more, or the CR
-count_leads : (s : Place) (h : Head) (k : Kind) (n needed used byte : ℕ) (front : List ℕ) (es : List Event) → 3 * members_of k (n * 10 + (byte - 48)) + 2 ≡ needed → Counts (at s (InHead h n)) used front → Inside (rules_of s) (CountBegun (rules_of s) k n) s.frames front es → ((m : ℕ) (longer : List ℕ) → Inside (rules_of s) (CountBegun (rules_of s) k m) s.frames longer es → Lies (at s (InHead h m)) longer es) → ((longer : List ℕ) → Inside (rules_of s) (CountReturned (rules_of s) k n) s.frames longer es → Lies (at s (AtHeadLf h n)) longer es) → Leads (at s (InHead h n)) front es byte (cond (is_digit byte) (count_digit (at s (InHead h n)) (used + 1) (n * 10 + (byte - 48)) needed (InHead h (n * 10 + (byte - 48)))) (wants 13 byte (Go (at s (AtHeadLf h n)))))
+count_leads : (s : Place) (h : Head) (k : Kind) (n needed used byte : ℕ) (front : List ℕ) (es : List Event) → 3 * members_of k (n * 10 + (byte - 48)) + 2 ≡ needed → HasCountsOf (at s (InHead h n)) used front → IsInside (rules_of s) (CountBegun (rules_of s) k n) s.frames front es → ((m : ℕ) (longer : List ℕ) → IsInside (rules_of s) (CountBegun (rules_of s) k m) s.frames longer es → StandsAfter (at s (InHead h m)) longer es) → ((longer : List ℕ) → IsInside (rules_of s) (CountReturned (rules_of s) k n) s.frames longer es → StandsAfter (at s (AtHeadLf h n)) longer es) → Leads (at s (InHead h n)) front es byte (cond (is_digit byte) (count_digit (at s (InHead h n)) (used + 1) (n * 10 + (byte - 48)) needed (InHead h (n * 10 + (byte - 48)))) (only_byte 13 byte (Go (at s (AtHeadLf h n)))))
 count_leads s h k n needed used byte front es e c w counts ends =
     let p = at s (InHead h n) in
     let m = n * 10 + (byte - 48) in

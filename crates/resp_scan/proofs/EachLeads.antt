@@ -1,12 +1,12 @@
 -- Every byte, at every token at which bytes are looked at.
 use Rattle.std.specs.Prelude.{true}
 use Rattle.std.proofs.Common.{◌≡◌, ℕ, ◌+◌, ◌<◌, List, refl, sym, subst}
-use Rattle.resp_follow.specs.Events.{Event}
+use Rattle.resp_fronts.specs.Events.{Event}
 use Rattle.resp_scan.specs.declared.machine.Head.{Head}
 use Rattle.resp_scan.specs.declared.machine.Head.TheVariants as head
-use Rattle.resp_scan.specs.Tokens.{Place, Token, at, AtStart, AtEnd, InLine, AtLineLf, AtIntSign, AtIntFirst, InInt, AtIntLf, AtBigSign, AtBigFirst, InBigZeros, AtBigZeroLf, AtBigDigit, InBig, AtTextEnd, AtNullOne, AtNullCr, AtNullLf, AtBool, AtBoolCr, AtBoolLf, AtBulkHead, AtArrayHead, AtHead, InHead, AtHeadLf, AtFormat, AtFormatSecond, AtFormatThird, AtFormatColon, InContent, AtContentCr, AtContentLf, AtStreamCr, AtStreamLf, AtChunk, InChunk, AtChunkCr, AtChunkLf, AtOpenCr, AtOpenLf, AtCloseCr, AtCloseLf, Dead}
-use Rattle.resp_scan.specs.Machine.{next}
-use Rattle.resp_scan.specs.Follows.{Counts, Leads, Lies}
+use Rattle.resp_scan.specs.Machine.Tokens.{Place, Token, at, AtStart, AtEnd, InLine, AtLineLf, AtIntSign, AtIntFirst, InInt, AtIntLf, AtBigSign, AtBigFirst, InBigZeros, AtBigZeroLf, AtBigDigit, InBig, AtTextEnd, AtNullOne, AtNullCr, AtNullLf, AtBool, AtBoolCr, AtBoolLf, AtBulkHead, AtArrayHead, AtHead, InHead, AtHeadLf, AtFormat, AtFormatSecond, AtFormatThird, AtFormatColon, InContent, AtContentCr, AtContentLf, AtStreamCr, AtStreamLf, AtChunk, InChunk, AtChunkCr, AtChunkLf, AtOpenCr, AtOpenLf, AtCloseCr, AtCloseLf, Dead}
+use Rattle.resp_scan.specs.Machine.Moves.{next}
+use Rattle.resp_scan.specs.Machine.Standing.{HasCountsOf, Leads, StandsAfter}
 use Rattle.resp_scan.proofs.TokenLaws.{ALead}
 use Rattle.resp_scan.proofs.Sound.{is_outside}
 use Rattle.resp_scan.proofs.BigNumbersLead.{big_first_leads, big_leads, big_sign_leads, big_zero_end_leads, big_zeros_lead}
@@ -68,10 +68,10 @@ a_head_end_leads head.Attr n s = head_ends_lead s head.Attr n tt
 a_head_end_leads head.Push n s = head_ends_lead s head.Push n tt
 
 -- the place that a byte leads to lies at the longer front, and a byte that is refused has its cause
-pub each_leads : (t : Token) (s : Place) (used byte : ℕ) (front : List ℕ) (es : List Event) → byte < 256 → Counts (at s t) used front → IsLookedAt t used → Lies (at s t) front es → LeadsFrom t s used byte front es
+pub each_leads : (t : Token) (s : Place) (used byte : ℕ) (front : List ℕ) (es : List Event) → byte < 256 → HasCountsOf (at s t) used front → IsLookedAt t used → StandsAfter (at s t) front es → LeadsFrom t s used byte front es
 each_leads AtStart s used byte front es is_byte c at_front w =
     let first : used ≡ 0 = (at_front refl).1 in
-    subst (λ n. LeadsFrom AtStart s n byte front es) (sym first) (start_leads s byte front es is_byte (subst (λ n. Counts (at s AtStart) n front) first c) w)
+    subst (λ n. LeadsFrom AtStart s n byte front es) (sym first) (start_leads s byte front es is_byte (subst (λ n. HasCountsOf (at s AtStart) n front) first c) w)
 each_leads AtEnd s used byte front es is_byte c at_front w = absurd (let e : AtEnd ≡ AtStart = (at_front refl).0 in cc)
 each_leads AtTextEnd s used byte front es is_byte c at_front w = absurd (let e : AtTextEnd ≡ AtStart = (at_front refl).0 in cc)
 each_leads (AtBigDigit digit room) s used byte front es is_byte c at_front w = absurd (let e : AtBigDigit digit room ≡ AtStart = (at_front refl).0 in cc)

@@ -3,16 +3,17 @@ use Rattle.std.proofs.Common.{◌≡◌, ℕ, ◌-◌, List, [], ◌∷◌, ◌+
 use Rattle.resp_value.specs.Rules.{Rules}
 use Rattle.resp_value.specs.Trees as t
 use Rattle.resp_value.specs.Numbers.{Unsigned}
-use Rattle.resp_follow.specs.Events as e
-use Rattle.resp_follow.specs.Events.{Event}
+use Rattle.resp_fronts.specs.Events as e
+use Rattle.resp_fronts.specs.Events.{Event}
 use Rattle.resp_scan.specs.declared.machine.Head.{Head}
 use Rattle.resp_scan.specs.declared.machine.Head.TheVariants as head
-use Rattle.resp_scan.specs.Tokens.{Token, Place, AtStart, AtEnd, InLine, AtLineLf, AtIntSign, AtIntFirst, InInt, AtIntLf, AtBigSign, AtBigFirst, InBigZeros, AtBigZeroLf, AtBigDigit, InBig, AtTextEnd, AtNullOne, AtNullCr, AtNullLf, AtBool, AtBoolCr, AtBoolLf, AtBulkHead, AtArrayHead, AtHead, InHead, AtHeadLf, AtFormat, AtFormatSecond, AtFormatThird, AtFormatColon, InContent, AtContentCr, AtContentLf, AtStreamCr, AtStreamLf, AtChunk, InChunk, AtChunkCr, AtChunkLf, AtOpenCr, AtOpenLf, AtCloseCr, AtCloseLf, Dead, at}
-use Rattle.resp_scan.specs.Kinds.{kind_of, rules_of}
-use Rattle.resp_scan.specs.Begun as b
-use Rattle.resp_scan.specs.Follows.{Inside, LiesAt}
-use Rattle.resp_scan.specs.Given.{owed_at}
-use Rattle.resp_scan.specs.Sound.{IsSoundBy, token_needed}
+use Rattle.resp_scan.specs.Machine.Tokens.{Token, Place, AtStart, AtEnd, InLine, AtLineLf, AtIntSign, AtIntFirst, InInt, AtIntLf, AtBigSign, AtBigFirst, InBigZeros, AtBigZeroLf, AtBigDigit, InBig, AtTextEnd, AtNullOne, AtNullCr, AtNullLf, AtBool, AtBoolCr, AtBoolLf, AtBulkHead, AtArrayHead, AtHead, InHead, AtHeadLf, AtFormat, AtFormatSecond, AtFormatThird, AtFormatColon, InContent, AtContentCr, AtContentLf, AtStreamCr, AtStreamLf, AtChunk, InChunk, AtChunkCr, AtChunkLf, AtOpenCr, AtOpenLf, AtCloseCr, AtCloseLf, Dead, at}
+use Rattle.resp_value.specs.Kinds.{kind_of}
+use Rattle.resp_scan.specs.Kinds.{rules_of}
+use Rattle.resp_scan.specs.Machine.Beginnings as b
+use Rattle.resp_scan.specs.Machine.Standing.{IsInside, StandsAfterAt}
+use Rattle.resp_scan.specs.Machine.Owed.{events_owed_at}
+use Rattle.resp_scan.specs.Machine.Sound.{IsSoundBy, token_needed}
 use Rattle.resp_scan.proofs.TokenLaws.{EventsAreDue}
 use Rattle.resp_scan.proofs.BigNumbersDue.{big_begun_due, big_shown_due, big_zero_returned_due, big_zeros_due}
 use Rattle.resp_scan.proofs.BigNumbersLead.{big_digit_is_owed}
@@ -24,7 +25,7 @@ use Rattle.resp_scan.proofs.OutsideDue.{AreDue, at_end_due, between_due, closing
 use Rattle.resp_scan.proofs.QuietLines.{line_of_quiet, returned_quiet}
 use Rattle.resp_scan.proofs.QuietTokens.{bool_quiet, digits_quiet, dollar_quiet, head_quiet, head_returned_quiet, int_begun_quiet, int_digits_quiet, int_returned_quiet, null_begun_quiet, null_line_quiet, null_returned_quiet, star_quiet, stream_quiet, stream_returned_quiet, streamed_string_quiet, streamed_string_returned_quiet, truth_quiet}
 use Rattle.resp_scan.proofs.Rows.{tokens_need}
-use Rattle.resp_follow.specs.Tokens.{zeros}
+use Rattle.resp_fronts.specs.Tokens.{zeros}
 
 -- Heads.
 
@@ -46,7 +47,7 @@ head_returned_due h r n level bytes shown w = head_returned_quiet r h n level by
 abbrev OwesNothing : Token → Type 0
 OwesNothing token = (token ≡ AtTextEnd → ⊥) × ((digit room : ℕ) → token ≡ AtBigDigit digit room → ⊥)
 
-token_due : (token : Token) (r : Rules) (level : ℕ) (bytes : List ℕ) (shown : List Event) → OwesNothing token → b.Begun r token level bytes shown → AreDueWithin bytes shown
+token_due : (token : Token) (r : Rules) (level : ℕ) (bytes : List ℕ) (shown : List Event) → OwesNothing token → b.TokenHas r token level bytes shown → AreDueWithin bytes shown
 token_due AtStart r level bytes shown p w = absurd w
 token_due AtEnd r level bytes shown p w = absurd w
 token_due (InLine room) r level bytes shown p w = line_begun_due r room level bytes shown w
@@ -92,9 +93,9 @@ token_due AtCloseCr r level bytes shown p w = absurd w
 token_due AtCloseLf r level bytes shown p w = absurd w
 token_due (Dead c) r level bytes shown p w = absurd w
 
-inside_token : (s : Place) (token : Token) (used : ℕ) (front : List ℕ) (es : List Event) → IsSoundBy used (at s token) → OwesNothing token → Inside (rules_of s) (b.Begun (rules_of s) token) s.frames front es → AreDue front es
+inside_token : (s : Place) (token : Token) (used : ℕ) (front : List ℕ) (es : List Event) → IsSoundBy used (at s token) → OwesNothing token → IsInside (rules_of s) (b.TokenHas (rules_of s) token) s.frames front es → AreDue front es
 inside_token s token used front es c p w =
-    inside_due (rules_of s) (b.Begun (rules_of s) token) s.frames front es (token_needed token s.bounds.depth s.frames) w
+    inside_due (rules_of s) (b.TokenHas (rules_of s) token) s.frames front es (token_needed token s.bounds.depth s.frames) w
     (λ level bytes shown i h. tokens_need (at s token) used level bytes shown c p.0 i h)
     (λ level bytes shown h. token_due token (rules_of s) level bytes shown p h)
 
@@ -103,14 +104,14 @@ inside_token s token used front es c p w =
 no_more : (front : List ℕ) (es : List Event) → AreDue front es → AreDue front (es ++ [])
 no_more front es h rest whole is_tree spelled = h rest whole is_tree spelled ∙ sym (append-nil es)
 
-due_at : (s : Place) (token : Token) (used : ℕ) (front : List ℕ) (es : List Event) → IsSoundBy used (at s token) → LiesAt (rules_of s) token s.frames front es → AreDue front (es ++ owed_at token s.frames)
+due_at : (s : Place) (token : Token) (used : ℕ) (front : List ℕ) (es : List Event) → IsSoundBy used (at s token) → StandsAfterAt (rules_of s) token s.frames front es → AreDue front (es ++ events_owed_at token s.frames)
 due_at s AtStart used front es c w = no_more front es (between_due (rules_of s) s.frames front es w)
 due_at s AtEnd used front es c w = at_end_due s s.frames front es c.token w
 due_at s AtTextEnd used front es c w = text_end_due s front es w
 due_at s AtCloseCr used front es c w = no_more front es (closing_in_due (rules_of s) s.frames [] (13 ∷ 10 ∷ []) front es (omega arith) w)
 due_at s AtCloseLf used front es c w = no_more front es (closing_in_due (rules_of s) s.frames (13 ∷ []) (10 ∷ []) front es (omega arith) w)
 due_at s (AtBigDigit digit room) used front es c w =
-    let d : IsSoundBy used (at s (InBig room)) = record { bounds = c.bounds; nested = c.nested; counted = c.counted; owed = c.owed; total = c.total; token = tt } in
+    let d : IsSoundBy used (at s (InBig room)) = record { bounds = c.bounds; nested = c.nested; counted = c.counted; frames_need = c.frames_need; total = c.total; token = tt } in
     inside_token s (InBig room) used front (es ++ e.Byte digit ∷ []) d (λ i. cc, λ x y i. cc) (big_digit_is_owed s digit room front es w)
 due_at s token used front es c w = no_more front es (inside_token s token used front es c (λ i. cc, λ x y i. cc) w)
 

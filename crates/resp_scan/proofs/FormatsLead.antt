@@ -2,25 +2,25 @@
 use Rattle.std.proofs.Common.{◌≡◌, ℕ, suc, ◌+◌, ◌-◌, ◌<◌, List, [], ◌∷◌, ◌++◌, refl, sym, ap, subst, arith}
 use Rattle.resp_value.specs.Trees as t
 use Rattle.resp_value.specs.Rules.{Rules}
-use Rattle.resp_follow.specs.Events.{Event}
-use Rattle.resp_follow.specs.Events as e
-use Rattle.resp_follow.proofs.ContentTokens.{content_begun}
-use Rattle.resp_follow.proofs.PayloadTokens.{format_broken, format_ends, format_more}
+use Rattle.resp_fronts.specs.Events.{Event}
+use Rattle.resp_fronts.specs.Events as e
+use Rattle.resp_fronts.proofs.ContentTokens.{content_begun}
+use Rattle.resp_fronts.proofs.PayloadTokens.{format_broken, format_ends, format_more}
 use Rattle.resp_scan.specs.declared.event.TextKind.TheVariants as text
-use Rattle.resp_scan.specs.Tokens.{Place, Give, Text, AtFormatColon, at}
-use Rattle.resp_scan.specs.Heads.{content_at}
+use Rattle.resp_scan.specs.Machine.Tokens.{Place, Give, Text, AtFormatColon, at}
+use Rattle.resp_scan.specs.Machine.Heads.{content_at}
 use Rattle.resp_scan.specs.Kinds.{rules_of}
-use Rattle.resp_scan.specs.Begun.{ContentBegun, FormatBegun}
-use Rattle.resp_scan.specs.Follows.{Inside, Leads}
+use Rattle.resp_scan.specs.Machine.Beginnings.{ContentBegun, FormatBegun}
+use Rattle.resp_scan.specs.Machine.Standing.{IsInside, Leads}
 use Rattle.resp_scan.proofs.TokenLaws.{FormatsLead, SecondFormatBytesLead, ThirdFormatBytesLead, ColonsLead}
 use Rattle.resp_scan.proofs.ByteTests.{wanted}
 use Rattle.resp_scan.proofs.ContentLead.{content_lies}
 use Rattle.resp_scan.proofs.Moves.{goes, tells}
 use Rattle.resp_scan.proofs.RefusedMoves.{broken}
-use Rattle.resp_follow.specs.Tokens.{IsContentToken, zeros}
+use Rattle.resp_fronts.specs.Tokens.{IsContentToken, zeros}
 
 -- the next byte of a format, of which so many are to come behind it; any byte is one
-format_byte_goes : (s : Place) (before : List ℕ) (behind left next byte : ℕ) (front : List ℕ) (es : List Event) → byte < 256 → left - 1 ≡ next → Inside (rules_of s) (FormatBegun (rules_of s) (before ++ zeros (suc behind)) before left) s.frames front es → Inside (rules_of s) (FormatBegun (rules_of s) (before ++ byte ∷ zeros behind) (before ++ byte ∷ []) next) s.frames (front ++ byte ∷ []) es
+format_byte_goes : (s : Place) (before : List ℕ) (behind left next byte : ℕ) (front : List ℕ) (es : List Event) → byte < 256 → left - 1 ≡ next → IsInside (rules_of s) (FormatBegun (rules_of s) (before ++ zeros (suc behind)) before left) s.frames front es → IsInside (rules_of s) (FormatBegun (rules_of s) (before ++ byte ∷ zeros behind) (before ++ byte ∷ []) next) s.frames (front ++ byte ∷ []) es
 format_byte_goes s before behind left next byte front es is_byte fewer w =
     let r = rules_of s in
     goes r (FormatBegun r (before ++ zeros (suc behind)) before left) (FormatBegun r (before ++ byte ∷ zeros behind) (before ++ byte ∷ []) next) s.frames front (byte ∷ []) es w

@@ -8,25 +8,25 @@ use Rattle.resp_value.specs.Trees as t
 use Rattle.resp_value.specs.Trees.{Tree, Trees, Form, Counted, Streamed, HasMembers, IsTree, close, count, form_line, kind_byte, node, text, texts}
 use Rattle.resp_value.proofs.FirstBytes.{byte_at_start}
 use Rattle.resp_value.proofs.Unique.{not_close}
-use Rattle.resp_follow.specs.Frames as opened
-use Rattle.resp_follow.specs.Frames.{around, open_text}
-use Rattle.resp_follow.specs.MayFollow.{AreOpen}
-use Rattle.resp_follow.specs.Events as e
-use Rattle.resp_follow.specs.Events.{Timed, all_events, close_event, due, events, events_around, events_each, frame_events, given, last_of, open_event}
-use Rattle.resp_follow.proofs.Composition.{parted, text-node}
-use Rattle.resp_follow.proofs.EventPlaces.{AreWithin, each_within, within_wider}
-use Rattle.resp_follow.proofs.EventsAround.{events_each-joined, length-around, length-open_text}
-use Rattle.resp_follow.proofs.EventsDue.{AreFrom, BegunIn, due-append, due_all, due_none, events_due, front_events}
-use Rattle.resp_follow.proofs.LeastAround.{text_least}
-use Rattle.resp_follow.proofs.OpenFrames.{count-joined_trees, is_node, joined_trees}
+use Rattle.resp_fronts.specs.Frames as opened
+use Rattle.resp_fronts.specs.Frames.{text_around, open_text}
+use Rattle.resp_fronts.specs.MayFollow.{AreOpen}
+use Rattle.resp_fronts.specs.Events as e
+use Rattle.resp_fronts.specs.Events.{Timed, all_events, close_event, events_due, events, events_around, events_each, frame_events, without_places, last_of, open_event}
+use Rattle.resp_fronts.proofs.Composition.{parted, text-node}
+use Rattle.resp_fronts.proofs.EventPlaces.{AreWithin, each_within, within_wider}
+use Rattle.resp_fronts.proofs.EventsAround.{events_each-joined, length-around, length-open_text}
+use Rattle.resp_fronts.proofs.EventsDue.{AreFrom, BegunIn, due-append, due_all, due_around, due_none, front_events}
+use Rattle.resp_fronts.proofs.LeastAround.{text_least}
+use Rattle.resp_fronts.proofs.OpenFrames.{count-joined_trees, is_node, joined_trees}
 use Rattle.resp_scan.proofs.Moves.{given-append}
 
 -- Done comes at the last byte
-pub done_later : (n : ℕ) (whole : Tree) → n < length (text whole) → due n (all_events whole) ≡ due n (events 0 whole)
+pub done_later : (n : ℕ) (whole : Tree) → n < length (text whole) → events_due n (all_events whole) ≡ events_due n (events 0 whole)
 done_later n whole before =
     due-append n (events 0 whole) (record { at = last_of 0 (text whole); event = e.Done } ∷ [])
-    ∙ ap (λ z. due n (events 0 whole) ++ z) (due_none n (record { at = last_of 0 (text whole); event = e.Done } ∷ []) (omega arith, tt))
-    ∙ append-nil (due n (events 0 whole))
+    ∙ ap (λ z. events_due n (events 0 whole) ++ z) (due_none n (record { at = last_of 0 (text whole); event = e.Done } ∷ []) (omega arith, tt))
+    ∙ append-nil (events_due n (events 0 whole))
 
 -- events at a byte or behind it, from a place before
 pub from_later : (low n : ℕ) (es : List Timed) → n ≤ low → AreFrom low es → AreFrom n es
@@ -44,12 +44,12 @@ from-append n [] b p q = q
 from-append n (x ∷ a) b p q = (p.0, from-append n a b p.1 q)
 
 -- of a value that is begun and unfinished
-pub due_in : (gs : List opened.Frame) (begun rest : List ℕ) (whole : Tree) (b : BegunIn gs begun rest whole) → length begun < length (text b.value) → text whole ≡ around gs begun ++ rest → due (length (around gs begun)) (all_events whole) ≡ given (events_around gs) ++ due (length (around gs []) + length begun) (events (length (around gs [])) b.value)
+pub due_in : (gs : List opened.Frame) (begun rest : List ℕ) (whole : Tree) (b : BegunIn gs begun rest whole) → length begun < length (text b.value) → text whole ≡ text_around gs begun ++ rest → events_due (length (text_around gs begun)) (all_events whole) ≡ without_places (events_around gs) ++ events_due (length (text_around gs []) + length begun) (events (length (text_around gs [])) b.value)
 due_in gs begun rest whole b unfinished spelled =
-    let place : length (around gs begun) ≡ length (around gs []) + length begun = length-around gs begun in
-    done_later (length (around gs begun)) whole (omega (arith, ap length spelled, length-append (around gs begun) rest, ap length b.begins, length-append (text b.value) b.behind, length-append begun rest))
-    ∙ events_due gs begun b.value whole b.all unfinished
-    ∙ ap (λ n. given (events_around gs) ++ due n (events (length (around gs [])) b.value)) place
+    let place : length (text_around gs begun) ≡ length (text_around gs []) + length begun = length-around gs begun in
+    done_later (length (text_around gs begun)) whole (omega (arith, ap length spelled, length-append (text_around gs begun) rest, ap length b.begins, length-append (text b.value) b.behind, length-append begun rest))
+    ∙ due_around gs begun b.value whole b.all unfinished
+    ∙ ap (λ n. without_places (events_around gs) ++ events_due n (events (length (text_around gs [])) b.value)) place
 
 kind_no_stop : (k : Kind) (x : List ℕ) → byte_at_start (kind_byte k ∷ x) ≡ 46 → ⊥
 kind_no_stop d.Array x i = omega arith
@@ -88,7 +88,7 @@ unfinished_by last t.none Streamed behind rest short stop some same = omega (ari
 unfinished_by last (t.more u us) form behind rest short stop some same = omega (arith, short, text_least u, length-append (text u) (texts us))
 
 -- of an aggregate of which a frame has the first members those of the frame are due, and none of the later ones
-node_due : (g : opened.Frame) (us : Trees) (start n : ℕ) → start + length (open_text g) ≤ n → n < start + length (text (node g.kind g.form (joined_trees g.done us))) → AreFrom n (events_each (start + length (open_text g)) us) → due n (events start (node g.kind g.form (joined_trees g.done us))) ≡ given (frame_events start g)
+node_due : (g : opened.Frame) (us : Trees) (start n : ℕ) → start + length (open_text g) ≤ n → n < start + length (text (node g.kind g.form (joined_trees g.done us))) → AreFrom n (events_each (start + length (open_text g)) us) → events_due n (events start (node g.kind g.form (joined_trees g.done us))) ≡ without_places (frame_events start g)
 node_due g us start n after before later =
     let at = start + length (form_line g.form) + 3 in
     let next = start + length (open_text g) in
@@ -98,17 +98,17 @@ node_due g us start n after before later =
     let split : events start v ≡ frame_events start g ++ (events_each next us ++ end) =
     ap (λ z. open_event start g.kind g.form ∷ (z ++ end)) (events_each-joined at g.done us ∙ ap (λ m. events_each at g.done ++ events_each m us) here) ∙ ap (λ z. open_event start g.kind g.form ∷ z) (append_assoc (events_each at g.done) (events_each next us) end) in
     let within : AreWithin start n (frame_events start g) = ((omega arith, omega (arith, here)), within_wider at (at + length (texts g.done)) start n (events_each at g.done) (omega arith) (omega (arith, here)) (each_within at g.done)) in
-    ap (due n) split
+    ap (events_due n) split
     ∙ due-append n (frame_events start g) (events_each next us ++ end)
-    ∙ ap (λ z. z ++ due n (events_each next us ++ end)) (due_all start n (frame_events start g) within)
-    ∙ ap (λ z. given (frame_events start g) ++ z) (due_none n (events_each next us ++ end) (from-append n (events_each next us) end later (omega arith, tt)))
-    ∙ append-nil (given (frame_events start g))
+    ∙ ap (λ z. z ++ events_due n (events_each next us ++ end)) (due_all start n (frame_events start g) within)
+    ∙ ap (λ z. without_places (frame_events start g) ++ z) (due_none n (events_each next us ++ end) (from-append n (events_each next us) end later (omega arith, tt)))
+    ∙ append-nil (without_places (frame_events start g))
 
 -- what the frames have taken
-pub frames_due : (g : opened.Frame) (gs : List opened.Frame) (last rest : List ℕ) (whole : Tree) → AreOpen (g ∷ gs) → length last < 3 → IsStop last → IsTree whole → text whole ≡ around (g ∷ gs) last ++ rest → due (length (around (g ∷ gs) last)) (all_events whole) ≡ given (events_around (g ∷ gs))
+pub frames_due : (g : opened.Frame) (gs : List opened.Frame) (last rest : List ℕ) (whole : Tree) → AreOpen (g ∷ gs) → length last < 3 → IsStop last → IsTree whole → text whole ≡ text_around (g ∷ gs) last ++ rest → events_due (length (text_around (g ∷ gs) last)) (all_events whole) ≡ without_places (events_around (g ∷ gs))
 frames_due g gs last rest whole o short stop is_tree spelled =
     let begun = open_text g ++ last in
-    let start = length (around gs []) in
+    let start = length (text_around gs []) in
     let b = front_events gs begun rest whole o.4 (kind_no_stop g.kind (((form_line g.form ++ crlf (texts g.done)) ++ last) ++ rest)) is_tree spelled in
     let head = kind_byte g.kind ∷ form_line g.form in
     let parts : text b.value ++ b.behind ≡ head ++ crlf (texts g.done ++ (last ++ rest)) = b.begins ∙ append_assoc (open_text g) last rest ∙ append_assoc head (crlf (texts g.done)) (last ++ rest) in
@@ -124,5 +124,5 @@ frames_due g gs last rest whole o short stop is_tree spelled =
     let short_of : length begun < length (text v) = omega (arith, size, unfinished_by last us g.form b.behind rest short stop some left, length-append (open_text g) last, length-append (open_text g) (texts us ++ close g.form), length-append (texts us) (close g.form)) in
     let place : start + length begun ≡ start + length (open_text g) + length last = omega (arith, length-append (open_text g) last) in
     due_in gs begun rest whole b (omega (arith, size_of, short_of)) spelled
-    ∙ ap (λ z. given (events_around gs) ++ z) (ap (λ z. due (start + length begun) (events start z)) value ∙ node_due g us start (start + length begun) (omega (arith, place)) (omega (arith, short_of)) (later_members (start + length begun) (start + length (open_text g)) last us g.form b.behind rest place stop left))
+    ∙ ap (λ z. without_places (events_around gs) ++ z) (ap (λ z. events_due (start + length begun) (events start z)) value ∙ node_due g us start (start + length begun) (omega (arith, place)) (omega (arith, short_of)) (later_members (start + length begun) (start + length (open_text g)) last us g.form b.behind rest place stop left))
     ∙ sym (given-append (events_around gs) (frame_events start g))

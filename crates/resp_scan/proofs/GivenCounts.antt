@@ -1,16 +1,16 @@
 -- What was given where a place lies: it leaves the frames open, and is no more than the bytes taken.
 use Rattle.std.proofs.Common.{◌≡◌, ℕ, ◌≤◌, List, [], ◌∷◌, ◌++◌, length, refl, sym, ap, subst, ◌∙◌, arith, append-nil, length-append, suc}
 use Rattle.resp_value.specs.Rules.{Rules}
-use Rattle.resp_follow.specs.Events.{Event, events_around, given}
-use Rattle.resp_follow.specs.Frames as opened
-use Rattle.resp_follow.specs.Frames.{around}
-use Rattle.resp_follow.proofs.LevelsAlone.{same_length}
-use Rattle.resp_follow.proofs.EventsAround.{length-around}
+use Rattle.resp_fronts.specs.Events.{Event, events_around, without_places}
+use Rattle.resp_fronts.specs.Frames as opened
+use Rattle.resp_fronts.specs.Frames.{text_around}
+use Rattle.resp_fronts.proofs.LevelsAlone.{same_length}
+use Rattle.resp_fronts.proofs.EventsAround.{length-around}
 use Rattle.resp_scan.specs.declared.frame.Frame.{Frame}
-use Rattle.resp_scan.specs.Tokens.{Token, AtStart, AtEnd, AtCloseCr, AtCloseLf}
+use Rattle.resp_scan.specs.Machine.Tokens.{Token, AtStart, AtEnd, AtCloseCr, AtCloseLf}
 use Rattle.resp_scan.specs.Kinds.{rules_of}
-use Rattle.resp_scan.specs.Begun as b
-use Rattle.resp_scan.specs.Follows.{Between, Closing, ClosingIn, Ended, Inside, LiesAt, busy_levels, waiting_levels}
+use Rattle.resp_scan.specs.Machine.Beginnings as b
+use Rattle.resp_scan.specs.Machine.Standing.{AwaitsMember, IsClosing, IsClosingIn, HasEnded, IsInside, StandsAfterAt, busy_levels, waiting_levels}
 use Rattle.resp_scan.proofs.TokenLaws.{OpensAreFrames, EventsAreFew}
 use Rattle.resp_scan.proofs.FewEvents.{frames_few, tree_few}
 use Rattle.resp_scan.proofs.Moves.{at_level, length-busy}
@@ -22,38 +22,38 @@ abbrev AreGiven : List Frame → List ℕ → List Event → Type 0
 AreGiven fs front es = LeaveOpen (length fs) es × (length es ≤ length front)
 
 -- the events of frames
-around_given : (fs : List Frame) (frames : List opened.Frame) (bytes front : List ℕ) (shown es : List Event) → length frames ≡ length fs → IsShown bytes shown → front ≡ around frames bytes → es ≡ given (events_around frames) ++ shown → AreGiven fs front es
+around_given : (fs : List Frame) (frames : List opened.Frame) (bytes front : List ℕ) (shown es : List Event) → length frames ≡ length fs → IsShown bytes shown → front ≡ text_around frames bytes → es ≡ without_places (events_around frames) ++ shown → AreGiven fs front es
 around_given fs frames bytes front shown es same w whole told = (
-  subst (LeaveOpen (length fs)) (sym told) (subst (λ n. LeaveOpen n (given (events_around frames) ++ shown)) (omega (arith, same)) (open-append (length frames) 0 (given (events_around frames)) shown (frames_open frames) w.none_open)),
-  omega (arith, ap length told, length-append (given (events_around frames)) shown, frames_few frames, w.few, ap length whole, length-around frames bytes),
+  subst (LeaveOpen (length fs)) (sym told) (subst (λ n. LeaveOpen n (without_places (events_around frames) ++ shown)) (omega (arith, same)) (open-append (length frames) 0 (without_places (events_around frames)) shown (frames_open frames) w.none_open)),
+  omega (arith, ap length told, length-append (without_places (events_around frames)) shown, frames_few frames, w.few, ap length whole, length-around frames bytes),
 )
 
-inside_given : (r : Rules) (token : Token) (fs : List Frame) (front : List ℕ) (es : List Event) → Inside r (b.Begun r token) fs front es → AreGiven fs front es
+inside_given : (r : Rules) (token : Token) (fs : List Frame) (front : List ℕ) (es : List Event) → IsInside r (b.TokenHas r token) fs front es → AreGiven fs front es
 inside_given r token fs front es w = around_given fs w.frames w.bytes front w.shown es (at_level w) (is_shown token r (length w.frames) w.bytes w.shown w.took) w.whole w.told
 
 -- the events of frames alone, of bytes that are theirs, or more
-frames_given : (fs : List Frame) (frames : List opened.Frame) (bytes front : List ℕ) (es : List Event) → length frames ≡ length fs → front ≡ around frames bytes → es ≡ given (events_around frames) → AreGiven fs front es
-frames_given fs frames bytes front es same whole told = around_given fs frames bytes front [] es same (record { none_open = refl; few = omega arith }) whole (told ∙ sym (append-nil (given (events_around frames))))
+frames_given : (fs : List Frame) (frames : List opened.Frame) (bytes front : List ℕ) (es : List Event) → length frames ≡ length fs → front ≡ text_around frames bytes → es ≡ without_places (events_around frames) → AreGiven fs front es
+frames_given fs frames bytes front es same whole told = around_given fs frames bytes front [] es same (record { none_open = refl; few = omega arith }) whole (told ∙ sym (append-nil (without_places (events_around frames))))
 
 length-waiting : (fs : List Frame) → length (waiting_levels fs) ≡ length fs
 length-waiting [] = refl
 length-waiting (f ∷ fs) = ap suc (length-busy fs)
 
-between_given : (r : Rules) (fs : List Frame) (front : List ℕ) (es : List Event) → Between r fs front es → AreGiven fs front es
+between_given : (r : Rules) (fs : List Frame) (front : List ℕ) (es : List Event) → AwaitsMember r fs front es → AreGiven fs front es
 between_given r fs front es w = frames_given fs w.frames [] front es (sym (same_length (waiting_levels fs) w.frames w.of_levels) ∙ length-waiting fs) w.whole w.told
 
-closing_given : (r : Rules) (f : Frame) (fs : List Frame) (last rest front : List ℕ) (es : List Event) → Closing r f.kind fs last rest front es → AreGiven (f ∷ fs) front es
+closing_given : (r : Rules) (f : Frame) (fs : List Frame) (last rest front : List ℕ) (es : List Event) → IsClosing r f.kind fs last rest front es → AreGiven (f ∷ fs) front es
 closing_given r f fs last rest front es w = frames_given (f ∷ fs) (w.frame ∷ w.outer) last front es (ap suc (sym (same_length (busy_levels fs) w.outer w.of_levels) ∙ length-busy fs)) w.whole w.told
 
-closing_in_given : (r : Rules) (fs : List Frame) (last rest front : List ℕ) (es : List Event) → ClosingIn r fs last rest front es → AreGiven fs front es
+closing_in_given : (r : Rules) (fs : List Frame) (last rest front : List ℕ) (es : List Event) → IsClosingIn r fs last rest front es → AreGiven fs front es
 closing_in_given r [] last rest front es w = absurd w
 closing_in_given r (f ∷ fs) last rest front es w = closing_given r f fs last rest front es w
 
-ended_given : (r : Rules) (fs : List Frame) (front : List ℕ) (es : List Event) → Ended r fs front es → AreGiven fs front es
+ended_given : (r : Rules) (fs : List Frame) (front : List ℕ) (es : List Event) → HasEnded r fs front es → AreGiven fs front es
 ended_given r [] front es w = (subst (LeaveOpen 0) (sym w.told) (tree_opens 0 w.tree), omega (arith, tree_few 0 w.tree, ap length w.told, ap length w.whole))
 ended_given r (f ∷ fs) front es w = closing_given r f fs [] [] front es w
 
-are_given : (r : Rules) (token : Token) (fs : List Frame) (front : List ℕ) (es : List Event) → LiesAt r token fs front es → AreGiven fs front es
+are_given : (r : Rules) (token : Token) (fs : List Frame) (front : List ℕ) (es : List Event) → StandsAfterAt r token fs front es → AreGiven fs front es
 are_given r AtStart fs front es w = between_given r fs front es w
 are_given r AtEnd fs front es w = ended_given r fs front es w
 are_given r AtCloseCr fs front es w = closing_in_given r fs (46 ∷ []) (13 ∷ 10 ∷ []) front es w

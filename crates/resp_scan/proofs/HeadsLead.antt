@@ -11,34 +11,35 @@ use Rattle.resp_value.specs.LocalRules.{IsNoPushBelow, LeafKeeps, NodeKeeps, Nod
 use Rattle.resp_value.specs.declared.cause.Cause.TheVariants as cause
 use Rattle.resp_value.specs.declared.version.Version.{Version}
 use Rattle.resp_value.specs.declared.version.Version.TheVariants as version
-use Rattle.resp_follow.specs.Events.{Event}
-use Rattle.resp_follow.specs.Events as e
-use Rattle.resp_follow.specs.LeastCompletions.{HasLeast}
-use Rattle.resp_follow.specs.MayFollow.{missing}
-use Rattle.resp_follow.proofs.BegunFronts.{IsBegunBy}
-use Rattle.resp_follow.proofs.BegunTypeBytes.{aggregate_begun, attribute_begun, star_begun, star_deep_begun}
-use Rattle.resp_follow.proofs.BrokenHeads.{IsNoCount, count_begun_broken, count_short, no_mark}
-use Rattle.resp_follow.proofs.BrokenLines.{behind_return_broken, byte_broken, return_broken, streamed_broken}
-use Rattle.resp_follow.proofs.CountRows.{CompletesUnder, IsRefusedHere, byte_line}
-use Rattle.resp_follow.proofs.KeptNodes.{at_each_rule, node_keeps}
-use Rattle.resp_follow.proofs.RefusedBytes.{array_too_deep}
-use Rattle.resp_follow.proofs.ShortRows.{next_row}
-use Rattle.resp_follow.proofs.StreamedHeads.{streamed_array_in_two, streamed_begun, streamed_off, streamed_too_deep}
-use Rattle.resp_scan.specs.declared.event.OpenKind.{OpenKind}
-use Rattle.resp_scan.specs.declared.event.OpenKind.TheVariants as kind
+use Rattle.resp_fronts.specs.Events.{Event}
+use Rattle.resp_fronts.specs.Events as e
+use Rattle.resp_fronts.specs.LeastCompletions.{HasLeast}
+use Rattle.resp_fronts.specs.MayFollow.{members_missing}
+use Rattle.resp_fronts.proofs.BegunFronts.{IsBegunBy}
+use Rattle.resp_fronts.proofs.BegunTypeBytes.{aggregate_begun, attribute_begun, star_begun, star_deep_begun}
+use Rattle.resp_fronts.proofs.BrokenHeads.{IsNoCount, count_begun_broken, count_short, no_mark}
+use Rattle.resp_fronts.proofs.BrokenLines.{behind_return_broken, byte_broken, return_broken, streamed_broken}
+use Rattle.resp_fronts.proofs.CountRows.{CompletesUnder, IsRefusedHere, byte_line}
+use Rattle.resp_fronts.proofs.KeptNodes.{at_each_rule, node_keeps}
+use Rattle.resp_fronts.proofs.RefusedBytes.{array_too_deep}
+use Rattle.resp_fronts.proofs.ShortRows.{next_row}
+use Rattle.resp_fronts.proofs.StreamedHeads.{streamed_array_in_two, streamed_begun, streamed_off, streamed_too_deep}
+use Rattle.resp_value.specs.declared.kind.OpenKind.{OpenKind}
+use Rattle.resp_value.specs.declared.kind.OpenKind.TheVariants as kind
 use Rattle.resp_scan.specs.declared.frame.Shape.TheVariants.{Begun}
 use Rattle.resp_scan.specs.declared.machine.Head.TheVariants as head
-use Rattle.resp_scan.specs.Tokens as k
+use Rattle.resp_scan.specs.Machine.Tokens as k
 use Rattle.resp_scan.specs.declared.machine.Head.{Head}
-use Rattle.resp_scan.specs.Tokens.{Give, Go, Move, Place, Refuse, Token, AtArrayHead, AtHead, AtNullOne, AtOpenCr, AtOpenLf, InHead, at}
-use Rattle.resp_scan.specs.Heads as h
-use Rattle.resp_scan.specs.Heads.{aggregate_cause, by_version}
-use Rattle.resp_scan.specs.Room.{is_full, over_total}
-use Rattle.resp_scan.specs.Machine.{full_cause, full_streamed, head_first, is_digit, unless}
-use Rattle.resp_scan.specs.Kinds.{kind_of, rules_of}
-use Rattle.resp_scan.specs.Begun as b
-use Rattle.resp_scan.specs.Begun.{AggregateBegun, CountBegun, StreamBegun}
-use Rattle.resp_scan.specs.Follows.{Counts, Inside, Leads, Lies}
+use Rattle.resp_scan.specs.Machine.Tokens.{Give, Go, Move, Place, Refuse, Token, AtArrayHead, AtHead, AtNullOne, AtOpenCr, AtOpenLf, InHead, at}
+use Rattle.resp_scan.specs.Machine.Heads as h
+use Rattle.resp_scan.specs.Machine.Heads.{aggregate_cause, cause_in_three}
+use Rattle.resp_scan.specs.Machine.Room.{is_full, over_total}
+use Rattle.resp_scan.specs.Machine.Moves.{full_cause, full_streamed, head_first, is_digit, move_unless}
+use Rattle.resp_value.specs.Kinds.{kind_of}
+use Rattle.resp_scan.specs.Kinds.{rules_of}
+use Rattle.resp_scan.specs.Machine.Beginnings as b
+use Rattle.resp_scan.specs.Machine.Beginnings.{AggregateBegun, CountBegun, StreamBegun}
+use Rattle.resp_scan.specs.Machine.Standing.{HasCountsOf, IsInside, Leads, StandsAfter}
 use Rattle.resp_scan.proofs.TokenLaws.{ArrayHeadLeads, HeadsLead, OpenCrLeads, OpenEndLeads}
 use Rattle.resp_scan.proofs.CountsLead.{count_digit, count_row, items_of-members_of}
 use Rattle.resp_scan.proofs.Moves.{at_level, goes}
@@ -88,11 +89,11 @@ mark_dead r k level byte bytes rest is no_stream are c =
     byte_broken (LeafKeeps r Grammar) (NodeKeeps r Grammar) level (kind_byte k ∷ []) rest 63 (byte_line k) (λ z. omega arith) (no_mark k no_stream) (subst (λ z. CompletesUnder r Grammar level (kind_byte k ∷ []) (z ∷ rest)) is (subst (λ z. CompletesUnder r Grammar level z (byte ∷ rest)) are c))
 
 -- a digit there
-first_digit_leads : (s : Place) (T : ℕ → List ℕ → List Event → Type 0) (k : Kind) (needed used byte : ℕ) (token : Token) (front : List ℕ) (es : List Event) → 3 * members_of k (byte - 48) + 2 ≡ needed → IsDigit byte → Counts s used front → Inside (rules_of s) T s.frames front es → ((level : ℕ) (bytes : List ℕ) (shown : List Event) → level ≡ length s.frames → T level bytes shown → MayCount (rules_of s) k level bytes shown) → (Inside (rules_of s) (CountBegun (rules_of s) k (byte - 48)) s.frames (front ++ byte ∷ []) es → Lies (at s token) (front ++ byte ∷ []) es) → Leads s front es byte (count_digit s (used + 1) (byte - 48) needed token)
+first_digit_leads : (s : Place) (T : ℕ → List ℕ → List Event → Type 0) (k : Kind) (needed used byte : ℕ) (token : Token) (front : List ℕ) (es : List Event) → 3 * members_of k (byte - 48) + 2 ≡ needed → IsDigit byte → HasCountsOf s used front → IsInside (rules_of s) T s.frames front es → ((level : ℕ) (bytes : List ℕ) (shown : List Event) → level ≡ length s.frames → T level bytes shown → MayCount (rules_of s) k level bytes shown) → (IsInside (rules_of s) (CountBegun (rules_of s) k (byte - 48)) s.frames (front ++ byte ∷ []) es → StandsAfter (at s token) (front ++ byte ∷ []) es) → Leads s front es byte (count_digit s (used + 1) (byte - 48) needed token)
 first_digit_leads s T k needed used byte token front es e digit c w may lies =
     let r = rules_of s in
     let roomy : 16 ≤ s.bounds.items = c.sound.bounds.items_in_range.0 in
-    if_below s.bounds.items (byte - 48) (λ x. Leads s front es byte (unless (cond x (Some cause.Items) (over_total s (used + 1) needed)) (Go (at s token))))
+    if_below s.bounds.items (byte - 48) (λ x. Leads s front es byte (move_unless (cond x (Some cause.Items) (over_total s (used + 1) needed)) (Go (at s token))))
     (λ past. absurd (omega (arith, past, roomy, digit.1)))
     (λ fits.
     let more = goes r T (CountBegun r k (byte - 48)) s.frames front (byte ∷ []) es w (λ level bytes shown i t. count_begins r k byte level bytes shown roomy digit (may level bytes shown i t)) in
@@ -112,17 +113,17 @@ pub no_two_in_three : (v : Version) → v ≡ version.Three → v ≡ version.Tw
 no_two_in_three v three two = let e : version.Three ≡ version.Two = sym three ∙ two in cc
 
 -- `?` where an aggregate may be streamed, which version 2 refuses for an array
-mark_leads : (s : Place) (T : ℕ → List ℕ → List Event → Type 0) (o : OpenKind) (used byte : ℕ) (front : List ℕ) (es : List Event) → byte ≡ 63 → CanStream (kind_of o) 0 → Counts s used front → Inside (rules_of s) T s.frames front es → ((level : ℕ) (bytes : List ℕ) (shown : List Event) → level ≡ length s.frames → T level bytes shown → MayCount (rules_of s) (kind_of o) level bytes shown) → ((level : ℕ) → level ≡ length s.frames → s.version ≡ version.Two → IsRefusedHere (rules_of s) InVersion NoDouble level (kind_byte (kind_of o) ∷ 63 ∷ [])) → length s.frames < s.bounds.depth → Leads s front es byte (unless (aggregate_cause s (used + 1)) (Go (at s (AtOpenCr o))))
+mark_leads : (s : Place) (T : ℕ → List ℕ → List Event → Type 0) (o : OpenKind) (used byte : ℕ) (front : List ℕ) (es : List Event) → byte ≡ 63 → CanStream (kind_of o) 0 → HasCountsOf s used front → IsInside (rules_of s) T s.frames front es → ((level : ℕ) (bytes : List ℕ) (shown : List Event) → level ≡ length s.frames → T level bytes shown → MayCount (rules_of s) (kind_of o) level bytes shown) → ((level : ℕ) → level ≡ length s.frames → s.version ≡ version.Two → IsRefusedHere (rules_of s) InVersion NoDouble level (kind_byte (kind_of o) ∷ 63 ∷ [])) → length s.frames < s.bounds.depth → Leads s front es byte (move_unless (aggregate_cause s (used + 1)) (Go (at s (AtOpenCr o))))
 mark_leads s T o used byte front es is can c w may in_two below = by_cases s.version refl s.bounds.streamed refl
   where
     two_bytes : (level : ℕ) (bytes : List ℕ) (shown : List Event) → MayCount (rules_of s) (kind_of o) level bytes shown → bytes ++ byte ∷ [] ≡ kind_byte (kind_of o) ∷ 63 ∷ []
     two_bytes level bytes shown t = ap (λ z. z ++ byte ∷ []) t.are ∙ ap (λ z. kind_byte (kind_of o) ∷ z ∷ []) is
 
-    by_cases : (v : Version) → s.version ≡ v → (on : Bool) → s.bounds.streamed ≡ on → Leads s front es byte (unless (by_version v (cond on (cond (is_full s) (Some cause.Depth) (over_total s (used + 1) 5)) (Some cause.Streamed))) (Go (at s (AtOpenCr o))))
+    by_cases : (v : Version) → s.version ≡ v → (on : Bool) → s.bounds.streamed ≡ on → Leads s front es byte (move_unless (cause_in_three v (cond on (cond (is_full s) (Some cause.Depth) (over_total s (used + 1) 5)) (Some cause.Streamed))) (Go (at s (AtOpenCr o))))
     by_cases version.Two two on e = refused (rules_of s) T InVersion NoDouble s.frames front (byte ∷ []) es refl (omega arith) w (λ level bytes shown i t. (_, _, two_bytes level bytes shown (may level bytes shown i t), in_two level i two))
     by_cases version.Three three false off = refused (rules_of s) T NotStreamed InRange s.frames front (byte ∷ []) es refl (omega arith) w (λ level bytes shown i t. (_, _, two_bytes level bytes shown (may level bytes shown i t), streamed_off (rules_of s) (kind_of o) level (no_two_in_three s.version three) off can (may level bytes shown i t).no_push))
     by_cases version.Three three true on =
-        if_within s.bounds.depth (length s.frames) (λ x. Leads s front es byte (unless (cond x (Some cause.Depth) (over_total s (used + 1) 5)) (Go (at s (AtOpenCr o)))))
+        if_within s.bounds.depth (length s.frames) (λ x. Leads s front es byte (move_unless (cond x (Some cause.Depth) (over_total s (used + 1) 5)) (Go (at s (AtOpenCr o)))))
         (λ full. absurd (omega (arith, full, below)))
         (λ open_here.
         let more = goes (rules_of s) T (StreamBegun (rules_of s) (kind_of o) []) s.frames front (byte ∷ []) es w (λ level bytes shown i t. mark_more (rules_of s) (kind_of o) level byte bytes shown is (no_two_in_three s.version three) (λ off. let e : true ≡ false = sym on ∙ off in cc) can (may level bytes shown i t)) in
@@ -133,7 +134,7 @@ pub aggregate_row : (r : Rules) (k : Kind) (level : ℕ) (bytes : List ℕ) (sho
 aggregate_row r k level bytes shown none_yet w = subst (λ z. IsBegunBy r level z 3) (sym w.are) (aggregate_begun r k level w.no_two w.no_push w.below none_yet)
 
 -- behind a type byte a digit, or the mark of streamed ones
-head_leads : (s : Place) (T : ℕ → List ℕ → List Event → Type 0) (h : Head) (k : Kind) (least needed used byte : ℕ) (marked : Move) (front : List ℕ) (es : List Event) → 3 * members_of k (byte - 48) + 2 ≡ needed → Counts s used front → Inside (rules_of s) T s.frames front es → ((level : ℕ) (bytes : List ℕ) (shown : List Event) → level ≡ length s.frames → T level bytes shown → MayCount (rules_of s) k level bytes shown × IsBegunBy (rules_of s) level bytes least) → ((level : ℕ) (bytes : List ℕ) (shown : List Event) → T level bytes shown → bytes ≡ kind_byte k ∷ []) → (byte ≡ 63 → Leads s front es byte marked) → ((byte ≡ 63 → ⊥) → (IsDigit byte → ⊥) → IsNoCount k byte) → (Inside (rules_of s) (CountBegun (rules_of s) k (byte - 48)) s.frames (front ++ byte ∷ []) es → Lies (at s (InHead h (byte - 48))) (front ++ byte ∷ []) es) → Leads s front es byte (cond (eqb byte 63) marked (cond (is_digit byte) (count_digit s (used + 1) (byte - 48) needed (InHead h (byte - 48))) (Refuse cause.Syntax)))
+head_leads : (s : Place) (T : ℕ → List ℕ → List Event → Type 0) (h : Head) (k : Kind) (least needed used byte : ℕ) (marked : Move) (front : List ℕ) (es : List Event) → 3 * members_of k (byte - 48) + 2 ≡ needed → HasCountsOf s used front → IsInside (rules_of s) T s.frames front es → ((level : ℕ) (bytes : List ℕ) (shown : List Event) → level ≡ length s.frames → T level bytes shown → MayCount (rules_of s) k level bytes shown × IsBegunBy (rules_of s) level bytes least) → ((level : ℕ) (bytes : List ℕ) (shown : List Event) → T level bytes shown → bytes ≡ kind_byte k ∷ []) → (byte ≡ 63 → Leads s front es byte marked) → ((byte ≡ 63 → ⊥) → (IsDigit byte → ⊥) → IsNoCount k byte) → (IsInside (rules_of s) (CountBegun (rules_of s) k (byte - 48)) s.frames (front ++ byte ∷ []) es → StandsAfter (at s (InHead h (byte - 48))) (front ++ byte ∷ []) es) → Leads s front es byte (cond (eqb byte 63) marked (cond (is_digit byte) (count_digit s (used + 1) (byte - 48) needed (InHead h (byte - 48))) (Refuse cause.Syntax)))
 head_leads s T h k least needed used byte marked front es e c w may are mark no_count lies =
     by_byte s front es 63 byte _ _ mark
     (λ no_mark_here. by_digit s front es byte _ _
@@ -142,14 +143,14 @@ head_leads s T h k least needed used byte marked front es e c w may are mark no_
     (λ level bytes rest shown t dead. head_dead (rules_of s) k level byte bytes rest (no_count no_mark_here no_digit) (are level bytes shown t) dead)))
 
 -- `?` where version 3 may have a streamed aggregate
-stream_leads : (s : Place) (o : OpenKind) (used byte : ℕ) (front : List ℕ) (es : List Event) → CanStream (kind_of o) 0 → Counts s used front → Inside (rules_of s) (AggregateBegun (rules_of s) (kind_of o)) s.frames front es → byte ≡ 63 → Leads s front es byte (unless (aggregate_cause s (used + 1)) (Go (at s (AtOpenCr o))))
+stream_leads : (s : Place) (o : OpenKind) (used byte : ℕ) (front : List ℕ) (es : List Event) → CanStream (kind_of o) 0 → HasCountsOf s used front → IsInside (rules_of s) (AggregateBegun (rules_of s) (kind_of o)) s.frames front es → byte ≡ 63 → Leads s front es byte (move_unless (aggregate_cause s (used + 1)) (Go (at s (AtOpenCr o))))
 stream_leads s o used byte front es can c w is =
     let level : length w.frames ≡ length s.frames = at_level w in
     let below : length w.frames < s.bounds.depth = w.took.below in
     mark_leads s (AggregateBegun (rules_of s) (kind_of o)) o used byte front es is can c w (λ level bytes shown i t. of_three (rules_of s) (kind_of o) level bytes shown t) (λ level i two. absurd (w.took.no_two two)) (omega arith)
 
 -- `?` where no aggregate may be streamed
-no_stream_leads : (s : Place) (k : Kind) (least byte : ℕ) (front : List ℕ) (es : List Event) → ((n : ℕ) → CanStream k n → ⊥) → Inside (rules_of s) (AggregateBegun (rules_of s) k) s.frames front es → ((level : ℕ) (bytes : List ℕ) (shown : List Event) → AggregateBegun (rules_of s) k level bytes shown → IsBegunBy (rules_of s) level bytes least) → byte ≡ 63 → Leads s front es byte (Refuse cause.Syntax)
+no_stream_leads : (s : Place) (k : Kind) (least byte : ℕ) (front : List ℕ) (es : List Event) → ((n : ℕ) → CanStream k n → ⊥) → IsInside (rules_of s) (AggregateBegun (rules_of s) k) s.frames front es → ((level : ℕ) (bytes : List ℕ) (shown : List Event) → AggregateBegun (rules_of s) k level bytes shown → IsBegunBy (rules_of s) level bytes least) → byte ≡ 63 → Leads s front es byte (Refuse cause.Syntax)
 no_stream_leads s k least byte front es no_stream w row is =
     broken (rules_of s) (AggregateBegun (rules_of s) k) s.frames front es least byte w (λ level bytes shown i t. row level bytes shown t) (λ level bytes rest shown t dead. mark_dead (rules_of s) k level byte bytes rest is no_stream t.are dead)
 
@@ -179,27 +180,27 @@ heads_lead s head.Push h used byte front es is_byte c w =
 
 -- Arrays, which version 2 has too, and whose depth is tested behind `*`.
 
-null_begins : (s : Place) (used byte : ℕ) (front : List ℕ) (es : List Event) → byte ≡ 45 → Counts (at s AtArrayHead) used front → Lies (at s AtArrayHead) front es → Leads (at s AtArrayHead) front es byte (unless (over_total (at s AtArrayHead) (used + 1) 3) (Go (at s AtNullOne)))
+null_begins : (s : Place) (used byte : ℕ) (front : List ℕ) (es : List Event) → byte ≡ 45 → HasCountsOf (at s AtArrayHead) used front → StandsAfter (at s AtArrayHead) front es → Leads (at s AtArrayHead) front es byte (move_unless (over_total (at s AtArrayHead) (used + 1) 3) (Go (at s AtNullOne)))
 null_begins s used byte front es is c w =
     let r = rules_of s in
     let p = at s AtArrayHead in
-    let more = goes r (b.Begun r AtArrayHead) (b.Begun r AtNullOne) s.frames front (byte ∷ []) es w (λ level bytes shown i t. (inr (ap (λ z. z ++ byte ∷ []) t.0 ∙ ap (λ z. 42 ∷ z ∷ []) is), t.1)) in
-    let star : (level : ℕ) (bytes : List ℕ) (shown : List Event) → b.Begun r AtNullOne level bytes shown → IsBegunBy r level bytes 3 = λ level bytes shown t. null_first_row r level bytes t.0 in
-    unless_over p front es used byte 3 (Go (at s AtNullOne)) (fits_or_total p (b.Begun r AtNullOne) front es es used byte 3 (Go (at s AtNullOne)) c more (λ level bytes shown i t. star level bytes shown t) more)
+    let more = goes r (b.TokenHas r AtArrayHead) (b.TokenHas r AtNullOne) s.frames front (byte ∷ []) es w (λ level bytes shown i t. (inr (ap (λ z. z ++ byte ∷ []) t.0 ∙ ap (λ z. 42 ∷ z ∷ []) is), t.1)) in
+    let star : (level : ℕ) (bytes : List ℕ) (shown : List Event) → b.TokenHas r AtNullOne level bytes shown → IsBegunBy r level bytes 3 = λ level bytes shown t. null_first_row r level bytes t.0 in
+    unless_over p front es used byte 3 (Go (at s AtNullOne)) (fits_or_total p (b.TokenHas r AtNullOne) front es es used byte 3 (Go (at s AtNullOne)) c more (λ level bytes shown i t. star level bytes shown t) more)
 
 array_keeps : (r : Rules) (level : ℕ) (digits : List ℕ) (n : ℕ) → NodeKeeps r NotStreamed level d.Array (Counted digits) n
 array_keeps r level digits n earlier =
     at_each_rule (λ a. rank a ≤ 5 → NodeMeets r a level d.Array (Counted digits) n) (λ e. tt) (λ e. tt) (λ e. λ is_two. tt) (λ e. tt) (λ e. tt) (λ e. λ off. tt) (λ e. absurd (omega arith)) (λ e. tt) (λ e. absurd (omega arith)) (λ e. tt) earlier
 
-deep_row : (s : Place) → s.bounds.depth ≤ length s.frames → (level : ℕ) (bytes : List ℕ) (shown : List Event) → level ≡ length s.frames → b.Begun (rules_of s) AtArrayHead level bytes shown → IsBegunBy (rules_of s) level bytes 4
+deep_row : (s : Place) → s.bounds.depth ≤ length s.frames → (level : ℕ) (bytes : List ℕ) (shown : List Event) → level ≡ length s.frames → b.TokenHas (rules_of s) AtArrayHead level bytes shown → IsBegunBy (rules_of s) level bytes 4
 deep_row s deep level bytes shown i t = subst (λ z. IsBegunBy (rules_of s) level z 4) (sym t.0) (star_deep_begun (rules_of s) level (omega (arith, deep, i)))
 
 -- an array that would be a level too deep
-deep_leads : (s : Place) (byte : ℕ) (front : List ℕ) (es : List Event) → (byte ≡ 45 → ⊥) → s.bounds.depth ≤ length s.frames → Lies (at s AtArrayHead) front es → Leads (at s AtArrayHead) front es byte (Refuse (full_cause (at s AtArrayHead) byte))
+deep_leads : (s : Place) (byte : ℕ) (front : List ℕ) (es : List Event) → (byte ≡ 45 → ⊥) → s.bounds.depth ≤ length s.frames → StandsAfter (at s AtArrayHead) front es → Leads (at s AtArrayHead) front es byte (Refuse (full_cause (at s AtArrayHead) byte))
 deep_leads s byte front es no_minus deep w =
     let r = rules_of s in
     let p = at s AtArrayHead in
-    let T = b.Begun r AtArrayHead in
+    let T = b.TokenHas r AtArrayHead in
     if_equal byte 63 (λ x. Leads p front es byte (Refuse (cond x (full_streamed s.version s.bounds.streamed) (cond (is_digit byte) cause.Depth cause.Syntax))))
     (λ is. by_cases is s.version refl s.bounds.streamed refl)
     (λ no_mark_here. if_digit byte (λ x. Leads p front es byte (Refuse (cond x cause.Depth cause.Syntax)))
@@ -212,18 +213,18 @@ deep_leads s byte front es no_minus deep w =
     two_bytes bytes is are = ap (λ z. z ++ byte ∷ []) are ∙ ap (λ z. 42 ∷ z ∷ []) is
 
     by_cases : byte ≡ 63 → (v : Version) → s.version ≡ v → (on : Bool) → s.bounds.streamed ≡ on → Leads (at s AtArrayHead) front es byte (Refuse (full_streamed v on))
-    by_cases is version.Two two on e = refused (rules_of s) (b.Begun (rules_of s) AtArrayHead) InVersion NoDouble s.frames front (byte ∷ []) es refl (omega arith) w (λ level bytes shown i t. (_, _, two_bytes bytes is t.0, streamed_array_in_two (rules_of s) level two))
-    by_cases is version.Three three false off = refused (rules_of s) (b.Begun (rules_of s) AtArrayHead) NotStreamed InRange s.frames front (byte ∷ []) es refl (omega arith) w (λ level bytes shown i t. (_, _, two_bytes bytes is t.0, streamed_off (rules_of s) d.Array level (no_two_in_three s.version three) off tt tt))
-    by_cases is version.Three three true on = refused (rules_of s) (b.Begun (rules_of s) AtArrayHead) WithinDepth NotStreamed s.frames front (byte ∷ []) es refl (omega arith) w (λ level bytes shown i t. (_, _, two_bytes bytes is t.0, streamed_too_deep (rules_of s) d.Array level (no_two_in_three s.version three, λ off. let e : true ≡ false = sym on ∙ off in cc) (omega (arith, deep, i)) tt tt))
+    by_cases is version.Two two on e = refused (rules_of s) (b.TokenHas (rules_of s) AtArrayHead) InVersion NoDouble s.frames front (byte ∷ []) es refl (omega arith) w (λ level bytes shown i t. (_, _, two_bytes bytes is t.0, streamed_array_in_two (rules_of s) level two))
+    by_cases is version.Three three false off = refused (rules_of s) (b.TokenHas (rules_of s) AtArrayHead) NotStreamed InRange s.frames front (byte ∷ []) es refl (omega arith) w (λ level bytes shown i t. (_, _, two_bytes bytes is t.0, streamed_off (rules_of s) d.Array level (no_two_in_three s.version three) off tt tt))
+    by_cases is version.Three three true on = refused (rules_of s) (b.TokenHas (rules_of s) AtArrayHead) WithinDepth NotStreamed s.frames front (byte ∷ []) es refl (omega arith) w (λ level bytes shown i t. (_, _, two_bytes bytes is t.0, streamed_too_deep (rules_of s) d.Array level (no_two_in_three s.version three, λ off. let e : true ≡ false = sym on ∙ off in cc) (omega (arith, deep, i)) tt tt))
 
-may_count : (s : Place) → length s.frames < s.bounds.depth → (level : ℕ) (bytes : List ℕ) (shown : List Event) → level ≡ length s.frames → b.Begun (rules_of s) AtArrayHead level bytes shown → MayCount (rules_of s) d.Array level bytes shown
+may_count : (s : Place) → length s.frames < s.bounds.depth → (level : ℕ) (bytes : List ℕ) (shown : List Event) → level ≡ length s.frames → b.TokenHas (rules_of s) AtArrayHead level bytes shown → MayCount (rules_of s) d.Array level bytes shown
 may_count s below level bytes shown i t = record { in_version = λ digits two. tt; no_push = tt; below = omega (arith, below, i); are = t.0; told = t.1 }
 
-array_first_leads : (s : Place) (used byte : ℕ) (front : List ℕ) (es : List Event) → (byte ≡ 45 → ⊥) → length s.frames < s.bounds.depth → Counts (at s AtArrayHead) used front → Lies (at s AtArrayHead) front es → Leads (at s AtArrayHead) front es byte (head_first (at s AtArrayHead) (used + 1) head.Array byte)
+array_first_leads : (s : Place) (used byte : ℕ) (front : List ℕ) (es : List Event) → (byte ≡ 45 → ⊥) → length s.frames < s.bounds.depth → HasCountsOf (at s AtArrayHead) used front → StandsAfter (at s AtArrayHead) front es → Leads (at s AtArrayHead) front es byte (head_first (at s AtArrayHead) (used + 1) head.Array byte)
 array_first_leads s used byte front es no_minus below c w =
     let r = rules_of s in
     let p = at s AtArrayHead in
-    let T = b.Begun r AtArrayHead in
+    let T = b.TokenHas r AtArrayHead in
     head_leads p T head.Array d.Array 3 ((byte - 48) * 3 + 2) used byte _ front es (omega arith) c w (λ level bytes shown i t. (may_count s below level bytes shown i t, subst (λ z. IsBegunBy r level z 3) (sym t.0) (star_begun r level (omega (arith, below, i))))) (λ level bytes shown t. t.0)
     (λ is. mark_leads p T kind.Array used byte front es is tt c w (may_count s below) (λ level i two. streamed_array_in_two r level two) below)
     (λ no_mark_here no_digit. (no_minus, no_mark_here, no_digit)) (λ x. x)
@@ -248,7 +249,7 @@ open_cr_leads s o used byte front es is_byte c w =
     let T = StreamBegun r (kind_of o) [] in
     wants_leads (at s (AtOpenCr o)) T front es 5 byte 13 (Go (at s (AtOpenLf o))) w (λ level bytes shown i t. stream_row r (kind_of o) level bytes shown t)
     (λ other level bytes rest shown t dead. byte_broken (LeafKeeps r Grammar) (NodeKeeps r Grammar) level (kind_byte (kind_of o) ∷ 63 ∷ []) rest byte (mark_line (kind_of o)) other (streamed_broken (kind_of o) byte) (subst (λ z. CompletesUnder r Grammar level z (byte ∷ rest)) t.are dead))
-    (λ is. subst (λ z. Lies (at s (AtOpenLf o)) (front ++ z ∷ []) es) (sym is) (goes r T (StreamBegun r (kind_of o) (13 ∷ [])) s.frames front (13 ∷ []) es w
+    (λ is. subst (λ z. StandsAfter (at s (AtOpenLf o)) (front ++ z ∷ []) es) (sym is) (goes r T (StreamBegun r (kind_of o) (13 ∷ [])) s.frames front (13 ∷ []) es w
     (λ level bytes shown i t. record { has_streamed = t.has_streamed; can_stream = t.can_stream; no_push = t.no_push; below = t.below; are = ap (λ z. z ++ 13 ∷ []) t.are; told = t.told })))
 
 no_items : (k : Kind) → items_of k 0 ≡ 0
@@ -258,7 +259,7 @@ no_items d.Map = refl
 no_items d.Attr = refl
 no_items d.Push = refl
 
-no_missing : (k : Kind) → missing k Streamed 0 ≡ 0
+no_missing : (k : Kind) → members_missing k Streamed 0 ≡ 0
 no_missing d.Array = refl
 no_missing d.Set = refl
 no_missing d.Map = refl
@@ -287,7 +288,7 @@ end_row r k level bytes shown w =
 
 stream_opens : (r : Rules) (o : OpenKind) (level : ℕ) (bytes : List ℕ) (shown : List Event) → StreamBegun r (kind_of o) (13 ∷ []) level bytes shown → Opened r o (Begun 0) level (bytes ++ 10 ∷ []) (shown ++ e.Open (kind_of o) None ∷ [])
 stream_opens r o level bytes shown w =
-    let zero : 0 ≡ 0 + missing (kind_of o) Streamed 0 = omega (arith, no_missing (kind_of o)) in
+    let zero : 0 ≡ 0 + members_missing (kind_of o) Streamed 0 = omega (arith, no_missing (kind_of o)) in
     record {
       form = Streamed;
       head = ap (λ z. z ++ 10 ∷ []) w.are;
@@ -300,7 +301,7 @@ pub open_end_leads : OpenEndLeads
 open_end_leads s o used byte front es is_byte c w =
     let r = rules_of s in
     let T = StreamBegun r (kind_of o) (13 ∷ []) in
-    wants_leads (at s (AtOpenLf o)) T front es 4 byte 10 (Give (k.Open o None) (h.opened_streamed s o)) w (λ level bytes shown i t. end_row r (kind_of o) level bytes shown t)
+    wants_leads (at s (AtOpenLf o)) T front es 4 byte 10 (Give (k.Open o None) (h.after_streamed_open s o)) w (λ level bytes shown i t. end_row r (kind_of o) level bytes shown t)
     (λ other level bytes rest shown t dead. behind_return_broken (LeafKeeps r Grammar) (NodeKeeps r Grammar) level (kind_byte (kind_of o) ∷ 63 ∷ []) rest byte (mark_line (kind_of o)) other (subst (λ z. CompletesUnder r Grammar level z (byte ∷ rest)) t.are dead))
-    (λ is. subst (λ z. Lies (h.opened_streamed s o) (front ++ z ∷ []) (es ++ e.Open (kind_of o) None ∷ [])) (sym is)
+    (λ is. subst (λ z. StandsAfter (h.after_streamed_open s o) (front ++ z ∷ []) (es ++ e.Open (kind_of o) None ∷ [])) (sym is)
     (opens_lie r T s.frames front (10 ∷ []) es (e.Open (kind_of o) None ∷ []) o (Begun 0) w (λ level bytes shown i t. stream_opens r o level bytes shown t)))

@@ -7,20 +7,20 @@ use Rattle.resp_value.specs.LocalRules.{LeafKeeps, NodeKeeps}
 use Rattle.resp_value.specs.Trees.{Tree, IsTree, text}
 use Rattle.resp_value.proofs.FirstBytes.{byte_at_start}
 use Rattle.resp_value.proofs.Unique.{not_close, unique}
-use Rattle.resp_follow.specs.Frames.{around}
-use Rattle.resp_follow.specs.Events.{Event, all_events, due, events, events_around, given}
-use Rattle.resp_follow.proofs.BegunFronts.{IsBegunBy}
-use Rattle.resp_follow.proofs.EventsDue.{front_events}
-use Rattle.resp_follow.proofs.LeastAround.{are_open}
+use Rattle.resp_fronts.specs.Frames.{text_around}
+use Rattle.resp_fronts.specs.Events.{Event, all_events, events_due, events, events_around, without_places}
+use Rattle.resp_fronts.proofs.BegunFronts.{IsBegunBy}
+use Rattle.resp_fronts.proofs.EventsDue.{front_events}
+use Rattle.resp_fronts.proofs.LeastAround.{are_open}
 use Rattle.resp_scan.specs.declared.frame.Frame.{Frame}
-use Rattle.resp_scan.specs.Follows.{Inside}
+use Rattle.resp_scan.specs.Machine.Standing.{IsInside}
 use Rattle.resp_scan.proofs.FramesDue.{due_in}
 use Rattle.resp_scan.proofs.Moves.{at_level}
 use Rattle.resp_scan.proofs.OutsideDue.{AreDue}
 
 -- in every value that the bytes begin these are the events due by then
 abbrev pub AreDueWithin : List ℕ → List Event → Type 0
-AreDueWithin bytes shown = (from : ℕ) (value : Tree) (behind : List ℕ) → IsTree value → text value ≡ bytes ++ behind → due (from + length bytes) (events from value) ≡ shown
+AreDueWithin bytes shown = (from : ℕ) (value : Tree) (behind : List ℕ) → IsTree value → text value ≡ bytes ++ behind → events_due (from + length bytes) (events from value) ≡ shown
 
 -- of two fronts of one text the longer begins with the shorter
 pub longer_front : (a b x y : List ℕ) → a ++ x ≡ b ++ y → length b ≤ length a → (z : List ℕ) × (a ≡ b ++ z)
@@ -49,16 +49,16 @@ goes_behind r level bytes n value behind rest b is_tree e =
     ] refl
 
 -- the events of the frames, and those shown of the token
-pub inside_due : (r : Rules) (T : ℕ → List ℕ → List Event → Type 0) (fs : List Frame) (front : List ℕ) (es : List Event) (n : ℕ) → Inside r T fs front es → ((level : ℕ) (bytes : List ℕ) (shown : List Event) → level ≡ length fs → T level bytes shown → IsBegunBy r level bytes n) → ((level : ℕ) (bytes : List ℕ) (shown : List Event) → T level bytes shown → AreDueWithin bytes shown) → AreDue front es
+pub inside_due : (r : Rules) (T : ℕ → List ℕ → List Event → Type 0) (fs : List Frame) (front : List ℕ) (es : List Event) (n : ℕ) → IsInside r T fs front es → ((level : ℕ) (bytes : List ℕ) (shown : List Event) → level ≡ length fs → T level bytes shown → IsBegunBy r level bytes n) → ((level : ℕ) (bytes : List ℕ) (shown : List Event) → T level bytes shown → AreDueWithin bytes shown) → AreDue front es
 inside_due r T fs front es n w row told rest whole is_tree spelled =
     let begun = row (length w.frames) w.bytes w.shown (at_level w) w.took in
     let h = begun.least.holds in
     let no_stop : byte_at_start (w.bytes ++ rest) ≡ 46 → ⊥ = λ i.
     not_close h.tree [] (begun.tail ++ begun.least.some) (append-nil (text h.tree) ∙ h.whole ∙ ap (λ z. z ++ begun.least.some) begun.parts ∙ ap (λ z. z ∷ (begun.tail ++ begun.least.some)) (sym (ap (λ z. byte_at_start (z ++ rest)) begun.parts) ∙ i)) in
-    let spelled_in : text whole ≡ around w.frames w.bytes ++ rest = spelled ∙ ap (λ z. z ++ rest) w.whole in
+    let spelled_in : text whole ≡ text_around w.frames w.bytes ++ rest = spelled ∙ ap (λ z. z ++ rest) w.whole in
     let b = front_events w.frames w.bytes rest whole (are_open (LeafKeeps r WithinItems) (NodeKeeps r WithinItems) w.frames w.can_end) no_stop is_tree spelled_in in
     let g = goes_behind r (length w.frames) w.bytes n b.value b.behind rest begun b.is_tree b.begins in
-    ap (λ z. due (length z) (all_events whole)) w.whole
+    ap (λ z. events_due (length z) (all_events whole)) w.whole
     ∙ due_in w.frames w.bytes rest whole b g.0 spelled_in
-    ∙ ap (λ z. given (events_around w.frames) ++ z) (told (length w.frames) w.bytes w.shown w.took (length (around w.frames [])) b.value g.1.0 b.is_tree g.1.1)
+    ∙ ap (λ z. without_places (events_around w.frames) ++ z) (told (length w.frames) w.bytes w.shown w.took (length (text_around w.frames [])) b.value g.1.0 b.is_tree g.1.1)
     ∙ sym w.told

@@ -5,11 +5,11 @@ use Rattle.resp_value.specs.Bounds.{Bounds, AreBounds}
 use Rattle.resp_value.specs.declared.cause.Cause.{Cause}
 use Rattle.resp_value.specs.declared.version.Version.{Version}
 use Rattle.resp_scan.specs.declared.frame.Frame.{Frame}
-use Rattle.resp_scan.specs.Tokens.{Token, Place, Happening, Null, Truth, Int, Text, Digit, TextEnd, Open, Close, Move, Go, Byte, Give, Refuse, at, AtStart, AtEnd, InLine, AtLineLf, AtIntSign, AtIntFirst, InInt, AtIntLf, AtBigSign, AtBigFirst, InBigZeros, AtBigZeroLf, AtBigDigit, InBig, AtTextEnd, AtNullOne, AtNullCr, AtNullLf, AtBool, AtBoolCr, AtBoolLf, AtBulkHead, AtArrayHead, AtHead, InHead, AtHeadLf, AtFormat, AtFormatSecond, AtFormatThird, AtFormatColon, InContent, AtContentCr, AtContentLf, AtStreamCr, AtStreamLf, AtChunk, InChunk, AtChunkCr, AtChunkLf, AtOpenCr, AtOpenLf, AtCloseCr, AtCloseLf, Dead}
-use Rattle.resp_scan.specs.Machine.{is_digit, next}
-use Rattle.resp_scan.specs.Scan.{Out, More, Gave, Part, Whole, Bad, and_more, content, answer, scan, closes, advanced_in, advanced}
+use Rattle.resp_scan.specs.Machine.Tokens.{Token, Place, Happening, Null, Truth, Int, Text, Digit, TextEnd, Open, Close, Move, Go, Byte, Give, Refuse, at, AtStart, AtEnd, InLine, AtLineLf, AtIntSign, AtIntFirst, InInt, AtIntLf, AtBigSign, AtBigFirst, InBigZeros, AtBigZeroLf, AtBigDigit, InBig, AtTextEnd, AtNullOne, AtNullCr, AtNullLf, AtBool, AtBoolCr, AtBoolLf, AtBulkHead, AtArrayHead, AtHead, InHead, AtHeadLf, AtFormat, AtFormatSecond, AtFormatThird, AtFormatColon, InContent, AtContentCr, AtContentLf, AtStreamCr, AtStreamLf, AtChunk, InChunk, AtChunkCr, AtChunkLf, AtOpenCr, AtOpenLf, AtCloseCr, AtCloseLf, Dead}
+use Rattle.resp_scan.specs.Machine.Moves.{is_digit, next}
+use Rattle.resp_scan.specs.Machine.Scan.{Out, More, Gave, Part, Whole, Bad, and_more, content, answer, scan, out_at_end, out_from_token, out_from}
 use Rattle.resp_scan.specs.Kinds.{rules_of}
-use Rattle.resp_scan.specs.Sound.{Fits, token_needed, frames_owed, IsClosed, IsSoundBy, IsSound}
+use Rattle.resp_scan.specs.Machine.Sound.{IsTokenSound, token_needed, need_of_frames, IsClosed, IsSoundBy, IsSound}
 use Rattle.resp_scan.proofs.Sound.{is_outside, IsPlain, IsNext, IsInside, IsMove, is_move, sound_ended, sound_closed}
 
 -- a digit stands behind no byte
@@ -72,7 +72,7 @@ is_content i s [] h g = same i s h
 is_content i s (b ∷ bs) h g = content_next (next s (i + 1) b) i s bs h (is_move s.token s i b h (no_outside i 0 s.token g)) (λ t. is_content (i + 1) t bs)
 
 dead : (i : ℕ) (s : Place) (c : Cause) → IsSoundBy i s → IsNext i s (at s (Dead c))
-dead i s c h = record { taken = refl; rules = refl; sound = record { bounds = h.bounds; nested = h.nested; counted = h.counted; owed = h.owed; total = omega (arith, h.total); token = tt } }
+dead i s c h = record { taken = refl; rules = refl; sound = record { bounds = h.bounds; nested = h.nested; counted = h.counted; frames_need = h.frames_need; total = omega (arith, h.total); token = tt } }
 
 scan_next : (v : Move) (i : ℕ) (s : Place) (bs : List ℕ) → IsSoundBy i s → IsMove (i + 1) s v → ((t : Place) → IsSoundBy (i + 1) t → is_outside t.token ≡ false → IsOut t (scan (i + 1) t bs)) → IsOut s (answer v i s (λ t. scan (i + 1) t bs) (λ t. content (i + 1) t bs))
 scan_next (Go t) i s bs h m f = out_joined (i + 1) s t (scan (i + 1) t bs) m (f t m.sound m.inside)
@@ -87,25 +87,25 @@ scan_by i s (b ∷ bs) h g = scan_next (next s (i + 1) b) i s bs h (is_move s.to
 pub is_scan : (s : Place) (p : List ℕ) → IsSound s → IsOut s (scan 0 s p)
 is_scan s p h = scan_by 0 s p h (λ e. refl)
 
-is_closes : (s : Place) (fs : List Frame) → s.token ≡ AtEnd → s.frames ≡ fs → IsSound s → IsOut s (closes s fs)
+is_closes : (s : Place) (fs : List Frame) → s.token ≡ AtEnd → s.frames ≡ fs → IsSound s → IsOut s (out_at_end s fs)
 is_closes s [] t e h =
-    let o : s.owed ≡ 0 = h.owed ∙ ap frames_owed e in
-    (record { bounds = h.bounds; nested = h.nested; counted = h.counted; owed = h.owed; total = subst (λ v. 0 + 0 + token_needed AtStart s.bounds.depth v + s.owed ≤ s.bounds.total) (sym e) (omega (arith, o, h.bounds.total_in_range.0)); token = subst (λ v. Fits AtStart s.bounds.depth v) (sym e) tt }, refl, refl)
+    let o : s.frames_need ≡ 0 = h.frames_need ∙ ap need_of_frames e in
+    (record { bounds = h.bounds; nested = h.nested; counted = h.counted; frames_need = h.frames_need; total = subst (λ v. 0 + 0 + token_needed AtStart s.bounds.depth v + s.frames_need ≤ s.bounds.total) (sym e) (omega (arith, o, h.bounds.total_in_range.0)); token = subst (λ v. IsTokenSound AtStart s.bounds.depth v) (sym e) tt }, refl, refl)
 is_closes s (f ∷ fs) t e h =
-    let c : IsClosed (f ∷ fs) = subst IsClosed e (subst (λ v. Fits v s.bounds.depth s.frames) t h.token) in
+    let c : IsClosed (f ∷ fs) = subst IsClosed e (subst (λ v. IsTokenSound v s.bounds.depth s.frames) t h.token) in
     (record { taken = refl; rules = refl; sound = sound_closed s s.token (f ∷ fs) 0 0 e h c (omega (arith, h.total)) }, tt)
 
 -- what is owed comes next
-moved : (s : Place) (t u : Token) → s.token ≡ t → IsSound s → token_needed u s.bounds.depth s.frames ≤ token_needed t s.bounds.depth s.frames → Fits u s.bounds.depth s.frames → IsNext 0 s (at s u)
+moved : (s : Place) (t u : Token) → s.token ≡ t → IsSound s → token_needed u s.bounds.depth s.frames ≤ token_needed t s.bounds.depth s.frames → IsTokenSound u s.bounds.depth s.frames → IsNext 0 s (at s u)
 moved s t u e h q f =
-    let w : s.taken + 0 + token_needed s.token s.bounds.depth s.frames + s.owed ≤ s.bounds.total = h.total in
+    let w : s.taken + 0 + token_needed s.token s.bounds.depth s.frames + s.frames_need ≤ s.bounds.total = h.total in
     let r : token_needed s.token s.bounds.depth s.frames ≡ token_needed t s.bounds.depth s.frames = ap (λ v. token_needed v s.bounds.depth s.frames) e in
-    record { taken = refl; rules = refl; sound = record { bounds = h.bounds; nested = h.nested; counted = h.counted; owed = h.owed; total = omega (arith, w, r, q); token = f } }
+    record { taken = refl; rules = refl; sound = record { bounds = h.bounds; nested = h.nested; counted = h.counted; frames_need = h.frames_need; total = omega (arith, w, r, q); token = f } }
 
-is_in : (t : Token) (s : Place) (p : List ℕ) → s.token ≡ t → IsSound s → IsOut s (advanced_in t s p)
+is_in : (t : Token) (s : Place) (p : List ℕ) → s.token ≡ t → IsSound s → IsOut s (out_from_token t s p)
 is_in AtEnd s p e h = is_closes s s.frames e refl h
-is_in AtTextEnd s p e h = (record { taken = refl; rules = refl; sound = sound_ended s 0 h.bounds h.nested h.counted h.owed (omega (arith, h.total)) }, tt)
-is_in (AtBigDigit d room) s p e h = (moved s (AtBigDigit d room) (InBig room) e h (omega arith) tt, (refl, subst (λ v. Fits v s.bounds.depth s.frames) e h.token))
+is_in AtTextEnd s p e h = (record { taken = refl; rules = refl; sound = sound_ended s 0 h.bounds h.nested h.counted h.frames_need (omega (arith, h.total)) }, tt)
+is_in (AtBigDigit d room) s p e h = (moved s (AtBigDigit d room) (InBig room) e h (omega arith) tt, (refl, subst (λ v. IsTokenSound v s.bounds.depth s.frames) e h.token))
 is_in (Dead c) s p e h = (same 0 s h, e)
 is_in AtStart s p e h = is_scan s p h
 is_in (InLine room) s p e h = is_scan s p h
@@ -148,11 +148,11 @@ is_in (AtOpenLf k) s p e h = is_scan s p h
 is_in AtCloseCr s p e h = is_scan s p h
 is_in AtCloseLf s p e h = is_scan s p h
 
-pub is_advanced : (s : Place) (p : List ℕ) → IsSound s → IsOut s (advanced s p)
+pub is_advanced : (s : Place) (p : List ℕ) → IsSound s → IsOut s (out_from s p)
 is_advanced s p h = is_in s.token s p refl h
 
 -- between two values, at the start
-pub sound_new : (version : Version) (bounds : Bounds) (fs : List Frame) → AreBounds bounds → fs ≡ [] → IsSound (record { token = AtStart; frames = fs; version = version; bounds = bounds; taken = 0; owed = 0 })
+pub sound_new : (version : Version) (bounds : Bounds) (fs : List Frame) → AreBounds bounds → fs ≡ [] → IsSound (record { token = AtStart; frames = fs; version = version; bounds = bounds; taken = 0; frames_need = 0 })
 sound_new version bounds fs h e =
-    let f : IsSound (record { token = AtStart; frames = []; version = version; bounds = bounds; taken = 0; owed = 0 }) = record { bounds = h; nested = omega arith; counted = tt; owed = refl; total = omega (arith, h.total_in_range.0); token = tt } in
-    subst (λ v. IsSound (record { token = AtStart; frames = v; version = version; bounds = bounds; taken = 0; owed = 0 })) (sym e) f
+    let f : IsSound (record { token = AtStart; frames = []; version = version; bounds = bounds; taken = 0; frames_need = 0 }) = record { bounds = h; nested = omega arith; counted = tt; frames_need = refl; total = omega (arith, h.total_in_range.0); token = tt } in
+    subst (λ v. IsSound (record { token = AtStart; frames = v; version = version; bounds = bounds; taken = 0; frames_need = 0 })) (sym e) f

@@ -1,30 +1,30 @@
 -- The events due of a line of text: its content so far, and before its LF all but its end.
 use Rattle.std.proofs.Common.{◌≡◌, ℕ, suc, ◌+◌, ◌-◌, ◌<◌, ◌≤◌, Bool, List, [], ◌∷◌, ◌++◌, length, refl, sym, ap, subst, ◌∙◌, arith, append_assoc, append-nil, length-append}
 use Rattle.resp_value.specs.Bytes.{IsLine, crlf}
-use Rattle.resp_value.specs.Numbers.{is_negative, sign_text, stripped}
+use Rattle.resp_value.specs.Numbers.{is_below_zero, sign_text, significant_digits}
 use Rattle.resp_value.specs.Rules.{Rules}
 use Rattle.resp_value.specs.Trees as t
 use Rattle.resp_value.specs.Trees.{Tree, Leaf, LineKind, IsTree, leaf, line, numeral, null, truth, string, chunked, leaf_rest, leaf_text, line_byte, payload, text}
 use Rattle.resp_value.proofs.FirstLines.{after_line, first_is_line, first_line, leaf_of, line_sort, sort, sort_is}
 use Rattle.resp_value.proofs.Unique.{unique}
-use Rattle.resp_follow.specs.Events as e
-use Rattle.resp_follow.specs.Events.{Event, TextKind, big_events, due, events, given, last_of, leaf_events, text_events}
-use Rattle.resp_follow.proofs.BegunLines.{line_begins, return_split, text_first, tree_of_line}
-use Rattle.resp_follow.proofs.LineTokens.{no_break_in_line, returned_whole, text_token_line}
+use Rattle.resp_fronts.specs.Events as e
+use Rattle.resp_fronts.specs.Events.{Event, TextKind, big_events, events_due, events, without_places, last_of, leaf_events, text_events}
+use Rattle.resp_fronts.proofs.BegunLines.{line_begins, return_split, text_first, tree_of_line}
+use Rattle.resp_fronts.proofs.LineTokens.{no_break_in_line, returned_whole, text_token_line}
 use Rattle.resp_scan.specs.Kinds.{content_events}
-use Rattle.resp_scan.specs.Begun.{LineBegun, TextReturned, line_text}
+use Rattle.resp_scan.specs.Machine.Beginnings.{LineBegun, TextReturned, line_text_kind}
 use Rattle.resp_scan.proofs.FewEvents.{content_in_chunks, length-stripped}
 use Rattle.resp_scan.proofs.InsideDue.{AreDueWithin}
 use Rattle.resp_scan.proofs.LeafEvents.{given-big, given-line, leaf_told}
 use Rattle.resp_scan.proofs.TextsDue.{bytes_later, due_text}
-use Rattle.resp_follow.specs.Tokens.{IsReturned, IsTextLine}
+use Rattle.resp_fronts.specs.Tokens.{IsReturned, IsTextLine}
 
 sort_of_line : (k : LineKind) (s : List ℕ) → sort (line_byte k ∷ s) ≡ leaf_of (line_sort k s)
 sort_of_line t.Simple s = refl
 sort_of_line t.Error s = refl
 sort_of_line t.Double s = refl
 
-line_due : (from : ℕ) (k : LineKind) (a b : List ℕ) → IsTextLine k → due (from + suc (length a)) (leaf_events from (line k (a ++ b))) ≡ e.Text (line_text k) ∷ content_events a
+line_due : (from : ℕ) (k : LineKind) (a b : List ℕ) → IsTextLine k → events_due (from + suc (length a)) (leaf_events from (line k (a ++ b))) ≡ e.Text (line_text_kind k) ∷ content_events a
 line_due from t.Simple a b p =
     let n = from + suc (length a) in
     due_text n e.Simple from (from + 1) a b (last_of from (leaf_text (line t.Simple (a ++ b)))) (omega arith) (omega arith) (bytes_later n (from + 1 + length a) b (omega arith)) (omega (arith, length-append a b, length-append (a ++ b) (crlf [])))
@@ -41,8 +41,8 @@ line_begun_due r room level bytes shown w from value behind is_tree whole =
     let is_line : IsLine (line_byte k ∷ content) = subst IsLine w.token.are (no_break_in_line r (line k content) level bytes (text_token_line r k w.size level bytes w.token)) in
     let (l, h, behind_is) = line_begins (first_line value) (line_byte k ∷ content) (after_line value) behind is_line (sym (text_first value) ∙ whole ∙ ap (λ z. z ++ behind) w.token.are) in
     let same : value ≡ leaf (line k (content ++ l)) = tree_of_line value k (content ++ l) (sym (sort_is value is_tree) ∙ ap sort h ∙ sort_of_line k (content ++ l)) in
-    ap (λ z. due (from + length z) (events from value)) w.token.are
-    ∙ ap (λ z. due (from + suc (length content)) (events from z)) same
+    ap (λ z. events_due (from + length z) (events from value)) w.token.are
+    ∙ ap (λ z. events_due (from + suc (length content)) (events from z)) same
     ∙ line_due from k content l w.token.is_text_line
     ∙ sym w.told
 
@@ -73,9 +73,9 @@ one_ends x [] same = cc
 one_ends x (y ∷ shown) same = absurd (omega (arith, ap length same, length-append shown (e.TextEnd ∷ [])))
 
 -- a whole text but for its end
-due_but_end : (n : ℕ) (k : TextKind) (begins from : ℕ) (s : List ℕ) (ends : ℕ) (shown : List Event) → begins < n → from + length s ≤ n → n ≤ ends → (e.Text k ∷ content_events s) ++ e.TextEnd ∷ [] ≡ shown ++ e.TextEnd ∷ [] → due n (text_events k begins from s ends) ≡ shown
+due_but_end : (n : ℕ) (k : TextKind) (begins from : ℕ) (s : List ℕ) (ends : ℕ) (shown : List Event) → begins < n → from + length s ≤ n → n ≤ ends → (e.Text k ∷ content_events s) ++ e.TextEnd ∷ [] ≡ shown ++ e.TextEnd ∷ [] → events_due n (text_events k begins from s ends) ≡ shown
 due_but_end n k begins from s ends shown a b c told =
-    ap (λ z. due n (text_events k begins from z ends)) (sym (append-nil s))
+    ap (λ z. events_due n (text_events k begins from z ends)) (sym (append-nil s))
     ∙ due_text n k begins from s [] ends a b tt c
     ∙ but_last (e.Text k ∷ content_events s) shown e.TextEnd told
 
@@ -83,7 +83,7 @@ due_but_end n k begins from s ends shown a b c told =
 abbrev HasMore : List Event → Type 0
 HasMore shown = (negative : Bool) → shown ≡ e.Text (e.Big negative) ∷ [] → ⊥
 
-leaf_but_end : (from : ℕ) (l : Leaf) (shown : List Event) → leaf_rest l ≡ [] → given (leaf_events from l) ≡ shown ++ e.TextEnd ∷ [] → HasMore shown → due (last_of from (leaf_text l)) (leaf_events from l) ≡ shown
+leaf_but_end : (from : ℕ) (l : Leaf) (shown : List Event) → leaf_rest l ≡ [] → without_places (leaf_events from l) ≡ shown ++ e.TextEnd ∷ [] → HasMore shown → events_due (last_of from (leaf_text l)) (leaf_events from l) ≡ shown
 leaf_but_end from (line t.Simple s) shown p told some =
     let last = last_of from (leaf_text (line t.Simple s)) in
     due_but_end last e.Simple from (from + 1) s last shown (omega (arith, length-append s (crlf []))) (omega (arith, length-append s (crlf []))) (omega arith) (sym (given-line from t.Simple s tt) ∙ told)
@@ -94,9 +94,9 @@ leaf_but_end from (line t.Double s) shown p told some = absurd (omega (arith, ap
 leaf_but_end from (numeral t.Int sign digits) shown p told some = absurd (let x = one_ends _ shown told in cc)
 leaf_but_end from (numeral t.Big sign digits) shown p told some =
     let whole : length (leaf_text (numeral t.Big sign digits)) ≡ length (sign_text sign) + length digits + 3 = omega (arith, length-append (40 ∷ (sign_text sign ++ digits)) (crlf []), length-append (sign_text sign) digits) in
-    case (is_negative sign digits) (stripped digits) (last_of from (leaf_text (numeral t.Big sign digits))) (omega (arith, length-stripped digits, whole)) told
+    case (is_below_zero sign digits) (significant_digits digits) (last_of from (leaf_text (numeral t.Big sign digits))) (omega (arith, length-stripped digits, whole)) told
   where
-    case : (negative : Bool) (kept : List ℕ) (last : ℕ) → length kept + 2 ≤ last → given (big_events negative kept last) ≡ shown ++ e.TextEnd ∷ [] → due last (big_events negative kept last) ≡ shown
+    case : (negative : Bool) (kept : List ℕ) (last : ℕ) → length kept + 2 ≤ last → without_places (big_events negative kept last) ≡ shown ++ e.TextEnd ∷ [] → events_due last (big_events negative kept last) ≡ shown
     case negative [] last l told = absurd (some negative (sym (but_last (e.Text (e.Big negative) ∷ []) shown e.TextEnd told)))
     case negative (d ∷ ds) last l told = due_but_end last (e.Big negative) (last - 2 - length ds) (last - 2 - length ds) (d ∷ ds) last shown (omega (arith, l)) (omega (arith, l)) (omega arith) (sym (given-big negative d ds last) ∙ told)
 leaf_but_end from (null form) shown p told some = absurd (let x = one_ends _ shown told in cc)
@@ -107,6 +107,6 @@ leaf_but_end from (chunked cs zeros) shown p told some = absurd (omega (arith, a
 -- before the LF of a text all but its end
 pub text_returned_due : (r : Rules) (level : ℕ) (bytes : List ℕ) (shown : List Event) → TextReturned r level bytes shown → AreDueWithin bytes shown
 text_returned_due r level bytes shown w from value behind is_tree whole =
-    ap (λ n. due n (events from value)) (returned_last r w.leaf level bytes from w.returned)
-    ∙ ap (λ z. due (last_of from (leaf_text w.leaf)) (events from z)) (returned_is r w.leaf level bytes value behind w.returned is_tree whole)
+    ap (λ n. events_due n (events from value)) (returned_last r w.leaf level bytes from w.returned)
+    ∙ ap (λ z. events_due (last_of from (leaf_text w.leaf)) (events from z)) (returned_is r w.leaf level bytes value behind w.returned is_tree whole)
     ∙ leaf_but_end from w.leaf shown w.returned.line_of.no_rest (leaf_told w.leaf (shown ++ e.TextEnd ∷ []) w.told from) w.begun

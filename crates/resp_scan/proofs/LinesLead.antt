@@ -6,17 +6,17 @@ use Rattle.resp_value.specs.Rules.{Rules, Grammar, WithinDepth, WithinLength}
 use Rattle.resp_value.specs.Trees as t
 use Rattle.resp_value.specs.Trees.{LineKind, leaf, line}
 use Rattle.resp_value.specs.declared.cause.Cause.TheVariants as cause
-use Rattle.resp_follow.specs.Events.{Event}
-use Rattle.resp_follow.specs.Events as e
-use Rattle.resp_follow.proofs.CountRows.{CompletesUnder}
-use Rattle.resp_follow.proofs.BegunFronts.{IsBegunBy}
-use Rattle.resp_follow.proofs.LineTokens.{line_begun, line_broken_by_newline, returned_begun, returned_broken, returned_whole, text_token_line, text_token_more, text_token_over}
-use Rattle.resp_scan.specs.Tokens.{Go, Byte, Give, Refuse, TextEnd, Place, ended, InLine, AtLineLf, at}
-use Rattle.resp_scan.specs.Room.{fits}
-use Rattle.resp_scan.specs.Machine.{content_byte}
+use Rattle.resp_fronts.specs.Events.{Event}
+use Rattle.resp_fronts.specs.Events as e
+use Rattle.resp_fronts.proofs.CountRows.{CompletesUnder}
+use Rattle.resp_fronts.proofs.BegunFronts.{IsBegunBy}
+use Rattle.resp_fronts.proofs.LineTokens.{line_begun, line_broken_by_newline, returned_begun, returned_broken, returned_whole, text_token_line, text_token_more, text_token_over}
+use Rattle.resp_scan.specs.Machine.Tokens.{Go, Byte, Give, Refuse, TextEnd, Place, after_end, InLine, AtLineLf, at}
+use Rattle.resp_scan.specs.Machine.Room.{has_total_room}
+use Rattle.resp_scan.specs.Machine.Moves.{content_byte}
 use Rattle.resp_scan.specs.Kinds.{content_events, rules_of}
-use Rattle.resp_scan.specs.Begun.{LineBegun, TextReturned, line_text}
-use Rattle.resp_scan.specs.Follows.{Counts, Leads, Lies}
+use Rattle.resp_scan.specs.Machine.Beginnings.{LineBegun, TextReturned, line_text_kind}
+use Rattle.resp_scan.specs.Machine.Standing.{HasCountsOf, Leads, StandsAfter}
 use Rattle.resp_scan.proofs.TokenLaws.{LinesLead, LineEndsLead}
 use Rattle.resp_scan.proofs.LeafEvents.{content_events-append, given-line, leaf_told}
 use Rattle.resp_scan.proofs.Moves.{Ends, goes, tells, value_ends}
@@ -27,7 +27,7 @@ pub line_row : (r : Rules) (room level : ℕ) (bytes : List ℕ) (shown : List E
 line_row r room level bytes shown w = line_begun r (line w.kind w.token.content) level bytes (text_token_line r w.kind w.size level bytes w.token)
 
 -- it is no big number
-text_of_line : (k : LineKind) (negative : Bool) (es : List Event) → e.Text (line_text k) ∷ es ≡ e.Text (e.Big negative) ∷ [] → ⊥
+text_of_line : (k : LineKind) (negative : Bool) (es : List Event) → e.Text (line_text_kind k) ∷ es ≡ e.Text (e.Big negative) ∷ [] → ⊥
 text_of_line t.Simple negative es same = cc
 text_of_line t.Error negative es same = cc
 text_of_line t.Double negative es same = cc
@@ -49,14 +49,14 @@ line_goes_on r room level byte bytes shown is_byte no_return no_newline some w =
   size = w.size + 1;
   token = text_token_more r w.kind w.size level bytes (byte ∷ []) w.token ((no_return, no_newline), tt) (is_byte, tt) (omega (arith, w.leaves));
   leaves = omega (arith, w.leaves);
-  told = ap (λ z. z ++ e.Byte byte ∷ []) w.told ∙ ap (λ z. e.Text (line_text w.kind) ∷ z) (sym (content_events-append w.token.content (byte ∷ [])));
+  told = ap (λ z. z ++ e.Byte byte ∷ []) w.told ∙ ap (λ z. e.Text (line_text_kind w.kind) ∷ z) (sym (content_events-append w.token.content (byte ∷ [])));
 }
 
 -- a byte of content, unless length or total refuses it
-line_byte_leads : (s : Place) (room used byte : ℕ) (front : List ℕ) (es : List Event) → byte < 256 → (byte ≡ 13 → ⊥) → (byte ≡ 10 → ⊥) → Counts (at s (InLine room)) used front → Lies (at s (InLine room)) front es → Leads (at s (InLine room)) front es byte (content_byte (at s (InLine room)) (used + 1) room InLine)
+line_byte_leads : (s : Place) (room used byte : ℕ) (front : List ℕ) (es : List Event) → byte < 256 → (byte ≡ 13 → ⊥) → (byte ≡ 10 → ⊥) → HasCountsOf (at s (InLine room)) used front → StandsAfter (at s (InLine room)) front es → Leads (at s (InLine room)) front es byte (content_byte (at s (InLine room)) (used + 1) room InLine)
 line_byte_leads s room used byte front es is_byte no_return no_newline c w =
     let r = rules_of s in
-    elim (eqb room 0) as (λ z. eqb room 0 ≡ z → Leads (at s (InLine room)) front es byte (cond z (Refuse cause.Length) (cond (fits (at s (InLine room)) (used + 1) 2) (Byte (at s (InLine (room - 1)))) (Refuse cause.Total)))) [
+    elim (eqb room 0) as (λ z. eqb room 0 ≡ z → Leads (at s (InLine room)) front es byte (cond z (Refuse cause.Length) (cond (has_total_room (at s (InLine room)) (used + 1) 2) (Byte (at s (InLine (room - 1)))) (Refuse cause.Total)))) [
       | true ↦ λ z. refused r (LineBegun r room) WithinLength WithinDepth s.frames front (byte ∷ []) es refl (omega arith) w
           (λ level bytes shown e t.
           let full : r.limits.length ≤ t.size = (let n : room ≡ 0 = grind (arith, nat_tests) in omega (arith, t.leaves)) in
@@ -74,7 +74,7 @@ lines_lead s room used byte front es is_byte c w =
     elim (eqb byte 13) as (λ x. eqb byte 13 ≡ x → Leads (at s (InLine room)) front es byte (cond x (Go (at s AtLineLf)) (cond (eqb byte 10) (Refuse cause.Syntax) (content_byte (at s (InLine room)) (used + 1) room InLine)))) [
       | true ↦ λ x.
           let b : byte ≡ 13 = grind (arith, nat_tests) in
-          subst (λ z. Lies (at s AtLineLf) (front ++ z ∷ []) es) (sym b) (goes r (LineBegun r room) (TextReturned r) s.frames front (13 ∷ []) es w (λ level bytes shown e t. line_returns r room level bytes shown t))
+          subst (λ z. StandsAfter (at s AtLineLf) (front ++ z ∷ []) es) (sym b) (goes r (LineBegun r room) (TextReturned r) s.frames front (13 ∷ []) es w (λ level bytes shown e t. line_returns r room level bytes shown t))
       | false ↦ λ x.
           elim (eqb byte 10) as (λ y. eqb byte 10 ≡ y → Leads (at s (InLine room)) front es byte (cond y (Refuse cause.Syntax) (content_byte (at s (InLine room)) (used + 1) room InLine))) [
             | true ↦ λ y.
@@ -93,10 +93,10 @@ returned_text_ends r level bytes shown w =
 pub line_ends_lead : LineEndsLead
 line_ends_lead s used byte front es is_byte c w =
     let r = rules_of s in
-    elim (eqb byte 10) as (λ x. eqb byte 10 ≡ x → Leads (at s AtLineLf) front es byte (cond x (Give TextEnd (ended s)) (Refuse cause.Syntax))) [
+    elim (eqb byte 10) as (λ x. eqb byte 10 ≡ x → Leads (at s AtLineLf) front es byte (cond x (Give TextEnd (after_end s)) (Refuse cause.Syntax))) [
       | true ↦ λ x.
           let b : byte ≡ 10 = grind (arith, nat_tests) in
-          subst (λ z. Lies (ended s) (front ++ z ∷ []) (es ++ e.TextEnd ∷ [])) (sym b) (value_ends r (TextReturned r) s.frames front (10 ∷ []) es (e.TextEnd ∷ []) w (λ level bytes shown i t. returned_text_ends r level bytes shown t))
+          subst (λ z. StandsAfter (after_end s) (front ++ z ∷ []) (es ++ e.TextEnd ∷ [])) (sym b) (value_ends r (TextReturned r) s.frames front (10 ∷ []) es (e.TextEnd ∷ []) w (λ level bytes shown i t. returned_text_ends r level bytes shown t))
       | false ↦ λ x.
           broken r (TextReturned r) s.frames front es 1 byte w (λ level bytes shown i t. returned_begun r t.leaf level bytes t.returned)
           (λ level bytes rest shown t d. returned_broken r t.leaf level bytes rest byte (λ b. grind (arith, nat_tests)) t.returned d)

@@ -6,24 +6,24 @@ use Rattle.resp_value.specs.Rules.{Rules, Grammar}
 use Rattle.resp_value.specs.LocalRules.{LeafKeeps, NodeKeeps}
 use Rattle.resp_value.specs.Trees.{leaf, null, truth, NullForm, BulkNull, ArrayNull, null_line, truth_line}
 use Rattle.resp_value.specs.declared.version.Version.TheVariants.{Two}
-use Rattle.resp_follow.specs.Events.{Event}
-use Rattle.resp_follow.specs.Events as e
-use Rattle.resp_follow.proofs.CountRows.{CompletesUnder}
-use Rattle.resp_follow.proofs.BegunFronts.{IsBegunBy}
-use Rattle.resp_follow.proofs.BrokenLines.{byte_broken, return_broken, null_begun_broken, null_broken, null_short, truth_begun_broken, truth_broken, truth_short}
-use Rattle.resp_follow.proofs.LineTokens.{line_begun, no_break_in_line, returned_begun, returned_broken, returned_whole}
-use Rattle.resp_follow.proofs.NumberTokens.{dollar_null_begun, null_token_line, star_null_begun, truth_begun, truth_token_line}
-use Rattle.resp_scan.specs.Tokens as k
-use Rattle.resp_scan.specs.Tokens.{Go, Give, Refuse, Place, AtBool, AtBoolCr, AtBoolLf, AtNullCr, AtNullLf, AtNullOne, at, ended}
+use Rattle.resp_fronts.specs.Events.{Event}
+use Rattle.resp_fronts.specs.Events as e
+use Rattle.resp_fronts.proofs.CountRows.{CompletesUnder}
+use Rattle.resp_fronts.proofs.BegunFronts.{IsBegunBy}
+use Rattle.resp_fronts.proofs.BrokenLines.{byte_broken, return_broken, null_begun_broken, null_broken, null_short, truth_begun_broken, truth_broken, truth_short}
+use Rattle.resp_fronts.proofs.LineTokens.{line_begun, no_break_in_line, returned_begun, returned_broken, returned_whole}
+use Rattle.resp_fronts.proofs.NumberTokens.{dollar_null_begun, null_token_line, star_null_begun, truth_begun, truth_token_line}
+use Rattle.resp_scan.specs.Machine.Tokens as k
+use Rattle.resp_scan.specs.Machine.Tokens.{Go, Give, Refuse, Place, AtBool, AtBoolCr, AtBoolLf, AtNullCr, AtNullLf, AtNullOne, at, after_end}
 use Rattle.resp_scan.specs.Kinds.{rules_of}
-use Rattle.resp_scan.specs.Begun as b
-use Rattle.resp_scan.specs.Begun.{IsNullBegun, NullLine, NullReturned}
-use Rattle.resp_scan.specs.Follows.{Leads, Lies}
+use Rattle.resp_scan.specs.Machine.Beginnings as b
+use Rattle.resp_scan.specs.Machine.Beginnings.{IsNullBegun, NullLine, NullReturned}
+use Rattle.resp_scan.specs.Machine.Standing.{Leads, StandsAfter}
 use Rattle.resp_scan.proofs.TokenLaws.{NullOneLeads, NullCrLeads, NullEndLeads, BoolLeads, BoolCrLeads, BoolEndLeads}
 use Rattle.resp_scan.proofs.Moves.{Ends, goes, value_ends}
 use Rattle.resp_scan.proofs.ByteTests.{by_byte}
 use Rattle.resp_scan.proofs.Choices.{if_equal, wants_leads}
-use Rattle.resp_follow.specs.Tokens.{IsLineOf, IsReturned}
+use Rattle.resp_fronts.specs.Tokens.{IsLineOf, IsReturned}
 
 -- Nulls.
 
@@ -54,10 +54,10 @@ null_whole r level bytes shown none (inr is) = record { form = ArrayNull; token 
 pub null_one_leads : NullOneLeads
 null_one_leads s used byte front es is_byte c w =
     let r = rules_of s in
-    wants_leads (at s AtNullOne) (b.Begun r AtNullOne) front es 3 byte 49 (Go (at s AtNullCr)) w
+    wants_leads (at s AtNullOne) (b.TokenHas r AtNullOne) front es 3 byte 49 (Go (at s AtNullCr)) w
     (λ level bytes shown i t. null_first_row r level bytes t.0)
     (λ other level bytes rest shown t dead. null_first_dead r level byte bytes rest other t.0 dead)
-    (λ is. subst (λ z. Lies (at s AtNullCr) (front ++ z ∷ []) es) (sym is) (goes r (b.Begun r AtNullOne) (NullLine r) s.frames front (49 ∷ []) es w (λ level bytes shown i t. null_whole r level bytes shown t.1 t.0)))
+    (λ is. subst (λ z. StandsAfter (at s AtNullCr) (front ++ z ∷ []) es) (sym is) (goes r (b.TokenHas r AtNullOne) (NullLine r) s.frames front (49 ∷ []) es w (λ level bytes shown i t. null_whole r level bytes shown t.1 t.0)))
 
 null_returns : (r : Rules) (level : ℕ) (bytes : List ℕ) (shown : List Event) → NullLine r level bytes shown → NullReturned r level (bytes ++ 13 ∷ []) shown
 null_returns r level bytes shown w = record { form = w.form; returned = record { begun = bytes; line_of = w.token; returned = refl }; told = w.told }
@@ -72,7 +72,7 @@ null_cr_leads s used byte front es is_byte c w =
     wants_leads (at s AtNullCr) (NullLine r) front es 2 byte 13 (Go (at s AtNullLf)) w
     (λ level bytes shown i t. line_begun r (null t.form) level bytes t.token)
     (λ other level bytes rest shown t dead. null_dead r t.form level byte bytes rest other t.token dead)
-    (λ is. subst (λ z. Lies (at s AtNullLf) (front ++ z ∷ []) es) (sym is) (goes r (NullLine r) (NullReturned r) s.frames front (13 ∷ []) es w (λ level bytes shown i t. null_returns r level bytes shown t)))
+    (λ is. subst (λ z. StandsAfter (at s AtNullLf) (front ++ z ∷ []) es) (sym is) (goes r (NullLine r) (NullReturned r) s.frames front (13 ∷ []) es w (λ level bytes shown i t. null_returns r level bytes shown t)))
 
 null_ends : (r : Rules) (level : ℕ) (bytes : List ℕ) (shown : List Event) → NullReturned r level bytes shown → Ends r level (bytes ++ 10 ∷ []) (shown ++ e.Null ∷ [])
 null_ends r level bytes shown w = record { tree = leaf (null w.form); is_tree = w.returned.line_of.is_leaf; keep = w.returned.line_of.keeps; whole = returned_whole r (null w.form) level bytes w.returned; told = λ from. ap (λ z. z ++ e.Null ∷ []) (sym w.told) }
@@ -80,10 +80,10 @@ null_ends r level bytes shown w = record { tree = leaf (null w.form); is_tree = 
 pub null_end_leads : NullEndLeads
 null_end_leads s used byte front es is_byte c w =
     let r = rules_of s in
-    wants_leads (at s AtNullLf) (NullReturned r) front es 1 byte 10 (Give k.Null (ended s)) w
+    wants_leads (at s AtNullLf) (NullReturned r) front es 1 byte 10 (Give k.Null (after_end s)) w
     (λ level bytes shown i t. returned_begun r (null t.form) level bytes t.returned)
     (λ other level bytes rest shown t dead. returned_broken r (null t.form) level bytes rest byte other t.returned dead)
-    (λ is. subst (λ z. Lies (ended s) (front ++ z ∷ []) (es ++ e.Null ∷ [])) (sym is)
+    (λ is. subst (λ z. StandsAfter (after_end s) (front ++ z ∷ []) (es ++ e.Null ∷ [])) (sym is)
     (value_ends r (NullReturned r) s.frames front (10 ∷ []) es (e.Null ∷ []) w (λ level bytes shown i t. null_ends r level bytes shown t)))
 
 -- Truth values.
@@ -99,15 +99,15 @@ hash_dead r level byte bytes rest no_t no_f is c =
 truth_is : (r : Rules) (x : Bool) (level byte : ℕ) (bytes : List ℕ) → (r.version ≡ Two → ⊥) → truth_line x ≡ 35 ∷ byte ∷ [] → bytes ≡ 35 ∷ [] → IsLineOf r (truth x) level (bytes ++ byte ∷ [])
 truth_is r x level byte bytes no_two is are = subst (IsLineOf r (truth x) level) (is ∙ ap (λ z. z ++ byte ∷ []) (sym are)) (truth_token_line r x level no_two)
 
-goes_true : (s : Place) (x : Bool) (byte : ℕ) (front : List ℕ) (es : List Event) → truth_line x ≡ 35 ∷ byte ∷ [] → Lies (at s AtBool) front es → Leads (at s AtBool) front es byte (Go (at s (AtBoolCr x)))
-goes_true s x byte front es is w = goes (rules_of s) (b.Begun (rules_of s) AtBool) (b.Begun (rules_of s) (AtBoolCr x)) s.frames front (byte ∷ []) es w (λ level bytes shown i t. (truth_is (rules_of s) x level byte bytes t.0 is t.1, t.2))
+goes_true : (s : Place) (x : Bool) (byte : ℕ) (front : List ℕ) (es : List Event) → truth_line x ≡ 35 ∷ byte ∷ [] → StandsAfter (at s AtBool) front es → Leads (at s AtBool) front es byte (Go (at s (AtBoolCr x)))
+goes_true s x byte front es is w = goes (rules_of s) (b.TokenHas (rules_of s) AtBool) (b.TokenHas (rules_of s) (AtBoolCr x)) s.frames front (byte ∷ []) es w (λ level bytes shown i t. (truth_is (rules_of s) x level byte bytes t.0 is t.1, t.2))
 
 pub bool_leads : BoolLeads
 bool_leads s used byte front es is_byte c w =
     let r = rules_of s in
     by_byte (at s AtBool) front es 116 byte _ _
     (λ is. goes_true s true byte front es (ap (λ z. 35 ∷ z ∷ []) (sym is)) w)
-    (λ no_t. wants_leads (at s AtBool) (b.Begun r AtBool) front es 3 byte 102 (Go (at s (AtBoolCr false))) w
+    (λ no_t. wants_leads (at s AtBool) (b.TokenHas r AtBool) front es 3 byte 102 (Go (at s (AtBoolCr false))) w
     (λ level bytes shown i t. subst (λ z. IsBegunBy r level z 3) (sym t.1) (truth_begun r level t.0))
     (λ no_f level bytes rest shown t dead. hash_dead r level byte bytes rest no_t no_f t.1 dead)
     (λ is. goes_true s false byte front es (ap (λ z. 35 ∷ z ∷ []) (sym is)) w))
@@ -119,10 +119,10 @@ truth_dead r x level byte bytes rest other w c =
 pub bool_cr_leads : BoolCrLeads
 bool_cr_leads s x used byte front es is_byte c w =
     let r = rules_of s in
-    wants_leads (at s (AtBoolCr x)) (b.Begun r (AtBoolCr x)) front es 2 byte 13 (Go (at s (AtBoolLf x))) w
+    wants_leads (at s (AtBoolCr x)) (b.TokenHas r (AtBoolCr x)) front es 2 byte 13 (Go (at s (AtBoolLf x))) w
     (λ level bytes shown i t. line_begun r (truth x) level bytes t.0)
     (λ other level bytes rest shown t dead. truth_dead r x level byte bytes rest other t.0 dead)
-    (λ is. subst (λ z. Lies (at s (AtBoolLf x)) (front ++ z ∷ []) es) (sym is) (goes r (b.Begun r (AtBoolCr x)) (b.Begun r (AtBoolLf x)) s.frames front (13 ∷ []) es w (λ level bytes shown i t. (record { begun = bytes; line_of = t.0; returned = refl }, t.1))))
+    (λ is. subst (λ z. StandsAfter (at s (AtBoolLf x)) (front ++ z ∷ []) es) (sym is) (goes r (b.TokenHas r (AtBoolCr x)) (b.TokenHas r (AtBoolLf x)) s.frames front (13 ∷ []) es w (λ level bytes shown i t. (record { begun = bytes; line_of = t.0; returned = refl }, t.1))))
 
 truth_ends : (r : Rules) (x : Bool) (level : ℕ) (bytes : List ℕ) (shown : List Event) → IsReturned r (truth x) level bytes → shown ≡ [] → Ends r level (bytes ++ 10 ∷ []) (shown ++ e.Bool x ∷ [])
 truth_ends r x level bytes shown w none = record { tree = leaf (truth x); is_tree = w.line_of.is_leaf; keep = w.line_of.keeps; whole = returned_whole r (truth x) level bytes w; told = λ from. ap (λ z. z ++ e.Bool x ∷ []) (sym none) }
@@ -130,8 +130,8 @@ truth_ends r x level bytes shown w none = record { tree = leaf (truth x); is_tre
 pub bool_end_leads : BoolEndLeads
 bool_end_leads s x used byte front es is_byte c w =
     let r = rules_of s in
-    wants_leads (at s (AtBoolLf x)) (b.Begun r (AtBoolLf x)) front es 1 byte 10 (Give (k.Truth x) (ended s)) w
+    wants_leads (at s (AtBoolLf x)) (b.TokenHas r (AtBoolLf x)) front es 1 byte 10 (Give (k.Truth x) (after_end s)) w
     (λ level bytes shown i t. returned_begun r (truth x) level bytes t.0)
     (λ other level bytes rest shown t dead. returned_broken r (truth x) level bytes rest byte other t.0 dead)
-    (λ is. subst (λ z. Lies (ended s) (front ++ z ∷ []) (es ++ e.Bool x ∷ [])) (sym is)
-    (value_ends r (b.Begun r (AtBoolLf x)) s.frames front (10 ∷ []) es (e.Bool x ∷ []) w (λ level bytes shown i t. truth_ends r x level bytes shown t.0 t.1)))
+    (λ is. subst (λ z. StandsAfter (after_end s) (front ++ z ∷ []) (es ++ e.Bool x ∷ [])) (sym is)
+    (value_ends r (b.TokenHas r (AtBoolLf x)) s.frames front (10 ∷ []) es (e.Bool x ∷ []) w (λ level bytes shown i t. truth_ends r x level bytes shown t.0 t.1)))

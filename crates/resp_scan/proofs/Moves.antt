@@ -8,27 +8,27 @@ use Rattle.resp_value.specs.Trees as t
 use Rattle.resp_value.specs.Trees.{Tree, Trees, Form, Counted, Streamed, IsTree, close, count, form_line, kind_byte, none, text}
 use Rattle.resp_value.specs.Rules.{Rules, WithinItems}
 use Rattle.resp_value.specs.LocalRules.{LeafKeeps, NodeKeeps, HoldsFrom}
-use Rattle.resp_follow.specs.Frames as opened
-use Rattle.resp_follow.specs.Frames.{around}
-use Rattle.resp_follow.specs.MayFollow.{CanAllEnd, CanEnd, missing}
-use Rattle.resp_follow.specs.Events.{Event, Timed, events, events_around, given}
-use Rattle.resp_follow.proofs.Composition.{around-append, joined_trees_hold}
-use Rattle.resp_follow.proofs.OpenFrames.{are_joined, count-joined_trees, joined_trees}
-use Rattle.resp_follow.proofs.Levels.{around-with, with_member}
-use Rattle.resp_follow.proofs.LevelsAlone.{same_length}
-use Rattle.resp_follow.proofs.EventsAround.{events-member}
-use Rattle.resp_follow.proofs.BegunFronts.{FollowsBy}
+use Rattle.resp_fronts.specs.Frames as opened
+use Rattle.resp_fronts.specs.Frames.{text_around}
+use Rattle.resp_fronts.specs.MayFollow.{CanAllEnd, CanEnd, members_missing}
+use Rattle.resp_fronts.specs.Events.{Event, Timed, events, events_around, without_places}
+use Rattle.resp_fronts.proofs.Composition.{around-append, joined_trees_hold}
+use Rattle.resp_fronts.proofs.OpenFrames.{are_joined, count-joined_trees, joined_trees}
+use Rattle.resp_fronts.proofs.Levels.{around-with, with_member}
+use Rattle.resp_fronts.proofs.LevelsAlone.{same_length}
+use Rattle.resp_fronts.proofs.EventsAround.{events-member}
+use Rattle.resp_fronts.proofs.BegunFronts.{FollowsBy}
 use Rattle.resp_scan.specs.declared.frame.Frame.{Frame}
 use Rattle.resp_scan.specs.declared.frame.Shape.{Shape}
 use Rattle.resp_scan.specs.declared.frame.Shape.TheVariants.{Left, Begun}
-use Rattle.resp_scan.specs.Tokens.{AtStart, AtEnd, within, within_shape}
-use Rattle.resp_scan.specs.Kinds.{kind_of}
-use Rattle.resp_scan.specs.Follows.{HasBegun, HaveBegun, Inside, LiesAt, busy, busy_levels}
-use Rattle.resp_follow.specs.OpenLevels.{AreLevelsOf, AreReady, HasShape}
+use Rattle.resp_scan.specs.Machine.Tokens.{AtStart, AtEnd, token_within, token_in_shape}
+use Rattle.resp_value.specs.Kinds.{kind_of}
+use Rattle.resp_scan.specs.Machine.Standing.{HasBegun, HaveBegun, IsInside, StandsAfterAt, busy_shape, busy_levels}
+use Rattle.resp_fronts.specs.OpenLevels.{AreLevelsOf, AreReady, HasShape}
 
 -- Lists of events.
 
-pub given-append : (a b : List Timed) → given (a ++ b) ≡ given a ++ given b
+pub given-append : (a b : List Timed) → without_places (a ++ b) ≡ without_places a ++ without_places b
 given-append [] b = refl
 given-append (e ∷ es) b = ap (λ z. e.event ∷ z) (given-append es b)
 
@@ -39,7 +39,7 @@ length-busy [] = refl
 length-busy (f ∷ fs) = ap suc (length-busy fs)
 
 -- as many frames as the scanner has
-pub at_level : {r : Rules} {T : ℕ → List ℕ → List Event → Type 0} {fs : List Frame} {front : List ℕ} {es : List Event} (w : Inside r T fs front es) → length w.frames ≡ length fs
+pub at_level : {r : Rules} {T : ℕ → List ℕ → List Event → Type 0} {fs : List Frame} {front : List ℕ} {es : List Event} (w : IsInside r T fs front es) → length w.frames ≡ length fs
 at_level {fs = fs} w = sym (same_length (busy_levels fs) w.frames w.of_levels) ∙ length-busy fs
 
 -- bytes of which T tells something
@@ -47,14 +47,14 @@ abbrev pub Tells : (ℕ → List ℕ → List Event → Type 0) → ℕ → List
 Tells T level bytes = (shown : List Event) × T level bytes shown
 
 -- the events aside
-pub follows_by : (r : Rules) (T : ℕ → List ℕ → List Event → Type 0) (fs : List Frame) (front : List ℕ) (es : List Event) → Inside r T fs front es → FollowsBy r (Tells T) (busy_levels fs) front
+pub follows_by : (r : Rules) (T : ℕ → List ℕ → List Event → Type 0) (fs : List Frame) (front : List ℕ) (es : List Event) → IsInside r T fs front es → FollowsBy r (Tells T) (busy_levels fs) front
 follows_by r T fs front es w = record { frames = w.frames; bytes = w.bytes; of_levels = w.of_levels; can_end = w.can_end; took = (w.shown, w.took); whole = w.whole }
 
-pub longer : (frames : List opened.Frame) (front bytes more : List ℕ) → front ≡ around frames bytes → front ++ more ≡ around frames (bytes ++ more)
+pub longer : (frames : List opened.Frame) (front bytes more : List ℕ) → front ≡ text_around frames bytes → front ++ more ≡ text_around frames (bytes ++ more)
 longer frames front bytes more e = ap (λ q. q ++ more) e ∙ around-append frames bytes more
 
 -- bytes more of the same value, and events more
-pub tells : (r : Rules) (T U : ℕ → List ℕ → List Event → Type 0) (fs : List Frame) (front more : List ℕ) (es new : List Event) → Inside r T fs front es → ((level : ℕ) (bytes : List ℕ) (shown : List Event) → level ≡ length fs → T level bytes shown → U level (bytes ++ more) (shown ++ new)) → Inside r U fs (front ++ more) (es ++ new)
+pub tells : (r : Rules) (T U : ℕ → List ℕ → List Event → Type 0) (fs : List Frame) (front more : List ℕ) (es new : List Event) → IsInside r T fs front es → ((level : ℕ) (bytes : List ℕ) (shown : List Event) → level ≡ length fs → T level bytes shown → U level (bytes ++ more) (shown ++ new)) → IsInside r U fs (front ++ more) (es ++ new)
 tells r T U fs front more es new w step = record {
   frames = w.frames;
   bytes = w.bytes ++ more;
@@ -64,11 +64,11 @@ tells r T U fs front more es new w step = record {
   can_end = w.can_end;
   took = step (length w.frames) w.bytes w.shown (at_level w) w.took;
   whole = longer w.frames front w.bytes more w.whole;
-  told = ap (λ z. z ++ new) w.told ∙ append_assoc (given (events_around w.frames)) w.shown new;
+  told = ap (λ z. z ++ new) w.told ∙ append_assoc (without_places (events_around w.frames)) w.shown new;
 }
 
 -- and none
-pub goes : (r : Rules) (T U : ℕ → List ℕ → List Event → Type 0) (fs : List Frame) (front more : List ℕ) (es : List Event) → Inside r T fs front es → ((level : ℕ) (bytes : List ℕ) (shown : List Event) → level ≡ length fs → T level bytes shown → U level (bytes ++ more) shown) → Inside r U fs (front ++ more) es
+pub goes : (r : Rules) (T U : ℕ → List ℕ → List Event → Type 0) (fs : List Frame) (front more : List ℕ) (es : List Event) → IsInside r T fs front es → ((level : ℕ) (bytes : List ℕ) (shown : List Event) → level ≡ length fs → T level bytes shown → U level (bytes ++ more) shown) → IsInside r U fs (front ++ more) es
 goes r T U fs front more es w step = record {
   frames = w.frames;
   bytes = w.bytes ++ more;
@@ -82,7 +82,7 @@ goes r T U fs front more es w step = record {
 }
 
 -- the same bytes, told in other words
-pub retold : (r : Rules) (T U : ℕ → List ℕ → List Event → Type 0) (fs : List Frame) (front : List ℕ) (es : List Event) → Inside r T fs front es → ((level : ℕ) (bytes : List ℕ) (shown : List Event) → T level bytes shown → U level bytes shown) → Inside r U fs front es
+pub retold : (r : Rules) (T U : ℕ → List ℕ → List Event → Type 0) (fs : List Frame) (front : List ℕ) (es : List Event) → IsInside r T fs front es → ((level : ℕ) (bytes : List ℕ) (shown : List Event) → T level bytes shown → U level bytes shown) → IsInside r U fs front es
 retold r T U fs front es w words = record {
   frames = w.frames;
   bytes = w.bytes;
@@ -101,7 +101,7 @@ pub record Ends (r : Rules) (level : ℕ) (bytes : List ℕ) (shown : List Event
   pub is_tree : IsTree tree
   pub keep : HoldsFrom (LeafKeeps r WithinItems) (NodeKeeps r WithinItems) level tree
   pub whole : text tree ≡ bytes
-  pub told : (from : ℕ) → given (events from tree) ≡ shown
+  pub told : (from : ℕ) → without_places (events from tree) ≡ shown
 
 -- a member more, where the innermost frame has it counted already
 ready_with : (r : Rules) (g : opened.Frame) (gs : List opened.Frame) (u : Tree) → CanAllEnd (LeafKeeps r WithinItems) (NodeKeeps r WithinItems) (g ∷ gs) → IsTree u → HoldsFrom (LeafKeeps r WithinItems) (NodeKeeps r WithinItems) (suc (length gs)) u → AreReady (LeafKeeps r WithinItems) (NodeKeeps r WithinItems) (with_member g u ∷ gs)
@@ -114,11 +114,11 @@ count_with : (g : opened.Frame) (u : Tree) → count (with_member g u).done ≡ 
 count_with g u = omega (arith, count-joined_trees g.done (t.more u none))
 
 -- the innermost frame has all of its members, or waits for one more
-member_ends : (r : Rules) (f : Frame) (fs : List Frame) (g : opened.Frame) (gs : List opened.Frame) (u : Tree) (shape : Shape) (front : List ℕ) (es : List Event) → kind_of f.kind ≡ g.kind → HasShape g.kind (busy shape) g.form (count g.done) → HasBegun shape → HaveBegun fs → AreLevelsOf (busy_levels fs) gs → AreReady (LeafKeeps r WithinItems) (NodeKeeps r WithinItems) (with_member g u ∷ gs) → front ≡ around (with_member g u ∷ gs) [] → es ≡ given (events_around (with_member g u ∷ gs)) → LiesAt r (within_shape shape) (record f { shape = shape } ∷ fs) front es
+member_ends : (r : Rules) (f : Frame) (fs : List Frame) (g : opened.Frame) (gs : List opened.Frame) (u : Tree) (shape : Shape) (front : List ℕ) (es : List Event) → kind_of f.kind ≡ g.kind → HasShape g.kind (busy_shape shape) g.form (count g.done) → HasBegun shape → HaveBegun fs → AreLevelsOf (busy_levels fs) gs → AreReady (LeafKeeps r WithinItems) (NodeKeeps r WithinItems) (with_member g u ∷ gs) → front ≡ text_around (with_member g u ∷ gs) [] → es ≡ without_places (events_around (with_member g u ∷ gs)) → StandsAfterAt r (token_in_shape shape) (record f { shape = shape } ∷ fs) front es
 member_ends r f fs g gs u (Left zero) front es k h b bs a o e told =
     let c = count_with g u in
     let m : members_of g.kind (number h.0) ≡ count g.done + (0 + 1) = h.3 in
-    let x : missing g.kind g.form (count (with_member g u).done) ≡ missing g.kind (Counted h.0) (count (with_member g u).done) = ap (λ z. missing g.kind z (count (with_member g u).done)) h.1 in
+    let x : members_missing g.kind g.form (count (with_member g u).done) ≡ members_missing g.kind (Counted h.0) (count (with_member g u).done) = ap (λ z. members_missing g.kind z (count (with_member g u).done)) h.1 in
     record {
       frame = with_member g u;
       outer = gs;
@@ -135,7 +135,7 @@ member_ends r f fs g gs u (Left (suc n)) front es k h b bs a o e told =
     let c = count_with g u in
     let m : members_of g.kind (number h.0) ≡ count g.done + (suc n + 1) = h.3 in
     let z : eqb (suc n) 0 ≡ false = grind (arith, nat_tests) in
-    subst (λ v. LiesAt r (cond v AtEnd AtStart) (record f { shape = Left (suc n) } ∷ fs) front es) (sym z) (record {
+    subst (λ v. StandsAfterAt r (cond v AtEnd AtStart) (record f { shape = Left (suc n) } ∷ fs) front es) (sym z) (record {
       frames = with_member g u ∷ gs;
       begun = bs;
       of_levels = (k, (h.0, h.1, h.2, omega arith, omega arith), a);
@@ -156,17 +156,17 @@ member_ends r f fs g gs u (Begun n) front es k h b bs a o e told =
     }
 
 -- a whole value within open frames
-pub value_lies : (r : Rules) (fs : List Frame) (frames : List opened.Frame) (u : Tree) (front : List ℕ) (es : List Event) → HaveBegun fs → AreLevelsOf (busy_levels fs) frames → CanAllEnd (LeafKeeps r WithinItems) (NodeKeeps r WithinItems) frames → IsTree u → HoldsFrom (LeafKeeps r WithinItems) (NodeKeeps r WithinItems) (length frames) u → front ≡ around frames (text u) → es ≡ given (events_around frames) ++ given (events (length (around frames [])) u) → LiesAt r (within fs) fs front es
+pub value_lies : (r : Rules) (fs : List Frame) (frames : List opened.Frame) (u : Tree) (front : List ℕ) (es : List Event) → HaveBegun fs → AreLevelsOf (busy_levels fs) frames → CanAllEnd (LeafKeeps r WithinItems) (NodeKeeps r WithinItems) frames → IsTree u → HoldsFrom (LeafKeeps r WithinItems) (NodeKeeps r WithinItems) (length frames) u → front ≡ text_around frames (text u) → es ≡ without_places (events_around frames) ++ without_places (events (length (text_around frames [])) u) → StandsAfterAt r (token_within fs) fs front es
 value_lies r [] [] u front es b a o p q e told = record { tree = u; is_tree = p; keep = q; whole = e; told = told }
 value_lies r [] (g ∷ gs) u front es b a o p q e told = absurd a
 value_lies r (f ∷ fs) [] u front es b a o p q e told = absurd a
 value_lies r (f ∷ fs) (g ∷ gs) u front es b a o p q e told =
     member_ends r f fs g gs u f.shape front es a.0 a.1 b.0 b.1 a.2 (ready_with r g gs u o p q) (e ∙ around-with g gs u)
-    (told ∙ sym (given-append (events_around (g ∷ gs)) (events (length (around (g ∷ gs) [])) u)) ∙ ap given (sym (events-member g gs u)))
+    (told ∙ sym (given-append (events_around (g ∷ gs)) (events (length (text_around (g ∷ gs) [])) u)) ∙ ap without_places (sym (events-member g gs u)))
 
 -- bytes that end the value, and events more
-pub value_ends : (r : Rules) (T : ℕ → List ℕ → List Event → Type 0) (fs : List Frame) (front more : List ℕ) (es new : List Event) → Inside r T fs front es → ((level : ℕ) (bytes : List ℕ) (shown : List Event) → level ≡ length fs → T level bytes shown → Ends r level (bytes ++ more) (shown ++ new)) → LiesAt r (within fs) fs (front ++ more) (es ++ new)
+pub value_ends : (r : Rules) (T : ℕ → List ℕ → List Event → Type 0) (fs : List Frame) (front more : List ℕ) (es new : List Event) → IsInside r T fs front es → ((level : ℕ) (bytes : List ℕ) (shown : List Event) → level ≡ length fs → T level bytes shown → Ends r level (bytes ++ more) (shown ++ new)) → StandsAfterAt r (token_within fs) fs (front ++ more) (es ++ new)
 value_ends r T fs front more es new w last =
     let t = last (length w.frames) w.bytes w.shown (at_level w) w.took in
-    value_lies r fs w.frames t.tree (front ++ more) (es ++ new) w.begun w.of_levels w.can_end t.is_tree t.keep (longer w.frames front w.bytes more w.whole ∙ ap (around w.frames) (sym t.whole))
-    (ap (λ z. z ++ new) w.told ∙ append_assoc (given (events_around w.frames)) w.shown new ∙ ap (λ z. given (events_around w.frames) ++ z) (sym (t.told (length (around w.frames [])))))
+    value_lies r fs w.frames t.tree (front ++ more) (es ++ new) w.begun w.of_levels w.can_end t.is_tree t.keep (longer w.frames front w.bytes more w.whole ∙ ap (text_around w.frames) (sym t.whole))
+    (ap (λ z. z ++ new) w.told ∙ append_assoc (without_places (events_around w.frames)) w.shown new ∙ ap (λ z. without_places (events_around w.frames) ++ z) (sym (t.told (length (text_around w.frames [])))))

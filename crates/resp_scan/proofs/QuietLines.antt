@@ -6,16 +6,16 @@ use Rattle.resp_value.specs.Trees.{Tree, Leaf, leaf, node, line, numeral, null, 
 use Rattle.resp_value.specs.Rules.{Rules}
 use Rattle.resp_value.proofs.FirstBytes.{leaf_begins, first_byte, first_byte_is, leaf_byte}
 use Rattle.resp_value.proofs.FirstLines.{after_line, first_is_line, first_line}
-use Rattle.resp_follow.specs.Events as e
-use Rattle.resp_follow.specs.Events.{Event, chunk_events, events, events_each, last_of, leaf_events}
-use Rattle.resp_follow.proofs.BegunLines.{line_begins, return_split, text_first}
-use Rattle.resp_follow.proofs.EventPlaces.{each_within}
-use Rattle.resp_follow.proofs.EventsDue.{AreFrom, due_none}
-use Rattle.resp_follow.proofs.LineTokens.{no_break_in_line}
+use Rattle.resp_fronts.specs.Events as e
+use Rattle.resp_fronts.specs.Events.{Event, chunk_events, events, events_each, last_of, leaf_events}
+use Rattle.resp_fronts.proofs.BegunLines.{line_begins, return_split, text_first}
+use Rattle.resp_fronts.proofs.EventPlaces.{each_within}
+use Rattle.resp_fronts.proofs.EventsDue.{AreFrom, due_none}
+use Rattle.resp_fronts.proofs.LineTokens.{no_break_in_line}
 use Rattle.resp_scan.proofs.FramesDue.{from-append, from_later, from_within}
 use Rattle.resp_scan.proofs.InsideDue.{AreDueWithin}
 use Rattle.resp_scan.proofs.TextsDue.{chunks_later, text_later}
-use Rattle.resp_follow.specs.Tokens.{IsLineOf, IsReturned}
+use Rattle.resp_fronts.specs.Tokens.{IsLineOf, IsReturned}
 
 -- the byte begins neither a simple string, nor an error, nor a big number
 abbrev pub IsQuiet : ℕ → Type 0

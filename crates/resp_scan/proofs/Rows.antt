@@ -8,20 +8,21 @@ use Rattle.resp_value.specs.Numbers.{Unsigned}
 use Rattle.resp_value.specs.Rules.{Rules}
 use Rattle.resp_value.specs.Trees as t
 use Rattle.resp_value.specs.Trees.{StringKind, null, numeral, payload, truth}
-use Rattle.resp_follow.specs.Events.{Event}
-use Rattle.resp_follow.proofs.BegunFronts.{IsBegunBy}
-use Rattle.resp_follow.proofs.ChunkTokens.{chunk_mark_begun, chunks_begun, stream_returned_begun}
-use Rattle.resp_follow.proofs.ContentTokens.{content_begun, content_returned_begun}
-use Rattle.resp_follow.proofs.LineTokens.{line_begun, returned_begun}
-use Rattle.resp_follow.proofs.NumberTokens.{number_begun, truth_begun}
-use Rattle.resp_follow.proofs.StreamedHeads.{streamed_string_begun}
+use Rattle.resp_fronts.specs.Events.{Event}
+use Rattle.resp_fronts.proofs.BegunFronts.{IsBegunBy}
+use Rattle.resp_fronts.proofs.ChunkTokens.{chunk_mark_begun, chunks_begun, stream_returned_begun}
+use Rattle.resp_fronts.proofs.ContentTokens.{content_begun, content_returned_begun}
+use Rattle.resp_fronts.proofs.LineTokens.{line_begun, returned_begun}
+use Rattle.resp_fronts.proofs.NumberTokens.{number_begun, truth_begun}
+use Rattle.resp_fronts.proofs.StreamedHeads.{streamed_string_begun}
 use Rattle.resp_scan.specs.declared.machine.Head.{Head}
 use Rattle.resp_scan.specs.declared.machine.Head.TheVariants as head
-use Rattle.resp_scan.specs.Tokens.{Token, Place, AtStart, AtEnd, InLine, AtLineLf, AtIntSign, AtIntFirst, InInt, AtIntLf, AtBigSign, AtBigFirst, InBigZeros, AtBigZeroLf, AtBigDigit, InBig, AtTextEnd, AtNullOne, AtNullCr, AtNullLf, AtBool, AtBoolCr, AtBoolLf, AtBulkHead, AtArrayHead, AtHead, InHead, AtHeadLf, AtFormat, AtFormatSecond, AtFormatThird, AtFormatColon, InContent, AtContentCr, AtContentLf, AtStreamCr, AtStreamLf, AtChunk, InChunk, AtChunkCr, AtChunkLf, AtOpenCr, AtOpenLf, AtCloseCr, AtCloseLf, Dead}
-use Rattle.resp_scan.specs.Heads.{first_needed, head_needed}
-use Rattle.resp_scan.specs.Kinds.{kind_of, rules_of}
-use Rattle.resp_scan.specs.Begun.{Begun, ContentBegun, FormatBegun, HeadBegun, HeadCounts, HeadReturned}
-use Rattle.resp_scan.specs.Sound.{Fits, token_needed}
+use Rattle.resp_scan.specs.Machine.Tokens.{Token, Place, AtStart, AtEnd, InLine, AtLineLf, AtIntSign, AtIntFirst, InInt, AtIntLf, AtBigSign, AtBigFirst, InBigZeros, AtBigZeroLf, AtBigDigit, InBig, AtTextEnd, AtNullOne, AtNullCr, AtNullLf, AtBool, AtBoolCr, AtBoolLf, AtBulkHead, AtArrayHead, AtHead, InHead, AtHeadLf, AtFormat, AtFormatSecond, AtFormatThird, AtFormatColon, InContent, AtContentCr, AtContentLf, AtStreamCr, AtStreamLf, AtChunk, InChunk, AtChunkCr, AtChunkLf, AtOpenCr, AtOpenLf, AtCloseCr, AtCloseLf, Dead}
+use Rattle.resp_scan.specs.Machine.Heads.{first_needed, head_needed}
+use Rattle.resp_value.specs.Kinds.{kind_of}
+use Rattle.resp_scan.specs.Kinds.{rules_of}
+use Rattle.resp_scan.specs.Machine.Beginnings.{TokenHas, ContentBegun, FormatBegun, HeadBegun, HeadCounts, HeadReturned}
+use Rattle.resp_scan.specs.Machine.Sound.{IsTokenSound, token_needed}
 use Rattle.resp_scan.proofs.TokenLaws.{TokensNeed}
 use Rattle.resp_scan.proofs.BigNumbersLead.{row_of, shown_row}
 use Rattle.resp_scan.proofs.ChunkContentLead as chunk
@@ -37,7 +38,7 @@ use Rattle.resp_scan.proofs.OpensLead as opens
 use Rattle.resp_scan.proofs.StartLeads.{aggregate_row_of_attr, star_row}
 use Rattle.resp_scan.proofs.StringHeads.{bulk, bulk_error, verbatim}
 use Rattle.resp_scan.proofs.StringLengthEndsLead as string
-use Rattle.resp_follow.specs.Tokens.{zeros}
+use Rattle.resp_fronts.specs.Tokens.{zeros}
 
 -- as many bytes under another name
 by_sum : {r : Rules} {level m n : ℕ} {bytes : List ℕ} → m ≡ n → IsBegunBy r level bytes m → IsBegunBy r level bytes n
@@ -103,7 +104,7 @@ content_row r n level bytes shown w = content_begun r w.kind w.first w.digits (p
 
 -- Tokens.
 
-token_row : (s : Place) (token : Token) (level : ℕ) (bytes : List ℕ) (shown : List Event) → AreBounds s.bounds → Fits token s.bounds.depth s.frames → (token ≡ AtTextEnd → ⊥) → level ≡ length s.frames → Begun (rules_of s) token level bytes shown → IsBegunBy (rules_of s) level bytes (token_needed token s.bounds.depth s.frames)
+token_row : (s : Place) (token : Token) (level : ℕ) (bytes : List ℕ) (shown : List Event) → AreBounds s.bounds → IsTokenSound token s.bounds.depth s.frames → (token ≡ AtTextEnd → ⊥) → level ≡ length s.frames → TokenHas (rules_of s) token level bytes shown → IsBegunBy (rules_of s) level bytes (token_needed token s.bounds.depth s.frames)
 token_row s AtStart level bytes shown c f more i w = absurd w
 token_row s AtEnd level bytes shown c f more i w = absurd w
 token_row s (InLine room) level bytes shown c f more i w = line_row (rules_of s) room level bytes shown w

@@ -4,12 +4,12 @@ use Rattle.std.proofs.Common.{sym, ◌∙◌, ap, arith, get_or, add-zero, add-o
 use Rattle.std.proofs.lemmas.Grind.{common_steps}
 use Rattle.std.proofs.lemmas.Bool.Decides.{nat_tests}
 use Rattle.resp_value.specs.declared.cause.Cause.TheVariants as cause
-use Rattle.resp_scan.specs.Tokens.{Place, Token, Move, Go, Byte, Give, Refuse, at, InLine, AtLineLf, InBig, InContent, AtContentCr, AtContentLf, InChunk, AtChunkCr, AtChunkLf}
-use Rattle.resp_scan.specs.Room.{total_room}
-use Rattle.resp_scan.specs.Heads.{content_at, chunk_at}
-use Rattle.resp_scan.specs.Machine.{next, content_byte, is_digit, wants}
-use Rattle.resp_scan.specs.Scan.{content, and_more, answer, scan, Part}
-use Rattle.resp_scan.specs.Runs.{run_to, plain_run, digit_run}
+use Rattle.resp_scan.specs.Machine.Tokens.{Place, Token, Move, Go, Byte, Give, Refuse, at, InLine, AtLineLf, InBig, InContent, AtContentCr, AtContentLf, InChunk, AtChunkCr, AtChunkLf}
+use Rattle.resp_scan.specs.Machine.Room.{total_room}
+use Rattle.resp_scan.specs.Machine.Heads.{content_at, chunk_at}
+use Rattle.resp_scan.specs.Machine.Moves.{next, content_byte, is_digit, only_byte}
+use Rattle.resp_scan.specs.Machine.Scan.{content, and_more, answer, scan, Part}
+use Rattle.resp_scan.specs.Machine.Runs.{run_to, plain_run, digit_run}
 
 pub plain_run_le : (p : List ℕ) → plain_run p ≤ length p
 plain_run_le [] = omega arith
@@ -90,9 +90,9 @@ content_line s i room (suc m) (b ∷ bs) e =
     (ap (λ v. and_more v (i, at s (InLine room)) (λ t. content (i + 1) t bs)) g ∙ content_line s (i + 1) (room - 1) m bs e' ∙ ap (λ n. (n, at s (InLine ((room - 1) - k)))) j ∙ ap (λ n. (i + (k + 1), at s (InLine n))) q)
 
 abbrev big_move : Place → ℕ → ℕ → ℕ → Bool → Move
-big_move s i room b x = cond x (content_byte (at s (InBig room)) (i + 1) room InBig) (wants 13 b (Go (at s AtLineLf)))
+big_move s i room b x = cond x (content_byte (at s (InBig room)) (i + 1) room InBig) (only_byte 13 b (Go (at s AtLineLf)))
 
-wants_stops : (x b : ℕ) (t : Place) (stop : ℕ × Place) (more : Place → ℕ × Place) → and_more (wants x b (Go t)) stop more ≡ stop
+wants_stops : (x b : ℕ) (t : Place) (stop : ℕ × Place) (more : Place → ℕ × Place) → and_more (only_byte x b (Go t)) stop more ≡ stop
 wants_stops x b t stop more = elim (eqb b x) as (λ v. and_more (cond v (Go t) (Refuse cause.Syntax)) stop more ≡ stop) [ true ↦ refl | false ↦ refl ]
 
 pub content_big : (s : Place) (i room m : ℕ) (p : List ℕ) → min room (total_room s - (i + 2)) ≡ m → content i (at s (InBig room)) p ≡ (i + digit_run (take m p), at s (InBig (room - digit_run (take m p))))

@@ -2,17 +2,17 @@
 use Rattle.std.proofs.Common.{◌≡◌, ℕ, ◌+◌, ◌≤◌, List, [], ◌∷◌, ◌++◌, length, Bool, refl, sym, ap, subst, arith, length-append}
 use Rattle.resp_value.specs.Bytes.{crlf}
 use Rattle.resp_value.specs.Numbers.{number, sign_text}
-use Rattle.resp_value.specs.Trees.{Leaf, joined, leaf_text, payload, string_byte}
+use Rattle.resp_value.specs.Trees.{Leaf, joined_content, leaf_text, payload, string_byte}
 use Rattle.resp_value.specs.Rules.{Rules}
-use Rattle.resp_follow.specs.Events as e
-use Rattle.resp_follow.specs.Events.{Event, given, leaf_events}
-use Rattle.resp_follow.proofs.LineTokens.{returned_whole}
+use Rattle.resp_fronts.specs.Events as e
+use Rattle.resp_fronts.specs.Events.{Event, without_places, leaf_events}
+use Rattle.resp_fronts.proofs.LineTokens.{returned_whole}
 use Rattle.resp_scan.specs.declared.machine.Head.{Head}
 use Rattle.resp_scan.specs.declared.machine.Head.TheVariants as head
-use Rattle.resp_scan.specs.Tokens.{Token, AtStart, AtEnd, InLine, AtLineLf, AtIntSign, AtIntFirst, InInt, AtIntLf, AtBigSign, AtBigFirst, InBigZeros, AtBigZeroLf, AtBigDigit, InBig, AtTextEnd, AtNullOne, AtNullCr, AtNullLf, AtBool, AtBoolCr, AtBoolLf, AtBulkHead, AtArrayHead, AtHead, InHead, AtHeadLf, AtFormat, AtFormatSecond, AtFormatThird, AtFormatColon, InContent, AtContentCr, AtContentLf, AtStreamCr, AtStreamLf, AtChunk, InChunk, AtChunkCr, AtChunkLf, AtOpenCr, AtOpenLf, AtCloseCr, AtCloseLf, Dead}
+use Rattle.resp_scan.specs.Machine.Tokens.{Token, AtStart, AtEnd, InLine, AtLineLf, AtIntSign, AtIntFirst, InInt, AtIntLf, AtBigSign, AtBigFirst, InBigZeros, AtBigZeroLf, AtBigDigit, InBig, AtTextEnd, AtNullOne, AtNullCr, AtNullLf, AtBool, AtBoolCr, AtBoolLf, AtBulkHead, AtArrayHead, AtHead, InHead, AtHeadLf, AtFormat, AtFormatSecond, AtFormatThird, AtFormatColon, InContent, AtContentCr, AtContentLf, AtStreamCr, AtStreamLf, AtChunk, InChunk, AtChunkCr, AtChunkLf, AtOpenCr, AtOpenLf, AtCloseCr, AtCloseLf, Dead}
 use Rattle.resp_scan.specs.Kinds.{content_events}
-use Rattle.resp_scan.specs.Begun.{Begun, BigBegun, ChunkBegun, ChunksBegun, ContentBegun, HeadBegun, HeadCounts, HeadReturned}
-use Rattle.resp_scan.specs.Given.{opens, closes}
+use Rattle.resp_scan.specs.Machine.Beginnings.{TokenHas, BigBegun, ChunkBegun, ChunksBegun, ContentBegun, HeadBegun, HeadCounts, HeadReturned}
+use Rattle.resp_scan.specs.Counts.{open_count, close_count}
 use Rattle.resp_scan.proofs.FewEvents.{content_in_chunks, content_in_payload, leaf_few, length-content, length-stripped}
 use Rattle.resp_scan.proofs.Opens.{LeaveOpen, closes-append, content_opens, leaf_opens, open-append, opens-append}
 
@@ -29,9 +29,9 @@ text_shown : (bytes : List ℕ) (k : e.TextKind) (s : List ℕ) (shown : List Ev
 text_shown bytes k s shown told fits = record { none_open = subst (LeaveOpen 0) (sym told) (omega (arith, content_opens s)); few = omega (arith, ap length told, length-content s) }
 
 -- the events of a leaf but for the end of its text
-leaf_shown : (bytes : List ℕ) (l : Leaf) (shown : List Event) → given (leaf_events 0 l) ≡ shown ++ e.TextEnd ∷ [] → length (leaf_text l) ≤ length bytes + 1 → IsShown bytes shown
+leaf_shown : (bytes : List ℕ) (l : Leaf) (shown : List Event) → without_places (leaf_events 0 l) ≡ shown ++ e.TextEnd ∷ [] → length (leaf_text l) ≤ length bytes + 1 → IsShown bytes shown
 leaf_shown bytes l shown told fits = record {
-  none_open = omega (arith, leaf_opens 0 l, ap opens told, ap closes told, opens-append shown (e.TextEnd ∷ []), closes-append shown (e.TextEnd ∷ []));
+  none_open = omega (arith, leaf_opens 0 l, ap open_count told, ap close_count told, opens-append shown (e.TextEnd ∷ []), closes-append shown (e.TextEnd ∷ []));
   few = omega (arith, leaf_few 0 l, ap length told, length-append shown (e.TextEnd ∷ []));
 }
 
@@ -43,7 +43,7 @@ content_shown r n level bytes shown w = text_shown bytes _ w.part shown w.told (
 
 -- bytes behind chunks that are no more than these
 chunks_shown : (r : Rules) (room : ℕ) (begun : List ℕ) (level : ℕ) (bytes : List ℕ) (shown : List Event) → ChunksBegun r room begun level bytes shown → LeaveOpen 0 shown × (length shown + length begun ≤ length bytes)
-chunks_shown r room begun level bytes shown w = (subst (LeaveOpen 0) (sym w.told) (omega (arith, content_opens (joined w.chunks))), omega (arith, ap length w.told, length-content (joined w.chunks), ap length w.are, content_in_chunks w.chunks begun))
+chunks_shown r room begun level bytes shown w = (subst (LeaveOpen 0) (sym w.told) (omega (arith, content_opens (joined_content w.chunks))), omega (arith, ap length w.told, length-content (joined_content w.chunks), ap length w.are, content_in_chunks w.chunks begun))
 
 streamed_shown : (r : Rules) (room : ℕ) (begun : List ℕ) (level : ℕ) (bytes : List ℕ) (shown : List Event) → ChunksBegun r room begun level bytes shown → IsShown bytes shown
 streamed_shown r room begun level bytes shown w = let h = chunks_shown r room begun level bytes shown w in record { none_open = h.0; few = omega (arith, h.1) }
@@ -90,7 +90,7 @@ returned_shown r head.Attr n level bytes shown w = none_shown bytes shown w.told
 returned_shown r head.Push n level bytes shown w = none_shown bytes shown w.told
 
 -- of each token
-pub is_shown : (token : Token) (r : Rules) (level : ℕ) (bytes : List ℕ) (shown : List Event) → Begun r token level bytes shown → IsShown bytes shown
+pub is_shown : (token : Token) (r : Rules) (level : ℕ) (bytes : List ℕ) (shown : List Event) → TokenHas r token level bytes shown → IsShown bytes shown
 is_shown AtStart r level bytes shown w = absurd w
 is_shown AtEnd r level bytes shown w = absurd w
 is_shown (InLine room) r level bytes shown w = text_shown bytes _ w.token.content shown w.told (omega (arith, ap length w.token.are))

@@ -7,20 +7,20 @@ use Rattle.resp_value.specs.declared.cause.Cause.{Cause}
 use Rattle.resp_value.specs.declared.cause.Cause.TheVariants as cause
 use Rattle.resp_value.specs.declared.version.Version.{Version}
 use Rattle.resp_value.specs.declared.version.Version.TheVariants as version
-use Rattle.resp_scan.specs.declared.event.OpenKind.{OpenKind}
-use Rattle.resp_scan.specs.declared.event.OpenKind.TheVariants as kind
+use Rattle.resp_value.specs.declared.kind.OpenKind.{OpenKind}
+use Rattle.resp_value.specs.declared.kind.OpenKind.TheVariants as kind
 use Rattle.resp_scan.specs.declared.frame.Frame.{Frame}
 use Rattle.resp_scan.specs.declared.frame.Shape.{Shape}
 use Rattle.resp_scan.specs.declared.frame.Shape.TheVariants.{Left, Begun}
 use Rattle.resp_scan.specs.declared.machine.Head.{Head}
 use Rattle.resp_scan.specs.declared.machine.Head.TheVariants as head
-use Rattle.resp_scan.specs.Magnitudes.{most}
-use Rattle.resp_scan.specs.Tokens.{Token, Place, Happening, Null, Truth, Int, Text, Digit, TextEnd, Open, Close, Move, Go, Byte, Give, Refuse, at, ended, within, within_shape, AtStart, AtEnd, InLine, AtLineLf, AtIntSign, AtIntFirst, InInt, AtIntLf, AtBigSign, AtBigFirst, InBigZeros, AtBigZeroLf, AtBigDigit, InBig, AtTextEnd, AtNullOne, AtNullCr, AtNullLf, AtBool, AtBoolCr, AtBoolLf, AtBulkHead, AtArrayHead, AtHead, InHead, AtHeadLf, AtFormat, AtFormatSecond, AtFormatThird, AtFormatColon, InContent, AtContentCr, AtContentLf, AtStreamCr, AtStreamLf, AtChunk, InChunk, AtChunkCr, AtChunkLf, AtOpenCr, AtOpenLf, AtCloseCr, AtCloseLf, Dead}
-use Rattle.resp_scan.specs.Room.{fits, over_total, is_full, begun, begun_in, begin_cause, items_cause, has_all, shape_begun, begun_count, owed_begun, reshaped}
-use Rattle.resp_scan.specs.Heads.{most_counted, counted_cause, over, first_needed, head_needed, may_end, streamed_kind, by_version, string_cause, aggregate_cause, opened, opened_streamed, content_at, chunk_at, counted}
-use Rattle.resp_scan.specs.Machine.{unless, wants, is_digit, int_digit, int_first, big_digit, big_first, content_byte, open_streamed, head_digit, head_first, bulk_head, array_head, begins, line_begins, aggregate_begins, push_begins, in_three, may_close, may_close_of, closing, start_three, start_next, without_first, next_in}
+use Rattle.resp_scan.specs.Machine.Magnitudes.{greatest_magnitude}
+use Rattle.resp_scan.specs.Machine.Tokens.{Token, Place, Happening, Null, Truth, Int, Text, Digit, TextEnd, Open, Close, Move, Go, Byte, Give, Refuse, at, after_end, token_within, token_in_shape, AtStart, AtEnd, InLine, AtLineLf, AtIntSign, AtIntFirst, InInt, AtIntLf, AtBigSign, AtBigFirst, InBigZeros, AtBigZeroLf, AtBigDigit, InBig, AtTextEnd, AtNullOne, AtNullCr, AtNullLf, AtBool, AtBoolCr, AtBoolLf, AtBulkHead, AtArrayHead, AtHead, InHead, AtHeadLf, AtFormat, AtFormatSecond, AtFormatThird, AtFormatColon, InContent, AtContentCr, AtContentLf, AtStreamCr, AtStreamLf, AtChunk, InChunk, AtChunkCr, AtChunkLf, AtOpenCr, AtOpenLf, AtCloseCr, AtCloseLf, Dead}
+use Rattle.resp_scan.specs.Machine.Room.{has_total_room, over_total, is_full, after_begin, after_begin_in, begin_cause, items_cause, has_all, shape_after_begin, begun_count, need_after_begin, with_shape}
+use Rattle.resp_scan.specs.Machine.Heads.{greatest_number, number_cause, over, first_needed, head_needed, may_end, streamed_kind, cause_in_three, string_cause, aggregate_cause, after_open, after_streamed_open, content_at, chunk_at, head_move}
+use Rattle.resp_scan.specs.Machine.Moves.{move_unless, only_byte, is_digit, int_digit, int_first, big_digit, big_first, content_byte, streamed_move, head_digit, head_first, bulk_head, array_head, begin_move, line_move, aggregate_move, push_move, move_in_three, may_close, may_close_of, close_move, start_three, start_next, without_first, next_in}
 use Rattle.resp_scan.specs.Kinds.{rules_of}
-use Rattle.resp_scan.specs.Sound.{owed_streamed, start_needed, frame_owed, frames_owed, token_needed, AreCounted, IsOpenShape, IsOpen, IsClosed, HasLevel, HasRoom, Fits, IsSoundBy}
+use Rattle.resp_scan.specs.Machine.Sound.{need_of_streamed, start_needed, need_of_frame, need_of_frames, token_needed, AreCounted, IsOpenShape, IsOpen, IsClosed, HasLevel, IsWithinRoom, IsTokenSound, IsSoundBy}
 
 pub cond_if : {A : Type 0} (P : A → Type 0) (b : Bool) (x y : A) → (b ≡ true → P x) → (b ≡ false → P y) → P (cond b x y)
 cond_if P true x y f g = f refl
@@ -65,7 +65,7 @@ IsMove i s (Refuse c) = Unit {0}
 
 -- Causes that refuse nothing.
 
-unless_is : (i : ℕ) (s : Place) (o : Option Cause) (v : Move) → (o ≡ None → IsMove i s v) → IsMove i s (unless o v)
+unless_is : (i : ℕ) (s : Place) (o : Option Cause) (v : Move) → (o ≡ None → IsMove i s v) → IsMove i s (move_unless o v)
 unless_is i s None v f = f refl
 unless_is i s (Some c) v f = tt
 
@@ -77,99 +77,99 @@ none_then : (b : Bool) (c : Cause) (o : Option Cause) → cond b o (Some c) ≡ 
 none_then true c o e = (refl, e)
 none_then false c o e = absurd (cc)
 
-none_version : (v : Version) (o : Option Cause) → by_version v o ≡ None → o ≡ None
+none_version : (v : Version) (o : Option Cause) → cause_in_three v o ≡ None → o ≡ None
 none_version version.Two o e = absurd (cc)
 none_version version.Three o e = e
 
-fits_room : (s : Place) (used n : ℕ) → fits s used n ≡ true → 0 < n → s.taken + used + n + s.owed ≤ s.bounds.total
+fits_room : (s : Place) (used n : ℕ) → has_total_room s used n ≡ true → 0 < n → s.taken + used + n + s.frames_need ≤ s.bounds.total
 fits_room s used n e l = grind (arith, nat_tests)
 
-total_room : (s : Place) (used n : ℕ) → over_total s used n ≡ None → 0 < n → s.taken + used + n + s.owed ≤ s.bounds.total
-total_room s used n e l = fits_room s used n (none_then (fits s used n) cause.Total None e).0 l
+total_room : (s : Place) (used n : ℕ) → over_total s used n ≡ None → 0 < n → s.taken + used + n + s.frames_need ≤ s.bounds.total
+total_room s used n e l = fits_room s used n (none_then (has_total_room s used n) cause.Total None e).0 l
 
 not_full : (s : Place) → is_full s ≡ false → length s.frames < s.bounds.depth
 not_full s e = grind (arith, nat_tests)
 
 -- A token is reached within the same frames.
 
-still : (s : Place) (t u : Token) (i j : ℕ) → IsSoundBy i (at s t) → s.taken + j + token_needed u s.bounds.depth s.frames + s.owed ≤ s.bounds.total → Fits u s.bounds.depth s.frames → is_outside u ≡ false → IsInside j s (at s u)
-still s t u i j h w f g = record { taken = refl; rules = refl; sound = record { bounds = h.bounds; nested = h.nested; counted = h.counted; owed = h.owed; total = w; token = f }; inside = g }
+still : (s : Place) (t u : Token) (i j : ℕ) → IsSoundBy i (at s t) → s.taken + j + token_needed u s.bounds.depth s.frames + s.frames_need ≤ s.bounds.total → IsTokenSound u s.bounds.depth s.frames → is_outside u ≡ false → IsInside j s (at s u)
+still s t u i j h w f g = record { taken = refl; rules = refl; sound = record { bounds = h.bounds; nested = h.nested; counted = h.counted; frames_need = h.frames_need; total = w; token = f }; inside = g }
 
 -- a token at which no byte is looked at
-stays : (s : Place) (t u : Token) (i j : ℕ) → IsSoundBy i (at s t) → s.taken + j + token_needed u s.bounds.depth s.frames + s.owed ≤ s.bounds.total → Fits u s.bounds.depth s.frames → IsNext j s (at s u) × Unit {0}
-stays s t u i j h w f = (record { taken = refl; rules = refl; sound = record { bounds = h.bounds; nested = h.nested; counted = h.counted; owed = h.owed; total = w; token = f } }, tt)
+stays : (s : Place) (t u : Token) (i j : ℕ) → IsSoundBy i (at s t) → s.taken + j + token_needed u s.bounds.depth s.frames + s.frames_need ≤ s.bounds.total → IsTokenSound u s.bounds.depth s.frames → IsNext j s (at s u) × Unit {0}
+stays s t u i j h w f = (record { taken = refl; rules = refl; sound = record { bounds = h.bounds; nested = h.nested; counted = h.counted; frames_need = h.frames_need; total = w; token = f } }, tt)
 
 -- a byte brings the end nearer by one
-less : (s : Place) (t u : Token) (i : ℕ) → IsSoundBy i (at s t) → token_needed u s.bounds.depth s.frames + 1 ≤ token_needed t s.bounds.depth s.frames → Fits u s.bounds.depth s.frames → is_outside u ≡ false → IsInside (i + 1) s (at s u)
-less s t u i h q f g = let w : s.taken + i + token_needed t s.bounds.depth s.frames + s.owed ≤ s.bounds.total = h.total in still s t u i (i + 1) h (omega (arith, w, q)) f g
+less : (s : Place) (t u : Token) (i : ℕ) → IsSoundBy i (at s t) → token_needed u s.bounds.depth s.frames + 1 ≤ token_needed t s.bounds.depth s.frames → IsTokenSound u s.bounds.depth s.frames → is_outside u ≡ false → IsInside (i + 1) s (at s u)
+less s t u i h q f g = let w : s.taken + i + token_needed t s.bounds.depth s.frames + s.frames_need ≤ s.bounds.total = h.total in still s t u i (i + 1) h (omega (arith, w, q)) f g
 
 -- total leaves room for it
-within_total : (s : Place) (t u : Token) (i n : ℕ) → IsSoundBy i (at s t) → s.taken + (i + 1) + n + s.owed ≤ s.bounds.total → token_needed u s.bounds.depth s.frames ≤ n → Fits u s.bounds.depth s.frames → is_outside u ≡ false → IsInside (i + 1) s (at s u)
+within_total : (s : Place) (t u : Token) (i n : ℕ) → IsSoundBy i (at s t) → s.taken + (i + 1) + n + s.frames_need ≤ s.bounds.total → token_needed u s.bounds.depth s.frames ≤ n → IsTokenSound u s.bounds.depth s.frames → is_outside u ≡ false → IsInside (i + 1) s (at s u)
 within_total s t u i n h w q f g = still s t u i (i + 1) h (omega (arith, w, q)) f g
 
 -- A value has ended.
 
-needed_shape : (depth : ℕ) (f : Frame) (fs : List Frame) (sh : Shape) → token_needed (within_shape sh) depth (f ∷ fs) ≡ 0
+needed_shape : (depth : ℕ) (f : Frame) (fs : List Frame) (sh : Shape) → token_needed (token_in_shape sh) depth (f ∷ fs) ≡ 0
 needed_shape depth f fs (Left n) = cond_if (λ t. token_needed t depth (f ∷ fs) ≡ 0) (eqb n 0) AtEnd AtStart (λ e. refl) (λ e. refl)
 needed_shape depth f fs (Begun n) = refl
 
-needed_within : (depth : ℕ) (fs : List Frame) → token_needed (within fs) depth fs ≡ 0
+needed_within : (depth : ℕ) (fs : List Frame) → token_needed (token_within fs) depth fs ≡ 0
 needed_within depth [] = refl
 needed_within depth (f ∷ fs) = needed_shape depth f fs f.shape
 
-fits_shape : (depth : ℕ) (f : Frame) (fs : List Frame) (sh : Shape) → f.shape ≡ sh → Fits (within_shape sh) depth (f ∷ fs)
+fits_shape : (depth : ℕ) (f : Frame) (fs : List Frame) (sh : Shape) → f.shape ≡ sh → IsTokenSound (token_in_shape sh) depth (f ∷ fs)
 fits_shape depth f fs (Left n) e =
-    cond_if (λ t. Fits t depth (f ∷ fs)) (eqb n 0) AtEnd AtStart (λ z. e ∙ ap Left (let w : n ≡ 0 = grind (arith, nat_tests) in w)) (λ z. subst IsOpenShape (sym e) (let w : 0 < n = grind (arith, nat_tests) in w))
+    cond_if (λ t. IsTokenSound t depth (f ∷ fs)) (eqb n 0) AtEnd AtStart (λ z. e ∙ ap Left (let w : n ≡ 0 = grind (arith, nat_tests) in w)) (λ z. subst IsOpenShape (sym e) (let w : 0 < n = grind (arith, nat_tests) in w))
 fits_shape depth f fs (Begun n) e = subst IsOpenShape (sym e) tt
 
-fits_within : (depth : ℕ) (fs : List Frame) → Fits (within fs) depth fs
+fits_within : (depth : ℕ) (fs : List Frame) → IsTokenSound (token_within fs) depth fs
 fits_within depth [] = tt
 fits_within depth (f ∷ fs) = fits_shape depth f fs f.shape refl
 
-pub sound_ended : (s : Place) (j : ℕ) → AreBounds s.bounds → length s.frames ≤ s.bounds.depth → AreCounted s.bounds.items s.frames → s.owed ≡ frames_owed s.frames → s.taken + j + s.owed ≤ s.bounds.total → IsSoundBy j (ended s)
-sound_ended s j b n k o w = record { bounds = b; nested = n; counted = k; owed = o; total = omega (arith, w, needed_within s.bounds.depth s.frames); token = fits_within s.bounds.depth s.frames }
+pub sound_ended : (s : Place) (j : ℕ) → AreBounds s.bounds → length s.frames ≤ s.bounds.depth → AreCounted s.bounds.items s.frames → s.frames_need ≡ need_of_frames s.frames → s.taken + j + s.frames_need ≤ s.bounds.total → IsSoundBy j (after_end s)
+sound_ended s j b n k o w = record { bounds = b; nested = n; counted = k; frames_need = o; total = omega (arith, w, needed_within s.bounds.depth s.frames); token = fits_within s.bounds.depth s.frames }
 
-is_ended : (s : Place) (t : Token) (i : ℕ) → IsSoundBy i (at s t) → 1 ≤ token_needed t s.bounds.depth s.frames → IsNext (i + 1) s (ended s)
+is_ended : (s : Place) (t : Token) (i : ℕ) → IsSoundBy i (at s t) → 1 ≤ token_needed t s.bounds.depth s.frames → IsNext (i + 1) s (after_end s)
 is_ended s t i h q =
-    let w : s.taken + i + token_needed t s.bounds.depth s.frames + s.owed ≤ s.bounds.total = h.total in
-    record { taken = refl; rules = refl; sound = sound_ended s (i + 1) h.bounds h.nested h.counted h.owed (omega (arith, w, q)) }
+    let w : s.taken + i + token_needed t s.bounds.depth s.frames + s.frames_need ≤ s.bounds.total = h.total in
+    record { taken = refl; rules = refl; sound = sound_ended s (i + 1) h.bounds h.nested h.counted h.frames_need (omega (arith, w, q)) }
 
 -- An aggregate opens.
 
-is_pushed : (s : Place) (t : Token) (f : Frame) (i n : ℕ) → IsSoundBy i (at s t) → length s.frames < s.bounds.depth → begun_count f.shape ≤ s.bounds.items * 2 → frame_owed f.kind f.shape ≡ n → n + 1 ≤ token_needed t s.bounds.depth s.frames → IsNext (i + 1) s (ended (record s { frames = f ∷ s.frames; owed = s.owed + n }))
+is_pushed : (s : Place) (t : Token) (f : Frame) (i n : ℕ) → IsSoundBy i (at s t) → length s.frames < s.bounds.depth → begun_count f.shape ≤ s.bounds.items * 2 → need_of_frame f.kind f.shape ≡ n → n + 1 ≤ token_needed t s.bounds.depth s.frames → IsNext (i + 1) s (after_end (record s { frames = f ∷ s.frames; frames_need = s.frames_need + n }))
 is_pushed s t f i n h l k e q =
-    let w : s.taken + i + token_needed t s.bounds.depth s.frames + s.owed ≤ s.bounds.total = h.total in
-    let o : s.owed ≡ frames_owed s.frames = h.owed in
-    record { taken = refl; rules = refl; sound = sound_ended (record s { frames = f ∷ s.frames; owed = s.owed + n }) (i + 1) h.bounds (omega (arith, l)) (k, h.counted) (omega (arith, o, e)) (omega (arith, w, q)) }
+    let w : s.taken + i + token_needed t s.bounds.depth s.frames + s.frames_need ≤ s.bounds.total = h.total in
+    let o : s.frames_need ≡ need_of_frames s.frames = h.frames_need in
+    record { taken = refl; rules = refl; sound = sound_ended (record s { frames = f ∷ s.frames; frames_need = s.frames_need + n }) (i + 1) h.bounds (omega (arith, l)) (k, h.counted) (omega (arith, o, e)) (omega (arith, w, q)) }
 
-is_opened : (s : Place) (t : Token) (k : OpenKind) (n i : ℕ) → IsSoundBy i (at s t) → length s.frames < s.bounds.depth → n * 3 + 1 ≤ token_needed t s.bounds.depth s.frames → IsNext (i + 1) s (opened s k n)
+is_opened : (s : Place) (t : Token) (k : OpenKind) (n i : ℕ) → IsSoundBy i (at s t) → length s.frames < s.bounds.depth → n * 3 + 1 ≤ token_needed t s.bounds.depth s.frames → IsNext (i + 1) s (after_open s k n)
 is_opened s t k n i h l q = is_pushed s t (record { kind = k; shape = Left n }) i (n * 3) h l (omega arith) refl q
 
-streamed_three : (k : OpenKind) → owed_streamed k 0 ≡ 3
+streamed_three : (k : OpenKind) → need_of_streamed k 0 ≡ 3
 streamed_three kind.Array = refl
 streamed_three kind.Set = refl
 streamed_three kind.Map = refl
 streamed_three kind.Attr = refl
 streamed_three kind.Push = refl
 
-is_opened_streamed : (s : Place) (t : Token) (k : OpenKind) (i : ℕ) → IsSoundBy i (at s t) → length s.frames < s.bounds.depth → 4 ≤ token_needed t s.bounds.depth s.frames → IsNext (i + 1) s (opened_streamed s k)
+is_opened_streamed : (s : Place) (t : Token) (k : OpenKind) (i : ℕ) → IsSoundBy i (at s t) → length s.frames < s.bounds.depth → 4 ≤ token_needed t s.bounds.depth s.frames → IsNext (i + 1) s (after_streamed_open s k)
 is_opened_streamed s t k i h l q = is_pushed s t (record { kind = k; shape = Begun 0 }) i 3 h l (omega arith) (streamed_three k) q
 
 -- A member begins.
 
-owed_map : (n o r : ℕ) → o ≡ owed_streamed kind.Map n + r → cond (eqb (n % 2) 0) (o + 3) (o - 3) ≡ owed_streamed kind.Map (n + 1) + r
-owed_map n o r e = elim (eqb (n % 2) 0) as (λ v. eqb (n % 2) 0 ≡ v → o ≡ cond v 3 6 + r → cond v (o + 3) (o - 3) ≡ owed_streamed kind.Map (n + 1) + r) [
+need_of_map : (n o r : ℕ) → o ≡ need_of_streamed kind.Map n + r → cond (eqb (n % 2) 0) (o + 3) (o - 3) ≡ need_of_streamed kind.Map (n + 1) + r
+need_of_map n o r e = elim (eqb (n % 2) 0) as (λ v. eqb (n % 2) 0 ≡ v → o ≡ cond v 3 6 + r → cond v (o + 3) (o - 3) ≡ need_of_streamed kind.Map (n + 1) + r) [
   | true ↦ λ z h. let y : eqb ((n + 1) % 2) 0 ≡ false = grind (arith, nat_tests) in simp y (omega (arith, h))
   | false ↦ λ z h. let y : eqb ((n + 1) % 2) 0 ≡ true = grind (arith, nat_tests) in simp y (omega (arith, h))
 ] refl e
 
-begun_owed : (k : OpenKind) (sh : Shape) (o r : ℕ) → IsOpenShape sh → o ≡ frame_owed k sh + r → owed_begun k sh o ≡ frame_owed k (shape_begun sh) + r
-begun_owed k (Left n) o r h e = omega (arith, h, e)
-begun_owed kind.Map (Begun n) o r h e = owed_map n o r e
-begun_owed kind.Array (Begun n) o r h e = e
-begun_owed kind.Set (Begun n) o r h e = e
-begun_owed kind.Attr (Begun n) o r h e = e
-begun_owed kind.Push (Begun n) o r h e = e
+begun_need : (k : OpenKind) (sh : Shape) (o r : ℕ) → IsOpenShape sh → o ≡ need_of_frame k sh + r → need_after_begin k sh o ≡ need_of_frame k (shape_after_begin sh) + r
+begun_need k (Left n) o r h e = omega (arith, h, e)
+begun_need kind.Map (Begun n) o r h e = need_of_map n o r e
+begun_need kind.Array (Begun n) o r h e = e
+begun_need kind.Set (Begun n) o r h e = e
+begun_need kind.Attr (Begun n) o r h e = e
+begun_need kind.Push (Begun n) o r h e = e
 
 counted_map : (n items : ℕ) → (eqb (n % 2) 0 && nat_le items (n / 2)) ≡ false → n ≤ items * 2 → n + 1 ≤ items * 2
 counted_map n items e l = grind (arith, nat_tests)
@@ -177,7 +177,7 @@ counted_map n items e l = grind (arith, nat_tests)
 counted_one : (n items : ℕ) → nat_le items n ≡ false → n ≤ items * 2 → n + 1 ≤ items * 2
 counted_one n items e l = grind (arith, nat_tests)
 
-begun_counted : (k : OpenKind) (sh : Shape) (items : ℕ) → has_all k sh items ≡ false → begun_count sh ≤ items * 2 → begun_count (shape_begun sh) ≤ items * 2
+begun_counted : (k : OpenKind) (sh : Shape) (items : ℕ) → has_all k sh items ≡ false → begun_count sh ≤ items * 2 → begun_count (shape_after_begin sh) ≤ items * 2
 begun_counted k (Left n) items e l = omega arith
 begun_counted kind.Map (Begun n) items e l = counted_map n items e l
 begun_counted kind.Array (Begun n) items e l = counted_one n items e l
@@ -185,58 +185,58 @@ begun_counted kind.Set (Begun n) items e l = counted_one n items e l
 begun_counted kind.Attr (Begun n) items e l = counted_one n items e l
 begun_counted kind.Push (Begun n) items e l = counted_one n items e l
 
-begun_length : (s : Place) (fs : List Frame) → s.frames ≡ fs → length (begun_in s fs).frames ≡ length s.frames
+begun_length : (s : Place) (fs : List Frame) → s.frames ≡ fs → length (after_begin_in s fs).frames ≡ length s.frames
 begun_length s [] e = refl
 begun_length s (f ∷ fs) e = ap length (sym e)
 
-begun_taken : (s : Place) (fs : List Frame) → (begun_in s fs).taken ≡ s.taken
+begun_taken : (s : Place) (fs : List Frame) → (after_begin_in s fs).taken ≡ s.taken
 begun_taken s [] = refl
 begun_taken s (f ∷ fs) = refl
 
-begun_rules : (s : Place) (fs : List Frame) → rules_of (begun_in s fs) ≡ rules_of s
+begun_rules : (s : Place) (fs : List Frame) → rules_of (after_begin_in s fs) ≡ rules_of s
 begun_rules s [] = refl
 begun_rules s (f ∷ fs) = refl
 
-sound_begun : (s : Place) (fs : List Frame) (n : ℕ) (u : Token) → s.frames ≡ fs → IsSoundBy 0 (at s AtStart) → items_cause fs s.bounds.items (over_total (begun_in s fs) 1 n) ≡ None → 0 < n → token_needed u s.bounds.depth (begun_in s fs).frames ≤ n → Fits u s.bounds.depth (begun_in s fs).frames → IsSoundBy 1 (at (begun_in s fs) u)
+sound_begun : (s : Place) (fs : List Frame) (n : ℕ) (u : Token) → s.frames ≡ fs → IsSoundBy 0 (at s AtStart) → items_cause fs s.bounds.items (over_total (after_begin_in s fs) 1 n) ≡ None → 0 < n → token_needed u s.bounds.depth (after_begin_in s fs).frames ≤ n → IsTokenSound u s.bounds.depth (after_begin_in s fs).frames → IsSoundBy 1 (at (after_begin_in s fs) u)
 sound_begun s [] n u e h c l q f =
     let w = total_room s 1 n c l in
-    record { bounds = h.bounds; nested = h.nested; counted = h.counted; owed = h.owed; total = omega (arith, w, q); token = f }
+    record { bounds = h.bounds; nested = h.nested; counted = h.counted; frames_need = h.frames_need; total = omega (arith, w, q); token = f }
 sound_begun s (x ∷ fs) n u e h c l q f =
-    let z = none_else (has_all x.kind x.shape s.bounds.items) cause.Items (over_total (begun_in s (x ∷ fs)) 1 n) c in
-    let w = total_room (begun_in s (x ∷ fs)) 1 n z.1 l in
+    let z = none_else (has_all x.kind x.shape s.bounds.items) cause.Items (over_total (after_begin_in s (x ∷ fs)) 1 n) c in
+    let w = total_room (after_begin_in s (x ∷ fs)) 1 n z.1 l in
     let k : AreCounted s.bounds.items (x ∷ fs) = subst (AreCounted s.bounds.items) e h.counted in
     record {
       bounds = h.bounds;
       nested = subst (λ v. length v ≤ s.bounds.depth) e h.nested;
       counted = (begun_counted x.kind x.shape s.bounds.items z.0 k.0, k.1);
-      owed = begun_owed x.kind x.shape s.owed (frames_owed fs) (subst IsOpen e h.token) (h.owed ∙ ap frames_owed e);
+      frames_need = begun_need x.kind x.shape s.frames_need (need_of_frames fs) (subst IsOpen e h.token) (h.frames_need ∙ ap need_of_frames e);
       total = omega (arith, w, q);
       token = f;
     }
 
-is_begun : (s : Place) (n : ℕ) (u : Token) → IsSoundBy 0 (at s AtStart) → 0 < n → token_needed u s.bounds.depth (begun s).frames ≤ n → Fits u s.bounds.depth (begun s).frames → is_outside u ≡ false → IsMove 1 s (begins s n u)
+is_begun : (s : Place) (n : ℕ) (u : Token) → IsSoundBy 0 (at s AtStart) → 0 < n → token_needed u s.bounds.depth (after_begin s).frames ≤ n → IsTokenSound u s.bounds.depth (after_begin s).frames → is_outside u ≡ false → IsMove 1 s (begin_move s n u)
 is_begun s n u h l q f g = unless_is 1 s (begin_cause s n) _ (λ c. record { taken = begun_taken s s.frames; rules = begun_rules s s.frames; sound = sound_begun s s.frames n u refl h c l q f; inside = g })
 
-is_line : (s : Place) (e : Happening) → IsPlain e → IsSoundBy 0 (at s AtStart) → IsMove 1 s (line_begins s e)
+is_line : (s : Place) (e : Happening) → IsPlain e → IsSoundBy 0 (at s AtStart) → IsMove 1 s (line_move s e)
 is_line s e y h = unless_is 1 s (begin_cause s 2) _ (λ c. (record { taken = begun_taken s s.frames; rules = begun_rules s s.frames; sound = sound_begun s s.frames 2 (InLine s.bounds.length) refl h c (omega arith) (omega arith) tt }, y))
 
-is_aggregate : (s : Place) (x : Head) → IsSoundBy 0 (at s AtStart) → 0 < first_needed x → IsMove 1 s (aggregate_begins s x)
+is_aggregate : (s : Place) (x : Head) → IsSoundBy 0 (at s AtStart) → 0 < first_needed x → IsMove 1 s (aggregate_move s x)
 is_aggregate s x h l = cond_if (IsMove 1 s) (is_full s) _ _ (λ e. tt) (λ e. is_begun s (first_needed x) (AtHead x) h l (omega arith) (λ o. omega (arith, begun_length s s.frames refl, not_full s e)) refl)
 
-is_push : (s : Place) (fs : List Frame) → IsSoundBy 0 (at s AtStart) → IsMove 1 s (push_begins s fs)
+is_push : (s : Place) (fs : List Frame) → IsSoundBy 0 (at s AtStart) → IsMove 1 s (push_move s fs)
 is_push s [] h = is_aggregate s head.Push h (omega arith)
 is_push s (f ∷ fs) h = tt
 
-is_three : (i : ℕ) (s : Place) (x : Version) (v : Move) → IsMove i s v → IsMove i s (in_three x v)
+is_three : (i : ℕ) (s : Place) (x : Version) (v : Move) → IsMove i s v → IsMove i s (move_in_three x v)
 is_three i s version.Two v m = tt
 is_three i s version.Three v m = m
 
 -- A streamed aggregate closes.
 
-closed_map : (n : ℕ) → eqb (n % 2) 0 ≡ true → owed_streamed kind.Map n ≡ 3
+closed_map : (n : ℕ) → eqb (n % 2) 0 ≡ true → need_of_streamed kind.Map n ≡ 3
 closed_map n e = ap (λ v. cond v 3 6) e
 
-pub closes_three : (k : OpenKind) (sh : Shape) → may_close_of k sh ≡ true → frame_owed k sh ≡ 3
+pub closes_three : (k : OpenKind) (sh : Shape) → may_close_of k sh ≡ true → need_of_frame k sh ≡ 3
 closes_three k (Left n) e = absurd (false≢true e)
 closes_three kind.Map (Begun n) e = closed_map n e
 closes_three kind.Array (Begun n) e = refl
@@ -244,32 +244,32 @@ closes_three kind.Set (Begun n) e = refl
 closes_three kind.Attr (Begun n) e = refl
 closes_three kind.Push (Begun n) e = refl
 
-sound_closing : (s : Place) (fs : List Frame) → s.frames ≡ fs → IsSoundBy 0 (at s AtStart) → may_close fs ≡ true → IsSoundBy 1 (record s { token = AtCloseCr; frames = reshaped (Left 0) fs; owed = s.owed - 3 })
+sound_closing : (s : Place) (fs : List Frame) → s.frames ≡ fs → IsSoundBy 0 (at s AtStart) → may_close fs ≡ true → IsSoundBy 1 (record s { token = AtCloseCr; frames = with_shape (Left 0) fs; frames_need = s.frames_need - 3 })
 sound_closing s [] e h m = absurd (false≢true m)
 sound_closing s (x ∷ fs) e h m =
-    let t : frame_owed x.kind x.shape ≡ 3 = closes_three x.kind x.shape m in
-    let o : s.owed ≡ frame_owed x.kind x.shape + frames_owed fs = h.owed ∙ ap frames_owed e in
-    let w : s.taken + 0 + start_needed s.frames + s.owed ≤ s.bounds.total = h.total in
+    let t : need_of_frame x.kind x.shape ≡ 3 = closes_three x.kind x.shape m in
+    let o : s.frames_need ≡ need_of_frame x.kind x.shape + need_of_frames fs = h.frames_need ∙ ap need_of_frames e in
+    let w : s.taken + 0 + start_needed s.frames + s.frames_need ≤ s.bounds.total = h.total in
     let k : AreCounted s.bounds.items (x ∷ fs) = subst (AreCounted s.bounds.items) e h.counted in
     record {
       bounds = h.bounds;
       nested = subst (λ v. length v ≤ s.bounds.depth) e h.nested;
       counted = (omega arith, k.1);
-      owed = omega (arith, o, t);
+      frames_need = omega (arith, o, t);
       total = omega (arith, o, t, w);
       token = refl;
     }
 
-is_closing : (s : Place) → IsSoundBy 0 (at s AtStart) → IsMove 1 s (closing s)
+is_closing : (s : Place) → IsSoundBy 0 (at s AtStart) → IsMove 1 s (close_move s)
 is_closing s h = cond_if (IsMove 1 s) (may_close s.frames) _ _ (λ e. record { taken = refl; rules = refl; sound = sound_closing s s.frames refl h e; inside = refl }) (λ e. tt)
 
 -- the innermost aggregate, which has all, ends
-pub sound_closed : (s : Place) (t : Token) (fs : List Frame) (i j : ℕ) → s.frames ≡ fs → IsSoundBy i (at s t) → IsClosed fs → s.taken + j + s.owed ≤ s.bounds.total → IsSoundBy j (ended (record s { frames = without_first fs }))
+pub sound_closed : (s : Place) (t : Token) (fs : List Frame) (i j : ℕ) → s.frames ≡ fs → IsSoundBy i (at s t) → IsClosed fs → s.taken + j + s.frames_need ≤ s.bounds.total → IsSoundBy j (after_end (record s { frames = without_first fs }))
 sound_closed s t [] i j e h c w =
-    sound_ended (record s { frames = [] }) j h.bounds (omega arith) tt (h.owed ∙ ap frames_owed e) w
+    sound_ended (record s { frames = [] }) j h.bounds (omega arith) tt (h.frames_need ∙ ap need_of_frames e) w
 sound_closed s t (x ∷ fs) i j e h c w =
-    let o : s.owed ≡ frame_owed x.kind x.shape + frames_owed fs = h.owed ∙ ap frames_owed e in
-    let z : frame_owed x.kind x.shape ≡ 0 = ap (frame_owed x.kind) c in
+    let o : s.frames_need ≡ need_of_frame x.kind x.shape + need_of_frames fs = h.frames_need ∙ ap need_of_frames e in
+    let z : need_of_frame x.kind x.shape ≡ 0 = ap (need_of_frame x.kind) c in
     let k : AreCounted s.bounds.items (x ∷ fs) = subst (AreCounted s.bounds.items) e h.counted in
     let n : length (x ∷ fs) ≤ s.bounds.depth = subst (λ v. length v ≤ s.bounds.depth) e h.nested in
     sound_ended (record s { frames = fs }) j h.bounds (omega (arith, n)) k.1 (omega (arith, o, z)) w
@@ -291,7 +291,7 @@ is_three_byte s b h =
 array_some : (s : Place) → 0 < cond (is_full s) 4 3
 array_some s = cond_if (λ n. 0 < n) (is_full s) 4 3 (λ e. omega arith) (λ e. omega arith)
 
-array_needed : (s : Place) → token_needed AtArrayHead s.bounds.depth (begun s).frames ≤ cond (is_full s) 4 3
+array_needed : (s : Place) → token_needed AtArrayHead s.bounds.depth (after_begin s).frames ≤ cond (is_full s) 4 3
 array_needed s = subst (λ n. cond (nat_le s.bounds.depth n) 4 3 ≤ cond (is_full s) 4 3) (sym (begun_length s s.frames refl)) (omega arith)
 
 is_first : (s : Place) (b : ℕ) → IsSoundBy 0 (at s AtStart) → IsMove 1 s (start_next s b)
@@ -321,7 +321,7 @@ head_more head.Push n = omega arith
 head_some : (h : Head) (n : ℕ) → 0 < head_needed h n
 head_some h n = omega (arith, head_more h n)
 
-room_of : (s : Place) (x : Head) (n : ℕ) → nat_lt (most_counted s x) n ≡ false → HasRoom x n
+room_of : (s : Place) (x : Head) (n : ℕ) → nat_lt (greatest_number s x) n ≡ false → IsWithinRoom x n
 room_of s (head.Chunk room) n e = grind (arith, nat_tests)
 room_of s head.Bulk n e = tt
 room_of s head.BulkError n e = tt
@@ -334,10 +334,10 @@ room_of s head.Push n e = tt
 
 is_head_digit : (s : Place) (t : Token) (i : ℕ) (x : Head) (n : ℕ) → IsSoundBy i (at s t) → HasLevel x s.bounds.depth s.frames → IsMove (i + 1) s (head_digit s (i + 1) x n)
 is_head_digit s t i x n h l = unless_is (i + 1) s (over s (i + 1) x n) _ (λ c.
-    let z = none_else (nat_lt (most_counted s x) n) (counted_cause x) (over_total s (i + 1) (head_needed x n)) c in
+    let z = none_else (nat_lt (greatest_number s x) n) (number_cause x) (over_total s (i + 1) (head_needed x n)) c in
     within_total s t (InHead x n) i (head_needed x n) h (total_room s (i + 1) (head_needed x n) z.1 (head_some x n)) (omega arith) (l, room_of s x n z.0) refl)
 
-is_open_streamed : (s : Place) (t : Token) (i : ℕ) (o : Option OpenKind) → IsSoundBy i (at s t) → IsMove (i + 1) s (open_streamed s (i + 1) o)
+is_open_streamed : (s : Place) (t : Token) (i : ℕ) (o : Option OpenKind) → IsSoundBy i (at s t) → IsMove (i + 1) s (streamed_move s (i + 1) o)
 is_open_streamed s t i None h = tt
 is_open_streamed s t i (Some k) h = unless_is (i + 1) s (aggregate_cause s (i + 1)) _ (λ c.
     let v = none_version s.version (cond s.bounds.streamed (cond (is_full s) (Some cause.Depth) (over_total s (i + 1) 5)) (Some cause.Streamed)) c in
@@ -394,7 +394,7 @@ chunk_some room n e = simp e
 chunk_none : (room n : ℕ) → eqb n 0 ≡ true → head_needed (head.Chunk room) n ≡ 2
 chunk_none room n e = simp e
 
-is_counted : (s : Place) (x : Head) (n i : ℕ) → IsSoundBy i (at s (AtHeadLf x n)) → HasLevel x s.bounds.depth s.frames → may_end x n ≡ true → IsMove (i + 1) s (counted s x n)
+is_counted : (s : Place) (x : Head) (n i : ℕ) → IsSoundBy i (at s (AtHeadLf x n)) → HasLevel x s.bounds.depth s.frames → may_end x n ≡ true → IsMove (i + 1) s (head_move s x n)
 is_counted s head.Bulk n i h l m = next_of (i + 1) s (content_at n s) (is_content_at s (AtHeadLf head.Bulk n) i n h (omega arith))
 is_counted s head.BulkError n i h l m = next_of (i + 1) s (content_at n s) (is_content_at s (AtHeadLf head.BulkError n) i n h (omega arith))
 is_counted s head.Verbatim n i h l m =
@@ -412,10 +412,10 @@ is_counted s head.Push n i h l m = (is_opened s (AtHeadLf head.Push n) kind.Push
 
 -- Digits and lines.
 
-is_byte : (s : Place) (i room : ℕ) (f : ℕ → Token) → ((r : ℕ) → fits s (i + 1) 2 ≡ true → IsInside (i + 1) s (at s (f r))) → IsMove (i + 1) s (content_byte s (i + 1) room f)
-is_byte s i room f g = cond_if (IsMove (i + 1) s) (eqb room 0) _ _ (λ e. tt) (λ e. cond_if (IsMove (i + 1) s) (fits s (i + 1) 2) _ _ (λ e. g (room - 1) e) (λ e. tt))
+is_byte : (s : Place) (i room : ℕ) (f : ℕ → Token) → ((r : ℕ) → has_total_room s (i + 1) 2 ≡ true → IsInside (i + 1) s (at s (f r))) → IsMove (i + 1) s (content_byte s (i + 1) room f)
+is_byte s i room f g = cond_if (IsMove (i + 1) s) (eqb room 0) _ _ (λ e. tt) (λ e. cond_if (IsMove (i + 1) s) (has_total_room s (i + 1) 2) _ _ (λ e. g (room - 1) e) (λ e. tt))
 
-most_ten : (negative : Bool) (b : ℕ) → is_digit b ≡ true → b - 48 ≤ most negative
+most_ten : (negative : Bool) (b : ℕ) → is_digit b ≡ true → b - 48 ≤ greatest_magnitude negative
 most_ten true b e = grind (arith, nat_tests)
 most_ten false b e = grind (arith, nat_tests)
 
@@ -427,13 +427,13 @@ is_int_first s t i negative b h q = cond_if (IsMove (i + 1) s) (is_digit b) _ _ 
 
 is_int_digit : (s : Place) (t : Token) (i : ℕ) (negative : Bool) (n : ℕ) → IsSoundBy i (at s t) → IsMove (i + 1) s (int_digit s (i + 1) negative n)
 is_int_digit s t i negative n h =
-    cond_if (IsMove (i + 1) s) (nat_le n (most negative)) _ _ (λ e.
-    cond_if (IsMove (i + 1) s) (fits s (i + 1) 2) _ _ (λ f. within_total s t (InInt negative n) i 2 h (fits_room s (i + 1) 2 f (omega arith)) (omega arith) (le_of n (most negative) e) refl) (λ f. tt)) (λ e. tt)
+    cond_if (IsMove (i + 1) s) (nat_le n (greatest_magnitude negative)) _ _ (λ e.
+    cond_if (IsMove (i + 1) s) (has_total_room s (i + 1) 2) _ _ (λ f. within_total s t (InInt negative n) i 2 h (fits_room s (i + 1) 2 f (omega arith)) (omega arith) (le_of n (greatest_magnitude negative) e) refl) (λ f. tt)) (λ e. tt)
 
-is_sign : (s : Place) (t u : Token) (i : ℕ) → IsSoundBy i (at s t) → token_needed u s.bounds.depth s.frames ≤ 3 → Fits u s.bounds.depth s.frames → is_outside u ≡ false → IsMove (i + 1) s (unless (over_total s (i + 1) 3) (Go (at s u)))
+is_sign : (s : Place) (t u : Token) (i : ℕ) → IsSoundBy i (at s t) → token_needed u s.bounds.depth s.frames ≤ 3 → IsTokenSound u s.bounds.depth s.frames → is_outside u ≡ false → IsMove (i + 1) s (move_unless (over_total s (i + 1) 3) (Go (at s u)))
 is_sign s t u i h q f g = unless_is (i + 1) s (over_total s (i + 1) 3) _ (λ c. within_total s t u i 3 h (total_room s (i + 1) 3 c (omega arith)) q f g)
 
-is_big_digit : (s : Place) (t : Token) (i : ℕ) (negative : Bool) (b : ℕ) → IsSoundBy i (at s t) → is_digit b ≡ true → s.taken + (i + 1) + 2 + s.owed ≤ s.bounds.total → IsMove (i + 1) s (big_digit s negative b)
+is_big_digit : (s : Place) (t : Token) (i : ℕ) (negative : Bool) (b : ℕ) → IsSoundBy i (at s t) → is_digit b ≡ true → s.taken + (i + 1) + 2 + s.frames_need ≤ s.bounds.total → IsMove (i + 1) s (big_digit s negative b)
 is_big_digit s t i negative b h d w =
     cond_if (IsMove (i + 1) s) (eqb b 48) _ _
     (λ e. within_total s t (InBigZeros negative) i 2 h w (omega arith) tt refl)
@@ -441,10 +441,10 @@ is_big_digit s t i negative b h d w =
 
 is_big_first : (s : Place) (t : Token) (i : ℕ) (negative : Bool) (b : ℕ) → IsSoundBy i (at s t) → 3 ≤ token_needed t s.bounds.depth s.frames → IsMove (i + 1) s (big_first s negative b)
 is_big_first s t i negative b h q =
-    let w : s.taken + i + token_needed t s.bounds.depth s.frames + s.owed ≤ s.bounds.total = h.total in
+    let w : s.taken + i + token_needed t s.bounds.depth s.frames + s.frames_need ≤ s.bounds.total = h.total in
     cond_if (IsMove (i + 1) s) (is_digit b) _ _ (λ e. is_big_digit s t i negative b h e (omega (arith, w, q))) (λ e. tt)
 
-wants_is : (i : ℕ) (s : Place) (x b : ℕ) (v : Move) → IsMove i s v → IsMove i s (wants x b v)
+wants_is : (i : ℕ) (s : Place) (x b : ℕ) (v : Move) → IsMove i s v → IsMove i s (only_byte x b v)
 wants_is i s x b v m = cond_if (IsMove i s) (eqb b x) v (Refuse cause.Syntax) (λ e. m) (λ e. tt)
 
 -- Every token.
@@ -473,9 +473,9 @@ is_move AtBigSign s i b h g =
 is_move (AtBigFirst negative) s i b h g = is_big_first s (AtBigFirst negative) i negative b h (omega arith)
 is_move (InBigZeros negative) s i b h g =
     cond_if (IsMove (i + 1) s) (is_digit b) _ _ (λ e.
-    cond_if (IsMove (i + 1) s) (fits s (i + 1) 2) _ _ (λ f. is_big_digit s (InBigZeros negative) i negative b h e (fits_room s (i + 1) 2 f (omega arith))) (λ f. tt)) (λ e.
+    cond_if (IsMove (i + 1) s) (has_total_room s (i + 1) 2) _ _ (λ f. is_big_digit s (InBigZeros negative) i negative b h e (fits_room s (i + 1) 2 f (omega arith))) (λ f. tt)) (λ e.
     wants_is (i + 1) s 13 b _ (less s (InBigZeros negative) AtBigZeroLf i h (omega arith) tt refl))
-is_move AtBigZeroLf s i b h g = wants_is (i + 1) s 10 b _ (let q : s.taken + i + 1 + s.owed ≤ s.bounds.total = h.total in stays s AtBigZeroLf AtTextEnd i (i + 1) h (omega (arith, q)) tt)
+is_move AtBigZeroLf s i b h g = wants_is (i + 1) s 10 b _ (let q : s.taken + i + 1 + s.frames_need ≤ s.bounds.total = h.total in stays s AtBigZeroLf AtTextEnd i (i + 1) h (omega (arith, q)) tt)
 is_move (AtBigDigit d room) s i b h g = tt
 is_move (InBig room) s i b h g =
     cond_if (IsMove (i + 1) s) (is_digit b) _ _
@@ -516,6 +516,6 @@ is_move (AtOpenCr k) s i b h g = wants_is (i + 1) s 13 b _ (less s (AtOpenCr k) 
 is_move (AtOpenLf k) s i b h g = wants_is (i + 1) s 10 b _ (is_opened_streamed s (AtOpenLf k) k i h h.token (omega arith), tt)
 is_move AtCloseCr s i b h g = wants_is (i + 1) s 13 b _ (less s AtCloseCr AtCloseLf i h (omega arith) h.token refl)
 is_move AtCloseLf s i b h g =
-    let w : s.taken + i + 1 + s.owed ≤ s.bounds.total = h.total in
+    let w : s.taken + i + 1 + s.frames_need ≤ s.bounds.total = h.total in
     wants_is (i + 1) s 10 b _ (record { taken = refl; rules = refl; sound = sound_closed s AtCloseLf s.frames i (i + 1) refl h h.token (omega (arith, w)) }, tt)
 is_move (Dead c) s i b h g = tt

@@ -9,28 +9,29 @@ use Rattle.resp_value.specs.Rules.{Rules, WithinItems, WithinTotal}
 use Rattle.resp_value.specs.Spellings.{IsViable}
 use Rattle.resp_value.proofs.LocalRuleLemmas.{keeps_locally}
 use Rattle.resp_value.proofs.Unique.{unique}
-use Rattle.resp_follow.proofs.FrontLaws.{all_rules}
-use Rattle.resp_follow.specs.Events.{given, events}
-use Rattle.resp_follow.specs.Events as e
-use Rattle.resp_follow.specs.LeastCompletions.{IsLeast}
+use Rattle.resp_fronts.proofs.FrontLaws.{all_rules}
+use Rattle.resp_fronts.specs.Events.{without_places, events}
+use Rattle.resp_fronts.specs.Events as e
+use Rattle.resp_fronts.specs.LeastCompletions.{IsLeast}
 use Rattle.resp_scan.specs.declared.event.Event.{Event}
 use Rattle.resp_scan.specs.declared.event.Event.TheVariants as event
 use Rattle.resp_scan.specs.declared.event.Step.{Step}
 use Rattle.resp_scan.specs.declared.event.Fault.{Fault}
 use Rattle.resp_scan.specs.declared.frame.Frame.{Frame}
-use Rattle.resp_scan.specs.Tokens as k
-use Rattle.resp_scan.specs.Tokens.{Happening, Place, Token, ended, at, AtStart, AtEnd, InLine, AtLineLf, AtIntSign, AtIntFirst, InInt, AtIntLf, AtBigSign, AtBigFirst, InBigZeros, AtBigZeroLf, AtBigDigit, InBig, AtTextEnd, AtNullOne, AtNullCr, AtNullLf, AtBool, AtBoolCr, AtBoolLf, AtBulkHead, AtArrayHead, AtHead, InHead, AtHeadLf, AtFormat, AtFormatSecond, AtFormatThird, AtFormatColon, InContent, AtContentCr, AtContentLf, AtStreamCr, AtStreamLf, AtChunk, InChunk, AtChunkCr, AtChunkLf, AtOpenCr, AtOpenLf, AtCloseCr, AtCloseLf, Dead}
-use Rattle.resp_scan.specs.Scan.{Out, More, Gave, Part, Whole, Bad, advanced, advanced_in, closes, scan}
-use Rattle.resp_scan.specs.Heard.{IsPartOf, IsOfPiece, IsRun, after, heard, heard_event, heard_part, stepped}
+use Rattle.resp_scan.specs.Machine.Tokens as k
+use Rattle.resp_scan.specs.Machine.Tokens.{Happening, Place, Token, after_end, at, AtStart, AtEnd, InLine, AtLineLf, AtIntSign, AtIntFirst, InInt, AtIntLf, AtBigSign, AtBigFirst, InBigZeros, AtBigZeroLf, AtBigDigit, InBig, AtTextEnd, AtNullOne, AtNullCr, AtNullLf, AtBool, AtBoolCr, AtBoolLf, AtBulkHead, AtArrayHead, AtHead, InHead, AtHeadLf, AtFormat, AtFormatSecond, AtFormatThird, AtFormatColon, InContent, AtContentCr, AtContentLf, AtStreamCr, AtStreamLf, AtChunk, InChunk, AtChunkCr, AtChunkLf, AtOpenCr, AtOpenLf, AtCloseCr, AtCloseLf, Dead}
+use Rattle.resp_scan.specs.Machine.Scan.{Out, More, Gave, Part, Whole, Bad, out_from, out_from_token, out_at_end, scan}
+use Rattle.resp_scan.specs.Parts.{IsPartOf, IsOfPiece, IsRun}
+use Rattle.resp_scan.specs.Machine.StepOutcomes.{after_bytes, out_of_step, out_of_event, out_of_part, after_step}
 use Rattle.resp_scan.specs.Kinds.{IsRefusedFor, content_events, event_of, rules_of}
 use Rattle.resp_scan.specs.declared.machine.Head.{Head}
 use Rattle.resp_scan.specs.declared.machine.Head.TheVariants as head
-use Rattle.resp_scan.specs.Heads.{first_needed, head_needed}
-use Rattle.resp_scan.specs.Sound.{Fits, IsSound, IsSoundBy, needed, token_needed}
-use Rattle.resp_scan.specs.Given.{owed_at}
-use Rattle.resp_scan.specs.Follows as f
-use Rattle.resp_scan.specs.Follows.{Between, Counts, Ended, Lies, LiesAt}
-use Rattle.resp_scan.specs.Steps.{AreDue, Follows, Heard, HasNoValue, IsRefused, IsValue, Stepped, events_of}
+use Rattle.resp_scan.specs.Machine.Heads.{first_needed, head_needed}
+use Rattle.resp_scan.specs.Machine.Sound.{IsTokenSound, IsSound, IsSoundBy, needed, token_needed}
+use Rattle.resp_scan.specs.Machine.Owed.{events_owed_at}
+use Rattle.resp_scan.specs.Machine.Standing as f
+use Rattle.resp_scan.specs.Machine.Standing.{AwaitsMember, HasCountsOf, HasEnded, StandsAfter, StandsAfterAt}
+use Rattle.resp_scan.specs.Reading.{AreDue, HasRead, Heard, HasNoValue, IsRefused, IsValue, Stepped, events_of}
 use Rattle.resp_scan.proofs.EachLeads.{IsLookedAt}
 use Rattle.resp_scan.proofs.EventsDue.{events_are_due}
 use Rattle.resp_scan.proofs.Heard.{Came, RefusedAt, came_scan}
@@ -45,47 +46,47 @@ use Rattle.resp_scan.proofs.Choices.{if_below, if_equal, if_within}
 -- What is owed, or what comes of the piece.
 
 abbrev pub Answered : Rules → List ℕ → List e.Event → List ℕ → Out → Type 0
-Answered r front es p (More n t) = (n ≡ length p) × IsLookedAt t.token n × Lies t (front ++ p) es
-Answered r front es p (Gave n happening t) = (n ≤ length p) × Lies t (front ++ take n p) (es ++ event_of happening ∷ [])
-Answered r front es p (Part k n t) = (k < n) × (n ≤ length p) × Lies t (front ++ take n p) (es ++ content_events (drop k (take n p)))
-Answered r front es p (Whole t) = f.Whole r front es × Lies t [] []
+Answered r front es p (More n t) = (n ≡ length p) × IsLookedAt t.token n × StandsAfter t (front ++ p) es
+Answered r front es p (Gave n happening t) = (n ≤ length p) × StandsAfter t (front ++ take n p) (es ++ event_of happening ∷ [])
+Answered r front es p (Part k n t) = (k < n) × (n ≤ length p) × StandsAfter t (front ++ take n p) (es ++ content_events (drop k (take n p)))
+Answered r front es p (Whole t) = f.IsWholeValue r front es × StandsAfter t [] []
 Answered r front es p (Bad n c t) = (n < length p) × (byte : ℕ) × (rest : List ℕ) × (p ≡ take n p ++ byte ∷ rest) × RefusedAt r (front ++ take n p) es byte n c
 
 from_start : (r : Rules) (front : List ℕ) (es : List e.Event) (p : List ℕ) (o : Out) → Came r 0 front es p o → Answered r front es p o
 from_start r front es p (More n t) h = (omega (arith, h.0), h.1, h.2)
-from_start r front es p (Gave n x t) h = let z : n - 0 ≡ n = omega arith in (omega (arith, h.1), subst (λ m. Lies t (front ++ take m p) (es ++ event_of x ∷ [])) z h.2)
+from_start r front es p (Gave n x t) h = let z : n - 0 ≡ n = omega arith in (omega (arith, h.1), subst (λ m. StandsAfter t (front ++ take m p) (es ++ event_of x ∷ [])) z h.2)
 from_start r front es p (Part k n t) h =
     let z : n - 0 ≡ n = omega arith in
     let y : k - 0 ≡ k = omega arith in
-    (h.1, omega (arith, h.2), subst (λ m. Lies t (front ++ take n p) (es ++ content_events (drop m (take n p)))) y (subst (λ m. Lies t (front ++ take m p) (es ++ content_events (drop (k - 0) (take m p)))) z h.3))
+    (h.1, omega (arith, h.2), subst (λ m. StandsAfter t (front ++ take n p) (es ++ content_events (drop m (take n p)))) y (subst (λ m. StandsAfter t (front ++ take m p) (es ++ content_events (drop (k - 0) (take m p)))) z h.3))
 from_start r front es p (Whole t) h = absurd h
 from_start r front es p (Bad n c t) (j, m, byte, rest, parts, w) =
     let z : n - 0 ≡ n = omega arith in
     (omega (arith, m), byte, rest, subst (λ x. p ≡ take x p ++ byte ∷ rest) z parts, subst (λ x. RefusedAt r (front ++ take x p) es byte n c) z w)
 
 -- an event that is owed at no byte
-owed : (r : Rules) (front : List ℕ) (es : List e.Event) (p : List ℕ) (x : Happening) (t : Place) → Lies t front (es ++ event_of x ∷ []) → Answered r front es p (Gave 0 x t)
-owed r front es p x t w =
-    (omega arith, subst (λ z. Lies t z (es ++ event_of x ∷ [])) (sym (ap (λ z. front ++ z) (take-none p) ∙ append-nil front)) w)
+gives_owed : (r : Rules) (front : List ℕ) (es : List e.Event) (p : List ℕ) (x : Happening) (t : Place) → StandsAfter t front (es ++ event_of x ∷ []) → Answered r front es p (Gave 0 x t)
+gives_owed r front es p x t w =
+    (omega arith, subst (λ z. StandsAfter t z (es ++ event_of x ∷ [])) (sym (ap (λ z. front ++ z) (take-none p) ∙ append-nil front)) w)
 
-at_top : (r : Rules) → Between r [] [] []
+at_top : (r : Rules) → AwaitsMember r [] [] []
 at_top r = record { frames = []; begun = tt; of_levels = tt; ready = tt; whole = refl; told = refl }
 
-closed : (s : Place) (fs : List Frame) (front : List ℕ) (es : List e.Event) (p : List ℕ) → Ended (rules_of s) fs front es → Answered (rules_of s) front es p (closes (record s { token = AtEnd; frames = fs }) fs)
+closed : (s : Place) (fs : List Frame) (front : List ℕ) (es : List e.Event) (p : List ℕ) → HasEnded (rules_of s) fs front es → Answered (rules_of s) front es p (out_at_end (record s { token = AtEnd; frames = fs }) fs)
 closed s [] front es p w = (w, at_top (rules_of s))
-closed s (x ∷ fs) front es p w = owed (rules_of s) front es p k.Close (ended (record s { token = AtEnd; frames = fs })) (close_is_owed s x fs front es w)
+closed s (x ∷ fs) front es p w = gives_owed (rules_of s) front es p k.Close (after_end (record s { token = AtEnd; frames = fs })) (close_is_owed s x fs front es w)
 
-scanned : (s : Place) (front : List ℕ) (es : List e.Event) (p : List ℕ) → IsText p → IsSound s → s.taken ≡ length front → Lies s front es → IsLookedAt s.token 0 → Answered (rules_of s) front es p (scan 0 s p)
+scanned : (s : Place) (front : List ℕ) (es : List e.Event) (p : List ℕ) → IsText p → IsSound s → s.taken ≡ length front → StandsAfter s front es → IsLookedAt s.token 0 → Answered (rules_of s) front es p (scan 0 s p)
 scanned s front es p text sound taken w looked = from_start (rules_of s) front es p (scan 0 s p) (came_scan (rules_of s) 0 s front es p text refl (record { sound = sound; taken = omega (arith, taken) }) looked w)
 
 inside : (t : Token) → is_outside t ≡ false → IsLookedAt t 0
 inside t e h = absurd (false≢true (sym e ∙ h))
 
 -- from every token
-answered_at : (t : Token) (s : Place) (front : List ℕ) (es : List e.Event) (p : List ℕ) → IsText p → IsSound (at s t) → s.taken ≡ length front → Lies (at s t) front es → Answered (rules_of s) front es p (advanced_in t (at s t) p)
+answered_at : (t : Token) (s : Place) (front : List ℕ) (es : List e.Event) (p : List ℕ) → IsText p → IsSound (at s t) → s.taken ≡ length front → StandsAfter (at s t) front es → Answered (rules_of s) front es p (out_from_token t (at s t) p)
 answered_at AtEnd s front es p text sound taken w = closed s s.frames front es p w
-answered_at AtTextEnd s front es p text sound taken w = owed (rules_of s) front es p k.TextEnd (ended s) (text_end_is_owed s front es w)
-answered_at (AtBigDigit digit room) s front es p text sound taken w = owed (rules_of s) front es p (k.Digit digit) (at s (InBig room)) (big_digit_is_owed s digit room front es w)
+answered_at AtTextEnd s front es p text sound taken w = gives_owed (rules_of s) front es p k.TextEnd (after_end s) (text_end_is_owed s front es w)
+answered_at (AtBigDigit digit room) s front es p text sound taken w = gives_owed (rules_of s) front es p (k.Digit digit) (at s (InBig room)) (big_digit_is_owed s digit room front es w)
 answered_at (Dead c) s front es p text sound taken w = absurd w.took
 answered_at AtStart s front es p text sound taken w = scanned (at s AtStart) front es p text sound taken w (λ h. (refl, refl))
 answered_at (InLine room) s front es p text sound taken w = scanned (at s (InLine room)) front es p text sound taken w (inside (InLine room) refl)
@@ -128,47 +129,47 @@ answered_at (AtOpenLf o) s front es p text sound taken w = scanned (at s (AtOpen
 answered_at AtCloseCr s front es p text sound taken w = scanned (at s AtCloseCr) front es p text sound taken w (inside AtCloseCr refl)
 answered_at AtCloseLf s front es p text sound taken w = scanned (at s AtCloseLf) front es p text sound taken w (inside AtCloseLf refl)
 
-pub answered : (s : Place) (front : List ℕ) (es : List e.Event) (p : List ℕ) → IsText p → IsSound s → s.taken ≡ length front → Lies s front es → Answered (rules_of s) front es p (advanced s p)
+pub answered : (s : Place) (front : List ℕ) (es : List e.Event) (p : List ℕ) → IsText p → IsSound s → s.taken ≡ length front → StandsAfter s front es → Answered (rules_of s) front es p (out_from s p)
 answered s front es p text sound taken w = answered_at s.token s front es p text sound taken w
 
 -- What is heard of it.
 
 -- with the bytes that a step counts
 abbrev Shown : Place → List ℕ → List e.Event → List ℕ → Out → Type 0
-Shown s front es p (More n t) = (n ≡ length p) × (t.taken ≡ s.taken + n) × IsSound t × (rules_of t ≡ rules_of s) × IsLookedAt t.token n × Lies t (front ++ p) es
-Shown s front es p (Gave n happening t) = (n ≤ length p) × (t.taken ≡ s.taken + n) × Lies t (front ++ take n p) (es ++ event_of happening ∷ [])
-Shown s front es p (Part k n t) = (k < n) × (n ≤ length p) × (t.taken ≡ s.taken + n) × Lies t (front ++ take n p) (es ++ content_events (drop k (take n p)))
-Shown s front es p (Whole t) = (t.taken ≡ 0) × f.Whole (rules_of s) front es × Lies t [] []
+Shown s front es p (More n t) = (n ≡ length p) × (t.taken ≡ s.taken + n) × IsSound t × (rules_of t ≡ rules_of s) × IsLookedAt t.token n × StandsAfter t (front ++ p) es
+Shown s front es p (Gave n happening t) = (n ≤ length p) × (t.taken ≡ s.taken + n) × StandsAfter t (front ++ take n p) (es ++ event_of happening ∷ [])
+Shown s front es p (Part k n t) = (k < n) × (n ≤ length p) × (t.taken ≡ s.taken + n) × StandsAfter t (front ++ take n p) (es ++ content_events (drop k (take n p)))
+Shown s front es p (Whole t) = (t.taken ≡ 0) × f.IsWholeValue (rules_of s) front es × StandsAfter t [] []
 Shown s front es p (Bad n c t) = (t.taken ≡ s.taken + n) × (n < length p) × (byte : ℕ) × (rest : List ℕ) × (p ≡ take n p ++ byte ∷ rest) × RefusedAt (rules_of s) (front ++ take n p) es byte n c
 
 -- a piece's bytes are those of the value
-sound_after : (n : ℕ) (t : Place) → IsSoundBy n t → IsSound (after n t)
-sound_after n t h = record { bounds = h.bounds; nested = h.nested; counted = h.counted; owed = h.owed; total = omega (arith, h.total); token = h.token }
+sound_after : (n : ℕ) (t : Place) → IsSoundBy n t → IsSound (after_bytes n t)
+sound_after n t h = record { bounds = h.bounds; nested = h.nested; counted = h.counted; frames_need = h.frames_need; total = omega (arith, h.total); token = h.token }
 
-shown : (s : Place) (front : List ℕ) (es : List e.Event) (p : List ℕ) (o : Out) → IsOut s o → Answered (rules_of s) front es p o → Shown s front es p (stepped o)
+shown : (s : Place) (front : List ℕ) (es : List e.Event) (p : List ℕ) (o : Out) → IsOut s o → Answered (rules_of s) front es p o → Shown s front es p (after_step o)
 shown s front es p (More n t) h a = (a.0, ap (λ x. x + n) h.taken, sound_after n t h.sound, h.rules, a.1, a.2)
 shown s front es p (Gave n x t) h a = (a.0, ap (λ x. x + n) h.0.taken, a.1)
 shown s front es p (Part k n t) h a = (a.0, a.1, ap (λ x. x + n) h.taken, a.2)
 shown s front es p (Whole t) h a = (h.1, a.0, a.1)
 shown s front es p (Bad n c t) h (within, byte, rest, parts, w) = (ap (λ x. x + n) h.0.taken, within, byte, rest, parts, w)
 
-follows : (s t : Place) (front : List ℕ) (es : List e.Event) (p : List ℕ) (n : ℕ) → s.taken ≡ length front → n ≤ length p → t.taken ≡ s.taken + n → Lies t (front ++ take n p) es → Follows t (front ++ take n p) es
+follows : (s t : Place) (front : List ℕ) (es : List e.Event) (p : List ℕ) (n : ℕ) → s.taken ≡ length front → n ≤ length p → t.taken ≡ s.taken + n → StandsAfter t (front ++ take n p) es → HasRead t (front ++ take n p) es
 follows s t front es p n taken within counts w = record { lies = w; taken = omega (arith, taken, counts, length-append front (take n p), length-front n p (omega (arith, within))) }
 
 -- a digit that was owed, or a run of the piece
-part_heard : (zero_bytes : Bool) (s t : Place) (front : List ℕ) (es : List e.Event) (p q : List ℕ) (n : ℕ) → s.taken ≡ length front → IsRun zero_bytes p n q → Shown s front es p (heard_part zero_bytes n q t) → Follows t (front ++ take n p) (es ++ content_events q)
-part_heard true s t front es p q n taken run h = subst (λ z. Follows t (front ++ take n p) (es ++ z)) (one q run) (follows s t front (es ++ e.Byte (get_or q 0 0) ∷ []) p n taken h.0 h.1 h.2)
+part_heard : (zero_bytes : Bool) (s t : Place) (front : List ℕ) (es : List e.Event) (p q : List ℕ) (n : ℕ) → s.taken ≡ length front → IsRun zero_bytes p n q → Shown s front es p (out_of_part zero_bytes n q t) → HasRead t (front ++ take n p) (es ++ content_events q)
+part_heard true s t front es p q n taken run h = subst (λ z. HasRead t (front ++ take n p) (es ++ z)) (one q run) (follows s t front (es ++ e.Byte (get_or q 0 0) ∷ []) p n taken h.0 h.1 h.2)
   where
     one : (q : List ℕ) → length q ≡ 1 → e.Byte (get_or q 0 0) ∷ [] ≡ content_events q
     one [] e = absurd (omega (arith, e))
     one (b ∷ []) e = refl
     one (b ∷ c ∷ q) e = absurd (omega (arith, e))
-part_heard false s t front es p q n taken run h = follows s t front (es ++ content_events q) p n taken h.1 h.2 (subst (λ z. Lies t (front ++ take n p) (es ++ content_events z)) (sym run.1) h.3)
+part_heard false s t front es p q n taken run h = follows s t front (es ++ content_events q) p n taken h.1 h.2 (subst (λ z. StandsAfter t (front ++ take n p) (es ++ content_events z)) (sym run.1) h.3)
 
 -- Values.
 
 -- a whole value within total is within all rules
-value_is : (s : Place) (front : List ℕ) (es : List e.Event) → length front ≤ s.bounds.total → f.Whole (rules_of s) front es → IsValue (rules_of s) front es
+value_is : (s : Place) (front : List ℕ) (es : List e.Event) → length front ≤ s.bounds.total → f.IsWholeValue (rules_of s) front es → IsValue (rules_of s) front es
 value_is s front es fits w = record {
   tree = w.tree;
   spells = record { is_tree = w.is_tree; spelled = sym w.whole };
@@ -214,7 +215,7 @@ two_behind head.Map n = omega arith
 two_behind head.Attr n = omega arith
 two_behind head.Push n = omega arith
 
-some_needed : (t : Token) (depth : ℕ) (fs : List Frame) → Fits t depth fs → is_outside t ≡ false → 0 < token_needed t depth fs
+some_needed : (t : Token) (depth : ℕ) (fs : List Frame) → IsTokenSound t depth fs → is_outside t ≡ false → 0 < token_needed t depth fs
 some_needed AtStart depth fs f e = absurd (false≢true (sym e))
 some_needed AtEnd depth fs f e = absurd (false≢true (sym e))
 some_needed AtTextEnd depth fs f e = absurd (false≢true (sym e))
@@ -265,7 +266,7 @@ is_inside : (t : Token) (n : ℕ) → IsLookedAt t n → 0 < n → is_outside t 
 is_inside t n h some = elim (is_outside t) as (λ x. is_outside t ≡ x → x ≡ false) [ true ↦ λ e. absurd (omega (arith, some, (h e).1)) | false ↦ λ e. refl ] refl
 
 -- where a byte is looked at nothing is owed
-none_owed : (t : Token) (n : ℕ) (fs : List Frame) → IsLookedAt t n → owed_at t fs ≡ []
+none_owed : (t : Token) (n : ℕ) (fs : List Frame) → IsLookedAt t n → events_owed_at t fs ≡ []
 none_owed AtEnd n fs h = absurd (let e : AtEnd ≡ AtStart = (h refl).0 in cc)
 none_owed AtTextEnd n fs h = absurd (let e : AtTextEnd ≡ AtStart = (h refl).0 in cc)
 none_owed (AtBigDigit digit room) n fs h = absurd (let e : AtBigDigit digit room ≡ AtStart = (h refl).0 in cc)
@@ -275,18 +276,18 @@ looked_on : (t : Token) (n : ℕ) → IsLookedAt t n → IsLookedAt t 0
 looked_on t n h e = ((h e).0, refl)
 
 -- and all events due were given
-all_due : (t : Place) (n : ℕ) (front : List ℕ) (es : List e.Event) → IsSoundBy n t → IsLookedAt t.token n → Lies t front es → AreDue front es
+all_due : (t : Place) (n : ℕ) (front : List ℕ) (es : List e.Event) → IsSoundBy n t → IsLookedAt t.token n → StandsAfter t front es → AreDue front es
 all_due t n front es sound looked w rest whole spells = events_are_due t n front es sound w rest whole spells ∙ ap (λ z. es ++ z) (none_owed t.token n t.frames looked) ∙ append-nil es
 
 -- so a piece that gives no event ends no value
-none_ended : (r : Rules) (t : Place) (front : List ℕ) (es : List e.Event) (p : List ℕ) (n : ℕ) → n ≡ length p → IsSound t → rules_of t ≡ r → IsLookedAt t.token n → Lies t (front ++ p) es → HasNoValue front p
+none_ended : (r : Rules) (t : Place) (front : List ℕ) (es : List e.Event) (p : List ℕ) (n : ℕ) → n ≡ length p → IsSound t → rules_of t ≡ r → IsLookedAt t.token n → StandsAfter t (front ++ p) es → HasNoValue front p
 none_ended r t front es p n all sound rules within w m tree some spells =
     let needs : 0 < token_needed t.token t.bounds.depth t.frames = some_needed t.token t.bounds.depth t.frames sound.token (is_inside t.token n within (omega (arith, all, some))) in
     no_value (rules_of t) front p (needed t) (least_is_needed t 0 (front ++ p) es sound w) (omega (arith, needs)) m tree some spells
 
 -- the event
 
-heard_is : (s t : Place) (front : List ℕ) (es : List e.Event) (p : List ℕ) (n : ℕ) (x : Option Event) → s.taken ≡ length front → length front ≤ s.bounds.total → IsPartOf p n x → Shown s front es p (heard_event n x t) → Heard (rules_of s) t front es p n x
+heard_is : (s t : Place) (front : List ℕ) (es : List e.Event) (p : List ℕ) (n : ℕ) (x : Option Event) → s.taken ≡ length front → length front ≤ s.bounds.total → IsPartOf p n x → Shown s front es p (out_of_event n x t) → Heard (rules_of s) t front es p n x
 heard_is s t front es p n None taken fits part h = (h.0, none_ended (rules_of s) t front es p n h.0 h.2 h.3 h.4 h.5, all_due t 0 (front ++ p) es h.2 (looked_on t.token n h.4) h.5, record { lies = h.5; taken = omega (arith, taken, h.1, h.0, length-append front p) })
 heard_is s t front es p n (Some event.Null) taken fits part h = follows s t front (es ++ e.Null ∷ []) p n taken h.0 h.1 h.2
 heard_is s t front es p n (Some (event.Bool x)) taken fits part h = follows s t front (es ++ e.Bool x ∷ []) p n taken h.0 h.1 h.2
@@ -316,11 +317,11 @@ refused_is s t front es p fault taken at_taken (counted, within, byte, rest, par
     }
 
 -- What a step answers.
-pub stepped_is : (result : Result Step Fault) (s t : Place) (front : List ℕ) (es : List e.Event) (p : List ℕ) → IsText p → IsSound s → heard s.taken result t ≡ stepped (advanced s p) → IfOk result (λ step. IsOfPiece p step) → IfErr result (λ fault. (fault.at ≡ t.taken) × (t.token ≡ Dead fault.cause)) → Follows s front es → Stepped s t front es p result
+pub stepped_is : (result : Result Step Fault) (s t : Place) (front : List ℕ) (es : List e.Event) (p : List ℕ) → IsText p → IsSound s → out_of_step s.taken result t ≡ after_step (out_from s p) → IfOk result (λ step. IsOfPiece p step) → IfErr result (λ fault. (fault.at ≡ t.taken) × (t.token ≡ Dead fault.cause)) → HasRead s front es → Stepped s t front es p result
 stepped_is (Ok step) s t front es p text sound h part fault w =
     let fits : length front ≤ s.bounds.total = omega (arith, w.taken, sound.total) in
     heard_is s t front es p step.used step.event w.taken fits part
-    (subst (Shown s front es p) (sym h) (shown s front es p (advanced s p) (is_advanced s p sound) (answered s front es p text sound w.taken w.lies)))
+    (subst (Shown s front es p) (sym h) (shown s front es p (out_from s p) (is_advanced s p sound) (answered s front es p text sound w.taken w.lies)))
 stepped_is (Err x) s t front es p text sound h part fault w =
     refused_is s t front es p x w.taken fault.0
-    (subst (Shown s front es p) (sym h) (shown s front es p (advanced s p) (is_advanced s p sound) (answered s front es p text sound w.taken w.lies)))
+    (subst (Shown s front es p) (sym h) (shown s front es p (out_from s p) (is_advanced s p sound) (answered s front es p text sound w.taken w.lies)))

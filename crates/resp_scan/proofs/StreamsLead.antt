@@ -1,25 +1,25 @@
 -- The head of a streamed string, and the bytes between its chunks.
 use Rattle.std.proofs.Common.{◌≡◌, ℕ, List, [], ◌∷◌, ◌++◌, sym, ap, subst, arith}
 use Rattle.resp_value.specs.Rules.{Rules, Grammar}
-use Rattle.resp_follow.specs.Events.{Event}
-use Rattle.resp_follow.specs.Events as e
-use Rattle.resp_follow.proofs.CountRows.{CompletesUnder}
-use Rattle.resp_follow.proofs.BegunFronts.{IsBegunBy}
-use Rattle.resp_follow.proofs.StreamedHeads.{streamed_string_begun}
-use Rattle.resp_follow.proofs.ChunkTokens.{chunks_begun, stream_returned_begun}
-use Rattle.resp_follow.proofs.BrokenChunks.{chunks_broken, stream_mark_broken, stream_returned_broken}
+use Rattle.resp_fronts.specs.Events.{Event}
+use Rattle.resp_fronts.specs.Events as e
+use Rattle.resp_fronts.proofs.CountRows.{CompletesUnder}
+use Rattle.resp_fronts.proofs.BegunFronts.{IsBegunBy}
+use Rattle.resp_fronts.proofs.StreamedHeads.{streamed_string_begun}
+use Rattle.resp_fronts.proofs.ChunkTokens.{chunks_begun, stream_returned_begun}
+use Rattle.resp_fronts.proofs.BrokenChunks.{chunks_broken, stream_mark_broken, stream_returned_broken}
 use Rattle.resp_scan.specs.declared.event.TextKind.TheVariants as text
 use Rattle.resp_scan.specs.declared.machine.Head.TheVariants as head
-use Rattle.resp_scan.specs.Tokens.{Go, Give, Text, AtStreamCr, AtStreamLf, AtChunk, AtHead, at}
+use Rattle.resp_scan.specs.Machine.Tokens.{Go, Give, Text, AtStreamCr, AtStreamLf, AtChunk, AtHead, at}
 use Rattle.resp_scan.specs.Kinds.{rules_of}
-use Rattle.resp_scan.specs.Begun.{ChunksBegun}
-use Rattle.resp_scan.specs.Follows.{Leads, Lies}
+use Rattle.resp_scan.specs.Machine.Beginnings.{ChunksBegun}
+use Rattle.resp_scan.specs.Machine.Standing.{Leads, StandsAfter}
 use Rattle.resp_scan.proofs.TokenLaws.{StreamsLead, StreamEndsLead, ChunksLead}
 use Rattle.resp_scan.proofs.ByteTests.{wanted}
 use Rattle.resp_scan.proofs.ChunksBegun.{are_whole, chunks_more}
 use Rattle.resp_scan.proofs.Moves.{goes, tells}
 use Rattle.resp_scan.proofs.RefusedMoves.{broken}
-use Rattle.resp_follow.specs.Tokens.{HasStreamed}
+use Rattle.resp_fronts.specs.Tokens.{HasStreamed}
 
 -- these bytes of a streamed string's line
 abbrev IsStream : Rules → List ℕ → ℕ → List ℕ → List Event → Type 0
@@ -29,7 +29,7 @@ pub streams_lead : StreamsLead
 streams_lead s used byte front es is_byte c w =
     let r = rules_of s in
     wanted (at s AtStreamCr) front es 13 byte (Go (at s AtStreamLf))
-    (λ is_return. subst (λ z. Lies (at s AtStreamLf) (front ++ z ∷ []) es) (sym is_return) (goes r (IsStream r (36 ∷ 63 ∷ [])) (IsStream r (36 ∷ 63 ∷ 13 ∷ [])) s.frames front (13 ∷ []) es w (λ level bytes shown i t. (t.0, ap (λ z. z ++ 13 ∷ []) t.1, t.2))))
+    (λ is_return. subst (λ z. StandsAfter (at s AtStreamLf) (front ++ z ∷ []) es) (sym is_return) (goes r (IsStream r (36 ∷ 63 ∷ [])) (IsStream r (36 ∷ 63 ∷ 13 ∷ [])) s.frames front (13 ∷ []) es w (λ level bytes shown i t. (t.0, ap (λ z. z ++ 13 ∷ []) t.1, t.2))))
     (λ other. broken r (IsStream r (36 ∷ 63 ∷ [])) s.frames front es 6 byte w
     (λ level bytes shown i t. subst (λ z. IsBegunBy r level z 6) (sym t.1) (streamed_string_begun r level t.0))
     (λ level bytes rest shown t d. stream_mark_broken r level rest byte other (subst (λ z. CompletesUnder r Grammar level z (byte ∷ rest)) t.1 d)))

@@ -7,26 +7,26 @@ use Rattle.resp_value.specs.Trees as t
 use Rattle.resp_value.specs.Trees.{StringKind, HasFormat}
 use Rattle.resp_value.specs.Rules.{Rules, Grammar}
 use Rattle.resp_value.specs.declared.cause.Cause.TheVariants as cause
-use Rattle.resp_follow.specs.Events.{Event}
-use Rattle.resp_follow.proofs.CountRows.{CompletesUnder}
-use Rattle.resp_follow.proofs.FirstLineRows.{are_zeros}
-use Rattle.resp_follow.proofs.BegunFronts.{IsBegunBy}
-use Rattle.resp_follow.proofs.BegunTypeBytes.{dollar_begun, bulk_error_begun, verbatim_begun}
-use Rattle.resp_follow.proofs.HeadTokens.{bulk_length_begun, error_length_begun, verbatim_length_begun, short_length_begun, zero_length_begun}
-use Rattle.resp_follow.proofs.StringTokens.{HasRoom, IsStringBegun, short_token_broken}
+use Rattle.resp_fronts.specs.Events.{Event}
+use Rattle.resp_fronts.proofs.CountRows.{CompletesUnder}
+use Rattle.resp_fronts.proofs.FirstLineRows.{are_zeros}
+use Rattle.resp_fronts.proofs.BegunFronts.{IsBegunBy}
+use Rattle.resp_fronts.proofs.BegunTypeBytes.{dollar_begun, bulk_error_begun, verbatim_begun}
+use Rattle.resp_fronts.proofs.HeadTokens.{bulk_length_begun, error_length_begun, verbatim_length_begun, short_length_begun, zero_length_begun}
+use Rattle.resp_fronts.proofs.StringTokens.{HasRoom, IsStringBegun, short_token_broken}
 use Rattle.resp_scan.specs.declared.machine.Head.{Head}
 use Rattle.resp_scan.specs.declared.machine.Head.TheVariants as head
-use Rattle.resp_scan.specs.Tokens.{Place}
-use Rattle.resp_scan.specs.Heads.{counted_cause, first_needed, head_needed, may_end, most_counted, streamed_kind}
-use Rattle.resp_scan.specs.Begun.{HeadCounts, HeadReturned, LengthBegun, LengthReturned}
-use Rattle.resp_follow.specs.Tokens.{zeros}
+use Rattle.resp_scan.specs.Machine.Tokens.{Place}
+use Rattle.resp_scan.specs.Machine.Heads.{number_cause, first_needed, head_needed, may_end, greatest_number, streamed_kind}
+use Rattle.resp_scan.specs.Machine.Beginnings.{HeadCounts, HeadReturned, LengthBegun, LengthReturned}
+use Rattle.resp_fronts.specs.Tokens.{zeros}
 
 -- a head that is one of a counted string of this kind, and what is said of it in the words of strings
 pub record IsStringHead (h : Head) (kind : StringKind) : Type 0 where
   pub has_format : HasFormat kind
   pub not_streamed : streamed_kind h ≡ None
-  pub most : (s : Place) → most_counted s h ≡ s.bounds.length
-  pub cause : cause.Length ≡ counted_cause h
+  pub most : (s : Place) → greatest_number s h ≡ s.bounds.length
+  pub cause : cause.Length ≡ number_cause h
   pub first_row : (r : Rules) (level : ℕ) (bytes : List ℕ) → 4 ≤ r.limits.length → IsStringBegun r kind bytes → IsBegunBy r level bytes (first_needed h)
   pub row : (r : Rules) (n level : ℕ) (bytes : List ℕ) (shown : List Event) → 30 ≤ r.limits.length → LengthBegun r kind n level bytes shown → IsBegunBy r level bytes (head_needed h n)
   pub counts : (r : Rules) (n level : ℕ) (bytes : List ℕ) (shown : List Event) → LengthBegun r kind n level bytes shown → HeadCounts r h n level bytes shown

@@ -4,26 +4,26 @@ use Rattle.resp_value.specs.Bytes.{crlf}
 use Rattle.resp_value.specs.Trees as t
 use Rattle.resp_value.specs.Trees.{StringKind, HasFormat, payload}
 use Rattle.resp_value.specs.Rules.{Rules, Grammar}
-use Rattle.resp_follow.specs.Events.{Event}
-use Rattle.resp_follow.specs.Events as e
-use Rattle.resp_follow.proofs.CountRows.{CompletesUnder}
-use Rattle.resp_follow.proofs.BegunFronts.{IsBegunBy}
-use Rattle.resp_follow.proofs.StringTokens.{HasRoom, length_returned_begun, length_returned_broken, payload_begins}
+use Rattle.resp_fronts.specs.Events.{Event}
+use Rattle.resp_fronts.specs.Events as e
+use Rattle.resp_fronts.proofs.CountRows.{CompletesUnder}
+use Rattle.resp_fronts.proofs.BegunFronts.{IsBegunBy}
+use Rattle.resp_fronts.proofs.StringTokens.{HasRoom, length_returned_begun, length_returned_broken, payload_begins}
 use Rattle.resp_scan.specs.declared.machine.Head.{Head}
 use Rattle.resp_scan.specs.declared.machine.Head.TheVariants as head
-use Rattle.resp_scan.specs.Tokens.{Move, Place, AtHeadLf, at}
-use Rattle.resp_scan.specs.Machine.{wants}
-use Rattle.resp_scan.specs.Heads.{content_at}
+use Rattle.resp_scan.specs.Machine.Tokens.{Move, Place, AtHeadLf, at}
+use Rattle.resp_scan.specs.Machine.Moves.{only_byte}
+use Rattle.resp_scan.specs.Machine.Heads.{content_at}
 use Rattle.resp_scan.specs.Kinds.{rules_of}
-use Rattle.resp_scan.specs.Begun.{ContentBegun, FormatBegun, HeadReturned, LengthReturned, string_text}
-use Rattle.resp_scan.specs.Follows.{Inside, Leads, Lies}
+use Rattle.resp_scan.specs.Machine.Beginnings.{ContentBegun, FormatBegun, HeadReturned, LengthReturned, string_text_kind}
+use Rattle.resp_scan.specs.Machine.Standing.{IsInside, Leads, StandsAfter}
 use Rattle.resp_scan.proofs.TokenLaws.{StringLengthEndsLead}
 use Rattle.resp_scan.proofs.ByteTests.{wanted}
 use Rattle.resp_scan.proofs.ContentLead.{content_lies}
 use Rattle.resp_scan.proofs.Moves.{goes, retold, tells}
 use Rattle.resp_scan.proofs.RefusedMoves.{broken}
 use Rattle.resp_scan.proofs.StringHeads.{IsStringHead, bulk, bulk_error, verbatim}
-use Rattle.resp_follow.specs.Tokens.{IsContentToken, zeros}
+use Rattle.resp_fronts.specs.Tokens.{IsContentToken, zeros}
 
 -- a length that is whole, with its CR
 abbrev Returned : Rules → StringKind → ℕ → ℕ → List ℕ → List Event → Type 0
@@ -45,7 +45,7 @@ returned_row r h kind k n level bytes shown u =
     subst (λ z. IsBegunBy r level z (n + 3)) (sym t.1.returned) (subst (λ m. IsBegunBy r level (t.1.before ++ 13 ∷ []) (m + 3)) l.valued (length_returned_begun r kind l.first l.digits level t.1.before k.has_format (subst (HasRoom kind) (sym l.valued) t.0) l.token))
 
 -- the LF alone goes on
-length_end_leads : (s : Place) (h : Head) (kind : StringKind) (k : IsStringHead h kind) (n byte : ℕ) (front : List ℕ) (es : List Event) (v : Move) → Inside (rules_of s) (HeadReturned (rules_of s) h n) s.frames front es → Leads s front es 10 v → Leads s front es byte (wants 10 byte v)
+length_end_leads : (s : Place) (h : Head) (kind : StringKind) (k : IsStringHead h kind) (n byte : ℕ) (front : List ℕ) (es : List Event) (v : Move) → IsInside (rules_of s) (HeadReturned (rules_of s) h n) s.frames front es → Leads s front es 10 v → Leads s front es byte (only_byte 10 byte v)
 length_end_leads s h kind k n byte front es v w leads =
     let r = rules_of s in
     wanted s front es 10 byte v
@@ -58,18 +58,18 @@ length_end_leads s h kind k n byte front es v w leads =
     length_returned_broken r kind l.first l.digits level t.1.before rest byte other l.token (subst (λ z. CompletesUnder r Grammar level z (byte ∷ rest)) t.1.returned d)))
 
 -- content begins, where the payload is the content
-content_begins_at : (s : Place) (kind : StringKind) (n : ℕ) (front : List ℕ) (es : List Event) → HasFormat kind → payload kind [] ≡ [] → Inside (rules_of s) (Returned (rules_of s) kind n) s.frames front es → Lies (content_at n s) (front ++ 10 ∷ []) (es ++ e.Text (string_text kind) ∷ [])
+content_begins_at : (s : Place) (kind : StringKind) (n : ℕ) (front : List ℕ) (es : List Event) → HasFormat kind → payload kind [] ≡ [] → IsInside (rules_of s) (Returned (rules_of s) kind n) s.frames front es → StandsAfter (content_at n s) (front ++ 10 ∷ []) (es ++ e.Text (string_text_kind kind) ∷ [])
 content_begins_at s kind n front es f plain w =
     let r = rules_of s in
-    content_lies s n (front ++ 10 ∷ []) (es ++ e.Text (string_text kind) ∷ [])
-    (tells r (Returned r kind n) (ContentBegun r n) s.frames front (10 ∷ []) es (e.Text (string_text kind) ∷ []) w
+    content_lies s n (front ++ 10 ∷ []) (es ++ e.Text (string_text_kind kind) ∷ [])
+    (tells r (Returned r kind n) (ContentBegun r n) s.frames front (10 ∷ []) es (e.Text (string_text_kind kind) ∷ []) w
     (λ level bytes shown i u. record {
       kind = kind;
       first = u.1.length.first;
       digits = u.1.length.digits;
       part = [];
       token = subst (λ z. IsContentToken r kind u.1.length.first u.1.length.digits z n level (bytes ++ 10 ∷ [])) (sym plain) (payload_token r kind n level bytes shown f u);
-      told = ap (λ z. z ++ e.Text (string_text kind) ∷ []) u.1.length.told;
+      told = ap (λ z. z ++ e.Text (string_text_kind kind) ∷ []) u.1.length.told;
     }))
 
 pub string_length_ends_lead : StringLengthEndsLead

@@ -2,25 +2,26 @@
 use Rattle.std.specs.Prelude.{◌≡◌, ℕ, ◌+◌, ◌<◌, ◌≤◌, Bool, List, [], ◌∷◌, ◌++◌, length}
 use Rattle.resp_value.specs.Rules.{WithinTotal}
 use Rattle.resp_value.specs.Spellings.{IsViable}
-use Rattle.resp_follow.specs.Events.{Event, Byte, TextEnd, Close, all_events, due}
-use Rattle.resp_follow.specs.LeastCompletions.{IsLeast}
-use Rattle.resp_follow.proofs.BegunFronts.{IsBegunBy}
-use Rattle.resp_scan.specs.Tokens.{Place, InLine, AtLineLf, AtIntSign, AtIntFirst, InInt, AtIntLf, AtBigSign, AtBigFirst, InBigZeros, AtBigZeroLf, AtBigDigit, InBig, AtTextEnd, at, ended, AtBool, AtBoolCr, AtBoolLf, AtNullCr, AtNullLf, AtNullOne, AtHeadLf, AtCloseCr, AtCloseLf, AtEnd, InHead, AtArrayHead, AtHead, AtOpenCr, AtOpenLf, AtStart, AtBulkHead, AtChunk, AtChunkCr, AtChunkLf, AtContentCr, AtContentLf, AtFormat, AtFormatColon, AtFormatSecond, AtFormatThird, AtStreamCr, AtStreamLf, InChunk, InContent}
+use Rattle.resp_fronts.specs.Events.{Event, Byte, TextEnd, Close, all_events, events_due}
+use Rattle.resp_fronts.specs.LeastCompletions.{IsLeast}
+use Rattle.resp_fronts.proofs.BegunFronts.{IsBegunBy}
+use Rattle.resp_scan.specs.Machine.Tokens.{Place, InLine, AtLineLf, AtIntSign, AtIntFirst, InInt, AtIntLf, AtBigSign, AtBigFirst, InBigZeros, AtBigZeroLf, AtBigDigit, InBig, AtTextEnd, at, after_end, AtBool, AtBoolCr, AtBoolLf, AtNullCr, AtNullLf, AtNullOne, AtHeadLf, AtCloseCr, AtCloseLf, AtEnd, InHead, AtArrayHead, AtHead, AtOpenCr, AtOpenLf, AtStart, AtBulkHead, AtChunk, AtChunkCr, AtChunkLf, AtContentCr, AtContentLf, AtFormat, AtFormatColon, AtFormatSecond, AtFormatThird, AtStreamCr, AtStreamLf, InChunk, InContent}
 use Rattle.resp_scan.specs.declared.machine.Head.{Head}
 use Rattle.resp_scan.specs.declared.machine.Head.TheVariants.{Bulk, BulkError, Verbatim, Chunk, Array, Set, Map, Attr, Push}
 use Rattle.resp_scan.specs.declared.frame.Frame.{Frame}
-use Rattle.resp_scan.specs.declared.event.OpenKind.{OpenKind}
-use Rattle.resp_scan.specs.Machine.{next}
+use Rattle.resp_value.specs.declared.kind.OpenKind.{OpenKind}
+use Rattle.resp_scan.specs.Machine.Moves.{next}
 use Rattle.resp_scan.specs.Kinds.{rules_of}
-use Rattle.resp_scan.specs.Begun.{Begun}
-use Rattle.resp_scan.specs.Sound.{IsSoundBy, needed, token_needed}
-use Rattle.resp_scan.specs.Follows.{Lies, Leads, Counts}
+use Rattle.resp_scan.specs.Machine.Beginnings.{TokenHas}
+use Rattle.resp_scan.specs.Machine.Sound.{IsSoundBy, needed, token_needed}
+use Rattle.resp_scan.specs.Machine.Standing.{StandsAfter, Leads, HasCountsOf}
 use Rattle.resp_value.specs.Trees.{Tree, Spells}
-use Rattle.resp_scan.specs.Given.{opens, closes, owed}
+use Rattle.resp_scan.specs.Counts.{open_count, close_count}
+use Rattle.resp_scan.specs.Machine.Owed.{events_owed}
 
 -- the place that a byte leads to lies at the longer front, and a byte that is refused has its cause
 abbrev pub ALead : Place → Type 0
-ALead s = (used byte : ℕ) (front : List ℕ) (es : List Event) → byte < 256 → Counts s used front → Lies s front es → Leads s front es byte (next s (used + 1) byte)
+ALead s = (used byte : ℕ) (front : List ℕ) (es : List Event) → byte < 256 → HasCountsOf s used front → StandsAfter s front es → Leads s front es byte (next s (used + 1) byte)
 
 abbrev pub LinesLead : Type 0
 LinesLead = (s : Place) (room : ℕ) → ALead (at s (InLine room))
@@ -54,14 +55,14 @@ BigZeroEndLeads = (s : Place) → ALead (at s AtBigZeroLf)
 
 -- the digit that is owed
 abbrev pub BigDigitIsOwed : Type 0
-BigDigitIsOwed = (s : Place) (digit room : ℕ) (front : List ℕ) (es : List Event) → Lies (at s (AtBigDigit digit room)) front es → Lies (at s (InBig room)) front (es ++ Byte digit ∷ [])
+BigDigitIsOwed = (s : Place) (digit room : ℕ) (front : List ℕ) (es : List Event) → StandsAfter (at s (AtBigDigit digit room)) front es → StandsAfter (at s (InBig room)) front (es ++ Byte digit ∷ [])
 
 abbrev pub BigLeads : Type 0
 BigLeads = (s : Place) (room : ℕ) → ALead (at s (InBig room))
 
 -- the end of a text that is owed
 abbrev pub TextEndIsOwed : Type 0
-TextEndIsOwed = (s : Place) (front : List ℕ) (es : List Event) → Lies (at s AtTextEnd) front es → Lies (ended s) front (es ++ TextEnd ∷ [])
+TextEndIsOwed = (s : Place) (front : List ℕ) (es : List Event) → StandsAfter (at s AtTextEnd) front es → StandsAfter (after_end s) front (es ++ TextEnd ∷ [])
 
 abbrev pub NullOneLeads : Type 0
 NullOneLeads = (s : Place) → ALead (at s AtNullOne)
@@ -97,7 +98,7 @@ abbrev pub HeadEndsLead : Type 0
 HeadEndsLead = (s : Place) (h : Head) (n : ℕ) → IsOfAggregate h → ALead (at s (AtHeadLf h n))
 
 abbrev pub CloseIsOwed : Type 0
-CloseIsOwed = (s : Place) (f : Frame) (fs : List Frame) (front : List ℕ) (es : List Event) → Lies (record s { token = AtEnd; frames = f ∷ fs }) front es → Lies (ended (record s { frames = fs })) front (es ++ Close ∷ [])
+CloseIsOwed = (s : Place) (f : Frame) (fs : List Frame) (front : List ℕ) (es : List Event) → StandsAfter (record s { token = AtEnd; frames = f ∷ fs }) front es → StandsAfter (after_end (record s { frames = fs })) front (es ++ Close ∷ [])
 
 abbrev pub CloseCrLeads : Type 0
 CloseCrLeads = (s : Place) → ALead (at s AtCloseCr)
@@ -121,7 +122,7 @@ abbrev pub OpenEndLeads : Type 0
 OpenEndLeads = (s : Place) (kind : OpenKind) → ALead (at s (AtOpenLf kind))
 
 abbrev pub StartLeads : Type 0
-StartLeads = (s : Place) (byte : ℕ) (front : List ℕ) (es : List Event) → byte < 256 → Counts (at s AtStart) 0 front → Lies (at s AtStart) front es → Leads (at s AtStart) front es byte (next (at s AtStart) 1 byte)
+StartLeads = (s : Place) (byte : ℕ) (front : List ℕ) (es : List Event) → byte < 256 → HasCountsOf (at s AtStart) 0 front → StandsAfter (at s AtStart) front es → Leads (at s AtStart) front es byte (next (at s AtStart) 1 byte)
 
 abbrev pub BulkHeadLeads : Type 0
 BulkHeadLeads = (s : Place) → ALead (at s AtBulkHead)
@@ -197,24 +198,24 @@ ChunkEndsLead = (s : Place) (room : ℕ) → ALead (at s (AtChunkLf room))
 
 -- inside a value the token needs the least that completes its bytes; at a text's end they are whole
 abbrev pub TokensNeed : Type 0
-TokensNeed = (s : Place) (used level : ℕ) (bytes : List ℕ) (shown : List Event) → IsSoundBy used s → (s.token ≡ AtTextEnd → ⊥) → level ≡ length s.frames → Begun (rules_of s) s.token level bytes shown → IsBegunBy (rules_of s) level bytes (token_needed s.token s.bounds.depth s.frames)
+TokensNeed = (s : Place) (used level : ℕ) (bytes : List ℕ) (shown : List Event) → IsSoundBy used s → (s.token ≡ AtTextEnd → ⊥) → level ≡ length s.frames → TokenHas (rules_of s) s.token level bytes shown → IsBegunBy (rules_of s) level bytes (token_needed s.token s.bounds.depth s.frames)
 
 -- where a place lies, it needs the least that completes the front
 abbrev pub LeastIsNeeded : Type 0
-LeastIsNeeded = (s : Place) (used : ℕ) (front : List ℕ) (es : List Event) → IsSoundBy used s → Lies s front es → IsLeast (rules_of s) front (needed s)
+LeastIsNeeded = (s : Place) (used : ℕ) (front : List ℕ) (es : List Event) → IsSoundBy used s → StandsAfter s front es → IsLeast (rules_of s) front (needed s)
 
 -- and total has room for that, so that the front begins a spelling within every rule
 abbrev pub FollowedIsViable : Type 0
-FollowedIsViable = (s : Place) (used : ℕ) (front : List ℕ) (es : List Event) → IsSoundBy used s → length front ≡ s.taken + used → Lies s front es → IsViable (rules_of s) WithinTotal front
+FollowedIsViable = (s : Place) (used : ℕ) (front : List ℕ) (es : List Event) → IsSoundBy used s → length front ≡ s.taken + used → StandsAfter s front es → IsViable (rules_of s) WithinTotal front
 
 -- in what was given, each aggregate that opened has closed but for the frames
 abbrev pub OpensAreFrames : Type 0
-OpensAreFrames = (s : Place) (front : List ℕ) (es : List Event) → Lies s front es → opens es ≡ length s.frames + closes es
+OpensAreFrames = (s : Place) (front : List ℕ) (es : List Event) → StandsAfter s front es → open_count es ≡ length s.frames + close_count es
 
 -- a byte comes with one event at most, on the whole
 abbrev pub EventsAreFew : Type 0
-EventsAreFew = (s : Place) (front : List ℕ) (es : List Event) → Lies s front es → length es ≤ length front
+EventsAreFew = (s : Place) (front : List ℕ) (es : List Event) → StandsAfter s front es → length es ≤ length front
 
 -- of every tree that the front begins the events due by then are those given, and those owed
 abbrev pub EventsAreDue : Type 0
-EventsAreDue = (s : Place) (used : ℕ) (front : List ℕ) (es : List Event) → IsSoundBy used s → Lies s front es → (rest : List ℕ) (whole : Tree) → Spells whole (front ++ rest) → due (length front) (all_events whole) ≡ es ++ owed s
+EventsAreDue = (s : Place) (used : ℕ) (front : List ℕ) (es : List Event) → IsSoundBy used s → StandsAfter s front es → (rest : List ℕ) (whole : Tree) → Spells whole (front ++ rest) → events_due (length front) (all_events whole) ≡ es ++ events_owed s

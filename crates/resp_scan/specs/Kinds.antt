@@ -6,34 +6,26 @@ use Rattle.resp_value.specs.Rules.{Rules, Rule}
 use Rattle.resp_value.specs.Spellings.{IsCause}
 use Rattle.resp_value.specs.Causes.{cause_of}
 use Rattle.resp_value.specs.declared.cause.Cause.{Cause}
-use Rattle.resp_follow.specs.Events.{Event}
-use Rattle.resp_follow.specs.Events as e
+use Rattle.resp_fronts.specs.Events.{Event}
+use Rattle.resp_fronts.specs.Events as e
 use Rattle.resp_scan.specs.declared.event.TextKind.{TextKind}
 use Rattle.resp_scan.specs.declared.event.TextKind.TheVariants as text
-use Rattle.resp_scan.specs.declared.event.OpenKind.{OpenKind}
-use Rattle.resp_scan.specs.declared.event.OpenKind.TheVariants as kind
-use Rattle.resp_scan.specs.Tokens.{Place, Happening, Null, Truth, Int, Text, Digit, TextEnd, Open, Close}
+use Rattle.resp_value.specs.Kinds.{kind_of}
+use Rattle.resp_scan.specs.Machine.Tokens.{Place, Happening, Null, Truth, Int, Text, Digit, TextEnd, Open, Close}
 
-abbrev pub kind_of : OpenKind → Kind
-kind_of kind.Array = d.Array
-kind_of kind.Set = d.Set
-kind_of kind.Map = d.Map
-kind_of kind.Attr = d.Attr
-kind_of kind.Push = d.Push
-
-abbrev pub text_of : TextKind → e.TextKind
-text_of text.Simple = e.Simple
-text_of text.Error = e.Error
-text_of text.Bulk = e.Bulk
-text_of text.BulkError = e.BulkError
-text_of (text.Verbatim format) = e.Verbatim format
-text_of (text.Big negative) = e.Big negative
+abbrev pub text_kind_of : TextKind → e.TextKind
+text_kind_of text.Simple = e.Simple
+text_kind_of text.Error = e.Error
+text_kind_of text.Bulk = e.Bulk
+text_kind_of text.BulkError = e.BulkError
+text_kind_of (text.Verbatim format) = e.Verbatim format
+text_kind_of (text.Big negative) = e.Big negative
 
 abbrev pub event_of : Happening → Event
 event_of Null = e.Null
 event_of (Truth b) = e.Bool b
 event_of (Int n) = e.Int n
-event_of (Text k) = e.Text (text_of k)
+event_of (Text k) = e.Text (text_kind_of k)
 event_of (Digit d) = e.Byte d
 event_of TextEnd = e.TextEnd
 event_of (Open k n) = e.Open (kind_of k) n

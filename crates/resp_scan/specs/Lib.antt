@@ -1,19 +1,8 @@
-pub mod Magnitudes
-pub mod Tokens
-pub mod Room
-pub mod Heads
-pub mod Machine
-pub mod Scan
-pub mod First
-pub mod Said
-pub mod Sound
-pub mod End
-pub mod States
-pub mod Heard
-pub mod Runs
+-- What a caller reads of the scanner.
+pub mod Reading
+pub mod Parts
+pub mod Counts
 pub mod Kinds
-pub mod Begun
-pub mod Follows
-pub mod Steps
 pub mod Laws
-pub mod Given
+-- The machine behind it, which no public clause names.
+pub mod Machine

@@ -2,34 +2,34 @@
 
 ghost use Rattle.std.specs.Prelude.{◌≡◌, ◌≤◌, ◌<◌, ◌+◌, ◌*◌, ◌^◌, ◌++◌, ◌∷◌, [], length, drop, Some, slice_index};
 
-use crate::event::OpenKind;
+use resp_value::kind::OpenKind;
 use crate::frame::{Frame, Shape};
-use crate::machine::{Got, Machine, State, What};
+use crate::machine::{Taken, Machine, State, EventTag};
 use resp_value::cause::Cause;
 
 impl Machine {
-    ghost use Rattle.resp_scan.specs.Said.{place, said};
-    ghost use Rattle.resp_scan.specs.Scan.{scan, Gave};
-    ghost use Rattle.resp_scan.specs.Heads.{opened};
-    ghost use Rattle.resp_scan.specs.Sound.{IsSound};
-    ghost use Rattle.resp_scan.specs.Machine.{may_close};
-    ghost use Rattle.resp_scan.specs.Tokens.{at, Open, AtOpenCr, AtOpenLf, AtStart, AtCloseCr, AtCloseLf};
+    ghost use Rattle.resp_scan.specs.Machine.Fields.{place_of, out_of};
+    ghost use Rattle.resp_scan.specs.Machine.Scan.{scan, Gave};
+    ghost use Rattle.resp_scan.specs.Machine.Heads.{after_open};
+    ghost use Rattle.resp_scan.specs.Machine.Sound.{IsSound};
+    ghost use Rattle.resp_scan.specs.Machine.Moves.{may_close};
+    ghost use Rattle.resp_scan.specs.Machine.Tokens.{at, Open, AtOpenCr, AtOpenLf, AtStart, AtCloseCr, AtCloseLf};
 
     /// An aggregate opens, with this number in its head and so many members.
     #[inline]
-    pub fn open(&mut self, used: usize, kind: OpenKind, number: u64, members: u64) -> Got
+    pub fn open(&mut self, used: usize, kind: OpenKind, number: u64, members: u64) -> Taken
         requires level { length self.old.frames.items < 128 }
-        requires owed { self.old.owed + members * 3 < 2 ^ 64 }
-        ensures { said result self.new ≡ Gave used (Open kind (Some number)) (opened (place self.old) kind members) }
+        requires frames_need { self.old.frames_need + members * 3 < 2 ^ 64 }
+        ensures { out_of result self.new ≡ Gave used (Open kind (Some number)) (after_open (place_of self.old) kind members) }
     {
-        self.owed += members * 3;
+        self.frames_need += members * 3;
         self.push(Frame {
             kind,
             shape: Shape::Left(members),
         });
         self.kind = kind;
         self.count = number;
-        self.ended(used, What::Open)
+        self.ended(used, EventTag::Open)
     }
 
     #[inline]
@@ -43,11 +43,11 @@ impl Machine {
 
     /// Behind the `?` of a streamed aggregate.
     #[inline]
-    pub fn open_cr(&mut self, piece: &[u8], i: usize, kind: OpenKind) -> Got
+    pub fn open_cr(&mut self, piece: &[u8], i: usize, kind: OpenKind) -> Taken
         requires within { i ≤ length piece.now }
         requires level { length self.old.frames.items < 128 }
-        requires owed { self.old.owed < 2 ^ 62 }
-        ensures { said result self.new ≡ scan i (at (place self.old) (AtOpenCr kind)) (drop i piece.now) }
+        requires frames_need { self.old.frames_need < 2 ^ 62 }
+        ensures { out_of result self.new ≡ scan i (at (place_of self.old) (AtOpenCr kind)) (drop i piece.now) }
     {
         if i == piece.len() {
             self.kind = kind;
@@ -60,11 +60,11 @@ impl Machine {
     }
 
     #[inline]
-    pub fn open_lf(&mut self, piece: &[u8], i: usize, kind: OpenKind) -> Got
+    pub fn open_lf(&mut self, piece: &[u8], i: usize, kind: OpenKind) -> Taken
         requires within { i ≤ length piece.now }
         requires level { length self.old.frames.items < 128 }
-        requires owed { self.old.owed < 2 ^ 62 }
-        ensures { said result self.new ≡ scan i (at (place self.old) (AtOpenLf kind)) (drop i piece.now) }
+        requires frames_need { self.old.frames_need < 2 ^ 62 }
+        ensures { out_of result self.new ≡ scan i (at (place_of self.old) (AtOpenLf kind)) (drop i piece.now) }
     {
         self.kind = kind;
         if i == piece.len() {
@@ -73,18 +73,18 @@ impl Machine {
         if piece[i] != b'\n' {
             return self.fail(i, Cause::Syntax);
         }
-        self.owed += 3;
+        self.frames_need += 3;
         self.push(Frame {
             kind,
             shape: Shape::Begun(0),
         });
-        self.ended(i + 1, What::OpenStreamed)
+        self.ended(i + 1, EventTag::OpenStreamed)
     }
 
     /// Whether the innermost open aggregate may close here: it is streamed, and a map between whole pairs.
     #[inline]
     fn may_close(&self) -> bool
-        ensures { result ≡ may_close (place self.now).frames }
+        ensures { result ≡ may_close (place_of self.now).frames }
     {
         match self.frames.as_slice().last() {
             None => false,
@@ -101,23 +101,23 @@ impl Machine {
     /// At the `.` that closes a streamed aggregate.
     #[inline]
     #[tactic(auto, using(crate::proofs::Places::close_owed))]
-    pub fn close(&mut self, piece: &[u8]) -> Got
+    pub fn close(&mut self, piece: &[u8]) -> Taken
         requires some { 0 < length piece.now }
-        requires sound { IsSound (at (place self.old) AtStart) }
-        ensures { slice_index piece.now 0 ≡ 46 → said result self.new ≡ scan 0 (at (place self.old) AtStart) piece.now }
+        requires sound { IsSound (at (place_of self.old) AtStart) }
+        ensures { slice_index piece.now 0 ≡ 46 → out_of result self.new ≡ scan 0 (at (place_of self.old) AtStart) piece.now }
     {
         if !self.may_close() {
             return self.fail(0, Cause::Syntax);
         }
-        self.owed -= 3;
+        self.frames_need -= 3;
         self.set_shape(Shape::Left(0));
         self.close_cr(piece, 1)
     }
 
     #[inline]
-    pub fn close_cr(&mut self, piece: &[u8], i: usize) -> Got
+    pub fn close_cr(&mut self, piece: &[u8], i: usize) -> Taken
         requires { i ≤ length piece.now }
-        ensures { said result self.new ≡ scan i (at (place self.old) AtCloseCr) (drop i piece.now) }
+        ensures { out_of result self.new ≡ scan i (at (place_of self.old) AtCloseCr) (drop i piece.now) }
     {
         if i == piece.len() {
             return self.rest(State::CloseCr, piece);
@@ -129,9 +129,9 @@ impl Machine {
     }
 
     #[inline]
-    pub fn close_lf(&mut self, piece: &[u8], i: usize) -> Got
+    pub fn close_lf(&mut self, piece: &[u8], i: usize) -> Taken
         requires { i ≤ length piece.now }
-        ensures { said result self.new ≡ scan i (at (place self.old) AtCloseLf) (drop i piece.now) }
+        ensures { out_of result self.new ≡ scan i (at (place_of self.old) AtCloseLf) (drop i piece.now) }
     {
         if i == piece.len() {
             return self.rest(State::CloseLf, piece);
@@ -140,6 +140,6 @@ impl Machine {
             return self.fail(i, Cause::Syntax);
         }
         let _ = self.frames.pop();
-        self.ended(i + 1, What::Close)
+        self.ended(i + 1, EventTag::Close)
     }
 }

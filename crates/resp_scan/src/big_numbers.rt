@@ -1,22 +1,22 @@
 //! Big numbers: digits of any number, of which leading zeros are passed over.
 
-ghost use Rattle.resp_scan.specs.Runs.{digit_run};
+ghost use Rattle.resp_scan.specs.Machine.Runs.{digit_run};
 ghost use Rattle.std.specs.Prelude.{◌≡◌, ◌≤◌, ◌<◌, ◌+◌, ◌-◌, ◌^◌, length, drop};
 
-use crate::machine::{Got, Machine, State, What};
+use crate::machine::{Taken, Machine, State, EventTag};
 use resp_value::cause::Cause;
 
 impl Machine {
-    ghost use Rattle.resp_scan.specs.Said.{place, said};
-    ghost use Rattle.resp_scan.specs.Scan.{scan, Gave};
-    ghost use Rattle.resp_scan.specs.Tokens.{at, Text, AtBigSign, AtBigFirst, InBigZeros, AtBigZeroLf, AtBigDigit, InBig};
+    ghost use Rattle.resp_scan.specs.Machine.Fields.{place_of, out_of};
+    ghost use Rattle.resp_scan.specs.Machine.Scan.{scan, Gave};
+    ghost use Rattle.resp_scan.specs.Machine.Tokens.{at, Text, AtBigSign, AtBigFirst, InBigZeros, AtBigZeroLf, AtBigDigit, InBig};
     ghost use Rattle.resp_scan.specs.declared.event.TextKind.TheVariants as text;
 
     /// Behind `(`. A sign brings the end no nearer.
     #[inline]
-    pub fn big_sign(&mut self, piece: &[u8], i: usize) -> Got
+    pub fn big_sign(&mut self, piece: &[u8], i: usize) -> Taken
         requires { i ≤ length piece.now }
-        ensures { said result self.new ≡ scan i (at (place self.old) AtBigSign) (drop i piece.now) }
+        ensures { out_of result self.new ≡ scan i (at (place_of self.old) AtBigSign) (drop i piece.now) }
     {
         if i == piece.len() {
             return self.rest(State::BigSign, piece);
@@ -35,9 +35,9 @@ impl Machine {
     }
 
     #[inline]
-    pub fn big_first(&mut self, piece: &[u8], i: usize, negative: bool) -> Got
+    pub fn big_first(&mut self, piece: &[u8], i: usize, negative: bool) -> Taken
         requires { i ≤ length piece.now }
-        ensures { said result self.new ≡ scan i (at (place self.old) (AtBigFirst negative)) (drop i piece.now) }
+        ensures { out_of result self.new ≡ scan i (at (place_of self.old) (AtBigFirst negative)) (drop i piece.now) }
     {
         if i == piece.len() {
             self.big_negative = negative;
@@ -55,9 +55,9 @@ impl Machine {
 
     /// Behind one zero or more.
     #[inline]
-    pub fn big_zeros(&mut self, piece: &[u8], from: usize, negative: bool) -> Got
+    pub fn big_zeros(&mut self, piece: &[u8], from: usize, negative: bool) -> Taken
         requires { from ≤ length piece.now }
-        ensures { said result self.new ≡ scan from (at (place self.old) (InBigZeros negative)) (drop from piece.now) }
+        ensures { out_of result self.new ≡ scan from (at (place_of self.old) (InBigZeros negative)) (drop from piece.now) }
     {
         for i in from..piece.len() {
             let byte = piece[i];
@@ -67,7 +67,7 @@ impl Machine {
                 }
                 return self.fail(i, Cause::Syntax);
             }
-            if !self.fits(i + 1, 2) {
+            if !self.has_total_room(i + 1, 2) {
                 return self.fail(i, Cause::Total);
             }
             if byte != b'0' {
@@ -80,22 +80,22 @@ impl Machine {
 
     /// The first digit that isn't zero: the text begins, and the digit is owed.
     #[inline]
-    fn big_digit(&mut self, i: usize, negative: bool, byte: u8) -> Got
+    fn big_digit(&mut self, i: usize, negative: bool, byte: u8) -> Taken
         requires { i < 2 ^ 63 }
-        ensures { said result self.new ≡ Gave (i + 1) (Text (text.Big negative)) (at (place self.old) (AtBigDigit byte (self.old.limits.length - 1))) }
+        ensures { out_of result self.new ≡ Gave (i + 1) (Text (text.Big negative)) (at (place_of self.old) (AtBigDigit byte (self.old.limits.length - 1))) }
     {
         self.state = State::BigDigit;
         self.big_negative = negative;
         self.digit = byte;
         self.room = self.limits.length() - 1;
-        self.gives(i + 1, What::Big)
+        self.gives(i + 1, EventTag::Big)
     }
 
     /// Behind zeros alone and the CR.
     #[inline]
-    pub fn big_zero_lf(&mut self, piece: &[u8], i: usize) -> Got
+    pub fn big_zero_lf(&mut self, piece: &[u8], i: usize) -> Taken
         requires { i ≤ length piece.now }
-        ensures { said result self.new ≡ scan i (at (place self.old) AtBigZeroLf) (drop i piece.now) }
+        ensures { out_of result self.new ≡ scan i (at (place_of self.old) AtBigZeroLf) (drop i piece.now) }
     {
         if i == piece.len() {
             return self.rest(State::BigZeroLf, piece);
@@ -105,14 +105,14 @@ impl Machine {
         }
         self.state = State::TextEnd;
         self.big_negative = false;
-        self.gives(i + 1, What::Big)
+        self.gives(i + 1, EventTag::Big)
     }
 
     /// Further digits, at the front of the piece.
     #[inline]
-    pub fn big(&mut self, piece: &[u8]) -> Got
+    pub fn big(&mut self, piece: &[u8]) -> Taken
         requires { self.old.state ≡ State.Big }
-        ensures { said result self.new ≡ scan 0 (at (place self.old) (InBig self.old.room)) piece.now }
+        ensures { out_of result self.new ≡ scan 0 (at (place_of self.old) (InBig self.old.room)) piece.now }
     {
         if piece.is_empty() {
             return self.rest(State::Big, piece);
@@ -121,7 +121,7 @@ impl Machine {
         let run = digit_run(&piece[..most]);
         if run > 0 {
             self.room -= run as u64;
-            return self.gives(run, What::Part);
+            return self.gives(run, EventTag::Part);
         }
         if piece[0] == b'\r' {
             return self.line_lf(piece, 1);

@@ -2,20 +2,20 @@
 
 ghost use Rattle.std.specs.Prelude.{◌≡◌, ◌≤◌, ◌<◌, ◌-◌, ◌^◌, length, drop};
 
-use crate::machine::{Got, Head, Machine, State, What};
+use crate::machine::{Taken, Head, Machine, State, EventTag};
 use resp_value::cause::Cause;
 
 impl Machine {
-    ghost use Rattle.resp_scan.specs.Said.{place, said};
-    ghost use Rattle.resp_scan.specs.Scan.{scan, Gave};
-    ghost use Rattle.resp_scan.specs.Tokens.{at, ended, TextEnd, AtStreamCr, AtStreamLf, AtChunk, InChunk, AtChunkCr, AtChunkLf};
-    ghost use Rattle.resp_scan.specs.Heads.{chunk_at};
+    ghost use Rattle.resp_scan.specs.Machine.Fields.{place_of, out_of};
+    ghost use Rattle.resp_scan.specs.Machine.Scan.{scan, Gave};
+    ghost use Rattle.resp_scan.specs.Machine.Tokens.{at, after_end, TextEnd, AtStreamCr, AtStreamLf, AtChunk, InChunk, AtChunkCr, AtChunkLf};
+    ghost use Rattle.resp_scan.specs.Machine.Heads.{chunk_at};
 
     /// Behind `$?`.
     #[inline]
-    pub fn stream_cr(&mut self, piece: &[u8], i: usize) -> Got
+    pub fn stream_cr(&mut self, piece: &[u8], i: usize) -> Taken
         requires { i ≤ length piece.now }
-        ensures { said result self.new ≡ scan i (at (place self.old) AtStreamCr) (drop i piece.now) }
+        ensures { out_of result self.new ≡ scan i (at (place_of self.old) AtStreamCr) (drop i piece.now) }
     {
         if i == piece.len() {
             return self.rest(State::StreamCr, piece);
@@ -27,9 +27,9 @@ impl Machine {
     }
 
     #[inline]
-    pub fn stream_lf(&mut self, piece: &[u8], i: usize) -> Got
+    pub fn stream_lf(&mut self, piece: &[u8], i: usize) -> Taken
         requires { i ≤ length piece.now }
-        ensures { said result self.new ≡ scan i (at (place self.old) AtStreamLf) (drop i piece.now) }
+        ensures { out_of result self.new ≡ scan i (at (place_of self.old) AtStreamLf) (drop i piece.now) }
     {
         if i == piece.len() {
             return self.rest(State::StreamLf, piece);
@@ -39,14 +39,14 @@ impl Machine {
         }
         self.state = State::Chunk;
         self.room = self.limits.length();
-        self.gives(i + 1, What::Bulk)
+        self.gives(i + 1, EventTag::Bulk)
     }
 
     /// Where a chunk begins, of a string of which length leaves `room`.
     #[inline]
-    pub fn chunk(&mut self, piece: &[u8], i: usize) -> Got
+    pub fn chunk(&mut self, piece: &[u8], i: usize) -> Taken
         requires { i ≤ length piece.now }
-        ensures { said result self.new ≡ scan i (at (place self.old) (AtChunk self.old.room)) (drop i piece.now) }
+        ensures { out_of result self.new ≡ scan i (at (place_of self.old) (AtChunk self.old.room)) (drop i piece.now) }
     {
         if i == piece.len() {
             return self.rest(State::Chunk, piece);
@@ -60,14 +60,14 @@ impl Machine {
 
     /// Behind a chunk's head: its content, or the text's end where it has none.
     #[inline]
-    pub fn chunk_begins(&mut self, piece: &[u8], i: usize, count: u64, room: u64) -> Got
+    pub fn chunk_begins(&mut self, piece: &[u8], i: usize, count: u64, room: u64) -> Taken
         requires within { i ≤ length piece.now }
         requires room { count ≤ room }
-        ensures ends { count ≡ 0 → said result self.new ≡ Gave i TextEnd (ended (place self.old)) }
-        ensures begins { 0 < count → said result self.new ≡ scan i (at (place self.old) (InChunk (room - count) count)) (drop i piece.now) }
+        ensures ends { count ≡ 0 → out_of result self.new ≡ Gave i TextEnd (after_end (place_of self.old)) }
+        ensures begins { 0 < count → out_of result self.new ≡ scan i (at (place_of self.old) (InChunk (room - count) count)) (drop i piece.now) }
     {
         if count == 0 {
-            return self.ended(i, What::TextEnd);
+            return self.ended(i, EventTag::TextEnd);
         }
         self.room = room - count;
         self.count = count;
@@ -75,10 +75,10 @@ impl Machine {
     }
 
     #[inline]
-    pub fn chunk_content(&mut self, piece: &[u8], i: usize) -> Got
+    pub fn chunk_content(&mut self, piece: &[u8], i: usize) -> Taken
         requires within { i ≤ length piece.now }
         requires some { 0 < self.old.count }
-        ensures { said result self.new ≡ scan i (at (place self.old) (InChunk self.old.room self.old.count)) (drop i piece.now) }
+        ensures { out_of result self.new ≡ scan i (at (place_of self.old) (InChunk self.old.room self.old.count)) (drop i piece.now) }
     {
         if i == piece.len() {
             return self.rest(State::ChunkContent, piece);
@@ -86,14 +86,14 @@ impl Machine {
         let run = ((piece.len() - i) as u64).min(self.count);
         self.part_start = i;
         self.chunk_rests(self.count - run);
-        self.gives(i + run as usize, What::ChunkPart)
+        self.gives(i + run as usize, EventTag::ChunkPart)
     }
 
     /// So many bytes of a chunk are still to come.
     #[inline]
     fn chunk_rests(&mut self, count: u64)
         ensures start { self.new.part_start ≡ self.old.part_start }
-        ensures place { place self.new ≡ chunk_at self.old.room count (place self.old) }
+        ensures place { place_of self.new ≡ chunk_at self.old.room count (place_of self.old) }
     {
         self.count = count;
         self.state = if count == 0 {
@@ -104,8 +104,8 @@ impl Machine {
     }
 
     #[inline]
-    pub fn chunk_cr(&mut self, piece: &[u8]) -> Got
-        ensures { said result self.new ≡ scan 0 (at (place self.old) (AtChunkCr self.old.room)) piece.now }
+    pub fn chunk_cr(&mut self, piece: &[u8]) -> Taken
+        ensures { out_of result self.new ≡ scan 0 (at (place_of self.old) (AtChunkCr self.old.room)) piece.now }
     {
         if piece.is_empty() {
             return self.rest(State::ChunkCr, piece);
@@ -117,9 +117,9 @@ impl Machine {
     }
 
     #[inline]
-    pub fn chunk_lf(&mut self, piece: &[u8], i: usize) -> Got
+    pub fn chunk_lf(&mut self, piece: &[u8], i: usize) -> Taken
         requires { i ≤ length piece.now }
-        ensures { said result self.new ≡ scan i (at (place self.old) (AtChunkLf self.old.room)) (drop i piece.now) }
+        ensures { out_of result self.new ≡ scan i (at (place_of self.old) (AtChunkLf self.old.room)) (drop i piece.now) }
     {
         if i == piece.len() {
             return self.rest(State::ChunkLf, piece);

@@ -2,21 +2,21 @@
 
 ghost use Rattle.std.specs.Prelude.{◌≡◌, ◌≤◌, ◌<◌, ◌^◌, ◌∷◌, [], length, drop};
 
-use crate::machine::{Got, Machine, State, What};
+use crate::machine::{Taken, Machine, State, EventTag};
 use resp_value::cause::Cause;
 
 impl Machine {
-    ghost use Rattle.resp_scan.specs.Said.{place, said};
-    ghost use Rattle.resp_scan.specs.Scan.{scan};
-    ghost use Rattle.resp_scan.specs.Tokens.{at, InContent, AtContentCr, AtContentLf, AtFormat, AtFormatSecond, AtFormatThird, AtFormatColon};
-    ghost use Rattle.resp_scan.specs.Heads.{content_at};
+    ghost use Rattle.resp_scan.specs.Machine.Fields.{place_of, out_of};
+    ghost use Rattle.resp_scan.specs.Machine.Scan.{scan};
+    ghost use Rattle.resp_scan.specs.Machine.Tokens.{at, InContent, AtContentCr, AtContentLf, AtFormat, AtFormatSecond, AtFormatThird, AtFormatColon};
+    ghost use Rattle.resp_scan.specs.Machine.Heads.{content_at};
 
     /// Content of so many bytes begins.
     #[inline]
-    pub fn content_begins(&mut self, used: usize, count: u64, what: What) -> Got
-        ensures gives { result ≡ record { used = used; what = what } }
+    pub fn content_begins(&mut self, used: usize, count: u64, tag: EventTag) -> Taken
+        ensures gives { result ≡ record { used = used; tag = tag } }
         ensures format { self.new.format ≡ self.old.format }
-        ensures place { place self.new ≡ content_at count (place self.old) }
+        ensures place { place_of self.new ≡ content_at count (place_of self.old) }
     {
         self.count = count;
         self.state = if count == 0 {
@@ -24,25 +24,25 @@ impl Machine {
         } else {
             State::Content
         };
-        self.gives(used, what)
+        self.gives(used, tag)
     }
 
     /// Content, at the front of the piece.
     #[inline]
-    pub fn content(&mut self, piece: &[u8]) -> Got
+    pub fn content(&mut self, piece: &[u8]) -> Taken
         requires { 0 < self.old.count }
-        ensures { said result self.new ≡ scan 0 (at (place self.old) (InContent self.old.count)) piece.now }
+        ensures { out_of result self.new ≡ scan 0 (at (place_of self.old) (InContent self.old.count)) piece.now }
     {
         if piece.is_empty() {
             return self.rest(State::Content, piece);
         }
         let run = (piece.len() as u64).min(self.count);
-        self.content_begins(run as usize, self.count - run, What::Part)
+        self.content_begins(run as usize, self.count - run, EventTag::Part)
     }
 
     #[inline]
-    pub fn content_cr(&mut self, piece: &[u8]) -> Got
-        ensures { said result self.new ≡ scan 0 (at (place self.old) AtContentCr) piece.now }
+    pub fn content_cr(&mut self, piece: &[u8]) -> Taken
+        ensures { out_of result self.new ≡ scan 0 (at (place_of self.old) AtContentCr) piece.now }
     {
         if piece.is_empty() {
             return self.rest(State::ContentCr, piece);
@@ -54,9 +54,9 @@ impl Machine {
     }
 
     #[inline]
-    pub fn content_lf(&mut self, piece: &[u8], i: usize) -> Got
+    pub fn content_lf(&mut self, piece: &[u8], i: usize) -> Taken
         requires { i ≤ length piece.now }
-        ensures { said result self.new ≡ scan i (at (place self.old) AtContentLf) (drop i piece.now) }
+        ensures { out_of result self.new ≡ scan i (at (place_of self.old) AtContentLf) (drop i piece.now) }
     {
         if i == piece.len() {
             return self.rest(State::ContentLf, piece);
@@ -64,15 +64,15 @@ impl Machine {
         if piece[i] != b'\n' {
             return self.fail(i, Cause::Syntax);
         }
-        self.ended(i + 1, What::TextEnd)
+        self.ended(i + 1, EventTag::TextEnd)
     }
 
     /// The first byte of a verbatim string's format; so many bytes come with the front.
     #[inline]
-    pub fn format_first(&mut self, piece: &[u8], i: usize, count: u64) -> Got
+    pub fn format_first(&mut self, piece: &[u8], i: usize, count: u64) -> Taken
         requires within { i ≤ length piece.now }
         requires front { 4 ≤ count }
-        ensures { said result self.new ≡ scan i (at (place self.old) (AtFormat count)) (drop i piece.now) }
+        ensures { out_of result self.new ≡ scan i (at (place_of self.old) (AtFormat count)) (drop i piece.now) }
     {
         self.count = count;
         if i == piece.len() {
@@ -82,10 +82,10 @@ impl Machine {
     }
 
     #[inline]
-    pub fn format_second(&mut self, piece: &[u8], i: usize, first: u8) -> Got
+    pub fn format_second(&mut self, piece: &[u8], i: usize, first: u8) -> Taken
         requires within { i ≤ length piece.now }
         requires front { 4 ≤ self.old.count }
-        ensures { said result self.new ≡ scan i (at (place self.old) (AtFormatSecond first self.old.count)) (drop i piece.now) }
+        ensures { out_of result self.new ≡ scan i (at (place_of self.old) (AtFormatSecond first self.old.count)) (drop i piece.now) }
     {
         if i == piece.len() {
             self.format = [first, 0, 0];
@@ -95,10 +95,10 @@ impl Machine {
     }
 
     #[inline]
-    pub fn format_third(&mut self, piece: &[u8], i: usize, first: u8, second: u8) -> Got
+    pub fn format_third(&mut self, piece: &[u8], i: usize, first: u8, second: u8) -> Taken
         requires within { i ≤ length piece.now }
         requires front { 4 ≤ self.old.count }
-        ensures { said result self.new ≡ scan i (at (place self.old) (AtFormatThird first second self.old.count)) (drop i piece.now) }
+        ensures { out_of result self.new ≡ scan i (at (place_of self.old) (AtFormatThird first second self.old.count)) (drop i piece.now) }
     {
         if i == piece.len() {
             self.format = [first, second, 0];
@@ -108,10 +108,10 @@ impl Machine {
     }
 
     #[inline]
-    pub fn format_colon(&mut self, piece: &[u8], i: usize, format: [u8; 3]) -> Got
+    pub fn format_colon(&mut self, piece: &[u8], i: usize, format: [u8; 3]) -> Taken
         requires within { i ≤ length piece.now }
         requires front { 4 ≤ self.old.count }
-        ensures { said result self.new ≡ scan i (at (place self.old) (AtFormatColon format self.old.count)) (drop i piece.now) }
+        ensures { out_of result self.new ≡ scan i (at (place_of self.old) (AtFormatColon format self.old.count)) (drop i piece.now) }
     {
         self.format = format;
         if i == piece.len() {
@@ -120,6 +120,6 @@ impl Machine {
         if piece[i] != b':' {
             return self.fail(i, Cause::Syntax);
         }
-        self.content_begins(i + 1, self.count - 4, What::Verbatim)
+        self.content_begins(i + 1, self.count - 4, EventTag::Verbatim)
     }
 }

@@ -1,6 +1,7 @@
 //! What a scanner tells: events, and the refusals of bytes and of calls.
 
 use resp_value::cause::Cause;
+use resp_value::kind::OpenKind;
 use thiserror::Error;
 
 /// The kinds of text (Redis serialization protocol specification, "Simple strings", "Simple errors", "Bulk strings",
@@ -22,22 +23,6 @@ pub enum TextKind {
         /// Whether it is below zero.
         negative: bool,
     },
-}
-
-/// The kinds of aggregate (Redis serialization protocol specification, "Arrays", "Sets", "Maps" and "Pushes"; RESP3
-/// specification, "Attribute type").
-#[derive(Clone, Copy, Debug, PartialEq, Eq)]
-pub enum OpenKind {
-    /// An array.
-    Array,
-    /// A set.
-    Set,
-    /// A map, whose keys and values come in turn.
-    Map,
-    /// An attribute: keys and values in turn, and last the value that it annotates.
-    Attr,
-    /// A push, at the top alone.
-    Push,
 }
 
 /// What stands in the bytes, in order.

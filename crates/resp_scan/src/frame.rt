@@ -1,6 +1,6 @@
 //! What is kept of an open aggregate.
 
-use crate::event::OpenKind;
+use resp_value::kind::OpenKind;
 
 /// An open aggregate.
 #[derive(Clone, Copy)]

@@ -1,26 +1,26 @@
 //! Heads: the number that counts a content's bytes or an aggregate's members, and what stands in its place.
 
-ghost use Rattle.resp_scan.specs.Heads.{head_needed, streamed_kind, may_end};
+ghost use Rattle.resp_scan.specs.Machine.Heads.{head_needed, streamed_kind, may_end};
 ghost use Rattle.std.specs.Prelude.{◌≡◌, ◌≢◌, ℕ, ◌≤◌, ◌<◌, ◌+◌, ◌^◌, length, drop, IfNone, true};
 
-use crate::event::OpenKind;
-use crate::machine::{Got, Head, Machine, State, What};
+use resp_value::kind::OpenKind;
+use crate::machine::{Taken, Head, Machine, State, EventTag};
 use resp_value::cause::Cause;
 use resp_value::version::Version;
 
 impl Machine {
-    ghost use Rattle.resp_scan.specs.Said.{place, said};
-    ghost use Rattle.resp_scan.specs.Scan.{scan};
-    ghost use Rattle.resp_scan.specs.Tokens.{at, AtBulkHead, AtArrayHead, AtHead, InHead, AtHeadLf};
-    ghost use Rattle.resp_scan.specs.Heads.{over, string_cause, aggregate_cause, HasFrame};
-    ghost use Rattle.resp_scan.specs.Machine.{full_cause};
-    ghost use Rattle.resp_scan.specs.Sound.{HasRoom};
+    ghost use Rattle.resp_scan.specs.Machine.Fields.{place_of, out_of};
+    ghost use Rattle.resp_scan.specs.Machine.Scan.{scan};
+    ghost use Rattle.resp_scan.specs.Machine.Tokens.{at, AtBulkHead, AtArrayHead, AtHead, InHead, AtHeadLf};
+    ghost use Rattle.resp_scan.specs.Machine.Heads.{over, string_cause, aggregate_cause, HasFrame};
+    ghost use Rattle.resp_scan.specs.Machine.Moves.{full_cause};
+    ghost use Rattle.resp_scan.specs.Machine.Sound.{IsWithinRoom};
 
     /// Behind `$`: a number, `-1` for the null, or `?` for a streamed string.
     #[inline(never)]
-    pub fn bulk_head(&mut self, piece: &[u8], i: usize) -> Got
+    pub fn bulk_head(&mut self, piece: &[u8], i: usize) -> Taken
         requires { i ≤ length piece.now }
-        ensures { said result self.new ≡ scan i (at (place self.old) AtBulkHead) (drop i piece.now) }
+        ensures { out_of result self.new ≡ scan i (at (place_of self.old) AtBulkHead) (drop i piece.now) }
     {
         if i == piece.len() {
             return self.rest(State::BulkHead, piece);
@@ -37,9 +37,9 @@ impl Machine {
 
     /// Behind `*`: a number, `-1` for the null, or `?` for a streamed array.
     #[inline(never)]
-    pub fn array_head(&mut self, piece: &[u8], i: usize) -> Got
+    pub fn array_head(&mut self, piece: &[u8], i: usize) -> Taken
         requires { i ≤ length piece.now }
-        ensures { said result self.new ≡ scan i (at (place self.old) AtArrayHead) (drop i piece.now) }
+        ensures { out_of result self.new ≡ scan i (at (place_of self.old) AtArrayHead) (drop i piece.now) }
     {
         if i == piece.len() {
             return self.rest(State::ArrayHead, piece);
@@ -61,7 +61,7 @@ impl Machine {
     /// What refuses this byte behind the `*` of an array that would be a level too deep.
     #[inline]
     fn full_cause(&self, byte: u8) -> Cause
-        ensures { result ≡ full_cause (place self.now) byte }
+        ensures { result ≡ full_cause (place_of self.now) byte }
     {
         if byte == b'?' {
             match self.version {
@@ -85,7 +85,7 @@ impl Machine {
     #[inline]
     fn streamed_string(&self, used: usize) -> Option<Cause>
         requires { used ≤ 2 ^ 63 }
-        ensures { result ≡ string_cause (place self.now) used }
+        ensures { result ≡ string_cause (place_of self.now) used }
     {
         match self.version {
             Version::Two => Some(Cause::Version),
@@ -103,8 +103,8 @@ impl Machine {
     #[inline]
     fn streamed_aggregate(&self, used: usize) -> Option<Cause>
         requires { used ≤ 2 ^ 63 }
-        ensures cause { result ≡ aggregate_cause (place self.now) used }
-        ensures owed { IfNone result (self.now.owed < 2 ^ 62) }
+        ensures cause { result ≡ aggregate_cause (place_of self.now) used }
+        ensures frames_need { IfNone result (self.now.frames_need < 2 ^ 62) }
     {
         match self.version {
             Version::Two => Some(Cause::Version),
@@ -122,10 +122,10 @@ impl Machine {
 
     /// At a head's first digit, or at the `?` of a streamed aggregate.
     #[inline(always)]
-    pub fn head_first(&mut self, piece: &[u8], i: usize, head: Head) -> Got
+    pub fn head_first(&mut self, piece: &[u8], i: usize, head: Head) -> Taken
         requires within { i ≤ length piece.now }
-        requires level { HasFrame (place self.old) head }
-        ensures { said result self.new ≡ scan i (at (place self.old) (AtHead head)) (drop i piece.now) }
+        requires level { HasFrame (place_of self.old) head }
+        ensures { out_of result self.new ≡ scan i (at (place_of self.old) (AtHead head)) (drop i piece.now) }
     {
         if i == piece.len() {
             self.head = head;
@@ -152,13 +152,13 @@ impl Machine {
     }
 
     #[inline(always)]
-    pub fn head_more(&mut self, piece: &[u8], from: usize, head: Head, first: u64) -> Got
+    pub fn head_more(&mut self, piece: &[u8], from: usize, head: Head, first: u64) -> Taken
         requires within { from ≤ length piece.now }
         requires fits { first ≤ 2 ^ 40 }
-        requires room { HasRoom head first }
-        requires level { HasFrame (place self.old) head }
-        requires owed { self.old.owed + head_needed head first ≤ 2 ^ 41 }
-        ensures { said result self.new ≡ scan from (at (place self.old) (InHead head first)) (drop from piece.now) }
+        requires room { IsWithinRoom head first }
+        requires level { HasFrame (place_of self.old) head }
+        requires frames_need { self.old.frames_need + head_needed head first ≤ 2 ^ 41 }
+        ensures { out_of result self.new ≡ scan from (at (place_of self.old) (InHead head first)) (drop from piece.now) }
     {
         let mut number = first;
         for i in from..piece.len() {
@@ -185,9 +185,9 @@ impl Machine {
         requires index { used ≤ 2 ^ 63 }
         requires number { number < 2 ^ 44 }
         ensures few { IfNone result (number ≤ 2 ^ 40) }
-        ensures room { IfNone result (HasRoom head number) }
-        ensures owed { IfNone result (self.now.owed + head_needed head number ≤ 2 ^ 40) }
-        ensures over { result ≡ over (place self.now) used head number }
+        ensures room { IfNone result (IsWithinRoom head number) }
+        ensures frames_need { IfNone result (self.now.frames_need + head_needed head number ≤ 2 ^ 40) }
+        ensures over { result ≡ over (place_of self.now) used head number }
     {
         match head {
             Head::Bulk | Head::BulkError | Head::Verbatim => {
@@ -210,14 +210,14 @@ impl Machine {
     }
 
     #[inline(always)]
-    pub fn head_lf(&mut self, piece: &[u8], i: usize, head: Head, number: u64) -> Got
+    pub fn head_lf(&mut self, piece: &[u8], i: usize, head: Head, number: u64) -> Taken
         requires within { i ≤ length piece.now }
         requires fits { number ≤ 2 ^ 40 }
-        requires room { HasRoom head number }
+        requires room { IsWithinRoom head number }
         requires ends { may_end head number ≡ true }
-        requires level { HasFrame (place self.old) head }
-        requires owed { self.old.owed + head_needed head number ≤ 2 ^ 41 }
-        ensures { said result self.new ≡ scan i (at (place self.old) (AtHeadLf head number)) (drop i piece.now) }
+        requires level { HasFrame (place_of self.old) head }
+        requires frames_need { self.old.frames_need + head_needed head number ≤ 2 ^ 41 }
+        ensures { out_of result self.new ≡ scan i (at (place_of self.old) (AtHeadLf head number)) (drop i piece.now) }
     {
         if i == piece.len() {
             self.head = head;
@@ -228,8 +228,8 @@ impl Machine {
             return self.fail(i, Cause::Syntax);
         }
         match head {
-            Head::Bulk => self.content_begins(i + 1, number, What::Bulk),
-            Head::BulkError => self.content_begins(i + 1, number, What::BulkError),
+            Head::Bulk => self.content_begins(i + 1, number, EventTag::Bulk),
+            Head::BulkError => self.content_begins(i + 1, number, EventTag::BulkError),
             Head::Verbatim => self.format_first(piece, i + 1, number),
             Head::Chunk { room } => self.chunk_begins(piece, i + 1, number, room),
             Head::Array => self.open(i + 1, OpenKind::Array, number, number),

@@ -1,22 +1,22 @@
 //! Integers.
 
 ghost use Rattle.std.specs.Prelude.{◌≡◌, ◌≤◌, ◌<◌, length, drop};
-ghost use Rattle.resp_scan.specs.Magnitudes.{most};
-ghost use Rattle.resp_scan.specs.Machine.{signed};
+ghost use Rattle.resp_scan.specs.Machine.Magnitudes.{greatest_magnitude};
+ghost use Rattle.resp_scan.specs.Machine.Moves.{with_sign};
 
-use crate::machine::{Got, Machine, State, What};
+use crate::machine::{Taken, Machine, State, EventTag};
 use resp_value::cause::Cause;
 
 impl Machine {
-    ghost use Rattle.resp_scan.specs.Said.{place, said};
-    ghost use Rattle.resp_scan.specs.Scan.{scan};
-    ghost use Rattle.resp_scan.specs.Tokens.{at, AtIntSign, AtIntFirst, InInt, AtIntLf};
+    ghost use Rattle.resp_scan.specs.Machine.Fields.{place_of, out_of};
+    ghost use Rattle.resp_scan.specs.Machine.Scan.{scan};
+    ghost use Rattle.resp_scan.specs.Machine.Tokens.{at, AtIntSign, AtIntFirst, InInt, AtIntLf};
 
     /// Behind `:`. A sign brings the end no nearer.
     #[inline]
-    pub fn int_sign(&mut self, piece: &[u8], i: usize) -> Got
+    pub fn int_sign(&mut self, piece: &[u8], i: usize) -> Taken
         requires { i ≤ length piece.now }
-        ensures { said result self.new ≡ scan i (at (place self.old) AtIntSign) (drop i piece.now) }
+        ensures { out_of result self.new ≡ scan i (at (place_of self.old) AtIntSign) (drop i piece.now) }
     {
         if i == piece.len() {
             return self.rest(State::IntSign, piece);
@@ -35,9 +35,9 @@ impl Machine {
     }
 
     #[inline]
-    pub fn int_first(&mut self, piece: &[u8], i: usize, negative: bool) -> Got
+    pub fn int_first(&mut self, piece: &[u8], i: usize, negative: bool) -> Taken
         requires { i ≤ length piece.now }
-        ensures { said result self.new ≡ scan i (at (place self.old) (AtIntFirst negative)) (drop i piece.now) }
+        ensures { out_of result self.new ≡ scan i (at (place_of self.old) (AtIntFirst negative)) (drop i piece.now) }
     {
         if i == piece.len() {
             self.negative = negative;
@@ -50,10 +50,10 @@ impl Machine {
     }
 
     #[inline]
-    pub fn int_more(&mut self, piece: &[u8], from: usize, negative: bool, first: u64) -> Got
+    pub fn int_more(&mut self, piece: &[u8], from: usize, negative: bool, first: u64) -> Taken
         requires within { from ≤ length piece.now }
-        requires fits { first ≤ most negative }
-        ensures { said result self.new ≡ scan from (at (place self.old) (InInt negative first)) (drop from piece.now) }
+        requires fits { first ≤ greatest_magnitude negative }
+        ensures { out_of result self.new ≡ scan from (at (place_of self.old) (InInt negative first)) (drop from piece.now) }
     {
         let mut magnitude = first;
         let last = if negative { 8 } else { 7 };
@@ -71,7 +71,7 @@ impl Machine {
             {
                 return self.fail(i, Cause::Range);
             }
-            if !self.fits(i + 1, 2) {
+            if !self.has_total_room(i + 1, 2) {
                 return self.fail(i, Cause::Total);
             }
             magnitude = magnitude * 10 + digit;
@@ -82,10 +82,10 @@ impl Machine {
     }
 
     #[inline]
-    pub fn int_lf(&mut self, piece: &[u8], i: usize, negative: bool, magnitude: u64) -> Got
+    pub fn int_lf(&mut self, piece: &[u8], i: usize, negative: bool, magnitude: u64) -> Taken
         requires within { i ≤ length piece.now }
-        requires fits { magnitude ≤ most negative }
-        ensures { said result self.new ≡ scan i (at (place self.old) (AtIntLf negative magnitude)) (drop i piece.now) }
+        requires fits { magnitude ≤ greatest_magnitude negative }
+        ensures { out_of result self.new ≡ scan i (at (place_of self.old) (AtIntLf negative magnitude)) (drop i piece.now) }
     {
         if i == piece.len() {
             self.negative = negative;
@@ -95,15 +95,15 @@ impl Machine {
         if piece[i] != b'\n' {
             return self.fail(i, Cause::Syntax);
         }
-        self.value = signed(negative, magnitude);
-        self.ended(i + 1, What::Int)
+        self.value = with_sign(negative, magnitude);
+        self.ended(i + 1, EventTag::Int)
     }
 }
 
 #[inline]
-fn signed(negative: bool, magnitude: u64) -> i64
-    requires { magnitude ≤ most negative }
-    ensures { result ≡ signed negative magnitude }
+fn with_sign(negative: bool, magnitude: u64) -> i64
+    requires { magnitude ≤ greatest_magnitude negative }
+    ensures { result ≡ with_sign negative magnitude }
 {
     if negative {
         if magnitude > 9_223_372_036_854_775_807 {

@@ -1,22 +1,22 @@
 //! Simple strings and errors: one line, whose content is found by vectors.
 
-ghost use Rattle.resp_scan.specs.Runs.{plain_run, run_to};
+ghost use Rattle.resp_scan.specs.Machine.Runs.{plain_run, run_to};
 ghost use Rattle.std.specs.Prelude.{◌≡◌, ◌≤◌, length, drop};
 
-use crate::machine::{Got, Machine, State, What};
+use crate::machine::{Taken, Machine, State, EventTag};
 use memchr::memchr;
 use resp_value::cause::Cause;
 
 impl Machine {
-    ghost use Rattle.resp_scan.specs.Said.{place, said};
-    ghost use Rattle.resp_scan.specs.Scan.{scan};
-    ghost use Rattle.resp_scan.specs.Tokens.{at, InLine, AtLineLf};
+    ghost use Rattle.resp_scan.specs.Machine.Fields.{place_of, out_of};
+    ghost use Rattle.resp_scan.specs.Machine.Scan.{scan};
+    ghost use Rattle.resp_scan.specs.Machine.Tokens.{at, InLine, AtLineLf};
 
     /// A line's content, at the front of the piece.
     #[inline]
-    pub fn line(&mut self, piece: &[u8]) -> Got
+    pub fn line(&mut self, piece: &[u8]) -> Taken
         requires { self.old.state ≡ State.Line }
-        ensures { said result self.new ≡ scan 0 (at (place self.old) (InLine self.old.room)) piece.now }
+        ensures { out_of result self.new ≡ scan 0 (at (place_of self.old) (InLine self.old.room)) piece.now }
     {
         if piece.is_empty() {
             return self.rest(State::Line, piece);
@@ -28,7 +28,7 @@ impl Machine {
         let run = line_run(&piece[..most]);
         if run > 0 {
             self.room -= run as u64;
-            return self.gives(run, What::Part);
+            return self.gives(run, EventTag::Part);
         }
         if piece[0] == b'\n' {
             return self.fail(0, Cause::Syntax);
@@ -41,9 +41,9 @@ impl Machine {
 
     /// The LF of a line, or of a big number that isn't zero.
     #[inline]
-    pub fn line_lf(&mut self, piece: &[u8], i: usize) -> Got
+    pub fn line_lf(&mut self, piece: &[u8], i: usize) -> Taken
         requires { i ≤ length piece.now }
-        ensures { said result self.new ≡ scan i (at (place self.old) AtLineLf) (drop i piece.now) }
+        ensures { out_of result self.new ≡ scan i (at (place_of self.old) AtLineLf) (drop i piece.now) }
     {
         if i == piece.len() {
             return self.rest(State::LineLf, piece);
@@ -51,7 +51,7 @@ impl Machine {
         if piece[i] != b'\n' {
             return self.fail(i, Cause::Syntax);
         }
-        self.ended(i + 1, What::TextEnd)
+        self.ended(i + 1, EventTag::TextEnd)
     }
 }
 

@@ -2,19 +2,19 @@
 
 ghost use Rattle.std.specs.Prelude.{◌≡◌, ◌≤◌, length, drop};
 
-use crate::machine::{Got, Machine, State, What};
+use crate::machine::{Taken, Machine, State, EventTag};
 use resp_value::cause::Cause;
 
 impl Machine {
-    ghost use Rattle.resp_scan.specs.Said.{place, said};
-    ghost use Rattle.resp_scan.specs.Scan.{scan};
-    ghost use Rattle.resp_scan.specs.Tokens.{at, AtNullOne, AtNullCr, AtNullLf, AtBool, AtBoolCr, AtBoolLf};
+    ghost use Rattle.resp_scan.specs.Machine.Fields.{place_of, out_of};
+    ghost use Rattle.resp_scan.specs.Machine.Scan.{scan};
+    ghost use Rattle.resp_scan.specs.Machine.Tokens.{at, AtNullOne, AtNullCr, AtNullLf, AtBool, AtBoolCr, AtBoolLf};
 
     /// Behind `$-` or `*-`, where only `1` follows.
     #[inline]
-    pub fn null_one(&mut self, piece: &[u8], i: usize) -> Got
+    pub fn null_one(&mut self, piece: &[u8], i: usize) -> Taken
         requires { i ≤ length piece.now }
-        ensures { said result self.new ≡ scan i (at (place self.old) AtNullOne) (drop i piece.now) }
+        ensures { out_of result self.new ≡ scan i (at (place_of self.old) AtNullOne) (drop i piece.now) }
     {
         if i == piece.len() {
             return self.rest(State::NullOne, piece);
@@ -26,9 +26,9 @@ impl Machine {
     }
 
     #[inline]
-    pub fn null_cr(&mut self, piece: &[u8], i: usize) -> Got
+    pub fn null_cr(&mut self, piece: &[u8], i: usize) -> Taken
         requires { i ≤ length piece.now }
-        ensures { said result self.new ≡ scan i (at (place self.old) AtNullCr) (drop i piece.now) }
+        ensures { out_of result self.new ≡ scan i (at (place_of self.old) AtNullCr) (drop i piece.now) }
     {
         if i == piece.len() {
             return self.rest(State::NullCr, piece);
@@ -40,9 +40,9 @@ impl Machine {
     }
 
     #[inline]
-    pub fn null_lf(&mut self, piece: &[u8], i: usize) -> Got
+    pub fn null_lf(&mut self, piece: &[u8], i: usize) -> Taken
         requires { i ≤ length piece.now }
-        ensures { said result self.new ≡ scan i (at (place self.old) AtNullLf) (drop i piece.now) }
+        ensures { out_of result self.new ≡ scan i (at (place_of self.old) AtNullLf) (drop i piece.now) }
     {
         if i == piece.len() {
             return self.rest(State::NullLf, piece);
@@ -50,14 +50,14 @@ impl Machine {
         if piece[i] != b'\n' {
             return self.fail(i, Cause::Syntax);
         }
-        self.ended(i + 1, What::Null)
+        self.ended(i + 1, EventTag::Null)
     }
 
     /// Behind `#`.
     #[inline]
-    pub fn bool(&mut self, piece: &[u8], i: usize) -> Got
+    pub fn bool(&mut self, piece: &[u8], i: usize) -> Taken
         requires { i ≤ length piece.now }
-        ensures { said result self.new ≡ scan i (at (place self.old) AtBool) (drop i piece.now) }
+        ensures { out_of result self.new ≡ scan i (at (place_of self.old) AtBool) (drop i piece.now) }
     {
         if i == piece.len() {
             return self.rest(State::Bool, piece);
@@ -70,9 +70,9 @@ impl Machine {
     }
 
     #[inline]
-    pub fn bool_cr(&mut self, piece: &[u8], i: usize, truth: bool) -> Got
+    pub fn bool_cr(&mut self, piece: &[u8], i: usize, truth: bool) -> Taken
         requires { i ≤ length piece.now }
-        ensures { said result self.new ≡ scan i (at (place self.old) (AtBoolCr truth)) (drop i piece.now) }
+        ensures { out_of result self.new ≡ scan i (at (place_of self.old) (AtBoolCr truth)) (drop i piece.now) }
     {
         if i == piece.len() {
             self.truth = truth;
@@ -85,9 +85,9 @@ impl Machine {
     }
 
     #[inline]
-    pub fn bool_lf(&mut self, piece: &[u8], i: usize, truth: bool) -> Got
+    pub fn bool_lf(&mut self, piece: &[u8], i: usize, truth: bool) -> Taken
         requires { i ≤ length piece.now }
-        ensures { said result self.new ≡ scan i (at (place self.old) (AtBoolLf truth)) (drop i piece.now) }
+        ensures { out_of result self.new ≡ scan i (at (place_of self.old) (AtBoolLf truth)) (drop i piece.now) }
     {
         if i == piece.len() {
             self.truth = truth;
@@ -97,6 +97,6 @@ impl Machine {
             return self.fail(i, Cause::Syntax);
         }
         self.truth = truth;
-        self.ended(i + 1, What::Bool)
+        self.ended(i + 1, EventTag::Bool)
     }
 }

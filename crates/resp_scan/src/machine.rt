@@ -1,10 +1,10 @@
 //! The state between two bytes, and what all tokens share: room within the limits, members, and ends.
 
-ghost use Rattle.resp_scan.specs.Sound.{IsOpenShape, frame_owed};
-ghost use Rattle.resp_scan.specs.Room.{has_all, owed_begun, shape_begun, begun_count};
+ghost use Rattle.resp_scan.specs.Machine.Sound.{IsOpenShape, need_of_frame};
+ghost use Rattle.resp_scan.specs.Machine.Room.{has_all, need_after_begin, shape_after_begin, begun_count};
 ghost use Rattle.std.specs.Prelude.{◌≡◌, ◌<◌, ◌≤◌, ◌+◌, ◌^◌, length, IfNone, true, false, ◌-◌, ◌∷◌, List, IfSome, min, reverse};
 
-use crate::event::OpenKind;
+use resp_value::kind::OpenKind;
 use crate::frame::{Frame, Shape};
 use arrayvec::ArrayVec;
 use resp_value::cause::Cause;
@@ -81,7 +81,7 @@ pub enum State {
 
 /// What stands behind the bytes that were taken. What an event carries waits in the machine.
 #[derive(Clone, Copy)]
-pub enum What {
+pub enum EventTag {
     /// The piece has ended.
     More,
     Failed,
@@ -109,9 +109,9 @@ pub enum What {
 
 /// The number of bytes taken, and what stands behind them.
 #[derive(Clone, Copy)]
-pub struct Got {
+pub struct Taken {
     pub used: usize,
-    pub what: What,
+    pub tag: EventTag,
 }
 
 /// The state between two bytes. Fields behind `taken` and `owed` mean something in some tokens alone.
@@ -124,7 +124,7 @@ pub struct Machine {
     /// Bytes of the value at the top that were taken before this piece.
     pub taken: u64,
     /// The fewest bytes by which the open aggregates end once the token has ended.
-    pub owed: u64,
+    pub frames_need: u64,
     pub cause: Cause,
     pub head: Head,
     pub kind: OpenKind,
@@ -146,41 +146,41 @@ pub struct Machine {
 
 impl Machine {
     ghost use Rattle.resp_scan.specs.declared.frame.Frame.{Frame};
-    ghost use Rattle.resp_scan.specs.Said.{place, said};
-    ghost use Rattle.resp_scan.specs.Sound.{IsSound};
-    ghost use Rattle.resp_scan.specs.Scan.{More, Bad};
-    ghost use Rattle.resp_scan.specs.Tokens.{at, Dead, AtStart};
-    ghost use Rattle.resp_scan.specs.Room.{total_room, fits, over_total, is_full, reshaped, begun, begin_cause};
+    ghost use Rattle.resp_scan.specs.Machine.Fields.{place_of, out_of};
+    ghost use Rattle.resp_scan.specs.Machine.Sound.{IsSound};
+    ghost use Rattle.resp_scan.specs.Machine.Scan.{More, Bad};
+    ghost use Rattle.resp_scan.specs.Machine.Tokens.{at, Dead, AtStart};
+    ghost use Rattle.resp_scan.specs.Machine.Room.{total_room, has_total_room, over_total, is_full, with_shape, after_begin, begin_cause};
 
     /// The end of the piece, in this state.
     #[inline]
-    pub fn rest(&mut self, state: State, piece: &[u8]) -> Got
-        ensures { said result self.new ≡ More (length piece.now) (place (record self.old { state = state })) }
+    pub fn rest(&mut self, state: State, piece: &[u8]) -> Taken
+        ensures { out_of result self.new ≡ More (length piece.now) (place_of (record self.old { state = state })) }
     {
         self.state = state;
-        Got {
+        Taken {
             used: piece.len(),
-            what: What::More,
+            tag: EventTag::More,
         }
     }
 
     #[inline]
-    pub fn gives(&self, used: usize, what: What) -> Got
-        ensures { result ≡ record { used = used; what = what } }
+    pub fn gives(&self, used: usize, tag: EventTag) -> Taken
+        ensures { result ≡ record { used = used; tag = tag } }
     {
-        Got { used, what }
+        Taken { used, tag }
     }
 
     #[cold]
     #[inline(never)]
-    pub fn fail(&mut self, used: usize, cause: Cause) -> Got
-        ensures { said result self.new ≡ Bad used cause (at (place self.old) (Dead cause)) }
+    pub fn fail(&mut self, used: usize, cause: Cause) -> Taken
+        ensures { out_of result self.new ≡ Bad used cause (at (place_of self.old) (Dead cause)) }
     {
         self.state = State::Failed;
         self.cause = cause;
-        Got {
+        Taken {
             used,
-            what: What::Failed,
+            tag: EventTag::Failed,
         }
     }
 
@@ -189,23 +189,23 @@ impl Machine {
     #[inline]
     pub fn total_room(&self) -> u64
         ensures few { result ≤ 2 ^ 40 }
-        ensures room { result ≡ total_room (place self.now) }
-        ensures owed { 0 < result → self.now.owed + result ≤ 2 ^ 40 }
+        ensures room { result ≡ total_room (place_of self.now) }
+        ensures frames_need { 0 < result → self.now.frames_need + result ≤ 2 ^ 40 }
     {
         self.limits
             .total()
             .saturating_sub(self.taken)
-            .saturating_sub(self.owed)
+            .saturating_sub(self.frames_need)
     }
 
     /// Whether total leaves room for so many bytes of this piece and so many behind them.
     #[inline]
-    pub fn fits(&self, used: usize, needed: u64) -> bool
+    pub fn has_total_room(&self, used: usize, needed: u64) -> bool
         requires index { used ≤ 2 ^ 63 }
         requires needed { needed < 2 ^ 62 }
         ensures few { result ≡ true → needed ≤ 2 ^ 40 }
-        ensures fits { result ≡ fits (place self.now) used needed }
-        ensures owed { result ≡ true → 0 < needed → self.now.owed + needed ≤ 2 ^ 40 }
+        ensures fits { result ≡ has_total_room (place_of self.now) used needed }
+        ensures frames_need { result ≡ true → 0 < needed → self.now.frames_need + needed ≤ 2 ^ 40 }
     {
         used as u64 + needed <= self.total_room()
     }
@@ -216,10 +216,10 @@ impl Machine {
         requires index { used ≤ 2 ^ 63 }
         requires needed { needed < 2 ^ 62 }
         ensures few { IfNone result (needed ≤ 2 ^ 40) }
-        ensures over { result ≡ over_total (place self.now) used needed }
-        ensures owed { IfNone result (0 < needed → self.now.owed + needed ≤ 2 ^ 40) }
+        ensures over { result ≡ over_total (place_of self.now) used needed }
+        ensures frames_need { IfNone result (0 < needed → self.now.frames_need + needed ≤ 2 ^ 40) }
     {
-        if self.fits(used, needed) {
+        if self.has_total_room(used, needed) {
             None
         } else {
             Some(Cause::Total)
@@ -229,7 +229,7 @@ impl Machine {
     /// What length and total leave of a text whose line's end is still to come.
     #[inline]
     pub fn text_room(&self) -> u64
-        ensures { result ≡ min self.now.room (total_room (place self.now) - 2) }
+        ensures { result ≡ min self.now.room (total_room (place_of self.now) - 2) }
     {
         self.room.min(self.total_room().saturating_sub(2))
     }
@@ -237,7 +237,7 @@ impl Machine {
     /// Whether the depth lets no further aggregate open.
     #[inline]
     pub fn is_full(&self) -> bool
-        ensures full { result ≡ is_full (place self.now) }
+        ensures full { result ≡ is_full (place_of self.now) }
         ensures room { result ≡ false → length self.now.frames.items < 128 }
     {
         self.frames.len() as u64 >= self.limits.depth()
@@ -248,9 +248,9 @@ impl Machine {
     #[inline]
     pub fn begin(&mut self, needed: u64) -> Option<Cause>
         requires needed { needed < 2 ^ 10 }
-        requires sound { IsSound (at (place self.old) AtStart) }
-        ensures cause { result ≡ begin_cause (at (place self.old) AtStart) needed }
-        ensures begun { IfNone result (at (place self.new) AtStart ≡ begun (at (place self.old) AtStart)) }
+        requires sound { IsSound (at (place_of self.old) AtStart) }
+        ensures cause { result ≡ begin_cause (at (place_of self.old) AtStart) needed }
+        ensures begun { IfNone result (at (place_of self.new) AtStart ≡ after_begin (at (place_of self.old) AtStart)) }
         ensures refused { IfSome result (λ cause. self.new ≡ self.old) }
     {
         match self.frames.as_slice().last() {
@@ -267,30 +267,30 @@ impl Machine {
     fn begin_in(&mut self, frame: Frame, needed: u64) -> Option<Cause>
         requires needed { needed < 2 ^ 10 }
         requires more { IsOpenShape frame.shape }
-        requires owed { frame_owed frame.kind frame.shape ≤ self.old.owed }
-        requires few { self.old.owed < 2 ^ 62 }
+        requires frames_need { need_of_frame frame.kind frame.shape ≤ self.old.frames_need }
+        requires few { self.old.frames_need < 2 ^ 62 }
         requires counted { begun_count frame.shape < 2 ^ 62 }
-        ensures cause { (fs : List Frame) → (place self.old).frames ≡ frame ∷ fs → result ≡ begin_cause (at (place self.old) AtStart) needed }
-        ensures begun { (fs : List Frame) → (place self.old).frames ≡ frame ∷ fs → IfNone result (at (place self.new) AtStart ≡ begun (at (place self.old) AtStart)) }
+        ensures cause { (fs : List Frame) → (place_of self.old).frames ≡ frame ∷ fs → result ≡ begin_cause (at (place_of self.old) AtStart) needed }
+        ensures begun { (fs : List Frame) → (place_of self.old).frames ≡ frame ∷ fs → IfNone result (at (place_of self.new) AtStart ≡ after_begin (at (place_of self.old) AtStart)) }
         ensures refused { IfSome result (λ cause. self.new ≡ self.old) }
     {
         if has_all(frame, self.limits.items()) {
             return Some(Cause::Items);
         }
         let room = self.limits.total().saturating_sub(self.taken);
-        let owed = owed_begun(frame, self.owed);
-        if needed >= room.saturating_sub(owed) {
+        let frames_need = need_after_begin(frame, self.frames_need);
+        if needed >= room.saturating_sub(frames_need) {
             return Some(Cause::Total);
         }
-        self.owed = owed;
-        self.set_shape(shape_begun(frame.shape));
+        self.frames_need = frames_need;
+        self.set_shape(shape_after_begin(frame.shape));
         None
     }
 
     /// The innermost open aggregate gets this shape.
     #[inline]
     pub fn set_shape(&mut self, shape: Shape)
-        ensures items { reverse self.new.frames.items ≡ reshaped shape (reverse self.old.frames.items) }
+        ensures items { reverse self.new.frames.items ≡ with_shape shape (reverse self.old.frames.items) }
         ensures rest { self.new ≡ record self.old { frames = self.new.frames } }
     {
         if !self.frames.is_empty() {
@@ -301,12 +301,12 @@ impl Machine {
 
     /// A value has ended.
     #[inline]
-    pub fn ended(&mut self, used: usize, what: What) -> Got
-        ensures gives { result ≡ record { used = used; what = what } }
+    pub fn ended(&mut self, used: usize, tag: EventTag) -> Taken
+        ensures gives { result ≡ record { used = used; tag = tag } }
         ensures state { self.new ≡ record self.old { state = State.Ended } }
     {
         self.state = State::Ended;
-        Got { used, what }
+        Taken { used, tag }
     }
 }
 
@@ -326,26 +326,26 @@ fn has_all(frame: Frame, items: u64) -> bool
 
 /// What is owed once one more member has begun: less by a counted member, and a map's key calls for its value.
 #[inline]
-fn owed_begun(frame: Frame, owed: u64) -> u64
+fn need_after_begin(frame: Frame, frames_need: u64) -> u64
     requires more { IsOpenShape frame.shape }
-    requires owed { frame_owed frame.kind frame.shape ≤ owed }
-    requires few { owed < 2 ^ 62 }
-    ensures { result ≡ owed_begun frame.kind frame.shape owed }
+    requires frames_need { need_of_frame frame.kind frame.shape ≤ frames_need }
+    requires few { frames_need < 2 ^ 62 }
+    ensures { result ≡ need_after_begin frame.kind frame.shape frames_need }
 {
     match frame.shape {
-        Shape::Left(_) => owed - 3,
+        Shape::Left(_) => frames_need - 3,
         Shape::Begun(begun) => match frame.kind {
-            OpenKind::Map => { if begun % 2 == 0 { owed + 3 } else { owed - 3 } }
-            _ => owed,
+            OpenKind::Map => { if begun % 2 == 0 { frames_need + 3 } else { frames_need - 3 } }
+            _ => frames_need,
         },
     }
 }
 
 #[inline]
-fn shape_begun(shape: Shape) -> Shape
+fn shape_after_begin(shape: Shape) -> Shape
     requires more { IsOpenShape shape }
     requires few { begun_count shape < 2 ^ 62 }
-    ensures { result ≡ shape_begun shape }
+    ensures { result ≡ shape_after_begin shape }
 {
     match shape {
         Shape::Left(left) => Shape::Left(left - 1),

@@ -1,11 +1,12 @@
 //! The scanner.
 
 ghost use Rattle.resp_value.specs.Bounds.{AreBounds};
-ghost use Rattle.resp_scan.specs.Heads.{first_needed};
+ghost use Rattle.resp_scan.specs.Machine.Heads.{first_needed};
 ghost use Rattle.std.specs.Prelude.{◌≡◌, ◌↔◌, ◌≤◌, ◌+◌, ℕ, List, length, [], true, None, Some, Err, IsOk, OnOk, OnErr, IfOk, IfErr};
 ghost use Rattle.resp_value.specs.declared.cause.Cause.TheVariants as cause;
 
-use crate::event::{Busy, Event, Fault, OpenKind, Step};
+use crate::event::{Busy, Event, Fault, Step};
+use resp_value::kind::OpenKind;
 use crate::heads::needed_behind;
 use crate::machine::{Head, Machine, State};
 use arrayvec::ArrayVec;
@@ -23,33 +24,33 @@ pub struct Scanner {
 }
 
 impl Model for Scanner {
-    ghost use Rattle.resp_scan.specs.Tokens.{Place};
+    ghost use Rattle.resp_scan.specs.Machine.Tokens.{Place};
 
     ghost Value = { Place };
 
-    ghost use Rattle.resp_scan.specs.Said.{place};
-    ghost use Rattle.resp_scan.specs.Sound.{IsSound, token_needed};
-    ghost use Rattle.resp_scan.specs.States.{is_counted};
+    ghost use Rattle.resp_scan.specs.Machine.Fields.{place_of};
+    ghost use Rattle.resp_scan.specs.Machine.Sound.{IsSound, token_needed};
+    ghost use Rattle.resp_scan.specs.Machine.States.{is_counted};
 
-    ghost view = { λ s. place s.machine };
+    ghost view = { λ s. place_of s.machine };
 
-    ghost invariant = { λ s. IsSound (place s.machine) };
+    ghost invariant = { λ s. IsSound (place_of s.machine) };
 }
 
 impl Scanner {
-    ghost use Rattle.resp_follow.specs.LeastCompletions.{IsLeast};
+    ghost use Rattle.resp_fronts.specs.LeastCompletions.{IsLeast};
     ghost use Rattle.resp_scan.specs.declared.event.Fault.{Fault};
-    ghost use Rattle.resp_scan.specs.End.{end_cause};
-    ghost use Rattle.resp_scan.specs.Given.{closes, opens};
-    ghost use Rattle.resp_scan.specs.Heard.{IsOfPiece};
+    ghost use Rattle.resp_scan.specs.Machine.End.{end_cause};
+    ghost use Rattle.resp_scan.specs.Counts.{close_count, open_count};
+    ghost use Rattle.resp_scan.specs.Parts.{IsOfPiece};
     ghost use Rattle.resp_scan.specs.Kinds.{rules_of};
-    ghost use Rattle.resp_scan.specs.Sound.{IsSound, needed};
-    ghost use Rattle.resp_scan.specs.Steps.{BeginDue, Events, Follows, IsFaulted, MayEnd, Stepped};
-    ghost use Rattle.resp_scan.specs.Tokens.{AtStart};
+    ghost use Rattle.resp_scan.specs.Machine.Sound.{IsSound, needed};
+    ghost use Rattle.resp_scan.specs.Reading.{BeginDue, Events, HasRead, IsFaulted, MayEnd, Stepped};
+    ghost use Rattle.resp_scan.specs.Machine.Tokens.{AtStart};
 
     /// A scanner of this version within these limits, between two values.
     pub fn new(version: Version, limits: &Limits) -> Scanner
-        ensures followed { Follows result [] [] }
+        ensures followed { HasRead result [] [] }
         ensures rules { rules_of result ≡ record { version = version; limits = limits.now } }
     {
         Scanner {
@@ -59,7 +60,7 @@ impl Scanner {
                 frames: ArrayVec::new(),
                 state: State::Start,
                 taken: 0,
-                owed: 0,
+                frames_need: 0,
                 cause: Cause::Syntax,
                 head: Head::Bulk,
                 kind: OpenKind::Array,
@@ -86,10 +87,10 @@ impl Scanner {
     pub fn step<'a>(&mut self, piece: &'a [u8]) -> Result<Step<'a>, Fault>
         // What has come and what was given of it, over every front that was taken and all events given since the value
         // began.
-        ensures followed { (front : List ℕ) (es : Events) → Follows self.old front es → Stepped self.old self.new front es piece.now result }
+        ensures followed { (front : List ℕ) (es : Events) → HasRead self.old front es → Stepped self.old self.new front es piece.now result }
 
         // And at any time the events given are the first of those due.
-        ensures given { (front : List ℕ) (es : Events) → Follows self.old front es → BeginDue front es }
+        ensures given { (front : List ℕ) (es : Events) → HasRead self.old front es → BeginDue front es }
 
         ensures within { IfOk result (λ step. step.used ≤ length piece.now) }
         ensures all { IfOk result (λ step. step.event ≡ None → step.used ≡ length piece.now) }
@@ -106,8 +107,8 @@ impl Scanner {
     /// The end of the input. Refuses it by Truncated inside a value, with the number of its bytes that were taken,
     /// and by the fault of a step where one was refused.
     pub fn finish(&self) -> Result<(), Fault>
-        ensures ok { (front : List ℕ) (es : Events) → Follows self.now front es → (IsOk result ↔ MayEnd (rules_of self.now) front) }
-        ensures truncated { (front : List ℕ) (es : Events) → Follows self.now front es → IfErr result (λ fault. (fault.cause ≡ cause.Truncated) × (fault.at ≡ length front)) }
+        ensures ok { (front : List ℕ) (es : Events) → HasRead self.now front es → (IsOk result ↔ MayEnd (rules_of self.now) front) }
+        ensures truncated { (front : List ℕ) (es : Events) → HasRead self.now front es → IfErr result (λ fault. (fault.cause ≡ cause.Truncated) × (fault.at ≡ length front)) }
         ensures stays { (fault : Fault) → IsFaulted self.now fault → result ≡ Err fault }
     {
         self.end()
@@ -143,8 +144,8 @@ impl Scanner {
     /// Refuses, and changes nothing, from a value's first byte until its [`Event::Done`] was given, and after a
     /// fault.
     pub fn set_version(&mut self, version: Version) -> Result<(), Busy>
-        ensures between { (front : List ℕ) (es : Events) → Follows self.old front es → (IsOk result ↔ (front ≡ [])) }
-        ensures followed { (front : List ℕ) (es : Events) → Follows self.old front es → OnOk result (Follows self.new [] []) }
+        ensures between { (front : List ℕ) (es : Events) → HasRead self.old front es → (IsOk result ↔ (front ≡ [])) }
+        ensures followed { (front : List ℕ) (es : Events) → HasRead self.old front es → OnOk result (HasRead self.new [] []) }
         ensures rules { OnOk result (rules_of self.new ≡ record { version = version; limits = self.old.bounds }) }
         ensures busy { OnErr result (self.new ≡ self.old) }
         ensures faulted { (fault : Fault) → IsFaulted self.old fault → OnOk result ⊥ }
@@ -176,7 +177,7 @@ impl Scanner {
     pub fn depth(&self) -> usize
         ensures frames { result ≡ length self.now.frames }
         ensures few { result ≤ (rules_of self.now).limits.depth }
-        ensures opens { (front : List ℕ) (es : Events) → Follows self.now front es → opens es ≡ result + closes es }
+        ensures opens { (front : List ℕ) (es : Events) → HasRead self.now front es → open_count es ≡ result + close_count es }
     {
         self.machine.frames.len()
     }
@@ -184,8 +185,8 @@ impl Scanner {
     /// The number of bytes taken of the value, 0 between values. A refused byte isn't among them.
     pub fn taken(&self) -> u64
         ensures taken { result ≡ self.now.taken }
-        ensures front { (front : List ℕ) (es : Events) → Follows self.now front es → result ≡ length front }
-        ensures few { (front : List ℕ) (es : Events) → Follows self.now front es → length es ≤ result }
+        ensures front { (front : List ℕ) (es : Events) → HasRead self.now front es → result ≡ length front }
+        ensures few { (front : List ℕ) (es : Events) → HasRead self.now front es → length es ≤ result }
     {
         self.machine.taken
     }
@@ -193,9 +194,9 @@ impl Scanner {
     /// The least number of bytes that complete the value: 3 between values, and 0 where only its Done is owed.
     pub fn needed(&self) -> u64
         ensures needed { result ≡ needed self.now }
-        ensures least { (front : List ℕ) (es : Events) → Follows self.now front es → IsLeast (rules_of self.now) front result }
+        ensures least { (front : List ℕ) (es : Events) → HasRead self.now front es → IsLeast (rules_of self.now) front result }
     {
-        self.machine.owed + self.machine.token_needed()
+        self.machine.frames_need + self.machine.token_needed()
     }
 }
 
@@ -215,14 +216,14 @@ fn in_range(limits: &Limits) -> Limits
 }
 
 impl Machine {
-    ghost use Rattle.resp_scan.specs.Said.{place};
-    ghost use Rattle.resp_scan.specs.Sound.{IsSound, token_needed};
-    ghost use Rattle.resp_scan.specs.States.{is_counted};
+    ghost use Rattle.resp_scan.specs.Machine.Fields.{place_of};
+    ghost use Rattle.resp_scan.specs.Machine.Sound.{IsSound, token_needed};
+    ghost use Rattle.resp_scan.specs.Machine.States.{is_counted};
 
     /// The least number of bytes that complete the token.
     fn token_needed(&self) -> u64
-        requires { IsSound (place self.now) }
-        ensures { result ≡ token_needed (place self.now).token self.now.limits.depth (place self.now).frames }
+        requires { IsSound (place_of self.now) }
+        ensures { result ≡ token_needed (place_of self.now).token self.now.limits.depth (place_of self.now).frames }
     {
         match self.state {
             State::Start => { if self.frames.is_empty() { 3 } else { 0 } }
@@ -245,8 +246,8 @@ impl Machine {
     /// The least number of bytes that complete a head, counted content or a close.
     #[tactic(auto, using(crate::proofs::Places::more_few, crate::proofs::Places::lf_few, crate::proofs::Sound::head_more, crate::proofs::Places::format_first_few, crate::proofs::Places::format_second_few, crate::proofs::Places::colon_four, crate::proofs::Places::content_few, crate::proofs::Places::chunk_few))]
     fn counted_needed(&self) -> u64
-        requires { IsSound (place self.now) }
-        ensures { is_counted self.now.state ≡ true → result ≡ token_needed (place self.now).token self.now.limits.depth (place self.now).frames }
+        requires { IsSound (place_of self.now) }
+        ensures { is_counted self.now.state ≡ true → result ≡ token_needed (place_of self.now).token self.now.limits.depth (place_of self.now).frames }
     {
         match self.state {
             State::HeadFirst => first_needed(self.head),

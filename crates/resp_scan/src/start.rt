@@ -1,35 +1,35 @@
 //! A value's first byte.
 
 ghost use Rattle.std.specs.Prelude.{◌≡◌, ◌<◌, ℕ, List, length, drop};
-ghost use Rattle.resp_scan.specs.First.{by_first};
-ghost use Rattle.resp_scan.specs.Machine as m;
-ghost use Rattle.resp_scan.specs.Tokens.{Place};
+ghost use Rattle.resp_scan.specs.Machine.First.{by_first};
+ghost use Rattle.resp_scan.specs.Machine.Moves as m;
+ghost use Rattle.resp_scan.specs.Machine.Tokens.{Place};
 
-use crate::machine::{Got, Head, Machine, State, What};
+use crate::machine::{Taken, Head, Machine, State, EventTag};
 use resp_value::cause::Cause;
 use resp_value::version::Version;
 
 impl Machine {
-    ghost use Rattle.resp_scan.specs.First.{after_first, first_move};
-    ghost use Rattle.resp_scan.specs.Heads.{first_needed, HasFrame};
-    ghost use Rattle.resp_scan.specs.Sound.{IsSound};
-    ghost use Rattle.resp_scan.specs.Said.{place, said};
-    ghost use Rattle.resp_scan.specs.Scan.{scan};
-    ghost use Rattle.resp_scan.specs.Tokens.{at, Text, AtStart, AtHead};
+    ghost use Rattle.resp_scan.specs.Machine.First.{after_first, first_move};
+    ghost use Rattle.resp_scan.specs.Machine.Heads.{first_needed, HasFrame};
+    ghost use Rattle.resp_scan.specs.Machine.Sound.{IsSound};
+    ghost use Rattle.resp_scan.specs.Machine.Fields.{place_of, out_of};
+    ghost use Rattle.resp_scan.specs.Machine.Scan.{scan};
+    ghost use Rattle.resp_scan.specs.Machine.Tokens.{at, Text, AtStart, AtHead};
     ghost use Rattle.resp_scan.specs.declared.event.TextKind.TheVariants as text;
 
     #[inline]
     #[tactic(auto, using(crate::proofs::Starts::first_scan, crate::proofs::Starts::refused_answer, crate::proofs::Starts::begun_answer))]
-    pub fn start(&mut self, piece: &[u8]) -> Got
-        requires { IsSound (at (place self.old) AtStart) }
-        ensures { said result self.new ≡ scan 0 (at (place self.old) AtStart) piece.now }
+    pub fn start(&mut self, piece: &[u8]) -> Taken
+        requires { IsSound (at (place_of self.old) AtStart) }
+        ensures { out_of result self.new ≡ scan 0 (at (place_of self.old) AtStart) piece.now }
     {
         if piece.is_empty() {
             return self.rest(State::Start, piece);
         }
         match piece[0] {
-            b'+' => self.line_begins(What::Simple),
-            b'-' => self.line_begins(What::Error),
+            b'+' => self.line_begins(EventTag::Simple),
+            b'-' => self.line_begins(EventTag::Error),
             b':' => match self.begin(3) {
                 Some(cause) => self.fail(0, cause),
                 None => self.int_sign(piece, 1),
@@ -59,26 +59,26 @@ impl Machine {
 
     #[inline]
     #[tactic(auto, using(crate::proofs::Starts::begun_line, crate::proofs::Starts::refused_line))]
-    fn line_begins(&mut self, what: What) -> Got
-        requires { IsSound (at (place self.old) AtStart) }
-        ensures simple { (p : List ℕ) → what ≡ What.Simple → said result self.new ≡ after_first (m.line_begins (at (place self.old) AtStart) (Text text.Simple)) (at (place self.old) AtStart) p }
-        ensures error { (p : List ℕ) → what ≡ What.Error → said result self.new ≡ after_first (m.line_begins (at (place self.old) AtStart) (Text text.Error)) (at (place self.old) AtStart) p }
+    fn line_begins(&mut self, tag: EventTag) -> Taken
+        requires { IsSound (at (place_of self.old) AtStart) }
+        ensures simple { (p : List ℕ) → tag ≡ EventTag.Simple → out_of result self.new ≡ after_first (m.line_move (at (place_of self.old) AtStart) (Text text.Simple)) (at (place_of self.old) AtStart) p }
+        ensures error { (p : List ℕ) → tag ≡ EventTag.Error → out_of result self.new ≡ after_first (m.line_move (at (place_of self.old) AtStart) (Text text.Error)) (at (place_of self.old) AtStart) p }
     {
         if let Some(cause) = self.begin(2) {
             return self.fail(0, cause);
         }
         self.state = State::Line;
         self.room = self.limits.length();
-        self.gives(1, what)
+        self.gives(1, tag)
     }
 
     /// A form that version 3 alone has.
     #[inline]
     #[tactic(auto, using(crate::proofs::Starts::refused_answer, crate::proofs::Starts::begun_answer))]
-    fn start_three(&mut self, piece: &[u8], first: First) -> Got
+    fn start_three(&mut self, piece: &[u8], first: First) -> Taken
         requires within { 0 < length piece.now }
-        requires sound { IsSound (at (place self.old) AtStart) }
-        ensures { said result self.new ≡ after_first (first_move (at (place self.old) AtStart) first) (at (place self.old) AtStart) (drop 1 piece.now) }
+        requires sound { IsSound (at (place_of self.old) AtStart) }
+        ensures { out_of result self.new ≡ after_first (first_move (at (place_of self.old) AtStart) first) (at (place_of self.old) AtStart) (drop 1 piece.now) }
     {
         match first {
             First::Null => match self.begin(2) {
@@ -109,12 +109,12 @@ impl Machine {
 
     #[inline(never)]
     #[tactic(auto, using(crate::proofs::Starts::refused_answer, crate::proofs::Starts::begun_answer))]
-    fn head_begins(&mut self, piece: &[u8], head: Head, needed: u64) -> Got
+    fn head_begins(&mut self, piece: &[u8], head: Head, needed: u64) -> Taken
         requires some { 0 < length piece.now }
         requires few { needed < 10 }
-        requires level { HasFrame (place self.old) head }
-        requires sound { IsSound (at (place self.old) AtStart) }
-        ensures { said result self.new ≡ after_first (m.begins (at (place self.old) AtStart) needed (AtHead head)) (at (place self.old) AtStart) (drop 1 piece.now) }
+        requires level { HasFrame (place_of self.old) head }
+        requires sound { IsSound (at (place_of self.old) AtStart) }
+        ensures { out_of result self.new ≡ after_first (m.begin_move (at (place_of self.old) AtStart) needed (AtHead head)) (at (place_of self.old) AtStart) (drop 1 piece.now) }
     {
         match self.begin(needed) {
             Some(cause) => self.fail(0, cause),
@@ -123,12 +123,12 @@ impl Machine {
     }
 
     #[inline]
-    fn aggregate_begins(&mut self, piece: &[u8], head: Head, needed: u64) -> Got
+    fn aggregate_begins(&mut self, piece: &[u8], head: Head, needed: u64) -> Taken
         requires some { 0 < length piece.now }
         requires few { needed < 10 }
         requires needed { needed ≡ first_needed head }
-        requires sound { IsSound (at (place self.old) AtStart) }
-        ensures { said result self.new ≡ after_first (m.aggregate_begins (at (place self.old) AtStart) head) (at (place self.old) AtStart) (drop 1 piece.now) }
+        requires sound { IsSound (at (place_of self.old) AtStart) }
+        ensures { out_of result self.new ≡ after_first (m.aggregate_move (at (place_of self.old) AtStart) head) (at (place_of self.old) AtStart) (drop 1 piece.now) }
     {
         if self.is_full() {
             return self.fail(0, Cause::Depth);

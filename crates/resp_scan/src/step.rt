@@ -1,41 +1,42 @@
 //! One step: the token in which the piece begins, and the event that it comes to.
 
 ghost use Rattle.std.specs.Prelude.{◌≡◌, ◌≤◌, ◌∷◌, [], length, take, drop, true, IfOk, IfErr};
-ghost use Rattle.resp_scan.specs.Machine.{is_digit};
+ghost use Rattle.resp_scan.specs.Machine.Moves.{is_digit};
 
 use crate::event::{Event, Fault, Step, TextKind};
 use crate::frame::Shape;
-use crate::machine::{Got, Machine, State, What};
+use crate::machine::{Taken, Machine, State, EventTag};
 use resp_value::cause::Cause;
 
 static DIGITS: [u8; 10] = *b"0123456789";
 
 impl Machine {
-    ghost use Rattle.resp_scan.specs.Heard.{heard, stepped, IsOfPiece};
-    ghost use Rattle.resp_scan.specs.Said.{place, said};
-    ghost use Rattle.resp_scan.specs.Scan.{advanced};
-    ghost use Rattle.resp_scan.specs.Sound.{IsSound};
-    ghost use Rattle.resp_scan.specs.States.{is_counted};
-    ghost use Rattle.resp_scan.specs.Tokens.{Place};
+    ghost use Rattle.resp_scan.specs.Parts.{IsOfPiece};
+    ghost use Rattle.resp_scan.specs.Machine.StepOutcomes.{out_of_step, after_step};
+    ghost use Rattle.resp_scan.specs.Machine.Fields.{place_of, out_of};
+    ghost use Rattle.resp_scan.specs.Machine.Scan.{out_from};
+    ghost use Rattle.resp_scan.specs.Machine.Sound.{IsSound};
+    ghost use Rattle.resp_scan.specs.Machine.States.{is_counted};
+    ghost use Rattle.resp_scan.specs.Machine.Tokens.{Place};
 
     /// Behind a value: its end or its parent's close is owed, or the next member may begin.
     #[inline]
     #[tactic(auto, using(crate::proofs::Places::sound_member))]
-    fn after_value(&mut self, piece: &[u8]) -> Got
+    fn after_value(&mut self, piece: &[u8]) -> Taken
         requires state { self.old.state ≡ State.Ended }
-        requires sound { IsSound (place self.old) }
-        ensures { said result self.new ≡ advanced (place self.old) piece.now }
+        requires sound { IsSound (place_of self.old) }
+        ensures { out_of result self.new ≡ out_from (place_of self.old) piece.now }
     {
         match self.frames.as_slice().last() {
             None => {
                 self.state = State::Start;
                 self.taken = 0;
-                self.gives(0, What::Done)
+                self.gives(0, EventTag::Done)
             }
             Some(frame) => match frame.shape {
                 Shape::Left(0) => {
                     let _ = self.frames.pop();
-                    self.ended(0, What::Close)
+                    self.ended(0, EventTag::Close)
                 }
                 _ => self.start(piece),
             },
@@ -45,9 +46,9 @@ impl Machine {
     /// The tokens in which a piece seldom begins.
     #[inline(never)]
     #[tactic(auto, using(crate::proofs::Places::sound_start, crate::proofs::Places::int_most, crate::proofs::Places::int_lf_most))]
-    fn resume(&mut self, piece: &[u8]) -> Got
-        requires { IsSound (place self.old) }
-        ensures { said result self.new ≡ advanced (place self.old) piece.now }
+    fn resume(&mut self, piece: &[u8]) -> Taken
+        requires { IsSound (place_of self.old) }
+        ensures { out_of result self.new ≡ out_from (place_of self.old) piece.now }
     {
         match self.state {
             State::Start => self.start(piece),
@@ -64,10 +65,10 @@ impl Machine {
             State::BigZeroLf => self.big_zero_lf(piece, 0),
             State::BigDigit => {
                 self.state = State::Big;
-                self.gives(0, What::Digit)
+                self.gives(0, EventTag::Digit)
             }
             State::Big => self.big(piece),
-            State::TextEnd => self.ended(0, What::TextEnd),
+            State::TextEnd => self.ended(0, EventTag::TextEnd),
             State::NullOne => self.null_one(piece, 0),
             State::NullCr => self.null_cr(piece, 0),
             State::NullLf => self.null_lf(piece, 0),
@@ -82,10 +83,10 @@ impl Machine {
 
     /// The tokens of heads, counted content and closes.
     #[inline]
-    #[tactic(auto, using(crate::proofs::Places::content_some, crate::proofs::Places::chunk_some, crate::proofs::Places::first_frame, crate::proofs::Places::more_frame, crate::proofs::Places::more_owed, crate::proofs::Places::more_few, crate::proofs::Places::lf_few, crate::proofs::Places::lf_ends, crate::proofs::Places::lf_room, crate::proofs::Places::more_room, crate::proofs::Places::first_four, crate::proofs::Places::second_four, crate::proofs::Places::third_four, crate::proofs::Places::colon_four, crate::proofs::Places::lf_frame, crate::proofs::Places::lf_owed, crate::proofs::Places::open_cr_level, crate::proofs::Places::open_lf_level))]
-    fn resume_counted(&mut self, piece: &[u8]) -> Got
-        requires { IsSound (place self.old) }
-        ensures { is_counted self.old.state ≡ true → said result self.new ≡ advanced (place self.old) piece.now }
+    #[tactic(auto, using(crate::proofs::Places::content_some, crate::proofs::Places::chunk_some, crate::proofs::Places::first_frame, crate::proofs::Places::more_frame, crate::proofs::Places::more_need, crate::proofs::Places::more_few, crate::proofs::Places::lf_few, crate::proofs::Places::lf_ends, crate::proofs::Places::lf_room, crate::proofs::Places::more_room, crate::proofs::Places::first_four, crate::proofs::Places::second_four, crate::proofs::Places::third_four, crate::proofs::Places::colon_four, crate::proofs::Places::lf_frame, crate::proofs::Places::lf_need, crate::proofs::Places::open_cr_level, crate::proofs::Places::open_lf_level))]
+    fn resume_counted(&mut self, piece: &[u8]) -> Taken
+        requires { IsSound (place_of self.old) }
+        ensures { is_counted self.old.state ≡ true → out_of result self.new ≡ out_from (place_of self.old) piece.now }
     {
         match self.state {
             State::HeadFirst => self.head_first(piece, 0, self.head),
@@ -114,42 +115,42 @@ impl Machine {
 
     /// The answer of a step whose token came to this.
     #[inline(always)]
-    fn answer<'a>(&mut self, piece: &'a [u8], got: Got) -> Result<Step<'a>, Fault>
-        requires { (s : Place) × IsSound s × (said got self.old ≡ advanced s piece.now) }
-        ensures heard { (s : Place) → IsSound s → said got self.old ≡ advanced s piece.now → heard s.taken result (place self.new) ≡ stepped (advanced s piece.now) }
+    fn answer<'a>(&mut self, piece: &'a [u8], got: Taken) -> Result<Step<'a>, Fault>
+        requires { (s : Place) × IsSound s × (out_of got self.old ≡ out_from s piece.now) }
+        ensures heard { (s : Place) → IsSound s → out_of got self.old ≡ out_from s piece.now → out_of_step s.taken result (place_of self.new) ≡ after_step (out_from s piece.now) }
         ensures within { IfOk result (λ step. step.used ≤ length piece.now) }
         ensures lent { IfOk result (λ step. IsOfPiece piece.now step) }
         ensures counted { IfErr result (λ fault. fault.at ≡ self.new.taken) }
     {
         let used = got.used;
         self.taken += used as u64;
-        let event = match got.what {
-            What::More => None,
-            What::Failed => {
+        let event = match got.tag {
+            EventTag::More => None,
+            EventTag::Failed => {
                 return Err(Fault {
                     cause: self.cause,
                     at: self.taken,
                 });
             }
-            What::Null => Some(Event::Null),
-            What::Bool => Some(Event::Bool(self.truth)),
-            What::Int => Some(Event::Int(self.value)),
-            What::Simple => Some(Event::Text(TextKind::Simple)),
-            What::Error => Some(Event::Text(TextKind::Error)),
-            What::Bulk => Some(Event::Text(TextKind::Bulk)),
-            What::BulkError => Some(Event::Text(TextKind::BulkError)),
-            What::Verbatim => Some(Event::Text(TextKind::Verbatim(self.format))),
-            What::Big => Some(Event::Text(TextKind::Big {
+            EventTag::Null => Some(Event::Null),
+            EventTag::Bool => Some(Event::Bool(self.truth)),
+            EventTag::Int => Some(Event::Int(self.value)),
+            EventTag::Simple => Some(Event::Text(TextKind::Simple)),
+            EventTag::Error => Some(Event::Text(TextKind::Error)),
+            EventTag::Bulk => Some(Event::Text(TextKind::Bulk)),
+            EventTag::BulkError => Some(Event::Text(TextKind::BulkError)),
+            EventTag::Verbatim => Some(Event::Text(TextKind::Verbatim(self.format))),
+            EventTag::Big => Some(Event::Text(TextKind::Big {
                 negative: self.big_negative,
             })),
-            What::Part => Some(Event::Part(&piece[..used])),
-            What::ChunkPart => Some(Event::Part(run(piece, self.part_start, used))),
-            What::Digit => Some(Event::Part(digit_text(self.digit))),
-            What::TextEnd => Some(Event::TextEnd),
-            What::Open => Some(Event::Open(self.kind, Some(self.count))),
-            What::OpenStreamed => Some(Event::Open(self.kind, None)),
-            What::Close => Some(Event::Close),
-            What::Done => Some(Event::Done),
+            EventTag::Part => Some(Event::Part(&piece[..used])),
+            EventTag::ChunkPart => Some(Event::Part(run(piece, self.part_start, used))),
+            EventTag::Digit => Some(Event::Part(digit_text(self.digit))),
+            EventTag::TextEnd => Some(Event::TextEnd),
+            EventTag::Open => Some(Event::Open(self.kind, Some(self.count))),
+            EventTag::OpenStreamed => Some(Event::Open(self.kind, None)),
+            EventTag::Close => Some(Event::Close),
+            EventTag::Done => Some(Event::Done),
         };
         Ok(Step { used, event })
     }
@@ -157,8 +158,8 @@ impl Machine {
     #[inline(always)]
     #[tactic(auto, using(crate::proofs::Places::sound_start, crate::proofs::Places::content_some))]
     pub fn step<'a>(&mut self, piece: &'a [u8]) -> Result<Step<'a>, Fault>
-        requires { IsSound (place self.old) }
-        ensures heard { heard (place self.old).taken result (place self.new) ≡ stepped (advanced (place self.old) piece.now) }
+        requires { IsSound (place_of self.old) }
+        ensures heard { out_of_step (place_of self.old).taken result (place_of self.new) ≡ after_step (out_from (place_of self.old) piece.now) }
         ensures within { IfOk result (λ step. step.used ≤ length piece.now) }
         ensures lent { IfOk result (λ step. IsOfPiece piece.now step) }
         ensures counted { IfErr result (λ fault. fault.at ≡ self.new.taken) }

@@ -5,7 +5,8 @@ mod lifetimes;
 mod limits;
 mod needed;
 
-use crate::event::{Busy, Event, Fault, OpenKind, TextKind};
+use crate::event::{Busy, Event, Fault, TextKind};
+use resp_value::kind::OpenKind;
 use crate::scanner::Scanner;
 use resp_value::cause::Cause;
 use resp_value::limits::Limits;

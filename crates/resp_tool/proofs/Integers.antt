@@ -4,7 +4,7 @@ use Rattle.std.proofs.lemmas.Bool.{ne_eqb}
 use Rattle.std.proofs.lemmas.Bool.Decides.{eqb_tells}
 use Rattle.std.proofs.lemmas.Int.{ints}
 use Rattle.resp_value.specs.Bytes.{crlf}
-use Rattle.resp_value.specs.Numbers.{IsDigits, IsNumber, number, Sign, Unsigned, Plus, Minus, sign_text, signed, is_minus}
+use Rattle.resp_value.specs.Numbers.{IsDigits, IsNumber, number, Sign, Unsigned, Plus, Minus, sign_text, signed_value, is_minus}
 use Rattle.resp_value.specs.Signs.{sign_at, unsigned_part}
 use Rattle.resp_value.specs.Trees.{numeral, Int}
 use Rattle.resp_value.specs.Rules.{IsInRange}
@@ -31,7 +31,7 @@ signed_at Unsigned (d ∷ digits) rest p =
     (rw (no_minus, no_plus) refl, rw (no_minus, no_plus) refl)
 
 -- the value of a sign and digits
-pub signed_is : (sign : Sign) (digits : List ℕ) → signed sign digits ≡ with_sign (is_minus sign) (number digits)
+pub signed_is : (sign : Sign) (digits : List ℕ) → signed_value sign digits ≡ with_sign (is_minus sign) (number digits)
 signed_is Unsigned digits = refl
 signed_is Plus digits = refl
 signed_is Minus digits = refl

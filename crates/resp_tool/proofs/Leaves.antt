@@ -2,7 +2,7 @@
 use Rattle.std.proofs.Common.{◌≡◌, ℕ, suc, ◌≤◌, ◌⊎◌, inl, inr, true, false, ℤ, List, [], ◌∷◌, ◌++◌, length, get_or, Fits, w8, refl, sym, ap, subst, ◌∙◌, arith, append_assoc}
 use Rattle.std.specs.List.{AllByRecursion}
 use Rattle.resp_value.specs.Bytes.{IsByte, IsText, IsLine, crlf}
-use Rattle.resp_value.specs.Numbers.{Unsigned, sign_text, signed, is_minus}
+use Rattle.resp_value.specs.Numbers.{Unsigned, sign_text, signed_value, is_minus}
 use Rattle.resp_value.specs.Signs.{sign_at}
 use Rattle.resp_value.specs.Data.{content_length}
 use Rattle.resp_value.specs.Data as d
@@ -81,7 +81,7 @@ pub no_integer_leaf : (most : ℕ) (input rest : List ℕ) → input ≡ 58 ∷ 
 no_integer_leaf most input rest first none (numeral Int sign digits) behind old in_range is_leaf short e =
     let line : 58 ∷ rest ≡ 58 ∷ ((sign_text sign ++ digits) ++ crlf behind) = sym first ∙ e ∙ append_assoc (58 ∷ (sign_text sign ++ digits)) (crlf []) behind in
     let spelled : rest ≡ (sign_text sign ++ digits) ++ crlf behind = cc in
-    none (signed sign digits) behind (sign, digits, is_leaf, spelled, refl, in_range)
+    none (signed_value sign digits) behind (sign, digits, is_leaf, spelled, refl, in_range)
 no_integer_leaf most input rest first none (numeral Big sign digits) behind old in_range is_leaf short e = absurd old
 no_integer_leaf most input rest first none (line Simple s) behind old in_range is_leaf short e = omega (arith, ap byte_at (sym first ∙ e))
 no_integer_leaf most input rest first none (line Error s) behind old in_range is_leaf short e = omega (arith, ap byte_at (sym first ∙ e))

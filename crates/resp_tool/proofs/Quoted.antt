@@ -2,24 +2,24 @@
 use Rattle.std.proofs.Common.{◌≡◌, ℕ, ◌+◌, ◌<◌, false, true, cond, List, [], ◌∷◌, ◌++◌, length, take, get_or, refl, sym, ap, ◌∙◌, add-one, append-nil, arith}
 use Rattle.std.proofs.lemmas.Grind.{flat_map-append}
 use Rattle.std.proofs.Math.Seq.{take-suc}
-use Rattle.resp_tool.specs.Shown.{is_plain, escaped, quoted_byte, quoted}
+use Rattle.resp_tool.specs.Shown.{is_plain, escape_of, quoted_byte, quoted_text}
 
 -- what is quoted is quoted part by part
-pub quoted-append : (text next : List ℕ) → quoted (text ++ next) ≡ quoted text ++ quoted next
+pub quoted-append : (text next : List ℕ) → quoted_text (text ++ next) ≡ quoted_text text ++ quoted_text next
 quoted-append text next = flat_map-append quoted_byte text next
 
 -- one byte, as it stands inside quotes
-pub quoted-plain : (byte : ℕ) → is_plain byte ≡ true → quoted (byte ∷ []) ≡ byte ∷ []
+pub quoted-plain : (byte : ℕ) → is_plain byte ≡ true → quoted_text (byte ∷ []) ≡ byte ∷ []
 quoted-plain byte h = rw h refl
 
-pub quoted-escaped : (byte : ℕ) → is_plain byte ≡ false → quoted (byte ∷ []) ≡ escaped byte
-quoted-escaped byte h = ap (λ b. cond b (byte ∷ []) (escaped byte) ++ []) h ∙ append-nil (escaped byte)
+pub quoted-escaped : (byte : ℕ) → is_plain byte ≡ false → quoted_text (byte ∷ []) ≡ escape_of byte
+quoted-escaped byte h = ap (λ b. cond b (byte ∷ []) (escape_of byte) ++ []) h ∙ append-nil (escape_of byte)
 
 -- one plain byte more
-pub quoted-take : (text : List ℕ) (n : ℕ) → n < length text → quoted (take n text) ≡ take n text → is_plain (get_or text n 0) ≡ true → quoted (take (n + 1) text) ≡ take (n + 1) text
+pub quoted-take : (text : List ℕ) (n : ℕ) → n < length text → quoted_text (take n text) ≡ take n text → is_plain (get_or text n 0) ≡ true → quoted_text (take (n + 1) text) ≡ take (n + 1) text
 quoted-take text n h e plain =
     let more : take (n + 1) text ≡ take n text ++ get_or text n 0 ∷ [] = ap (λ k. take k text) (add-one n) ∙ take-suc text n 0 h in
-    ap quoted more ∙ quoted-append (take n text) (get_or text n 0 ∷ []) ∙ ap (λ front. front ++ quoted (get_or text n 0 ∷ [])) e ∙ ap (λ last. take n text ++ last) (quoted-plain (get_or text n 0) plain) ∙ sym more
+    ap quoted_text more ∙ quoted-append (take n text) (get_or text n 0 ∷ []) ∙ ap (λ front. front ++ quoted_text (get_or text n 0 ∷ [])) e ∙ ap (λ last. take n text ++ last) (quoted-plain (get_or text n 0) plain) ∙ sym more
 
 -- the first byte doesn't stand for itself, where no byte before it does
 pub escaped_first : (rest behind : List ℕ) (byte n : ℕ) → rest ≡ byte ∷ behind → n ≡ 0 → (n < length rest → is_plain (get_or rest n 0) ≡ false) → is_plain byte ≡ false
@@ -28,6 +28,6 @@ escaped_first rest behind byte n first none h =
     ap is_plain (ap (λ xs. get_or xs 0 0) (sym first) ∙ ap (λ k. get_or rest k 0) (sym none)) ∙ h some
 
 -- a front that is quoted so, and what lies behind it
-pub quoted-split : (text front part behind shown : List ℕ) → text ≡ front ++ (part ++ behind) → quoted part ≡ shown → quoted text ≡ quoted front ++ (shown ++ quoted behind)
+pub quoted-split : (text front part behind shown : List ℕ) → text ≡ front ++ (part ++ behind) → quoted_text part ≡ shown → quoted_text text ≡ quoted_text front ++ (shown ++ quoted_text behind)
 quoted-split text front part behind shown e is_shown =
-    ap quoted e ∙ quoted-append front (part ++ behind) ∙ ap (λ more. quoted front ++ more) (quoted-append part behind ∙ ap (λ more. more ++ quoted behind) is_shown)
+    ap quoted_text e ∙ quoted-append front (part ++ behind) ∙ ap (λ more. quoted_text front ++ more) (quoted-append part behind ∙ ap (λ more. more ++ quoted_text behind) is_shown)

@@ -1,7 +1,7 @@
 -- What was read so far.
 use Rattle.std.proofs.Common.{◌≡◌, ℕ, zero, suc, ◌+◌, ◌<◌, ◌≤◌, List, [], ◌++◌, length, take, drop, Option, None, Some, Ok, refl, sym, ap, ◌∙◌, arith, append_assoc, append-nil, take-append-drop}
 use Rattle.std.proofs.lemmas.List.{take-take, take-append-le}
-use Rattle.resp_value.specs.Devices.{Reads, raised}
+use Rattle.resp_value.specs.Devices.{Reads, count_after}
 use Rattle.resp_tool.specs.Reads.{ReadsAll}
 
 -- so many bytes were read, and the rest is left
@@ -39,21 +39,21 @@ reads_to_end (Some left) (Some now) after bytes into room (rest, e, is) read =
 -- how many calls were made, since a count was this
 pub record HasCalled (n before after : ℕ) : Type 0 where
   pub none : n ≡ 0 → after ≡ before
-  pub some : 0 < n → after ≡ raised n before
+  pub some : 0 < n → after ≡ count_after n before
 
 pub never_called : (count : ℕ) → HasCalled 0 count count
 never_called count = record { none = λ _. refl; some = λ h. absurd (omega arith) }
 
 -- one more call
-pub called_again : (n before mid after : ℕ) → HasCalled n before mid → after ≡ raised 1 mid → HasCalled (n + 1) before after
+pub called_again : (n before mid after : ℕ) → HasCalled n before mid → after ≡ count_after 1 mid → HasCalled (n + 1) before after
 called_again zero before mid after so_far e =
     let same : mid ≡ before = so_far.none refl in
-    record { none = λ h. absurd (omega arith); some = λ _. (e ∙ ap (raised 1) same ∙ first before) }
+    record { none = λ h. absurd (omega arith); some = λ _. (e ∙ ap (count_after 1) same ∙ first before) }
   where
-    first : (count : ℕ) → raised 1 count ≡ raised (0 + 1) count
+    first : (count : ℕ) → count_after 1 count ≡ count_after (0 + 1) count
     first count = omega arith
 called_again (suc n) before mid after so_far e =
-    let some : mid ≡ raised (suc n) before = so_far.some (omega arith) in
+    let some : mid ≡ count_after (suc n) before = so_far.some (omega arith) in
     record { none = λ h. absurd (omega arith); some = λ _. omega arith }
 
 -- the front of a buffer that was read into

@@ -5,20 +5,20 @@ use Rattle.resp_value.specs.Data.{Datum}
 use Rattle.resp_value.specs.Rules.{Rules}
 use Rattle.resp_value.specs.Canonical.{canonical_text, Fits}
 use Rattle.resp_value.specs.Devices.{Appends, HasRisen}
-use Rattle.resp_value.specs.declared.cause.Over.{Over}
-use Rattle.resp_value.specs.declared.cause.Over.TheVariants.{Depth, Length, Items, Total}
+use Rattle.resp_value.specs.declared.cause.Limit.{Limit}
+use Rattle.resp_value.specs.declared.cause.Limit.TheVariants.{Depth, Length, Items, Total}
 use Rattle.resp_encode.specs.Refusals.{IsFirstOver, IsFirstRefusal, IfWrite, to_error}
 use Rattle.resp_encode.specs.declared.error.EncodeError.{EncodeError}
 use Rattle.resp_encode.specs.declared.error.EncodeError.TheVariants as encode
-use Rattle.resp_encode.specs.declared.error.ToError.{ToError}
-use Rattle.resp_encode.specs.declared.error.ToError.TheVariants as to
+use Rattle.resp_encode.specs.declared.error.EncodeToError.{EncodeToError}
+use Rattle.resp_encode.specs.declared.error.EncodeToError.TheVariants as to
 use Rattle.resp_tool.specs.declared.render.RenderError.{RenderError}
 use Rattle.resp_tool.specs.Written.{AppendsPart}
 use Rattle.resp_tool.specs.Renders.{RendersText}
 use Rattle.resp_tool.specs.Canons.{render_error_of}
 
 -- a value over a limit doesn't fit
-over_limit_is_unfit : (rules : Rules) (x : Datum) (over : Over) → IsFirstOver rules x over → Fits rules x → ⊥
+over_limit_is_unfit : (rules : Rules) (x : Datum) (over : Limit) → IsFirstOver rules x over → Fits rules x → ⊥
 over_limit_is_unfit rules x Depth over fits = omega (arith, over, fits.within_depth)
 over_limit_is_unfit rules x Length over fits = omega (arith, over.1, fits.within_length)
 over_limit_is_unfit rules x Items over fits = omega (arith, over.2, fits.within_items)
@@ -34,7 +34,7 @@ first_bytes before after n text appended = record {
 }
 
 -- what the encoder leaves where it refuses
-pub leaves_of_refusal : (rules : Rules) (x : Datum) (before after : Option (List ℕ)) (failures failures' : ℕ) (text : List ℕ) (error : ToError) → IsFirstRefusal rules x error → ((e : EncodeError) → error ≡ to_error e → Appends before after []) → IfWrite (λ n. Appends before after (take n text)) error → IfWrite (λ n. HasRisen failures failures') error → RendersText before after failures failures' (Err (render_error_of error)) text (Fits rules x → ⊥) (Unit {0})
+pub leaves_of_refusal : (rules : Rules) (x : Datum) (before after : Option (List ℕ)) (failures failures' : ℕ) (text : List ℕ) (error : EncodeToError) → IsFirstRefusal rules x error → ((e : EncodeError) → error ≡ to_error e → Appends before after []) → IfWrite (λ n. Appends before after (take n text)) error → IfWrite (λ n. HasRisen failures failures') error → RendersText before after failures failures' (Err (render_error_of error)) text (Fits rules x → ⊥) (Unit {0})
 leaves_of_refusal rules x before after failures failures' text to.NotInVersion refused nothing part failed =
     (nothing encode.NotInVersion refl, λ fits. refused fits.has_types)
 leaves_of_refusal rules x before after failures failures' text to.NestedPush refused nothing part failed =
@@ -47,7 +47,7 @@ leaves_of_refusal rules x before after failures failures' text (to.Write written
     (first_bytes before after written text part, failed)
 
 -- the same of an equal value, and of an outcome with an equal error
-pub leaves_of_equal : (rules : Rules) (x y : Datum) (before after : Option (List ℕ)) (failures failures' : ℕ) (error : ToError) (r : Result (Unit {0}) RenderError) → r ≡ Err (render_error_of error) → x ≡ y → RendersText before after failures failures' (Err (render_error_of error)) (canonical_text rules.version x) (Fits rules x → ⊥) (Unit {0}) → RendersText before after failures failures' r (canonical_text rules.version y) (Fits rules y → ⊥) (Unit {0})
+pub leaves_of_equal : (rules : Rules) (x y : Datum) (before after : Option (List ℕ)) (failures failures' : ℕ) (error : EncodeToError) (r : Result (Unit {0}) RenderError) → r ≡ Err (render_error_of error) → x ≡ y → RendersText before after failures failures' (Err (render_error_of error)) (canonical_text rules.version x) (Fits rules x → ⊥) (Unit {0}) → RendersText before after failures failures' r (canonical_text rules.version y) (Fits rules y → ⊥) (Unit {0})
 leaves_of_equal rules x y before after failures failures' error r is_error is_equal leaves =
     subst (λ outcome. RendersText before after failures failures' outcome (canonical_text rules.version y) (Fits rules y → ⊥) (Unit {0})) (sym is_error)
     (subst (λ z. RendersText before after failures failures' (Err (render_error_of error)) (canonical_text rules.version z) (Fits rules z → ⊥) (Unit {0})) is_equal leaves)

@@ -2,7 +2,7 @@
 use Rattle.std.specs.Prelude.{◌≡◌, ℕ, ◌≤◌, Bool, true, false, ℤ, pos, List, [], ◌∷◌, ◌++◌, length}
 use Rattle.std.proofs.Common.{neg_ℤ}
 use Rattle.resp_value.specs.Bytes.{IsLine, crlf}
-use Rattle.resp_value.specs.Numbers.{IsDigits, IsNumber, number, Sign, sign_text, signed}
+use Rattle.resp_value.specs.Numbers.{IsDigits, IsNumber, number, Sign, sign_text, signed_value}
 use Rattle.resp_value.specs.Data.{Datum, content_length}
 use Rattle.resp_value.specs.Data as d
 use Rattle.resp_value.specs.Trees.{Leaf, leaf, numeral, Int, Spells, IsLeaf, leaf_text}
@@ -34,7 +34,7 @@ with_sign false n = pos n
 
 -- the input is a signed integer's line, of this value, and then more
 abbrev pub SaysInteger : ℤ → List ℕ → List ℕ → Type 0
-SaysInteger i input behind = (sign : Sign) × (digits : List ℕ) × IsDigits digits × (input ≡ (sign_text sign ++ digits) ++ crlf behind) × (signed sign digits ≡ i) × IsInRange (numeral Int sign digits)
+SaysInteger i input behind = (sign : Sign) × (digits : List ℕ) × IsDigits digits × (input ≡ (sign_text sign ++ digits) ++ crlf behind) × (signed_value sign digits ≡ i) × IsInRange (numeral Int sign digits)
 
 -- the input is a length, CR LF, so many bytes and CR LF, and then more
 abbrev pub SaysBulk : List ℕ → List ℕ → List ℕ → Type 0

@@ -14,8 +14,8 @@ abbrev pub hex_digit : ℕ → ℕ
 hex_digit n = cond (nat_lt n 10) (n + 48) (n + 87)
 
 -- a byte inside quotes that doesn't stand for itself
-abbrev pub escaped : ℕ → List ℕ
-escaped byte =
+abbrev pub escape_of : ℕ → List ℕ
+escape_of byte =
     cond (byte == 34) (92 ∷ 34 ∷ [])
     (cond (byte == 92) (92 ∷ 92 ∷ [])
     (cond (byte == 13) (92 ∷ 114 ∷ [])
@@ -25,15 +25,15 @@ escaped byte =
 
 -- a byte inside quotes
 abbrev pub quoted_byte : ℕ → List ℕ
-quoted_byte byte = cond (is_plain byte) (byte ∷ []) (escaped byte)
+quoted_byte byte = cond (is_plain byte) (byte ∷ []) (escape_of byte)
 
 -- a text inside quotes
-abbrev pub quoted : List ℕ → List ℕ
-quoted text = flat_map quoted_byte text
+abbrev pub quoted_text : List ℕ → List ℕ
+quoted_text text = flat_map quoted_byte text
 
 -- a word, the quoted text, and the number of its bytes
 abbrev pub string_line : List ℕ → List ℕ → List ℕ
-string_line word text = word ++ codes " \"" ++ quoted text ++ codes "\" " ++ decimal (length text) ++ codes "\n"
+string_line word text = word ++ codes " \"" ++ quoted_text text ++ codes "\" " ++ decimal (length text) ++ codes "\n"
 
 abbrev pub truth_word : Bool → List ℕ
 truth_word true = codes "true"
@@ -53,7 +53,7 @@ scalar_line (Error text) = string_line (codes "error") text
 scalar_line (Double text) = string_line (codes "double") text
 scalar_line (Bulk text) = string_line (codes "bulk") text
 scalar_line (BulkError text) = string_line (codes "bulkerror") text
-scalar_line (Verbatim format text) = codes "verbatim \"" ++ quoted format ++ codes "\" \"" ++ quoted text ++ codes "\" " ++ decimal (length text) ++ codes "\n"
+scalar_line (Verbatim format text) = codes "verbatim \"" ++ quoted_text format ++ codes "\" \"" ++ quoted_text text ++ codes "\" " ++ decimal (length text) ++ codes "\n"
 scalar_line (Big negative digits) = codes "big " ++ minus_if negative ++ digits ++ codes "\n"
 
 abbrev pub kind_word : Kind → List ℕ

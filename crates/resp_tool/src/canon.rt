@@ -2,7 +2,7 @@
 
 ghost use Rattle.std.specs.Prelude.{◌≡◌, ◌+◌, ◌≤◌, [], Some, OnOk, IfErr, IfSome, IsErrOf};
 ghost use Rattle.resp_value.specs.Canonical.{canonical_text, Fits};
-ghost use Rattle.resp_value.specs.Devices.{raised, HasRisen};
+ghost use Rattle.resp_value.specs.Devices.{count_after, HasRisen};
 ghost use Rattle.resp_tool.specs.Canons.{render_error_of};
 ghost use Rattle.resp_tool.specs.Renders.{RendersAll, RendersFront, RendersPart, OnRefused, OnOverLimits, OnPart, IsRefusedRest, IsSomeRest, IsUnfitRest, stream_rules};
 
@@ -11,7 +11,7 @@ use crate::render::{RenderError, Rendering, render_all};
 use crate::scalar_reader::Scalar;
 use crate::scalar_value::to_value;
 use crate::tool_error::{MOST_VALUES, ToolError};
-use resp_encode::{ToError, encode_to};
+use resp_encode::{EncodeToError, encode_to};
 use resp_value::device::{Sink, Source};
 use resp_value::limits::Limits;
 use resp_value::version::Version;
@@ -39,15 +39,15 @@ impl Rendering for Canonical<'_> {
     }
 }
 
-impl From<ToError> for RenderError {
+impl From<EncodeToError> for RenderError {
     ghost from_gives = { λ error converted. converted ≡ render_error_of error };
 
-    fn from(error: ToError) -> RenderError {
+    fn from(error: EncodeToError) -> RenderError {
         match error {
-            ToError::NotInVersion | ToError::NestedPush | ToError::OverLimits(_) =>
+            EncodeToError::NotInVersion | EncodeToError::NestedPush | EncodeToError::OverLimits(_) =>
                 RenderError::OverLimits,
-            ToError::OutOfMemory => RenderError::Memory,
-            ToError::Write { .. } => RenderError::Write,
+            EncodeToError::OutOfMemory => RenderError::Memory,
+            EncodeToError::Write { .. } => RenderError::Write,
         }
     }
 }
@@ -78,7 +78,7 @@ pub fn canon<R: Source, W: Sink>(
 
     // A device or memory that failed.
     ensures read { IsErrOf result ToolError.Read → HasRisen (R.failures reader.old) (R.failures reader.new) × (writer.new ≡ writer.old) }
-    ensures turns { IsErrOf result ToolError.TooManyTurns → (R.calls reader.new ≡ raised MOST_READS (R.calls reader.old)) × (writer.new ≡ writer.old) }
+    ensures turns { IsErrOf result ToolError.TooManyTurns → (R.calls reader.new ≡ count_after MOST_READS (R.calls reader.old)) × (writer.new ≡ writer.old) }
     ensures write { IsErrOf result ToolError.Write → HasRisen (W.failures writer.old) (W.failures writer.new) }
     ensures part { IfErr result (λ error. OnPart error (IfSome (R.remaining reader.old) (λ input.
         RendersPart (canonical_text version) (stream_rules version limits.now) input (W.written writer.old) (W.written writer.new)))) }

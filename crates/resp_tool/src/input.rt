@@ -1,7 +1,7 @@
 //! The whole input, read piece by piece.
 
 ghost use Rattle.std.specs.Prelude.{◌≡◌, ◌≤◌, IfOk, IfErr, IsErrOf};
-ghost use Rattle.resp_value.specs.Devices.{raised, HasRisen};
+ghost use Rattle.resp_value.specs.Devices.{count_after, HasRisen};
 ghost use Rattle.resp_tool.specs.Reads.{ReadsAll, IsReadError};
 
 use crate::tool_error::ToolError;
@@ -20,7 +20,7 @@ pub fn read_all<R: Source>(
     requires { 1 ≤ piece }
     ensures all { IfOk result (λ bytes. ReadsAll (R.remaining reader.old) (R.remaining reader.new) bytes.items) }
     ensures read { IsErrOf result ToolError.Read → HasRisen (R.failures reader.old) (R.failures reader.new) }
-    ensures turns { IsErrOf result ToolError.TooManyTurns → R.calls reader.new ≡ raised MOST_READS (R.calls reader.old) }
+    ensures turns { IsErrOf result ToolError.TooManyTurns → R.calls reader.new ≡ count_after MOST_READS (R.calls reader.old) }
     ensures others { IfErr result IsReadError }
 {
     let mut bytes = Vec::new(alloc);

@@ -1,7 +1,7 @@
 //! `show`: each value of a stream as a line of text.
 
 ghost use Rattle.std.specs.Prelude.{◌≡◌, ◌+◌, ◌≤◌, [], Some, OnOk, IfErr, IfSome, IsErrOf};
-ghost use Rattle.resp_value.specs.Devices.{raised, HasRisen};
+ghost use Rattle.resp_value.specs.Devices.{count_after, HasRisen};
 ghost use Rattle.resp_tool.specs.Shown.{shown_text};
 ghost use Rattle.resp_tool.specs.Renders.{RendersAll, RendersFront, RendersPart, OnRefused, OnUnread, IsRefusedRest, IsSomeRest, IsShowError, stream_rules};
 
@@ -54,7 +54,7 @@ pub fn show<R: Source, W: Sink>(
 
     // A device or memory that failed.
     ensures read { IsErrOf result ToolError.Read → HasRisen (R.failures reader.old) (R.failures reader.new) }
-    ensures turns { IsErrOf result ToolError.TooManyTurns → R.calls reader.new ≡ raised MOST_READS (R.calls reader.old) }
+    ensures turns { IsErrOf result ToolError.TooManyTurns → R.calls reader.new ≡ count_after MOST_READS (R.calls reader.old) }
     ensures write { IsErrOf result ToolError.Write → HasRisen (W.failures writer.old) (W.failures writer.new) }
     ensures part { IsErrOf result ToolError.Write → IfSome (R.remaining reader.old) (λ input.
         RendersPart shown_text (stream_rules version limits.now) input (W.written writer.old) (W.written writer.new)) }

@@ -1,7 +1,7 @@
 //! The line that `show` prints for a value without members.
 
 ghost use Rattle.std.specs.Prelude.{◌++◌, length, decimal, codes};
-ghost use Rattle.resp_tool.specs.Shown.{quoted, scalar_line};
+ghost use Rattle.resp_tool.specs.Shown.{quoted_text, scalar_line};
 ghost use Rattle.resp_tool.specs.Scalars.{scalar_data};
 ghost use Rattle.resp_tool.specs.Written.{WritesText};
 
@@ -11,7 +11,7 @@ use resp_value::device::{Sink, WriteFault};
 
 /// Writes the words up to a quoted text, that text, and the number of its bytes.
 fn write_string<W: Sink>(writer: &mut W, words: &[u8], text: &[u8]) -> Result<(), WriteFault>
-    ensures { WritesText (W.written writer.old) (W.written writer.new) (W.failures writer.old) (W.failures writer.new) result (words.now ++ quoted text.now ++ codes "\" " ++ decimal (length text.now) ++ codes "\n") }
+    ensures { WritesText (W.written writer.old) (W.written writer.new) (W.failures writer.old) (W.failures writer.new) result (words.now ++ quoted_text text.now ++ codes "\" " ++ decimal (length text.now) ++ codes "\n") }
 {
     write_text(writer, words)?;
     write_quoted(writer, text)?;

@@ -1,7 +1,7 @@
 //! Text to a writer: plain pieces, numbers, and quoted bytes.
 
 ghost use Rattle.std.specs.Prelude.{◌≡◌, ◌++◌, ◌<◌, ◌≤◌, false, length, take, slice_index};
-ghost use Rattle.resp_tool.specs.Shown.{is_plain, hex_digit, escaped, quoted};
+ghost use Rattle.resp_tool.specs.Shown.{is_plain, hex_digit, escape_of, quoted_text};
 ghost use Rattle.resp_tool.specs.Written.{WritesText};
 
 use itoa::{Buffer, Integer};
@@ -44,7 +44,7 @@ fn hex_digit(n: u8) -> u8
 
 /// Writes a byte that doesn't stand for itself inside quotes.
 fn write_escaped<W: Sink>(writer: &mut W, byte: u8) -> Result<(), WriteFault>
-    ensures { WritesText (W.written writer.old) (W.written writer.new) (W.failures writer.old) (W.failures writer.new) result (escaped byte) }
+    ensures { WritesText (W.written writer.old) (W.written writer.new) (W.failures writer.old) (W.failures writer.new) result (escape_of byte) }
 {
     match byte {
         b'"' => write_text(writer, b"\\\""),
@@ -62,7 +62,7 @@ fn write_escaped<W: Sink>(writer: &mut W, byte: u8) -> Result<(), WriteFault>
 /// How many bytes stand before the first that doesn't stand for itself inside quotes.
 fn plain_length(text: &[u8]) -> usize
     ensures within { result ≤ length text.now }
-    ensures plain { quoted (take result text.now) ≡ take result text.now }
+    ensures plain { quoted_text (take result text.now) ≡ take result text.now }
     ensures whole { result < length text.now → is_plain (slice_index text.now result) ≡ false }
 {
     for (index, byte) in text.iter().enumerate() {
@@ -75,7 +75,7 @@ fn plain_length(text: &[u8]) -> usize
 
 /// Writes a text as it stands inside quotes.
 pub fn write_quoted<W: Sink>(writer: &mut W, text: &[u8]) -> Result<(), WriteFault>
-    ensures { WritesText (W.written writer.old) (W.written writer.new) (W.failures writer.old) (W.failures writer.new) result (quoted text.now) }
+    ensures { WritesText (W.written writer.old) (W.written writer.new) (W.failures writer.old) (W.failures writer.new) result (quoted_text text.now) }
 {
     let mut rest = text;
     while let Some((byte, behind)) = rest.split_first() {

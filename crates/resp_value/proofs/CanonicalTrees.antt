@@ -5,12 +5,12 @@ use Rattle.std.specs.Int.Digits.{number_from_digits, digits_of, AllBelowBase}
 use Rattle.std.proofs.lemmas.Int.Digits.{number_digits_of, all_below_base_digits_of, length-digits_of_step}
 use Rattle.std.proofs.lemmas.List.{length-map}
 use Rattle.std.proofs.lemmas.Bool.Decides.{eqb_tells}
-use Rattle.resp_value.specs.Numbers.{IsDigits, IsDigit, IsNumber, number, decimal, signed, kept, is_minus, is_negative}
+use Rattle.resp_value.specs.Numbers.{IsDigits, IsDigit, IsNumber, number, decimal, signed_value, kept_digits, is_minus, is_below_zero}
 use Rattle.resp_value.specs.Data.{Kind, Array, Set, Map, Attr, Push, members_of, items_of, Scalar, Datum, Data, scalar, aggregate}
 use Rattle.resp_value.specs.Data as d
 use Rattle.resp_value.specs.Trees.{count, IsTree, AreTrees, IsLeaf, Spells}
 use Rattle.resp_value.specs.TreeValues.{value, values, leaf_value}
-use Rattle.resp_value.specs.Canonical.{canonical_tree, canonical_trees, canonical_leaf, canonical_text, minus_if, int_sign, int_size, IsValue, AreValues, IsScalarValue, IsWhole}
+use Rattle.resp_value.specs.Canonical.{canonical_tree, canonical_trees, canonical_leaf, canonical_text, sign_of, int_sign, int_size, IsValue, AreValues, IsScalarValue, IsWhole}
 use Rattle.resp_value.specs.declared.version.Version.{Version}
 
 -- what is added to digits can be taken away
@@ -46,21 +46,21 @@ pub decimal_is_number : (n : ℕ) → IsNumber n (decimal n)
 decimal_is_number n = (decimal_is_digits n, number-decimal n)
 
 -- an integer's sign and digits say it
-pub signed-decimal : (i : ℤ) → signed (int_sign i) (decimal (int_size i)) ≡ i
+pub signed-decimal : (i : ℤ) → signed_value (int_sign i) (decimal (int_size i)) ≡ i
 signed-decimal (pos n) = ap pos (number-decimal n)
 signed-decimal (negsuc n) = ap (λ m. neg_ℤ (pos m)) (number-decimal (n + 1) ∙ add-one n)
 
 -- a big number is negative as it says, since zero isn't
-is_negative-minus_if : (negative : Bool) (digits : List ℕ) → (number digits ≡ 0 → negative ≡ false) → is_negative (minus_if negative) digits ≡ negative
+is_negative-minus_if : (negative : Bool) (digits : List ℕ) → (number digits ≡ 0 → negative ≡ false) → is_below_zero (sign_of negative) digits ≡ negative
 is_negative-minus_if negative digits h = cases (eqb_tells (number digits) 0)
   where
-    is_minus-minus_if : (b : Bool) → is_minus (minus_if b) ≡ b
+    is_minus-minus_if : (b : Bool) → is_minus (sign_of b) ≡ b
     is_minus-minus_if true = refl
     is_minus-minus_if false = refl
 
-    cases : ((eqb (number digits) 0 ≡ true) × (number digits ≡ 0)) ⊎ ((eqb (number digits) 0 ≡ false) × (number digits ≢ 0)) → is_negative (minus_if negative) digits ≡ negative
-    cases (inl p) = ap (λ b. cond b false (is_minus (minus_if negative))) p.0 ∙ sym (h p.1)
-    cases (inr p) = ap (λ b. cond b false (is_minus (minus_if negative))) p.0 ∙ is_minus-minus_if negative
+    cases : ((eqb (number digits) 0 ≡ true) × (number digits ≡ 0)) ⊎ ((eqb (number digits) 0 ≡ false) × (number digits ≢ 0)) → is_below_zero (sign_of negative) digits ≡ negative
+    cases (inl p) = ap (λ b. cond b false (is_minus (sign_of negative))) p.0 ∙ sym (h p.1)
+    cases (inr p) = ap (λ b. cond b false (is_minus (sign_of negative))) p.0 ∙ is_minus-minus_if negative
 
 leaf_value-canonical_leaf : (w : Version) (s : Scalar) → IsScalarValue s → leaf_value (canonical_leaf w s) ≡ s
 leaf_value-canonical_leaf w d.Null p = refl
@@ -73,8 +73,8 @@ leaf_value-canonical_leaf w (d.Bulk s) p = refl
 leaf_value-canonical_leaf w (d.BulkError s) p = refl
 leaf_value-canonical_leaf w (d.Verbatim format s) p = refl
 leaf_value-canonical_leaf w (d.Big negative digits) p =
-    let h : is_negative (minus_if negative) digits ≡ negative = is_negative-minus_if negative digits p.2 in
-    let k : kept digits ≡ digits = p.1 in
+    let h : is_below_zero (sign_of negative) digits ≡ negative = is_negative-minus_if negative digits p.2 in
+    let k : kept_digits digits ≡ digits = p.1 in
     cc
 
 canonical_leaf_is_leaf : (w : Version) (s : Scalar) → IsScalarValue s → IsLeaf (canonical_leaf w s)

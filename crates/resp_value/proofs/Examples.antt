@@ -9,7 +9,7 @@ use Rattle.resp_value.specs.Trees.{Tree, leaf, node, none, more, line, numeral, 
 use Rattle.resp_value.specs.TreeValues.{value}
 use Rattle.resp_value.specs.Rules.{Rules, NotStreamed, Meets, Every, HasVersion, IsLeafInTwo, IsNodeInTwo, IsCountedLeaf, IsCountedNode}
 use Rattle.resp_value.specs.Spellings.{IsSpelling}
-use Rattle.resp_value.specs.Examples.{simple, IsSpelled, IsSpelledInThree, IsSpelledStreamed}
+use Rattle.resp_value.specs.Examples.{simple, IsSpelledInBoth, IsSpelledInThree, IsSpelledStreamed}
 use Rattle.resp_value.proofs.Splitting.{plain_above}
 use Rattle.resp_value.proofs.ByTests.{bytes_by_test, digits_by_test}
 use Rattle.resp_value.proofs.SmallTrees.{IsSmall, small_meets, small_leaf, small_node, one_digit, in_each_version, if_counted}
@@ -18,7 +18,7 @@ use Rattle.resp_value.proofs.SmallTrees.{IsSmall, small_meets, small_leaf, small
 small_spells : (r : Rules) (t : Tree) → AreBounds r.limits → IsSmall t → HasVersion r.version t → Meets r NotStreamed t → IsSpelling r (value t) (text t)
 small_spells r t b s w f = record { tree = t; spells = record { is_tree = s.is_tree; spelled = refl }; keeps = λ rule h. small_meets r t b s w f rule; valued = refl }
 
-in_both : (t : Tree) → IsSmall t → Every IsLeafInTwo IsNodeInTwo t → Every IsCountedLeaf IsCountedNode t → IsSpelled (text t) (value t)
+in_both : (t : Tree) → IsSmall t → Every IsLeafInTwo IsNodeInTwo t → Every IsCountedLeaf IsCountedNode t → IsSpelledInBoth (text t) (value t)
 in_both t s w c r b = small_spells r t b s (in_each_version r.version t w) (if_counted r t c)
 
 in_three : (t : Tree) → IsSmall t → Every IsCountedLeaf IsCountedNode t → IsSpelledInThree (text t) (value t)
@@ -27,31 +27,31 @@ in_three t s c r b is_three = small_spells r t b s (subst (λ w. HasVersion w t)
 streamed : (t : Tree) → IsSmall t → IsSpelledStreamed (text t) (value t)
 streamed t s r b is_three on = small_spells r t b s (subst (λ w. HasVersion w t) (sym is_three) tt) (λ off. absurd (cc))
 
-pub plus_and_zeros : IsSpelled (codes ":+007\r\n") (scalar (d.Int (pos 7)))
+pub plus_and_zeros : IsSpelledInBoth (codes ":+007\r\n") (scalar (d.Int (pos 7)))
 plus_and_zeros =
     let t = numeral Int Plus (codes "007") in
     in_both (leaf t) (small_leaf t (digits_by_test (codes "007") (omega arith) refl) tt (omega (arith, ints), omega (arith, ints)) (omega arith) (omega arith)) tt tt
 
-pub minus_zero : IsSpelled (codes ":-0\r\n") (scalar (d.Int (pos 0)))
+pub minus_zero : IsSpelledInBoth (codes ":-0\r\n") (scalar (d.Int (pos 0)))
 minus_zero =
     let t = numeral Int Minus (codes "0") in
     in_both (leaf t) (small_leaf t (one_digit 48 (omega arith) (omega arith)) tt (omega (arith, ints), omega (arith, ints)) (omega arith) (omega arith)) tt tt
 
-pub length_with_zero : IsSpelled (codes "$01\r\na\r\n") (scalar (d.Bulk (codes "a")))
+pub length_with_zero : IsSpelledInBoth (codes "$01\r\na\r\n") (scalar (d.Bulk (codes "a")))
 length_with_zero =
     let t = string Bulk (codes "01") (codes "a") in
     in_both (leaf t) (small_leaf t ((digits_by_test (codes "01") (omega arith) refl, refl), tt, (omega arith, tt)) tt tt (omega arith) (omega arith)) tt tt
 
-pub bulk_null : IsSpelled (codes "$-1\r\n") (scalar d.Null)
+pub bulk_null : IsSpelledInBoth (codes "$-1\r\n") (scalar d.Null)
 bulk_null = in_both (leaf (null BulkNull)) (small_leaf (null BulkNull) tt tt tt (omega arith) (omega arith)) tt tt
 
-pub array_null : IsSpelled (codes "*-1\r\n") (scalar d.Null)
+pub array_null : IsSpelledInBoth (codes "*-1\r\n") (scalar d.Null)
 array_null = in_both (leaf (null ArrayNull)) (small_leaf (null ArrayNull) tt tt tt (omega arith) (omega arith)) tt tt
 
 pub plain_null : IsSpelledInThree (codes "_\r\n") (scalar d.Null)
 plain_null = in_three (leaf (null PlainNull)) (small_leaf (null PlainNull) tt tt tt (omega arith) (omega arith)) tt
 
-pub error : IsSpelled (codes "-a\r\n") (scalar (d.Error (codes "a")))
+pub error : IsSpelledInBoth (codes "-a\r\n") (scalar (d.Error (codes "a")))
 error =
     let t = line Error (codes "a") in
     in_both (leaf t) (small_leaf t ((plain_above 97 (omega arith), tt), (omega arith, tt)) tt tt (omega arith) (omega arith)) tt tt
@@ -110,7 +110,7 @@ attribute =
     in_three (node Array (Counted (codes "1")) ts) (small_node Array (Counted (codes "1")) ts ((one, refl), (((one, refl), (simple_is_line 97 (omega arith) (omega arith), (one, (simple_is_line 98 (omega arith) (omega arith), tt)))), tt)) ((tt, (tt, (tt, (tt, tt)))), tt) ((tt, (tt, (tt, (tt, tt)))), tt) ((tt, (tt, ((omega (arith, ints), omega (arith, ints)), (tt, tt)))), tt) (omega arith) (omega arith) (omega arith) (omega arith)) (tt, ((tt, (tt, (tt, (tt, tt)))), tt))
 
 -- a simple string of one byte is spelled
-pub small_line : (byte : ℕ) → 13 < byte → byte < 256 → IsSpelled (43 ∷ byte ∷ codes "\r\n") (simple (byte ∷ []))
+pub small_line : (byte : ℕ) → 13 < byte → byte < 256 → IsSpelledInBoth (43 ∷ byte ∷ codes "\r\n") (simple (byte ∷ []))
 small_line byte above below =
     let t = line Simple (byte ∷ []) in
     in_both (leaf t) (small_leaf t (simple_is_line byte above below) tt tt (omega arith) (omega arith)) tt tt

@@ -22,9 +22,9 @@ abbrev pub int_size : ℤ → ℕ
 int_size (pos n) = n
 int_size (negsuc n) = n + 1
 
-abbrev pub minus_if : Bool → Sign
-minus_if true = Minus
-minus_if false = Unsigned
+abbrev pub sign_of : Bool → Sign
+sign_of true = Minus
+sign_of false = Unsigned
 
 abbrev pub canonical_leaf : Version → Scalar → Leaf
 canonical_leaf w d.Null = null (null_form w)
@@ -36,7 +36,7 @@ canonical_leaf w (d.Double s) = line Double s
 canonical_leaf w (d.Bulk s) = string Bulk (decimal (length s)) s
 canonical_leaf w (d.BulkError s) = string BulkError (decimal (length s)) s
 canonical_leaf w (d.Verbatim format s) = string (Verbatim format) (decimal (length s + 4)) s
-canonical_leaf w (d.Big negative digits) = numeral Big (minus_if negative) digits
+canonical_leaf w (d.Big negative digits) = numeral Big (sign_of negative) digits
 
 abbrev mutual
   pub canonical_tree : Version → Datum → Tree

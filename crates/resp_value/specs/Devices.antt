@@ -7,8 +7,8 @@ abbrev pub last_count : ℕ
 last_count = 18446744073709551615
 
 -- a count after so many more: at its last value it stays
-abbrev pub raised : ℕ → ℕ → ℕ
-raised n count = min (count + n) last_count
+abbrev pub count_after : ℕ → ℕ → ℕ
+count_after n count = min (count + n) last_count
 
 -- a count has risen, or is at its last value and passes as risen
 abbrev pub HasRisen : ℕ → ℕ → Type 0
@@ -49,7 +49,7 @@ write_fails (Err fault) = true
 
 -- a count of failures after a call that failed or didn't
 abbrev pub failures_after : Bool → ℕ → ℕ
-failures_after true failures = raised 1 failures
+failures_after true failures = count_after 1 failures
 failures_after false failures = failures
 
 -- what a source over memory has still to give
@@ -66,9 +66,9 @@ pub record SourceState : Type 0 where
   pub failures : ℕ
 
 -- a number, or the limit where that is less
-abbrev pub limited : Option ℕ → ℕ → ℕ
-limited None n = n
-limited (Some limit) n = min limit n
+abbrev pub at_most : Option ℕ → ℕ → ℕ
+at_most None n = n
+at_most (Some limit) n = min limit n
 
 -- a limit, after so much of it was used
 abbrev pub limit_after : Option ℕ → ℕ → Option ℕ
@@ -77,19 +77,19 @@ limit_after (Some limit) n = Some (limit - n)
 
 -- how many bytes a read moves into so much room
 abbrev pub read_count : SourceState → ℕ → ℕ
-read_count source room = limited source.sound (min source.most (min room (length source.left)))
+read_count source room = at_most source.sound (min source.most (min room (length source.left)))
 
 -- a source after a read of so many bytes
 abbrev pub after_read : SourceState → ℕ → SourceState
 after_read source n = record source {
   left = drop n source.left;
   sound = limit_after source.sound n;
-  calls = raised 1 source.calls;
+  calls = count_after 1 source.calls;
 }
 
 -- a source after a read that failed
 abbrev pub after_failed_read : SourceState → SourceState
-after_failed_read source = record source { calls = raised 1 source.calls; failures = raised 1 source.failures }
+after_failed_read source = record source { calls = count_after 1 source.calls; failures = count_after 1 source.failures }
 
 -- what a sink over memory holds, and what it still takes
 pub record SinkState : Type 0 where
@@ -113,13 +113,13 @@ abbrev pub after_write : SinkState → List ℕ → ℕ → SinkState
 after_write sink text n = record sink {
   held = sink.held ++ take n text;
   sound = sink.sound - n;
-  calls = raised 1 sink.calls;
+  calls = count_after 1 sink.calls;
   failures = failures_after (n == 0) sink.failures;
 }
 
 -- a sink after a write that failed
 abbrev pub after_failed_write : SinkState → SinkState
-after_failed_write sink = record sink { calls = raised 1 sink.calls; failures = raised 1 sink.failures }
+after_failed_write sink = record sink { calls = count_after 1 sink.calls; failures = count_after 1 sink.failures }
 
 -- a reader or a writer of std, with its counts
 pub record DeviceState (T : Type 0) : Type 0 where

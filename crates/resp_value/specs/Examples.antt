@@ -19,8 +19,8 @@ abbrev pub aggregate_of : Kind → List Datum → Datum
 aggregate_of kind members = aggregate kind (data_of_list members)
 
 -- the text is a spelling of the value in both versions, under all limits
-abbrev pub IsSpelled : List ℕ → Datum → Type 0
-IsSpelled text x = (r : Rules) → AreBounds r.limits → IsSpelling r x text
+abbrev pub IsSpelledInBoth : List ℕ → Datum → Type 0
+IsSpelledInBoth text x = (r : Rules) → AreBounds r.limits → IsSpelling r x text
 
 -- the text is a spelling of the value in version 3, under all limits
 abbrev pub IsSpelledInThree : List ℕ → Datum → Type 0

@@ -2,6 +2,7 @@ pub mod Bytes
 pub mod Numbers
 pub mod Signs
 pub mod Data
+pub mod Kinds
 pub mod Trees
 pub mod TreeValues
 pub mod Bounds

@@ -41,19 +41,19 @@ is_minus Plus = false
 is_minus Minus = true
 
 -- the value of digits behind a sign
-abbrev pub signed : Sign → List ℕ → ℤ
-signed Unsigned digits = pos (number digits)
-signed Plus digits = pos (number digits)
-signed Minus digits = neg_ℤ (pos (number digits))
+abbrev pub signed_value : Sign → List ℕ → ℤ
+signed_value Unsigned digits = pos (number digits)
+signed_value Plus digits = pos (number digits)
+signed_value Minus digits = neg_ℤ (pos (number digits))
 
 -- an optional sign, and one or more digits
 abbrev pub IsSignedDigits : List ℕ → Type 0
 IsSignedDigits text = (sign : Sign) × (digits : List ℕ) × IsDigits digits × (text ≡ sign_text sign ++ digits)
 
 -- digits without leading zeros: none where all of them are zeros
-abbrev pub stripped : List ℕ → List ℕ
-stripped [] = []
-stripped (digit ∷ digits) = cond (eqb digit 48) (stripped digits) (digit ∷ digits)
+abbrev pub significant_digits : List ℕ → List ℕ
+significant_digits [] = []
+significant_digits (digit ∷ digits) = cond (eqb digit 48) (significant_digits digits) (digit ∷ digits)
 
 -- a lone zero in the place of no digit
 abbrev pub zero_if_none : List ℕ → List ℕ
@@ -61,17 +61,17 @@ zero_if_none [] = 48 ∷ []
 zero_if_none (digit ∷ digits) = digit ∷ digits
 
 -- the digits that a big number keeps: without leading zeros, and `0` for zero
-abbrev pub kept : List ℕ → List ℕ
-kept digits = zero_if_none (stripped digits)
+abbrev pub kept_digits : List ℕ → List ℕ
+kept_digits digits = zero_if_none (significant_digits digits)
 
 -- whether a big number is negative: zero never is
-abbrev pub is_negative : Sign → List ℕ → Bool
-is_negative sign digits = cond (eqb (number digits) 0) false (is_minus sign)
+abbrev pub is_below_zero : Sign → List ℕ → Bool
+is_below_zero sign digits = cond (eqb (number digits) 0) false (is_minus sign)
 
 -- a sign and digits as a big number keeps them
 abbrev pub IsKept : Bool → List ℕ → Type 0
-IsKept negative digits = IsDigits digits × (kept digits ≡ digits) × (number digits ≡ 0 → negative ≡ false)
+IsKept negative digits = IsDigits digits × (kept_digits digits ≡ digits) × (number digits ≡ 0 → negative ≡ false)
 
 -- what a big number keeps of a text that is an optional sign and digits
 abbrev pub KeepsDigits : List ℕ → Bool → List ℕ → Type 0
-KeepsDigits text negative digits = (sign : Sign) × (written : List ℕ) × IsDigits written × (text ≡ sign_text sign ++ written) × (negative ≡ is_negative sign written) × (digits ≡ kept written)
+KeepsDigits text negative digits = (sign : Sign) × (written : List ℕ) × IsDigits written × (text ≡ sign_text sign ++ written) × (negative ≡ is_below_zero sign written) × (digits ≡ kept_digits written)

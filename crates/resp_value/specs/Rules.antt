@@ -1,7 +1,7 @@
 -- The rules of a version and limits, in their order: each leaves fewer trees than the one before.
 use Rattle.std.specs.Prelude.{◌≡◌, ℕ, ◌^◌, ◌≤◌, false, pos, ◌≤ℤ◌, ◌<ℤ◌, length}
 use Rattle.std.proofs.Common.{neg_ℤ}
-use Rattle.resp_value.specs.Numbers.{signed}
+use Rattle.resp_value.specs.Numbers.{signed_value}
 use Rattle.resp_value.specs.Data.{Kind, Array, Set, Map, Attr, Push, depth, longest, most_items}
 use Rattle.resp_value.specs.Trees.{Tree, Trees, leaf, node, none, more, Leaf, line, numeral, null, truth, string, chunked, Simple, Error, Double, Int, Big, BulkNull, ArrayNull, PlainNull, Bulk, BulkError, Verbatim, Form, Counted, Streamed, text}
 use Rattle.resp_value.specs.TreeValues.{value}
@@ -109,7 +109,7 @@ HasPushAtRoot (node k form ts) = EveryOf IsAnyLeaf IsNoPush ts
 -- an integer has 64 bits
 abbrev pub IsInRange : Leaf → Type 0
 IsInRange (line k s) = Unit {0}
-IsInRange (numeral Int sign digits) = (neg_ℤ (pos (2 ^ 63)) ≤ℤ signed sign digits) × (signed sign digits <ℤ pos (2 ^ 63))
+IsInRange (numeral Int sign digits) = (neg_ℤ (pos (2 ^ 63)) ≤ℤ signed_value sign digits) × (signed_value sign digits <ℤ pos (2 ^ 63))
 IsInRange (numeral Big sign digits) = Unit {0}
 IsInRange (null form) = Unit {0}
 IsInRange (truth b) = Unit {0}

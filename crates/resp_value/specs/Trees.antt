@@ -143,9 +143,9 @@ count none = 0
 count (more t ts) = count ts + 1
 
 -- the content of a streamed string
-abbrev pub joined : List Chunk → List ℕ
-joined [] = []
-joined (c ∷ cs) = c.content ++ joined cs
+abbrev pub joined_content : List Chunk → List ℕ
+joined_content [] = []
+joined_content (c ∷ cs) = c.content ++ joined_content cs
 
 -- a chunk isn't empty, and its digits say its length
 abbrev pub IsChunk : Chunk → Type 0

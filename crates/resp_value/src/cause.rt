@@ -4,7 +4,7 @@ ghost use Rattle.std.specs.Prelude.{◌≡◌};
 
 /// The first limit that a value to be encoded breaks, in this order.
 #[derive(Clone, Copy, Debug, PartialEq, Eq)]
-pub enum Over {
+pub enum Limit {
     /// It has more aggregates inside one another.
     Depth,
     /// It has a longer content.
@@ -61,7 +61,7 @@ pub enum Cause {
     /// The value to be encoded holds a push below its top.
     PushBelowTop,
     /// The value to be encoded breaks a limit.
-    OverLimits(Over),
+    OverLimits(Limit),
     /// The reader failed.
     Read,
     /// The writer failed, or took no byte.
@@ -163,7 +163,7 @@ impl Cause {
 
 #[cfg(test)]
 mod tests {
-    use super::{Cause, Over};
+    use super::{Cause, Limit};
 
     #[test]
     fn numbers_and_names(rt: HostRuntime) {
@@ -189,10 +189,10 @@ mod tests {
             (Cause::Closing, 32, "Closing"),
             (Cause::NotInVersion, 40, "NotInVersion"),
             (Cause::PushBelowTop, 41, "NestedPush"),
-            (Cause::OverLimits(Over::Depth), 42, "OverLimits"),
-            (Cause::OverLimits(Over::Length), 42, "OverLimits"),
-            (Cause::OverLimits(Over::Items), 42, "OverLimits"),
-            (Cause::OverLimits(Over::Total), 42, "OverLimits"),
+            (Cause::OverLimits(Limit::Depth), 42, "OverLimits"),
+            (Cause::OverLimits(Limit::Length), 42, "OverLimits"),
+            (Cause::OverLimits(Limit::Items), 42, "OverLimits"),
+            (Cause::OverLimits(Limit::Total), 42, "OverLimits"),
             (Cause::Read, 50, "Read"),
             (Cause::Write, 51, "Write"),
             (Cause::TooManyTurns, 52, "TooManyTurns"),

@@ -1,7 +1,7 @@
 //! Byte devices: where bytes are read from and written to.
 
 ghost use Rattle.std.specs.Prelude.{◌≡◌, ℕ, ◌+◌, ◌<◌, ◌≤◌, List, length, Option, IfOk, IfErr, OnOk, take};
-ghost use Rattle.resp_value.specs.Devices.{raised, HasRisen, Reads, Writes, Appends, read_fails, write_fails, failures_after};
+ghost use Rattle.resp_value.specs.Devices.{count_after, HasRisen, Reads, Writes, Appends, read_fails, write_fails, failures_after};
 
 use thiserror::Error;
 
@@ -35,7 +35,7 @@ pub trait Source {
     fn read(&mut self, into: &mut [u8]) -> Result<usize, DeviceFault>
         ensures within { IfOk result (λ n. n ≤ length into.old) }
         ensures bytes { Reads (remaining self.old) (remaining self.new) into.new result }
-        ensures calls { calls self.new ≡ raised 1 (calls self.old) }
+        ensures calls { calls self.new ≡ count_after 1 (calls self.old) }
         ensures failures { failures self.new ≡ failures_after (read_fails result) (failures self.old) };
 }
 
@@ -54,7 +54,7 @@ pub trait Sink {
     fn write(&mut self, from: &[u8]) -> Result<usize, DeviceFault>
         ensures within { IfOk result (λ n. n ≤ length from.now) }
         ensures bytes { Writes (written self.old) (written self.new) from.now result }
-        ensures calls { calls self.new ≡ raised 1 (calls self.old) }
+        ensures calls { calls self.new ≡ count_after 1 (calls self.old) }
         ensures failures { failures self.new ≡ failures_after (write_fails result) (failures self.old) };
 }
 

@@ -2,7 +2,7 @@
 
 ghost use Rattle.std.specs.Prelude.{◌≡◌, ◌↔◌, ℕ, ◌<◌, List, length, IsTrue, IfOk, IsErrOf, All};
 ghost use Rattle.std.proofs.Props.{props};
-ghost use Rattle.resp_value.specs.Numbers.{IsDigit, IsDigits, IsKept, IsSignedDigits, KeepsDigits, kept, is_minus};
+ghost use Rattle.resp_value.specs.Numbers.{IsDigit, IsDigits, IsKept, IsSignedDigits, KeepsDigits, kept_digits, is_minus};
 ghost use Rattle.resp_value.specs.Signs.{sign_at, unsigned_part};
 
 use std::alloc::{AllocError, Global};
@@ -36,7 +36,7 @@ fn are_digits(text: &[u8]) -> bool
 
 fn kept_part(digits: &[u8]) -> &[u8]
     requires { IsDigits digits.now }
-    ensures { result.now ≡ kept digits.now }
+    ensures { result.now ≡ kept_digits digits.now }
 {
     let mut rest = digits;
     while rest.len() > 1 && rest[0] == b'0' {

@@ -3,7 +3,7 @@
 ghost use Rattle.std.specs.Prelude.{[], ◌∷◌, ◌≡◌, codes, true, false, pos, negsuc};
 ghost use Rattle.resp_value.specs.Canonical.{canonical_text};
 ghost use Rattle.resp_value.specs.Data.{depth, longest, most_items, scalar, Array, Set, Map, Attr, Null, Bool, Error, Bulk, BulkError, Verbatim, Big};
-ghost use Rattle.resp_value.specs.Examples.{integer, simple, aggregate_of, IsSpelled, IsSpelledInThree, IsSpelledStreamed, SpellsNothing, SpellsNothingInTwo, SpellsNothingSwitchedOff, HasCause, HasCauseInThree, IsCutWithFault};
+ghost use Rattle.resp_value.specs.Examples.{integer, simple, aggregate_of, IsSpelledInBoth, IsSpelledInThree, IsSpelledStreamed, SpellsNothing, SpellsNothingInTwo, SpellsNothingSwitchedOff, HasCause, HasCauseInThree, IsCutWithFault};
 ghost use Rattle.resp_value.specs.Rules.{Grammar, PushAtTop};
 ghost use Rattle.resp_value.specs.declared.version.Version.TheVariants.{Two, Three};
 ghost use Rattle.resp_value.specs.Laws.{ATextHasOneValue, NoSpellingBeginsAnother, NoSpellingIsEmpty, APushBeginsWithItsByte, ATextHasOneCut, ARestHasOneFault, VersionThreeSpellsWhatTwoDoes, CanonicalTextSpellsWhatFits, CanonicalTextTellsValuesApart, FrontsOfSpellingsAreViable, FrontsOfViableTextsAreViable, LaterRulesLeaveLess, ATextHasOneCause, AViableTextHasNoCause, RulesHoldAtEachNode, TextsOfTreesAreBytes, DefaultItemsRefuseNothing, TheEmptyTextIsViable, TypeBytesAreViable, LaterTypeBytesWantVersionThree, ACommaBeginsADouble, NoOtherByteBeginsATree};
@@ -123,13 +123,13 @@ pub fn no_other_byte_begins_a_tree()
 /// Texts and the values that they spell.
 pub fn texts_and_their_values()
     // An integer may have a sign and leading zeros, and so may a length have zeros.
-    ensures plus_and_zeros { IsSpelled (codes ":+007\r\n") (integer (pos 7)) }
-    ensures minus_zero { IsSpelled (codes ":-0\r\n") (integer (pos 0)) }
-    ensures length_with_zero { IsSpelled (codes "$01\r\na\r\n") (scalar (Bulk (codes "a"))) }
+    ensures plus_and_zeros { IsSpelledInBoth (codes ":+007\r\n") (integer (pos 7)) }
+    ensures minus_zero { IsSpelledInBoth (codes ":-0\r\n") (integer (pos 0)) }
+    ensures length_with_zero { IsSpelledInBoth (codes "$01\r\na\r\n") (scalar (Bulk (codes "a"))) }
 
     // A null has three forms.
-    ensures bulk_null { IsSpelled (codes "$-1\r\n") (scalar Null) }
-    ensures array_null { IsSpelled (codes "*-1\r\n") (scalar Null) }
+    ensures bulk_null { IsSpelledInBoth (codes "$-1\r\n") (scalar Null) }
+    ensures array_null { IsSpelledInBoth (codes "*-1\r\n") (scalar Null) }
     ensures plain_null { IsSpelledInThree (codes "_\r\n") (scalar Null) }
 
     // A big zero is not negative, and keeps one digit.
@@ -140,7 +140,7 @@ pub fn texts_and_their_values()
         (scalar (Verbatim (codes "txt") (codes "hi"))) }
 
     // Each other type byte has its kind.
-    ensures error { IsSpelled (codes "-a\r\n") (scalar (Error (codes "a"))) }
+    ensures error { IsSpelledInBoth (codes "-a\r\n") (scalar (Error (codes "a"))) }
     ensures bulk_error { IsSpelledInThree (codes "!1\r\na\r\n") (scalar (BulkError (codes "a"))) }
     ensures set { IsSpelledInThree (codes "~1\r\n#f\r\n")
         (aggregate_of Set (scalar (Bool false) ∷ [])) }

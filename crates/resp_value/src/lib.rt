@@ -5,6 +5,7 @@ pub mod cause;
 pub mod content;
 pub mod device;
 pub mod digits;
+pub mod kind;
 pub mod laws;
 pub mod limits;
 pub mod line;

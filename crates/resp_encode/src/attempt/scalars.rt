@@ -9,7 +9,7 @@ ghost use Rattle.resp_value.specs.Data.{Datum, scalar};
 ghost use Rattle.resp_value.specs.Data as d;
 ghost use Rattle.resp_value.specs.declared.version.Version.{Version};
 ghost use Rattle.resp_value.specs.Values.{line_text, content_bytes, is_negative, digits_text};
-ghost use Rattle.resp_encode.specs.Attempts.{Attempt, HasRoom};
+ghost use Rattle.resp_encode.specs.Attempts.{Attempt, FitsSpare};
 ghost use Rattle.resp_encode.specs.Surveys.{Describes};
 
 use crate::digits::digit_count;
@@ -30,7 +30,7 @@ use resp_value::version::Version;
 /// Whether a value without members has no fault but perhaps its total, and there is room for its text.
 #[inline(always)]
 fn has_room(found: &Findings, version: Version, limits: &Limits, out: &BytesMut) -> bool
-    ensures { (x : Datum) → Describes version x found.now → OnTrue result (HasRoom version limits.now out.now.spare x) }
+    ensures { (x : Datum) → Describes version x found.now → OnTrue result (FitsSpare version limits.now out.now.spare x) }
 {
     if !has_types(found, version) || found.longest > limits.length() {
         return false;

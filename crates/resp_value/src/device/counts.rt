@@ -1,7 +1,7 @@
 //! How a device counts its calls, and those of them that failed.
 
 ghost use Rattle.std.specs.Prelude.{◌≡◌};
-ghost use Rattle.resp_value.specs.Devices.{raised};
+ghost use Rattle.resp_value.specs.Devices.{count_after};
 
 /// Two counts, each of which stays at its last value.
 #[derive(Clone, Copy, Debug, Default)]
@@ -13,14 +13,14 @@ pub struct Counts {
 impl Counts {
     /// Counts a call.
     pub fn add_call(&mut self)
-        ensures { self.new ≡ record self.old { calls = raised 1 self.old.calls } }
+        ensures { self.new ≡ record self.old { calls = count_after 1 self.old.calls } }
     {
         self.calls = self.calls.saturating_add(1);
     }
 
     /// Counts a failure.
     pub fn add_failure(&mut self)
-        ensures { self.new ≡ record self.old { failures = raised 1 self.old.failures } }
+        ensures { self.new ≡ record self.old { failures = count_after 1 self.old.failures } }
     {
         self.failures = self.failures.saturating_add(1);
     }

@@ -1,7 +1,7 @@
 //! A sink in memory: each byte that it takes is known, and it fails from a set byte on.
 
 ghost use Rattle.std.specs.Prelude.{◌≡◌, ◌+◌, ◌≤◌, ◌↔◌, [], length, Some, IfOk, IsOk, IsErr, OnErr, vec_len, vec_capacity};
-ghost use Rattle.resp_value.specs.Devices.{raised, Writes, write_fails, failures_after, SinkState, write_count, after_write, after_failed_write};
+ghost use Rattle.resp_value.specs.Devices.{count_after, Writes, write_fails, failures_after, SinkState, write_count, after_write, after_failed_write};
 
 use super::counts::Counts;
 use super::{DeviceFault, Sink};
@@ -95,7 +95,7 @@ impl Sink for MemorySink {
     fn write(&mut self, from: &[u8]) -> Result<usize, DeviceFault>
         ensures within { IfOk result (λ n. n ≤ length from.now) }
         ensures bytes { Writes (Some self.old.held) (Some self.new.held) from.now result }
-        ensures calls { self.new.calls ≡ raised 1 self.old.calls }
+        ensures calls { self.new.calls ≡ count_after 1 self.old.calls }
         ensures failures { self.new.failures ≡ failures_after (write_fails result) self.old.failures }
 
         // It fails exactly where no byte may be written any more.

@@ -1,7 +1,7 @@
 //! A source over a slice: each byte that it gives is known, and it can be made to fail.
 
 ghost use Rattle.std.specs.Prelude.{◌≡◌, ◌<◌, ◌≤◌, ◌↔◌, ◌++◌, length, take, drop, Some, IfOk, IsErr, OnErr};
-ghost use Rattle.resp_value.specs.Devices.{raised, Reads, read_fails, failures_after, SourceState, read_count, after_read, after_failed_read};
+ghost use Rattle.resp_value.specs.Devices.{count_after, Reads, read_fails, failures_after, SourceState, read_count, after_read, after_failed_read};
 
 use super::counts::Counts;
 use super::{DeviceFault, Source};
@@ -88,7 +88,7 @@ impl Source for MemorySource<'_> {
     fn read(&mut self, into: &mut [u8]) -> Result<usize, DeviceFault>
         ensures within { IfOk result (λ n. n ≤ length into.old) }
         ensures bytes { Reads (Some self.old.left) (Some self.new.left) into.new result }
-        ensures calls { self.new.calls ≡ raised 1 self.old.calls }
+        ensures calls { self.new.calls ≡ count_after 1 self.old.calls }
         ensures failures { self.new.failures ≡ failures_after (read_fails result) self.old.failures }
 
         // It fails exactly where no byte may be read any more.

@@ -2,7 +2,7 @@
 
 ghost use Rattle.std.specs.Prelude.{◌≡◌, ℕ, ◌≤◌, None, length, IfOk};
 ghost use Rattle.std.specs.Io.KnownBytes.{ReadConsumes, WriteAppends};
-ghost use Rattle.resp_value.specs.Devices.{raised, Reads, Writes, read_fails, write_fails, failures_after, DeviceState};
+ghost use Rattle.resp_value.specs.Devices.{count_after, Reads, Writes, read_fails, write_fails, failures_after, DeviceState};
 
 use super::counts::Counts;
 use super::{DeviceFault, Sink, Source};
@@ -71,7 +71,7 @@ impl<R: Read> Source for Device<R> {
     fn read(&mut self, into: &mut [u8]) -> Result<usize, DeviceFault>
         ensures within { IfOk result (λ n. n ≤ length into.old) }
         ensures bytes { Reads None None into.new result }
-        ensures calls { self.new.calls ≡ raised 1 self.old.calls }
+        ensures calls { self.new.calls ≡ count_after 1 self.old.calls }
         ensures failures { self.new.failures ≡ failures_after (read_fails result) self.old.failures }
 
         // The bytes are those that `inner` gives, where it tells them.
@@ -98,7 +98,7 @@ impl<W: Write> Sink for Device<W> {
     fn write(&mut self, from: &[u8]) -> Result<usize, DeviceFault>
         ensures within { IfOk result (λ n. n ≤ length from.now) }
         ensures bytes { Writes None None from.now result }
-        ensures calls { self.new.calls ≡ raised 1 self.old.calls }
+        ensures calls { self.new.calls ≡ count_after 1 self.old.calls }
         ensures failures { self.new.failures ≡ failures_after (write_fails result) self.old.failures }
 
         // The bytes go to `inner`, where it tells them.

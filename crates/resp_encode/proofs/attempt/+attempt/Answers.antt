@@ -7,7 +7,7 @@ use Rattle.resp_value.specs.Values.{datum_of, pair_data, extended}
 use Rattle.resp_value.proofs.DatumOf.{datum_of-Array, datum_of-Set, datum_of-Map, datum_of-Attr, in_turn_is_whole, annotated_is_whole}
 use Rattle.resp_value.specs.declared.value.Value.{Value}
 use Rattle.resp_encode.specs.Attempts.{Attempt, AttemptEach, AttemptNotes}
-use Rattle.resp_encode.specs.Kinds.{kind_of}
+use Rattle.resp_value.specs.Kinds.{kind_of}
 use Rattle.resp_encode.proofs.Attempted.{inside_tried, one_more_tried, notes_tried, annotated_tried, is_below, is_whole}
 use Rattle.resp_encode.proofs.Counts.{count-map, count-in_turn, count-annotated}
 use Rattle.resp_encode.proofs.Extended.{data_of_list-push}

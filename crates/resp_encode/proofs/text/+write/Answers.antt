@@ -4,7 +4,7 @@ use Rattle.resp_value.specs.Data.{data_of_list, in_turn}
 use Rattle.resp_value.specs.Trees.{texts}
 use Rattle.resp_value.specs.Canonical.{canonical_text, canonical_trees}
 use Rattle.resp_value.specs.Values.{datum_of, pair_data, extended}
-use Rattle.resp_encode.specs.Writings.{Writes}
+use Rattle.resp_encode.specs.Writings.{Fills}
 use Rattle.resp_encode.proofs.Extended.{texts-extended}
 use Rattle.resp_encode.proofs.SoFar.{data-take_more, pairs-take_more, text_room, pair_room}
 use Rattle.resp_encode.proofs.Texts.{Writes-none, Writes-append, head_split, length-head}
@@ -26,14 +26,14 @@ write_members-loop-member-preserved t c =
     let i = c.loop-member.member-index in
     let front = data_of_list (map datum_of (take i c.args.members.now)) in
     let one_more = data-take_more datum_of c.args.members.now i c.member-item.result c.loop-member-test.true in
-    subst (Writes c.args.out.now c.write_value.new.out)
+    subst (Fills c.args.out.now c.write_value.new.out)
     (ap (λ x. texts (canonical_trees c.args.version front) ++ canonical_text c.args.version (datum_of x)) c.member-item.is
     ∙ sym (ap (λ xs. texts (canonical_trees c.args.version xs)) one_more ∙ texts-extended c.args.version front _))
     (Writes-append c.loop-member.invariant c.write_value.ensures)
 
 pub write_members-returns : goal.write_members-returns
 write_members-returns t c =
-    subst (λ xs. Writes c.args.out.now c.loop-member.out (texts (canonical_trees c.args.version (data_of_list (map datum_of xs)))))
+    subst (λ xs. Fills c.args.out.now c.loop-member.out (texts (canonical_trees c.args.version (data_of_list (map datum_of xs)))))
     (take_all c.loop-member.member-index c.args.members.now c.loop-member-test.false) c.loop-member.invariant
 
 pub write_pairs-loop-pair-init : goal.write_pairs-loop-pair-init
@@ -60,7 +60,7 @@ write_pairs-loop-pair-preserved t c =
     let front = data_of_list (in_turn (map pair_data (take i c.args.pairs.now))) in
     let pair = pair_data c.pair-item.result in
     let one_more = pairs-take_more pair_data c.args.pairs.now i c.pair-item.result c.loop-pair-test.true ∙ ap (λ x. extended (extended front (pair_data x).0) (pair_data x).1) (sym c.pair-item.is) in
-    subst (Writes c.args.out.now c.write_value-in-loop-pair.new.out)
+    subst (Fills c.args.out.now c.write_value-in-loop-pair.new.out)
     (sym (ap (λ xs. texts (canonical_trees c.args.version xs)) one_more
     ∙ texts-extended c.args.version (extended front pair.0) pair.1
     ∙ ap (λ xs. xs ++ canonical_text c.args.version pair.1) (texts-extended c.args.version front pair.0)))
@@ -68,7 +68,7 @@ write_pairs-loop-pair-preserved t c =
 
 pub write_pairs-returns : goal.write_pairs-returns
 write_pairs-returns t c =
-    subst (λ xs. Writes c.args.out.now c.loop-pair.out (texts (canonical_trees c.args.version (data_of_list (in_turn (map pair_data xs))))))
+    subst (λ xs. Fills c.args.out.now c.loop-pair.out (texts (canonical_trees c.args.version (data_of_list (in_turn (map pair_data xs))))))
     (take_all c.loop-pair.pair-index c.args.pairs.now c.loop-pair-test.false) c.loop-pair.invariant
 
 pub write_value-write_group-requires : goal.write_value-write_group-requires
@@ -114,18 +114,18 @@ write_value-write_annotated-requires t c =
     (omega (arith, c.requires, c.write_head-in-Attr.ensures.spare, c.write_pairs-in-Attr.ensures.spare, length-head 124 (length ps) [], ap length (text_of-Attr c.args.version c.args.value.now c.in-Attr.pairs c.in-Attr.annotated ps c.deref.result.now c.list-pairs-in-Attr.ensures c.deref.ensures c.in-Attr.is), length-head 124 (length ps) (pair_texts c.args.version ps ++ under), length-append (pair_texts c.args.version ps) under), omega (arith, c.requires, c.write_head-in-Attr.ensures.spare, c.write_pairs-in-Attr.ensures.spare, length-head 124 (length ps) [], ap length (text_of-Attr c.args.version c.args.value.now c.in-Attr.pairs c.in-Attr.annotated ps c.deref.result.now c.list-pairs-in-Attr.ensures c.deref.ensures c.in-Attr.is), length-head 124 (length ps) (pair_texts c.args.version ps ++ under), length-append (pair_texts c.args.version ps) under))
 
 pub write_value-returns-in-Array : goal.write_value-returns-in-Array
-write_value-returns-in-Array t c = subst (Writes c.args.out.now c.write_group.new.out) (sym (text_of-Array c.args.version c.args.value.now c.in-Array.members c.list-in-Array.result.now c.list-in-Array.ensures c.in-Array.is)) c.write_group.ensures
+write_value-returns-in-Array t c = subst (Fills c.args.out.now c.write_group.new.out) (sym (text_of-Array c.args.version c.args.value.now c.in-Array.members c.list-in-Array.result.now c.list-in-Array.ensures c.in-Array.is)) c.write_group.ensures
 
 pub write_value-returns-in-Set : goal.write_value-returns-in-Set
-write_value-returns-in-Set t c = subst (Writes c.args.out.now c.write_group-in-Set.new.out) (sym (text_of-Set c.args.version c.args.value.now c.in-Set.members c.list-in-Set.result.now c.list-in-Set.ensures c.in-Set.is)) c.write_group-in-Set.ensures
+write_value-returns-in-Set t c = subst (Fills c.args.out.now c.write_group-in-Set.new.out) (sym (text_of-Set c.args.version c.args.value.now c.in-Set.members c.list-in-Set.result.now c.list-in-Set.ensures c.in-Set.is)) c.write_group-in-Set.ensures
 
 pub write_value-returns-in-Push : goal.write_value-returns-in-Push
-write_value-returns-in-Push t c = subst (Writes c.args.out.now c.write_group-in-Push.new.out) (sym (text_of-Push c.args.version c.args.value.now c.in-Push.members c.list-in-Push.result.now c.list-in-Push.ensures c.in-Push.is)) c.write_group-in-Push.ensures
+write_value-returns-in-Push t c = subst (Fills c.args.out.now c.write_group-in-Push.new.out) (sym (text_of-Push c.args.version c.args.value.now c.in-Push.members c.list-in-Push.result.now c.list-in-Push.ensures c.in-Push.is)) c.write_group-in-Push.ensures
 
 pub write_value-returns-in-Map : goal.write_value-returns-in-Map
 write_value-returns-in-Map t c =
     let ps = c.list-pairs.result.now in
-    subst (Writes c.args.out.now c.write_pairs.new.out)
+    subst (Fills c.args.out.now c.write_pairs.new.out)
     (head_split 37 (length ps) (pair_texts c.args.version ps) ∙ sym (text_of-Map c.args.version c.args.value.now c.in-Map.pairs ps c.list-pairs.ensures c.in-Map.is))
     (Writes-append c.write_head.ensures c.write_pairs.ensures)
 
@@ -133,6 +133,6 @@ pub write_value-returns-in-Attr : goal.write_value-returns-in-Attr
 write_value-returns-in-Attr t c =
     let ps = c.list-pairs-in-Attr.result.now in
     let under = canonical_text c.args.version (datum_of c.deref.result.now) in
-    subst (Writes c.args.out.now c.write_annotated.new.out)
+    subst (Fills c.args.out.now c.write_annotated.new.out)
     (head_split 124 (length ps) (pair_texts c.args.version ps ++ under) ∙ sym (text_of-Attr c.args.version c.args.value.now c.in-Attr.pairs c.in-Attr.annotated ps c.deref.result.now c.list-pairs-in-Attr.ensures c.deref.ensures c.in-Attr.is))
     (Writes-append c.write_head-in-Attr.ensures (Writes-append c.write_pairs-in-Attr.ensures c.write_annotated.ensures))

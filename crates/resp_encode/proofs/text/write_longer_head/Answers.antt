@@ -1,7 +1,7 @@
 use Rattle.std.proofs.Common.{◌≡◌, ◌/◌, ◌≤◌, ◌∷◌, ◌++◌, [], ℕ, sym, ap, ◌∙◌, subst, arith, append_assoc}
 use Rattle.resp_value.specs.Bytes.{crlf}
 use Rattle.resp_value.specs.Numbers.{decimal}
-use Rattle.resp_encode.specs.Writings.{Writes}
+use Rattle.resp_encode.specs.Writings.{Fills}
 use Rattle.resp_encode.proofs.Decimals.{decimal-four_more, length-decimal-four_more}
 use Rattle.resp_encode.proofs.Texts.{Writes-append, Writes-bytes}
 use Rattle.resp_encode.proofs.text.write_longer_head.Goals as goal
@@ -25,5 +25,5 @@ returns c =
     let n = c.args.number in
     let digits = c.four_digits-thousands.ensures in
     let last = Writes-bytes c.extend_reserved.ensures.items c.extend_reserved.ensures.spare (four digits.thousands digits.hundreds digits.tens digits.ones) in
-    subst (Writes c.args.out.now c.extend_reserved.new.self)
+    subst (Fills c.args.out.now c.extend_reserved.new.self)
     (ap (λ digits. c.args.byte ∷ digits) (sym (append_assoc (decimal (n / 10000)) _ (crlf [])) ∙ ap (λ digits. digits ++ crlf []) (sym (decimal-four_more n c.requires.long (omega arith))))) (Writes-append c.write_front.ensures last)

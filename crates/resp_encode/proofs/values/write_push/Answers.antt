@@ -5,7 +5,7 @@ use Rattle.resp_value.specs.Trees.{texts}
 use Rattle.resp_value.specs.Canonical.{canonical_trees}
 use Rattle.resp_value.specs.Values.{datum_of}
 use Rattle.resp_value.specs.declared.version.Version.TheVariants.{Three}
-use Rattle.resp_encode.specs.Writings.{Writes}
+use Rattle.resp_encode.specs.Writings.{Fills}
 use Rattle.resp_encode.proofs.Counts.{count-map}
 use Rattle.resp_encode.proofs.Texts.{aggregate_text, length-head}
 use Rattle.resp_encode.proofs.values.write_push.Goals as goal
@@ -19,4 +19,4 @@ write_group-requires c =
 pub returns : goal.returns
 returns c =
     let items = c.args.items.now in
-    subst (Writes c.args.out.now c.write_group.new.out) (sym (aggregate_text Three d.Push (data_of_list (map datum_of items)) (length items) (count-map datum_of items))) c.write_group.ensures
+    subst (Fills c.args.out.now c.write_group.new.out) (sym (aggregate_text Three d.Push (data_of_list (map datum_of items)) (length items) (count-map datum_of items))) c.write_group.ensures

@@ -1,5 +1,5 @@
 use Rattle.std.proofs.Common.{◌≡◌, ◌+◌, drop}
-use Rattle.resp_scan.specs.Runs.{digit_run}
+use Rattle.resp_scan.specs.Machine.Runs.{digit_run}
 use Rattle.resp_scan.proofs.big_numbers.digit_run.Given as goal
 
 abbrev pub invariant-loop-i : goal.invariant-loop-i

@@ -1,5 +1,5 @@
 use Rattle.std.proofs.Common.{sym, ◌∙◌, ap, take}
-use Rattle.resp_scan.specs.Runs.{run_to}
+use Rattle.resp_scan.specs.Machine.Runs.{run_to}
 use Rattle.resp_scan.proofs.Runs.{plain_run-run_to}
 use Rattle.resp_scan.proofs.lines.far_run.Goals as goal
 

@@ -1,22 +1,22 @@
-use Rattle.resp_tool.specs.Shown.{quoted}
+use Rattle.resp_tool.specs.Shown.{quoted_text}
 use Rattle.resp_tool.proofs.WrittenLemmas.{writes_next, writes_part, line_parts}
 use Rattle.resp_tool.proofs.shown.write_string.Goals as goal
 
 pub returns-in_err-write_text : goal.returns-in_err-write_text
 returns-in_err-write_text g c =
-    rw (line_parts c.args.words.now (quoted c.args.text.now))
+    rw (line_parts c.args.words.now (quoted_text c.args.text.now))
     (writes_part c.from_residual.result _ _ _ _ c.args.words.now _ c.from_residual.ensures.0 c.in_err-write_text.ensures)
 
 pub returns-in_err-write_quoted : goal.returns-in_err-write_quoted
 returns-in_err-write_quoted g c =
     let r = c.from_residual-in_err-write_quoted.result in
-    rw (line_parts c.args.words.now (quoted c.args.text.now))
+    rw (line_parts c.args.words.now (quoted_text c.args.text.now))
     (writes_next r _ _ _ _ _ _ c.args.words.now _ c.in_ok-write_text.ensures
-    (writes_part r _ _ _ _ (quoted c.args.text.now) _ c.from_residual-in_err-write_quoted.ensures.0 c.in_err-write_quoted.ensures))
+    (writes_part r _ _ _ _ (quoted_text c.args.text.now) _ c.from_residual-in_err-write_quoted.ensures.0 c.in_err-write_quoted.ensures))
 
 pub returns : goal.returns
 returns g c =
     let r = c.write_number.result in
-    rw (line_parts c.args.words.now (quoted c.args.text.now))
+    rw (line_parts c.args.words.now (quoted_text c.args.text.now))
     (writes_next r _ _ _ _ _ _ c.args.words.now _ c.in_ok-write_text.ensures
-    (writes_next r _ _ _ _ _ _ (quoted c.args.text.now) _ c.in_ok-write_quoted.ensures c.write_number.ensures))
+    (writes_next r _ _ _ _ _ _ (quoted_text c.args.text.now) _ c.in_ok-write_quoted.ensures c.write_number.ensures))

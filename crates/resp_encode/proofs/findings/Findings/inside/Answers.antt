@@ -1,4 +1,4 @@
-use Rattle.resp_encode.specs.Kinds.{kind_of}
+use Rattle.resp_value.specs.Kinds.{kind_of}
 use Rattle.resp_encode.proofs.Found.{describes_inside}
 use Rattle.resp_encode.proofs.findings.Findings.inside.Goals as goal
 

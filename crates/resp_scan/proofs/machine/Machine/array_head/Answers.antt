@@ -1,13 +1,13 @@
 use Rattle.std.proofs.Common.{◌≡◌, ◌≢◌, ◌-◌, ◌<◌, false, length, drop, get_or, sym, ◌∙◌, arith}
 use Rattle.std.proofs.lemmas.Grind.{common_steps}
-use Rattle.resp_scan.specs.Said.{place}
-use Rattle.resp_scan.specs.Room.{is_full}
+use Rattle.resp_scan.specs.Machine.Fields.{place_of}
+use Rattle.resp_scan.specs.Machine.Room.{is_full}
 use Rattle.resp_scan.proofs.ArrayHeads.{array_scan}
 use Rattle.resp_scan.proofs.machine.Machine.array_head.Goals as goal
 
 pub returns : goal.returns
 returns c =
-    let s = place c.args.self.now in
+    let s = place_of c.args.self.now in
     let p = c.args.piece.now in
     let i = c.args.i in
     let full : is_full s ≡ false = sym c.is_full.ensures.full ∙ c.if-is_full.false in

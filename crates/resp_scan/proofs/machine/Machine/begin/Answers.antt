@@ -1,8 +1,8 @@
 use Rattle.std.proofs.Common.{◌≡◌, List, [], ◌∷◌, drop, ap, Some, arith}
 use Rattle.std.proofs.lemmas.Grind.{common_steps}
 use Rattle.resp_scan.specs.declared.frame.Frame.{Frame}
-use Rattle.resp_scan.specs.Room.{innermost}
-use Rattle.resp_scan.specs.Said.{place}
+use Rattle.resp_scan.specs.Machine.Room.{innermost}
+use Rattle.resp_scan.specs.Machine.Fields.{place_of}
 use Rattle.resp_scan.proofs.Places.{top_is}
 use Rattle.resp_scan.proofs.machine.Machine.begin.Goals as goal
 
@@ -12,22 +12,22 @@ innermost_is (g ∷ fs) f e = let h : g ≡ f = cc in ap (λ x. x ∷ fs) h
 
 pub returns-in-Some-clause-cause : goal.returns-in-Some-clause-cause
 returns-in-Some-clause-cause c =
-    let fs = (place c.args.self.now).frames in
+    let fs = (place_of c.args.self.now).frames in
     let f = c.in-Some.frame.now in
     let h : innermost fs ≡ Some f = grind (arith, common_steps) in
     c.begin_in.ensures.cause (drop 1 fs) (innermost_is fs f h)
 
 pub returns-in-Some-clause-begun : goal.returns-in-Some-clause-begun
 returns-in-Some-clause-begun c =
-    let fs = (place c.args.self.now).frames in
+    let fs = (place_of c.args.self.now).frames in
     let f = c.in-Some.frame.now in
     let h : innermost fs ≡ Some f = grind (arith, common_steps) in
     c.begin_in.ensures.begun (drop 1 fs) (innermost_is fs f h)
 
 pub begin_in-requires : goal.begin_in-requires
 begin_in-requires c =
-    let s = place c.args.self.now in
+    let s = place_of c.args.self.now in
     let f = c.in-Some.frame.now in
     let h : innermost s.frames ≡ Some f = grind (arith, common_steps) in
     let t = top_is s f c.requires.sound h in
-    record { needed = c.requires.needed; more = t.more; owed = t.owed; few = t.few; counted = t.counted }
+    record { needed = c.requires.needed; more = t.more; frames_need = t.frames_need; few = t.few; counted = t.counted }

@@ -1,8 +1,8 @@
 use Rattle.std.proofs.Common.{◌≡◌, ◌<◌, length, drop, get_or, refl, sym, ap, ◌∙◌, arith}
 use Rattle.std.proofs.lemmas.Grind.{common_steps}
-use Rattle.resp_scan.specs.First.{after_first}
-use Rattle.resp_scan.specs.Tokens.{at, AtStart}
-use Rattle.resp_scan.specs.Said.{place}
+use Rattle.resp_scan.specs.Machine.First.{after_first}
+use Rattle.resp_scan.specs.Machine.Tokens.{at, AtStart}
+use Rattle.resp_scan.specs.Machine.Fields.{place_of}
 use Rattle.resp_scan.proofs.Starts.{first_is, first_scan, three_is}
 use Rattle.resp_scan.proofs.machine.Machine.start.Goals as goal
 
@@ -11,18 +11,18 @@ returns-in-43 c =
     let p = c.args.piece.now in
     let l : 0 < length p = grind (arith, common_steps) in
     let b : get_or p 0 0 ≡ 43 = grind (arith, common_steps) in
-    c.line_begins.ensures.simple (drop 1 p) refl ∙ first_is (place c.args.self.now) p 43 l b
+    c.line_begins.ensures.simple (drop 1 p) refl ∙ first_is (place_of c.args.self.now) p 43 l b
 
 pub returns-in-45 : goal.returns-in-45
 returns-in-45 c =
     let p = c.args.piece.now in
     let l : 0 < length p = grind (arith, common_steps) in
     let b : get_or p 0 0 ≡ 45 = grind (arith, common_steps) in
-    c.line_begins-in-45.ensures.error (drop 1 p) refl ∙ first_is (place c.args.self.now) p 45 l b
+    c.line_begins-in-45.ensures.error (drop 1 p) refl ∙ first_is (place_of c.args.self.now) p 45 l b
 
 pub returns-in-Three : goal.returns-in-Three
 returns-in-Three c =
-    let s = place c.args.self.now in
+    let s = place_of c.args.self.now in
     let p = c.args.piece.now in
     let b = get_or p 0 0 in
     let l : 0 < length p = grind (arith, common_steps) in

@@ -1,7 +1,7 @@
 use Rattle.std.proofs.Common.{◌≡◌, inl, inr, ◌<◌, not, eqb, get_or, length, subst, sym, ap, ◌∙◌}
 use Rattle.std.specs.List.{All}
 use Rattle.std.proofs.lemmas.List.Elements.{recursion_from_All}
-use Rattle.resp_value.specs.Numbers.{IsDigits, IsDigit, IsSignedDigits, IsKept, KeepsDigits, kept}
+use Rattle.resp_value.specs.Numbers.{IsDigits, IsDigit, IsSignedDigits, IsKept, KeepsDigits, kept_digits}
 use Rattle.resp_value.specs.Signs.{sign_at, unsigned_part}
 use Rattle.resp_value.proofs.KeptDigits.{keeps_digits_if_tested, sign_split}
 use Rattle.resp_value.proofs.digits.Digits.new.Goals as goal
@@ -15,7 +15,7 @@ made c =
     let digits : IsDigits c.unsigned_part-digits.result.now = (tested.0, recursion_from_All IsDigit _ tested.1) in
     keeps_digits_if_tested c.args.text.now c.in-Ok.digits.items c.if-minus.negative
     (subst IsDigits unsigned digits)
-    (c.in-Ok.ensures.items ∙ c.kept_part-kept.ensures ∙ ap kept unsigned)
+    (c.in-Ok.ensures.items ∙ c.kept_part-kept.ensures ∙ ap kept_digits unsigned)
     (elim c.if-minus.branch [
       | then-minus w ↦ inl (sym w.if-minus.ensures, w.negative-is ∙ ap (λ digits. not (eqb (get_or digits 0 0) 48)) (sym c.in-Ok.ensures.items))
       | else-minus w ↦ inr (sym w.if-minus.ensures, w.negative-is ∙ w.if-minus.false)

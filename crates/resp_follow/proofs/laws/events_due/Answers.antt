@@ -1,5 +1,0 @@
-use Rattle.resp_follow.proofs.MoreFrontLaws.{events_due_split}
-use Rattle.resp_follow.proofs.laws.events_due.Goals as goal
-
-pub returns : goal.returns
-returns c = events_due_split

@@ -1,5 +1,0 @@
-use Rattle.resp_follow.proofs.MoreFrontLaws.{first_byte}
-use Rattle.resp_follow.proofs.laws.first_byte.Goals as goal
-
-pub returns : goal.returns
-returns c = first_byte

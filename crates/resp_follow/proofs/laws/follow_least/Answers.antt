@@ -1,5 +1,0 @@
-use Rattle.resp_follow.proofs.FrontLaws.{follow_least}
-use Rattle.resp_follow.proofs.laws.follow_least.Goals as goal
-
-pub returns : goal.returns
-returns c = follow_least

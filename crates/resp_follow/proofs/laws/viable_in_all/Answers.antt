@@ -1,5 +1,0 @@
-use Rattle.resp_follow.proofs.FrontLaws.{viable_in_all}
-use Rattle.resp_follow.proofs.laws.viable_in_all.Goals as goal
-
-pub returns : goal.returns
-returns c = viable_in_all

@@ -1,0 +1,5 @@
+use Rattle.resp_fronts.proofs.FrontLaws.{determine}
+use Rattle.resp_fronts.proofs.laws.determine.Goals as goal
+
+pub returns : goal.returns
+returns c = determine

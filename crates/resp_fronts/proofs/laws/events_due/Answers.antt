@@ -1,0 +1,5 @@
+use Rattle.resp_fronts.proofs.MoreFrontLaws.{events_due_split}
+use Rattle.resp_fronts.proofs.laws.events_due.Goals as goal
+
+pub returns : goal.returns
+returns c = events_due_split

@@ -1,0 +1,5 @@
+use Rattle.resp_fronts.proofs.FrontLaws.{follow_least}
+use Rattle.resp_fronts.proofs.laws.follow_least.Goals as goal
+
+pub returns : goal.returns
+returns c = follow_least

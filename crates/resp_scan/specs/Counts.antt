@@ -1,0 +1,24 @@
+-- Counts over the events of a value.
+use Rattle.std.specs.Prelude.{ℕ, ◌+◌, List, [], ◌∷◌}
+use Rattle.resp_fronts.specs.Events as e
+use Rattle.resp_fronts.specs.Events.{Event}
+
+-- 1 for an Open
+abbrev pub open_count_of : Event → ℕ
+open_count_of (e.Open k n) = 1
+open_count_of _ = 0
+
+-- 1 for a Close
+abbrev pub close_count_of : Event → ℕ
+close_count_of e.Close = 1
+close_count_of _ = 0
+
+-- how many aggregates open
+abbrev pub open_count : List Event → ℕ
+open_count [] = 0
+open_count (event ∷ es) = open_count_of event + open_count es
+
+-- how many aggregates close
+abbrev pub close_count : List Event → ℕ
+close_count [] = 0
+close_count (event ∷ es) = close_count_of event + close_count es

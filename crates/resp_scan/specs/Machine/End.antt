@@ -1,0 +1,14 @@
+-- The end of the input.
+use Rattle.std.specs.Prelude.{cond, eqb, ◌||◌, Option, None, Some}
+use Rattle.resp_value.specs.declared.cause.Cause.{Cause}
+use Rattle.resp_value.specs.declared.cause.Cause.TheVariants.{Truncated}
+use Rattle.resp_scan.specs.Machine.Tokens.{Token, Place, Dead}
+use Rattle.resp_scan.specs.Machine.Sound.{needed}
+
+abbrev pub end_cause_in : Token → Place → Option Cause
+end_cause_in (Dead c) s = Some c
+end_cause_in _ s = cond (eqb s.taken 0 || eqb (needed s) 0) None (Some Truncated)
+
+-- what refuses the end of the input: the cause of a refused byte, or that a value was begun and isn't whole
+abbrev pub end_cause : Place → Option Cause
+end_cause s = end_cause_in s.token s

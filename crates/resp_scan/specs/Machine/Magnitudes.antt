@@ -1,0 +1,6 @@
+-- The magnitudes of signed 64-bit integers.
+use Rattle.std.specs.Prelude.{ℕ, ◌-◌, ◌^◌, Bool, true, false}
+
+abbrev pub greatest_magnitude : Bool → ℕ
+greatest_magnitude true = 2 ^ 63
+greatest_magnitude false = 2 ^ 63 - 1

@@ -1,0 +1,83 @@
+-- The room that the limits leave.
+use Rattle.std.specs.Prelude.{ℕ, ◌+◌, ◌-◌, ◌/◌, ◌%◌, Bool, false, ◌&&◌, cond, eqb, nat_le, List, [], ◌∷◌, length, Option, None, Some}
+use Rattle.resp_value.specs.declared.cause.Cause.{Cause}
+use Rattle.resp_value.specs.declared.cause.Cause.TheVariants as cause
+use Rattle.resp_value.specs.declared.kind.OpenKind.{OpenKind}
+use Rattle.resp_value.specs.declared.kind.OpenKind.TheVariants.{Array, Set, Map, Attr, Push}
+use Rattle.resp_scan.specs.declared.frame.Frame.{Frame}
+use Rattle.resp_scan.specs.declared.frame.Shape.{Shape}
+use Rattle.resp_scan.specs.declared.frame.Shape.TheVariants.{Left, Begun}
+use Rattle.resp_scan.specs.Machine.Tokens.{Place}
+
+abbrev pub total_room : Place → ℕ
+total_room s = (s.bounds.total - s.taken) - s.frames_need
+
+-- whether total leaves room for so many bytes of the piece, and so many behind them
+abbrev pub has_total_room : Place → ℕ → ℕ → Bool
+has_total_room s used needed = nat_le (used + needed) (total_room s)
+
+abbrev pub over_total : Place → ℕ → ℕ → Option Cause
+over_total s used needed = cond (has_total_room s used needed) None (Some cause.Total)
+
+-- whether no further aggregate may open
+abbrev pub is_full : Place → Bool
+is_full s = nat_le s.bounds.depth (length s.frames)
+
+-- The next member of an aggregate begins.
+
+abbrev pub shape_after_begin : Shape → Shape
+shape_after_begin (Left n) = Left (n - 1)
+shape_after_begin (Begun n) = Begun (n + 1)
+
+-- a map's key calls for its value
+abbrev pub need_after_begin_of : OpenKind → ℕ → ℕ → ℕ
+need_after_begin_of Map n frames_need = cond (eqb (n % 2) 0) (frames_need + 3) (frames_need - 3)
+need_after_begin_of Array n frames_need = frames_need
+need_after_begin_of Set n frames_need = frames_need
+need_after_begin_of Attr n frames_need = frames_need
+need_after_begin_of Push n frames_need = frames_need
+
+abbrev pub need_after_begin : OpenKind → Shape → ℕ → ℕ
+need_after_begin k (Left n) frames_need = frames_need - 3
+need_after_begin k (Begun n) frames_need = need_after_begin_of k n frames_need
+
+abbrev pub has_all_of : OpenKind → ℕ → ℕ → Bool
+has_all_of Map n items = eqb (n % 2) 0 && nat_le items (n / 2)
+has_all_of Array n items = nat_le items n
+has_all_of Set n items = nat_le items n
+has_all_of Attr n items = nat_le items n
+has_all_of Push n items = nat_le items n
+
+-- whether a streamed aggregate has as many items as may be
+abbrev pub has_all : OpenKind → Shape → ℕ → Bool
+has_all k (Left n) items = false
+has_all k (Begun n) items = has_all_of k n items
+
+abbrev pub after_begin_in : Place → List Frame → Place
+after_begin_in s [] = s
+after_begin_in s (f ∷ fs) = record s { frames = record f { shape = shape_after_begin f.shape } ∷ fs; frames_need = need_after_begin f.kind f.shape s.frames_need }
+
+abbrev pub after_begin : Place → Place
+after_begin s = after_begin_in s s.frames
+
+abbrev pub items_cause : List Frame → ℕ → Option Cause → Option Cause
+items_cause [] items other = other
+items_cause (f ∷ fs) items other = cond (has_all f.kind f.shape items) (Some cause.Items) other
+
+-- what refuses the first byte of a member that needs so many bytes behind it: items, and then total
+abbrev pub begin_cause : Place → ℕ → Option Cause
+begin_cause s needed = items_cause s.frames s.bounds.items (over_total (after_begin s) 1 needed)
+
+-- the members of a streamed aggregate that have begun
+abbrev pub begun_count : Shape → ℕ
+begun_count (Left n) = 0
+begun_count (Begun n) = n
+
+-- the innermost frame gets this shape
+abbrev pub with_shape : Shape → List Frame → List Frame
+with_shape shape [] = []
+with_shape shape (f ∷ fs) = record f { shape = shape } ∷ fs
+
+abbrev pub innermost : List Frame → Option Frame
+innermost [] = None
+innermost (f ∷ fs) = Some f
