@@ -1,7 +1,7 @@
 //! How long the encoder takes a value, beside the time to copy the same text.
 //!
-//! With no argument it encodes few values and prints the length of each text, the same on every run. With the
-//! argument `times` it encodes a million of each and prints nanoseconds.
+//! With no argument it encodes few values and prints the length of each text, the same on every
+//! run. With the argument `times` it encodes a million of each and prints nanoseconds.
 #![tactic(auto)]
 
 mod values;

@@ -1,8 +1,8 @@
 //! How long the scanner takes a text, to be laid beside another reader of the same text.
 //!
-//! With no argument it scans short texts in pieces of several sizes and prints what it counted, the same on every
-//! run. With the argument `times` it scans longer ones in pieces of two sizes, 32 MiB in all for each, and prints
-//! microseconds too.
+//! With no argument it scans short texts in pieces of several sizes and prints what it counted, the
+//! same on every run. With the argument `times` it scans longer ones in pieces of two sizes, 32 MiB
+//! in all for each, and prints microseconds too.
 #![tactic(auto)]
 
 mod tally;
@@ -20,7 +20,8 @@ use tally::{Tally, scan_text};
 /// The least length of a text that is only counted.
 const SHORT: usize = 4_096;
 
-/// The least length of a text that is timed, which a processor's cache holds, as it holds what was just received.
+/// The least length of a text that is timed, which a processor's cache holds, as it holds what was
+/// just received.
 const LONG: usize = 262_144;
 
 /// How often such a text is scanned: 32 MiB in all.

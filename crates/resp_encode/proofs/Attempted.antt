@@ -32,10 +32,12 @@ pub left : {version : Version} {bounds : Bounds} {deeper : ℕ} {x : Datum} (a :
 left a = record { whole = tt; suits = tt; part = ([], Writes-none a) }
 
 -- the walk stopped behind a part
-pub stopped : {version : Version} {bounds : Bounds} {deeper : ℕ} {x : Datum} {a b : Filled} → (text : List ℕ) × Fills a b text → Attempt version bounds deeper x a b false
+pub stopped : {version : Version} {bounds : Bounds} {deeper : ℕ} {x : Datum} {a b : Filled} → (text : List ℕ) × Fills a b text →
+    Attempt version bounds deeper x a b false
 stopped part = record { whole = tt; suits = tt; part = part }
 
-pub stopped_each : {version : Version} {bounds : Bounds} {deeper : ℕ} {xs : Data} {a b : Filled} → (text : List ℕ) × Fills a b text → AttemptEach version bounds deeper xs a b false
+pub stopped_each : {version : Version} {bounds : Bounds} {deeper : ℕ} {xs : Data} {a b : Filled} → (text : List ℕ) × Fills a b text →
+    AttemptEach version bounds deeper xs a b false
 stopped_each part = record { whole = tt; suits = tt; part = part }
 
 -- a part behind a text
@@ -43,7 +45,8 @@ pub part_behind : {a b c : Filled} {x : List ℕ} → Fills a b x → (text : Li
 part_behind {x = x} first rest = (x ++ rest.0, Writes-append first rest.1)
 
 -- a value without members was written
-pub scalar_done : {version : Version} {bounds : Bounds} {spare : ℕ} {s : Scalar} {a b : Filled} → FitsSpare version bounds spare (scalar s) → IsScalarValue s → Fills a b (canonical_text version (scalar s)) → (deeper : ℕ) → Attempt version bounds deeper (scalar s) a b true
+pub scalar_done : {version : Version} {bounds : Bounds} {spare : ℕ} {s : Scalar} {a b : Filled} → FitsSpare version bounds spare (scalar s) → IsScalarValue s →
+    Fills a b (canonical_text version (scalar s)) → (deeper : ℕ) → Attempt version bounds deeper (scalar s) a b true
 scalar_done fits value writes deeper = record {
   whole = writes;
   suits = record {
@@ -63,7 +66,8 @@ in_each Two x p = p
 in_each Three x p = tt
 
 -- a scalar of version 2 within the limits, and room for it
-pub room_for : (version : Version) (bounds : Bounds) {spare : ℕ} (s : Scalar) → IsInTwo (scalar s) → longest (scalar s) ≤ bounds.length → length (canonical_text version (scalar s)) ≤ spare → FitsSpare version bounds spare (scalar s)
+pub room_for : (version : Version) (bounds : Bounds) {spare : ℕ} (s : Scalar) → IsInTwo (scalar s) → longest (scalar s) ≤ bounds.length →
+    length (canonical_text version (scalar s)) ≤ spare → FitsSpare version bounds spare (scalar s)
 room_for version bounds s two long room = record { has_types = in_each version (scalar s) two; within_length = long; room = room }
 
 -- an integer's text is no longer than its digits and four more
@@ -73,15 +77,32 @@ int_length version (negsuc n) = omega (arith, ap (λ m. length (decimal m)) (add
 
 -- members, so far
 pub suit_none : (version : Version) (bounds : Bounds) (deeper : ℕ) → SuitEach version bounds deeper none
-suit_none Two bounds deeper = record { have_types = tt; no_push = tt; within_depth = omega arith; within_length = omega arith; within_items = omega arith; are_values = tt }
-suit_none Three bounds deeper = record { have_types = tt; no_push = tt; within_depth = omega arith; within_length = omega arith; within_items = omega arith; are_values = tt }
+suit_none Two bounds deeper = record {
+  have_types = tt;
+  no_push = tt;
+  within_depth = omega arith;
+  within_length = omega arith;
+  within_items =
+      omega arith;
+  are_values = tt;
+}
+suit_none Three bounds deeper = record {
+  have_types = tt;
+  no_push = tt;
+  within_depth = omega arith;
+  within_length = omega arith;
+  within_items =
+      omega arith;
+  are_values = tt;
+}
 
 have_types_with : (version : Version) (xs : Data) (x : Datum) → HaveTypes version xs → HasTypes version x → HaveTypes version (extended xs x)
 have_types_with Two xs x p q = in_two_with xs x p q
 have_types_with Three xs x p q = tt
 
 -- and one more
-pub suit_with : (version : Version) (bounds : Bounds) (deeper : ℕ) (xs : Data) (x : Datum) → SuitEach version bounds deeper xs → Suits version bounds deeper x → HasNoPush x → SuitEach version bounds deeper (extended xs x)
+pub suit_with : (version : Version) (bounds : Bounds) (deeper : ℕ) (xs : Data) (x : Datum) → SuitEach version bounds deeper xs → Suits version bounds deeper x →
+    HasNoPush x → SuitEach version bounds deeper (extended xs x)
 suit_with version bounds deeper xs x each one below = record {
   have_types = have_types_with version xs x each.have_types one.has_types;
   no_push = no_push_with xs x each.no_push below;
@@ -96,7 +117,9 @@ has_types_inside Two k xs p q = (p, q)
 has_types_inside Three k xs p q = tt
 
 -- an aggregate of members that suit
-pub suits_inside : (version : Version) (bounds : Bounds) (deeper : ℕ) (k : Kind) (xs : Data) (items : ℕ) → HasKind version k → 0 < deeper → items ≤ bounds.items → items_of k (count xs) ≡ items → IsWhole k (count xs) → SuitEach version bounds (deeper - 1) xs → Suits version bounds deeper (aggregate k xs)
+pub suits_inside : (version : Version) (bounds : Bounds) (deeper : ℕ) (k : Kind) (xs : Data) (items : ℕ) → HasKind version k → 0 < deeper →
+    items ≤ bounds.items → items_of k (count xs) ≡ items → IsWhole k (count xs) → SuitEach version bounds (deeper - 1) xs →
+    Suits version bounds deeper (aggregate k xs)
 suits_inside version bounds deeper k xs items kind deep few same whole each = record {
   has_types = has_types_inside version k xs kind each.have_types;
   push_at_top = each.no_push;
@@ -107,10 +130,13 @@ suits_inside version bounds deeper k xs items kind deep few same whole each = re
 }
 
 -- a head was written, and then the members were tried
-pub inside_tried : (version : Version) (bounds : Bounds) (deeper : ℕ) (k : Kind) (xs : Data) (items : ℕ) (done : Bool) {a b c : Filled} → Fills a b (kind_byte k ∷ decimal items ++ crlf []) → HasKind version k → 0 < deeper → items ≤ bounds.items → items_of k (count xs) ≡ items → IsWhole k (count xs) → AttemptEach version bounds (deeper - 1) xs b c done → Attempt version bounds deeper (aggregate k xs) a c done
+pub inside_tried : (version : Version) (bounds : Bounds) (deeper : ℕ) (k : Kind) (xs : Data) (items : ℕ) (done : Bool) {a b c : Filled} →
+    Fills a b (kind_byte k ∷ decimal items ++ crlf []) → HasKind version k → 0 < deeper → items ≤ bounds.items → items_of k (count xs) ≡ items →
+    IsWhole k (count xs) → AttemptEach version bounds (deeper - 1) xs b c done → Attempt version bounds deeper (aggregate k xs) a c done
 inside_tried version bounds deeper k xs items false {a = a} {c = c} head kind deep few same whole each = stopped (part_behind head each.part)
 inside_tried version bounds deeper k xs items true {a = a} {c = c} head kind deep few same whole each =
-    let text = subst (Fills a c) (head_split (kind_byte k) items (texts (canonical_trees version xs)) ∙ sym (aggregate_text version k xs items same)) (Writes-append head each.whole) in
+    let text = subst (Fills a c) (head_split (kind_byte k) items (texts (canonical_trees version xs)) ∙ sym (aggregate_text version k xs items same))
+    (Writes-append head each.whole) in
     record {
       whole = text;
       suits = suits_inside version bounds deeper k xs items kind deep few same whole each.suits;
@@ -118,14 +144,17 @@ inside_tried version bounds deeper k xs items true {a = a} {c = c} head kind dee
     }
 
 -- members were written, and then one more was tried
-pub one_more_tried : (version : Version) (bounds : Bounds) (deeper : ℕ) (xs : Data) (x : Datum) (done : Bool) {a b c : Filled} → Fills a b (texts (canonical_trees version xs)) → SuitEach version bounds deeper xs → Attempt version bounds deeper x b c done → OnTrue done (HasNoPush x) → AttemptEach version bounds deeper (extended xs x) a c done
+pub one_more_tried : (version : Version) (bounds : Bounds) (deeper : ℕ) (xs : Data) (x : Datum) (done : Bool) {a b c : Filled} →
+    Fills a b (texts (canonical_trees version xs)) → SuitEach version bounds deeper xs → Attempt version bounds deeper x b c done → OnTrue done (HasNoPush x) →
+    AttemptEach version bounds deeper (extended xs x) a c done
 one_more_tried version bounds deeper xs x false front each one below = stopped_each (part_behind front one.part)
 one_more_tried version bounds deeper xs x true {a = a} {c = c} front each one below =
     let text = subst (Fills a c) (sym (texts-extended version xs x)) (Writes-append front one.whole) in
     record { whole = text; suits = suit_with version bounds deeper xs x each one.suits below; part = (_, text) }
 
 -- a value that suits fits, where its text is within the total
-pub fits_within : (rules : Rules) (x : Datum) → Suits rules.version rules.limits rules.limits.depth x → length (canonical_text rules.version x) ≤ rules.limits.total → Fits rules x
+pub fits_within : (rules : Rules) (x : Datum) → Suits rules.version rules.limits rules.limits.depth x →
+    length (canonical_text rules.version x) ≤ rules.limits.total → Fits rules x
 fits_within rules x suits total = record {
   has_types = suits.has_types;
   push_at_top = suits.push_at_top;
@@ -136,28 +165,36 @@ fits_within rules x suits total = record {
 }
 
 -- the head and the pairs of an attribute were tried
-pub notes_tried : (version : Version) (bounds : Bounds) (deeper : ℕ) (xs : Data) (items : ℕ) (done : Bool) {a b c : Filled} → Fills a b (124 ∷ decimal items ++ crlf []) → HasKind version Attr → 0 < deeper → items ≤ bounds.items → AttemptEach version bounds (deeper - 1) xs b c done → AttemptNotes version bounds deeper items xs a c done
-notes_tried version bounds deeper xs items false head kind deep few each = record { whole = tt; has_kind = tt; within_items = tt; within_depth = tt; suits = tt; part = part_behind head each.part }
+pub notes_tried : (version : Version) (bounds : Bounds) (deeper : ℕ) (xs : Data) (items : ℕ) (done : Bool) {a b c : Filled} →
+    Fills a b (124 ∷ decimal items ++ crlf []) → HasKind version Attr → 0 < deeper → items ≤ bounds.items →
+    AttemptEach version bounds (deeper - 1) xs b c done → AttemptNotes version bounds deeper items xs a c done
+notes_tried version bounds deeper xs items false head kind deep few each =
+    record { whole = tt; has_kind = tt; within_items = tt; within_depth = tt; suits = tt; part = part_behind head each.part }
 notes_tried version bounds deeper xs items true {a = a} {c = c} head kind deep few each =
     let text = subst (Fills a c) (head_split 124 items (texts (canonical_trees version xs))) (Writes-append head each.whole) in
     record { whole = text; has_kind = kind; within_items = few; within_depth = deep; suits = each.suits; part = (_, text) }
 
 -- they were written, and then the value that they annotate was tried
-pub annotated_tried : (version : Version) (bounds : Bounds) (deeper : ℕ) (xs : Data) (x : Datum) (items : ℕ) (done : Bool) {a b c : Filled} → AttemptNotes version bounds deeper items xs a b true → items_of Attr (count (extended xs x)) ≡ items → IsWhole Attr (count (extended xs x)) → Attempt version bounds (deeper - 1) x b c done → OnTrue done (HasNoPush x) → Attempt version bounds deeper (aggregate Attr (extended xs x)) a c done
+pub annotated_tried : (version : Version) (bounds : Bounds) (deeper : ℕ) (xs : Data) (x : Datum) (items : ℕ) (done : Bool) {a b c : Filled} →
+    AttemptNotes version bounds deeper items xs a b true → items_of Attr (count (extended xs x)) ≡ items → IsWhole Attr (count (extended xs x)) →
+    Attempt version bounds (deeper - 1) x b c done → OnTrue done (HasNoPush x) → Attempt version bounds deeper (aggregate Attr (extended xs x)) a c done
 annotated_tried version bounds deeper xs x items false notes same whole one below = stopped (part_behind notes.whole one.part)
 annotated_tried version bounds deeper xs x items true {a = a} {c = c} notes same whole one below =
     let front = texts (canonical_trees version xs) in
     let under = canonical_text version x in
-    let same_text = ap (λ rest. 124 ∷ rest) (append_assoc (decimal items) (crlf front) under) ∙ ap (λ rest. 124 ∷ decimal items ++ crlf rest) (sym (texts-extended version xs x)) ∙ sym (aggregate_text version Attr (extended xs x) items same) in
+    let same_text = ap (λ rest. 124 ∷ rest) (append_assoc (decimal items) (crlf front) under) ∙
+    ap (λ rest. 124 ∷ decimal items ++ crlf rest) (sym (texts-extended version xs x)) ∙ sym (aggregate_text version Attr (extended xs x) items same) in
     let text = subst (Fills a c) same_text (Writes-append notes.whole one.whole) in
     record {
       whole = text;
-      suits = suits_inside version bounds deeper Attr (extended xs x) items notes.has_kind notes.within_depth notes.within_items same whole (suit_with version bounds (deeper - 1) xs x notes.suits one.suits below);
+      suits = suits_inside version bounds deeper Attr (extended xs x) items notes.has_kind notes.within_depth notes.within_items same whole
+          (suit_with version bounds (deeper - 1) xs x notes.suits one.suits below);
       part = (_, text);
     }
 
 -- an aggregate that suits is no push, unless its kind is
-pub is_below : (version : Version) (bounds : Bounds) (deeper : ℕ) (k : Kind) (xs : Data) (done : Bool) → IsKindBelow k → OnTrue done (Suits version bounds deeper (aggregate k xs)) → OnTrue done (HasNoPush (aggregate k xs))
+pub is_below : (version : Version) (bounds : Bounds) (deeper : ℕ) (k : Kind) (xs : Data) (done : Bool) → IsKindBelow k →
+    OnTrue done (Suits version bounds deeper (aggregate k xs)) → OnTrue done (HasNoPush (aggregate k xs))
 is_below version bounds deeper k xs false below suits = tt
 is_below version bounds deeper k xs true below suits = (below, suits.push_at_top)
 

@@ -13,7 +13,13 @@ pub count-in_turn : {A : Type 0} (f : A → Datum × Datum) (xs : List A) → co
 count-in_turn f xs = omega (arith, count-data_of_list (in_turn (map f xs)), length-in_turn (map f xs), length-map xs f)
 
 pub count-annotated : {A : Type 0} (f : A → Datum × Datum) (xs : List A) (x : Datum) → count (data_of_list (in_turn (map f xs) ++ x ∷ [])) / 2 ≡ length xs
-count-annotated f xs x = omega (arith, count-data_of_list (in_turn (map f xs) ++ x ∷ []), length-append (in_turn (map f xs)) (x ∷ []), length-in_turn (map f xs), length-map xs f)
+count-annotated f xs x = omega (
+  arith,
+  count-data_of_list (in_turn (map f xs) ++ x ∷ []),
+  length-append (in_turn (map f xs)) (x ∷ []),
+  length-in_turn (map f xs),
+  length-map xs f,
+)
 
 pub count-words : (words : List (Vec ℕ Global)) → count (data_of_list (map word_datum (texts_of words))) ≡ length words
 count-words words = count-map word_datum (texts_of words) ∙ length-map words (λ word. word.items)

@@ -25,7 +25,8 @@ length-decimal-one n small = ap length (sym (decimal-std n (omega arith)) ∙ de
 -- another number has one digit more than its tenth
 pub length-decimal-more : (n : ℕ) → 10 ≤ n → n < 2 ^ 64 → length (decimal n) ≡ length (decimal (n / 10)) + 1
 length-decimal-more n large fits =
-    let step : decimal n ≡ decimal (n / 10) ++ ((48 + n % 10) ∷ []) = sym (decimal-std n fits) ∙ decimal_step n large fits ∙ ap (λ ds. ds ++ ((48 + n % 10) ∷ [])) (decimal-std (n / 10) (omega arith)) in
+    let step : decimal n ≡ decimal (n / 10) ++ ((48 + n % 10) ∷ []) = sym (decimal-std n fits) ∙ decimal_step n large fits ∙
+    ap (λ ds. ds ++ ((48 + n % 10) ∷ [])) (decimal-std (n / 10) (omega arith)) in
     ap length step ∙ length-append (decimal (n / 10)) ((48 + n % 10) ∷ [])
 
 pub length-decimal-two : (n : ℕ) → 10 ≤ n → n < 100 → length (decimal n) ≡ 2
@@ -63,11 +64,13 @@ decimal-one n small = sym (decimal-std n (omega arith)) ∙ decimal_digit n smal
 
 pub decimal-two : (n : ℕ) → 10 ≤ n → n < 100 → decimal n ≡ (48 + n / 10) ∷ (48 + n % 10) ∷ []
 decimal-two n large small =
-    sym (decimal-std n (omega arith)) ∙ decimal_step n large (omega arith) ∙ ap (λ digits. digits ++ ((48 + n % 10) ∷ [])) (decimal_digit (n / 10) (omega arith))
+    sym (decimal-std n (omega arith)) ∙ decimal_step n large (omega arith) ∙
+    ap (λ digits. digits ++ ((48 + n % 10) ∷ [])) (decimal_digit (n / 10) (omega arith))
 
 -- the last digit stands behind the others
 pub decimal-more : (n : ℕ) → 10 ≤ n → n < 2 ^ 64 → decimal n ≡ decimal (n / 10) ++ ((48 + n % 10) ∷ [])
-decimal-more n large fits = sym (decimal-std n fits) ∙ decimal_step n large fits ∙ ap (λ digits. digits ++ ((48 + n % 10) ∷ [])) (decimal-std (n / 10) (omega arith))
+decimal-more n large fits = sym (decimal-std n fits) ∙ decimal_step n large fits ∙
+    ap (λ digits. digits ++ ((48 + n % 10) ∷ [])) (decimal-std (n / 10) (omega arith))
 
 pub decimal-three : (n : ℕ) → 100 ≤ n → n < 1000 → decimal n ≡ (48 + n / 100) ∷ (48 + n / 10 % 10) ∷ (48 + n % 10) ∷ []
 decimal-three n large small =
@@ -86,7 +89,8 @@ decimal-four n large small =
     ∙ ap (λ m. (48 + n / 1000) ∷ (48 + m % 10) ∷ (48 + n / 10 % 10) ∷ (48 + n % 10) ∷ []) second
 
 -- the last four digits stand behind the others
-pub decimal-four_more : (n : ℕ) → 10000 ≤ n → n < 2 ^ 64 → decimal n ≡ decimal (n / 10000) ++ ((48 + n % 10000 / 1000) ∷ (48 + n % 10000 / 100 % 10) ∷ (48 + n % 10000 / 10 % 10) ∷ (48 + n % 10000 % 10) ∷ [])
+pub decimal-four_more : (n : ℕ) → 10000 ≤ n → n < 2 ^ 64 → decimal n ≡ decimal (n / 10000) ++
+    ((48 + n % 10000 / 1000) ∷ (48 + n % 10000 / 100 % 10) ∷ (48 + n % 10000 / 10 % 10) ∷ (48 + n % 10000 % 10) ∷ [])
 decimal-four_more n large fits =
     let front = decimal (n / 10 / 10 / 10 / 10) in
     let others : n / 10 / 10 / 10 / 10 ≡ n / 10000 = omega arith in

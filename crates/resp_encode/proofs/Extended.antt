@@ -42,9 +42,12 @@ pub most_items_among-extended : (xs : Data) (x : Datum) → most_items_among (ex
 most_items_among-extended none x = omega arith
 most_items_among-extended (more y ys) x = omega (arith, most_items_among-extended ys x)
 
-pub texts-extended : (version : Version) (xs : Data) (x : Datum) → texts (canonical_trees version (extended xs x)) ≡ texts (canonical_trees version xs) ++ canonical_text version x
+pub texts-extended : (version : Version) (xs : Data) (x : Datum) → texts (canonical_trees version (extended xs x)) ≡ texts (canonical_trees version xs) ++
+    canonical_text version x
 texts-extended version none x = append-nil (canonical_text version x)
-texts-extended version (more y ys) x = ap (λ rest. canonical_text version y ++ rest) (texts-extended version ys x) ∙ sym (append_assoc (canonical_text version y) (texts (canonical_trees version ys)) (canonical_text version x))
+texts-extended version (more y ys) x = ap (λ rest. canonical_text version y ++ rest) (texts-extended version ys x) ∙
+    sym (append_assoc (canonical_text version y) (texts (canonical_trees version ys)) (canonical_text version x))
 
-pub length-texts-extended : (version : Version) (xs : Data) (x : Datum) → length (texts (canonical_trees version (extended xs x))) ≡ length (texts (canonical_trees version xs)) + length (canonical_text version x)
+pub length-texts-extended : (version : Version) (xs : Data) (x : Datum) → length (texts (canonical_trees version (extended xs x))) ≡
+    length (texts (canonical_trees version xs)) + length (canonical_text version x)
 length-texts-extended version xs x = ap length (texts-extended version xs x) ∙ length-append (texts (canonical_trees version xs)) (canonical_text version x)

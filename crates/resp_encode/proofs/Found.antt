@@ -19,7 +19,19 @@ both_tell true true p q split join = (λ t. join (p.0 refl) (q.0 refl), λ r. re
 both_tell true false p q split join = (λ t. absurd (cc), λ r. q.1 (split r).1)
 both_tell false b p q split join = (λ t. absurd (cc), λ r. p.1 (split r).0)
 
-pub describes_with : (version : Version) (xs : Data) (x : Datum) (a b : Findings) (most_depth most_length most : ℕ) (size : Option ℕ) → most_depth ≡ max a.depth b.depth → most_length ≡ max a.longest b.longest → most ≡ max a.most_items b.most_items → ((m n : ℕ) → IsSize a.size m → IsSize b.size n → IsSize size (m + n)) → DescribesEach version xs a → Describes version x b → DescribesEach version (extended xs x) (record { in_two = a.in_two && b.in_two; no_push = a.no_push && b.no_push; push_at_top = true; depth = most_depth; longest = most_length; most_items = most; size = size })
+pub describes_with : (version : Version) (xs : Data) (x : Datum) (a b : Findings) (most_depth most_length most : ℕ) (size : Option ℕ) →
+    most_depth ≡ max a.depth b.depth → most_length ≡ max a.longest b.longest → most ≡ max a.most_items b.most_items →
+    ((m n : ℕ) → IsSize a.size m → IsSize b.size n → IsSize size (m + n)) → DescribesEach version xs a → Describes version x b →
+    DescribesEach version (extended xs x) (record {
+      in_two = a.in_two && b.in_two;
+      no_push = a.no_push && b.no_push;
+      push_at_top = true;
+      depth =
+          most_depth;
+      longest = most_length;
+      most_items = most;
+      size = size;
+    })
 describes_with version xs x a b most_depth most_length most size d l i s each one = record {
   in_two = both_tell a.in_two b.in_two each.in_two one.in_two (in_two_of xs x) (in_two_with xs x);
   no_push = both_tell a.no_push b.no_push each.no_push one.no_push (no_push_of xs x) (no_push_with xs x);
@@ -29,7 +41,20 @@ describes_with version xs x a b most_depth most_length most size d l i s each on
   size_found = rw length-texts-extended (s (length (texts (canonical_trees version xs))) (length (canonical_text version x)) each.size_found one.size_found);
 }
 
-pub describes_inside : (version : Version) (k : Kind) (xs : Data) (a : Findings) (in_two below : Bool) (items deeper most head : ℕ) (size : Option ℕ) → (IsTrue in_two ↔ IsKindInTwo k) → (IsTrue below ↔ IsKindBelow k) → items ≡ items_of k (count xs) → deeper ≡ min (a.depth + 1) (2 ^ 64 - 1) → most ≡ max a.most_items items → head ≡ length (decimal items) + 3 → ((m n : ℕ) → IsSize (Some head) m → IsSize a.size n → IsSize size (m + n)) → DescribesEach version xs a → Describes version (aggregate k xs) (record { in_two = a.in_two && in_two; no_push = a.no_push && below; push_at_top = a.no_push; depth = deeper; longest = a.longest; most_items = most; size = size })
+pub describes_inside : (version : Version) (k : Kind) (xs : Data) (a : Findings) (in_two below : Bool) (items deeper most head : ℕ) (size : Option ℕ) →
+    (IsTrue in_two ↔ IsKindInTwo k) → (IsTrue below ↔ IsKindBelow k) → items ≡ items_of k (count xs) → deeper ≡ min (a.depth + 1) (2 ^ 64 - 1) →
+    most ≡ max a.most_items items → head ≡ length (decimal items) + 3 → ((m n : ℕ) → IsSize (Some head) m → IsSize a.size n → IsSize size (m + n)) →
+    DescribesEach version xs a → Describes version (aggregate k xs)
+    (record {
+      in_two = a.in_two && in_two;
+      no_push = a.no_push && below;
+      push_at_top = a.no_push;
+      depth = deeper;
+      longest = a.longest;
+      most_items = most;
+      size =
+          size;
+    })
 describes_inside version k xs a in_two below items deeper most head size t b e d i h s each = record {
   in_two = both_tell a.in_two in_two each.in_two t (λ p. (p.1, p.0)) (λ p q. (q, p));
   no_push = both_tell a.no_push below each.no_push b (λ p. (p.1, p.0)) (λ p q. (q, p));

@@ -35,17 +35,20 @@ pub length-head : (byte n : ℕ) (rest : List ℕ) → length (byte ∷ decimal 
 length-head byte n rest = omega (arith, length-append (decimal n) (crlf rest))
 
 -- the text of an aggregate is its head and the texts of its members
-pub aggregate_text : (version : Version) (k : Kind) (xs : Data) (n : ℕ) → items_of k (count xs) ≡ n → canonical_text version (aggregate k xs) ≡ kind_byte k ∷ decimal n ++ crlf (texts (canonical_trees version xs))
+pub aggregate_text : (version : Version) (k : Kind) (xs : Data) (n : ℕ) → items_of k (count xs) ≡ n → canonical_text version (aggregate k xs) ≡ kind_byte k ∷
+    decimal n ++ crlf (texts (canonical_trees version xs))
 aggregate_text version k xs n e =
     ap (λ m. (kind_byte k ∷ decimal m) ++ crlf (texts (canonical_trees version xs) ++ [])) e
     ∙ ap (λ rest. (kind_byte k ∷ decimal n) ++ crlf rest) (append-nil (texts (canonical_trees version xs)))
 
 -- the end of a line of 24 bytes, with one byte put before it
-pub line_with : (line : List ℕ) (start byte : ℕ) (end : List ℕ) → length line ≡ 24 → 0 < start → start ≤ 24 → drop start line ≡ end → take (24 - (start - 1)) (drop (start - 1) (set line (start - 1) byte)) ≡ byte ∷ end
+pub line_with : (line : List ℕ) (start byte : ℕ) (end : List ℕ) → length line ≡ 24 → 0 < start → start ≤ 24 → drop start line ≡ end →
+    take (24 - (start - 1)) (drop (start - 1) (set line (start - 1) byte)) ≡ byte ∷ end
 line_with line start byte end n full within e =
     let at : start - 1 < length line = omega arith in
     let behind : start - 1 + 1 ≡ start = omega arith in
-    let whole : drop (start - 1) (set line (start - 1) byte) ≡ byte ∷ end = drop-set line (start - 1) byte at ∙ ap (λ i. byte ∷ drop i line) behind ∙ ap (λ xs. byte ∷ xs) e in
+    let whole : drop (start - 1) (set line (start - 1) byte) ≡ byte ∷ end = drop-set line (start - 1) byte at ∙ ap (λ i. byte ∷ drop i line) behind ∙
+    ap (λ xs. byte ∷ xs) e in
     ap (take (24 - (start - 1))) whole ∙ take_all (24 - (start - 1)) (byte ∷ end) (omega (arith, ap length e, length-drop start line))
 
 -- the text of an integer below zero, and of another
@@ -63,4 +66,8 @@ spells_if_fits rules x value fits = (canonical_text_spells_what_fits rules x val
 
 -- one append writes its bytes
 pub Writes-bytes : {a b : Filled} {written text : List ℕ} → b.items ≡ a.items ++ written → b.spare + length written ≡ a.spare → written ≡ text → Fills a b text
-Writes-bytes {a = a} {b = b} items spare same = record { items = items ∙ ap (λ xs. a.items ++ xs) same; spare = ap (λ xs. b.spare + length xs) (sym same) ∙ spare }
+Writes-bytes {a = a} {b = b} items spare same = record {
+  items = items ∙ ap (λ xs. a.items ++ xs) same;
+  spare =
+      ap (λ xs. b.spare + length xs) (sym same) ∙ spare;
+}

@@ -41,19 +41,22 @@ pub record SuitEach (version : Version) (bounds : Bounds) (deeper : ℕ) (xs : D
   pub are_values : AreValues xs
 
 -- where it is done, the value suits and its text was appended; else it may be that only a part was
-pub record Attempt (version : Version) (bounds : Bounds) (deeper : ℕ) (x : Datum) (old new : Filled) (done : Bool) : Type 0 where
+pub record Attempt (version : Version) (bounds : Bounds) (deeper : ℕ) (x : Datum) (old new : Filled)
+    (done : Bool) : Type 0 where
   pub whole : OnTrue done (Fills old new (canonical_text version x))
   pub suits : OnTrue done (Suits version bounds deeper x)
   pub part : (text : List ℕ) × Fills old new text
 
 -- the same of members
-pub record AttemptEach (version : Version) (bounds : Bounds) (deeper : ℕ) (xs : Data) (old new : Filled) (done : Bool) : Type 0 where
+pub record AttemptEach (version : Version) (bounds : Bounds) (deeper : ℕ) (xs : Data) (old new : Filled)
+    (done : Bool) : Type 0 where
   pub whole : OnTrue done (Fills old new (texts (canonical_trees version xs)))
   pub suits : OnTrue done (SuitEach version bounds deeper xs)
   pub part : (text : List ℕ) × Fills old new text
 
 -- the same of the head of an attribute, with this number, and of its keys and values in turn
-pub record AttemptNotes (version : Version) (bounds : Bounds) (deeper items : ℕ) (xs : Data) (old new : Filled) (done : Bool) : Type 0 where
+pub record AttemptNotes (version : Version) (bounds : Bounds) (deeper items : ℕ) (xs : Data) (old new : Filled)
+    (done : Bool) : Type 0 where
   pub whole : OnTrue done (Fills old new (124 ∷ decimal items ++ crlf (texts (canonical_trees version xs))))
   pub has_kind : OnTrue done (HasKind version Attr)
   pub within_items : OnTrue done (items ≤ bounds.items)

@@ -19,8 +19,10 @@ HasText version x = HasTypes version x × HasPushAtTop x
 abbrev pub IsFirstOver : Rules → Datum → Limit → Type 0
 IsFirstOver rules x Depth = rules.limits.depth < depth x
 IsFirstOver rules x Length = (depth x ≤ rules.limits.depth) × (rules.limits.length < longest x)
-IsFirstOver rules x Items = (depth x ≤ rules.limits.depth) × (longest x ≤ rules.limits.length) × (rules.limits.items < most_items x)
-IsFirstOver rules x Total = (depth x ≤ rules.limits.depth) × (longest x ≤ rules.limits.length) × (most_items x ≤ rules.limits.items) × (rules.limits.total < length (canonical_text rules.version x))
+IsFirstOver rules x Items = (depth x ≤ rules.limits.depth) × (longest x ≤ rules.limits.length) ×
+    (rules.limits.items < most_items x)
+IsFirstOver rules x Total = (depth x ≤ rules.limits.depth) × (longest x ≤ rules.limits.length) ×
+    (most_items x ≤ rules.limits.items) × (rules.limits.total < length (canonical_text rules.version x))
 
 -- the value has this fault, and none before it; want of memory comes only where it has none
 abbrev pub IsFirstFault : Rules → Datum → EncodeError → Type 0

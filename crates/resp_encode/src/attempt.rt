@@ -1,4 +1,5 @@
-//! A value in one walk, which writes as it goes and stops where something is refused or there is no room.
+//! A value in one walk, which writes as it goes and stops where something is refused or there is no
+//! room.
 //!
 //! Most values have no fault and there is room for them. They are not walked over twice.
 
@@ -16,10 +17,10 @@ ghost use Rattle.resp_value.specs.Kinds.{kind_of};
 ghost use Rattle.resp_encode.specs.Writings.{Fills};
 
 use crate::findings::head_size;
-use resp_value::kind::OpenKind;
 use crate::room::room;
 use crate::text::write_head;
 use bytes::BytesMut;
+use resp_value::kind::OpenKind;
 use resp_value::limits::Limits;
 use resp_value::value::Value;
 use resp_value::version::Version;
@@ -50,7 +51,8 @@ fn attempt_head(
     deeper: u64,
     out: &mut BytesMut,
 ) -> bool
-    ensures writes { OnTrue result (Fills out.old out.new (kind_byte (kind_of kind) ∷ decimal items ++ crlf [])) }
+    ensures writes { OnTrue result (Fills out.old out.new (kind_byte (kind_of kind) ∷
+        decimal items ++ crlf [])) }
     ensures has_kind { OnTrue result (HasKind version (kind_of kind)) }
     ensures within_items { OnTrue result (items ≤ limits.now.items) }
     ensures within_depth { OnTrue result (0 < deeper) }
@@ -90,7 +92,14 @@ fn attempt_value(
         Value::Verbatim(format, text) => attempt_verbatim(format, text, version, limits, out),
         Value::Big(digits) => attempt_big(digits, version, limits, out),
         Value::Array(members) => {
-            attempt_group(members.list(), OpenKind::Array, version, limits, deeper, out)
+            attempt_group(
+                members.list(),
+                OpenKind::Array,
+                version,
+                limits,
+                deeper,
+                out,
+            )
         }
         Value::Set(members) => {
             attempt_group(members.list(), OpenKind::Set, version, limits, deeper, out)
@@ -118,7 +127,8 @@ fn attempt_group(
     out: &mut BytesMut,
 ) -> bool
     requires { (n : ℕ) → items_of (kind_of kind) n ≡ n }
-    ensures { Attempt version limits.now deeper (aggregate (kind_of kind) (data_of_list (map datum_of members.now))) out.old out.new result }
+    ensures { Attempt version limits.now deeper
+        (aggregate (kind_of kind) (data_of_list (map datum_of members.now))) out.old out.new result }
 {
     if !attempt_head(members.len() as u64, kind, version, limits, deeper, out) {
         return false;
@@ -136,9 +146,17 @@ fn attempt_map(
     deeper: u64,
     out: &mut BytesMut,
 ) -> bool
-    ensures { Attempt version limits.now deeper (aggregate d.Map (data_of_list (in_turn (map pair_data pairs.now)))) out.old out.new result }
+    ensures { Attempt version limits.now deeper
+        (aggregate d.Map (data_of_list (in_turn (map pair_data pairs.now)))) out.old out.new result }
 {
-    if !attempt_head(pairs.len() as u64, OpenKind::Map, version, limits, deeper, out) {
+    if !attempt_head(
+        pairs.len() as u64,
+        OpenKind::Map,
+        version,
+        limits,
+        deeper,
+        out,
+    ) {
         return false;
     }
     attempt_pairs(pairs, version, limits, deeper - 1, out)
@@ -154,9 +172,17 @@ fn attempt_notes(
     deeper: u64,
     out: &mut BytesMut,
 ) -> bool
-    ensures { AttemptNotes version limits.now deeper (length pairs.now) (data_of_list (in_turn (map pair_data pairs.now))) out.old out.new result }
+    ensures { AttemptNotes version limits.now deeper (length pairs.now)
+        (data_of_list (in_turn (map pair_data pairs.now))) out.old out.new result }
 {
-    if !attempt_head(pairs.len() as u64, OpenKind::Attr, version, limits, deeper, out) {
+    if !attempt_head(
+        pairs.len() as u64,
+        OpenKind::Attr,
+        version,
+        limits,
+        deeper,
+        out,
+    ) {
         return false;
     }
     attempt_pairs(pairs, version, limits, deeper - 1, out)
@@ -188,7 +214,8 @@ fn attempt_members(
     deeper: u64,
     out: &mut BytesMut,
 ) -> bool
-    ensures { AttemptEach version limits.now deeper (data_of_list (map datum_of members.now)) out.old out.new result }
+    ensures { AttemptEach version limits.now deeper (data_of_list (map datum_of members.now))
+        out.old out.new result }
 {
     for member in members {
         if !attempt_value(member, version, limits, deeper, out) {
@@ -208,7 +235,8 @@ fn attempt_pairs(
     deeper: u64,
     out: &mut BytesMut,
 ) -> bool
-    ensures { AttemptEach version limits.now deeper (data_of_list (in_turn (map pair_data pairs.now))) out.old out.new result }
+    ensures { AttemptEach version limits.now deeper
+        (data_of_list (in_turn (map pair_data pairs.now))) out.old out.new result }
 {
     for pair in pairs {
         if !attempt_value(&pair.0, version, limits, deeper, out) {
@@ -224,7 +252,8 @@ fn attempt_pairs(
 /// The same of a value that may be a push.
 #[inline(always)]
 fn attempt_top(value: &Value, version: Version, limits: &Limits, out: &mut BytesMut) -> bool
-    ensures { Attempt version limits.now limits.now.depth (datum_of value.now) out.old out.new result }
+    ensures { Attempt version limits.now limits.now.depth (datum_of value.now) out.old out.new
+        result }
 {
     let deeper = limits.depth();
     match value {
@@ -238,8 +267,10 @@ fn attempt_top(value: &Value, version: Version, limits: &Limits, out: &mut Bytes
 /// Appends the text of a value where it has no fault and there is room, and else leaves the buffer.
 #[inline(always)]
 pub(crate) fn attempt(value: &Value, version: Version, limits: &Limits, out: &mut BytesMut) -> bool
-    ensures writes { OnTrue result (Fills out.old out.new (canonical_text version (datum_of value.now))) }
-    ensures fits { OnTrue result (Fits (record { version = version; limits = limits.now }) (datum_of value.now)) }
+    ensures writes { OnTrue result (Fills out.old out.new
+        (canonical_text version (datum_of value.now))) }
+    ensures fits { OnTrue result (Fits (record { version = version; limits = limits.now })
+        (datum_of value.now)) }
     ensures is_value { OnTrue result (IsValue (datum_of value.now)) }
     ensures items { OnFalse result (out.new.items ≡ out.old.items) }
     ensures spare { OnFalse result (out.new.spare ≡ out.old.spare) }

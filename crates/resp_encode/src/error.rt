@@ -3,7 +3,8 @@
 use resp_value::cause::Limit;
 use thiserror::Error;
 
-/// Why a value was not appended. Where a value has several faults, the first in this order is named.
+/// Why a value was not appended. Where a value has several faults, the first in this order is
+/// named.
 #[derive(Clone, Copy, Debug, PartialEq, Eq, Error)]
 pub enum EncodeError {
     /// The value holds a type that the version hasn't.
@@ -20,7 +21,8 @@ pub enum EncodeError {
     OutOfMemory,
 }
 
-/// Why a value was not written whole to a device. All but the last are found before anything is written.
+/// Why a value was not written whole to a device. All but the last are found before anything is
+/// written.
 #[derive(Clone, Copy, Debug, PartialEq, Eq, Error)]
 pub enum EncodeToError {
     /// The value holds a type that the version hasn't.

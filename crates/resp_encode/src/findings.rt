@@ -39,7 +39,8 @@ fn sum(left: Option<u64>, right: Option<u64>) -> Option<u64>
     }
 }
 
-/// How many bytes the head of an aggregate or of a string takes: the type byte, the number, CR and LF.
+/// How many bytes the head of an aggregate or of a string takes: the type byte, the number, CR and
+/// LF.
 #[inline]
 pub(crate) fn head_size(number: u64) -> u64
     ensures size { result ≡ length (decimal number) + 3 }
@@ -63,7 +64,16 @@ impl Findings {
     /// Of a value without members.
     #[inline]
     pub(crate) fn scalar(in_two: bool, length: u64, size: u64) -> Findings
-        ensures { result ≡ record { in_two = in_two; no_push = true; push_at_top = true; depth = 0; longest = length; most_items = 0; size = Some size } }
+        ensures { result ≡ record {
+          in_two = in_two;
+          no_push = true;
+          push_at_top = true;
+          depth =
+              0;
+          longest = length;
+          most_items = 0;
+          size = Some size;
+        } }
     {
         Findings {
             in_two,
@@ -79,7 +89,8 @@ impl Findings {
     /// Of these members and one more behind them.
     #[inline]
     pub(crate) fn with(&self, next: &Findings) -> Findings
-        ensures { (version : Version) (xs : Data) (x : Datum) → DescribesEach version xs self.now → Describes version x next.now → DescribesEach version (extended xs x) result }
+        ensures { (version : Version) (xs : Data) (x : Datum) → DescribesEach version xs self.now →
+            Describes version x next.now → DescribesEach version (extended xs x) result }
     {
         Findings {
             in_two: self.in_two & next.in_two,
@@ -95,7 +106,9 @@ impl Findings {
     /// Of the aggregate that has these members, and this number in its head.
     #[inline]
     pub(crate) fn inside(&self, kind: OpenKind, items: u64) -> Findings
-        ensures { (version : Version) (xs : Data) → DescribesEach version xs self.now → items ≡ items_of (kind_of kind) (count xs) → Describes version (aggregate (kind_of kind) xs) result }
+        ensures { (version : Version) (xs : Data) → DescribesEach version xs self.now →
+            items ≡ items_of (kind_of kind) (count xs) →
+            Describes version (aggregate (kind_of kind) xs) result }
     {
         Findings {
             in_two: self.in_two & kind.is_in_two(),

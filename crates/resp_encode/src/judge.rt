@@ -31,9 +31,14 @@ pub(crate) fn judge(
     version: Version,
     limits: &Limits,
 ) -> Result<usize, EncodeError>
-    ensures fits { (x : Datum) → Describes version x found.now → IfOk result (λ size. Fits (record { version = version; limits = limits.now }) x × (size ≡ length (canonical_text version x))) }
-    ensures fault { (x : Datum) → Describes version x found.now → IfErr result (IsFirstFault (record { version = version; limits = limits.now }) x) }
-    ensures spelling { (x : Datum) → Describes version x found.now → IsValue x → OnOk result (IsSpelling (record { version = version; limits = limits.now }) x (canonical_text version x)) }
+    ensures fits { (x : Datum) → Describes version x found.now →
+        IfOk result (λ size. Fits (record { version = version; limits = limits.now }) x ×
+        (size ≡ length (canonical_text version x))) }
+    ensures fault { (x : Datum) → Describes version x found.now →
+        IfErr result (IsFirstFault (record { version = version; limits = limits.now }) x) }
+    ensures spelling { (x : Datum) → Describes version x found.now → IsValue x →
+        OnOk result (IsSpelling (record { version = version; limits = limits.now }) x
+        (canonical_text version x)) }
     ensures not_memory { IsErrOf result EncodeError.OutOfMemory → ⊥ }
 {
     if !has_types(found, version) {

@@ -1,8 +1,9 @@
-//! The canonical encoder: the one text of a value in a version, appended to a buffer or written to a device.
+//! The canonical encoder: the one text of a value in a version, appended to a buffer or written to
+//! a device.
 //!
-//! The text is that of the Redis serialization protocol specification with every choice made: numbers without a
-//! `+` and without leading zeros, strings and aggregates by their length or count and never streamed, Null as
-//! `$-1` in version 2 and as `_` in version 3.
+//! The text is that of the Redis serialization protocol specification with every choice made:
+//! numbers without a `+` and without leading zeros, strings and aggregates by their length or count
+//! and never streamed, Null as `$-1` in version 2 and as `_` in version 3.
 #![tactic(auto)]
 
 mod attempt;

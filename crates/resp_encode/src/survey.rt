@@ -75,7 +75,8 @@ pub(crate) fn of_bulk(bytes: &[u8]) -> Findings
 
 #[inline]
 pub(crate) fn of_bulk_error(bytes: &[u8]) -> Findings
-    ensures found { (version : Version) → Describes version (scalar (d.BulkError bytes.now)) result }
+    ensures found { (version : Version) →
+        Describes version (scalar (d.BulkError bytes.now)) result }
     ensures is_text { IsText bytes.now }
 {
     let counted = bytes.len() as u64;
@@ -85,7 +86,8 @@ pub(crate) fn of_bulk_error(bytes: &[u8]) -> Findings
 /// Of a verbatim string, whose head counts its format and the colon behind that.
 #[inline]
 pub(crate) fn of_verbatim(format: &[u8; 3], text: &[u8]) -> Findings
-    ensures found { (version : Version) → Describes version (scalar (d.Verbatim format.now text.now)) result }
+    ensures found { (version : Version) →
+        Describes version (scalar (d.Verbatim format.now text.now)) result }
     ensures is_value { IsScalarValue (d.Verbatim format.now text.now) }
 {
     let counted = text.len() as u64 + 4;
@@ -103,7 +105,8 @@ pub(crate) fn of_big(negative: bool, digits: &[u8]) -> Findings
 
 /// What is found of a value. Each value of the program is one that a spelling may have.
 ///
-/// It is inlined where it is called, so that the findings of a scalar stay in registers; what leads back to it is not.
+/// It is inlined where it is called, so that the findings of a scalar stay in registers; what leads
+/// back to it is not.
 #[cycle(survey)]
 #[inline(always)]
 pub(crate) fn survey(value: &Value, version: Version) -> Findings
@@ -135,7 +138,8 @@ pub(crate) fn survey(value: &Value, version: Version) -> Findings
 #[cycle(survey)]
 #[inline(never)]
 fn survey_map(pairs: &[(Value, Value)], version: Version) -> Findings
-    ensures found { Describes version (aggregate d.Map (data_of_list (in_turn (map pair_data pairs.now)))) result }
+    ensures found { Describes version (aggregate d.Map
+        (data_of_list (in_turn (map pair_data pairs.now)))) result }
     ensures is_value { IsValue (aggregate d.Map (data_of_list (in_turn (map pair_data pairs.now)))) }
 {
     survey_pairs(pairs, version).inside(OpenKind::Map, pairs.len() as u64)
@@ -154,7 +158,9 @@ fn survey_annotated(value: &Value, version: Version) -> Findings
 #[cycle(survey)]
 #[inline(never)]
 fn survey_attr(pairs: &[(Value, Value)], version: Version, under: &Findings) -> Findings
-    ensures found { (x : Datum) → Describes version x under.now → Describes version (aggregate d.Attr (data_of_list (in_turn (map pair_data pairs.now) ++ x ∷ []))) result }
+    ensures found { (x : Datum) → Describes version x under.now →
+        Describes version (aggregate d.Attr
+        (data_of_list (in_turn (map pair_data pairs.now) ++ x ∷ []))) result }
     ensures are_values { AreValues (data_of_list (in_turn (map pair_data pairs.now))) }
 {
     let found = survey_pairs(pairs, version).with(under);
@@ -166,7 +172,8 @@ fn survey_attr(pairs: &[(Value, Value)], version: Version, under: &Findings) -> 
 #[inline(never)]
 pub(crate) fn survey_group(members: &[Value], version: Version, kind: OpenKind) -> Findings
     requires { (n : ℕ) → items_of (kind_of kind) n ≡ n }
-    ensures found { Describes version (aggregate (kind_of kind) (data_of_list (map datum_of members.now))) result }
+    ensures found { Describes version (aggregate (kind_of kind)
+        (data_of_list (map datum_of members.now))) result }
     ensures are_values { AreValues (data_of_list (map datum_of members.now)) }
 {
     survey_members(members, version).inside(kind, members.len() as u64)

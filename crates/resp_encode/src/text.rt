@@ -16,8 +16,8 @@ use bytes::BytesMut;
 use resp_value::value::Value;
 use resp_value::version::Version;
 
-/// Appends a head: the byte, the number, CR and LF. A number of one or two digits, as most are, is put there
-/// at once.
+/// Appends a head: the byte, the number, CR and LF. A number of one or two digits, as most are, is
+/// put there at once.
 #[inline(always)]
 pub(crate) fn write_head(out: &mut BytesMut, byte: u8, number: u64)
     requires { length (decimal number) + 3 ≤ out.old.spare }
@@ -33,8 +33,8 @@ pub(crate) fn write_head(out: &mut BytesMut, byte: u8, number: u64)
     }
 }
 
-/// The same of a number of three digits and more. Each byte is stored where it stays: bytes put together elsewhere
-/// and copied in one piece would have to be waited for.
+/// The same of a number of three digits and more. Each byte is stored where it stays: bytes put
+/// together elsewhere and copied in one piece would have to be waited for.
 #[inline(never)]
 fn write_long_head(out: &mut BytesMut, byte: u8, number: u64)
     requires long { 100 ≤ number }
@@ -173,7 +173,8 @@ pub(crate) fn write_line(out: &mut BytesMut, byte: u8, text: &[u8])
 #[inline(always)]
 pub(crate) fn write_string(out: &mut BytesMut, byte: u8, bytes: &[u8])
     requires { length (decimal (length bytes.now)) + length bytes.now + 5 ≤ out.old.spare }
-    ensures { Fills out.old out.new (byte ∷ decimal (length bytes.now) ++ crlf (bytes.now ++ crlf [])) }
+    ensures { Fills out.old out.new (byte ∷ decimal (length bytes.now) ++
+        crlf (bytes.now ++ crlf [])) }
 {
     write_head(out, byte, bytes.len() as u64);
     out.extend_reserved(bytes);
@@ -183,7 +184,8 @@ pub(crate) fn write_string(out: &mut BytesMut, byte: u8, bytes: &[u8])
 /// Appends a verbatim string: its head, its format, a colon, the text, CR and LF.
 #[inline]
 pub(crate) fn write_verbatim(out: &mut BytesMut, format: &[u8; 3], text: &[u8])
-    requires { length (canonical_text Three (scalar (d.Verbatim format.now text.now))) ≤ out.old.spare }
+    requires { length (canonical_text Three (scalar (d.Verbatim format.now text.now))) ≤
+        out.old.spare }
     ensures { Fills out.old out.new (canonical_text Three (scalar (d.Verbatim format.now text.now))) }
 {
     write_head(out, b'=', text.len() as u64 + 4);
@@ -253,8 +255,10 @@ fn write_annotated(value: &Value, version: Version, out: &mut BytesMut)
 #[cycle(write)]
 #[inline(never)]
 pub(crate) fn write_group(members: &[Value], version: Version, byte: u8, out: &mut BytesMut)
-    requires { length (decimal (length members.now)) + 3 + length (texts (canonical_trees version (data_of_list (map datum_of members.now)))) ≤ out.old.spare }
-    ensures { Fills out.old out.new (byte ∷ decimal (length members.now) ++ crlf (texts (canonical_trees version (data_of_list (map datum_of members.now))))) }
+    requires { length (decimal (length members.now)) + 3 + length
+        (texts (canonical_trees version (data_of_list (map datum_of members.now)))) ≤ out.old.spare }
+    ensures { Fills out.old out.new (byte ∷ decimal (length members.now) ++
+        crlf (texts (canonical_trees version (data_of_list (map datum_of members.now))))) }
 {
     write_head(out, byte, members.len() as u64);
     write_members(members, version, out);
@@ -263,8 +267,10 @@ pub(crate) fn write_group(members: &[Value], version: Version, byte: u8, out: &m
 /// Appends the texts of values that stand side by side.
 #[cycle(write)]
 fn write_members(members: &[Value], version: Version, out: &mut BytesMut)
-    requires { length (texts (canonical_trees version (data_of_list (map datum_of members.now)))) ≤ out.old.spare }
-    ensures { Fills out.old out.new (texts (canonical_trees version (data_of_list (map datum_of members.now)))) }
+    requires { length (texts (canonical_trees version (data_of_list (map datum_of members.now)))) ≤
+        out.old.spare }
+    ensures { Fills out.old out.new (texts
+        (canonical_trees version (data_of_list (map datum_of members.now)))) }
 {
     for member in members {
         write_value(member, version, out);
@@ -275,8 +281,10 @@ fn write_members(members: &[Value], version: Version, out: &mut BytesMut)
 #[cycle(write)]
 #[inline(never)]
 fn write_pairs(pairs: &[(Value, Value)], version: Version, out: &mut BytesMut)
-    requires { length (texts (canonical_trees version (data_of_list (in_turn (map pair_data pairs.now))))) ≤ out.old.spare }
-    ensures { Fills out.old out.new (texts (canonical_trees version (data_of_list (in_turn (map pair_data pairs.now))))) }
+    requires { length (texts (canonical_trees version
+        (data_of_list (in_turn (map pair_data pairs.now))))) ≤ out.old.spare }
+    ensures { Fills out.old out.new (texts
+        (canonical_trees version (data_of_list (in_turn (map pair_data pairs.now))))) }
 {
     for pair in pairs {
         write_value(&pair.0, version, out);

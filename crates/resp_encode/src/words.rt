@@ -15,11 +15,11 @@ ghost use Rattle.resp_value.specs.declared.version.Version.TheVariants.{Two};
 use crate::error::EncodeError;
 use crate::findings::Findings;
 use crate::judge::judge;
-use resp_value::kind::OpenKind;
 use crate::room::reserve;
 use crate::survey::of_bulk;
 use crate::text::{write_head, write_string};
 use bytes::BytesMut;
+use resp_value::kind::OpenKind;
 use resp_value::limits::Limits;
 use resp_value::version::Version;
 
@@ -35,8 +35,10 @@ fn survey_words(words: &[Vec<u8>]) -> Findings
 }
 
 fn write_each(words: &[Vec<u8>], out: &mut BytesMut)
-    requires { length (texts (canonical_trees Two (data_of_list (map word_datum (texts_of words.now))))) ≤ out.old.spare }
-    ensures { Fills out.old out.new (texts (canonical_trees Two (data_of_list (map word_datum (texts_of words.now))))) }
+    requires { length (texts (canonical_trees Two
+        (data_of_list (map word_datum (texts_of words.now))))) ≤ out.old.spare }
+    ensures { Fills out.old out.new (texts
+        (canonical_trees Two (data_of_list (map word_datum (texts_of words.now))))) }
 {
     for word in words {
         write_string(out, b'$', word.as_slice());
@@ -54,46 +56,65 @@ fn write_words(words: &[Vec<u8>], out: &mut BytesMut)
 
 /// The length of a command's text, or the first limit that it breaks.
 fn judge_words(limits: &Limits, words: &[Vec<u8>]) -> Result<usize, EncodeError>
-    ensures spelling { OnOk result (IsSpelling (record { version = Two; limits = limits.now }) (command_of (texts_of words.now)) (canonical_text Two (command_of (texts_of words.now)))) }
-    ensures fits { IfOk result (λ size. Fits (record { version = Two; limits = limits.now }) (command_of (texts_of words.now)) × (size ≡ length (canonical_text Two (command_of (texts_of words.now))))) }
-    ensures fault { IfErr result (IsFirstFault (record { version = Two; limits = limits.now }) (command_of (texts_of words.now))) }
+    ensures spelling { OnOk result (IsSpelling (record { version = Two; limits = limits.now })
+        (command_of (texts_of words.now)) (canonical_text Two (command_of (texts_of words.now)))) }
+    ensures fits { IfOk result (λ size. Fits (record { version = Two; limits = limits.now })
+        (command_of (texts_of words.now)) ×
+        (size ≡ length (canonical_text Two (command_of (texts_of words.now))))) }
+    ensures fault { IfErr result (IsFirstFault (record { version = Two; limits = limits.now })
+        (command_of (texts_of words.now))) }
     ensures not_memory { IsErrOf result EncodeError.OutOfMemory → ⊥ }
 {
     let found = survey_words(words).inside(OpenKind::Array, words.len() as u64);
     judge(&found, Version::Two, limits)
 }
 
-/// Whether `encode_words` takes these words, memory aside: the same answer but for want of memory. Takes none.
+/// Whether `encode_words` takes these words, memory aside: the same answer but for want of memory.
+/// Takes none.
 pub fn check_words(limits: &Limits, words: &[Vec<u8>]) -> Result<(), EncodeError>
-    ensures fits { OnOk result (Fits (record { version = Two; limits = limits.now }) (command_of (texts_of words.now))) }
+    ensures fits { OnOk result (Fits (record { version = Two; limits = limits.now })
+        (command_of (texts_of words.now))) }
 
-    // Each refusal comes only where the command has that fault and no earlier one, and always where it has.
-    ensures refused { IfErr result (IsFirstFault (record { version = Two; limits = limits.now }) (command_of (texts_of words.now))) }
-    ensures always { (error : EncodeError) → error ≢ EncodeError.OutOfMemory → IsFirstFault (record { version = Two; limits = limits.now }) (command_of (texts_of words.now)) error → IsErrOf result error }
+    // Each refusal comes only where the command has that fault and no earlier one, and always where
+    // it has.
+    ensures refused { IfErr result (IsFirstFault (record { version = Two; limits = limits.now })
+        (command_of (texts_of words.now))) }
+    ensures always { (error : EncodeError) → error ≢ EncodeError.OutOfMemory →
+        IsFirstFault (record { version = Two; limits = limits.now })
+        (command_of (texts_of words.now)) error → IsErrOf result error }
     ensures not_memory { IsErrOf result EncodeError.OutOfMemory → ⊥ }
 {
     judge_words(limits, words)?;
     Ok(())
 }
 
-/// Appends the canonical text of a command, as `encode` does of the array of these words as bulk strings in
-/// version 2.
+/// Appends the canonical text of a command, as `encode` does of the array of these words as bulk
+/// strings in version 2.
 pub fn encode_words(
     limits: &Limits,
     words: &[Vec<u8>],
     out: &mut BytesMut,
 ) -> Result<(), EncodeError>
-    ensures ok { OnOk result (out.new.items ≡ out.old.items ++ canonical_text Two (command_of (texts_of words.now))) }
-    ensures spelling { OnOk result (IsSpelling (record { version = Two; limits = limits.now }) (command_of (texts_of words.now)) (canonical_text Two (command_of (texts_of words.now)))) }
-    ensures fits { OnOk result (Fits (record { version = Two; limits = limits.now }) (command_of (texts_of words.now))) }
+    ensures ok { OnOk result (out.new.items ≡ out.old.items ++
+        canonical_text Two (command_of (texts_of words.now))) }
+    ensures spelling { OnOk result (IsSpelling (record { version = Two; limits = limits.now })
+        (command_of (texts_of words.now)) (canonical_text Two (command_of (texts_of words.now)))) }
+    ensures fits { OnOk result (Fits (record { version = Two; limits = limits.now })
+        (command_of (texts_of words.now))) }
 
-    // Each refusal comes only where the command has that fault and no earlier one, and always where it has.
-    ensures refused { IfErr result (IsFirstFault (record { version = Two; limits = limits.now }) (command_of (texts_of words.now))) }
-    ensures always { (error : EncodeError) → error ≢ EncodeError.OutOfMemory → IsFirstFault (record { version = Two; limits = limits.now }) (command_of (texts_of words.now)) error → IsErrOf result error }
-    ensures memory { IsErrOf result EncodeError.OutOfMemory → out.old.spare < length (canonical_text Two (command_of (texts_of words.now))) }
+    // Each refusal comes only where the command has that fault and no earlier one, and always where
+    // it has.
+    ensures refused { IfErr result (IsFirstFault (record { version = Two; limits = limits.now })
+        (command_of (texts_of words.now))) }
+    ensures always { (error : EncodeError) → error ≢ EncodeError.OutOfMemory →
+        IsFirstFault (record { version = Two; limits = limits.now })
+        (command_of (texts_of words.now)) error → IsErrOf result error }
+    ensures memory { IsErrOf result EncodeError.OutOfMemory →
+        out.old.spare < length (canonical_text Two (command_of (texts_of words.now))) }
 
     ensures unchanged { OnErr result (out.new.items ≡ out.old.items) }
-    ensures spare { OnOk result (out.old.spare ≤ out.new.spare + length (canonical_text Two (command_of (texts_of words.now)))) }
+    ensures spare { OnOk result (out.old.spare ≤ out.new.spare + length
+        (canonical_text Two (command_of (texts_of words.now)))) }
     ensures spare_kept { OnErr result (out.old.spare ≤ out.new.spare) }
 {
     let size = judge_words(limits, words)?;

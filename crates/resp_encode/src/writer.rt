@@ -16,10 +16,12 @@ use resp_value::value::Value;
 use resp_value::version::Version;
 use std::alloc::Global;
 
-/// Writes the canonical text of a value by one write after another, and answers its length in bytes.
+/// Writes the canonical text of a value by one write after another, and answers its length in
+/// bytes.
 ///
-/// The text is made in memory first. The refusals of `encode` come before anything is written. Where a write fails
-/// or takes no byte, the bytes written so far are a beginning of the text, of the length that the refusal tells.
+/// The text is made in memory first. The refusals of `encode` come before anything is written.
+/// Where a write fails or takes no byte, the bytes written so far are a beginning of the text, of
+/// the length that the refusal tells.
 pub fn encode_to<W: Sink>(
     alloc: Global,
     version: Version,
@@ -28,20 +30,29 @@ pub fn encode_to<W: Sink>(
     writer: &mut W,
 ) -> Result<u64, EncodeToError>
     ensures length { IfOk result (λ n. n ≡ length (canonical_text version (datum_of value.now))) }
-    ensures ok { OnOk result (Appends (W.written writer.old) (W.written writer.new) (canonical_text version (datum_of value.now))) }
-    ensures fits { OnOk result (Fits (record { version = version; limits = limits.now }) (datum_of value.now)) }
+    ensures ok { OnOk result (Appends (W.written writer.old) (W.written writer.new)
+        (canonical_text version (datum_of value.now))) }
+    ensures fits { OnOk result (Fits (record { version = version; limits = limits.now })
+        (datum_of value.now)) }
     ensures none_failed { OnOk result (W.failures writer.new ≡ W.failures writer.old) }
 
-    // Each fault is answered only where the value has it and no earlier one, always where it has, and before
-    // anything is written.
-    ensures refused { IfErr result (IsFirstRefusal (record { version = version; limits = limits.now }) (datum_of value.now)) }
-    ensures always { (error : EncodeError) → error ≢ EncodeError.OutOfMemory → IsFirstFault (record { version = version; limits = limits.now }) (datum_of value.now) error → IsErrOf result (to_error error) }
-    ensures before { (error : EncodeError) → IsErrOf result (to_error error) → writer.new ≡ writer.old }
+    // Each fault is answered only where the value has it and no earlier one, always where it has,
+    // and before anything is written.
+    ensures refused { IfErr result (IsFirstRefusal
+        (record { version = version; limits = limits.now }) (datum_of value.now)) }
+    ensures always { (error : EncodeError) → error ≢ EncodeError.OutOfMemory →
+        IsFirstFault (record { version = version; limits = limits.now }) (datum_of value.now)
+        error → IsErrOf result (to_error error) }
+    ensures before { (error : EncodeError) → IsErrOf result (to_error error) →
+        writer.new ≡ writer.old }
 
     // Where a write failed, the first bytes were written, as many as the refusal tells.
-    ensures within { IfErr result (IfWrite (λ written. written < length (canonical_text version (datum_of value.now)))) }
-    ensures part { IfErr result (IfWrite (λ written. Appends (W.written writer.old) (W.written writer.new) (take written (canonical_text version (datum_of value.now))))) }
-    ensures failed { IfErr result (IfWrite (λ written. HasRisen (W.failures writer.old) (W.failures writer.new))) }
+    ensures within { IfErr result (IfWrite
+        (λ written. written < length (canonical_text version (datum_of value.now)))) }
+    ensures part { IfErr result (IfWrite (λ written. Appends (W.written writer.old)
+        (W.written writer.new) (take written (canonical_text version (datum_of value.now))))) }
+    ensures failed { IfErr result (IfWrite
+        (λ written. HasRisen (W.failures writer.old) (W.failures writer.new))) }
 {
     let mut text = BytesMut::new(alloc);
     encode(version, limits, value, &mut text)?;

@@ -14,8 +14,11 @@ abbrev pub HasEvents : Tree → List ℕ → List Timed → Type 0
 HasEvents tree written events = (text tree ≡ written) × (all_events tree ≡ events)
 
 abbrev pub AnArray : Type 0
-AnArray = HasEvents (node Array (Counted (codes "2")) (more (leaf (line t.Simple (codes "a"))) (more (leaf (string t.Bulk (codes "0") [])) none))) (codes "*2\r\n+a\r\n$0\r\n\r\n")
-    (comes 3 (Open Array (Some 2)) ∷ comes 4 (Text Simple) ∷ comes 5 (Byte 97) ∷ comes 7 TextEnd ∷ comes 11 (Text Bulk) ∷ comes 13 TextEnd ∷ comes 13 Close ∷ comes 13 Done ∷ [])
+AnArray = HasEvents (node Array (Counted (codes "2"))
+    (more (leaf (line t.Simple (codes "a"))) (more (leaf (string t.Bulk (codes "0") [])) none)))
+    (codes "*2\r\n+a\r\n$0\r\n\r\n")
+    (comes 3 (Open Array (Some 2)) ∷ comes 4 (Text Simple) ∷ comes 5 (Byte 97) ∷ comes 7 TextEnd ∷
+    comes 11 (Text Bulk) ∷ comes 13 TextEnd ∷ comes 13 Close ∷ comes 13 Done ∷ [])
 
 abbrev pub AnAttribute : Type 0
 AnAttribute = HasEvents (node Attr (Counted (codes "0")) (more (leaf (null PlainNull)) none)) (codes "|0\r\n_\r\n")
@@ -26,13 +29,16 @@ AStreamedArray = HasEvents (node Array Streamed (more (leaf (null PlainNull)) no
     (comes 3 (Open Array None) ∷ comes 6 Null ∷ comes 9 Close ∷ comes 9 Done ∷ [])
 
 abbrev pub AVerbatimString : Type 0
-AVerbatimString = HasEvents (leaf (string (t.Verbatim (codes "txt")) (codes "6") (codes "hi"))) (codes "=6\r\ntxt:hi\r\n")
-    (comes 7 (Text (Verbatim (codes "txt"))) ∷ comes 8 (Byte 104) ∷ comes 9 (Byte 105) ∷ comes 11 TextEnd ∷ comes 11 Done ∷ [])
+AVerbatimString = HasEvents (leaf (string (t.Verbatim (codes "txt")) (codes "6") (codes "hi")))
+    (codes "=6\r\ntxt:hi\r\n")
+    (comes 7 (Text (Verbatim (codes "txt"))) ∷ comes 8 (Byte 104) ∷ comes 9 (Byte 105) ∷ comes 11 TextEnd ∷
+    comes 11 Done ∷ [])
 
 -- its leading zeros are no content
 abbrev pub ABigNumber : Type 0
 ABigNumber = HasEvents (leaf (numeral t.Big Minus (codes "00120"))) (codes "(-00120\r\n")
-    (comes 4 (Text (Big true)) ∷ comes 4 (Byte 49) ∷ comes 5 (Byte 50) ∷ comes 6 (Byte 48) ∷ comes 8 TextEnd ∷ comes 8 Done ∷ [])
+    (comes 4 (Text (Big true)) ∷ comes 4 (Byte 49) ∷ comes 5 (Byte 50) ∷ comes 6 (Byte 48) ∷ comes 8 TextEnd ∷
+    comes 8 Done ∷ [])
 
 -- a big zero has none, and its events come at its end
 abbrev pub ABigZero : Type 0
@@ -40,5 +46,6 @@ ABigZero = HasEvents (leaf (numeral t.Big Minus (codes "0"))) (codes "(-0\r\n")
     (comes 4 (Text (Big false)) ∷ comes 4 TextEnd ∷ comes 4 Done ∷ [])
 
 abbrev pub AStreamedString : Type 0
-AStreamedString = HasEvents (leaf (chunked (record { digits = codes "2"; content = codes "ab" } ∷ []) (codes "0"))) (codes "$?\r\n;2\r\nab\r\n;0\r\n")
+AStreamedString = HasEvents (leaf (chunked (record { digits = codes "2"; content = codes "ab" } ∷ []) (codes "0")))
+    (codes "$?\r\n;2\r\nab\r\n;0\r\n")
     (comes 3 (Text Bulk) ∷ comes 8 (Byte 97) ∷ comes 9 (Byte 98) ∷ comes 15 TextEnd ∷ comes 15 Done ∷ [])

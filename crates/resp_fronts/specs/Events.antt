@@ -44,7 +44,8 @@ bytes_from at (byte ∷ bytes) = record { at = at; event = Byte byte } ∷ bytes
 
 -- a text that begins at one index, whose content stands from another on, and which ends at a third
 abbrev pub text_events : TextKind → ℕ → ℕ → List ℕ → ℕ → List Timed
-text_events kind begins from content ends = record { at = begins; event = Text kind } ∷ (bytes_from from content ++ record { at = ends; event = TextEnd } ∷ [])
+text_events kind begins from content ends = record { at = begins; event = Text kind } ∷
+    (bytes_from from content ++ record { at = ends; event = TextEnd } ∷ [])
 
 -- the index of the last byte of a text that stands from here on
 abbrev pub last_of : ℕ → List ℕ → ℕ
@@ -59,7 +60,8 @@ line_events t.Double from s last = []
 -- the digits without leading zeros, of which the last has the last index but two; a zero has no content
 abbrev pub big_events : Truth → List ℕ → ℕ → List Timed
 big_events negative [] last = text_events (Big negative) last last [] last
-big_events negative (digit ∷ digits) last = text_events (Big negative) (last - 2 - length digits) (last - 2 - length digits) (digit ∷ digits) last
+big_events negative (digit ∷ digits) last = text_events (Big negative) (last - 2 - length digits)
+    (last - 2 - length digits) (digit ∷ digits) last
 
 -- a number comes at its last byte, and a big one from its first digit that is no zero on
 abbrev pub number_events : NumberKind → Sign → List ℕ → ℕ → List Timed
@@ -69,22 +71,32 @@ number_events t.Big sign digits last = big_events (is_below_zero sign digits) (s
 -- content begins behind the length's line, and that of a verbatim string behind its format and the `:`
 abbrev pub string_events : StringKind → ℕ → List ℕ → List ℕ → ℕ → List Timed
 string_events t.Bulk from digits s last = text_events Bulk (from + length digits + 2) (from + length digits + 3) s last
-string_events t.BulkError from digits s last = text_events BulkError (from + length digits + 2) (from + length digits + 3) s last
-string_events (t.Verbatim format) from digits s last = text_events (Verbatim format) (from + length digits + length format + 3) (from + length digits + length format + 4) s last
+string_events t.BulkError from digits s last = text_events BulkError (from + length digits + 2)
+    (from + length digits + 3) s last
+string_events (t.Verbatim format) from digits s last =
+    text_events (Verbatim format) (from + length digits + length format + 3) (from + length digits + length format + 4)
+    s last
 
 -- the content of chunks, of which the first begins at this index
 abbrev pub chunk_events : ℕ → List Chunk → List Timed
 chunk_events at [] = []
-chunk_events at (c ∷ cs) = bytes_from (at + length c.digits + 3) c.content ++ chunk_events (at + length c.digits + length c.content + 5) cs
+chunk_events at (c ∷ cs) = bytes_from (at + length c.digits + 3) c.content ++
+    chunk_events (at + length c.digits + length c.content + 5) cs
 
 -- the events of a leaf whose first byte has this index
 abbrev pub leaf_events : ℕ → Leaf → List Timed
 leaf_events from (line k s) = line_events k from s (last_of from (leaf_text (line k s)))
-leaf_events from (numeral k sign digits) = number_events k sign digits (last_of from (leaf_text (numeral k sign digits)))
+leaf_events from (numeral k sign digits) = number_events k sign digits
+    (last_of from (leaf_text (numeral k sign digits)))
 leaf_events from (null form) = record { at = last_of from (leaf_text (null form)); event = Null } ∷ []
 leaf_events from (truth b) = record { at = last_of from (leaf_text (truth b)); event = Bool b } ∷ []
 leaf_events from (string k digits s) = string_events k from digits s (last_of from (leaf_text (string k digits s)))
-leaf_events from (chunked chunks zeros) = record { at = from + 3; event = Text Bulk } ∷ (chunk_events (from + 4) chunks ++ record { at = last_of from (leaf_text (chunked chunks zeros)); event = TextEnd } ∷ [])
+leaf_events from (chunked chunks zeros) = record { at = from + 3; event = Text Bulk } ∷
+    (chunk_events (from + 4) chunks ++ record {
+      at = last_of from (leaf_text (chunked chunks zeros));
+      event =
+          TextEnd;
+    } ∷ [])
 
 -- the number in a head
 abbrev pub declared_count : Form → Option ℕ
@@ -103,7 +115,8 @@ close_event from whole = record { at = last_of from whole; event = Close }
 abbrev mutual
   pub events : ℕ → Tree → List Timed
   events from (leaf l) = leaf_events from l
-  events from (node k form ts) = open_event from k form ∷ (events_each (from + length (form_line form) + 3) ts ++ close_event from (text (node k form ts)) ∷ [])
+  events from (node k form ts) = open_event from k form ∷
+      (events_each (from + length (form_line form) + 3) ts ++ close_event from (text (node k form ts)) ∷ [])
 
   pub events_each : ℕ → Trees → List Timed
   events_each from none = []
@@ -125,7 +138,8 @@ events_due n (e ∷ es) = cond (ltb e.at n) (e.event ∷ events_due n es) (event
 
 -- what has come of a frame: its opening, and the events of its whole members
 abbrev pub frame_events : ℕ → Frame → List Timed
-frame_events from frame = open_event from frame.kind frame.form ∷ events_each (from + length (form_line frame.form) + 3) frame.done
+frame_events from frame = open_event from frame.kind frame.form ∷
+    events_each (from + length (form_line frame.form) + 3) frame.done
 
 -- the events of what the frames have taken
 abbrev pub events_around : List Frame → List Timed

@@ -13,25 +13,40 @@ use Rattle.resp_fronts.specs.MayFollow.{MayFollow, CompletesValue, AreKept, AreO
 
 -- what has come, and what may follow it, spell a tree within the rules
 abbrev pub WhatMayFollowContinues : Type 0
-WhatMayFollowContinues = (r : Rules) (rule : Rule) (frames : List Frame) (begun rest : List ℕ) → rank rule < rank WithinTotal → AreKept (LeafKeeps r rule) (NodeKeeps r rule) frames → MayFollow (LeafKeeps r rule) (NodeKeeps r rule) frames begun rest → Continues r rule (text_around frames begun) rest
+WhatMayFollowContinues = (r : Rules) (rule : Rule) (frames : List Frame) (begun rest : List ℕ) →
+    rank rule < rank WithinTotal → AreKept (LeafKeeps r rule) (NodeKeeps r rule) frames →
+    MayFollow (LeafKeeps r rule) (NodeKeeps r rule) frames begun rest → Continues r rule (text_around frames begun) rest
 
 -- what continues a front may follow it: no other tree begins so
 abbrev pub WhatContinuesMayFollow : Type 0
-WhatContinuesMayFollow = (r : Rules) (rule : Rule) (frames : List Frame) (begun rest : List ℕ) → rank rule < rank WithinTotal → AreOpen frames → Continues r rule (text_around frames begun) rest → MayFollow (LeafKeeps r rule) (NodeKeeps r rule) frames begun rest
+WhatContinuesMayFollow = (r : Rules) (rule : Rule) (frames : List Frame) (begun rest : List ℕ) →
+    rank rule < rank WithinTotal → AreOpen frames → Continues r rule (text_around frames begun) rest →
+    MayFollow (LeafKeeps r rule) (NodeKeeps r rule) frames begun rest
 
 -- the least completion of a front is the begun value's, and then what the frames around it need
 abbrev pub LeastCompletionSplits : Type 0
-LeastCompletionSplits = (r : Rules) (rule : Rule) (frames : List Frame) (byte : ℕ) (begun : List ℕ) (n : ℕ) → rank rule < rank WithinTotal → CanAllEnd (LeafKeeps r rule) (NodeKeeps r rule) frames → (byte ≡ 46 → ⊥) → 0 < n → HasLeast (CompletesValue (LeafKeeps r rule) (NodeKeeps r rule) (length frames) (byte ∷ begun)) n → HasLeast (Continues r rule (text_around frames (byte ∷ begun))) (n + frames_needed frames)
+LeastCompletionSplits = (r : Rules) (rule : Rule) (frames : List Frame) (byte : ℕ) (begun : List ℕ) (n : ℕ) →
+    rank rule < rank WithinTotal → CanAllEnd (LeafKeeps r rule) (NodeKeeps r rule) frames → (byte ≡ 46 → ⊥) → 0 < n →
+    HasLeast (CompletesValue (LeafKeeps r rule) (NodeKeeps r rule) (length frames) (byte ∷ begun)) n →
+    HasLeast (Continues r rule (text_around frames (byte ∷ begun))) (n + frames_needed frames)
 
 -- a front is viable under all rules exactly where it and its least completion are within total
 abbrev pub ViableWhereLeastFits : Type 0
-ViableWhereLeastFits = (r : Rules) (front : List ℕ) (n : ℕ) → IsLeast r front n → IsViable r WithinTotal front ↔ (length front + n ≤ r.limits.total)
+ViableWhereLeastFits = (r : Rules) (front : List ℕ) (n : ℕ) → IsLeast r front n →
+    IsViable r WithinTotal front ↔ (length front + n ≤ r.limits.total)
 
 -- a first byte has the cause that the function of first bytes names, and is viable where it names none
 abbrev pub AFirstByteHasItsCause : Type 0
-AFirstByteHasItsCause = (r : Rules) (byte : ℕ) → AreBounds r.limits → ((rule : Rule) → first_byte_refusal r 0 byte ≡ Some rule → IsCause r (byte ∷ []) rule) × (first_byte_refusal r 0 byte ≡ None → IsViable r WithinItems (byte ∷ []))
+AFirstByteHasItsCause = (r : Rules) (byte : ℕ) → AreBounds r.limits →
+    ((rule : Rule) → first_byte_refusal r 0 byte ≡ Some rule → IsCause r (byte ∷ []) rule) ×
+    (first_byte_refusal r 0 byte ≡ None → IsViable r WithinItems (byte ∷ []))
 
 -- a spelled tree that a front begins has a value where the frames leave off, and while this value is unfinished the
 -- events due are those of what the frames have taken, and those due of the value
 abbrev pub EventsDueSplit : Type 0
-EventsDueSplit = (frames : List Frame) (begun rest : List ℕ) (whole : Tree) → AreOpen frames → ((behind : List ℕ) → begun ++ rest ≡ 46 ∷ behind → ⊥) → Spells whole (text_around frames begun ++ rest) → (value : Tree) × (behind : List ℕ) × IsTree value × (text value ++ behind ≡ begun ++ rest) × (length begun < length (text value) → events_due (length (text_around frames begun)) (events 0 whole) ≡ without_places (events_around frames) ++ events_due (length (text_around frames begun)) (events (length (text_around frames [])) value))
+EventsDueSplit = (frames : List Frame) (begun rest : List ℕ) (whole : Tree) → AreOpen frames →
+    ((behind : List ℕ) → begun ++ rest ≡ 46 ∷ behind → ⊥) → Spells whole (text_around frames begun ++ rest) →
+    (value : Tree) × (behind : List ℕ) × IsTree value × (text value ++ behind ≡ begun ++ rest) ×
+    (length begun < length (text value) → events_due (length (text_around frames begun)) (events 0 whole) ≡
+    without_places (events_around frames) ++ events_due (length (text_around frames begun))
+    (events (length (text_around frames [])) value))

@@ -7,8 +7,10 @@ use Rattle.resp_value.specs.Trees.{Tree, Trees, Form, Counted, Streamed, text, t
 use Rattle.resp_value.specs.LocalRules.{LeafRule, NodeRule, HoldsFrom, HoldsFromEach}
 use Rattle.resp_fronts.specs.Frames.{Frame}
 
--- members that may still come in an aggregate on a level that has n of them, its close, and then a rest of which P holds
-pub record MembersThen (L : LeafRule) (N : NodeRule) (level : ℕ) (k : Kind) (form : Form) (n : ℕ) (P : List ℕ → Type 0) (following : List ℕ) : Type 0 where
+-- members that may still come in an aggregate on a level that has n of them, its close, and then a rest of which P
+-- holds
+pub record MembersThen (L : LeafRule) (N : NodeRule) (level : ℕ) (k : Kind) (form : Form) (n : ℕ) (P : List ℕ →
+    Type 0) (following : List ℕ) : Type 0 where
   pub members : Trees
   pub rest : List ℕ
   pub are_trees : AreTrees members
@@ -21,7 +23,8 @@ pub record MembersThen (L : LeafRule) (N : NodeRule) (level : ℕ) (k : Kind) (f
 -- what may follow a whole value within open frames
 abbrev pub MayFollowValue : LeafRule → NodeRule → List Frame → List ℕ → Type 0
 MayFollowValue L N [] following = following ≡ []
-MayFollowValue L N (frame ∷ frames) following = MembersThen L N (length frames) frame.kind frame.form (suc (count frame.done)) (MayFollowValue L N frames) following
+MayFollowValue L N (frame ∷ frames) following = MembersThen L N (length frames) frame.kind frame.form
+    (suc (count frame.done)) (MayFollowValue L N frames) following
 
 -- the text of one tree within the rules
 pub record IsWholeText (L : LeafRule) (N : NodeRule) (whole_text : List ℕ) : Type 0 where
@@ -33,7 +36,8 @@ pub record IsWholeText (L : LeafRule) (N : NodeRule) (whole_text : List ℕ) : T
 -- what may follow where a member of the innermost frame may begin
 abbrev pub MayFollowFrames : LeafRule → NodeRule → List Frame → List ℕ → Type 0
 MayFollowFrames L N [] following = IsWholeText L N following
-MayFollowFrames L N (frame ∷ frames) following = MembersThen L N (length frames) frame.kind frame.form (count frame.done) (MayFollowValue L N frames) following
+MayFollowFrames L N (frame ∷ frames) following = MembersThen L N (length frames) frame.kind frame.form
+    (count frame.done) (MayFollowValue L N frames) following
 
 -- what may follow bytes that were begun within the frames
 abbrev pub MayFollow : LeafRule → NodeRule → List Frame → List ℕ → List ℕ → Type 0
@@ -58,12 +62,14 @@ pub record CompletesValue (L : LeafRule) (N : NodeRule) (level : ℕ) (begun res
 -- the whole members of the frames are within the rules
 abbrev pub AreKept : LeafRule → NodeRule → List Frame → Type 0
 AreKept L N [] = Unit {0}
-AreKept L N (frame ∷ frames) = AreTrees frame.done × HoldsFromEach L N (suc (length frames)) frame.done × AreKept L N frames
+AreKept L N (frame ∷ frames) = AreTrees frame.done × HoldsFromEach L N (suc (length frames)) frame.done ×
+    AreKept L N frames
 
 -- each frame has room for a member more
 abbrev pub AreOpen : List Frame → Type 0
 AreOpen [] = Unit {0}
-AreOpen (frame ∷ frames) = (n : ℕ) × HasMembers frame.kind frame.form n × (count frame.done < n) × AreTrees frame.done × AreOpen frames
+AreOpen (frame ∷ frames) = (n : ℕ) × HasMembers frame.kind frame.form n × (count frame.done < n) × AreTrees frame.done ×
+    AreOpen frames
 
 -- the fewest members that must still come in an aggregate that has n
 abbrev pub members_missing : Kind → Form → ℕ → ℕ
@@ -76,12 +82,14 @@ members_missing Push Streamed n = 0
 
 -- an aggregate that has n members can end at all
 abbrev pub CanEnd : NodeRule → ℕ → Kind → Form → ℕ → Type 0
-CanEnd N level k form n = HasMembers k form (n + members_missing k form n) × N level k form (n + members_missing k form n)
+CanEnd N level k form n = HasMembers k form (n + members_missing k form n) ×
+    N level k form (n + members_missing k form n)
 
 -- each frame can end once its open member is whole
 abbrev pub CanAllEnd : LeafRule → NodeRule → List Frame → Type 0
 CanAllEnd L N [] = Unit {0}
-CanAllEnd L N (frame ∷ frames) = CanEnd N (length frames) frame.kind frame.form (suc (count frame.done)) × AreTrees frame.done × HoldsFromEach L N (suc (length frames)) frame.done × CanAllEnd L N frames
+CanAllEnd L N (frame ∷ frames) = CanEnd N (length frames) frame.kind frame.form (suc (count frame.done)) ×
+    AreTrees frame.done × HoldsFromEach L N (suc (length frames)) frame.done × CanAllEnd L N frames
 
 -- the bytes that an aggregate with n members needs, and the rest behind it
 abbrev pub members_needed : Kind → Form → ℕ → ℕ → ℕ

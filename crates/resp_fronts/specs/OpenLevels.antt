@@ -19,7 +19,8 @@ pub record Level : Type 0 where
 
 -- an aggregate of this form that has n members
 abbrev pub HasShape : Kind → Shape → Form → ℕ → Type 0
-HasShape k (to_come m) f n = (ds : List ℕ) × (f ≡ Counted ds) × IsDigits ds × (members_of k (number ds) ≡ n + m) × (0 < m)
+HasShape k (to_come m) f n = (ds : List ℕ) × (f ≡ Counted ds) × IsDigits ds × (members_of k (number ds) ≡ n + m) ×
+    (0 < m)
 HasShape k (so_far m) f n = (f ≡ Streamed) × (m ≡ n)
 
 -- the levels count these frames
@@ -32,4 +33,5 @@ AreLevelsOf (v ∷ vs) (f ∷ fs) = (v.kind ≡ f.kind) × HasShape f.kind v.sha
 -- what a scanner that waits for a member stands behind
 abbrev pub AreReady : LeafRule → NodeRule → List Frame → Type 0
 AreReady L N [] = Unit {0}
-AreReady L N (f ∷ fs) = CanEnd N (length fs) f.kind f.form (count f.done) × AreTrees f.done × HoldsFromEach L N (suc (length fs)) f.done × CanAllEnd L N fs
+AreReady L N (f ∷ fs) = CanEnd N (length fs) f.kind f.form (count f.done) × AreTrees f.done ×
+    HoldsFromEach L N (suc (length fs)) f.done × CanAllEnd L N fs

@@ -53,7 +53,8 @@ abbrev pub IsNumberBegun : Rules → NumberKind → Sign → ℕ → List ℕ �
 IsNumberBegun r k sign level bytes = MayBe r k sign (48 ∷ []) × (bytes ≡ number_byte k ∷ (sign_text sign ++ []))
 
 -- with digits
-pub record IsNumberToken (r : Rules) (k : NumberKind) (sign : Sign) (digits : List ℕ) (level : ℕ) (bytes : List ℕ) : Type 0 where
+pub record IsNumberToken (r : Rules) (k : NumberKind) (sign : Sign) (digits : List ℕ) (level : ℕ)
+    (bytes : List ℕ) : Type 0 where
   pub are_digits : IsDigits digits
   pub may_be : MayBe r k sign digits
   pub are : bytes ≡ number_byte k ∷ (sign_text sign ++ digits)
@@ -65,10 +66,11 @@ pub record IsCountToken (r : Rules) (k : Kind) (first : ℕ) (digits : List ℕ)
   pub are : bytes ≡ kind_byte k ∷ first ∷ digits
 
 -- a count and its CR
-pub record IsCountReturned (r : Rules) (k : Kind) (first : ℕ) (digits : List ℕ) (level : ℕ) (bytes : List ℕ) : Type 0 where
-  pub begun : List ℕ
-  pub count : IsCountToken r k first digits level begun
-  pub returned : bytes ≡ begun ++ 13 ∷ []
+pub record IsCountReturned (r : Rules) (k : Kind) (first : ℕ) (digits : List ℕ) (level : ℕ) (bytes : List ℕ) : Type 0
+  where
+    pub begun : List ℕ
+    pub count : IsCountToken r k first digits level begun
+    pub returned : bytes ≡ begun ++ 13 ∷ []
 
 -- whether a version has strings of this kind
 abbrev pub HasString : Rules → StringKind → Type 0
@@ -77,14 +79,16 @@ HasString r BulkError = r.version ≡ Two → ⊥
 HasString r (Verbatim format) = r.version ≡ Two → ⊥
 
 -- a string's type byte and the digits of its length
-pub record IsLengthToken (r : Rules) (k : StringKind) (first : ℕ) (digits : List ℕ) (level : ℕ) (bytes : List ℕ) : Type 0 where
+pub record IsLengthToken (r : Rules) (k : StringKind) (first : ℕ) (digits : List ℕ) (level : ℕ) (bytes : List ℕ) : Type
+    0 where
   pub are_digits : IsDigits (first ∷ digits)
   pub has_string : HasString r k
   pub fits : number (first ∷ digits) ≤ r.limits.length
   pub are : bytes ≡ string_byte k ∷ first ∷ digits
 
 -- behind a length's line, begun bytes of a payload of which so many are left
-pub record IsContentToken (r : Rules) (k : StringKind) (first : ℕ) (digits begun : List ℕ) (left : ℕ) (level : ℕ) (bytes : List ℕ) : Type 0 where
+pub record IsContentToken (r : Rules) (k : StringKind) (first : ℕ) (digits begun : List ℕ) (left : ℕ) (level : ℕ)
+    (bytes : List ℕ) : Type 0 where
   pub are_digits : IsDigits (first ∷ digits)
   pub has_string : HasString r k
   pub has_format : HasFormat k

@@ -7,8 +7,10 @@ use Rattle.resp_value.specs.Spellings.{FaultOf, IsViable}
 
 -- at one byte the text stops being viable, for one rule
 abbrev pub HasOneFault : Rules → List ℕ → Type 0
-HasOneFault r text = (rule : Rule) × (at : ℕ) × FaultOf r text rule at × ((other : Rule) (place : ℕ) → FaultOf r text other place → (other ≡ rule) × (place ≡ at))
+HasOneFault r text = (rule : Rule) × (at : ℕ) × FaultOf r text rule at ×
+    ((other : Rule) (place : ℕ) → FaultOf r text other place → (other ≡ rule) × (place ≡ at))
 
 -- every text of bytes begins a spelling within the rules, or has exactly one cause at exactly one first byte
 abbrev pub EveryTextIsJudged : Type 0
-EveryTextIsJudged = (r : Rules) (text : List ℕ) → AreBounds r.limits → IsText text → IsViable r WithinTotal text ⊎ HasOneFault r text
+EveryTextIsJudged = (r : Rules) (text : List ℕ) → AreBounds r.limits → IsText text →
+    IsViable r WithinTotal text ⊎ HasOneFault r text

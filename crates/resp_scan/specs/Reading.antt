@@ -46,11 +46,13 @@ MayEnd r front = (front ≡ []) ⊎ IsSpelled r front
 
 -- of every tree that the front begins, these events are due by then
 abbrev pub AreDue : List ℕ → Events → Type 0
-AreDue front es = (rest : List ℕ) (whole : Tree) → Spells whole (front ++ rest) → events_due (length front) (all_events whole) ≡ es
+AreDue front es = (rest : List ℕ) (whole : Tree) → Spells whole (front ++ rest) →
+    events_due (length front) (all_events whole) ≡ es
 
 -- and these are the first of them
 abbrev pub BeginDue : List ℕ → Events → Type 0
-BeginDue front es = (rest : List ℕ) (whole : Tree) → Spells whole (front ++ rest) → (later : Events) × (events_due (length front) (all_events whole) ≡ es ++ later)
+BeginDue front es = (rest : List ℕ) (whole : Tree) → Spells whole (front ++ rest) →
+    (later : Events) × (events_due (length front) (all_events whole) ≡ es ++ later)
 
 -- no tree is spelled by the front and a front of the piece that isn't empty
 abbrev pub HasNoValue : List ℕ → List ℕ → Type 0
@@ -71,15 +73,21 @@ events_of event.Done = []
 -- Without an event the piece is used, no value has ended in it, and the events given are those due. At Done what has
 -- come is a value, and the events given are its. Any other event adds to the events given.
 abbrev pub Heard : Rules → Place → List ℕ → Events → List ℕ → ℕ → Option Event → Type 0
-Heard r s front es piece n None = (n ≡ length piece) × HasNoValue front piece × AreDue (front ++ piece) es × HasRead s (front ++ piece) es
+Heard r s front es piece n None = (n ≡ length piece) × HasNoValue front piece × AreDue (front ++ piece) es ×
+    HasRead s (front ++ piece) es
 Heard r s front es piece n (Some event.Done) = (n ≡ 0) × IsValue r front es × HasRead s [] []
 Heard r s front es piece n (Some event.Null) = HasRead s (front ++ take n piece) (es ++ events_of event.Null)
-Heard r s front es piece n (Some (event.Bool truth)) = HasRead s (front ++ take n piece) (es ++ events_of (event.Bool truth))
-Heard r s front es piece n (Some (event.Int number)) = HasRead s (front ++ take n piece) (es ++ events_of (event.Int number))
-Heard r s front es piece n (Some (event.Text kind)) = HasRead s (front ++ take n piece) (es ++ events_of (event.Text kind))
-Heard r s front es piece n (Some (event.Part bytes)) = HasRead s (front ++ take n piece) (es ++ events_of (event.Part bytes))
+Heard r s front es piece n (Some (event.Bool truth)) =
+    HasRead s (front ++ take n piece) (es ++ events_of (event.Bool truth))
+Heard r s front es piece n (Some (event.Int number)) =
+    HasRead s (front ++ take n piece) (es ++ events_of (event.Int number))
+Heard r s front es piece n (Some (event.Text kind)) =
+    HasRead s (front ++ take n piece) (es ++ events_of (event.Text kind))
+Heard r s front es piece n (Some (event.Part bytes)) =
+    HasRead s (front ++ take n piece) (es ++ events_of (event.Part bytes))
 Heard r s front es piece n (Some event.TextEnd) = HasRead s (front ++ take n piece) (es ++ events_of event.TextEnd)
-Heard r s front es piece n (Some (event.Open kind members)) = HasRead s (front ++ take n piece) (es ++ events_of (event.Open kind members))
+Heard r s front es piece n (Some (event.Open kind members)) =
+    HasRead s (front ++ take n piece) (es ++ events_of (event.Open kind members))
 Heard r s front es piece n (Some event.Close) = HasRead s (front ++ take n piece) (es ++ events_of event.Close)
 
 -- of the front and the piece, the bytes before the fault are viable, and with the next byte they aren't, by the cause

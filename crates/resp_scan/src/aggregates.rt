@@ -2,10 +2,10 @@
 
 ghost use Rattle.std.specs.Prelude.{◌≡◌, ◌≤◌, ◌<◌, ◌+◌, ◌*◌, ◌^◌, ◌++◌, ◌∷◌, [], length, drop, Some, slice_index};
 
-use resp_value::kind::OpenKind;
 use crate::frame::{Frame, Shape};
-use crate::machine::{Taken, Machine, State, EventTag};
+use crate::machine::{EventTag, Machine, State, Taken};
 use resp_value::cause::Cause;
+use resp_value::kind::OpenKind;
 
 impl Machine {
     ghost use Rattle.resp_scan.specs.Machine.Fields.{place_of, out_of};
@@ -20,7 +20,8 @@ impl Machine {
     pub fn open(&mut self, used: usize, kind: OpenKind, number: u64, members: u64) -> Taken
         requires level { length self.old.frames.items < 128 }
         requires frames_need { self.old.frames_need + members * 3 < 2 ^ 64 }
-        ensures { out_of result self.new ≡ Gave used (Open kind (Some number)) (after_open (place_of self.old) kind members) }
+        ensures { out_of result self.new ≡
+            Gave used (Open kind (Some number)) (after_open (place_of self.old) kind members) }
     {
         self.frames_need += members * 3;
         self.push(Frame {
@@ -47,7 +48,8 @@ impl Machine {
         requires within { i ≤ length piece.now }
         requires level { length self.old.frames.items < 128 }
         requires frames_need { self.old.frames_need < 2 ^ 62 }
-        ensures { out_of result self.new ≡ scan i (at (place_of self.old) (AtOpenCr kind)) (drop i piece.now) }
+        ensures { out_of result self.new ≡
+            scan i (at (place_of self.old) (AtOpenCr kind)) (drop i piece.now) }
     {
         if i == piece.len() {
             self.kind = kind;
@@ -64,7 +66,8 @@ impl Machine {
         requires within { i ≤ length piece.now }
         requires level { length self.old.frames.items < 128 }
         requires frames_need { self.old.frames_need < 2 ^ 62 }
-        ensures { out_of result self.new ≡ scan i (at (place_of self.old) (AtOpenLf kind)) (drop i piece.now) }
+        ensures { out_of result self.new ≡
+            scan i (at (place_of self.old) (AtOpenLf kind)) (drop i piece.now) }
     {
         self.kind = kind;
         if i == piece.len() {
@@ -81,7 +84,8 @@ impl Machine {
         self.ended(i + 1, EventTag::OpenStreamed)
     }
 
-    /// Whether the innermost open aggregate may close here: it is streamed, and a map between whole pairs.
+    /// Whether the innermost open aggregate may close here: it is streamed, and a map between whole
+    /// pairs.
     #[inline]
     fn may_close(&self) -> bool
         ensures { result ≡ may_close (place_of self.now).frames }
@@ -100,11 +104,12 @@ impl Machine {
 
     /// At the `.` that closes a streamed aggregate.
     #[inline]
-    #[tactic(auto, using(crate::proofs::Places::close_owed))]
+    #[tactic(auto, using(crate::proofs::Soundness::Places::close_owed))]
     pub fn close(&mut self, piece: &[u8]) -> Taken
         requires some { 0 < length piece.now }
         requires sound { IsSound (at (place_of self.old) AtStart) }
-        ensures { slice_index piece.now 0 ≡ 46 → out_of result self.new ≡ scan 0 (at (place_of self.old) AtStart) piece.now }
+        ensures { slice_index piece.now 0 ≡ 46 →
+            out_of result self.new ≡ scan 0 (at (place_of self.old) AtStart) piece.now }
     {
         if !self.may_close() {
             return self.fail(0, Cause::Syntax);
@@ -117,7 +122,8 @@ impl Machine {
     #[inline]
     pub fn close_cr(&mut self, piece: &[u8], i: usize) -> Taken
         requires { i ≤ length piece.now }
-        ensures { out_of result self.new ≡ scan i (at (place_of self.old) AtCloseCr) (drop i piece.now) }
+        ensures { out_of result self.new ≡
+            scan i (at (place_of self.old) AtCloseCr) (drop i piece.now) }
     {
         if i == piece.len() {
             return self.rest(State::CloseCr, piece);
@@ -131,7 +137,8 @@ impl Machine {
     #[inline]
     pub fn close_lf(&mut self, piece: &[u8], i: usize) -> Taken
         requires { i ≤ length piece.now }
-        ensures { out_of result self.new ≡ scan i (at (place_of self.old) AtCloseLf) (drop i piece.now) }
+        ensures { out_of result self.new ≡
+            scan i (at (place_of self.old) AtCloseLf) (drop i piece.now) }
     {
         if i == piece.len() {
             return self.rest(State::CloseLf, piece);

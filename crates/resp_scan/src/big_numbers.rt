@@ -3,7 +3,7 @@
 ghost use Rattle.resp_scan.specs.Machine.Runs.{digit_run};
 ghost use Rattle.std.specs.Prelude.{◌≡◌, ◌≤◌, ◌<◌, ◌+◌, ◌-◌, ◌^◌, length, drop};
 
-use crate::machine::{Taken, Machine, State, EventTag};
+use crate::machine::{EventTag, Machine, State, Taken};
 use resp_value::cause::Cause;
 
 impl Machine {
@@ -16,7 +16,8 @@ impl Machine {
     #[inline]
     pub fn big_sign(&mut self, piece: &[u8], i: usize) -> Taken
         requires { i ≤ length piece.now }
-        ensures { out_of result self.new ≡ scan i (at (place_of self.old) AtBigSign) (drop i piece.now) }
+        ensures { out_of result self.new ≡
+            scan i (at (place_of self.old) AtBigSign) (drop i piece.now) }
     {
         if i == piece.len() {
             return self.rest(State::BigSign, piece);
@@ -37,7 +38,8 @@ impl Machine {
     #[inline]
     pub fn big_first(&mut self, piece: &[u8], i: usize, negative: bool) -> Taken
         requires { i ≤ length piece.now }
-        ensures { out_of result self.new ≡ scan i (at (place_of self.old) (AtBigFirst negative)) (drop i piece.now) }
+        ensures { out_of result self.new ≡
+            scan i (at (place_of self.old) (AtBigFirst negative)) (drop i piece.now) }
     {
         if i == piece.len() {
             self.big_negative = negative;
@@ -57,7 +59,8 @@ impl Machine {
     #[inline]
     pub fn big_zeros(&mut self, piece: &[u8], from: usize, negative: bool) -> Taken
         requires { from ≤ length piece.now }
-        ensures { out_of result self.new ≡ scan from (at (place_of self.old) (InBigZeros negative)) (drop from piece.now) }
+        ensures { out_of result self.new ≡
+            scan from (at (place_of self.old) (InBigZeros negative)) (drop from piece.now) }
     {
         for i in from..piece.len() {
             let byte = piece[i];
@@ -82,7 +85,9 @@ impl Machine {
     #[inline]
     fn big_digit(&mut self, i: usize, negative: bool, byte: u8) -> Taken
         requires { i < 2 ^ 63 }
-        ensures { out_of result self.new ≡ Gave (i + 1) (Text (text.Big negative)) (at (place_of self.old) (AtBigDigit byte (self.old.limits.length - 1))) }
+        ensures { out_of result self.new ≡
+            Gave (i + 1) (Text (text.Big negative))
+            (at (place_of self.old) (AtBigDigit byte (self.old.limits.length - 1))) }
     {
         self.state = State::BigDigit;
         self.big_negative = negative;
@@ -95,7 +100,8 @@ impl Machine {
     #[inline]
     pub fn big_zero_lf(&mut self, piece: &[u8], i: usize) -> Taken
         requires { i ≤ length piece.now }
-        ensures { out_of result self.new ≡ scan i (at (place_of self.old) AtBigZeroLf) (drop i piece.now) }
+        ensures { out_of result self.new ≡
+            scan i (at (place_of self.old) AtBigZeroLf) (drop i piece.now) }
     {
         if i == piece.len() {
             return self.rest(State::BigZeroLf, piece);
@@ -112,7 +118,8 @@ impl Machine {
     #[inline]
     pub fn big(&mut self, piece: &[u8]) -> Taken
         requires { self.old.state ≡ State.Big }
-        ensures { out_of result self.new ≡ scan 0 (at (place_of self.old) (InBig self.old.room)) piece.now }
+        ensures { out_of result self.new ≡
+            scan 0 (at (place_of self.old) (InBig self.old.room)) piece.now }
     {
         if piece.is_empty() {
             return self.rest(State::Big, piece);

@@ -2,7 +2,7 @@
 
 ghost use Rattle.std.specs.Prelude.{◌≡◌, ◌≤◌, ◌<◌, ◌-◌, ◌^◌, length, drop};
 
-use crate::machine::{Taken, Head, Machine, State, EventTag};
+use crate::machine::{EventTag, Head, Machine, State, Taken};
 use resp_value::cause::Cause;
 
 impl Machine {
@@ -15,7 +15,8 @@ impl Machine {
     #[inline]
     pub fn stream_cr(&mut self, piece: &[u8], i: usize) -> Taken
         requires { i ≤ length piece.now }
-        ensures { out_of result self.new ≡ scan i (at (place_of self.old) AtStreamCr) (drop i piece.now) }
+        ensures { out_of result self.new ≡
+            scan i (at (place_of self.old) AtStreamCr) (drop i piece.now) }
     {
         if i == piece.len() {
             return self.rest(State::StreamCr, piece);
@@ -29,7 +30,8 @@ impl Machine {
     #[inline]
     pub fn stream_lf(&mut self, piece: &[u8], i: usize) -> Taken
         requires { i ≤ length piece.now }
-        ensures { out_of result self.new ≡ scan i (at (place_of self.old) AtStreamLf) (drop i piece.now) }
+        ensures { out_of result self.new ≡
+            scan i (at (place_of self.old) AtStreamLf) (drop i piece.now) }
     {
         if i == piece.len() {
             return self.rest(State::StreamLf, piece);
@@ -46,7 +48,8 @@ impl Machine {
     #[inline]
     pub fn chunk(&mut self, piece: &[u8], i: usize) -> Taken
         requires { i ≤ length piece.now }
-        ensures { out_of result self.new ≡ scan i (at (place_of self.old) (AtChunk self.old.room)) (drop i piece.now) }
+        ensures { out_of result self.new ≡
+            scan i (at (place_of self.old) (AtChunk self.old.room)) (drop i piece.now) }
     {
         if i == piece.len() {
             return self.rest(State::Chunk, piece);
@@ -63,8 +66,10 @@ impl Machine {
     pub fn chunk_begins(&mut self, piece: &[u8], i: usize, count: u64, room: u64) -> Taken
         requires within { i ≤ length piece.now }
         requires room { count ≤ room }
-        ensures ends { count ≡ 0 → out_of result self.new ≡ Gave i TextEnd (after_end (place_of self.old)) }
-        ensures begins { 0 < count → out_of result self.new ≡ scan i (at (place_of self.old) (InChunk (room - count) count)) (drop i piece.now) }
+        ensures ends { count ≡ 0 → out_of result self.new ≡
+            Gave i TextEnd (after_end (place_of self.old)) }
+        ensures begins { 0 < count → out_of result self.new ≡
+            scan i (at (place_of self.old) (InChunk (room - count) count)) (drop i piece.now) }
     {
         if count == 0 {
             return self.ended(i, EventTag::TextEnd);
@@ -78,7 +83,9 @@ impl Machine {
     pub fn chunk_content(&mut self, piece: &[u8], i: usize) -> Taken
         requires within { i ≤ length piece.now }
         requires some { 0 < self.old.count }
-        ensures { out_of result self.new ≡ scan i (at (place_of self.old) (InChunk self.old.room self.old.count)) (drop i piece.now) }
+        ensures { out_of result self.new ≡
+            scan i (at (place_of self.old) (InChunk self.old.room self.old.count))
+            (drop i piece.now) }
     {
         if i == piece.len() {
             return self.rest(State::ChunkContent, piece);
@@ -105,7 +112,8 @@ impl Machine {
 
     #[inline]
     pub fn chunk_cr(&mut self, piece: &[u8]) -> Taken
-        ensures { out_of result self.new ≡ scan 0 (at (place_of self.old) (AtChunkCr self.old.room)) piece.now }
+        ensures { out_of result self.new ≡
+            scan 0 (at (place_of self.old) (AtChunkCr self.old.room)) piece.now }
     {
         if piece.is_empty() {
             return self.rest(State::ChunkCr, piece);
@@ -119,7 +127,8 @@ impl Machine {
     #[inline]
     pub fn chunk_lf(&mut self, piece: &[u8], i: usize) -> Taken
         requires { i ≤ length piece.now }
-        ensures { out_of result self.new ≡ scan i (at (place_of self.old) (AtChunkLf self.old.room)) (drop i piece.now) }
+        ensures { out_of result self.new ≡
+            scan i (at (place_of self.old) (AtChunkLf self.old.room)) (drop i piece.now) }
     {
         if i == piece.len() {
             return self.rest(State::ChunkLf, piece);

@@ -2,7 +2,7 @@
 
 ghost use Rattle.std.specs.Prelude.{◌≡◌, ◌≤◌, ◌<◌, ◌^◌, ◌∷◌, [], length, drop};
 
-use crate::machine::{Taken, Machine, State, EventTag};
+use crate::machine::{EventTag, Machine, State, Taken};
 use resp_value::cause::Cause;
 
 impl Machine {
@@ -31,7 +31,8 @@ impl Machine {
     #[inline]
     pub fn content(&mut self, piece: &[u8]) -> Taken
         requires { 0 < self.old.count }
-        ensures { out_of result self.new ≡ scan 0 (at (place_of self.old) (InContent self.old.count)) piece.now }
+        ensures { out_of result self.new ≡
+            scan 0 (at (place_of self.old) (InContent self.old.count)) piece.now }
     {
         if piece.is_empty() {
             return self.rest(State::Content, piece);
@@ -56,7 +57,8 @@ impl Machine {
     #[inline]
     pub fn content_lf(&mut self, piece: &[u8], i: usize) -> Taken
         requires { i ≤ length piece.now }
-        ensures { out_of result self.new ≡ scan i (at (place_of self.old) AtContentLf) (drop i piece.now) }
+        ensures { out_of result self.new ≡
+            scan i (at (place_of self.old) AtContentLf) (drop i piece.now) }
     {
         if i == piece.len() {
             return self.rest(State::ContentLf, piece);
@@ -72,7 +74,8 @@ impl Machine {
     pub fn format_first(&mut self, piece: &[u8], i: usize, count: u64) -> Taken
         requires within { i ≤ length piece.now }
         requires front { 4 ≤ count }
-        ensures { out_of result self.new ≡ scan i (at (place_of self.old) (AtFormat count)) (drop i piece.now) }
+        ensures { out_of result self.new ≡
+            scan i (at (place_of self.old) (AtFormat count)) (drop i piece.now) }
     {
         self.count = count;
         if i == piece.len() {
@@ -85,7 +88,8 @@ impl Machine {
     pub fn format_second(&mut self, piece: &[u8], i: usize, first: u8) -> Taken
         requires within { i ≤ length piece.now }
         requires front { 4 ≤ self.old.count }
-        ensures { out_of result self.new ≡ scan i (at (place_of self.old) (AtFormatSecond first self.old.count)) (drop i piece.now) }
+        ensures { out_of result self.new ≡
+            scan i (at (place_of self.old) (AtFormatSecond first self.old.count)) (drop i piece.now) }
     {
         if i == piece.len() {
             self.format = [first, 0, 0];
@@ -98,7 +102,9 @@ impl Machine {
     pub fn format_third(&mut self, piece: &[u8], i: usize, first: u8, second: u8) -> Taken
         requires within { i ≤ length piece.now }
         requires front { 4 ≤ self.old.count }
-        ensures { out_of result self.new ≡ scan i (at (place_of self.old) (AtFormatThird first second self.old.count)) (drop i piece.now) }
+        ensures { out_of result self.new ≡
+            scan i (at (place_of self.old) (AtFormatThird first second self.old.count))
+            (drop i piece.now) }
     {
         if i == piece.len() {
             self.format = [first, second, 0];
@@ -111,7 +117,8 @@ impl Machine {
     pub fn format_colon(&mut self, piece: &[u8], i: usize, format: [u8; 3]) -> Taken
         requires within { i ≤ length piece.now }
         requires front { 4 ≤ self.old.count }
-        ensures { out_of result self.new ≡ scan i (at (place_of self.old) (AtFormatColon format self.old.count)) (drop i piece.now) }
+        ensures { out_of result self.new ≡
+            scan i (at (place_of self.old) (AtFormatColon format self.old.count)) (drop i piece.now) }
     {
         self.format = format;
         if i == piece.len() {

@@ -4,8 +4,8 @@ use resp_value::cause::Cause;
 use resp_value::kind::OpenKind;
 use thiserror::Error;
 
-/// The kinds of text (Redis serialization protocol specification, "Simple strings", "Simple errors", "Bulk strings",
-/// "Bulk errors", "Verbatim strings" and "Big numbers").
+/// The kinds of text (Redis serialization protocol specification, "Simple strings", "Simple
+/// errors", "Bulk strings", "Bulk errors", "Verbatim strings" and "Big numbers").
 #[derive(Clone, Copy, Debug, PartialEq, Eq)]
 pub enum TextKind {
     /// A simple string.
@@ -18,7 +18,8 @@ pub enum TextKind {
     BulkError,
     /// A verbatim string, with the three bytes of its format.
     Verbatim([u8; 3]),
-    /// A big number, whose text is its digits without leading zeros. Zero has no digit, and is never negative.
+    /// A big number, whose text is its digits without leading zeros. Zero has no digit, and is
+    /// never negative.
     Big {
         /// Whether it is below zero.
         negative: bool,
@@ -36,12 +37,13 @@ pub enum Event<'a> {
     Int(i64),
     /// A text begins. Its parts follow, and then [`Event::TextEnd`].
     Text(TextKind),
-    /// A run of the text's bytes, never empty. It lends the piece; the first digit of a big number lends a constant.
+    /// A run of the text's bytes, never empty. It lends the piece; the first digit of a big number
+    /// lends a constant.
     Part(&'a [u8]),
     /// The text has ended.
     TextEnd,
-    /// An aggregate begins, with the number of its members, or of its pairs in a map or an attribute; none where it
-    /// is streamed. Its members follow, and then [`Event::Close`].
+    /// An aggregate begins, with the number of its members, or of its pairs in a map or an
+    /// attribute; none where it is streamed. Its members follow, and then [`Event::Close`].
     Open(OpenKind, Option<u64>),
     /// The innermost aggregate has ended. An attribute ends behind the value that it annotates.
     Close,
@@ -52,7 +54,8 @@ pub enum Event<'a> {
 /// What one step did.
 #[derive(Clone, Copy, Debug)]
 pub struct Step<'a> {
-    /// The number of bytes taken from the front of the piece; the whole piece where there is no event.
+    /// The number of bytes taken from the front of the piece; the whole piece where there is no
+    /// event.
     pub used: usize,
     /// The event that stands behind them.
     pub event: Option<Event<'a>>,

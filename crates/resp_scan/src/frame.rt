@@ -9,8 +9,8 @@ pub struct Frame {
     pub shape: Shape,
 }
 
-/// How many members an aggregate still counts. Keys and values are members of a map, and those of an attribute and
-/// the value that it annotates are members of it.
+/// How many members an aggregate still counts. Keys and values are members of a map, and those of
+/// an attribute and the value that it annotates are members of it.
 #[derive(Clone, Copy)]
 pub enum Shape {
     /// So many members haven't begun, and no more may.

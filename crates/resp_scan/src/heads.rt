@@ -1,11 +1,12 @@
-//! Heads: the number that counts a content's bytes or an aggregate's members, and what stands in its place.
+//! Heads: the number that counts a content's bytes or an aggregate's members, and what stands in
+//! its place.
 
 ghost use Rattle.resp_scan.specs.Machine.Heads.{head_needed, streamed_kind, may_end};
 ghost use Rattle.std.specs.Prelude.{◌≡◌, ◌≢◌, ℕ, ◌≤◌, ◌<◌, ◌+◌, ◌^◌, length, drop, IfNone, true};
 
-use resp_value::kind::OpenKind;
-use crate::machine::{Taken, Head, Machine, State, EventTag};
+use crate::machine::{EventTag, Head, Machine, State, Taken};
 use resp_value::cause::Cause;
+use resp_value::kind::OpenKind;
 use resp_value::version::Version;
 
 impl Machine {
@@ -20,7 +21,8 @@ impl Machine {
     #[inline(never)]
     pub fn bulk_head(&mut self, piece: &[u8], i: usize) -> Taken
         requires { i ≤ length piece.now }
-        ensures { out_of result self.new ≡ scan i (at (place_of self.old) AtBulkHead) (drop i piece.now) }
+        ensures { out_of result self.new ≡
+            scan i (at (place_of self.old) AtBulkHead) (drop i piece.now) }
     {
         if i == piece.len() {
             return self.rest(State::BulkHead, piece);
@@ -39,7 +41,8 @@ impl Machine {
     #[inline(never)]
     pub fn array_head(&mut self, piece: &[u8], i: usize) -> Taken
         requires { i ≤ length piece.now }
-        ensures { out_of result self.new ≡ scan i (at (place_of self.old) AtArrayHead) (drop i piece.now) }
+        ensures { out_of result self.new ≡
+            scan i (at (place_of self.old) AtArrayHead) (drop i piece.now) }
     {
         if i == piece.len() {
             return self.rest(State::ArrayHead, piece);
@@ -125,7 +128,8 @@ impl Machine {
     pub fn head_first(&mut self, piece: &[u8], i: usize, head: Head) -> Taken
         requires within { i ≤ length piece.now }
         requires level { HasFrame (place_of self.old) head }
-        ensures { out_of result self.new ≡ scan i (at (place_of self.old) (AtHead head)) (drop i piece.now) }
+        ensures { out_of result self.new ≡
+            scan i (at (place_of self.old) (AtHead head)) (drop i piece.now) }
     {
         if i == piece.len() {
             self.head = head;
@@ -158,7 +162,8 @@ impl Machine {
         requires room { IsWithinRoom head first }
         requires level { HasFrame (place_of self.old) head }
         requires frames_need { self.old.frames_need + head_needed head first ≤ 2 ^ 41 }
-        ensures { out_of result self.new ≡ scan from (at (place_of self.old) (InHead head first)) (drop from piece.now) }
+        ensures { out_of result self.new ≡
+            scan from (at (place_of self.old) (InHead head first)) (drop from piece.now) }
     {
         let mut number = first;
         for i in from..piece.len() {
@@ -186,7 +191,8 @@ impl Machine {
         requires number { number < 2 ^ 44 }
         ensures few { IfNone result (number ≤ 2 ^ 40) }
         ensures room { IfNone result (IsWithinRoom head number) }
-        ensures frames_need { IfNone result (self.now.frames_need + head_needed head number ≤ 2 ^ 40) }
+        ensures frames_need { IfNone result
+            (self.now.frames_need + head_needed head number ≤ 2 ^ 40) }
         ensures over { result ≡ over (place_of self.now) used head number }
     {
         match head {
@@ -217,7 +223,8 @@ impl Machine {
         requires ends { may_end head number ≡ true }
         requires level { HasFrame (place_of self.old) head }
         requires frames_need { self.old.frames_need + head_needed head number ≤ 2 ^ 41 }
-        ensures { out_of result self.new ≡ scan i (at (place_of self.old) (AtHeadLf head number)) (drop i piece.now) }
+        ensures { out_of result self.new ≡
+            scan i (at (place_of self.old) (AtHeadLf head number)) (drop i piece.now) }
     {
         if i == piece.len() {
             self.head = head;
@@ -265,7 +272,8 @@ fn may_end(head: Head, number: u64) -> bool
     }
 }
 
-/// The fewest bytes that complete a value, or a streamed string, behind a head's digits of this value.
+/// The fewest bytes that complete a value, or a streamed string, behind a head's digits of this
+/// value.
 #[inline]
 pub fn needed_behind(head: Head, number: u64) -> u64
     requires { number < 2 ^ 44 }

@@ -4,7 +4,7 @@ ghost use Rattle.std.specs.Prelude.{◌≡◌, ◌≤◌, ◌<◌, length, drop}
 ghost use Rattle.resp_scan.specs.Machine.Magnitudes.{greatest_magnitude};
 ghost use Rattle.resp_scan.specs.Machine.Moves.{with_sign};
 
-use crate::machine::{Taken, Machine, State, EventTag};
+use crate::machine::{EventTag, Machine, State, Taken};
 use resp_value::cause::Cause;
 
 impl Machine {
@@ -16,7 +16,8 @@ impl Machine {
     #[inline]
     pub fn int_sign(&mut self, piece: &[u8], i: usize) -> Taken
         requires { i ≤ length piece.now }
-        ensures { out_of result self.new ≡ scan i (at (place_of self.old) AtIntSign) (drop i piece.now) }
+        ensures { out_of result self.new ≡
+            scan i (at (place_of self.old) AtIntSign) (drop i piece.now) }
     {
         if i == piece.len() {
             return self.rest(State::IntSign, piece);
@@ -37,7 +38,8 @@ impl Machine {
     #[inline]
     pub fn int_first(&mut self, piece: &[u8], i: usize, negative: bool) -> Taken
         requires { i ≤ length piece.now }
-        ensures { out_of result self.new ≡ scan i (at (place_of self.old) (AtIntFirst negative)) (drop i piece.now) }
+        ensures { out_of result self.new ≡
+            scan i (at (place_of self.old) (AtIntFirst negative)) (drop i piece.now) }
     {
         if i == piece.len() {
             self.negative = negative;
@@ -53,7 +55,8 @@ impl Machine {
     pub fn int_more(&mut self, piece: &[u8], from: usize, negative: bool, first: u64) -> Taken
         requires within { from ≤ length piece.now }
         requires fits { first ≤ greatest_magnitude negative }
-        ensures { out_of result self.new ≡ scan from (at (place_of self.old) (InInt negative first)) (drop from piece.now) }
+        ensures { out_of result self.new ≡
+            scan from (at (place_of self.old) (InInt negative first)) (drop from piece.now) }
     {
         let mut magnitude = first;
         let last = if negative { 8 } else { 7 };
@@ -85,7 +88,8 @@ impl Machine {
     pub fn int_lf(&mut self, piece: &[u8], i: usize, negative: bool, magnitude: u64) -> Taken
         requires within { i ≤ length piece.now }
         requires fits { magnitude ≤ greatest_magnitude negative }
-        ensures { out_of result self.new ≡ scan i (at (place_of self.old) (AtIntLf negative magnitude)) (drop i piece.now) }
+        ensures { out_of result self.new ≡
+            scan i (at (place_of self.old) (AtIntLf negative magnitude)) (drop i piece.now) }
     {
         if i == piece.len() {
             self.negative = negative;

@@ -1,8 +1,9 @@
-//! Reads RESP2 and RESP3 as bytes come, in pieces of any size, and gives events. No call takes memory.
+//! Reads RESP2 and RESP3 as bytes come, in pieces of any size, and gives events. No call takes
+//! memory.
 //!
-//! A [`scanner::Scanner`] keeps what it needs of a value in a few numbers and in one small frame for each open
-//! aggregate, at most 128. Content isn't kept: it is lent from the caller's piece. A byte is refused where no value
-//! that is within the limits goes on so, and no later.
+//! A [`scanner::Scanner`] keeps what it needs of a value in a few numbers and in one small frame
+//! for each open aggregate, at most 128. Content isn't kept: it is lent from the caller's piece. A
+//! byte is refused where no value that is within the limits goes on so, and no later.
 #![tactic(auto)]
 
 mod aggregates;

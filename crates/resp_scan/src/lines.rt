@@ -3,7 +3,7 @@
 ghost use Rattle.resp_scan.specs.Machine.Runs.{plain_run, run_to};
 ghost use Rattle.std.specs.Prelude.{◌≡◌, ◌≤◌, length, drop};
 
-use crate::machine::{Taken, Machine, State, EventTag};
+use crate::machine::{EventTag, Machine, State, Taken};
 use memchr::memchr;
 use resp_value::cause::Cause;
 
@@ -16,7 +16,8 @@ impl Machine {
     #[inline]
     pub fn line(&mut self, piece: &[u8]) -> Taken
         requires { self.old.state ≡ State.Line }
-        ensures { out_of result self.new ≡ scan 0 (at (place_of self.old) (InLine self.old.room)) piece.now }
+        ensures { out_of result self.new ≡
+            scan 0 (at (place_of self.old) (InLine self.old.room)) piece.now }
     {
         if piece.is_empty() {
             return self.rest(State::Line, piece);
@@ -43,7 +44,8 @@ impl Machine {
     #[inline]
     pub fn line_lf(&mut self, piece: &[u8], i: usize) -> Taken
         requires { i ≤ length piece.now }
-        ensures { out_of result self.new ≡ scan i (at (place_of self.old) AtLineLf) (drop i piece.now) }
+        ensures { out_of result self.new ≡
+            scan i (at (place_of self.old) AtLineLf) (drop i piece.now) }
     {
         if i == piece.len() {
             return self.rest(State::LineLf, piece);

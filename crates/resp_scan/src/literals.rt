@@ -2,7 +2,7 @@
 
 ghost use Rattle.std.specs.Prelude.{◌≡◌, ◌≤◌, length, drop};
 
-use crate::machine::{Taken, Machine, State, EventTag};
+use crate::machine::{EventTag, Machine, State, Taken};
 use resp_value::cause::Cause;
 
 impl Machine {
@@ -14,7 +14,8 @@ impl Machine {
     #[inline]
     pub fn null_one(&mut self, piece: &[u8], i: usize) -> Taken
         requires { i ≤ length piece.now }
-        ensures { out_of result self.new ≡ scan i (at (place_of self.old) AtNullOne) (drop i piece.now) }
+        ensures { out_of result self.new ≡
+            scan i (at (place_of self.old) AtNullOne) (drop i piece.now) }
     {
         if i == piece.len() {
             return self.rest(State::NullOne, piece);
@@ -28,7 +29,8 @@ impl Machine {
     #[inline]
     pub fn null_cr(&mut self, piece: &[u8], i: usize) -> Taken
         requires { i ≤ length piece.now }
-        ensures { out_of result self.new ≡ scan i (at (place_of self.old) AtNullCr) (drop i piece.now) }
+        ensures { out_of result self.new ≡
+            scan i (at (place_of self.old) AtNullCr) (drop i piece.now) }
     {
         if i == piece.len() {
             return self.rest(State::NullCr, piece);
@@ -42,7 +44,8 @@ impl Machine {
     #[inline]
     pub fn null_lf(&mut self, piece: &[u8], i: usize) -> Taken
         requires { i ≤ length piece.now }
-        ensures { out_of result self.new ≡ scan i (at (place_of self.old) AtNullLf) (drop i piece.now) }
+        ensures { out_of result self.new ≡
+            scan i (at (place_of self.old) AtNullLf) (drop i piece.now) }
     {
         if i == piece.len() {
             return self.rest(State::NullLf, piece);
@@ -57,7 +60,8 @@ impl Machine {
     #[inline]
     pub fn bool(&mut self, piece: &[u8], i: usize) -> Taken
         requires { i ≤ length piece.now }
-        ensures { out_of result self.new ≡ scan i (at (place_of self.old) AtBool) (drop i piece.now) }
+        ensures { out_of result self.new ≡
+            scan i (at (place_of self.old) AtBool) (drop i piece.now) }
     {
         if i == piece.len() {
             return self.rest(State::Bool, piece);
@@ -72,7 +76,8 @@ impl Machine {
     #[inline]
     pub fn bool_cr(&mut self, piece: &[u8], i: usize, truth: bool) -> Taken
         requires { i ≤ length piece.now }
-        ensures { out_of result self.new ≡ scan i (at (place_of self.old) (AtBoolCr truth)) (drop i piece.now) }
+        ensures { out_of result self.new ≡
+            scan i (at (place_of self.old) (AtBoolCr truth)) (drop i piece.now) }
     {
         if i == piece.len() {
             self.truth = truth;
@@ -87,7 +92,8 @@ impl Machine {
     #[inline]
     pub fn bool_lf(&mut self, piece: &[u8], i: usize, truth: bool) -> Taken
         requires { i ≤ length piece.now }
-        ensures { out_of result self.new ≡ scan i (at (place_of self.old) (AtBoolLf truth)) (drop i piece.now) }
+        ensures { out_of result self.new ≡
+            scan i (at (place_of self.old) (AtBoolLf truth)) (drop i piece.now) }
     {
         if i == piece.len() {
             self.truth = truth;

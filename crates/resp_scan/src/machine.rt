@@ -1,13 +1,14 @@
-//! The state between two bytes, and what all tokens share: room within the limits, members, and ends.
+//! The state between two bytes, and what all tokens share: room within the limits, members, and
+//! ends.
 
 ghost use Rattle.resp_scan.specs.Machine.Sound.{IsOpenShape, need_of_frame};
 ghost use Rattle.resp_scan.specs.Machine.Room.{has_all, need_after_begin, shape_after_begin, begun_count};
 ghost use Rattle.std.specs.Prelude.{◌≡◌, ◌<◌, ◌≤◌, ◌+◌, ◌^◌, length, IfNone, true, false, ◌-◌, ◌∷◌, List, IfSome, min, reverse};
 
-use resp_value::kind::OpenKind;
 use crate::frame::{Frame, Shape};
 use arrayvec::ArrayVec;
 use resp_value::cause::Cause;
+use resp_value::kind::OpenKind;
 use resp_value::limits::Limits;
 use resp_value::version::Version;
 
@@ -114,7 +115,8 @@ pub struct Taken {
     pub tag: EventTag,
 }
 
-/// The state between two bytes. Fields behind `taken` and `owed` mean something in some tokens alone.
+/// The state between two bytes. Fields behind `taken` and `owed` mean something in some tokens
+/// alone.
 #[derive(Drop)]
 pub struct Machine {
     pub version: Version,
@@ -155,7 +157,8 @@ impl Machine {
     /// The end of the piece, in this state.
     #[inline]
     pub fn rest(&mut self, state: State, piece: &[u8]) -> Taken
-        ensures { out_of result self.new ≡ More (length piece.now) (place_of (record self.old { state = state })) }
+        ensures { out_of result self.new ≡
+            More (length piece.now) (place_of (record self.old { state = state })) }
     {
         self.state = state;
         Taken {
@@ -184,8 +187,8 @@ impl Machine {
         }
     }
 
-    /// What total leaves of the value, beside the bytes taken before this piece and those by which the open
-    /// aggregates end.
+    /// What total leaves of the value, beside the bytes taken before this piece and those by which
+    /// the open aggregates end.
     #[inline]
     pub fn total_room(&self) -> u64
         ensures few { result ≤ 2 ^ 40 }
@@ -243,14 +246,15 @@ impl Machine {
         self.frames.len() as u64 >= self.limits.depth()
     }
 
-    /// A member begins by the byte at the front of this piece, and so many bytes are needed behind that byte: unless
-    /// items or total refuse it.
+    /// A member begins by the byte at the front of this piece, and so many bytes are needed behind
+    /// that byte: unless items or total refuse it.
     #[inline]
     pub fn begin(&mut self, needed: u64) -> Option<Cause>
         requires needed { needed < 2 ^ 10 }
         requires sound { IsSound (at (place_of self.old) AtStart) }
         ensures cause { result ≡ begin_cause (at (place_of self.old) AtStart) needed }
-        ensures begun { IfNone result (at (place_of self.new) AtStart ≡ after_begin (at (place_of self.old) AtStart)) }
+        ensures begun { IfNone result (at (place_of self.new) AtStart ≡
+            after_begin (at (place_of self.old) AtStart)) }
         ensures refused { IfSome result (λ cause. self.new ≡ self.old) }
     {
         match self.frames.as_slice().last() {
@@ -270,8 +274,11 @@ impl Machine {
         requires frames_need { need_of_frame frame.kind frame.shape ≤ self.old.frames_need }
         requires few { self.old.frames_need < 2 ^ 62 }
         requires counted { begun_count frame.shape < 2 ^ 62 }
-        ensures cause { (fs : List Frame) → (place_of self.old).frames ≡ frame ∷ fs → result ≡ begin_cause (at (place_of self.old) AtStart) needed }
-        ensures begun { (fs : List Frame) → (place_of self.old).frames ≡ frame ∷ fs → IfNone result (at (place_of self.new) AtStart ≡ after_begin (at (place_of self.old) AtStart)) }
+        ensures cause { (fs : List Frame) → (place_of self.old).frames ≡ frame ∷ fs →
+            result ≡ begin_cause (at (place_of self.old) AtStart) needed }
+        ensures begun { (fs : List Frame) → (place_of self.old).frames ≡ frame ∷ fs →
+            IfNone result (at (place_of self.new) AtStart ≡
+            after_begin (at (place_of self.old) AtStart)) }
         ensures refused { IfSome result (λ cause. self.new ≡ self.old) }
     {
         if has_all(frame, self.limits.items()) {
@@ -290,7 +297,8 @@ impl Machine {
     /// The innermost open aggregate gets this shape.
     #[inline]
     pub fn set_shape(&mut self, shape: Shape)
-        ensures items { reverse self.new.frames.items ≡ with_shape shape (reverse self.old.frames.items) }
+        ensures items { reverse self.new.frames.items ≡
+            with_shape shape (reverse self.old.frames.items) }
         ensures rest { self.new ≡ record self.old { frames = self.new.frames } }
     {
         if !self.frames.is_empty() {
@@ -324,7 +332,8 @@ fn has_all(frame: Frame, items: u64) -> bool
     }
 }
 
-/// What is owed once one more member has begun: less by a counted member, and a map's key calls for its value.
+/// What is owed once one more member has begun: less by a counted member, and a map's key calls for
+/// its value.
 #[inline]
 fn need_after_begin(frame: Frame, frames_need: u64) -> u64
     requires more { IsOpenShape frame.shape }
@@ -335,7 +344,13 @@ fn need_after_begin(frame: Frame, frames_need: u64) -> u64
     match frame.shape {
         Shape::Left(_) => frames_need - 3,
         Shape::Begun(begun) => match frame.kind {
-            OpenKind::Map => { if begun % 2 == 0 { frames_need + 3 } else { frames_need - 3 } }
+            OpenKind::Map => {
+                if begun % 2 == 0 {
+                    frames_need + 3
+                } else {
+                    frames_need - 3
+                }
+            }
             _ => frames_need,
         },
     }

@@ -6,11 +6,11 @@ ghost use Rattle.std.specs.Prelude.{◌≡◌, ◌↔◌, ◌≤◌, ◌+◌, �
 ghost use Rattle.resp_value.specs.declared.cause.Cause.TheVariants as cause;
 
 use crate::event::{Busy, Event, Fault, Step};
-use resp_value::kind::OpenKind;
 use crate::heads::needed_behind;
 use crate::machine::{Head, Machine, State};
 use arrayvec::ArrayVec;
 use resp_value::cause::Cause;
+use resp_value::kind::OpenKind;
 use resp_value::limits::Limits;
 use resp_value::version::Version;
 use std::marker::Model;
@@ -78,19 +78,23 @@ impl Scanner {
         }
     }
 
-    /// Takes bytes of the piece until an event is there or the piece ends. An event may be owed at bytes that were
-    /// taken before, and comes then by a step that uses no byte, for an empty piece too.
+    /// Takes bytes of the piece until an event is there or the piece ends. An event may be owed at
+    /// bytes that were taken before, and comes then by a step that uses no byte, for an empty piece
+    /// too.
     ///
-    /// Refuses the first byte after which nothing can follow, by the first cause that holds in this order: Syntax,
-    /// Double, Version, NestedPush, Range, Streamed, Depth, Length, Items, Total. Every later step answers the same.
+    /// Refuses the first byte after which nothing can follow, by the first cause that holds in this
+    /// order: Syntax, Double, Version, NestedPush, Range, Streamed, Depth, Length, Items, Total.
+    /// Every later step answers the same.
     #[inline(always)]
     pub fn step<'a>(&mut self, piece: &'a [u8]) -> Result<Step<'a>, Fault>
-        // What has come and what was given of it, over every front that was taken and all events given since the value
-        // began.
-        ensures followed { (front : List ℕ) (es : Events) → HasRead self.old front es → Stepped self.old self.new front es piece.now result }
+        // What has come and what was given of it, over every front that was taken and all events
+        // given since the value began.
+        ensures followed { (front : List ℕ) (es : Events) → HasRead self.old front es →
+            Stepped self.old self.new front es piece.now result }
 
         // And at any time the events given are the first of those due.
-        ensures given { (front : List ℕ) (es : Events) → HasRead self.old front es → BeginDue front es }
+        ensures given { (front : List ℕ) (es : Events) → HasRead self.old front es →
+            BeginDue front es }
 
         ensures within { IfOk result (λ step. step.used ≤ length piece.now) }
         ensures all { IfOk result (λ step. step.event ≡ None → step.used ≡ length piece.now) }
@@ -99,16 +103,19 @@ impl Scanner {
 
         // A refused byte is the scanner's end.
         ensures faulted { IfErr result (IsFaulted self.new) }
-        ensures stays { (fault : Fault) → IsFaulted self.old fault → (result ≡ Err fault) × (self.new ≡ self.old) }
+        ensures stays { (fault : Fault) → IsFaulted self.old fault →
+            (result ≡ Err fault) × (self.new ≡ self.old) }
     {
         self.machine.step(piece)
     }
 
-    /// The end of the input. Refuses it by Truncated inside a value, with the number of its bytes that were taken,
-    /// and by the fault of a step where one was refused.
+    /// The end of the input. Refuses it by Truncated inside a value, with the number of its bytes
+    /// that were taken, and by the fault of a step where one was refused.
     pub fn finish(&self) -> Result<(), Fault>
-        ensures ok { (front : List ℕ) (es : Events) → HasRead self.now front es → (IsOk result ↔ MayEnd (rules_of self.now) front) }
-        ensures truncated { (front : List ℕ) (es : Events) → HasRead self.now front es → IfErr result (λ fault. (fault.cause ≡ cause.Truncated) × (fault.at ≡ length front)) }
+        ensures ok { (front : List ℕ) (es : Events) → HasRead self.now front es →
+            (IsOk result ↔ MayEnd (rules_of self.now) front) }
+        ensures truncated { (front : List ℕ) (es : Events) → HasRead self.now front es →
+            IfErr result (λ fault. (fault.cause ≡ cause.Truncated) × (fault.at ≡ length front)) }
         ensures stays { (fault : Fault) → IsFaulted self.now fault → result ≡ Err fault }
     {
         self.end()
@@ -117,7 +124,8 @@ impl Scanner {
     /// The same, from the machine's numbers.
     fn end(&self) -> Result<(), Fault>
         ensures ok { OnOk result (end_cause self.now ≡ None) }
-        ensures err { IfErr result (λ fault. (end_cause self.now ≡ Some fault.cause) × (fault.at ≡ self.now.taken)) }
+        ensures err { IfErr result (λ fault. (end_cause self.now ≡ Some fault.cause) ×
+            (fault.at ≡ self.now.taken)) }
         ensures sound { IsSound self.now }
     {
         let at = self.taken();
@@ -141,12 +149,15 @@ impl Scanner {
 
     /// Reads this version from the next value on.
     ///
-    /// Refuses, and changes nothing, from a value's first byte until its [`Event::Done`] was given, and after a
-    /// fault.
+    /// Refuses, and changes nothing, from a value's first byte until its [`Event::Done`] was given,
+    /// and after a fault.
     pub fn set_version(&mut self, version: Version) -> Result<(), Busy>
-        ensures between { (front : List ℕ) (es : Events) → HasRead self.old front es → (IsOk result ↔ (front ≡ [])) }
-        ensures followed { (front : List ℕ) (es : Events) → HasRead self.old front es → OnOk result (HasRead self.new [] []) }
-        ensures rules { OnOk result (rules_of self.new ≡ record { version = version; limits = self.old.bounds }) }
+        ensures between { (front : List ℕ) (es : Events) → HasRead self.old front es →
+            (IsOk result ↔ (front ≡ [])) }
+        ensures followed { (front : List ℕ) (es : Events) → HasRead self.old front es →
+            OnOk result (HasRead self.new [] []) }
+        ensures rules { OnOk result (rules_of self.new ≡
+            record { version = version; limits = self.old.bounds }) }
         ensures busy { OnErr result (self.new ≡ self.old) }
         ensures faulted { (fault : Fault) → IsFaulted self.old fault → OnOk result ⊥ }
     {
@@ -177,7 +188,8 @@ impl Scanner {
     pub fn depth(&self) -> usize
         ensures frames { result ≡ length self.now.frames }
         ensures few { result ≤ (rules_of self.now).limits.depth }
-        ensures opens { (front : List ℕ) (es : Events) → HasRead self.now front es → open_count es ≡ result + close_count es }
+        ensures opens { (front : List ℕ) (es : Events) → HasRead self.now front es →
+            open_count es ≡ result + close_count es }
     {
         self.machine.frames.len()
     }
@@ -185,16 +197,20 @@ impl Scanner {
     /// The number of bytes taken of the value, 0 between values. A refused byte isn't among them.
     pub fn taken(&self) -> u64
         ensures taken { result ≡ self.now.taken }
-        ensures front { (front : List ℕ) (es : Events) → HasRead self.now front es → result ≡ length front }
-        ensures few { (front : List ℕ) (es : Events) → HasRead self.now front es → length es ≤ result }
+        ensures front { (front : List ℕ) (es : Events) → HasRead self.now front es →
+            result ≡ length front }
+        ensures few { (front : List ℕ) (es : Events) → HasRead self.now front es →
+            length es ≤ result }
     {
         self.machine.taken
     }
 
-    /// The least number of bytes that complete the value: 3 between values, and 0 where only its Done is owed.
+    /// The least number of bytes that complete the value: 3 between values, and 0 where only its
+    /// Done is owed.
     pub fn needed(&self) -> u64
         ensures needed { result ≡ needed self.now }
-        ensures least { (front : List ℕ) (es : Events) → HasRead self.now front es → IsLeast (rules_of self.now) front result }
+        ensures least { (front : List ℕ) (es : Events) → HasRead self.now front es →
+            IsLeast (rules_of self.now) front result }
     {
         self.machine.frames_need + self.machine.token_needed()
     }
@@ -223,7 +239,8 @@ impl Machine {
     /// The least number of bytes that complete the token.
     fn token_needed(&self) -> u64
         requires { IsSound (place_of self.now) }
-        ensures { result ≡ token_needed (place_of self.now).token self.now.limits.depth (place_of self.now).frames }
+        ensures { result ≡ token_needed (place_of self.now).token self.now.limits.depth
+            (place_of self.now).frames }
     {
         match self.state {
             State::Start => { if self.frames.is_empty() { 3 } else { 0 } }
@@ -244,10 +261,12 @@ impl Machine {
     }
 
     /// The least number of bytes that complete a head, counted content or a close.
-    #[tactic(auto, using(crate::proofs::Places::more_few, crate::proofs::Places::lf_few, crate::proofs::Sound::head_more, crate::proofs::Places::format_first_few, crate::proofs::Places::format_second_few, crate::proofs::Places::colon_four, crate::proofs::Places::content_few, crate::proofs::Places::chunk_few))]
+    #[tactic(auto, using(crate::proofs::Soundness::Places::more_few, crate::proofs::Soundness::Places::lf_few, crate::proofs::Soundness::Sound::head_more, crate::proofs::Soundness::Places::format_first_few, crate::proofs::Soundness::Places::format_second_few, crate::proofs::Soundness::Places::colon_four, crate::proofs::Soundness::Places::content_few, crate::proofs::Soundness::Places::chunk_few))]
     fn counted_needed(&self) -> u64
         requires { IsSound (place_of self.now) }
-        ensures { is_counted self.now.state ≡ true → result ≡ token_needed (place_of self.now).token self.now.limits.depth (place_of self.now).frames }
+        ensures { is_counted self.now.state ≡ true →
+            result ≡ token_needed (place_of self.now).token self.now.limits.depth
+            (place_of self.now).frames }
     {
         match self.state {
             State::HeadFirst => first_needed(self.head),
@@ -275,7 +294,8 @@ impl Machine {
     }
 }
 
-/// The least number of bytes that complete a value behind its type byte, or a streamed string behind a chunk's.
+/// The least number of bytes that complete a value behind its type byte, or a streamed string
+/// behind a chunk's.
 fn first_needed(head: Head) -> u64
     ensures { result ≡ first_needed head }
 {

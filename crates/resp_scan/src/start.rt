@@ -5,7 +5,7 @@ ghost use Rattle.resp_scan.specs.Machine.First.{by_first};
 ghost use Rattle.resp_scan.specs.Machine.Moves as m;
 ghost use Rattle.resp_scan.specs.Machine.Tokens.{Place};
 
-use crate::machine::{Taken, Head, Machine, State, EventTag};
+use crate::machine::{EventTag, Head, Machine, State, Taken};
 use resp_value::cause::Cause;
 use resp_value::version::Version;
 
@@ -19,7 +19,7 @@ impl Machine {
     ghost use Rattle.resp_scan.specs.declared.event.TextKind.TheVariants as text;
 
     #[inline]
-    #[tactic(auto, using(crate::proofs::Starts::first_scan, crate::proofs::Starts::refused_answer, crate::proofs::Starts::begun_answer))]
+    #[tactic(auto, using(crate::proofs::Soundness::Starts::first_scan, crate::proofs::Soundness::Starts::refused_answer, crate::proofs::Soundness::Starts::begun_answer))]
     pub fn start(&mut self, piece: &[u8]) -> Taken
         requires { IsSound (at (place_of self.old) AtStart) }
         ensures { out_of result self.new ≡ scan 0 (at (place_of self.old) AtStart) piece.now }
@@ -58,11 +58,17 @@ impl Machine {
     }
 
     #[inline]
-    #[tactic(auto, using(crate::proofs::Starts::begun_line, crate::proofs::Starts::refused_line))]
+    #[tactic(auto, using(crate::proofs::Soundness::Starts::begun_line, crate::proofs::Soundness::Starts::refused_line))]
     fn line_begins(&mut self, tag: EventTag) -> Taken
         requires { IsSound (at (place_of self.old) AtStart) }
-        ensures simple { (p : List ℕ) → tag ≡ EventTag.Simple → out_of result self.new ≡ after_first (m.line_move (at (place_of self.old) AtStart) (Text text.Simple)) (at (place_of self.old) AtStart) p }
-        ensures error { (p : List ℕ) → tag ≡ EventTag.Error → out_of result self.new ≡ after_first (m.line_move (at (place_of self.old) AtStart) (Text text.Error)) (at (place_of self.old) AtStart) p }
+        ensures simple { (p : List ℕ) → tag ≡ EventTag.Simple →
+            out_of result self.new ≡ after_first
+            (m.line_move (at (place_of self.old) AtStart) (Text text.Simple))
+            (at (place_of self.old) AtStart) p }
+        ensures error { (p : List ℕ) → tag ≡ EventTag.Error →
+            out_of result self.new ≡ after_first
+            (m.line_move (at (place_of self.old) AtStart) (Text text.Error))
+            (at (place_of self.old) AtStart) p }
     {
         if let Some(cause) = self.begin(2) {
             return self.fail(0, cause);
@@ -74,11 +80,13 @@ impl Machine {
 
     /// A form that version 3 alone has.
     #[inline]
-    #[tactic(auto, using(crate::proofs::Starts::refused_answer, crate::proofs::Starts::begun_answer))]
+    #[tactic(auto, using(crate::proofs::Soundness::Starts::refused_answer, crate::proofs::Soundness::Starts::begun_answer))]
     fn start_three(&mut self, piece: &[u8], first: First) -> Taken
         requires within { 0 < length piece.now }
         requires sound { IsSound (at (place_of self.old) AtStart) }
-        ensures { out_of result self.new ≡ after_first (first_move (at (place_of self.old) AtStart) first) (at (place_of self.old) AtStart) (drop 1 piece.now) }
+        ensures { out_of result self.new ≡
+            after_first (first_move (at (place_of self.old) AtStart) first)
+            (at (place_of self.old) AtStart) (drop 1 piece.now) }
     {
         match first {
             First::Null => match self.begin(2) {
@@ -108,13 +116,15 @@ impl Machine {
     }
 
     #[inline(never)]
-    #[tactic(auto, using(crate::proofs::Starts::refused_answer, crate::proofs::Starts::begun_answer))]
+    #[tactic(auto, using(crate::proofs::Soundness::Starts::refused_answer, crate::proofs::Soundness::Starts::begun_answer))]
     fn head_begins(&mut self, piece: &[u8], head: Head, needed: u64) -> Taken
         requires some { 0 < length piece.now }
         requires few { needed < 10 }
         requires level { HasFrame (place_of self.old) head }
         requires sound { IsSound (at (place_of self.old) AtStart) }
-        ensures { out_of result self.new ≡ after_first (m.begin_move (at (place_of self.old) AtStart) needed (AtHead head)) (at (place_of self.old) AtStart) (drop 1 piece.now) }
+        ensures { out_of result self.new ≡
+            after_first (m.begin_move (at (place_of self.old) AtStart) needed (AtHead head))
+            (at (place_of self.old) AtStart) (drop 1 piece.now) }
     {
         match self.begin(needed) {
             Some(cause) => self.fail(0, cause),
@@ -128,7 +138,9 @@ impl Machine {
         requires few { needed < 10 }
         requires needed { needed ≡ first_needed head }
         requires sound { IsSound (at (place_of self.old) AtStart) }
-        ensures { out_of result self.new ≡ after_first (m.aggregate_move (at (place_of self.old) AtStart) head) (at (place_of self.old) AtStart) (drop 1 piece.now) }
+        ensures { out_of result self.new ≡
+            after_first (m.aggregate_move (at (place_of self.old) AtStart) head)
+            (at (place_of self.old) AtStart) (drop 1 piece.now) }
     {
         if self.is_full() {
             return self.fail(0, Cause::Depth);

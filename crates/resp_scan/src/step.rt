@@ -5,7 +5,7 @@ ghost use Rattle.resp_scan.specs.Machine.Moves.{is_digit};
 
 use crate::event::{Event, Fault, Step, TextKind};
 use crate::frame::Shape;
-use crate::machine::{Taken, Machine, State, EventTag};
+use crate::machine::{EventTag, Machine, State, Taken};
 use resp_value::cause::Cause;
 
 static DIGITS: [u8; 10] = *b"0123456789";
@@ -21,7 +21,7 @@ impl Machine {
 
     /// Behind a value: its end or its parent's close is owed, or the next member may begin.
     #[inline]
-    #[tactic(auto, using(crate::proofs::Places::sound_member))]
+    #[tactic(auto, using(crate::proofs::Soundness::Places::sound_member))]
     fn after_value(&mut self, piece: &[u8]) -> Taken
         requires state { self.old.state ≡ State.Ended }
         requires sound { IsSound (place_of self.old) }
@@ -45,7 +45,7 @@ impl Machine {
 
     /// The tokens in which a piece seldom begins.
     #[inline(never)]
-    #[tactic(auto, using(crate::proofs::Places::sound_start, crate::proofs::Places::int_most, crate::proofs::Places::int_lf_most))]
+    #[tactic(auto, using(crate::proofs::Soundness::Places::sound_start, crate::proofs::Soundness::Places::int_most, crate::proofs::Soundness::Places::int_lf_most))]
     fn resume(&mut self, piece: &[u8]) -> Taken
         requires { IsSound (place_of self.old) }
         ensures { out_of result self.new ≡ out_from (place_of self.old) piece.now }
@@ -83,10 +83,11 @@ impl Machine {
 
     /// The tokens of heads, counted content and closes.
     #[inline]
-    #[tactic(auto, using(crate::proofs::Places::content_some, crate::proofs::Places::chunk_some, crate::proofs::Places::first_frame, crate::proofs::Places::more_frame, crate::proofs::Places::more_need, crate::proofs::Places::more_few, crate::proofs::Places::lf_few, crate::proofs::Places::lf_ends, crate::proofs::Places::lf_room, crate::proofs::Places::more_room, crate::proofs::Places::first_four, crate::proofs::Places::second_four, crate::proofs::Places::third_four, crate::proofs::Places::colon_four, crate::proofs::Places::lf_frame, crate::proofs::Places::lf_need, crate::proofs::Places::open_cr_level, crate::proofs::Places::open_lf_level))]
+    #[tactic(auto, using(crate::proofs::Soundness::Places::content_some, crate::proofs::Soundness::Places::chunk_some, crate::proofs::Soundness::Places::first_frame, crate::proofs::Soundness::Places::more_frame, crate::proofs::Soundness::Places::more_need, crate::proofs::Soundness::Places::more_few, crate::proofs::Soundness::Places::lf_few, crate::proofs::Soundness::Places::lf_ends, crate::proofs::Soundness::Places::lf_room, crate::proofs::Soundness::Places::more_room, crate::proofs::Soundness::Places::first_four, crate::proofs::Soundness::Places::second_four, crate::proofs::Soundness::Places::third_four, crate::proofs::Soundness::Places::colon_four, crate::proofs::Soundness::Places::lf_frame, crate::proofs::Soundness::Places::lf_need, crate::proofs::Soundness::Places::open_cr_level, crate::proofs::Soundness::Places::open_lf_level))]
     fn resume_counted(&mut self, piece: &[u8]) -> Taken
         requires { IsSound (place_of self.old) }
-        ensures { is_counted self.old.state ≡ true → out_of result self.new ≡ out_from (place_of self.old) piece.now }
+        ensures { is_counted self.old.state ≡ true →
+            out_of result self.new ≡ out_from (place_of self.old) piece.now }
     {
         match self.state {
             State::HeadFirst => self.head_first(piece, 0, self.head),
@@ -117,7 +118,8 @@ impl Machine {
     #[inline(always)]
     fn answer<'a>(&mut self, piece: &'a [u8], got: Taken) -> Result<Step<'a>, Fault>
         requires { (s : Place) × IsSound s × (out_of got self.old ≡ out_from s piece.now) }
-        ensures heard { (s : Place) → IsSound s → out_of got self.old ≡ out_from s piece.now → out_of_step s.taken result (place_of self.new) ≡ after_step (out_from s piece.now) }
+        ensures heard { (s : Place) → IsSound s → out_of got self.old ≡ out_from s piece.now →
+            out_of_step s.taken result (place_of self.new) ≡ after_step (out_from s piece.now) }
         ensures within { IfOk result (λ step. step.used ≤ length piece.now) }
         ensures lent { IfOk result (λ step. IsOfPiece piece.now step) }
         ensures counted { IfErr result (λ fault. fault.at ≡ self.new.taken) }
@@ -156,10 +158,11 @@ impl Machine {
     }
 
     #[inline(always)]
-    #[tactic(auto, using(crate::proofs::Places::sound_start, crate::proofs::Places::content_some))]
+    #[tactic(auto, using(crate::proofs::Soundness::Places::sound_start, crate::proofs::Soundness::Places::content_some))]
     pub fn step<'a>(&mut self, piece: &'a [u8]) -> Result<Step<'a>, Fault>
         requires { IsSound (place_of self.old) }
-        ensures heard { out_of_step (place_of self.old).taken result (place_of self.new) ≡ after_step (out_from (place_of self.old) piece.now) }
+        ensures heard { out_of_step (place_of self.old).taken result (place_of self.new) ≡
+            after_step (out_from (place_of self.old) piece.now) }
         ensures within { IfOk result (λ step. step.used ≤ length piece.now) }
         ensures lent { IfOk result (λ step. IsOfPiece piece.now step) }
         ensures counted { IfErr result (λ fault. fault.at ≡ self.new.taken) }

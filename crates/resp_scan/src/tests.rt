@@ -1,14 +1,14 @@
-//! What the scanner says of whole inputs, however they are cut. Wanted values are worked out by hand from the table
-//! of spellings.
+//! What the scanner says of whole inputs, however they are cut. Wanted values are worked out by
+//! hand from the table of spellings.
 
 mod lifetimes;
 mod limits;
 mod needed;
 
 use crate::event::{Busy, Event, Fault, TextKind};
-use resp_value::kind::OpenKind;
 use crate::scanner::Scanner;
 use resp_value::cause::Cause;
+use resp_value::kind::OpenKind;
 use resp_value::limits::Limits;
 use resp_value::version::Version;
 use std::alloc::{AllocError, Global};
@@ -152,8 +152,8 @@ fn feed(
     Ok(false)
 }
 
-/// What a scanner says of an input that is cut so: its events, and then the fault, or whether it may end here, the
-/// bytes taken, the bytes needed and the depth.
+/// What a scanner says of an input that is cut so: its events, and then the fault, or whether it
+/// may end here, the bytes taken, the bytes needed and the depth.
 fn said(
     alloc: Global,
     version: Version,

@@ -15,13 +15,16 @@ pub sign_split : (text : List ℕ) → text ≡ sign_text (sign_at text) ++ unsi
 sign_split [] = refl
 sign_split (byte ∷ text) = cases (eqb_tells byte 45) (eqb_tells byte 43)
   where
-    cases : ((eqb byte 45 ≡ true) × (byte ≡ 45)) ⊎ ((eqb byte 45 ≡ false) × (byte ≡ 45 → ⊥)) → ((eqb byte 43 ≡ true) × (byte ≡ 43)) ⊎ ((eqb byte 43 ≡ false) × (byte ≡ 43 → ⊥)) → byte ∷ text ≡ sign_text (sign_at (byte ∷ text)) ++ unsigned_part (byte ∷ text)
+    cases : ((eqb byte 45 ≡ true) × (byte ≡ 45)) ⊎ ((eqb byte 45 ≡ false) × (byte ≡ 45 → ⊥)) →
+        ((eqb byte 43 ≡ true) × (byte ≡ 43)) ⊎ ((eqb byte 43 ≡ false) × (byte ≡ 43 → ⊥)) → byte ∷ text ≡ sign_text (sign_at (byte ∷ text)) ++
+        unsigned_part (byte ∷ text)
     cases (inl p) q = rw p.0 (ap (λ b. b ∷ text) p.1)
     cases (inr p) (inl q) = rw (p.0, q.0) (ap (λ b. b ∷ text) q.1)
     cases (inr p) (inr q) = rw (p.0, q.0) refl
 
 -- the sign of a sign and digits, and what lies behind it
-pub signed_at : (sign : Sign) (digits rest : List ℕ) → IsDigits digits → (sign_at ((sign_text sign ++ digits) ++ rest) ≡ sign) × (unsigned_part ((sign_text sign ++ digits) ++ rest) ≡ digits ++ rest)
+pub signed_at : (sign : Sign) (digits rest : List ℕ) → IsDigits digits → (sign_at ((sign_text sign ++ digits) ++ rest) ≡ sign) ×
+    (unsigned_part ((sign_text sign ++ digits) ++ rest) ≡ digits ++ rest)
 signed_at Plus digits rest p = (refl, refl)
 signed_at Minus digits rest p = (refl, refl)
 signed_at Unsigned [] rest p = absurd (omega arith)
@@ -48,7 +51,8 @@ in_range_by_size Plus digits p = (omega (arith, ints), omega (arith, ints))
 in_range_by_size Minus digits p = (omega (arith, ints), omega (arith, ints))
 
 -- what an integer's line says of the input's sign and digits
-pub integer_parts : (i : ℤ) (input behind : List ℕ) → SaysInteger i input behind → (digits : List ℕ) × IsDigits digits × (unsigned_part input ≡ digits ++ crlf behind) × (number digits ≤ greatest_size (is_minus (sign_at input)))
+pub integer_parts : (i : ℤ) (input behind : List ℕ) → SaysInteger i input behind →
+    (digits : List ℕ) × IsDigits digits × (unsigned_part input ≡ digits ++ crlf behind) × (number digits ≤ greatest_size (is_minus (sign_at input)))
 integer_parts i input behind (sign, digits, are_digits, e, value, in_range) =
     let at = signed_at sign digits (crlf behind) are_digits in (
       digits,
@@ -58,7 +62,8 @@ integer_parts i input behind (sign, digits, are_digits, e, value, in_range) =
     )
 
 -- a sign, digits of a size within the range, and CR LF are an integer's line
-pub integer_line : (input digits behind : List ℕ) (size : ℕ) → IsNumber size digits → unsigned_part input ≡ digits ++ crlf behind → size ≤ greatest_size (is_minus (sign_at input)) → SaysInteger (with_sign (is_minus (sign_at input)) size) input behind
+pub integer_line : (input digits behind : List ℕ) (size : ℕ) → IsNumber size digits → unsigned_part input ≡ digits ++ crlf behind →
+    size ≤ greatest_size (is_minus (sign_at input)) → SaysInteger (with_sign (is_minus (sign_at input)) size) input behind
 integer_line input digits behind size p e small = (
   sign_at input,
   digits,

@@ -36,7 +36,8 @@ in_each_version Two l p = p
 in_each_version Three l p = tt
 
 -- a leaf of version 2 within the limits of length and total keeps all rules
-leaf_keeps : (r : Rules) (l : Leaf) → IsLeafInTwo l → IsInRange l → content_length (leaf_value l) ≤ r.limits.length → length (leaf_text l) ≤ r.limits.total → Keeps r WithinTotal (leaf l)
+leaf_keeps : (r : Rules) (l : Leaf) → IsLeafInTwo l → IsInRange l → content_length (leaf_value l) ≤ r.limits.length → length (leaf_text l) ≤ r.limits.total →
+    Keeps r WithinTotal (leaf l)
 leaf_keeps r l old in_range short small Grammar h = tt
 leaf_keeps r l old in_range short small NoDouble h = no_double_in_two l old
 leaf_keeps r l old in_range short small InVersion h = in_each_version r.version l old
@@ -49,7 +50,8 @@ leaf_keeps r l old in_range short small WithinItems h = omega arith
 leaf_keeps r l old in_range short small WithinTotal h = small
 
 -- such a leaf is a spelling of its value
-pub leaf_spells : (r : Rules) (l : Leaf) (x : d.Scalar) → IsLeafInTwo l → IsInRange l → IsLeaf l → leaf_value l ≡ x → content_length (leaf_value l) ≤ r.limits.length → length (leaf_text l) ≤ r.limits.total → IsSpelling r (scalar x) (leaf_text l)
+pub leaf_spells : (r : Rules) (l : Leaf) (x : d.Scalar) → IsLeafInTwo l → IsInRange l → IsLeaf l → leaf_value l ≡ x →
+    content_length (leaf_value l) ≤ r.limits.length → length (leaf_text l) ≤ r.limits.total → IsSpelling r (scalar x) (leaf_text l)
 leaf_spells r l x old in_range is_leaf value short small = record {
   tree = leaf l;
   spells = record { is_tree = is_leaf; spelled = refl };
@@ -63,7 +65,8 @@ no_scalar_without_leaf r input none l front behind old spells keeps e =
     none l behind old (keeps InRange (omega arith)) spells.is_tree (keeps WithinLength (omega arith)) (e ∙ ap (λ text. text ++ behind) (sym spells.spelled))
 
 -- where the leaf at the front of the input is too large, no scalar is there: no spelling begins another
-pub no_scalar_past_total : (r : Rules) (x : d.Scalar) (input rest : List ℕ) → NoSpellingBeginsAnother → SaysLeaf r.limits.length x input rest → r.limits.total + length rest < length input → BeginsWithNoScalar r input
+pub no_scalar_past_total : (r : Rules) (x : d.Scalar) (input rest : List ℕ) → NoSpellingBeginsAnother → SaysLeaf r.limits.length x input rest →
+    r.limits.total + length rest < length input → BeginsWithNoScalar r input
 no_scalar_past_total r x input rest law (l, old, in_range, is_leaf, value, short, whole) large m front behind old' spells keeps e =
     let wide : Rules = record { version = r.version; limits = record r.limits { total = length input } } in
     let size : length input ≡ length (leaf_text l) + length rest = ap length whole ∙ length-append (leaf_text l) rest in

@@ -27,7 +27,8 @@ each_behind P [] ys p = p
 each_behind P (x ∷ xs) ys p = each_behind P xs ys p.1
 
 -- a line that CR LF ends
-pub says_line : (k : LineKind) (most : ℕ) (input text rest behind : List ℕ) → IsLeafInTwo (line k text) → IsLine text → IsText input → content_length (line_value k text) ≤ most → input ≡ line_byte k ∷ rest → rest ≡ text ++ crlf behind → SaysLeaf most (line_value k text) input behind
+pub says_line : (k : LineKind) (most : ℕ) (input text rest behind : List ℕ) → IsLeafInTwo (line k text) → IsLine text → IsText input →
+    content_length (line_value k text) ≤ most → input ≡ line_byte k ∷ rest → rest ≡ text ++ crlf behind → SaysLeaf most (line_value k text) input behind
 says_line k most input text rest behind old is_line is_text short first e =
     let rest_is_text : IsText (line_byte k ∷ (text ++ crlf behind)) = subst IsText (first ∙ ap (λ more. line_byte k ∷ more) e) is_text in (
       line k text,
@@ -52,12 +53,14 @@ says_integer most i input rest behind first (sign, digits, are_digits, e, value,
 )
 
 -- the line of a null
-pub says_null : (form : NullForm) (most : ℕ) (input behind : List ℕ) → IsLeafInTwo (null form) → input ≡ null_line form ++ crlf behind → SaysLeaf most d.Null input behind
+pub says_null : (form : NullForm) (most : ℕ) (input behind : List ℕ) → IsLeafInTwo (null form) → input ≡ null_line form ++ crlf behind →
+    SaysLeaf most d.Null input behind
 says_null form most input behind old e =
     (null form, old, tt, tt, refl, omega arith, e ∙ sym (append_assoc (null_line form) (crlf []) behind))
 
 -- a bulk string
-pub says_bulk : (most : ℕ) (content input rest behind : List ℕ) → IsText rest → length content ≤ most → input ≡ 36 ∷ rest → SaysBulk content rest behind → SaysLeaf most (d.Bulk content) input behind
+pub says_bulk : (most : ℕ) (content input rest behind : List ℕ) → IsText rest → length content ≤ most → input ≡ 36 ∷ rest → SaysBulk content rest behind →
+    SaysLeaf most (d.Bulk content) input behind
 says_bulk most content input rest behind is_text short first (digits, is_number, e) =
     let behind_digits : IsText (crlf (content ++ crlf behind)) = each_behind IsByte digits (crlf (content ++ crlf behind)) (subst IsText e is_text) in (
       string Bulk digits content,
@@ -96,7 +99,8 @@ no_integer_leaf most input rest first none (string (Verbatim format) digits s) b
 no_integer_leaf most input rest first none (chunked chunks zeros) behind old in_range is_leaf short e = absurd old
 
 -- behind `$` stands a null or a bulk string
-pub dollar_leaf : (most : ℕ) (rest : List ℕ) (l : Leaf) (behind : List ℕ) → IsLeafInTwo l → IsLeaf l → content_length (leaf_value l) ≤ most → 36 ∷ rest ≡ leaf_text l ++ behind → (rest ≡ 45 ∷ 49 ∷ crlf behind) ⊎ ((content : List ℕ) × (length content ≤ most) × SaysBulk content rest behind)
+pub dollar_leaf : (most : ℕ) (rest : List ℕ) (l : Leaf) (behind : List ℕ) → IsLeafInTwo l → IsLeaf l → content_length (leaf_value l) ≤ most →
+    36 ∷ rest ≡ leaf_text l ++ behind → (rest ≡ 45 ∷ 49 ∷ crlf behind) ⊎ ((content : List ℕ) × (length content ≤ most) × SaysBulk content rest behind)
 dollar_leaf most rest (string Bulk digits s) behind old is_leaf short e =
     let text : 36 ∷ rest ≡ 36 ∷ (digits ++ crlf (s ++ crlf behind)) =
     e ∙ append_assoc (36 ∷ digits) (crlf (s ++ crlf [])) behind ∙ ap (λ more. (36 ∷ digits) ++ crlf more) (append_assoc s (crlf []) behind) in
@@ -129,7 +133,8 @@ no_bulk_leaf most rest no_minus none l behind old in_range is_leaf short e =
     ]
 
 -- behind `$`, where `-` follows, there is no leaf but a null
-pub no_null_leaf : (most : ℕ) (rest : List ℕ) → is_minus (sign_at rest) ≡ true → ((behind : List ℕ) → rest ≡ 45 ∷ 49 ∷ crlf behind → ⊥) → BeginsWithNoLeaf most (36 ∷ rest)
+pub no_null_leaf : (most : ℕ) (rest : List ℕ) → is_minus (sign_at rest) ≡ true → ((behind : List ℕ) → rest ≡ 45 ∷ 49 ∷ crlf behind → ⊥) →
+    BeginsWithNoLeaf most (36 ∷ rest)
 no_null_leaf most rest minus none l behind old in_range is_leaf short e =
     elim (dollar_leaf most rest l behind old is_leaf short e) [
       | inl null_line ↦ none behind null_line

@@ -16,18 +16,23 @@ pub quoted-escaped : (byte : ℕ) → is_plain byte ≡ false → quoted_text (b
 quoted-escaped byte h = ap (λ b. cond b (byte ∷ []) (escape_of byte) ++ []) h ∙ append-nil (escape_of byte)
 
 -- one plain byte more
-pub quoted-take : (text : List ℕ) (n : ℕ) → n < length text → quoted_text (take n text) ≡ take n text → is_plain (get_or text n 0) ≡ true → quoted_text (take (n + 1) text) ≡ take (n + 1) text
+pub quoted-take : (text : List ℕ) (n : ℕ) → n < length text → quoted_text (take n text) ≡ take n text → is_plain (get_or text n 0) ≡ true →
+    quoted_text (take (n + 1) text) ≡ take (n + 1) text
 quoted-take text n h e plain =
     let more : take (n + 1) text ≡ take n text ++ get_or text n 0 ∷ [] = ap (λ k. take k text) (add-one n) ∙ take-suc text n 0 h in
-    ap quoted_text more ∙ quoted-append (take n text) (get_or text n 0 ∷ []) ∙ ap (λ front. front ++ quoted_text (get_or text n 0 ∷ [])) e ∙ ap (λ last. take n text ++ last) (quoted-plain (get_or text n 0) plain) ∙ sym more
+    ap quoted_text more ∙ quoted-append (take n text) (get_or text n 0 ∷ []) ∙ ap (λ front. front ++ quoted_text (get_or text n 0 ∷ [])) e ∙
+    ap (λ last. take n text ++ last) (quoted-plain (get_or text n 0) plain) ∙ sym more
 
 -- the first byte doesn't stand for itself, where no byte before it does
-pub escaped_first : (rest behind : List ℕ) (byte n : ℕ) → rest ≡ byte ∷ behind → n ≡ 0 → (n < length rest → is_plain (get_or rest n 0) ≡ false) → is_plain byte ≡ false
+pub escaped_first : (rest behind : List ℕ) (byte n : ℕ) → rest ≡ byte ∷ behind → n ≡ 0 → (n < length rest → is_plain (get_or rest n 0) ≡ false) →
+    is_plain byte ≡ false
 escaped_first rest behind byte n first none h =
     let some : n < length rest = omega (arith, ap length first) in
     ap is_plain (ap (λ xs. get_or xs 0 0) (sym first) ∙ ap (λ k. get_or rest k 0) (sym none)) ∙ h some
 
 -- a front that is quoted so, and what lies behind it
-pub quoted-split : (text front part behind shown : List ℕ) → text ≡ front ++ (part ++ behind) → quoted_text part ≡ shown → quoted_text text ≡ quoted_text front ++ (shown ++ quoted_text behind)
+pub quoted-split : (text front part behind shown : List ℕ) → text ≡ front ++ (part ++ behind) → quoted_text part ≡ shown →
+    quoted_text text ≡ quoted_text front ++ (shown ++ quoted_text behind)
 quoted-split text front part behind shown e is_shown =
-    ap quoted_text e ∙ quoted-append front (part ++ behind) ∙ ap (λ more. quoted_text front ++ more) (quoted-append part behind ∙ ap (λ more. more ++ quoted_text behind) is_shown)
+    ap quoted_text e ∙ quoted-append front (part ++ behind) ∙ ap (λ more. quoted_text front ++ more) (quoted-append part behind ∙
+    ap (λ more. more ++ quoted_text behind) is_shown)

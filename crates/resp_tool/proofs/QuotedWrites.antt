@@ -9,10 +9,12 @@ use Rattle.resp_tool.proofs.WrittenLemmas.{Appends-append, writes_next, writes_p
 
 -- the quoted front of a text was written, and no write failed
 abbrev pub HasWrittenFront : (text rest : List ℕ) (before after : Option (List ℕ)) (failures failures' : ℕ) → Type 0
-HasWrittenFront text rest before after failures failures' = (front : List ℕ) × (text ≡ front ++ rest) × (Appends before after (quoted_text front) × (failures' ≡ failures))
+HasWrittenFront text rest before after failures failures' = (front : List ℕ) × (text ≡ front ++ rest) ×
+    (Appends before after (quoted_text front) × (failures' ≡ failures))
 
 -- one part more was written
-pub front_goes_on : (text rest part behind shown : List ℕ) (a b c : Option (List ℕ)) (f g h : ℕ) → HasWrittenFront text rest a b f g → rest ≡ part ++ behind → quoted_text part ≡ shown → Appends b c shown × (h ≡ g) → HasWrittenFront text behind a c f h
+pub front_goes_on : (text rest part behind shown : List ℕ) (a b c : Option (List ℕ)) (f g h : ℕ) → HasWrittenFront text rest a b f g → rest ≡ part ++ behind →
+    quoted_text part ≡ shown → Appends b c shown × (h ≡ g) → HasWrittenFront text behind a c f h
 front_goes_on text rest part behind shown a b c f g h (front, e, written) first is_shown next = (
   front ++ part,
   e ∙ ap (λ more. front ++ more) first ∙ sym (append_assoc front part behind),
@@ -20,7 +22,9 @@ front_goes_on text rest part behind shown a b c f g h (front, e, written) first 
 )
 
 -- the write of the next part failed
-pub front_fails : {X E : Type 0} (r : Result X E) (text rest part behind shown : List ℕ) (a b c : Option (List ℕ)) (f g h : ℕ) → HasWrittenFront text rest a b f g → rest ≡ part ++ behind → quoted_text part ≡ shown → IsErr r → AppendsPart b c shown × HasRisen g h → WritesText a c f h r (quoted_text text)
+pub front_fails : {X E : Type 0} (r : Result X E) (text rest part behind shown : List ℕ) (a b c : Option (List ℕ)) (f g h : ℕ) →
+    HasWrittenFront text rest a b f g → rest ≡ part ++ behind → quoted_text part ≡ shown → IsErr r → AppendsPart b c shown × HasRisen g h →
+    WritesText a c f h r (quoted_text text)
 front_fails r text rest part behind shown a b c f g h (front, e, written) first is_shown is_err next =
     rw (quoted-split text front part behind shown (e ∙ ap (λ more. front ++ more) first) is_shown)
     (writes_next r a b c f g h (quoted_text front) (shown ++ quoted_text behind) written (writes_part r b c g h shown (quoted_text behind) is_err next))

@@ -15,18 +15,21 @@ nothing_read None = tt
 nothing_read (Some left) = (left, refl, refl)
 
 -- one read more
-pub reads_on : (before mid after : Option (List ℕ)) (bytes into : List ℕ) (n : ℕ) → HasRead before mid bytes → Reads mid after into (Ok n) → HasRead before after (bytes ++ take n into)
+pub reads_on : (before mid after : Option (List ℕ)) (bytes into : List ℕ) (n : ℕ) → HasRead before mid bytes → Reads mid after into (Ok n) →
+    HasRead before after (bytes ++ take n into)
 reads_on None mid after bytes into n so_far read = tt
 reads_on (Some left) None after bytes into n (rest, e, is) read = absurd (cc)
 reads_on (Some left) (Some now) after bytes into n (rest, e, is) read =
     let same : now ≡ rest = cc in (
       drop n now,
-      e ∙ ap (λ more. bytes ++ more) (sym same ∙ sym (take-append-drop n now) ∙ ap (λ front. front ++ drop n now) (sym read.bytes)) ∙ sym (append_assoc bytes (take n into) (drop n now)),
+      e ∙ ap (λ more. bytes ++ more) (sym same ∙ sym (take-append-drop n now) ∙ ap (λ front. front ++ drop n now) (sym read.bytes)) ∙
+          sym (append_assoc bytes (take n into) (drop n now)),
       read.behind,
     )
 
 -- a read of no byte is the end
-pub reads_to_end : (before mid after : Option (List ℕ)) (bytes into : List ℕ) → 0 < length into → HasRead before mid bytes → Reads mid after into (Ok 0) → ReadsAll before after bytes
+pub reads_to_end : (before mid after : Option (List ℕ)) (bytes into : List ℕ) → 0 < length into → HasRead before mid bytes → Reads mid after into (Ok 0) →
+    ReadsAll before after bytes
 reads_to_end None mid after bytes into room so_far read = tt
 reads_to_end (Some left) None after bytes into room (rest, e, is) read = absurd (cc)
 reads_to_end (Some left) (Some now) after bytes into room (rest, e, is) read =
@@ -57,6 +60,7 @@ called_again (suc n) before mid after so_far e =
     record { none = λ h. absurd (omega arith); some = λ _. omega arith }
 
 -- the front of a buffer that was read into
-pub take-into : (into buffer : List ℕ) (size n : ℕ) → n ≤ length into → length into ≤ size → take n (take size (into ++ drop (length into) buffer)) ≡ take n into
+pub take-into : (into buffer : List ℕ) (size n : ℕ) → n ≤ length into → length into ≤ size → take n (take size (into ++ drop (length into) buffer)) ≡
+    take n into
 take-into into buffer size n within room =
     take-take n size (into ++ drop (length into) buffer) (omega arith) ∙ take-append-le n into (drop (length into) buffer) within

@@ -22,7 +22,8 @@ Appends-none None = tt
 Appends-none (Some held) = ap Some (sym (append-nil held))
 
 -- before the first value
-pub nothing_written : (text : Datum → List ℕ) (rules : Rules) (input : List ℕ) (held : Option (List ℕ)) → RendersFront text rules input held held 1 (Leaves input)
+pub nothing_written : (text : Datum → List ℕ) (rules : Rules) (input : List ℕ) (held : Option (List ℕ)) →
+    RendersFront text rules input held held 1 (Leaves input)
 nothing_written text rules input held = record {
   values = [];
   front = [];
@@ -35,7 +36,8 @@ nothing_written text rules input held = record {
 }
 
 -- one spelling more at the end
-spelled_next : (rules : Rules) (xs : List Datum) (x : Datum) (front next : List ℕ) → AreSpellings rules xs front → IsSpelling rules x next → AreSpellings rules (xs ++ x ∷ []) (front ++ next)
+spelled_next : (rules : Rules) (xs : List Datum) (x : Datum) (front next : List ℕ) → AreSpellings rules xs front → IsSpelling rules x next →
+    AreSpellings rules (xs ++ x ∷ []) (front ++ next)
 spelled_next rules [] x front next p q =
     let none : front ≡ [] = p in
     (next, [], q, refl, ap (λ more. more ++ next) none ∙ sym (append-nil next))
@@ -47,7 +49,9 @@ written_next : (text : Datum → List ℕ) (xs : List Datum) (x : Datum) → fla
 written_next text xs x = flat_map-append text xs (x ∷ []) ∙ ap (λ last. flat_map text xs ++ last) (append-nil (text x))
 
 -- one value more
-pub renders_next : (text : Datum → List ℕ) (rules : Rules) (input rest next behind : List ℕ) (x : Datum) (a b c : Option (List ℕ)) (n : ℕ) → RendersFront text rules input a b n (Leaves rest) → IsSpelling rules x next → rest ≡ next ++ behind → Appends b c (text x) → RendersFront text rules input a c (n + 1) (Leaves behind)
+pub renders_next : (text : Datum → List ℕ) (rules : Rules) (input rest next behind : List ℕ) (x : Datum) (a b c : Option (List ℕ)) (n : ℕ) →
+    RendersFront text rules input a b n (Leaves rest) → IsSpelling rules x next → rest ≡ next ++ behind → Appends b c (text x) →
+    RendersFront text rules input a c (n + 1) (Leaves behind)
 renders_next text rules input rest next behind x a b c n so_far spelling e written = record {
   values = so_far.values ++ x ∷ [];
   front = so_far.front ++ next;
@@ -60,7 +64,9 @@ renders_next text rules input rest next behind x a b c n so_far spelling e writt
 }
 
 -- the write of the next value's text failed
-pub renders_part : (text : Datum → List ℕ) (rules : Rules) (input rest next behind : List ℕ) (x : Datum) (a b c : Option (List ℕ)) (n : ℕ) → RendersFront text rules input a b n (Leaves rest) → IsSpelling rules x next → rest ≡ next ++ behind → AppendsPart b c (text x) → RendersPart text rules input a c
+pub renders_part : (text : Datum → List ℕ) (rules : Rules) (input rest next behind : List ℕ) (x : Datum) (a b c : Option (List ℕ)) (n : ℕ) →
+    RendersFront text rules input a b n (Leaves rest) → IsSpelling rules x next → rest ≡ next ++ behind → AppendsPart b c (text x) →
+    RendersPart text rules input a c
 renders_part text rules input rest next behind x a b c n so_far spelling e written = record {
   values = so_far.values ++ x ∷ [];
   front = so_far.front ++ next;
@@ -70,7 +76,8 @@ renders_part text rules input rest next behind x a b c n so_far spelling e writt
   written = record {
     part = flat_map text so_far.values ++ written.part;
     behind = written.behind;
-    whole = written_next text so_far.values x ∙ ap (λ last. flat_map text so_far.values ++ last) written.whole ∙ sym (append_assoc (flat_map text so_far.values) written.part written.behind);
+    whole = written_next text so_far.values x ∙ ap (λ last. flat_map text so_far.values ++ last) written.whole ∙
+        sym (append_assoc (flat_map text so_far.values) written.part written.behind);
     appended = Appends-append a b c (flat_map text so_far.values) written.part so_far.written written.appended;
   };
 }
@@ -86,7 +93,8 @@ empty_is_nothing [] e = refl
 empty_is_nothing (byte ∷ text) e = absurd (omega arith)
 
 -- where nothing is left, the text of each value was written
-pub renders_all : (text : Datum → List ℕ) (rules : Rules) (input rest : List ℕ) (before after : Option (List ℕ)) (n : ℕ) → NoSpellingIsEmpty → length rest ≡ 0 → RendersFront text rules input before after n (Leaves rest) → RendersAll text rules input before after
+pub renders_all : (text : Datum → List ℕ) (rules : Rules) (input rest : List ℕ) (before after : Option (List ℕ)) (n : ℕ) → NoSpellingIsEmpty → length rest ≡ 0 →
+    RendersFront text rules input before after n (Leaves rest) → RendersAll text rules input before after
 renders_all text rules input rest before after n law none so_far = record {
   values = so_far.values;
   cut = record {
@@ -99,7 +107,8 @@ renders_all text rules input rest before after n law none so_far = record {
 }
 
 -- what is left is the rest of which a fact is wanted
-pub renders_front : (text : Datum → List ℕ) (rules : Rules) (input rest : List ℕ) (before after : Option (List ℕ)) (n : ℕ) (P : List ℕ → Type 0) → RendersFront text rules input before after n (Leaves rest) → P rest → RendersFront text rules input before after n P
+pub renders_front : (text : Datum → List ℕ) (rules : Rules) (input rest : List ℕ) (before after : Option (List ℕ)) (n : ℕ) (P : List ℕ → Type 0) →
+    RendersFront text rules input before after n (Leaves rest) → P rest → RendersFront text rules input before after n P
 renders_front text rules input rest before after n P so_far p = record {
   values = so_far.values;
   front = so_far.front;
@@ -112,7 +121,8 @@ renders_front text rules input rest before after n P so_far p = record {
 }
 
 -- a value leaves less
-pub leaves_less : (rules : Rules) (x : Datum) (rest next behind : List ℕ) → NoSpellingIsEmpty → IsSpelling rules x next → rest ≡ next ++ behind → length behind < length rest
+pub leaves_less : (rules : Rules) (x : Datum) (rest next behind : List ℕ) → NoSpellingIsEmpty → IsSpelling rules x next → rest ≡ next ++ behind →
+    length behind < length rest
 leaves_less rules x rest [] behind law spelling e = absurd (law rules x spelling)
 leaves_less rules x rest (byte ∷ next) behind law spelling e = omega (arith, ap length e, length-append next behind)
 
@@ -126,7 +136,8 @@ none_of_it before after whole none = record {
 }
 
 -- what stands where a text was not written whole
-pub part_written : (before after : Option (List ℕ)) (failures failures' : ℕ) (error : RenderError) (whole : List ℕ) (R M : Type 0) → RendersText before after failures failures' (Err error) whole R M → AppendsPart before after whole
+pub part_written : (before after : Option (List ℕ)) (failures failures' : ℕ) (error : RenderError) (whole : List ℕ) (R M : Type 0) →
+    RendersText before after failures failures' (Err error) whole R M → AppendsPart before after whole
 part_written before after failures failures' e.Write whole R M p = p.0
 part_written before after failures failures' e.OverLimits whole R M p = none_of_it before after whole p.0
 part_written before after failures failures' e.Memory whole R M p = none_of_it before after whole p.0

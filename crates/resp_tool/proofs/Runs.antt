@@ -31,7 +31,8 @@ AllByRecursion-end P [] x p q = (q, tt)
 AllByRecursion-end P (y ∷ ys) x p q = (p.0, AllByRecursion-end P ys x p.1 q)
 
 -- a run up to a byte that isn't of it is the whole run
-pub runs_apart : (P : ℕ → Type 0) (a b x y : List ℕ) → AllByRecursion P a → AllByRecursion P b → BeginsWithNo P x → BeginsWithNo P y → a ++ x ≡ b ++ y → (a ≡ b) × (x ≡ y)
+pub runs_apart : (P : ℕ → Type 0) (a b x y : List ℕ) → AllByRecursion P a → AllByRecursion P b → BeginsWithNo P x → BeginsWithNo P y → a ++ x ≡ b ++ y →
+    (a ≡ b) × (x ≡ y)
 runs_apart P [] [] x y p q m n e = (refl, e)
 runs_apart P [] (d ∷ b) [] y p q m n e = absurd (cc)
 runs_apart P [] (d ∷ b) (c ∷ x) y p q m n e = let same : d ≡ c = cc in absurd (m (subst P same q.0))
@@ -83,15 +84,20 @@ no_number_without_digit most (c ∷ input) none (d ∷ ds) behind p small e =
     none digit
 
 -- a digit that makes the number too great leaves no number of digits at the front
-pub no_number_past : (most : ℕ) (input front rest behind : List ℕ) (byte value : ℕ) → AllByRecursion IsDigit front → input ≡ front ++ rest → rest ≡ byte ∷ behind → IsDigit byte → number front ≡ value → most < value * 10 + (byte - 48) → BeginsWithNoNumber most input
+pub no_number_past : (most : ℕ) (input front rest behind : List ℕ) (byte value : ℕ) → AllByRecursion IsDigit front → input ≡ front ++ rest →
+    rest ≡ byte ∷ behind → IsDigit byte → number front ≡ value → most < value * 10 + (byte - 48) → BeginsWithNoNumber most input
 no_number_past most input front rest behind byte value p e first digit is_value great digits after q small spelled =
-    let begun : (front ++ byte ∷ []) ++ behind ≡ digits ++ crlf after = append_assoc front (byte ∷ []) behind ∙ ap (λ more. front ++ more) (sym first) ∙ sym e ∙ spelled in
-    let (more, same) = run_begins IsDigit (front ++ byte ∷ []) digits behind (crlf after) (AllByRecursion-end IsDigit front byte p digit) (crlf_is_no_digit after) begun in
+    let begun : (front ++ byte ∷ []) ++ behind ≡ digits ++ crlf after = append_assoc front (byte ∷ []) behind ∙ ap (λ more. front ++ more) (sym first) ∙ sym e ∙
+    spelled in
+    let (more, same) = run_begins IsDigit (front ++ byte ∷ []) digits behind (crlf after) (AllByRecursion-end IsDigit front byte p digit)
+    (crlf_is_no_digit after) begun in
     let longer : number digits ≡ number ((front ++ byte ∷ []) ++ more) = ap number same in
     omega (arith, number-more (front ++ byte ∷ []) more, number-digit front byte)
 
 -- one more digit that leaves the number small enough
-pub number_goes_on : (most : ℕ) (input rest behind : List ℕ) (byte value : ℕ) → (front : List ℕ) × AllByRecursion IsDigit front × (input ≡ front ++ rest) × (number front ≡ value) × (value ≤ most) → rest ≡ byte ∷ behind → IsDigit byte → value * 10 + (byte - 48) ≤ most → (front : List ℕ) × AllByRecursion IsDigit front × (input ≡ front ++ behind) × (number front ≡ value * 10 + (byte - 48)) × (value * 10 + (byte - 48) ≤ most)
+pub number_goes_on : (most : ℕ) (input rest behind : List ℕ) (byte value : ℕ) → (front : List ℕ) × AllByRecursion IsDigit front × (input ≡ front ++ rest) ×
+    (number front ≡ value) × (value ≤ most) → rest ≡ byte ∷ behind → IsDigit byte → value * 10 + (byte - 48) ≤ most →
+    (front : List ℕ) × AllByRecursion IsDigit front × (input ≡ front ++ behind) × (number front ≡ value * 10 + (byte - 48)) × (value * 10 + (byte - 48) ≤ most)
 number_goes_on most input rest behind byte value (front, p, e, is_value, small) first digit fits = (
   front ++ byte ∷ [],
   AllByRecursion-end IsDigit front byte p digit,
@@ -133,13 +139,15 @@ pub none_rest : (P : ℕ → Type 0) (input : List ℕ) → BeginsWithNo P (drop
 none_rest P input = rw drop-length tt
 
 -- a line at the front of an input ends at the first CR or LF
-pub line_is : (input text behind : List ℕ) (n : ℕ) → n ≤ length input → IsLine (take n input) → BeginsWithNo IsPlain (drop n input) → IsLine text → input ≡ text ++ crlf behind → (length text ≡ n) × (drop n input ≡ crlf behind)
+pub line_is : (input text behind : List ℕ) (n : ℕ) → n ≤ length input → IsLine (take n input) → BeginsWithNo IsPlain (drop n input) → IsLine text →
+    input ≡ text ++ crlf behind → (length text ≡ n) × (drop n input ≡ crlf behind)
 line_is input text behind n h p q r e =
     let apart = runs_apart IsPlain text (take n input) (crlf behind) (drop n input) r p (crlf_is_not_plain behind) q (sym e ∙ sym (take-append-drop n input)) in
     (ap length apart.0 ∙ length-take-le n input h, sym apart.1)
 
 -- digits ended by CR LF at the front of an input are the whole run of digits there
-pub number_is : (n : ℕ) (input found rest digits behind : List ℕ) → IsNumber n found → input ≡ found ++ rest → BeginsWithNo IsDigit rest → IsDigits digits → input ≡ digits ++ crlf behind → (number digits ≡ n) × (rest ≡ crlf behind)
+pub number_is : (n : ℕ) (input found rest digits behind : List ℕ) → IsNumber n found → input ≡ found ++ rest → BeginsWithNo IsDigit rest → IsDigits digits →
+    input ≡ digits ++ crlf behind → (number digits ≡ n) × (rest ≡ crlf behind)
 number_is n input found rest digits behind p e none q spelled =
     let apart = runs_apart IsDigit found digits rest (crlf behind) p.0.1 q.1 none (crlf_is_no_digit behind) (sym e ∙ spelled) in
     (ap number (sym apart.0) ∙ p.1, apart.1)
@@ -150,5 +158,8 @@ behind_crlf x y e = cc
 
 -- a content of known length, and what lies behind it
 pub content_is : (n : ℕ) (rest content behind : List ℕ) → length content ≡ n → rest ≡ content ++ crlf behind → (n ≤ length rest) × (drop n rest ≡ crlf behind)
-content_is n rest content behind long e =
-    (omega (arith, ap length e, length-append content (crlf behind)), ap (λ m. drop m rest) (sym long) ∙ ap (drop (length content)) e ∙ drop-append_seam content (crlf behind))
+content_is n rest content behind long e = (
+  omega (arith, ap length e, length-append content (crlf behind)),
+  ap (λ m. drop m rest) (sym long) ∙ ap (drop (length content)) e ∙
+      drop-append_seam content (crlf behind),
+)

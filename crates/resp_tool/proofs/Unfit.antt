@@ -34,7 +34,10 @@ first_bytes before after n text appended = record {
 }
 
 -- what the encoder leaves where it refuses
-pub leaves_of_refusal : (rules : Rules) (x : Datum) (before after : Option (List ℕ)) (failures failures' : ℕ) (text : List ℕ) (error : EncodeToError) → IsFirstRefusal rules x error → ((e : EncodeError) → error ≡ to_error e → Appends before after []) → IfWrite (λ n. Appends before after (take n text)) error → IfWrite (λ n. HasRisen failures failures') error → RendersText before after failures failures' (Err (render_error_of error)) text (Fits rules x → ⊥) (Unit {0})
+pub leaves_of_refusal : (rules : Rules) (x : Datum) (before after : Option (List ℕ)) (failures failures' : ℕ) (text : List ℕ) (error : EncodeToError) →
+    IsFirstRefusal rules x error → ((e : EncodeError) → error ≡ to_error e → Appends before after []) →
+    IfWrite (λ n. Appends before after (take n text)) error → IfWrite (λ n. HasRisen failures failures') error →
+    RendersText before after failures failures' (Err (render_error_of error)) text (Fits rules x → ⊥) (Unit {0})
 leaves_of_refusal rules x before after failures failures' text to.NotInVersion refused nothing part failed =
     (nothing encode.NotInVersion refl, λ fits. refused fits.has_types)
 leaves_of_refusal rules x before after failures failures' text to.NestedPush refused nothing part failed =
@@ -47,7 +50,11 @@ leaves_of_refusal rules x before after failures failures' text (to.Write written
     (first_bytes before after written text part, failed)
 
 -- the same of an equal value, and of an outcome with an equal error
-pub leaves_of_equal : (rules : Rules) (x y : Datum) (before after : Option (List ℕ)) (failures failures' : ℕ) (error : EncodeToError) (r : Result (Unit {0}) RenderError) → r ≡ Err (render_error_of error) → x ≡ y → RendersText before after failures failures' (Err (render_error_of error)) (canonical_text rules.version x) (Fits rules x → ⊥) (Unit {0}) → RendersText before after failures failures' r (canonical_text rules.version y) (Fits rules y → ⊥) (Unit {0})
+pub leaves_of_equal : (rules : Rules) (x y : Datum) (before after : Option (List ℕ)) (failures failures' : ℕ) (error : EncodeToError)
+    (r : Result (Unit {0}) RenderError) → r ≡ Err (render_error_of error) → x ≡ y →
+    RendersText before after failures failures' (Err (render_error_of error)) (canonical_text rules.version x) (Fits rules x → ⊥) (Unit {0}) →
+    RendersText before after failures failures' r (canonical_text rules.version y) (Fits rules y → ⊥) (Unit {0})
 leaves_of_equal rules x y before after failures failures' error r is_error is_equal leaves =
     subst (λ outcome. RendersText before after failures failures' outcome (canonical_text rules.version y) (Fits rules y → ⊥) (Unit {0})) (sym is_error)
-    (subst (λ z. RendersText before after failures failures' (Err (render_error_of error)) (canonical_text rules.version z) (Fits rules z → ⊥) (Unit {0})) is_equal leaves)
+    (subst (λ z. RendersText before after failures failures' (Err (render_error_of error)) (canonical_text rules.version z) (Fits rules z → ⊥) (Unit {0}))
+    is_equal leaves)

@@ -13,13 +13,16 @@ Appends-append (Some held) b c text next first second =
     then_second ∙ ap Some (append_assoc held text next)
 
 -- what a write of all bytes says, in one word
-pub writes_all : (r : Result (Unit {0}) WriteFault) (before after : Option (List ℕ)) (failures failures' : ℕ) (text : List ℕ) → OnOk r (Appends before after text) → OnOk r (failures' ≡ failures) → IfErr r (λ fault. Appends before after (take fault.written text)) → IfErr r (λ fault. HasRisen failures failures') → WritesText before after failures failures' r text
+pub writes_all : (r : Result (Unit {0}) WriteFault) (before after : Option (List ℕ)) (failures failures' : ℕ) (text : List ℕ) →
+    OnOk r (Appends before after text) → OnOk r (failures' ≡ failures) → IfErr r (λ fault. Appends before after (take fault.written text)) →
+    IfErr r (λ fault. HasRisen failures failures') → WritesText before after failures failures' r text
 writes_all (Ok x) before after failures failures' text ok none_failed part failed = (ok, none_failed)
 writes_all (Err fault) before after failures failures' text ok none_failed part failed =
     (record { part = take fault.written text; behind = drop fault.written text; whole = sym (take-append-drop fault.written text); appended = part }, failed)
 
 -- a whole text was written, and then what a call wrote of the next
-pub writes_next : {X E : Type 0} (r : Result X E) (a b c : Option (List ℕ)) (f g h : ℕ) (text next : List ℕ) → Appends a b text × (g ≡ f) → WritesText b c g h r next → WritesText a c f h r (text ++ next)
+pub writes_next : {X E : Type 0} (r : Result X E) (a b c : Option (List ℕ)) (f g h : ℕ) (text next : List ℕ) → Appends a b text × (g ≡ f) →
+    WritesText b c g h r next → WritesText a c f h r (text ++ next)
 writes_next (Ok x) a b c f g h text next first second = (Appends-append a b c text next first.0 second.0, second.1 ∙ first.1)
 writes_next (Err e) a b c f g h text next first second = (
   record {
@@ -32,7 +35,8 @@ writes_next (Err e) a b c f g h text next first second = (
 )
 
 -- a part of a text is a part of a longer one
-pub writes_part : {X E : Type 0} (r : Result X E) (before after : Option (List ℕ)) (failures failures' : ℕ) (text next : List ℕ) → IsErr r → AppendsPart before after text × HasRisen failures failures' → WritesText before after failures failures' r (text ++ next)
+pub writes_part : {X E : Type 0} (r : Result X E) (before after : Option (List ℕ)) (failures failures' : ℕ) (text next : List ℕ) → IsErr r →
+    AppendsPart before after text × HasRisen failures failures' → WritesText before after failures failures' r (text ++ next)
 writes_part (Ok x) before after failures failures' text next is_err written = absurd (cc)
 writes_part (Err e) before after failures failures' text next is_err written = (
   record {
@@ -45,5 +49,6 @@ writes_part (Err e) before after failures failures' text next is_err written = (
 )
 
 -- a line of two pieces and of a number between two more, piece by piece
-pub line_parts : (first second before number behind : List ℕ) → (((first ++ second) ++ before) ++ number) ++ behind ≡ first ++ (second ++ ((before ++ number) ++ behind))
+pub line_parts : (first second before number behind : List ℕ) → (((first ++ second) ++ before) ++ number) ++ behind ≡ first ++
+    (second ++ ((before ++ number) ++ behind))
 line_parts first second before number behind = simp append_assoc

@@ -20,21 +20,28 @@ stream_rules version limits = record { version = version; limits = limits }
 
 -- The text was appended and no write failed; or a write failed, and a first part of it was appended; or nothing
 -- was, since the value is refused, or no memory was found.
-abbrev pub RendersText : Option (List ℕ) → Option (List ℕ) → ℕ → ℕ → Result (Unit {0}) RenderError → List ℕ → Type 0 → Type 0 → Type 0
-RendersText before after failures failures' (Ok x) text IsRefused TakesMemory = Appends before after text × (failures' ≡ failures)
-RendersText before after failures failures' (Err e.Write) text IsRefused TakesMemory = AppendsPart before after text × HasRisen failures failures'
-RendersText before after failures failures' (Err e.OverLimits) text IsRefused TakesMemory = Appends before after [] × IsRefused
-RendersText before after failures failures' (Err e.Memory) text IsRefused TakesMemory = Appends before after [] × TakesMemory
+abbrev pub RendersText : Option (List ℕ) → Option (List ℕ) → ℕ → ℕ → Result (Unit {0}) RenderError → List ℕ → Type 0 →
+    Type 0 → Type 0
+RendersText before after failures failures' (Ok x) text IsRefused TakesMemory =
+    Appends before after text × (failures' ≡ failures)
+RendersText before after failures failures' (Err e.Write) text IsRefused TakesMemory =
+    AppendsPart before after text × HasRisen failures failures'
+RendersText before after failures failures' (Err e.OverLimits) text IsRefused TakesMemory =
+    Appends before after [] × IsRefused
+RendersText before after failures failures' (Err e.Memory) text IsRefused TakesMemory =
+    Appends before after [] × TakesMemory
 
 -- the input is values and no rest, and their texts were appended, in order
-pub record RendersAll (text : Datum → List ℕ) (rules : Rules) (input : List ℕ) (before after : Option (List ℕ)) : Type 0 where
-  pub values : List Datum
-  pub cut : Cut rules input values []
-  pub written : Appends before after (flat_map text values)
+pub record RendersAll (text : Datum → List ℕ) (rules : Rules) (input : List ℕ) (before after : Option (List ℕ)) : Type 0
+  where
+    pub values : List Datum
+    pub cut : Cut rules input values []
+    pub written : Appends before after (flat_map text values)
 
 -- the input is the values before the one with this number, and then a rest of which the fact is true; and the
 -- texts of these values were appended, in order
-pub record RendersFront (text : Datum → List ℕ) (rules : Rules) (input : List ℕ) (before after : Option (List ℕ)) (number : ℕ) (IsRest : List ℕ → Type 0) : Type 0 where
+pub record RendersFront (text : Datum → List ℕ) (rules : Rules) (input : List ℕ) (before after : Option (List ℕ))
+    (number : ℕ) (IsRest : List ℕ → Type 0) : Type 0 where
   pub values : List Datum
   pub front : List ℕ
   pub rest : List ℕ
@@ -45,7 +52,8 @@ pub record RendersFront (text : Datum → List ℕ) (rules : Rules) (input : Lis
   pub is_rest : IsRest rest
 
 -- the input begins with values, and a first part of their texts was appended
-pub record RendersPart (text : Datum → List ℕ) (rules : Rules) (input : List ℕ) (before after : Option (List ℕ)) : Type 0 where
+pub record RendersPart (text : Datum → List ℕ) (rules : Rules) (input : List ℕ) (before after : Option (List ℕ)) : Type
+    0 where
   pub values : List Datum
   pub front : List ℕ
   pub rest : List ℕ

@@ -30,11 +30,13 @@ text_of Canon = canonical_text Two
 
 -- the texts of the whole stream were written, where the reader tells it
 abbrev pub RendersOfTask : Task → Option (List ℕ) → Option (List ℕ) → Option (List ℕ) → Type 0
-RendersOfTask task stream before after = IfSome stream (λ input. RendersAll (text_of task) default_rules input before after)
+RendersOfTask task stream before after = IfSome stream
+    (λ input. RendersAll (text_of task) default_rules input before after)
 
 -- the texts of the values before one with some number were written, where the reader tells the stream
 abbrev pub RendersFrontOfTask : Task → Option (List ℕ) → Option (List ℕ) → Option (List ℕ) → Type 0
-RendersFrontOfTask task stream before after = IfSome stream (λ input. (number : ℕ) × RendersFront (text_of task) default_rules input before after number IsSomeRest)
+RendersFrontOfTask task stream before after = IfSome stream (λ input. (number : ℕ) ×
+    RendersFront (text_of task) default_rules input before after number IsSomeRest)
 
 -- the same of one of the tasks
 abbrev pub RendersStream : Option (List ℕ) → Option (List ℕ) → Option (List ℕ) → Type 0

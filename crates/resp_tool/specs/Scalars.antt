@@ -34,24 +34,30 @@ with_sign false n = pos n
 
 -- the input is a signed integer's line, of this value, and then more
 abbrev pub SaysInteger : ℤ → List ℕ → List ℕ → Type 0
-SaysInteger i input behind = (sign : Sign) × (digits : List ℕ) × IsDigits digits × (input ≡ (sign_text sign ++ digits) ++ crlf behind) × (signed_value sign digits ≡ i) × IsInRange (numeral Int sign digits)
+SaysInteger i input behind = (sign : Sign) × (digits : List ℕ) × IsDigits digits ×
+    (input ≡ (sign_text sign ++ digits) ++ crlf behind) × (signed_value sign digits ≡ i) ×
+    IsInRange (numeral Int sign digits)
 
 -- the input is a length, CR LF, so many bytes and CR LF, and then more
 abbrev pub SaysBulk : List ℕ → List ℕ → List ℕ → Type 0
-SaysBulk content input behind = (digits : List ℕ) × IsNumber (length content) digits × (input ≡ digits ++ crlf (content ++ crlf behind))
+SaysBulk content input behind = (digits : List ℕ) × IsNumber (length content) digits ×
+    (input ≡ digits ++ crlf (content ++ crlf behind))
 
 -- the input is the text of a leaf that version 2 has, of this value and a content of at most so many bytes,
 -- and then more
 abbrev pub SaysLeaf : ℕ → d.Scalar → List ℕ → List ℕ → Type 0
-SaysLeaf most x input behind = (l : Leaf) × IsLeafInTwo l × IsInRange l × IsLeaf l × (leaf_value l ≡ x) × (content_length x ≤ most) × (input ≡ leaf_text l ++ behind)
+SaysLeaf most x input behind = (l : Leaf) × IsLeafInTwo l × IsInRange l × IsLeaf l × (leaf_value l ≡ x) ×
+    (content_length x ≤ most) × (input ≡ leaf_text l ++ behind)
 
 -- the input doesn't begin with a line of at most so many bytes, ended by CR LF
 abbrev pub BeginsWithNoLine : ℕ → List ℕ → Type 0
-BeginsWithNoLine most input = (text behind : List ℕ) → IsLine text → length text ≤ most → input ≡ text ++ crlf behind → ⊥
+BeginsWithNoLine most input = (text behind : List ℕ) → IsLine text → length text ≤ most → input ≡ text ++ crlf behind →
+    ⊥
 
 -- the input doesn't begin with digits of at most this value, ended by CR LF
 abbrev pub BeginsWithNoNumber : ℕ → List ℕ → Type 0
-BeginsWithNoNumber most input = (digits behind : List ℕ) → IsDigits digits → number digits ≤ most → input ≡ digits ++ crlf behind → ⊥
+BeginsWithNoNumber most input = (digits behind : List ℕ) → IsDigits digits → number digits ≤ most →
+    input ≡ digits ++ crlf behind → ⊥
 
 -- the input begins with no such byte
 abbrev pub BeginsWithNo : (ℕ → Type 0) → List ℕ → Type 0
@@ -72,8 +78,10 @@ BeginsWithNoBulk most input = (content behind : List ℕ) → length content ≤
 
 -- no front of the input is the text of a leaf that version 2 has, with a content of at most so many bytes
 abbrev pub BeginsWithNoLeaf : ℕ → List ℕ → Type 0
-BeginsWithNoLeaf most input = (l : Leaf) (behind : List ℕ) → IsLeafInTwo l → IsInRange l → IsLeaf l → content_length (leaf_value l) ≤ most → input ≡ leaf_text l ++ behind → ⊥
+BeginsWithNoLeaf most input = (l : Leaf) (behind : List ℕ) → IsLeafInTwo l → IsInRange l → IsLeaf l →
+    content_length (leaf_value l) ≤ most → input ≡ leaf_text l ++ behind → ⊥
 
 -- no front of the input is a spelling, within the rules, by a leaf that version 2 has
 abbrev pub BeginsWithNoScalar : Rules → List ℕ → Type 0
-BeginsWithNoScalar rules input = (l : Leaf) (front behind : List ℕ) → IsLeafInTwo l → Spells (leaf l) front → Keeps rules WithinTotal (leaf l) → input ≡ front ++ behind → ⊥
+BeginsWithNoScalar rules input = (l : Leaf) (front behind : List ℕ) → IsLeafInTwo l → Spells (leaf l) front →
+    Keeps rules WithinTotal (leaf l) → input ≡ front ++ behind → ⊥

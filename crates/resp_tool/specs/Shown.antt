@@ -53,7 +53,8 @@ scalar_line (Error text) = string_line (codes "error") text
 scalar_line (Double text) = string_line (codes "double") text
 scalar_line (Bulk text) = string_line (codes "bulk") text
 scalar_line (BulkError text) = string_line (codes "bulkerror") text
-scalar_line (Verbatim format text) = codes "verbatim \"" ++ quoted_text format ++ codes "\" \"" ++ quoted_text text ++ codes "\" " ++ decimal (length text) ++ codes "\n"
+scalar_line (Verbatim format text) = codes "verbatim \"" ++ quoted_text format ++ codes "\" \"" ++ quoted_text text ++
+    codes "\" " ++ decimal (length text) ++ codes "\n"
 scalar_line (Big negative digits) = codes "big " ++ minus_if negative ++ digits ++ codes "\n"
 
 abbrev pub kind_word : Kind → List ℕ
@@ -71,8 +72,10 @@ indentation level = replicate (2 * level) 32
 abbrev mutual
   pub lines_on : ℕ → Datum → List ℕ
   lines_on level (scalar s) = indentation level ++ scalar_line s
-  lines_on level (aggregate Attr xs) = indentation level ++ codes "attr\n" ++ annotating_lines level xs ++ indentation level ++ codes "end " ++ decimal (items_of Attr (count xs)) ++ codes "\n"
-  lines_on level (aggregate k xs) = indentation level ++ kind_word k ++ codes "\n" ++ member_lines (suc level) xs ++ indentation level ++ codes "end " ++ decimal (items_of k (count xs)) ++ codes "\n"
+  lines_on level (aggregate Attr xs) = indentation level ++ codes "attr\n" ++ annotating_lines level xs ++
+      indentation level ++ codes "end " ++ decimal (items_of Attr (count xs)) ++ codes "\n"
+  lines_on level (aggregate k xs) = indentation level ++ kind_word k ++ codes "\n" ++ member_lines (suc level) xs ++
+      indentation level ++ codes "end " ++ decimal (items_of k (count xs)) ++ codes "\n"
 
   -- of members
   pub member_lines : ℕ → Data → List ℕ

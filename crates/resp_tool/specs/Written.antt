@@ -16,4 +16,5 @@ WritesText before after failures failures' (Err e) text = AppendsPart before aft
 
 -- the line of a value that was refused: its number, the cause's name, and the byte
 abbrev pub refusal_line : ℕ → List ℕ → ℕ → List ℕ
-refusal_line value name at = codes "value " ++ decimal value ++ codes ": " ++ name ++ codes " at byte " ++ decimal at ++ codes "\n"
+refusal_line value name at = codes "value " ++ decimal value ++ codes ": " ++ name ++ codes " at byte " ++ decimal at ++
+    codes "\n"

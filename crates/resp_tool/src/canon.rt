@@ -28,7 +28,8 @@ struct Canonical<'a> {
 impl Rendering for Canonical<'_> {
     ghost text = { λ canonical. canonical_text canonical.version };
 
-    ghost refuses = { λ canonical x. Fits (stream_rules canonical.version canonical.limits.now) x → ⊥ };
+    ghost refuses = { λ canonical x. Fits (stream_rules canonical.version canonical.limits.now) x →
+        ⊥ };
 
     ghost takes_memory = { λ _. Unit {0} };
 
@@ -44,20 +45,21 @@ impl From<EncodeToError> for RenderError {
 
     fn from(error: EncodeToError) -> RenderError {
         match error {
-            EncodeToError::NotInVersion | EncodeToError::NestedPush | EncodeToError::OverLimits(_) =>
-                RenderError::OverLimits,
+            EncodeToError::NotInVersion
+            | EncodeToError::NestedPush
+            | EncodeToError::OverLimits(_) => RenderError::OverLimits,
             EncodeToError::OutOfMemory => RenderError::Memory,
             EncodeToError::Write { .. } => RenderError::Write,
         }
     }
 }
 
-/// Reads the whole input by reads of at most `piece` bytes, from 1 to 65,536, and writes the canonical text of each
-/// value in the same version.
+/// Reads the whole input by reads of at most `piece` bytes, from 1 to 65,536, and writes the
+/// canonical text of each value in the same version.
 ///
-/// A refused value's number is that of the first value that can't be read, or whose canonical text is over the
-/// limits; the texts of the values before it have been written. Where reading fails, nothing was
-/// written; where writing fails or memory is refused, a first part of the texts was.
+/// A refused value's number is that of the first value that can't be read, or whose canonical text
+/// is over the limits; the texts of the values before it have been written. Where reading fails,
+/// nothing was written; where writing fails or memory is refused, a first part of the texts was.
 pub fn canon<R: Source, W: Sink>(
     alloc: Global,
     version: Version,
@@ -69,17 +71,24 @@ pub fn canon<R: Source, W: Sink>(
     requires { (1 ≤ piece) × (piece ≤ 65536) }
     ensures ok { OnOk result (IfSome (R.remaining reader.old) (λ input.
         RendersAll (canonical_text version) (stream_rules version limits.now) input (W.written writer.old) (W.written writer.new) × (R.remaining reader.new ≡ Some []))) }
-    ensures refused { IfErr result (λ error. OnRefused error (λ value cause at. IfSome (R.remaining reader.old) (λ input.
+    ensures refused { IfErr result (λ error. OnRefused error
+        (λ value cause at. IfSome (R.remaining reader.old) (λ input.
         RendersFront (canonical_text version) (stream_rules version limits.now) input (W.written writer.old) (W.written writer.new) value (IsRefusedRest (stream_rules version limits.now))))) }
-    ensures over_limits { IfErr result (λ error. OnOverLimits error (λ value. IfSome (R.remaining reader.old) (λ input.
+    ensures over_limits { IfErr result (λ error. OnOverLimits error
+        (λ value. IfSome (R.remaining reader.old) (λ input.
         RendersFront (canonical_text version) (stream_rules version limits.now) input (W.written writer.old) (W.written writer.new) value (IsUnfitRest (stream_rules version limits.now) (λ x. Fits (stream_rules version limits.now) x → ⊥))))) }
-    ensures too_many { IsErrOf result ToolError.TooManyValues → IfSome (R.remaining reader.old) (λ input.
+    ensures too_many { IsErrOf result ToolError.TooManyValues →
+        IfSome (R.remaining reader.old) (λ input.
         RendersFront (canonical_text version) (stream_rules version limits.now) input (W.written writer.old) (W.written writer.new) (MOST_VALUES + 1) IsSomeRest) }
 
     // A device or memory that failed.
-    ensures read { IsErrOf result ToolError.Read → HasRisen (R.failures reader.old) (R.failures reader.new) × (writer.new ≡ writer.old) }
-    ensures turns { IsErrOf result ToolError.TooManyTurns → (R.calls reader.new ≡ count_after MOST_READS (R.calls reader.old)) × (writer.new ≡ writer.old) }
-    ensures write { IsErrOf result ToolError.Write → HasRisen (W.failures writer.old) (W.failures writer.new) }
+    ensures read { IsErrOf result ToolError.Read →
+        HasRisen (R.failures reader.old) (R.failures reader.new) × (writer.new ≡ writer.old) }
+    ensures turns { IsErrOf result ToolError.TooManyTurns →
+        (R.calls reader.new ≡ count_after MOST_READS (R.calls reader.old)) ×
+        (writer.new ≡ writer.old) }
+    ensures write { IsErrOf result ToolError.Write →
+        HasRisen (W.failures writer.old) (W.failures writer.new) }
     ensures part { IfErr result (λ error. OnPart error (IfSome (R.remaining reader.old) (λ input.
         RendersPart (canonical_text version) (stream_rules version limits.now) input (W.written writer.old) (W.written writer.new)))) }
 {

@@ -103,8 +103,11 @@ fn run<R: Source, W: Sink>(
     reader: &mut R,
     writer: &mut W,
 ) -> Result<(), ToolError>
-    ensures well { OnOk result (RendersOfTask task (R.remaining reader.old) (W.written writer.old) (W.written writer.new)) }
-    ensures refused { IfErr result (λ error. status_of error ≡ 1 → RendersFrontOfTask task (R.remaining reader.old) (W.written writer.old) (W.written writer.new)) }
+    ensures well { OnOk result (RendersOfTask task (R.remaining reader.old) (W.written writer.old)
+        (W.written writer.new)) }
+    ensures refused { IfErr result (λ error. status_of error ≡ 1 →
+        RendersFrontOfTask task (R.remaining reader.old) (W.written writer.old)
+        (W.written writer.new)) }
 {
     // What begins with a value isn't the end.
     laws::no_spelling_is_empty();
@@ -115,9 +118,10 @@ fn run<R: Source, W: Sink>(
     }
 }
 
-/// Does what the words say, the program's name first among them, and answers the status: 0 where all is well or
-/// help was asked for, 1 where the input was refused, 2 where the words are bad, and 3 where a device or memory
-/// failed. What is wrong is said on `faults`, whether or not that takes it.
+/// Does what the words say, the program's name first among them, and answers the status: 0 where
+/// all is well or help was asked for, 1 where the input was refused, 2 where the words are bad, and
+/// 3 where a device or memory failed. What is wrong is said on `faults`, whether or not that takes
+/// it.
 pub fn command<S: AsStr, R: Source, W: Sink, F: Sink>(
     alloc: Global,
     words: &[S],
@@ -126,8 +130,10 @@ pub fn command<S: AsStr, R: Source, W: Sink, F: Sink>(
     faults: &mut F,
 ) -> u8
     ensures statuses { result ≤ 3 }
-    ensures well { result ≡ 0 → (reader.new ≡ reader.old) ⊎ RendersStream (R.remaining reader.old) (W.written writer.old) (W.written writer.new) }
-    ensures refused { result ≡ 1 → RendersStreamFront (R.remaining reader.old) (W.written writer.old) (W.written writer.new) }
+    ensures well { result ≡ 0 → (reader.new ≡ reader.old) ⊎
+        RendersStream (R.remaining reader.old) (W.written writer.old) (W.written writer.new) }
+    ensures refused { result ≡ 1 → RendersStreamFront (R.remaining reader.old)
+        (W.written writer.old) (W.written writer.new) }
     ensures bad_arguments { result ≡ 2 → (reader.new ≡ reader.old) × (writer.new ≡ writer.old) }
 {
     let task = match parse(alloc, words) {

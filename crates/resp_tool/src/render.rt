@@ -60,7 +60,9 @@ pub trait Rendering {
     /// Writes the text of a value.
     fn write<W: Sink>(&self, writer: &mut W, scalar: &Scalar<'_>) -> Result<(), RenderError>
         requires { IsScalarValue (scalar_data scalar.now) }
-        ensures { RendersText (W.written writer.old) (W.written writer.new) (W.failures writer.old) (W.failures writer.new) result (text self.now (scalar_datum scalar.now)) (refuses self.now (scalar_datum scalar.now)) (takes_memory self.now) };
+        ensures { RendersText (W.written writer.old) (W.written writer.new) (W.failures writer.old)
+            (W.failures writer.new) result (text self.now (scalar_datum scalar.now))
+            (refuses self.now (scalar_datum scalar.now)) (takes_memory self.now) };
 }
 
 /// Writes the text of each value of the input, in order.
@@ -71,7 +73,8 @@ pub fn render_all<T: Rendering, W: Sink>(
     input: &[u8],
     writer: &mut W,
 ) -> Result<(), ToolError>
-    ensures ok { OnOk result (RendersAll (T.text rendering.now) (stream_rules version limits.now) input.now (W.written writer.old) (W.written writer.new)) }
+    ensures ok { OnOk result (RendersAll (T.text rendering.now) (stream_rules version limits.now)
+        input.now (W.written writer.old) (W.written writer.new)) }
     ensures refused { IfErr result (λ error. OnRefused error (λ value cause at.
         RendersFront (T.text rendering.now) (stream_rules version limits.now) input.now (W.written writer.old) (W.written writer.new) value (IsRefusedRest (stream_rules version limits.now)))) }
     ensures over_limits { IfErr result (λ error. OnOverLimits error (λ value.
@@ -80,9 +83,12 @@ pub fn render_all<T: Rendering, W: Sink>(
         RendersFront (T.text rendering.now) (stream_rules version limits.now) input.now (W.written writer.old) (W.written writer.new) (MOST_VALUES + 1) IsSomeRest }
 
     // The writer or memory failed.
-    ensures write { IsErrOf result ToolError.Write → HasRisen (W.failures writer.old) (W.failures writer.new) }
+    ensures write { IsErrOf result ToolError.Write →
+        HasRisen (W.failures writer.old) (W.failures writer.new) }
     ensures memory { IsErrOf result ToolError.Memory → T.takes_memory rendering.now }
-    ensures part { IfErr result (λ error. OnPart error (RendersPart (T.text rendering.now) (stream_rules version limits.now) input.now (W.written writer.old) (W.written writer.new))) }
+    ensures part { IfErr result (λ error. OnPart error
+        (RendersPart (T.text rendering.now) (stream_rules version limits.now) input.now
+        (W.written writer.old) (W.written writer.new))) }
     ensures others { IfErr result IsRenderingError }
 {
     // No spelling is empty, so each value leaves less, and where nothing is left no value is.

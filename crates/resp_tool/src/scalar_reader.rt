@@ -58,7 +58,8 @@ fn line_length(input: &[u8]) -> usize
 
 /// The text up to CR LF, of at most `most` bytes, and what lies behind.
 fn line(most: u64, input: &[u8]) -> Result<(&[u8], &[u8]), Refusal>
-    ensures found { IfOk result (λ found. IsLine found.0.now × (length found.0.now ≤ most) × (input.now ≡ found.0.now ++ crlf found.1.now)) }
+    ensures found { IfOk result (λ found. IsLine found.0.now × (length found.0.now ≤ most) ×
+        (input.now ≡ found.0.now ++ crlf found.1.now)) }
     ensures refused { IfErr result (λ refusal. BeginsWithNoLine most input.now) }
     ensures left { IfErr result (λ refusal. refusal.left ≤ length input.now) }
 {
@@ -84,11 +85,12 @@ fn line_end(input: &[u8]) -> Result<&[u8], Refusal>
     }
 }
 
-/// The value of decimal digits, at most `most`, and what lies behind them. A digit that makes it greater is
-/// refused by `over`.
+/// The value of decimal digits, at most `most`, and what lies behind them. A digit that makes it
+/// greater is refused by `over`.
 fn digits(most: u64, over: Cause, input: &[u8]) -> Result<(u64, &[u8]), Refusal>
     requires { (10 ≤ most) × (most ≤ 9223372036854775808) }
-    ensures found { IfOk result (λ found. (digits : List ℕ) × IsNumber found.0 digits × (input.now ≡ digits ++ found.1.now) × BeginsWithNo IsDigit found.1.now) }
+    ensures found { IfOk result (λ found. (digits : List ℕ) × IsNumber found.0 digits ×
+        (input.now ≡ digits ++ found.1.now) × BeginsWithNo IsDigit found.1.now) }
     ensures within { IfOk result (λ found. found.0 ≤ most) }
     ensures refused { IfErr result (λ refusal. BeginsWithNoNumber most input.now) }
     ensures left { IfErr result (λ refusal. refusal.left ≤ length input.now) }
@@ -160,7 +162,8 @@ fn integer(input: &[u8]) -> Result<(i64, &[u8]), Refusal>
 /// The content of a bulk string behind its type byte, and what lies behind the string.
 fn bulk(most: u64, input: &[u8]) -> Result<(&[u8], &[u8]), Refusal>
     requires { (10 ≤ most) × (most ≤ 9223372036854775808) }
-    ensures found { IfOk result (λ found. (length found.0.now ≤ most) × SaysBulk found.0.now input.now found.1.now) }
+    ensures found { IfOk result (λ found. (length found.0.now ≤ most) ×
+        SaysBulk found.0.now input.now found.1.now) }
     ensures refused { IfErr result (λ refusal. BeginsWithNoBulk most input.now) }
     ensures left { IfErr result (λ refusal. refusal.left ≤ length input.now) }
 {
@@ -177,7 +180,8 @@ fn bulk(most: u64, input: &[u8]) -> Result<(&[u8], &[u8]), Refusal>
 /// What lies behind the line of a null, behind its type byte.
 fn null_line(input: &[u8]) -> Result<&[u8], Refusal>
     ensures found { IfOk result (λ rest. input.now ≡ 45 ∷ 49 ∷ crlf rest.now) }
-    ensures refused { IfErr result (λ refusal. (behind : List ℕ) → input.now ≡ 45 ∷ 49 ∷ crlf behind → ⊥) }
+    ensures refused { IfErr result (λ refusal. (behind : List ℕ) →
+        input.now ≡ 45 ∷ 49 ∷ crlf behind → ⊥) }
     ensures left { IfErr result (λ refusal. refusal.left ≤ length input.now) }
 {
     match input {
@@ -196,7 +200,8 @@ fn begins_with_minus(input: &[u8]) -> bool
 /// A null or a bulk string behind its type byte `$`, and what lies behind it.
 fn null_or_bulk(most: u64, input: &[u8]) -> Result<(Scalar<'_>, &[u8]), Refusal>
     requires { (10 ≤ most) × (most ≤ 9223372036854775808) }
-    ensures found { IfOk result (λ found. SaysLeaf most (scalar_data found.0) (36 ∷ input.now) found.1.now) }
+    ensures found { IfOk result (λ found. SaysLeaf most (scalar_data found.0) (36 ∷ input.now)
+        found.1.now) }
     ensures refused { IfErr result (λ refusal. BeginsWithNoLeaf most (36 ∷ input.now)) }
     ensures left { IfErr result (λ refusal. refusal.left ≤ length input.now) }
 {
@@ -209,7 +214,8 @@ fn null_or_bulk(most: u64, input: &[u8]) -> Result<(Scalar<'_>, &[u8]), Refusal>
     }
 }
 
-/// A value without members, of version 2, and what lies behind it. Its content has at most `most` bytes.
+/// A value without members, of version 2, and what lies behind it. Its content has at most `most`
+/// bytes.
 fn leaf(most: u64, input: &[u8]) -> Result<(Scalar<'_>, &[u8]), Refusal>
     requires { (10 ≤ most) × (most ≤ 9223372036854775808) }
     ensures found { IfOk result (λ found. SaysLeaf most (scalar_data found.0) input.now found.1.now) }
@@ -269,9 +275,12 @@ pub fn read_scalar<'a>(
     limits: &Limits,
     input: &'a [u8],
 ) -> Result<(Scalar<'a>, &'a [u8]), Fault>
-    ensures found { IfOk result (λ found. (front : List ℕ) × IsSpelling (record { version = version; limits = limits.now }) (scalar_datum found.0) front × (input.now ≡ front ++ found.1.now)) }
+    ensures found { IfOk result (λ found. (front : List ℕ) ×
+        IsSpelling (record { version = version; limits = limits.now }) (scalar_datum found.0)
+        front × (input.now ≡ front ++ found.1.now)) }
     ensures value { IfOk result (λ found. IsScalarValue (scalar_data found.0)) }
-    ensures refused { IfErr result (λ fault. BeginsWithNoScalar (record { version = version; limits = limits.now }) input.now) }
+    ensures refused { IfErr result (λ fault. BeginsWithNoScalar
+        (record { version = version; limits = limits.now }) input.now) }
 {
     match leaf(limits.length(), input) {
         Ok((value, rest)) => {

@@ -31,11 +31,12 @@ impl Rendering for Lines {
     }
 }
 
-/// Reads the whole input by reads of at most `piece` bytes, from 1 to 65,536, and writes the line of each value.
+/// Reads the whole input by reads of at most `piece` bytes, from 1 to 65,536, and writes the line
+/// of each value.
 ///
-/// A refused value's number is that of the first value that can't be read; the lines of the values before it have
-/// been written. Where reading fails or memory is refused, nothing was written; where writing
-/// fails, a first part of the lines was.
+/// A refused value's number is that of the first value that can't be read; the lines of the values
+/// before it have been written. Where reading fails or memory is refused, nothing was written;
+/// where writing fails, a first part of the lines was.
 pub fn show<R: Source, W: Sink>(
     alloc: Global,
     version: Version,
@@ -47,15 +48,20 @@ pub fn show<R: Source, W: Sink>(
     requires { (1 ≤ piece) × (piece ≤ 65536) }
     ensures ok { OnOk result (IfSome (R.remaining reader.old) (λ input.
         RendersAll shown_text (stream_rules version limits.now) input (W.written writer.old) (W.written writer.new) × (R.remaining reader.new ≡ Some []))) }
-    ensures refused { IfErr result (λ error. OnRefused error (λ value cause at. IfSome (R.remaining reader.old) (λ input.
+    ensures refused { IfErr result (λ error. OnRefused error
+        (λ value cause at. IfSome (R.remaining reader.old) (λ input.
         RendersFront shown_text (stream_rules version limits.now) input (W.written writer.old) (W.written writer.new) value (IsRefusedRest (stream_rules version limits.now))))) }
-    ensures too_many { IsErrOf result ToolError.TooManyValues → IfSome (R.remaining reader.old) (λ input.
+    ensures too_many { IsErrOf result ToolError.TooManyValues →
+        IfSome (R.remaining reader.old) (λ input.
         RendersFront shown_text (stream_rules version limits.now) input (W.written writer.old) (W.written writer.new) (MOST_VALUES + 1) IsSomeRest) }
 
     // A device or memory that failed.
-    ensures read { IsErrOf result ToolError.Read → HasRisen (R.failures reader.old) (R.failures reader.new) }
-    ensures turns { IsErrOf result ToolError.TooManyTurns → R.calls reader.new ≡ count_after MOST_READS (R.calls reader.old) }
-    ensures write { IsErrOf result ToolError.Write → HasRisen (W.failures writer.old) (W.failures writer.new) }
+    ensures read { IsErrOf result ToolError.Read →
+        HasRisen (R.failures reader.old) (R.failures reader.new) }
+    ensures turns { IsErrOf result ToolError.TooManyTurns →
+        R.calls reader.new ≡ count_after MOST_READS (R.calls reader.old) }
+    ensures write { IsErrOf result ToolError.Write →
+        HasRisen (W.failures writer.old) (W.failures writer.new) }
     ensures part { IsErrOf result ToolError.Write → IfSome (R.remaining reader.old) (λ input.
         RendersPart shown_text (stream_rules version limits.now) input (W.written writer.old) (W.written writer.new)) }
     ensures unread { IfErr result (λ error. OnUnread error (writer.new ≡ writer.old)) }

@@ -11,7 +11,9 @@ use resp_value::device::{Sink, WriteFault};
 
 /// Writes the words up to a quoted text, that text, and the number of its bytes.
 fn write_string<W: Sink>(writer: &mut W, words: &[u8], text: &[u8]) -> Result<(), WriteFault>
-    ensures { WritesText (W.written writer.old) (W.written writer.new) (W.failures writer.old) (W.failures writer.new) result (words.now ++ quoted_text text.now ++ codes "\" " ++ decimal (length text.now) ++ codes "\n") }
+    ensures { WritesText (W.written writer.old) (W.written writer.new) (W.failures writer.old)
+        (W.failures writer.new) result (words.now ++ quoted_text text.now ++ codes "\" " ++
+        decimal (length text.now) ++ codes "\n") }
 {
     write_text(writer, words)?;
     write_quoted(writer, text)?;
@@ -20,7 +22,8 @@ fn write_string<W: Sink>(writer: &mut W, words: &[u8], text: &[u8]) -> Result<()
 
 /// Writes the line of a value.
 pub fn write_scalar<W: Sink>(writer: &mut W, scalar: &Scalar<'_>) -> Result<(), WriteFault>
-    ensures { WritesText (W.written writer.old) (W.written writer.new) (W.failures writer.old) (W.failures writer.new) result (scalar_line (scalar_data scalar.now)) }
+    ensures { WritesText (W.written writer.old) (W.written writer.new) (W.failures writer.old)
+        (W.failures writer.new) result (scalar_line (scalar_data scalar.now)) }
 {
     match scalar {
         Scalar::Null => write_text(writer, b"null\n"),

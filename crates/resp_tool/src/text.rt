@@ -9,7 +9,8 @@ use resp_value::device::{Sink, WriteFault, write_all};
 
 /// Writes a text.
 pub fn write_text<W: Sink>(writer: &mut W, text: &[u8]) -> Result<(), WriteFault>
-    ensures { WritesText (W.written writer.old) (W.written writer.new) (W.failures writer.old) (W.failures writer.new) result text.now }
+    ensures { WritesText (W.written writer.old) (W.written writer.new) (W.failures writer.old)
+        (W.failures writer.new) result text.now }
 {
     write_all(writer, text)
 }
@@ -21,7 +22,8 @@ pub fn write_number<W: Sink, N: Integer + Drop>(
     number: N,
     behind: &[u8],
 ) -> Result<(), WriteFault>
-    ensures { WritesText (W.written writer.old) (W.written writer.new) (W.failures writer.old) (W.failures writer.new) result (before.now ++ N.text number ++ behind.now) }
+    ensures { WritesText (W.written writer.old) (W.written writer.new) (W.failures writer.old)
+        (W.failures writer.new) result (before.now ++ N.text number ++ behind.now) }
 {
     let mut buffer = Buffer::new();
     write_text(writer, before)?;
@@ -44,7 +46,8 @@ fn hex_digit(n: u8) -> u8
 
 /// Writes a byte that doesn't stand for itself inside quotes.
 fn write_escaped<W: Sink>(writer: &mut W, byte: u8) -> Result<(), WriteFault>
-    ensures { WritesText (W.written writer.old) (W.written writer.new) (W.failures writer.old) (W.failures writer.new) result (escape_of byte) }
+    ensures { WritesText (W.written writer.old) (W.written writer.new) (W.failures writer.old)
+        (W.failures writer.new) result (escape_of byte) }
 {
     match byte {
         b'"' => write_text(writer, b"\\\""),
@@ -75,7 +78,8 @@ fn plain_length(text: &[u8]) -> usize
 
 /// Writes a text as it stands inside quotes.
 pub fn write_quoted<W: Sink>(writer: &mut W, text: &[u8]) -> Result<(), WriteFault>
-    ensures { WritesText (W.written writer.old) (W.written writer.new) (W.failures writer.old) (W.failures writer.new) result (quoted_text text.now) }
+    ensures { WritesText (W.written writer.old) (W.written writer.new) (W.failures writer.old)
+        (W.failures writer.new) result (quoted_text text.now) }
 {
     let mut rest = text;
     while let Some((byte, behind)) = rest.split_first() {

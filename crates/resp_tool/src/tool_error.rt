@@ -62,7 +62,8 @@ fn write_refusal<W: Sink>(
     name: &[u8],
     at: u64,
 ) -> Result<(), WriteFault>
-    ensures { WritesText (W.written writer.old) (W.written writer.new) (W.failures writer.old) (W.failures writer.new) result (refusal_line value name.now at) }
+    ensures { WritesText (W.written writer.old) (W.written writer.new) (W.failures writer.old)
+        (W.failures writer.new) result (refusal_line value name.now at) }
 {
     write_number(writer, b"value ", value, b": ")?;
     write_text(writer, name)?;
@@ -74,7 +75,8 @@ impl ToolError {
 
     /// Writes the line that says what was refused, with an LF.
     pub fn line<W: Sink>(&self, writer: &mut W) -> Result<(), WriteFault>
-        ensures { WritesText (W.written writer.old) (W.written writer.new) (W.failures writer.old) (W.failures writer.new) result (fault_line self.now) }
+        ensures { WritesText (W.written writer.old) (W.written writer.new) (W.failures writer.old)
+            (W.failures writer.new) result (fault_line self.now) }
     {
         match self {
             ToolError::Refused { value, cause, at } => {
@@ -93,7 +95,8 @@ impl ToolError {
         }
     }
 
-    /// The status that the program ends with: 1 for a refused input, 3 for a device or memory that failed.
+    /// The status that the program ends with: 1 for a refused input, 3 for a device or memory that
+    /// failed.
     pub fn status(&self) -> u8
         ensures { result ≡ status_of self.now }
     {

@@ -21,7 +21,8 @@ fails true e = absurd (cc)
 fails false e = refl
 
 -- what a test tells of a byte holds of each byte of a list that passes it
-pub all_by_test : (P : ℕ → Type 0) (test : ℕ → Bool) → ((b : ℕ) → test b ≡ true → P b) → (bytes : List ℕ) → each_passes test bytes ≡ true → AllByRecursion P bytes
+pub all_by_test : (P : ℕ → Type 0) (test : ℕ → Bool) → ((b : ℕ) → test b ≡ true → P b) → (bytes : List ℕ) → each_passes test bytes ≡ true →
+    AllByRecursion P bytes
 all_by_test P test tells [] passes = tt
 all_by_test P test tells (b ∷ bs) passes =
     let both = both_pass (test b) (each_passes test bs) passes in
@@ -45,5 +46,8 @@ line_by_test = all_by_test IsPlain (λ b. leb 14 b) (λ b passes. let h = leb-tr
 
 -- these are digits
 pub digits_by_test : (digits : List ℕ) → 0 < length digits → each_passes (λ d. cond (leb 48 d) (leb d 57) false) digits ≡ true → IsDigits digits
-digits_by_test digits full passes =
-    (full, all_by_test IsDigit (λ d. cond (leb 48 d) (leb d 57) false) (λ d pass. let both = both_pass (leb 48 d) (leb d 57) pass in (leb-true 48 d both.0, leb-true d 57 both.1)) digits passes)
+digits_by_test digits full passes = (
+  full,
+  all_by_test IsDigit (λ d. cond (leb 48 d) (leb d 57) false) (λ d pass. let both = both_pass (leb 48 d) (leb d 57) pass in
+      (leb-true 48 d both.0, leb-true d 57 both.1)) digits passes,
+)

@@ -28,7 +28,10 @@ sign_is_bytes Minus = (omega arith, tt)
 
 leaf_line_is_bytes : (l : Leaf) → IsLeaf l → IsText (leaf_line l)
 leaf_line_is_bytes (line k s) p = (first_byte_is_byte (leaf (line k s)), p.1)
-leaf_line_is_bytes (numeral k sign digits) p = (first_byte_is_byte (leaf (numeral k sign digits)), bytes_append (sign_text sign) digits (sign_is_bytes sign) (bytes_from_each digits p.1))
+leaf_line_is_bytes (numeral k sign digits) p = (
+  first_byte_is_byte (leaf (numeral k sign digits)),
+  bytes_append (sign_text sign) digits (sign_is_bytes sign) (bytes_from_each digits p.1),
+)
 leaf_line_is_bytes (null BulkNull) p = (omega arith, (omega arith, (omega arith, tt)))
 leaf_line_is_bytes (null ArrayNull) p = (omega arith, (omega arith, (omega arith, tt)))
 leaf_line_is_bytes (null PlainNull) p = (omega arith, tt)
@@ -47,7 +50,8 @@ pub chunks_are_bytes : (chunks : List Chunk) (rest : List ℕ) → AllByRecursio
 chunks_are_bytes [] rest p q = q
 chunks_are_bytes (c ∷ cs) rest p q =
     let content = bytes_append c.content (crlf (chunks_text cs rest)) p.0.2 (bytes_crlf (chunks_text cs rest) (chunks_are_bytes cs rest p.1 q)) in
-    bytes_append (59 ∷ c.digits) (crlf (c.content ++ crlf (chunks_text cs rest))) (omega arith, bytes_from_each c.digits p.0.0.0.1) (bytes_crlf (c.content ++ crlf (chunks_text cs rest)) content)
+    bytes_append (59 ∷ c.digits) (crlf (c.content ++ crlf (chunks_text cs rest))) (omega arith, bytes_from_each c.digits p.0.0.0.1)
+    (bytes_crlf (c.content ++ crlf (chunks_text cs rest)) content)
 
 leaf_rest_is_bytes : (l : Leaf) → IsLeaf l → IsText (leaf_rest l)
 leaf_rest_is_bytes (line k s) p = tt
@@ -55,7 +59,8 @@ leaf_rest_is_bytes (numeral k sign digits) p = tt
 leaf_rest_is_bytes (null form) p = tt
 leaf_rest_is_bytes (truth b) p = tt
 leaf_rest_is_bytes (string k digits s) p = bytes_append (payload k s) (crlf []) (payload_is_bytes k s p.1 p.2) (bytes_crlf [] tt)
-leaf_rest_is_bytes (chunked chunks zeros) p = chunks_are_bytes chunks ((59 ∷ zeros) ++ crlf []) p.0 (bytes_append (59 ∷ zeros) (crlf []) (omega arith, bytes_from_each zeros p.1.0.1) (bytes_crlf [] tt))
+leaf_rest_is_bytes (chunked chunks zeros) p = chunks_are_bytes chunks ((59 ∷ zeros) ++ crlf []) p.0
+    (bytes_append (59 ∷ zeros) (crlf []) (omega arith, bytes_from_each zeros p.1.0.1) (bytes_crlf [] tt))
 
 form_is_bytes : (k : Kind) (form : Form) (n : ℕ) → HasMembers k form n → IsText (form_line form)
 form_is_bytes k (Counted digits) n p = bytes_from_each digits p.0.1
@@ -71,7 +76,8 @@ mutual
   text_is_bytes (leaf l) p = bytes_append (leaf_line l) (crlf (leaf_rest l)) (leaf_line_is_bytes l p) (bytes_crlf (leaf_rest l) (leaf_rest_is_bytes l p))
   text_is_bytes (node k form ts) p =
       let rest = bytes_append (texts ts) (close form) (texts_are_bytes ts p.1) (close_is_bytes form) in
-      bytes_append (kind_byte k ∷ form_line form) (crlf (texts ts ++ close form)) (first_byte_is_byte (node k form ts), form_is_bytes k form (count ts) p.0) (bytes_crlf (texts ts ++ close form) rest)
+      bytes_append (kind_byte k ∷ form_line form) (crlf (texts ts ++ close form)) (first_byte_is_byte (node k form ts), form_is_bytes k form (count ts) p.0)
+      (bytes_crlf (texts ts ++ close form) rest)
 
   pub texts_are_bytes : (ts : Trees) → AreTrees ts → IsText (texts ts)
   texts_are_bytes none p = tt

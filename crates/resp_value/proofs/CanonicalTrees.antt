@@ -29,7 +29,8 @@ digit_values n = cond (eqb n 0) (0 ∷ []) (digits_of 10 n)
 digit_values_are : (n : ℕ) → (0 < length (digit_values n)) × AllBelowBase 10 (digit_values n) × (number_from_digits 10 (digit_values n) ≡ n)
 digit_values_are n = cases (eqb_tells n 0)
   where
-    cases : ((eqb n 0 ≡ true) × (n ≡ 0)) ⊎ ((eqb n 0 ≡ false) × (n ≢ 0)) → (0 < length (digit_values n)) × AllBelowBase 10 (digit_values n) × (number_from_digits 10 (digit_values n) ≡ n)
+    cases : ((eqb n 0 ≡ true) × (n ≡ 0)) ⊎ ((eqb n 0 ≡ false) × (n ≢ 0)) → (0 < length (digit_values n)) × AllBelowBase 10 (digit_values n) ×
+        (number_from_digits 10 (digit_values n) ≡ n)
     cases (inl h) = rw h.0 (omega arith, (omega arith, tt), sym h.1)
     cases (inr h) = rw h.0 (omega (arith, length-digits_of_step 10 n), all_below_base_digits_of 10 n (omega arith), number_digits_of 10 n (omega arith))
 
@@ -58,7 +59,8 @@ is_negative-minus_if negative digits h = cases (eqb_tells (number digits) 0)
     is_minus-minus_if true = refl
     is_minus-minus_if false = refl
 
-    cases : ((eqb (number digits) 0 ≡ true) × (number digits ≡ 0)) ⊎ ((eqb (number digits) 0 ≡ false) × (number digits ≢ 0)) → is_below_zero (sign_of negative) digits ≡ negative
+    cases : ((eqb (number digits) 0 ≡ true) × (number digits ≡ 0)) ⊎ ((eqb (number digits) 0 ≡ false) × (number digits ≢ 0)) →
+        is_below_zero (sign_of negative) digits ≡ negative
     cases (inl p) = ap (λ b. cond b false (is_minus (sign_of negative))) p.0 ∙ sym (h p.1)
     cases (inr p) = ap (λ b. cond b false (is_minus (sign_of negative))) p.0 ∙ is_minus-minus_if negative
 
@@ -110,8 +112,10 @@ mutual
   -- the canonical tree of a value is a tree
   pub canonical_tree_is_tree : (w : Version) (x : Datum) → IsValue x → IsTree (canonical_tree w x)
   canonical_tree_is_tree w (scalar s) p = canonical_leaf_is_leaf w s p
-  canonical_tree_is_tree w (aggregate k xs) p =
-      ((decimal_is_digits (items_of k (d.count xs)), members_of-items_of k (d.count xs) p.0 ∙ sym (count-canonical_trees w xs)), canonical_trees_are_trees w xs p.1)
+  canonical_tree_is_tree w (aggregate k xs) p = (
+    (decimal_is_digits (items_of k (d.count xs)), members_of-items_of k (d.count xs) p.0 ∙ sym (count-canonical_trees w xs)),
+    canonical_trees_are_trees w xs p.1,
+  )
 
   canonical_trees_are_trees : (w : Version) (xs : Data) → AreValues xs → AreTrees (canonical_trees w xs)
   canonical_trees_are_trees w d.none p = tt

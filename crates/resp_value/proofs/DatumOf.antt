@@ -15,17 +15,20 @@ data_of_row-items : {m : _} (row : Row_of-Value m) → data_of_row row ≡ data_
 data_of_row-items end_of-Value = refl
 data_of_row-items (more_of-Value x rest) = ap (more (datum_of x)) (data_of_row-items rest)
 
-data_of_pairs-items : {m : _} (row : Row_of-PairList-pairs-2 m) → data_of_pairs row ≡ data_of_list (in_turn (map pair_data (items-the_row-PairList-pairs-2 _ row)))
+data_of_pairs-items : {m : _} (row : Row_of-PairList-pairs-2 m) →
+    data_of_pairs row ≡ data_of_list (in_turn (map pair_data (items-the_row-PairList-pairs-2 _ row)))
 data_of_pairs-items end_of-PairList-pairs-2 = refl
 data_of_pairs-items (more_of-PairList-pairs-2 k x rest) = ap (λ xs. more (datum_of k) (more (datum_of x) xs)) (data_of_pairs-items rest)
 
 -- the members of an array, a set or a push, by their list
 members_data : (members : Members) → data_of_row (hidden-the_row-Value-0 members.items) ≡ data_of_list (map datum_of (list_of members))
-members_data members = data_of_row-items (hidden-the_row-Value-0 members.items) ∙ ap (λ xs. data_of_list (map datum_of xs)) (items_hidden-the_row-Value-0 members.items)
+members_data members = data_of_row-items (hidden-the_row-Value-0 members.items) ∙
+    ap (λ xs. data_of_list (map datum_of xs)) (items_hidden-the_row-Value-0 members.items)
 
 -- the keys and values of a map or an attribute, by the list of its pairs
 pairs_data : (pairs : PairList) → data_of_pairs (hidden-the_row-PairList-pairs-2-1 pairs.pairs) ≡ data_of_list (in_turn (map pair_data (pairs_of pairs)))
-pairs_data pairs = data_of_pairs-items (hidden-the_row-PairList-pairs-2-1 pairs.pairs) ∙ ap (λ xs. data_of_list (in_turn (map pair_data xs))) (items_hidden-the_row-PairList-pairs-2-1 pairs.pairs)
+pairs_data pairs = data_of_pairs-items (hidden-the_row-PairList-pairs-2-1 pairs.pairs) ∙
+    ap (λ xs. data_of_list (in_turn (map pair_data xs))) (items_hidden-the_row-PairList-pairs-2-1 pairs.pairs)
 
 extended-data_of_list : (xs : List Datum) (x : Datum) → extended (data_of_list xs) x ≡ data_of_list (xs ++ x ∷ [])
 extended-data_of_list [] x = refl
@@ -48,8 +51,10 @@ pub datum_of-Map : (pairs : PairList) → datum_of (Map pairs) ≡ aggregate d.M
 datum_of-Map pairs = ap (aggregate d.Map) (pairs_data pairs)
 
 -- the datum of an attribute and the value that it annotates
-pub datum_of-Attr : (pairs : PairList) (annotated : Box Value Global) → datum_of (Attr pairs annotated) ≡ aggregate d.Attr (data_of_list (in_turn (map pair_data (pairs_of pairs)) ++ datum_of annotated.value ∷ []))
-datum_of-Attr pairs annotated = ap (aggregate d.Attr) (ap (λ xs. extended xs (datum_of annotated.value)) (pairs_data pairs) ∙ extended-data_of_list (in_turn (map pair_data (pairs_of pairs))) (datum_of annotated.value))
+pub datum_of-Attr : (pairs : PairList) (annotated : Box Value Global) →
+    datum_of (Attr pairs annotated) ≡ aggregate d.Attr (data_of_list (in_turn (map pair_data (pairs_of pairs)) ++ datum_of annotated.value ∷ []))
+datum_of-Attr pairs annotated = ap (aggregate d.Attr) (ap (λ xs. extended xs (datum_of annotated.value)) (pairs_data pairs) ∙
+    extended-data_of_list (in_turn (map pair_data (pairs_of pairs))) (datum_of annotated.value))
 
 -- how many data a list makes
 pub count-data_of_list : (xs : List Datum) → count (data_of_list xs) ≡ length xs
@@ -62,11 +67,13 @@ length-in_turn [] = refl
 length-in_turn (pair ∷ pairs) = omega (arith, length-in_turn pairs)
 
 -- the keys and values of a map are whole pairs
-pub in_turn_is_whole : (pairs : List (Datum × Datum)) → count (data_of_list (in_turn pairs)) / 2 + count (data_of_list (in_turn pairs)) / 2 ≡ count (data_of_list (in_turn pairs))
+pub in_turn_is_whole : (pairs : List (Datum × Datum)) → count (data_of_list (in_turn pairs)) / 2 + count (data_of_list (in_turn pairs)) / 2 ≡
+    count (data_of_list (in_turn pairs))
 in_turn_is_whole pairs = omega (arith, count-data_of_list (in_turn pairs), length-in_turn pairs)
 
 -- the members of an attribute are whole pairs and one value
-pub annotated_is_whole : (pairs : List (Datum × Datum)) (x : Datum) → count (data_of_list (in_turn pairs ++ x ∷ [])) / 2 + count (data_of_list (in_turn pairs ++ x ∷ [])) / 2 + 1 ≡ count (data_of_list (in_turn pairs ++ x ∷ []))
+pub annotated_is_whole : (pairs : List (Datum × Datum)) (x : Datum) →
+    count (data_of_list (in_turn pairs ++ x ∷ [])) / 2 + count (data_of_list (in_turn pairs ++ x ∷ [])) / 2 + 1 ≡ count (data_of_list (in_turn pairs ++ x ∷ []))
 annotated_is_whole pairs x = omega (arith, count-data_of_list (in_turn pairs ++ x ∷ []), length-append (in_turn pairs) (x ∷ []), length-in_turn pairs)
 
 -- values and one more are values

@@ -16,10 +16,13 @@ pub text_at_least : (t : Tree) → 3 ≤ length (text t)
 text_at_least (leaf l) =
     let (cs, e) = leaf_begins l in
     let one : length (leaf_line l) ≡ length (leaf_byte l ∷ cs) = ap length e in
-    let both : length (leaf_line l ++ crlf (leaf_rest l)) ≡ length (leaf_line l) + length (crlf (leaf_rest l)) = length-append (leaf_line l) (crlf (leaf_rest l)) in
+    let both : length (leaf_line l ++ crlf (leaf_rest l)) ≡ length (leaf_line l) + length (crlf (leaf_rest l)) =
+    length-append (leaf_line l) (crlf (leaf_rest l)) in
     omega arith
 text_at_least (node k form ts) =
-    let both : length ((kind_byte k ∷ form_line form) ++ crlf (texts ts ++ close form)) ≡ length (kind_byte k ∷ form_line form) + length (crlf (texts ts ++ close form)) = length-append (kind_byte k ∷ form_line form) (crlf (texts ts ++ close form)) in
+    let both : length ((kind_byte k ∷ form_line form) ++ crlf (texts ts ++ close form)) ≡
+    length (kind_byte k ∷ form_line form) + length (crlf (texts ts ++ close form)) =
+    length-append (kind_byte k ∷ form_line form) (crlf (texts ts ++ close form)) in
     omega arith
 
 -- each member takes three bytes at least
@@ -48,7 +51,9 @@ mutual
       let here = items_of_at_most k (d.count (values ts)) in
       let same = count-values ts in
       let members = texts_at_least ts in
-      let head : length ((kind_byte k ∷ form_line form) ++ crlf (texts ts ++ close form)) ≡ length (kind_byte k ∷ form_line form) + length (crlf (texts ts ++ close form)) = length-append (kind_byte k ∷ form_line form) (crlf (texts ts ++ close form)) in
+      let head : length ((kind_byte k ∷ form_line form) ++ crlf (texts ts ++ close form)) ≡
+      length (kind_byte k ∷ form_line form) + length (crlf (texts ts ++ close form)) =
+      length-append (kind_byte k ∷ form_line form) (crlf (texts ts ++ close form)) in
       let rest : length (texts ts ++ close form) ≡ length (texts ts) + length (close form) = length-append (texts ts) (close form) in
       omega arith
 

@@ -16,7 +16,13 @@ use Rattle.resp_value.proofs.SmallTrees.{IsSmall, small_meets, small_leaf, small
 
 -- a small tree's text is a spelling of its value in the tree's version
 small_spells : (r : Rules) (t : Tree) → AreBounds r.limits → IsSmall t → HasVersion r.version t → Meets r NotStreamed t → IsSpelling r (value t) (text t)
-small_spells r t b s w f = record { tree = t; spells = record { is_tree = s.is_tree; spelled = refl }; keeps = λ rule h. small_meets r t b s w f rule; valued = refl }
+small_spells r t b s w f = record {
+  tree = t;
+  spells = record { is_tree = s.is_tree; spelled = refl };
+  keeps = λ rule h. small_meets r t b s w f rule;
+  valued =
+      refl;
+}
 
 in_both : (t : Tree) → IsSmall t → Every IsLeafInTwo IsNodeInTwo t → Every IsCountedLeaf IsCountedNode t → IsSpelledInBoth (text t) (value t)
 in_both t s w c r b = small_spells r t b s (in_each_version r.version t w) (if_counted r t c)
@@ -30,7 +36,8 @@ streamed t s r b is_three on = small_spells r t b s (subst (λ w. HasVersion w t
 pub plus_and_zeros : IsSpelledInBoth (codes ":+007\r\n") (scalar (d.Int (pos 7)))
 plus_and_zeros =
     let t = numeral Int Plus (codes "007") in
-    in_both (leaf t) (small_leaf t (digits_by_test (codes "007") (omega arith) refl) tt (omega (arith, ints), omega (arith, ints)) (omega arith) (omega arith)) tt tt
+    in_both (leaf t) (small_leaf t (digits_by_test (codes "007") (omega arith) refl) tt (omega (arith, ints), omega (arith, ints)) (omega arith) (omega arith))
+    tt tt
 
 pub minus_zero : IsSpelledInBoth (codes ":-0\r\n") (scalar (d.Int (pos 0)))
 minus_zero =
@@ -69,45 +76,69 @@ big_minus_zero =
 pub verbatim : IsSpelledInThree (codes "=6\r\ntxt:hi\r\n") (scalar (d.Verbatim (codes "txt") (codes "hi")))
 verbatim =
     let t = string (Verbatim (codes "txt")) (codes "6") (codes "hi") in
-    in_three (leaf t) (small_leaf t ((one_digit 54 (omega arith) (omega arith), refl), (refl, bytes_by_test (codes "txt") refl), (omega arith, (omega arith, tt))) tt tt (omega arith) (omega arith)) tt
+    in_three (leaf t) (small_leaf t (
+      (one_digit 54 (omega arith) (omega arith), refl),
+      (refl, bytes_by_test (codes "txt") refl),
+      (omega arith, (omega arith, tt)),
+    ) tt tt (omega arith) (omega arith)) tt
 
 pub chunks : IsSpelledStreamed (codes "$?\r\n;2\r\nab\r\n;1\r\nc\r\n;0\r\n") (scalar (d.Bulk (codes "abc")))
 chunks =
     let two : Chunk = record { digits = codes "2"; content = codes "ab" } in
     let one : Chunk = record { digits = codes "1"; content = codes "c" } in
     let t = chunked (two ∷ one ∷ []) (codes "0") in
-    streamed (leaf t) (small_leaf t ((((one_digit 50 (omega arith) (omega arith), refl), omega arith, (omega arith, (omega arith, tt))), (((one_digit 49 (omega arith) (omega arith), refl), omega arith, (omega arith, tt)), tt)), (one_digit 48 (omega arith) (omega arith), refl)) tt tt (omega arith) (omega arith))
+    streamed (leaf t) (small_leaf t (
+      (
+        ((one_digit 50 (omega arith) (omega arith), refl), omega arith, (omega arith, (omega arith, tt))),
+        (((one_digit 49 (omega arith) (omega arith), refl), omega arith, (omega arith, tt)), tt),
+      ),
+      (one_digit 48 (omega arith) (omega arith), refl),
+    ) tt tt
+    (omega arith) (omega arith))
 
 -- a simple string of one byte
 pub simple_is_line : (byte : ℕ) → 13 < byte → byte < 256 → IsLeaf (line Simple (byte ∷ []))
 simple_is_line byte above below = ((plain_above byte above, tt), (below, tt))
 
-pub streamed_map : IsSpelledStreamed (codes "%?\r\n+a\r\n:1\r\n.\r\n") (aggregate Map (d.more (scalar (d.Simple (codes "a"))) (d.more (scalar (d.Int (pos 1))) d.none)))
+pub streamed_map : IsSpelledStreamed (codes "%?\r\n+a\r\n:1\r\n.\r\n")
+    (aggregate Map (d.more (scalar (d.Simple (codes "a"))) (d.more (scalar (d.Int (pos 1))) d.none)))
 streamed_map =
     let ts = more (leaf (line Simple (codes "a"))) (more (leaf (numeral Int Unsigned (codes "1"))) none) in
-    streamed (node Map Streamed ts) (small_node Map Streamed ts ((1, refl), (simple_is_line 97 (omega arith) (omega arith), (one_digit 49 (omega arith) (omega arith), tt))) (tt, (tt, tt)) (tt, (tt, tt)) (tt, ((omega (arith, ints), omega (arith, ints)), tt)) (omega arith) (omega arith) (omega arith) (omega arith))
+    streamed (node Map Streamed ts) (small_node Map Streamed ts (
+      (1, refl),
+      (simple_is_line 97 (omega arith) (omega arith), (one_digit 49 (omega arith) (omega arith), tt)),
+    ) (tt, (tt, tt)) (tt, (tt, tt))
+    (tt, ((omega (arith, ints), omega (arith, ints)), tt)) (omega arith) (omega arith) (omega arith) (omega arith))
 
 pub set : IsSpelledInThree (codes "~1\r\n#f\r\n") (aggregate Set (d.more (scalar (d.Bool false)) d.none))
 set =
     let ts = more (leaf (truth false)) none in
-    in_three (node Set (Counted (codes "1")) ts) (small_node Set (Counted (codes "1")) ts ((one_digit 49 (omega arith) (omega arith), refl), (tt, tt)) (tt, tt) (tt, tt) (tt, tt) (omega arith) (omega arith) (omega arith) (omega arith)) (tt, (tt, tt))
+    in_three (node Set (Counted (codes "1")) ts) (small_node Set (Counted (codes "1")) ts ((one_digit 49 (omega arith) (omega arith), refl), (tt, tt)) (tt, tt)
+    (tt, tt) (tt, tt) (omega arith) (omega arith) (omega arith) (omega arith)) (tt, (tt, tt))
 
 pub streamed_array : IsSpelledStreamed (codes "*?\r\n_\r\n.\r\n") (aggregate Array (d.more (scalar d.Null) d.none))
 streamed_array =
     let ts = more (leaf (null PlainNull)) none in
-    streamed (node Array Streamed ts) (small_node Array Streamed ts (tt, (tt, tt)) (tt, tt) (tt, tt) (tt, tt) (omega arith) (omega arith) (omega arith) (omega arith))
+    streamed (node Array Streamed ts) (small_node Array Streamed ts (tt, (tt, tt)) (tt, tt) (tt, tt) (tt, tt) (omega arith) (omega arith) (omega arith)
+    (omega arith))
 
 pub streamed_set : IsSpelledStreamed (codes "~?\r\n_\r\n.\r\n") (aggregate Set (d.more (scalar d.Null) d.none))
 streamed_set =
     let ts = more (leaf (null PlainNull)) none in
-    streamed (node Set Streamed ts) (small_node Set Streamed ts (tt, (tt, tt)) (tt, tt) (tt, tt) (tt, tt) (omega arith) (omega arith) (omega arith) (omega arith))
+    streamed (node Set Streamed ts) (small_node Set Streamed ts (tt, (tt, tt)) (tt, tt) (tt, tt) (tt, tt) (omega arith) (omega arith) (omega arith)
+    (omega arith))
 
-pub attribute : IsSpelledInThree (codes "*1\r\n|1\r\n+a\r\n:1\r\n+b\r\n") (aggregate Array (d.more (aggregate Attr (d.more (scalar (d.Simple (codes "a"))) (d.more (scalar (d.Int (pos 1))) (d.more (scalar (d.Simple (codes "b"))) d.none)))) d.none))
+pub attribute : IsSpelledInThree (codes "*1\r\n|1\r\n+a\r\n:1\r\n+b\r\n")
+    (aggregate Array (d.more (aggregate Attr (d.more (scalar (d.Simple (codes "a")))
+    (d.more (scalar (d.Int (pos 1))) (d.more (scalar (d.Simple (codes "b"))) d.none)))) d.none))
 attribute =
     let us = more (leaf (line Simple (codes "a"))) (more (leaf (numeral Int Unsigned (codes "1"))) (more (leaf (line Simple (codes "b"))) none)) in
     let ts = more (node Attr (Counted (codes "1")) us) none in
     let one = one_digit 49 (omega arith) (omega arith) in
-    in_three (node Array (Counted (codes "1")) ts) (small_node Array (Counted (codes "1")) ts ((one, refl), (((one, refl), (simple_is_line 97 (omega arith) (omega arith), (one, (simple_is_line 98 (omega arith) (omega arith), tt)))), tt)) ((tt, (tt, (tt, (tt, tt)))), tt) ((tt, (tt, (tt, (tt, tt)))), tt) ((tt, (tt, ((omega (arith, ints), omega (arith, ints)), (tt, tt)))), tt) (omega arith) (omega arith) (omega arith) (omega arith)) (tt, ((tt, (tt, (tt, (tt, tt)))), tt))
+    in_three (node Array (Counted (codes "1")) ts) (small_node Array (Counted (codes "1")) ts
+    ((one, refl), (((one, refl), (simple_is_line 97 (omega arith) (omega arith), (one, (simple_is_line 98 (omega arith) (omega arith), tt)))), tt))
+    ((tt, (tt, (tt, (tt, tt)))), tt) ((tt, (tt, (tt, (tt, tt)))), tt) ((tt, (tt, ((omega (arith, ints), omega (arith, ints)), (tt, tt)))), tt) (omega arith)
+    (omega arith) (omega arith) (omega arith)) (tt, ((tt, (tt, (tt, (tt, tt)))), tt))
 
 -- a simple string of one byte is spelled
 pub small_line : (byte : ℕ) → 13 < byte → byte < 256 → IsSpelledInBoth (43 ∷ byte ∷ codes "\r\n") (simple (byte ∷ []))

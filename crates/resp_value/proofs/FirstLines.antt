@@ -37,7 +37,8 @@ sort_behind_star (c ∷ cs) = cond (eqb c 45) (leaf_of (null_sort ArrayNull)) (n
 
 abbrev pub sort_of_numeral : NumberKind → List ℕ → Sort
 sort_of_numeral k [] = no_sort
-sort_of_numeral k (c ∷ cs) = cond (eqb c 43) (leaf_of (numeral_sort k Plus cs)) (cond (eqb c 45) (leaf_of (numeral_sort k Minus cs)) (leaf_of (numeral_sort k Unsigned (c ∷ cs))))
+sort_of_numeral k (c ∷ cs) = cond (eqb c 43) (leaf_of (numeral_sort k Plus cs))
+    (cond (eqb c 45) (leaf_of (numeral_sort k Minus cs)) (leaf_of (numeral_sort k Unsigned (c ∷ cs))))
 
 abbrev pub sort_of_truth : List ℕ → Sort
 sort_of_truth [] = no_sort
@@ -80,7 +81,8 @@ abbrev pub sort_of : Tree → Sort
 sort_of (leaf l) = leaf_of (leaf_sort l)
 sort_of (node k form ts) = node_of k form
 
-sort_of_numeral_is : (k : NumberKind) (sign : Sign) (digits : List ℕ) → IsDigits digits → sort_of_numeral k (sign_text sign ++ digits) ≡ leaf_of (numeral_sort k sign digits)
+sort_of_numeral_is : (k : NumberKind) (sign : Sign) (digits : List ℕ) → IsDigits digits → sort_of_numeral k (sign_text sign ++ digits) ≡
+    leaf_of (numeral_sort k sign digits)
 sort_of_numeral_is k Plus digits p = refl
 sort_of_numeral_is k Minus digits p = refl
 sort_of_numeral_is k Unsigned [] p = absurd (omega arith)
@@ -175,7 +177,8 @@ first_is_line (node k (Counted digits) ts) p = (plain_above (kind_byte k) (first
 first_is_line (node k Streamed ts) p = (plain_above (kind_byte k) (first_byte_above (node k Streamed ts)), (plain_above 63 (omega arith), tt))
 
 -- a text's bytes up to its first CR LF decide what tree it can be of
-pub line_decides : (t : Tree) (first rest x : List ℕ) → IsTree t → IsLine first → text t ++ x ≡ first ++ crlf rest → (first_line t ≡ first) × (sort first ≡ sort_of t) × (after_line t ++ x ≡ rest)
+pub line_decides : (t : Tree) (first rest x : List ℕ) → IsTree t → IsLine first → text t ++ x ≡ first ++ crlf rest →
+    (first_line t ≡ first) × (sort first ≡ sort_of t) × (after_line t ++ x ≡ rest)
 line_decides t first rest x p no_break e =
     let split = line_split (first_line t) first (after_line t ++ x) rest (first_is_line t p) no_break (sym (text_is t x) ∙ e) in
     (split.0, sym (ap sort split.0) ∙ sort_is t p, split.1)

@@ -54,7 +54,8 @@ unfolding BeginsAboveZero
 stripped_first [] p = inl refl
 stripped_first (c ∷ cs) p = cases (stripped_first cs p.1) (eqb_tells c 48)
   where
-    cases : (significant_digits cs ≡ []) ⊎ BeginsAboveZero (significant_digits cs) → Told c 48 → (significant_digits (c ∷ cs) ≡ []) ⊎ BeginsAboveZero (significant_digits (c ∷ cs))
+    cases : (significant_digits cs ≡ []) ⊎ BeginsAboveZero (significant_digits cs) → Told c 48 →
+        (significant_digits (c ∷ cs) ≡ []) ⊎ BeginsAboveZero (significant_digits (c ∷ cs))
     cases h (inl q) = rw q.0 h
     cases h (inr q) = inr (c, cs, rw q.0, q.1, p.0)
 
@@ -71,7 +72,8 @@ pub are_kept : (digits : List ℕ) → AllByRecursion IsDigit digits → AreKept
 unfolding BeginsAboveZero
 are_kept digits p = cases (stripped_first digits p) (stripped_are_digits digits p) (number-stripped digits)
   where
-    cases : (significant_digits digits ≡ []) ⊎ BeginsAboveZero (significant_digits digits) → AllByRecursion IsDigit (significant_digits digits) → number (significant_digits digits) ≡ number digits → AreKept digits
+    cases : (significant_digits digits ≡ []) ⊎ BeginsAboveZero (significant_digits digits) → AllByRecursion IsDigit (significant_digits digits) →
+        number (significant_digits digits) ≡ number digits → AreKept digits
     cases (inl e) q n =
         let z : number digits ≡ 0 = sym n ∙ ap number e in
         record {
@@ -105,7 +107,9 @@ sign_split (c ∷ cs) = cases (eqb_tells c 45) (eqb_tells c 43)
     cases (inr p) (inr q) = rw (p.0, q.0)
 
 -- kept digits with the text's sign, but none for zero, are what a big number keeps of the text
-pub keeps_digits : (text digits : List ℕ) (negative : Bool) → IsDigits (unsigned_part text) → digits ≡ kept_digits (unsigned_part text) → (negative ≡ true → (is_minus (sign_at text) ≡ true) × (get_or digits 0 0 ≢ 48)) → (negative ≡ false → (is_minus (sign_at text) ≡ false) ⊎ (get_or digits 0 0 ≡ 48)) → KeepsDigits text negative digits × IsKept negative digits
+pub keeps_digits : (text digits : List ℕ) (negative : Bool) → IsDigits (unsigned_part text) → digits ≡ kept_digits (unsigned_part text) →
+    (negative ≡ true → (is_minus (sign_at text) ≡ true) × (get_or digits 0 0 ≢ 48)) →
+    (negative ≡ false → (is_minus (sign_at text) ≡ false) ⊎ (get_or digits 0 0 ≡ 48)) → KeepsDigits text negative digits × IsKept negative digits
 keeps_digits text digits negative p e t f =
     let k = are_kept (unsigned_part text) p.1 in
     let g = sign_at text in
@@ -114,7 +118,9 @@ keeps_digits text digits negative p e t f =
       rw e (k.are_digits, k.same, λ z. n ∙ ap (λ m. cond (eqb m 0) false (is_minus g)) (sym k.same_number ∙ z)),
     )
   where
-    cases : AreKept (unsigned_part text) → (v : Bool) → Told (number (unsigned_part text)) 0 → (v ≡ true → (is_minus (sign_at text) ≡ true) × (get_or digits 0 0 ≢ 48)) → (v ≡ false → (is_minus (sign_at text) ≡ false) ⊎ (get_or digits 0 0 ≡ 48)) → v ≡ is_below_zero (sign_at text) (unsigned_part text)
+    cases : AreKept (unsigned_part text) → (v : Bool) → Told (number (unsigned_part text)) 0 →
+        (v ≡ true → (is_minus (sign_at text) ≡ true) × (get_or digits 0 0 ≢ 48)) → (v ≡ false → (is_minus (sign_at text) ≡ false) ⊎ (get_or digits 0 0 ≡ 48)) →
+        v ≡ is_below_zero (sign_at text) (unsigned_part text)
     cases k true (inl q) t f =
         let h : get_or (kept_digits (unsigned_part text)) 0 0 ≢ 48 = rw e at (t refl).1 in
         let o : 0 < number (unsigned_part text) = k.above_zero h in absurd (omega (arith, q.1))
@@ -127,10 +133,13 @@ keeps_digits text digits negative p e t f =
         under (inr z) = absurd (q.1 (k.zero (rw e at z)))
 
 -- the same, where the sign is found by testing the first kept digit behind a minus
-pub keeps_digits_if_tested : (text digits : List ℕ) (negative : Bool) → IsDigits (unsigned_part text) → digits ≡ kept_digits (unsigned_part text) → ((is_minus (sign_at text) ≡ true) × (negative ≡ not (eqb (get_or digits 0 0) 48))) ⊎ ((is_minus (sign_at text) ≡ false) × (negative ≡ false)) → KeepsDigits text negative digits × IsKept negative digits
+pub keeps_digits_if_tested : (text digits : List ℕ) (negative : Bool) → IsDigits (unsigned_part text) → digits ≡ kept_digits (unsigned_part text) →
+    ((is_minus (sign_at text) ≡ true) × (negative ≡ not (eqb (get_or digits 0 0) 48))) ⊎ ((is_minus (sign_at text) ≡ false) × (negative ≡ false)) →
+    KeepsDigits text negative digits × IsKept negative digits
 keeps_digits_if_tested text digits negative p e (inl h) = go (eqb_tells (get_or digits 0 0) 48)
   where
     go : Told (get_or digits 0 0) 48 → KeepsDigits text negative digits × IsKept negative digits
     go (inl q) = keeps_digits text digits negative p e (λ t. let n : negative ≡ false = h.1 ∙ ap not q.0 in absurd (cc)) (λ f. inr q.1)
     go (inr q) = keeps_digits text digits negative p e (λ t. (h.0, q.1)) (λ f. let n : negative ≡ true = h.1 ∙ ap not q.0 in absurd (cc))
-keeps_digits_if_tested text digits negative p e (inr h) = keeps_digits text digits negative p e (λ t. let n : negative ≡ false = h.1 in absurd (cc)) (λ f. inl h.0)
+keeps_digits_if_tested text digits negative p e (inr h) = keeps_digits text digits negative p e (λ t. let n : negative ≡ false = h.1 in
+    absurd (cc)) (λ f. inl h.0)

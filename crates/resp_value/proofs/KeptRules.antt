@@ -12,11 +12,13 @@ use Rattle.resp_value.proofs.CanonicalTrees.{signed-decimal}
 
 mutual
   -- what holds of the leaf of each scalar value, and of each counted head, holds of a canonical tree
-  pub every_canonical : (L : Leaf → Type 0) (N : Kind → Form → Type 0) (w : Version) → ((s : Scalar) → IsScalarValue s → L (canonical_leaf w s)) → ((k : Kind) (digits : List ℕ) → N k (Counted digits)) → (x : Datum) → IsValue x → Every L N (canonical_tree w x)
+  pub every_canonical : (L : Leaf → Type 0) (N : Kind → Form → Type 0) (w : Version) → ((s : Scalar) → IsScalarValue s → L (canonical_leaf w s)) →
+      ((k : Kind) (digits : List ℕ) → N k (Counted digits)) → (x : Datum) → IsValue x → Every L N (canonical_tree w x)
   every_canonical L N w at_leaf at_node (scalar s) p = at_leaf s p
   every_canonical L N w at_leaf at_node (aggregate k xs) p = (at_node k (decimal (items_of k (d.count xs))), every_of_canonical L N w at_leaf at_node xs p.1)
 
-  every_of_canonical : (L : Leaf → Type 0) (N : Kind → Form → Type 0) (w : Version) → ((s : Scalar) → IsScalarValue s → L (canonical_leaf w s)) → ((k : Kind) (digits : List ℕ) → N k (Counted digits)) → (xs : Data) → AreValues xs → EveryOf L N (canonical_trees w xs)
+  every_of_canonical : (L : Leaf → Type 0) (N : Kind → Form → Type 0) (w : Version) → ((s : Scalar) → IsScalarValue s → L (canonical_leaf w s)) →
+      ((k : Kind) (digits : List ℕ) → N k (Counted digits)) → (xs : Data) → AreValues xs → EveryOf L N (canonical_trees w xs)
   every_of_canonical L N w at_leaf at_node d.none p = tt
   every_of_canonical L N w at_leaf at_node (d.more x xs) p = (every_canonical L N w at_leaf at_node x p.0, every_of_canonical L N w at_leaf at_node xs p.1)
 

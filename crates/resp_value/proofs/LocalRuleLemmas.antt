@@ -12,11 +12,13 @@ use Rattle.resp_value.specs.declared.version.Version.TheVariants.{Two, Three}
 
 mutual
   -- rules at each node give weaker rules at each node
-  pub weaker : (L M : LeafRule) (N O : NodeRule) (level : ℕ) (t : Tree) → ((i : ℕ) (l : Leaf) → L i l → M i l) → ((i : ℕ) (k : Kind) (form : Form) (n : ℕ) → N i k form n → O i k form n) → HoldsFrom L N level t → HoldsFrom M O level t
+  pub weaker : (L M : LeafRule) (N O : NodeRule) (level : ℕ) (t : Tree) → ((i : ℕ) (l : Leaf) → L i l → M i l) →
+      ((i : ℕ) (k : Kind) (form : Form) (n : ℕ) → N i k form n → O i k form n) → HoldsFrom L N level t → HoldsFrom M O level t
   weaker L M N O level (leaf l) at_leaf at_node h = at_leaf level l h
   weaker L M N O level (node k form ts) at_leaf at_node h = (at_node level k form (count ts) h.0, weaker_each L M N O (suc level) ts at_leaf at_node h.1)
 
-  pub weaker_each : (L M : LeafRule) (N O : NodeRule) (level : ℕ) (ts : Trees) → ((i : ℕ) (l : Leaf) → L i l → M i l) → ((i : ℕ) (k : Kind) (form : Form) (n : ℕ) → N i k form n → O i k form n) → HoldsFromEach L N level ts → HoldsFromEach M O level ts
+  pub weaker_each : (L M : LeafRule) (N O : NodeRule) (level : ℕ) (ts : Trees) → ((i : ℕ) (l : Leaf) → L i l → M i l) →
+      ((i : ℕ) (k : Kind) (form : Form) (n : ℕ) → N i k form n → O i k form n) → HoldsFromEach L N level ts → HoldsFromEach M O level ts
   weaker_each L M N O level none at_leaf at_node h = tt
   weaker_each L M N O level (more t ts) at_leaf at_node h = (weaker L M N O level t at_leaf at_node h.0, weaker_each L M N O level ts at_leaf at_node h.1)
 
@@ -26,7 +28,8 @@ mutual
   every_from L N level (leaf l) = (λ p. p, λ p. p)
   every_from L N level (node k form ts) = let each = every_from_each L N (suc level) ts in (λ p. (p.0, each.0 p.1), λ p. (p.0, each.1 p.1))
 
-  pub every_from_each : (L : Leaf → Type 0) (N : Kind → Form → Type 0) (level : ℕ) (ts : Trees) → EveryOf L N ts ↔ HoldsFromEach (λ i l. L l) (λ i k form n. N k form) level ts
+  pub every_from_each : (L : Leaf → Type 0) (N : Kind → Form → Type 0) (level : ℕ) (ts : Trees) →
+      EveryOf L N ts ↔ HoldsFromEach (λ i l. L l) (λ i k form n. N k form) level ts
   every_from_each L N level none = (λ p. tt, λ p. tt)
   every_from_each L N level (more t ts) =
       let h = every_from L N level t in
@@ -35,11 +38,14 @@ mutual
 
 mutual
   -- a rule that looks at no level, under a premise
-  every_if : (P : Type 0) (L : Leaf → Type 0) (N : Kind → Form → Type 0) (level : ℕ) (t : Tree) → (P → Every L N t) ↔ HoldsFrom (λ i l. P → L l) (λ i k form n. P → N k form) level t
+  every_if : (P : Type 0) (L : Leaf → Type 0) (N : Kind → Form → Type 0) (level : ℕ) (t : Tree) →
+      (P → Every L N t) ↔ HoldsFrom (λ i l. P → L l) (λ i k form n. P → N k form) level t
   every_if P L N level (leaf l) = (λ p. p, λ p. p)
-  every_if P L N level (node k form ts) = let each = every_if_each P L N (suc level) ts in (λ p. (λ h. (p h).0, each.0 (λ h. (p h).1)), λ p h. (p.0 h, each.1 p.1 h))
+  every_if P L N level (node k form ts) = let each = every_if_each P L N (suc level) ts in
+      (λ p. (λ h. (p h).0, each.0 (λ h. (p h).1)), λ p h. (p.0 h, each.1 p.1 h))
 
-  every_if_each : (P : Type 0) (L : Leaf → Type 0) (N : Kind → Form → Type 0) (level : ℕ) (ts : Trees) → (P → EveryOf L N ts) ↔ HoldsFromEach (λ i l. P → L l) (λ i k form n. P → N k form) level ts
+  every_if_each : (P : Type 0) (L : Leaf → Type 0) (N : Kind → Form → Type 0) (level : ℕ) (ts : Trees) →
+      (P → EveryOf L N ts) ↔ HoldsFromEach (λ i l. P → L l) (λ i k form n. P → N k form) level ts
   every_if_each P L N level none = (λ p. tt, λ p h. tt)
   every_if_each P L N level (more t ts) =
       let here = every_if P L N level t in
@@ -66,7 +72,8 @@ mutual
       let each = push_below_each r (suc level) ts in
       (λ p. (h.0 p.0, each.0 p.1), λ p. (h.1 p.0, each.1 p.1))
 
-  push_below_each : (r : Rules) (level : ℕ) (ts : Trees) → EveryOf IsAnyLeaf IsNoPush ts ↔ HoldsFromEach (LeafMeets r PushAtTop) (NodeMeets r PushAtTop) (suc level) ts
+  push_below_each : (r : Rules) (level : ℕ) (ts : Trees) → EveryOf IsAnyLeaf IsNoPush ts ↔
+      HoldsFromEach (LeafMeets r PushAtTop) (NodeMeets r PushAtTop) (suc level) ts
   push_below_each r level none = (λ p. tt, λ p. tt)
   push_below_each r level (more t ts) =
       let h = push_below r level t in
@@ -87,14 +94,17 @@ push_from_root r (node k form ts) = let each = push_below_each r 0 ts in (λ p. 
 
 mutual
   -- a tree is no deeper than the limit where each node's level is below it
-  pub depth_from : (r : Rules) (level : ℕ) (t : Tree) → level ≤ r.limits.depth → (level + depth (value t) ≤ r.limits.depth) ↔ HoldsFrom (LeafMeets r WithinDepth) (NodeMeets r WithinDepth) level t
+  pub depth_from : (r : Rules) (level : ℕ) (t : Tree) → level ≤ r.limits.depth →
+      (level + depth (value t) ≤ r.limits.depth) ↔ HoldsFrom (LeafMeets r WithinDepth) (NodeMeets r WithinDepth) level t
   depth_from r level (leaf l) h = (λ p. tt, λ p. omega arith)
   depth_from r level (node k form ts) h = (
     λ p. (omega arith, (depth_from_each r (suc level) ts (omega arith)).0 (omega arith)),
-    λ p. let below : level < r.limits.depth = p.0 in let each : suc level + greatest_depth (values ts) ≤ r.limits.depth = (depth_from_each r (suc level) ts (omega arith)).1 p.1 in omega arith,
+    λ p. let below : level < r.limits.depth = p.0 in let each : suc level + greatest_depth (values ts) ≤ r.limits.depth =
+        (depth_from_each r (suc level) ts (omega arith)).1 p.1 in omega arith,
   )
 
-  pub depth_from_each : (r : Rules) (level : ℕ) (ts : Trees) → level ≤ r.limits.depth → (level + greatest_depth (values ts) ≤ r.limits.depth) ↔ HoldsFromEach (LeafMeets r WithinDepth) (NodeMeets r WithinDepth) level ts
+  pub depth_from_each : (r : Rules) (level : ℕ) (ts : Trees) → level ≤ r.limits.depth → (level + greatest_depth (values ts) ≤ r.limits.depth) ↔
+      HoldsFromEach (LeafMeets r WithinDepth) (NodeMeets r WithinDepth) level ts
   depth_from_each r level none h = (λ p. tt, λ p. omega arith)
   depth_from_each r level (more t ts) h = (
     λ p. ((depth_from r level t h).0 (omega arith), (depth_from_each r level ts h).0 (omega arith)),
@@ -103,11 +113,13 @@ mutual
 
 mutual
   -- no content is longer than the limit where no leaf's is
-  pub length_from : (r : Rules) (level : ℕ) (t : Tree) → (longest (value t) ≤ r.limits.length) ↔ HoldsFrom (LeafMeets r WithinLength) (NodeMeets r WithinLength) level t
+  pub length_from : (r : Rules) (level : ℕ) (t : Tree) → (longest (value t) ≤ r.limits.length) ↔
+      HoldsFrom (LeafMeets r WithinLength) (NodeMeets r WithinLength) level t
   length_from r level (leaf l) = (λ p. p, λ p. p)
   length_from r level (node k form ts) = let each = length_from_each r (suc level) ts in (λ p. (tt, each.0 p), λ p. each.1 p.1)
 
-  pub length_from_each : (r : Rules) (level : ℕ) (ts : Trees) → (longest_among (values ts) ≤ r.limits.length) ↔ HoldsFromEach (LeafMeets r WithinLength) (NodeMeets r WithinLength) level ts
+  pub length_from_each : (r : Rules) (level : ℕ) (ts : Trees) → (longest_among (values ts) ≤ r.limits.length) ↔
+      HoldsFromEach (LeafMeets r WithinLength) (NodeMeets r WithinLength) level ts
   length_from_each r level none = (λ p. tt, λ p. omega arith)
   length_from_each r level (more t ts) = (
     λ p. ((length_from r level t).0 (omega arith), (length_from_each r level ts).0 (omega arith)),
@@ -121,7 +133,8 @@ count-values (more t ts) = ap (λ n. n + 1) (count-values ts)
 
 mutual
   -- no aggregate has more items than the limit where no node has
-  pub items_from : (r : Rules) (level : ℕ) (t : Tree) → (most_items (value t) ≤ r.limits.items) ↔ HoldsFrom (LeafMeets r WithinItems) (NodeMeets r WithinItems) level t
+  pub items_from : (r : Rules) (level : ℕ) (t : Tree) → (most_items (value t) ≤ r.limits.items) ↔
+      HoldsFrom (LeafMeets r WithinItems) (NodeMeets r WithinItems) level t
   items_from r level (leaf l) = (λ p. tt, λ p. omega arith)
   items_from r level (node k form ts) =
       let each = items_from_each r (suc level) ts in
@@ -130,7 +143,8 @@ mutual
         λ p. let here : items_of k (count ts) ≤ r.limits.items = p.0 in let among = each.1 p.1 in omega arith,
       )
 
-  pub items_from_each : (r : Rules) (level : ℕ) (ts : Trees) → (most_items_among (values ts) ≤ r.limits.items) ↔ HoldsFromEach (LeafMeets r WithinItems) (NodeMeets r WithinItems) level ts
+  pub items_from_each : (r : Rules) (level : ℕ) (ts : Trees) → (most_items_among (values ts) ≤ r.limits.items) ↔
+      HoldsFromEach (LeafMeets r WithinItems) (NodeMeets r WithinItems) level ts
   items_from_each r level none = (λ p. tt, λ p. omega arith)
   items_from_each r level (more t ts) = (
     λ p. ((items_from r level t).0 (omega arith), (items_from_each r level ts).0 (omega arith)),
@@ -166,17 +180,23 @@ rules_hold_at_each_node r WithinTotal t before_total = absurd (omega arith)
 
 mutual
   -- the rules up to one, each at each node, are these rules together at each node
-  pub gather : (r : Rules) (rule : Rule) (level : ℕ) (t : Tree) → ((earlier : Rule) → rank earlier ≤ rank rule → HoldsFrom (LeafMeets r earlier) (NodeMeets r earlier) level t) → HoldsFrom (LeafKeeps r rule) (NodeKeeps r rule) level t
+  pub gather : (r : Rules) (rule : Rule) (level : ℕ) (t : Tree) →
+      ((earlier : Rule) → rank earlier ≤ rank rule → HoldsFrom (LeafMeets r earlier) (NodeMeets r earlier) level t) →
+      HoldsFrom (LeafKeeps r rule) (NodeKeeps r rule) level t
   gather r rule level (leaf l) h = h
   gather r rule level (node k form ts) h = (λ earlier e. (h earlier e).0, gather_each r rule (suc level) ts (λ earlier e. (h earlier e).1))
 
-  gather_each : (r : Rules) (rule : Rule) (level : ℕ) (ts : Trees) → ((earlier : Rule) → rank earlier ≤ rank rule → HoldsFromEach (LeafMeets r earlier) (NodeMeets r earlier) level ts) → HoldsFromEach (LeafKeeps r rule) (NodeKeeps r rule) level ts
+  gather_each : (r : Rules) (rule : Rule) (level : ℕ) (ts : Trees) →
+      ((earlier : Rule) → rank earlier ≤ rank rule → HoldsFromEach (LeafMeets r earlier) (NodeMeets r earlier) level ts) →
+      HoldsFromEach (LeafKeeps r rule) (NodeKeeps r rule) level ts
   gather_each r rule level none h = tt
   gather_each r rule level (more t ts) h = (gather r rule level t (λ earlier e. (h earlier e).0), gather_each r rule level ts (λ earlier e. (h earlier e).1))
 
 -- of the rules together at each node, one at each node
-pub one_rule : (r : Rules) (rule earlier : Rule) (level : ℕ) (t : Tree) → rank earlier ≤ rank rule → HoldsFrom (LeafKeeps r rule) (NodeKeeps r rule) level t → HoldsFrom (LeafMeets r earlier) (NodeMeets r earlier) level t
-one_rule r rule earlier level t e h = weaker (LeafKeeps r rule) (LeafMeets r earlier) (NodeKeeps r rule) (NodeMeets r earlier) level t (λ i l p. p earlier e) (λ i k form n p. p earlier e) h
+pub one_rule : (r : Rules) (rule earlier : Rule) (level : ℕ) (t : Tree) → rank earlier ≤ rank rule → HoldsFrom (LeafKeeps r rule) (NodeKeeps r rule) level t →
+    HoldsFrom (LeafMeets r earlier) (NodeMeets r earlier) level t
+one_rule r rule earlier level t e h = weaker (LeafKeeps r rule) (LeafMeets r earlier) (NodeKeeps r rule) (NodeMeets r earlier) level t (λ i l p. p earlier e)
+    (λ i k form n p. p earlier e) h
 
 -- a tree keeps the rules up to one before total where each of its nodes does
 pub keeps_locally : (r : Rules) (rule : Rule) (t : Tree) → rank rule < rank WithinTotal → Keeps r rule t ↔ HoldsFrom (LeafKeeps r rule) (NodeKeeps r rule) 0 t

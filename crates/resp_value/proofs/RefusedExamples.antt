@@ -34,13 +34,16 @@ pub double : SpellsNothing (codes ",1.5\r\n")
 double = refused (leaf (line Double (codes "1.5"))) NoDouble (line_by_test (codes "1.5") refl, bytes_by_test (codes "1.5") refl) (λ r h. h)
 
 pub more_than_64_bits : SpellsNothing (codes ":9223372036854775808\r\n")
-more_than_64_bits = refused (leaf (numeral Int Unsigned (codes "9223372036854775808"))) InRange (digits_by_test (codes "9223372036854775808") (omega arith) refl) (λ r h. omega (arith, ints, h.1))
+more_than_64_bits = refused (leaf (numeral Int Unsigned (codes "9223372036854775808"))) InRange
+    (digits_by_test (codes "9223372036854775808") (omega arith) refl) (λ r h. omega (arith, ints, h.1))
 
 pub below_64_bits : SpellsNothing (codes ":-9223372036854775809\r\n")
-below_64_bits = refused (leaf (numeral Int Minus (codes "9223372036854775809"))) InRange (digits_by_test (codes "9223372036854775809") (omega arith) refl) (λ r h. omega (arith, ints, h.0))
+below_64_bits = refused (leaf (numeral Int Minus (codes "9223372036854775809"))) InRange (digits_by_test (codes "9223372036854775809") (omega arith) refl)
+    (λ r h. omega (arith, ints, h.0))
 
 pub streamed_string_in_two : SpellsNothingInTwo (codes "$?\r\n;0\r\n")
-streamed_string_in_two r x is_two s = subst (λ w. HasVersion w (leaf (chunked [] (codes "0")))) is_two (said (leaf (chunked [] (codes "0"))) InVersion (tt, (one_digit 48 (omega arith) (omega arith), refl)) r x s)
+streamed_string_in_two r x is_two s = subst (λ w. HasVersion w (leaf (chunked [] (codes "0")))) is_two
+    (said (leaf (chunked [] (codes "0"))) InVersion (tt, (one_digit 48 (omega arith) (omega arith), refl)) r x s)
 
 pub streamed_in_two : SpellsNothingInTwo (codes "*?\r\n.\r\n")
 streamed_in_two r x is_two s = (subst (λ w. HasVersion w (node Array Streamed none)) is_two (said (node Array Streamed none) InVersion (tt, tt) r x s)).0
@@ -52,7 +55,8 @@ pub string_switched_off : SpellsNothingSwitchedOff (codes "$?\r\n;0\r\n")
 string_switched_off r x off s = said (leaf (chunked [] (codes "0"))) NotStreamed (tt, (one_digit 48 (omega arith) (omega arith), refl)) r x s off
 
 -- what the first line of the text says of the tree
-decided : (r : Rules) (x : Datum) (first rest : List ℕ) (s : IsSpelling r x (first ++ crlf rest)) → IsLine first → (sort first ≡ sort_of s.tree) × (after_line s.tree ++ [] ≡ rest)
+decided : (r : Rules) (x : Datum) (first rest : List ℕ) (s : IsSpelling r x (first ++ crlf rest)) → IsLine first →
+    (sort first ≡ sort_of s.tree) × (after_line s.tree ++ [] ≡ rest)
 decided r x first rest s no_break =
     let known = line_decides s.tree first rest [] s.spells.is_tree no_break (append-nil (text s.tree) ∙ s.spells.spelled) in
     (known.1, known.2)
@@ -93,7 +97,8 @@ by_grammar front never r = record {
 -- an LF where a line has no CR yet
 no_newline : (byte : ℕ) → 13 < byte → (t : Tree) (x rest : List ℕ) → IsTree t → text t ++ x ≡ 43 ∷ byte ∷ 10 ∷ rest → ⊥
 no_newline byte above t x rest p e =
-    no_newline_in_line (first_line t) (43 ∷ byte ∷ []) (after_line t ++ x) rest (first_is_line t p) (plain_above 43 (omega arith), (plain_above byte above, tt)) (sym (text_is t x) ∙ e)
+    no_newline_in_line (first_line t) (43 ∷ byte ∷ []) (after_line t ++ x) rest (first_is_line t p) (plain_above 43 (omega arith), (plain_above byte above, tt))
+    (sym (text_is t x) ∙ e)
 
 newline_cause : (byte : ℕ) → 13 < byte → (r : Rules) → IsCause r (43 ∷ byte ∷ 10 ∷ []) Grammar
 newline_cause byte above r = by_grammar (43 ∷ byte ∷ 10 ∷ []) (λ t rest s. no_newline byte above t [] rest s.is_tree (append-nil (text t) ∙ s.spelled)) r
@@ -104,7 +109,8 @@ newline_in_a_line r b = newline_cause 97 (omega arith) r
 -- a CR where a number has no digit yet
 no_digit : (t : Tree) (rest : List ℕ) → Spells t (codes ":\r" ++ rest) → ⊥
 no_digit t rest s =
-    let split = return_split (first_line t) (codes ":") (10 ∷ (after_line t ++ [])) rest (first_is_line t s.is_tree) (line_by_test (codes ":") refl) (sym (text_is t []) ∙ append-nil (text t) ∙ s.spelled) in
+    let split = return_split (first_line t) (codes ":") (10 ∷ (after_line t ++ [])) rest (first_is_line t s.is_tree) (line_by_test (codes ":") refl)
+    (sym (text_is t []) ∙ append-nil (text t) ∙ s.spelled) in
     no_sort_of_tree t (sym (ap sort split.0) ∙ sort_is t s.is_tree)
 
 pub no_digits : HasCause (codes ":\r") Grammar
@@ -115,8 +121,10 @@ no_lone_key : (t : Tree) (rest : List ℕ) → IsTree t → node_of Map Streamed
 no_lone_key (leaf l) rest p e a = absurd (cc)
 no_lone_key (node k (Counted digits) ts) rest p e a = absurd (cc)
 no_lone_key (node k Streamed ts) rest p e a =
-    let members : texts ts ++ codes ".\r\n" ≡ texts (more (leaf (line Simple (codes "a"))) none) ++ (46 ∷ rest) = sym (append-nil (texts ts ++ codes ".\r\n")) ∙ a in
-    let same = streamed_unique ts (more (leaf (line Simple (codes "a"))) none) (codes "\r\n") rest p.1 (simple_is_line 97 (omega arith) (omega arith), tt) members in
+    let members : texts ts ++ codes ".\r\n" ≡ texts (more (leaf (line Simple (codes "a"))) none) ++ (46 ∷ rest) = sym (append-nil (texts ts ++ codes ".\r\n")) ∙
+    a in
+    let same = streamed_unique ts (more (leaf (line Simple (codes "a"))) none) (codes "\r\n") rest p.1 (simple_is_line 97 (omega arith) (omega arith), tt)
+    members in
     let one : count ts ≡ 1 = ap count same.0 in
     let is_map : k ≡ Map = cc in
     let even : CanStream Map (count ts) = subst (λ j. CanStream j (count ts)) is_map p.0 in
@@ -132,8 +140,10 @@ pub map_closed_after_a_key : HasCause (codes "%?\r\n+a\r\n.") Grammar
 map_closed_after_a_key r b = by_grammar (codes "%?\r\n+a\r\n.") no_closed_key r
 
 -- a kind that no leaf shares its byte with, and that isn't streamed
-no_mark : (k : Kind) → each_passes (λ b. not (eqb b (kind_byte k))) (codes "," ++ leaf_bytes) ≡ true → ((n : ℕ) → CanStream k n → ⊥) → (t : Tree) (rest : List ℕ) → IsTree t → text t ≡ kind_byte k ∷ 63 ∷ rest → ⊥
-no_mark k no_leaf never (leaf l) rest p e = at_leaf_byte (λ b. b ≡ kind_byte k → ⊥) (apart_by_test (kind_byte k) (codes "," ++ leaf_bytes) no_leaf) l (first_byte_is (leaf l) [] (63 ∷ rest) (kind_byte k) (append-nil (text (leaf l)) ∙ e))
+no_mark : (k : Kind) → each_passes (λ b. not (eqb b (kind_byte k))) (codes "," ++ leaf_bytes) ≡ true → ((n : ℕ) → CanStream k n → ⊥) →
+    (t : Tree) (rest : List ℕ) → IsTree t → text t ≡ kind_byte k ∷ 63 ∷ rest → ⊥
+no_mark k no_leaf never (leaf l) rest p e = at_leaf_byte (λ b. b ≡ kind_byte k → ⊥) (apart_by_test (kind_byte k) (codes "," ++ leaf_bytes) no_leaf) l
+    (first_byte_is (leaf l) [] (63 ∷ rest) (kind_byte k) (append-nil (text (leaf l)) ∙ e))
 no_mark k no_leaf never (node j (Counted []) ts) rest p e = absurd (omega (arith, p.0.0.0))
 no_mark k no_leaf never (node j (Counted (d ∷ digits)) ts) rest p e = let mark : d ≡ 63 = cc in absurd (omega (arith, p.0.0.1.0.1))
 no_mark k no_leaf never (node j Streamed ts) rest p e =
@@ -157,7 +167,8 @@ no_push_member (leaf l) rest e a h = absurd (cc)
 no_push_member (node k Streamed ts) rest e a h = absurd (cc)
 no_push_member (node k (Counted digits) none) rest e a h = absurd (cc)
 no_push_member (node k (Counted digits) (more t ts)) rest e a h =
-    let whole : text t ++ ((texts ts ++ []) ++ []) ≡ 62 ∷ rest = sym (append_assoc (text t) (texts ts ++ []) []) ∙ ap (λ z. z ++ []) (sym (append_assoc (text t) (texts ts) [])) ∙ a in
+    let whole : text t ++ ((texts ts ++ []) ++ []) ≡ 62 ∷ rest = sym (append_assoc (text t) (texts ts ++ []) []) ∙
+    ap (λ z. z ++ []) (sym (append_assoc (text t) (texts ts) [])) ∙ a in
     no_push_by_byte t (first_byte_is t ((texts ts ++ []) ++ []) rest 62 whole) h.0
 
 abbrev push_in_array : Tree
@@ -168,11 +179,17 @@ push_below_the_top r b is_three = record {
   viable_before = λ earlier h. record {
     rest = codes "0\r\n";
     tree = push_in_array;
-    spells = record { is_tree = ((one_digit 49 (omega arith) (omega arith), refl), (((one_digit 48 (omega arith) (omega arith), refl), tt), tt)); spelled = refl };
-    keeps = λ first g. at_first_rules (λ rule. Meets r rule push_in_array) tt (tt, ((tt, tt), tt)) (subst (λ w. HasVersion w push_in_array) (sym is_three) tt) first (omega arith);
+    spells = record {
+      is_tree = ((one_digit 49 (omega arith) (omega arith), refl), (((one_digit 48 (omega arith) (omega arith), refl), tt), tt));
+      spelled =
+          refl;
+    };
+    keeps = λ first g. at_first_rules (λ rule. Meets r rule push_in_array) tt (tt, ((tt, tt), tt)) (subst (λ w. HasVersion w push_in_array) (sym is_three) tt)
+        first (omega arith);
   };
   not_viable = λ v.
-      let known = line_decides v.tree (codes "*1") (62 ∷ v.rest) [] v.spells.is_tree (line_by_test (codes "*1") refl) (append-nil (text v.tree) ∙ v.spells.spelled) in
+      let known = line_decides v.tree (codes "*1") (62 ∷ v.rest) [] v.spells.is_tree (line_by_test (codes "*1") refl) (append-nil (text v.tree) ∙
+      v.spells.spelled) in
       no_push_member v.tree v.rest known.1 known.2 (v.keeps PushAtTop (omega arith));
 }
 
@@ -184,5 +201,6 @@ value_and_fault r b = (
     whole = refl;
     no_more = λ x next behind s e. no_newline 98 (omega arith) s.tree behind (codes "+c\r\n") s.spells.is_tree (ap (λ z. z ++ behind) s.spells.spelled ∙ sym e);
   },
-  fault_at_last r (codes "+b") (codes "+c\r\n") 10 Grammar (fronts_of_spellings_are_viable r (simple (codes "b")) (codes "+b") (codes "\r\n") (small_line 98 (omega arith) (omega arith) r b) WithinTotal) (newline_cause 98 (omega arith) r),
+  fault_at_last r (codes "+b") (codes "+c\r\n") 10 Grammar (fronts_of_spellings_are_viable r (simple (codes "b")) (codes "+b") (codes "\r\n")
+      (small_line 98 (omega arith) (omega arith) r b) WithinTotal) (newline_cause 98 (omega arith) r),
 )

@@ -60,7 +60,9 @@ small_leaf l p no_double in_range length_at_most total_at_most = record {
 }
 
 -- a small aggregate
-pub small_node : (k : Kind) (form : Form) (ts : Trees) → IsTree (node k form ts) → EveryOf IsNoDouble IsAnyNode ts → EveryOf IsAnyLeaf IsNoPush ts → EveryOf IsInRange IsAnyNode ts → depth (value (node k form ts)) ≤ 4 → longest (value (node k form ts)) ≤ 64 → most_items (value (node k form ts)) ≤ 16 → length (text (node k form ts)) ≤ 256 → IsSmall (node k form ts)
+pub small_node : (k : Kind) (form : Form) (ts : Trees) → IsTree (node k form ts) → EveryOf IsNoDouble IsAnyNode ts → EveryOf IsAnyLeaf IsNoPush ts →
+    EveryOf IsInRange IsAnyNode ts → depth (value (node k form ts)) ≤ 4 → longest (value (node k form ts)) ≤ 64 → most_items (value (node k form ts)) ≤ 16 →
+    length (text (node k form ts)) ≤ 256 → IsSmall (node k form ts)
 small_node k form ts p no_double no_push in_range depth_at_most length_at_most items_at_most total_at_most = record {
   is_tree = p;
   no_double = (tt, no_double);

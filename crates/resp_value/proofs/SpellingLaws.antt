@@ -55,7 +55,8 @@ abbrev NoMore : Rules → List ℕ → Type 0
 NoMore r rest = (x : Datum) (next behind : List ℕ) → IsSpelling r x next → rest ≡ next ++ behind → ⊥
 
 -- spellings up to where no more begins are the same
-one_row : (r : Rules) (xs ys : List Datum) (p q a b : List ℕ) → AreSpellings r xs p → AreSpellings r ys q → p ++ a ≡ q ++ b → NoMore r a → NoMore r b → (xs ≡ ys) × (a ≡ b)
+one_row : (r : Rules) (xs ys : List Datum) (p q a b : List ℕ) → AreSpellings r xs p → AreSpellings r ys q → p ++ a ≡ q ++ b → NoMore r a → NoMore r b →
+    (xs ≡ ys) × (a ≡ b)
 one_row r [] [] p q a b m n e h k =
     let m0 : p ≡ [] = m in
     let n0 : q ≡ [] = n in

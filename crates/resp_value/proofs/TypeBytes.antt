@@ -47,7 +47,8 @@ small_bulk : IsSmall (leaf (string Bulk zero_digit []))
 small_bulk = small_leaf (string Bulk zero_digit []) ((zero_is_digits, refl), tt, tt) tt tt (omega arith) (omega arith)
 
 small_verbatim : IsSmall (leaf empty_verbatim)
-small_verbatim = small_leaf empty_verbatim ((one_digit 52 (omega arith) (omega arith), refl), (refl, bytes_by_test (codes "txt") refl), tt) tt tt (omega arith) (omega arith)
+small_verbatim = small_leaf empty_verbatim ((one_digit 52 (omega arith) (omega arith), refl), (refl, bytes_by_test (codes "txt") refl), tt) tt tt (omega arith)
+    (omega arith)
 
 small_big : IsSmall (leaf (numeral Big Unsigned zero_digit))
 small_big = small_leaf (numeral Big Unsigned zero_digit) zero_is_digits tt tt (omega arith) (omega arith)
@@ -62,7 +63,8 @@ small_bulk_error : IsSmall (leaf (string BulkError zero_digit []))
 small_bulk_error = small_leaf (string BulkError zero_digit []) ((zero_is_digits, refl), tt, tt) tt tt (omega arith) (omega arith)
 
 small_empty : (k : Kind) → members_of k 0 ≡ 0 → items_of k 0 ≤ 16 → length (text (empty_node k)) ≤ 256 → IsSmall (empty_node k)
-small_empty k no_members items total = small_node k (Counted zero_digit) none ((zero_is_digits, no_members), tt) tt tt tt (omega arith) (omega arith) (omega arith) total
+small_empty k no_members items total = small_node k (Counted zero_digit) none ((zero_is_digits, no_members), tt) tt tt tt (omega arith) (omega arith)
+    (omega arith) total
 
 small_array : IsSmall (empty_node Array)
 small_array = small_empty Array refl (omega arith) (omega arith)
@@ -77,13 +79,21 @@ small_push : IsSmall (empty_node Push)
 small_push = small_empty Push refl (omega arith) (omega arith)
 
 small_attribute : IsSmall bare_attribute
-small_attribute = small_node Attr (Counted zero_digit) (more (leaf (null PlainNull)) none) ((zero_is_digits, refl), (tt, tt)) (tt, tt) (tt, tt) (tt, tt) (omega arith) (omega arith) (omega arith) (omega arith)
+small_attribute = small_node Attr (Counted zero_digit) (more (leaf (null PlainNull)) none) ((zero_is_digits, refl), (tt, tt)) (tt, tt) (tt, tt) (tt, tt)
+    (omega arith) (omega arith) (omega arith) (omega arith)
 
 -- the type byte of a small counted tree of the version is viable
-small_is_viable : (r : Rules) (t : Tree) → AreBounds r.limits → IsSmall t → Every IsCountedLeaf IsCountedNode t → HasVersion r.version t → (rule : Rule) → IsViable r rule (first_byte t ∷ [])
+small_is_viable : (r : Rules) (t : Tree) → AreBounds r.limits → IsSmall t → Every IsCountedLeaf IsCountedNode t → HasVersion r.version t → (rule : Rule) →
+    IsViable r rule (first_byte t ∷ [])
 small_is_viable r t b s c w rule =
     let (rest, e) = begins t in
-    record { rest = rest; tree = t; spells = record { is_tree = s.is_tree; spelled = e }; keeps = λ earlier h. small_meets r t b s w (if_counted r t c) earlier }
+    record {
+      rest = rest;
+      tree = t;
+      spells = record { is_tree = s.is_tree; spelled = e };
+      keeps =
+          λ earlier h. small_meets r t b s w (if_counted r t c) earlier;
+    }
 
 -- each of these bytes is viable
 abbrev AllViable : Rules → Rule → List ℕ → Type 0
@@ -115,7 +125,8 @@ abbrev IsLater : ℕ → Type 0
 IsLater byte = each_passes (λ b. not (eqb b byte)) type_bytes ≡ true
 
 -- each later type byte begins a small counted tree
-at_later_bytes : (P : ℕ → Type 0) → ((t : Tree) → IsSmall t → Every IsCountedLeaf IsCountedNode t → IsLater (first_byte t) → P (first_byte t)) → AllByRecursion P later_type_bytes
+at_later_bytes : (P : ℕ → Type 0) → ((t : Tree) → IsSmall t → Every IsCountedLeaf IsCountedNode t → IsLater (first_byte t) → P (first_byte t)) →
+    AllByRecursion P later_type_bytes
 at_later_bytes P at_tree = (
   at_tree (leaf (null PlainNull)) small_null tt refl,
   (
@@ -198,7 +209,13 @@ wants_three : (r : Rules) (t : Tree) → r.version ≡ Two → IsSmall t → IsL
 wants_three r t is_two s later = record {
   viable_before = λ earlier h.
       let (rest, e) = begins t in
-      record { rest = rest; tree = t; spells = record { is_tree = s.is_tree; spelled = e }; keeps = λ first g. before_version r first t s.no_double (omega arith) };
+      record {
+        rest = rest;
+        tree = t;
+        spells = record { is_tree = s.is_tree; spelled = e };
+        keeps =
+            λ first g. before_version r first t s.no_double (omega arith);
+      };
   not_viable = λ v.
       let in_version : HasVersion r.version v.tree = v.keeps InVersion (omega arith) in
       let in_two : Every IsLeafInTwo IsNodeInTwo v.tree = subst (λ w. HasVersion w v.tree) is_two in_version in

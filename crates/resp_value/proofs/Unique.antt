@@ -10,7 +10,8 @@ use Rattle.resp_value.proofs.FirstLines.{leaf_of, node_of, leaf_sort, sort, sort
 use Rattle.resp_value.proofs.FirstBytes.{first_byte_is, no_stop}
 
 -- two texts that begin one text begin with one line
-pub same_line : (t u : Tree) (x y : List ℕ) → IsTree t → IsTree u → text t ++ x ≡ text u ++ y → (sort_of t ≡ sort_of u) × (after_line t ++ x ≡ after_line u ++ y)
+pub same_line : (t u : Tree) (x y : List ℕ) → IsTree t → IsTree u → text t ++ x ≡ text u ++ y →
+    (sort_of t ≡ sort_of u) × (after_line t ++ x ≡ after_line u ++ y)
 same_line t u x y p q e =
     let a = line_split (first_line t) (first_line u) _ _ (first_is_line t p) (first_is_line u q) (sym (text_is t x) ∙ e ∙ text_is u y) in
     (sym (sort_is t p) ∙ ap sort a.0 ∙ sort_is u q, a.1)
@@ -39,7 +40,8 @@ zeros_head_no_chunk zeros c x y p q e =
     omega arith
 
 -- two chunks that begin one text are one
-chunk_unique : (c d : Chunk) (x y : List ℕ) → IsChunk c → IsChunk d → (59 ∷ c.digits) ++ crlf (c.content ++ crlf x) ≡ (59 ∷ d.digits) ++ crlf (d.content ++ crlf y) → (c ≡ d) × (x ≡ y)
+chunk_unique : (c d : Chunk) (x y : List ℕ) → IsChunk c → IsChunk d → (59 ∷ c.digits) ++ crlf (c.content ++ crlf x) ≡ (59 ∷ d.digits) ++
+    crlf (d.content ++ crlf y) → (c ≡ d) × (x ≡ y)
 chunk_unique c d x y p q e =
     let r = line_split (59 ∷ c.digits) (59 ∷ d.digits) _ _ (chunk_line c.digits p.0.0) (chunk_line d.digits q.0.0) e in
     let h : 59 ∷ c.digits ≡ 59 ∷ d.digits = r.0 in
@@ -53,7 +55,8 @@ chunk_unique c d x y p q e =
     let c0 : c ≡ d = λ i. record { digits = k i; content = l i } in
     (c0, cc)
 
-chunks_unique : (cs ds : List Chunk) (zeros zeros' x y : List ℕ) → AllByRecursion IsChunk cs → AllByRecursion IsChunk ds → IsNumber 0 zeros → IsNumber 0 zeros' → chunks_text cs ((59 ∷ zeros) ++ crlf x) ≡ chunks_text ds ((59 ∷ zeros') ++ crlf y) → (cs ≡ ds) × (zeros ≡ zeros') × (x ≡ y)
+chunks_unique : (cs ds : List Chunk) (zeros zeros' x y : List ℕ) → AllByRecursion IsChunk cs → AllByRecursion IsChunk ds → IsNumber 0 zeros →
+    IsNumber 0 zeros' → chunks_text cs ((59 ∷ zeros) ++ crlf x) ≡ chunks_text ds ((59 ∷ zeros') ++ crlf y) → (cs ≡ ds) × (zeros ≡ zeros') × (x ≡ y)
 chunks_unique [] [] zeros zeros' x y p q z w e =
     let r = line_split (59 ∷ zeros) (59 ∷ zeros') x y (chunk_line zeros z.0) (chunk_line zeros' w.0) e in
     let h : 59 ∷ zeros ≡ 59 ∷ zeros' = r.0 in
@@ -67,7 +70,8 @@ chunks_unique (c ∷ cs) (d ∷ ds) zeros zeros' x y p q z w e =
     let cs0 : cs ≡ ds = u.0 in
     (cc, u.1, u.2)
 
-string_kind_unique : (k j : StringKind) (s r : List ℕ) → string_byte k ≡ string_byte j → HasFormat k → HasFormat j → payload k s ≡ payload j r → (k ≡ j) × (s ≡ r)
+string_kind_unique : (k j : StringKind) (s r : List ℕ) → string_byte k ≡ string_byte j → HasFormat k → HasFormat j → payload k s ≡ payload j r →
+    (k ≡ j) × (s ≡ r)
 string_kind_unique Bulk Bulk s r b p q e = (refl, e)
 string_kind_unique BulkError BulkError s r b p q e = (refl, e)
 string_kind_unique (Verbatim f) (Verbatim g) s r b p q e =
@@ -77,7 +81,8 @@ string_kind_unique (Verbatim f) (Verbatim g) s r b p q e =
     (ap Verbatim u.0, cc)
 string_kind_unique _ _ s r b p q e = absurd (omega arith)
 
-string_unique : (k j : StringKind) (ds es s r x y : List ℕ) → string_byte k ≡ string_byte j → ds ≡ es → IsLeaf (string k ds s) → IsLeaf (string j es r) → (payload k s ++ crlf []) ++ x ≡ (payload j r ++ crlf []) ++ y → (string k ds s ≡ string j es r) × (x ≡ y)
+string_unique : (k j : StringKind) (ds es s r x y : List ℕ) → string_byte k ≡ string_byte j → ds ≡ es → IsLeaf (string k ds s) → IsLeaf (string j es r) →
+    (payload k s ++ crlf []) ++ x ≡ (payload j r ++ crlf []) ++ y → (string k ds s ≡ string j es r) × (x ≡ y)
 string_unique k j ds es s r x y b d p q e =
     let e2 : payload k s ++ crlf x ≡ payload j r ++ crlf y = sym (append_assoc (payload k s) (crlf []) x) ∙ e ∙ append_assoc (payload j r) (crlf []) y in
     let n : number ds ≡ number es = ap number d in
@@ -91,7 +96,8 @@ string_unique k j ds es s r x y b d p q e =
     let t : crlf x ≡ crlf y = u.1 in
     (cc, cc)
 
-chunked_unique : (cs ds : List Chunk) (z w x y : List ℕ) → IsLeaf (chunked cs z) → IsLeaf (chunked ds w) → chunks_text cs ((59 ∷ z) ++ crlf []) ++ x ≡ chunks_text ds ((59 ∷ w) ++ crlf []) ++ y → (chunked cs z ≡ chunked ds w) × (x ≡ y)
+chunked_unique : (cs ds : List Chunk) (z w x y : List ℕ) → IsLeaf (chunked cs z) → IsLeaf (chunked ds w) →
+    chunks_text cs ((59 ∷ z) ++ crlf []) ++ x ≡ chunks_text ds ((59 ∷ w) ++ crlf []) ++ y → (chunked cs z ≡ chunked ds w) × (x ≡ y)
 chunked_unique cs ds z w x y p q e =
     let l = chunks_text-append cs ((59 ∷ z) ++ crlf []) x ∙ ap (chunks_text cs) (append_assoc (59 ∷ z) (crlf []) x) in
     let r = chunks_text-append ds ((59 ∷ w) ++ crlf []) y ∙ ap (chunks_text ds) (append_assoc (59 ∷ w) (crlf []) y) in
@@ -181,7 +187,8 @@ mutual
   streamed_unique none (more u us) x y p q e = absurd (not_close u _ x (sym (append_assoc (text u) (texts us) (46 ∷ y)) ∙ sym e))
   streamed_unique (more t ts) none x y p q e = absurd (not_close t _ y (sym (append_assoc (text t) (texts ts) (46 ∷ x)) ∙ e))
   streamed_unique (more t ts) (more u us) x y p q e =
-      let a = unique t u (texts ts ++ 46 ∷ x) (texts us ++ 46 ∷ y) p.0 q.0 (sym (append_assoc (text t) (texts ts) (46 ∷ x)) ∙ e ∙ append_assoc (text u) (texts us) (46 ∷ y)) in
+      let a = unique t u (texts ts ++ 46 ∷ x) (texts us ++ 46 ∷ y) p.0 q.0 (sym (append_assoc (text t) (texts ts) (46 ∷ x)) ∙ e ∙
+      append_assoc (text u) (texts us) (46 ∷ y)) in
       let b = streamed_unique ts us x y p.1 q.1 a.1 in
       let a0 : t ≡ u = a.0 in
       let b0 : ts ≡ us = b.0 in

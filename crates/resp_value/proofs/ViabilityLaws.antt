@@ -99,7 +99,8 @@ front_but_last (c ∷ a) (d ∷ before) after last byte e =
     (shorter.0, cc)
 
 -- a rest that is viable up to its last byte has its fault there
-pub fault_at_last : (r : Rules) (front behind : List ℕ) (last : ℕ) (rule : Rule) → IsViable r WithinTotal front → IsCause r (front ++ last ∷ []) rule → FaultOf r ((front ++ last ∷ []) ++ behind) rule (length front)
+pub fault_at_last : (r : Rules) (front behind : List ℕ) (last : ℕ) (rule : Rule) → IsViable r WithinTotal front → IsCause r (front ++ last ∷ []) rule →
+    FaultOf r ((front ++ last ∷ []) ++ behind) rule (length front)
 fault_at_last r front behind last rule v cause = record {
   front = front ++ last ∷ [];
   behind = behind;

@@ -89,7 +89,11 @@ after_read source n = record source {
 
 -- a source after a read that failed
 abbrev pub after_failed_read : SourceState → SourceState
-after_failed_read source = record source { calls = count_after 1 source.calls; failures = count_after 1 source.failures }
+after_failed_read source = record source {
+  calls = count_after 1 source.calls;
+  failures =
+      count_after 1 source.failures;
+}
 
 -- what a sink over memory holds, and what it still takes
 pub record SinkState : Type 0 where

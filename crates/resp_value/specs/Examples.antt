@@ -28,7 +28,8 @@ IsSpelledInThree text x = (r : Rules) → AreBounds r.limits → r.version ≡ T
 
 -- the text is a spelling of the value in version 3, under all limits that allow streamed forms
 abbrev pub IsSpelledStreamed : List ℕ → Datum → Type 0
-IsSpelledStreamed text x = (r : Rules) → AreBounds r.limits → r.version ≡ Three → r.limits.streamed ≡ true → IsSpelling r x text
+IsSpelledStreamed text x = (r : Rules) → AreBounds r.limits → r.version ≡ Three → r.limits.streamed ≡ true →
+    IsSpelling r x text
 
 -- the text is a spelling of no value, in no version and under no limits
 abbrev pub SpellsNothing : List ℕ → Type 0

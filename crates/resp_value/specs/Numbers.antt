@@ -74,4 +74,5 @@ IsKept negative digits = IsDigits digits × (kept_digits digits ≡ digits) × (
 
 -- what a big number keeps of a text that is an optional sign and digits
 abbrev pub KeepsDigits : List ℕ → Bool → List ℕ → Type 0
-KeepsDigits text negative digits = (sign : Sign) × (written : List ℕ) × IsDigits written × (text ≡ sign_text sign ++ written) × (negative ≡ is_below_zero sign written) × (digits ≡ kept_digits written)
+KeepsDigits text negative digits = (sign : Sign) × (written : List ℕ) × IsDigits written ×
+    (text ≡ sign_text sign ++ written) × (negative ≡ is_below_zero sign written) × (digits ≡ kept_digits written)

@@ -109,7 +109,8 @@ HasPushAtRoot (node k form ts) = EveryOf IsAnyLeaf IsNoPush ts
 -- an integer has 64 bits
 abbrev pub IsInRange : Leaf → Type 0
 IsInRange (line k s) = Unit {0}
-IsInRange (numeral Int sign digits) = (neg_ℤ (pos (2 ^ 63)) ≤ℤ signed_value sign digits) × (signed_value sign digits <ℤ pos (2 ^ 63))
+IsInRange (numeral Int sign digits) = (neg_ℤ (pos (2 ^ 63)) ≤ℤ signed_value sign digits) ×
+    (signed_value sign digits <ℤ pos (2 ^ 63))
 IsInRange (numeral Big sign digits) = Unit {0}
 IsInRange (null form) = Unit {0}
 IsInRange (truth b) = Unit {0}

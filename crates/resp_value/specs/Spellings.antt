@@ -27,7 +27,8 @@ pub record IsCause (rules : Rules) (front : List ℕ) (rule : Rule) : Type 0 whe
 -- the text is spellings of the values, in order
 abbrev pub AreSpellings : Rules → List Datum → List ℕ → Type 0
 AreSpellings rules [] text = text ≡ []
-AreSpellings rules (x ∷ xs) text = (front : List ℕ) × (rest : List ℕ) × IsSpelling rules x front × AreSpellings rules xs rest × (text ≡ front ++ rest)
+AreSpellings rules (x ∷ xs) text = (front : List ℕ) × (rest : List ℕ) × IsSpelling rules x front ×
+    AreSpellings rules xs rest × (text ≡ front ++ rest)
 
 -- the text is spellings of the values, and then a rest of which no front is a spelling
 pub record Cut (rules : Rules) (text : List ℕ) (xs : List Datum) (rest : List ℕ) : Type 0 where
@@ -43,4 +44,5 @@ pub record FaultOf (rules : Rules) (rest : List ℕ) (rule : Rule) (at : ℕ) : 
   pub whole : rest ≡ front ++ behind
   pub place : at + 1 ≡ length front
   pub cause : IsCause rules front rule
-  pub first : (before : List ℕ) (byte : ℕ) (after : List ℕ) → front ≡ before ++ byte ∷ after → IsViable rules WithinTotal before
+  pub first : (before : List ℕ) (byte : ℕ) (after : List ℕ) → front ≡ before ++ byte ∷ after →
+      IsViable rules WithinTotal before

@@ -83,9 +83,9 @@ pub enum Cause {
 impl Cause {
     ghost use Rattle.resp_value.specs.Causes.{number_of, name_of};
 
-    /// The number of the cause: 1 to 10, 12 and 13 for what is read, 20 to 24 at a client, 30 to 32 at a server, 40 to 42
-    /// for what is encoded, 50 to 53 for devices, 60 to 63 for what is handed in. Each cause has its own, whatever
-    /// the limit of `OverLimits`.
+    /// The number of the cause: 1 to 10, 12 and 13 for what is read, 20 to 24 at a client, 30 to 32
+    /// at a server, 40 to 42 for what is encoded, 50 to 53 for devices, 60 to 63 for what is handed
+    /// in. Each cause has its own, whatever the limit of `OverLimits`.
     pub fn number(self) -> u32
         ensures { result ≡ number_of self }
     {
@@ -123,7 +123,8 @@ impl Cause {
         }
     }
 
-    /// The name of the cause, as fault lines and error replies print it. `NestedPush` and `PushBelowTop` share one.
+    /// The name of the cause, as fault lines and error replies print it. `NestedPush` and
+    /// `PushBelowTop` share one.
     pub fn name(self) -> &'static str
         ensures { result.now ≡ name_of self }
     {

@@ -30,13 +30,14 @@ pub trait Source {
     /// How many of these failed.
     ghost failures: { Self → ℕ };
 
-    /// Reads some bytes to the front of `into`, and answers how many: none only at the end, or where `into`
-    /// has no room. A failed read takes no byte.
+    /// Reads some bytes to the front of `into`, and answers how many: none only at the end, or
+    /// where `into` has no room. A failed read takes no byte.
     fn read(&mut self, into: &mut [u8]) -> Result<usize, DeviceFault>
         ensures within { IfOk result (λ n. n ≤ length into.old) }
         ensures bytes { Reads (remaining self.old) (remaining self.new) into.new result }
         ensures calls { calls self.new ≡ count_after 1 (calls self.old) }
-        ensures failures { failures self.new ≡ failures_after (read_fails result) (failures self.old) };
+        ensures failures { failures self.new ≡
+            failures_after (read_fails result) (failures self.old) };
 }
 
 /// What bytes are written to.
@@ -50,12 +51,14 @@ pub trait Sink {
     /// How many of these failed, or took no byte.
     ghost failures: { Self → ℕ };
 
-    /// Writes some bytes of the front of `from`, and answers how many. A failed write takes no byte.
+    /// Writes some bytes of the front of `from`, and answers how many. A failed write takes no
+    /// byte.
     fn write(&mut self, from: &[u8]) -> Result<usize, DeviceFault>
         ensures within { IfOk result (λ n. n ≤ length from.now) }
         ensures bytes { Writes (written self.old) (written self.new) from.now result }
         ensures calls { calls self.new ≡ count_after 1 (calls self.old) }
-        ensures failures { failures self.new ≡ failures_after (write_fails result) (failures self.old) };
+        ensures failures { failures self.new ≡
+            failures_after (write_fails result) (failures self.old) };
 }
 
 /// A write of several bytes failed.
@@ -66,13 +69,14 @@ pub struct WriteFault {
     pub written: usize,
 }
 
-/// Writes all of `bytes`, by one write after another until a write fails or takes no byte. At a refusal the
-/// first bytes were written, as many as it says.
+/// Writes all of `bytes`, by one write after another until a write fails or takes no byte. At a
+/// refusal the first bytes were written, as many as it says.
 pub fn write_all<W: Sink>(sink: &mut W, bytes: &[u8]) -> Result<(), WriteFault>
     ensures ok { OnOk result (Appends (W.written sink.old) (W.written sink.new) bytes.now) }
     ensures none_failed { OnOk result (W.failures sink.new ≡ W.failures sink.old) }
     ensures within { IfErr result (λ fault. fault.written < length bytes.now) }
-    ensures part { IfErr result (λ fault. Appends (W.written sink.old) (W.written sink.new) (take fault.written bytes.now)) }
+    ensures part { IfErr result (λ fault. Appends (W.written sink.old) (W.written sink.new)
+        (take fault.written bytes.now)) }
     ensures failed { IfErr result (λ fault. HasRisen (W.failures sink.old) (W.failures sink.new)) }
 {
     let mut written = 0;

@@ -8,8 +8,8 @@ ghost use Rattle.resp_value.specs.Signs.{sign_at, unsigned_part};
 use std::alloc::{AllocError, Global};
 use thiserror::Error;
 
-/// A whole number of any size: a sign, and decimal digits without leading zeros (Redis serialization protocol
-/// specification, "Big numbers"). Zero is `0`, and never negative.
+/// A whole number of any size: a sign, and decimal digits without leading zeros (Redis
+/// serialization protocol specification, "Big numbers"). Zero is `0`, and never negative.
 #[derive(Debug, PartialEq, Eq, Drop)]
 pub struct Digits {
     negative: bool,
@@ -64,13 +64,15 @@ fn unsigned_part(text: &[u8]) -> &[u8]
 impl Digits {
     ghost use Rattle.resp_value.specs.Values.{is_negative, digits_text};
 
-    /// The sign and digits of a text such as `-120` or `+007`: an optional `+` or `-`, and one or more decimal
-    /// digits. Leading zeros go, and so does the sign of a zero; that a text may have them is a leniency of our own.
+    /// The sign and digits of a text such as `-120` or `+007`: an optional `+` or `-`, and one or
+    /// more decimal digits. Leading zeros go, and so does the sign of a zero; that a text may have
+    /// them is a leniency of our own.
     ///
-    /// Refuses by `BadDigits` exactly where the text isn't of that form. For a text of that form memory for the
-    /// digits is asked for, and `OutOfMemory` is the refusal where there is none.
+    /// Refuses by `BadDigits` exactly where the text isn't of that form. For a text of that form
+    /// memory for the digits is asked for, and `OutOfMemory` is the refusal where there is none.
     pub fn new(alloc: Global, text: &[u8]) -> Result<Digits, DigitsError>
-        ensures kept { IfOk result (λ digits. KeepsDigits text.now (is_negative digits) (digits_text digits)) }
+        ensures kept { IfOk result (λ digits. KeepsDigits text.now (is_negative digits)
+            (digits_text digits)) }
         ensures bad { IsErrOf result DigitsError.BadDigits ↔ (IsSignedDigits text.now → ⊥) }
         ensures memory_last { IsErrOf result DigitsError.OutOfMemory → IsSignedDigits text.now }
     {

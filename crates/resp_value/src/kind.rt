@@ -4,8 +4,8 @@ ghost use Rattle.std.specs.Prelude.{◌≡◌, ◌↔◌, IsTrue};
 ghost use Rattle.resp_value.specs.Trees.{kind_byte};
 ghost use Rattle.resp_value.specs.Canonical.{IsKindInTwo, IsKindBelow};
 
-/// The kinds of aggregate (Redis serialization protocol specification, "Arrays", "Sets", "Maps" and "Pushes"; RESP3
-/// specification, "Attribute type").
+/// The kinds of aggregate (Redis serialization protocol specification, "Arrays", "Sets", "Maps" and
+/// "Pushes"; RESP3 specification, "Attribute type").
 #[derive(Clone, Copy, Debug, PartialEq, Eq)]
 pub enum OpenKind {
     /// An array.

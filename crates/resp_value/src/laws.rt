@@ -195,7 +195,8 @@ pub fn values_and_their_measures()
     ensures big { longest (scalar (Big true (codes "12"))) ≡ 2 }
     // A verbatim string counts its format and the `:`.
     ensures verbatim { longest (scalar (Verbatim (codes "txt") (codes "hi"))) ≡ 6 }
-    ensures nested { depth (aggregate_of Array (aggregate_of Set [] ∷ simple (codes "a") ∷ [])) ≡ 2 }
+    ensures nested { depth (aggregate_of Array (aggregate_of Set [] ∷ simple (codes "a") ∷ [])) ≡
+        2 }
     // Items are members, or pairs of a map or an attribute.
     ensures members { most_items (aggregate_of Array (scalar Null ∷ scalar Null ∷ [])) ≡ 2 }
     ensures pairs { most_items (aggregate_of Map (scalar Null ∷ scalar Null ∷ [])) ≡ 1 }

@@ -9,7 +9,8 @@ use thiserror::Error;
 /// The default of items: no value within the greatest total has more.
 const ITEMS: u64 = 1_099_511_627_776;
 
-/// How deep, long and large a value may be, and whether it may be streamed. Each number is within its range.
+/// How deep, long and large a value may be, and whether it may be streamed. Each number is within
+/// its range.
 ///
 /// | Limit | From | To | Default | What it counts |
 /// |---|---|---|---|---|
@@ -18,10 +19,11 @@ const ITEMS: u64 = 1_099_511_627_776;
 /// | total | 256 | 1,099,511,627,776 | 1,073,741,824 | bytes of one value at the top, as spelled |
 /// | items | 16 | 1,099,511,627,776 | 1,099,511,627,776 | members of one array, set or push |
 ///
-/// Empty aggregates and attributes count for depth too, and the value that an attribute annotates is inside it. A
-/// verbatim string is four bytes longer than its text, and a big number as long as its digits. The items of a map
-/// or an attribute are its pairs. The default of length is the standard's (Redis serialization protocol
-/// specification, "Bulk strings"); the other limits are our own.
+/// Empty aggregates and attributes count for depth too, and the value that an attribute annotates
+/// is inside it. A verbatim string is four bytes longer than its text, and a big number as long as
+/// its digits. The items of a map or an attribute are its pairs. The default of length is the
+/// standard's (Redis serialization protocol specification, "Bulk strings"); the other limits are
+/// our own.
 #[derive(Clone, Copy, Debug, PartialEq, Eq)]
 pub struct Limits {
     depth: u64,
@@ -67,8 +69,9 @@ impl Model for Limits {
 pub struct BadLimits;
 
 impl Limits {
-    /// Limits of depth (4 to 128), of the bytes of one content (64 to 1,073,741,824) and of the bytes of one value
-    /// (256 to 1,099,511,627,776), with the default of items and with streamed forms.
+    /// Limits of depth (4 to 128), of the bytes of one content (64 to 1,073,741,824) and of the
+    /// bytes of one value (256 to 1,099,511,627,776), with the default of items and with streamed
+    /// forms.
     ///
     /// Refuses exactly where one of the three is outside its range.
     pub fn new(depth: u64, length: u64, total: u64) -> Result<Limits, BadLimits>
@@ -97,8 +100,8 @@ impl Limits {
         }
     }
 
-    /// The defaults: depth 32, contents of 536,870,912 bytes, values of 1,073,741,824 bytes, 1,099,511,627,776
-    /// items, and streamed forms.
+    /// The defaults: depth 32, contents of 536,870,912 bytes, values of 1,073,741,824 bytes,
+    /// 1,099,511,627,776 items, and streamed forms.
     pub fn standard() -> Limits
         ensures { result ≡ record {
           depth = 32;
@@ -117,8 +120,8 @@ impl Limits {
         }
     }
 
-    /// The same limits with this limit of items: the members of one array, set or push, or the pairs of one map
-    /// or attribute (16 to 1,099,511,627,776).
+    /// The same limits with this limit of items: the members of one array, set or push, or the
+    /// pairs of one map or attribute (16 to 1,099,511,627,776).
     ///
     /// Refuses exactly where it is outside that range.
     pub fn with_items(self, items: u64) -> Result<Limits, BadLimits>
@@ -166,7 +169,8 @@ impl Limits {
         self.total
     }
 
-    /// The most members of one array, set or push, or pairs of one map or attribute, 16 to 1,099,511,627,776.
+    /// The most members of one array, set or push, or pairs of one map or attribute, 16 to
+    /// 1,099,511,627,776.
     pub fn items(&self) -> u64
         ensures items { result ≡ self.now.items }
         ensures in_range { IsItems result }

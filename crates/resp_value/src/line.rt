@@ -7,8 +7,8 @@ ghost use Rattle.resp_value.specs.Bytes.{IsText, IsLine, IsPlain};
 use std::alloc::{AllocError, Global};
 use thiserror::Error;
 
-/// Bytes none of which is CR or LF: what a simple string and a simple error hold (Redis serialization protocol
-/// specification, "Simple strings" and "Simple errors").
+/// Bytes none of which is CR or LF: what a simple string and a simple error hold (Redis
+/// serialization protocol specification, "Simple strings" and "Simple errors").
 #[derive(Debug, PartialEq, Eq, Drop)]
 pub struct Line {
     text: Vec<u8>,

@@ -8,7 +8,8 @@ use crate::digits::Digits;
 use crate::line::Line;
 use std::alloc::{AllocError, Global};
 
-/// The members of an array, a set or a push, in their order. One may stand there more than once, in a set too.
+/// The members of an array, a set or a push, in their order. One may stand there more than once, in
+/// a set too.
 #[derive(Debug, PartialEq, Eq, Drop)]
 #[cycle(value)]
 pub struct Members {
@@ -24,9 +25,9 @@ pub struct PairList {
 
 /// A value of the protocol. It says nothing of how it was spelled, and no value is a double.
 ///
-/// Two values are equal where they have the same shape and content, in the same order. Behind each shape stands its
-/// section of the Redis serialization protocol specification; version 2 has nulls, integers, simple strings and
-/// errors, bulk strings and arrays, and version 3 has all.
+/// Two values are equal where they have the same shape and content, in the same order. Behind each
+/// shape stands its section of the Redis serialization protocol specification; version 2 has nulls,
+/// integers, simple strings and errors, bulk strings and arrays, and version 3 has all.
 #[derive(Debug, PartialEq, Eq, Drop)]
 #[cycle(value)]
 pub enum Value {
@@ -56,7 +57,8 @@ pub enum Value {
     Map(PairList),
     /// The pairs of an attribute, and the value that it annotates ("Attributes").
     Attr(PairList, Box<Value>),
-    /// Members that were sent unasked ("Pushes"). It stands at the top alone: encoding refuses one below it.
+    /// Members that were sent unasked ("Pushes"). It stands at the top alone: encoding refuses one
+    /// below it.
     Push(Members),
 }
 
@@ -150,7 +152,8 @@ fn copy_members(members: &Members, alloc: Global) -> Result<Members, AllocError>
 
 #[cycle(copy)]
 fn copy_pairs(pairs: &PairList, alloc: Global) -> Result<PairList, AllocError>
-    ensures { IfOk result (λ copy. map pair_data (pairs_of copy) ≡ map pair_data (pairs_of pairs.now)) }
+    ensures { IfOk result (λ copy. map pair_data (pairs_of copy) ≡
+        map pair_data (pairs_of pairs.now)) }
 {
     let mut copies = Vec::new(alloc);
     for pair in pairs.list() {

@@ -1,4 +1,5 @@
-//! Values without members: each is written where it has no fault and there is room, and else the buffer is left.
+//! Values without members: each is written where it has no fault and there is room, and else the
+//! buffer is left.
 
 ghost use Rattle.std.specs.Prelude.{◌≡◌, ◌+◌, ◌≤◌, ◌^◌, ℕ, length};
 ghost use Rattle.std.specs.Bool.{OnTrue};
@@ -27,10 +28,12 @@ use resp_value::limits::Limits;
 use resp_value::line::Line;
 use resp_value::version::Version;
 
-/// Whether a value without members has no fault but perhaps its total, and there is room for its text.
+/// Whether a value without members has no fault but perhaps its total, and there is room for its
+/// text.
 #[inline(always)]
 fn has_room(found: &Findings, version: Version, limits: &Limits, out: &BytesMut) -> bool
-    ensures { (x : Datum) → Describes version x found.now → OnTrue result (FitsSpare version limits.now out.now.spare x) }
+    ensures { (x : Datum) → Describes version x found.now →
+        OnTrue result (FitsSpare version limits.now out.now.spare x) }
 {
     if !has_types(found, version) || found.longest > limits.length() {
         return false;
@@ -44,7 +47,8 @@ fn has_room(found: &Findings, version: Version, limits: &Limits, out: &BytesMut)
 /// Whether there is surely room for an integer. Its digits are counted only where there is little.
 #[inline(always)]
 fn has_room_for_int(number: &i64, out: &BytesMut) -> bool
-    ensures room { (version : Version) → OnTrue result (length (canonical_text version (scalar (d.Int number.now))) ≤ out.now.spare) }
+    ensures room { (version : Version) → OnTrue result
+        (length (canonical_text version (scalar (d.Int number.now))) ≤ out.now.spare) }
     ensures is_value { IsScalarValue (d.Int number.now) }
 {
     let magnitude = number.unsigned_abs();
@@ -52,7 +56,8 @@ fn has_room_for_int(number: &i64, out: &BytesMut) -> bool
     room >= 24 || digit_count(magnitude) + 4 <= room
 }
 
-/// Whether there is room for a string whose head says so many bytes. The digits are counted only where there is little.
+/// Whether there is room for a string whose head says so many bytes. The digits are counted only
+/// where there is little.
 #[inline(always)]
 fn has_room_for_string(counted: u64, out: &BytesMut) -> bool
     requires { counted ≤ 2 ^ 63 + 4 }
@@ -64,7 +69,8 @@ fn has_room_for_string(counted: u64, out: &BytesMut) -> bool
 
 #[inline(always)]
 pub(super) fn attempt_null(version: Version, limits: &Limits, out: &mut BytesMut) -> bool
-    ensures { (deeper : ℕ) → Attempt version limits.now deeper (scalar d.Null) out.old out.new result }
+    ensures { (deeper : ℕ) → Attempt version limits.now deeper (scalar d.Null) out.old out.new
+        result }
 {
     let found = of_null(version);
     if !has_room(&found, version, limits, out) {
@@ -81,7 +87,8 @@ pub(super) fn attempt_bool(
     limits: &Limits,
     out: &mut BytesMut,
 ) -> bool
-    ensures { (deeper : ℕ) → Attempt version limits.now deeper (scalar (d.Bool truth)) out.old out.new result }
+    ensures { (deeper : ℕ) → Attempt version limits.now deeper (scalar (d.Bool truth)) out.old
+        out.new result }
 {
     let found = of_bool(truth);
     if !has_room(&found, version, limits, out) {
@@ -93,7 +100,8 @@ pub(super) fn attempt_bool(
 
 #[inline(always)]
 pub(super) fn attempt_int(number: &i64, out: &mut BytesMut) -> bool
-    ensures { (version : Version) (bounds : Bounds) (deeper : ℕ) → Attempt version bounds deeper (scalar (d.Int number.now)) out.old out.new result }
+    ensures { (version : Version) (bounds : Bounds) (deeper : ℕ) →
+        Attempt version bounds deeper (scalar (d.Int number.now)) out.old out.new result }
 {
     if !has_room_for_int(number, out) {
         return false;
@@ -109,7 +117,8 @@ pub(super) fn attempt_simple(
     limits: &Limits,
     out: &mut BytesMut,
 ) -> bool
-    ensures { (deeper : ℕ) → Attempt version limits.now deeper (scalar (d.Simple (line_text line.now))) out.old out.new result }
+    ensures { (deeper : ℕ) → Attempt version limits.now deeper
+        (scalar (d.Simple (line_text line.now))) out.old out.new result }
 {
     let text = line.text();
     let found = of_line(text);
@@ -127,7 +136,8 @@ pub(super) fn attempt_error(
     limits: &Limits,
     out: &mut BytesMut,
 ) -> bool
-    ensures { (deeper : ℕ) → Attempt version limits.now deeper (scalar (d.Error (line_text line.now))) out.old out.new result }
+    ensures { (deeper : ℕ) → Attempt version limits.now deeper
+        (scalar (d.Error (line_text line.now))) out.old out.new result }
 {
     let text = line.text();
     let found = of_line(text);
@@ -140,7 +150,9 @@ pub(super) fn attempt_error(
 
 #[inline(always)]
 pub(super) fn attempt_bulk(content: &Content, limits: &Limits, out: &mut BytesMut) -> bool
-    ensures { (version : Version) (deeper : ℕ) → Attempt version limits.now deeper (scalar (d.Bulk (content_bytes content.now))) out.old out.new result }
+    ensures { (version : Version) (deeper : ℕ) →
+        Attempt version limits.now deeper (scalar (d.Bulk (content_bytes content.now))) out.old
+        out.new result }
 {
     let bytes = content.list();
     let counted = bytes.len() as u64;
@@ -158,7 +170,8 @@ pub(super) fn attempt_bulk_error(
     limits: &Limits,
     out: &mut BytesMut,
 ) -> bool
-    ensures { (deeper : ℕ) → Attempt version limits.now deeper (scalar (d.BulkError (content_bytes content.now))) out.old out.new result }
+    ensures { (deeper : ℕ) → Attempt version limits.now deeper
+        (scalar (d.BulkError (content_bytes content.now))) out.old out.new result }
 {
     let bytes = content.list();
     let found = of_bulk_error(bytes);
@@ -177,7 +190,8 @@ pub(super) fn attempt_verbatim(
     limits: &Limits,
     out: &mut BytesMut,
 ) -> bool
-    ensures { (deeper : ℕ) → Attempt version limits.now deeper (scalar (d.Verbatim format.now (content_bytes text.now))) out.old out.new result }
+    ensures { (deeper : ℕ) → Attempt version limits.now deeper
+        (scalar (d.Verbatim format.now (content_bytes text.now))) out.old out.new result }
 {
     let bytes = text.list();
     let found = of_verbatim(format, bytes);
@@ -195,7 +209,8 @@ pub(super) fn attempt_big(
     limits: &Limits,
     out: &mut BytesMut,
 ) -> bool
-    ensures { (deeper : ℕ) → Attempt version limits.now deeper (scalar (d.Big (is_negative digits.now) (digits_text digits.now))) out.old out.new result }
+    ensures { (deeper : ℕ) → Attempt version limits.now deeper
+        (scalar (d.Big (is_negative digits.now) (digits_text digits.now))) out.old out.new result }
 {
     let (negative, text) = (digits.is_negative(), digits.digits());
     let found = of_big(negative, text);

@@ -35,7 +35,8 @@ pub record LineBegun (r : Rules) (room : ℕ) (level : ℕ) (bytes : List ℕ) (
   pub leaves : room + size ≡ r.limits.length
   pub told : shown ≡ e.Text (line_text_kind kind) ∷ content_events token.content
 
--- a leaf's line and its CR, and all of its events but the end of its text; a big zero isn't one, whose text begins at its LF
+-- a leaf's line and its CR, and all of its events but the end of its text; a big zero isn't one, whose text begins at
+-- its LF
 pub record TextReturned (r : Rules) (level : ℕ) (bytes : List ℕ) (shown : List Event) : Type 0 where
   pub leaf : Leaf
   pub returned : IsReturned r leaf level bytes
@@ -48,29 +49,32 @@ IsSigned negative Unsigned = ⊥
 IsSigned negative Plus = negative ≡ false
 IsSigned negative Minus = negative ≡ true
 
-pub record SignBegun (r : Rules) (k : t.NumberKind) (negative : Bool) (level : ℕ) (bytes : List ℕ) (shown : List Event) : Type 0 where
+pub record SignBegun (r : Rules) (k : t.NumberKind) (negative : Bool) (level : ℕ) (bytes : List ℕ)
+    (shown : List Event) : Type 0 where
   pub sign : Sign
   pub is_signed : IsSigned negative sign
   pub token : IsNumberBegun r k sign level bytes
   pub told : shown ≡ []
 
 -- an integer's digits so far
-pub record IntBegun (r : Rules) (negative : Bool) (n : ℕ) (level : ℕ) (bytes : List ℕ) (shown : List Event) : Type 0 where
-  pub sign : Sign
-  pub first : ℕ
-  pub digits : List ℕ
-  pub is_signed : is_minus sign ≡ negative
-  pub token : IsNumberToken r t.Int sign (first ∷ digits) level bytes
-  pub valued : number (first ∷ digits) ≡ n
-  pub told : shown ≡ []
+pub record IntBegun (r : Rules) (negative : Bool) (n : ℕ) (level : ℕ) (bytes : List ℕ) (shown : List Event) : Type 0
+  where
+    pub sign : Sign
+    pub first : ℕ
+    pub digits : List ℕ
+    pub is_signed : is_minus sign ≡ negative
+    pub token : IsNumberToken r t.Int sign (first ∷ digits) level bytes
+    pub valued : number (first ∷ digits) ≡ n
+    pub told : shown ≡ []
 
 -- an integer's line and its CR
-pub record IntReturned (r : Rules) (negative : Bool) (n : ℕ) (level : ℕ) (bytes : List ℕ) (shown : List Event) : Type 0 where
-  pub sign : Sign
-  pub digits : List ℕ
-  pub returned : IsReturned r (numeral t.Int sign digits) level bytes
-  pub valued : signed_value sign digits ≡ machine.with_sign negative n
-  pub told : shown ≡ []
+pub record IntReturned (r : Rules) (negative : Bool) (n : ℕ) (level : ℕ) (bytes : List ℕ) (shown : List Event) : Type 0
+  where
+    pub sign : Sign
+    pub digits : List ℕ
+    pub returned : IsReturned r (numeral t.Int sign digits) level bytes
+    pub valued : signed_value sign digits ≡ machine.with_sign negative n
+    pub told : shown ≡ []
 
 -- a big number's digits so far, of which these are left without leading zeros
 pub record BigBegun (r : Rules) (negative : Bool) (kept : List ℕ) (level : ℕ) (bytes : List ℕ) : Type 0 where
@@ -137,21 +141,24 @@ string_text_kind t.BulkError = e.BulkError
 string_text_kind (t.Verbatim format) = e.Verbatim format
 
 -- the digits of a length so far
-pub record LengthBegun (r : Rules) (k : StringKind) (n : ℕ) (level : ℕ) (bytes : List ℕ) (shown : List Event) : Type 0 where
-  pub first : ℕ
-  pub digits : List ℕ
-  pub token : IsLengthToken r k first digits level bytes
-  pub valued : number (first ∷ digits) ≡ n
-  pub told : shown ≡ []
+pub record LengthBegun (r : Rules) (k : StringKind) (n : ℕ) (level : ℕ) (bytes : List ℕ) (shown : List Event) : Type 0
+  where
+    pub first : ℕ
+    pub digits : List ℕ
+    pub token : IsLengthToken r k first digits level bytes
+    pub valued : number (first ∷ digits) ≡ n
+    pub told : shown ≡ []
 
 -- and their CR
-pub record LengthReturned (r : Rules) (k : StringKind) (n : ℕ) (level : ℕ) (bytes : List ℕ) (shown : List Event) : Type 0 where
+pub record LengthReturned (r : Rules) (k : StringKind) (n : ℕ) (level : ℕ) (bytes : List ℕ) (shown : List Event) : Type
+    0 where
   pub before : List ℕ
   pub length : LengthBegun r k n level before shown
   pub returned : bytes ≡ before ++ 13 ∷ []
 
 -- of a verbatim string's payload these bytes have come, and so many are left
-pub record FormatBegun (r : Rules) (format begun : List ℕ) (n : ℕ) (level : ℕ) (bytes : List ℕ) (shown : List Event) : Type 0 where
+pub record FormatBegun (r : Rules) (format begun : List ℕ) (n : ℕ) (level : ℕ) (bytes : List ℕ)
+    (shown : List Event) : Type 0 where
   pub first : ℕ
   pub digits : List ℕ
   pub token : IsContentToken r (t.Verbatim format) first digits begun n level bytes
@@ -175,7 +182,8 @@ pub record ContentReturned (r : Rules) (level : ℕ) (bytes : List ℕ) (shown :
 -- Streamed strings.
 
 -- whole chunks, of whose string length leaves so many bytes, and then these bytes
-pub record ChunksBegun (r : Rules) (room : ℕ) (begun : List ℕ) (level : ℕ) (bytes : List ℕ) (shown : List Event) : Type 0 where
+pub record ChunksBegun (r : Rules) (room : ℕ) (begun : List ℕ) (level : ℕ) (bytes : List ℕ) (shown : List Event) : Type
+    0 where
   pub chunks : List Chunk
   pub are_chunks : AllByRecursion IsChunk chunks
   pub has_streamed : HasStreamed r
@@ -184,7 +192,8 @@ pub record ChunksBegun (r : Rules) (room : ℕ) (begun : List ℕ) (level : ℕ)
   pub told : shown ≡ e.Text e.Bulk ∷ content_events (joined_content chunks)
 
 -- whole chunks and the digits of one, and bytes behind them
-pub record ChunkLength (r : Rules) (room n : ℕ) (behind : List ℕ) (level : ℕ) (bytes : List ℕ) (shown : List Event) : Type 0 where
+pub record ChunkLength (r : Rules) (room n : ℕ) (behind : List ℕ) (level : ℕ) (bytes : List ℕ)
+    (shown : List Event) : Type 0 where
   pub digits : List ℕ
   pub are_digits : IsDigits digits
   pub valued : number digits ≡ n
@@ -192,7 +201,8 @@ pub record ChunkLength (r : Rules) (room n : ℕ) (behind : List ℕ) (level : �
   pub chunks : ChunksBegun r room ((59 ∷ digits) ++ behind) level bytes shown
 
 -- whole chunks, and one that is begun, of which so many bytes are left; length leaves so many behind it
-pub record ChunkBegun (r : Rules) (room n : ℕ) (behind : List ℕ) (level : ℕ) (bytes : List ℕ) (shown : List Event) : Type 0 where
+pub record ChunkBegun (r : Rules) (room n : ℕ) (behind : List ℕ) (level : ℕ) (bytes : List ℕ)
+    (shown : List Event) : Type 0 where
   pub digits : List ℕ
   pub part : List ℕ
   pub before : List Event
@@ -230,7 +240,8 @@ pub record CountReturned (r : Rules) (k : Kind) (n : ℕ) (level : ℕ) (bytes :
   pub told : shown ≡ []
 
 -- the head of a streamed aggregate, up to these bytes of its line's end
-pub record StreamBegun (r : Rules) (k : Kind) (behind : List ℕ) (level : ℕ) (bytes : List ℕ) (shown : List Event) : Type 0 where
+pub record StreamBegun (r : Rules) (k : Kind) (behind : List ℕ) (level : ℕ) (bytes : List ℕ) (shown : List Event) : Type
+    0 where
   pub has_streamed : HasStreamed r
   pub can_stream : CanStream k 0
   pub no_push : IsNoPushBelow level k
@@ -306,7 +317,8 @@ TokenHas r (InHead h n) level bytes shown = HeadCounts r h n level bytes shown
 TokenHas r (AtHeadLf h n) level bytes shown = HeadReturned r h n level bytes shown
 TokenHas r (AtFormat n) level bytes shown = FormatBegun r (zeros 3) [] n level bytes shown
 TokenHas r (AtFormatSecond x n) level bytes shown = FormatBegun r (x ∷ zeros 2) (x ∷ []) (n - 1) level bytes shown
-TokenHas r (AtFormatThird x y n) level bytes shown = FormatBegun r (x ∷ y ∷ zeros 1) (x ∷ y ∷ []) (n - 2) level bytes shown
+TokenHas r (AtFormatThird x y n) level bytes shown =
+    FormatBegun r (x ∷ y ∷ zeros 1) (x ∷ y ∷ []) (n - 2) level bytes shown
 TokenHas r (AtFormatColon format n) level bytes shown = FormatBegun r format format (n - 3) level bytes shown
 TokenHas r (InContent n) level bytes shown = ContentBegun r n level bytes shown × (0 < n)
 TokenHas r AtContentCr level bytes shown = ContentBegun r 0 level bytes shown

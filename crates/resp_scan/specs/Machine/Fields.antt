@@ -58,7 +58,15 @@ token_at state.Failed m = Dead m.cause
 
 -- where a machine stands
 abbrev pub place_of : Machine → Place
-place_of m = record { token = token_at m.state m; frames = reverse m.frames.items; version = m.version; bounds = m.limits; taken = m.taken; frames_need = m.frames_need }
+place_of m = record {
+  token = token_at m.state m;
+  frames = reverse m.frames.items;
+  version = m.version;
+  bounds =
+      m.limits;
+  taken = m.taken;
+  frames_need = m.frames_need;
+}
 
 abbrev pub out_by : EventTag → ℕ → Machine → Out
 out_by tag.More n m = More n (place_of m)

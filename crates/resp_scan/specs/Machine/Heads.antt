@@ -103,14 +103,23 @@ string_cause s used = cause_in_three s.version (cond s.bounds.streamed (over_tot
 
 -- and that of a streamed aggregate
 abbrev pub aggregate_cause : Place → ℕ → Option Cause
-aggregate_cause s used = cause_in_three s.version (cond s.bounds.streamed (cond (is_full s) (Some cause.Depth) (over_total s used 5)) (Some cause.Streamed))
+aggregate_cause s used = cause_in_three s.version
+    (cond s.bounds.streamed (cond (is_full s) (Some cause.Depth) (over_total s used 5)) (Some cause.Streamed))
 
 -- an aggregate opens with so many members
 abbrev pub after_open : Place → OpenKind → ℕ → Place
-after_open s k n = after_end (record s { frames = record { kind = k; shape = Left n } ∷ s.frames; frames_need = s.frames_need + n * 3 })
+after_open s k n = after_end (record s {
+  frames = record { kind = k; shape = Left n } ∷ s.frames;
+  frames_need =
+      s.frames_need + n * 3;
+})
 
 abbrev pub after_streamed_open : Place → OpenKind → Place
-after_streamed_open s k = after_end (record s { frames = record { kind = k; shape = Begun 0 } ∷ s.frames; frames_need = s.frames_need + 3 })
+after_streamed_open s k = after_end (record s {
+  frames = record { kind = k; shape = Begun 0 } ∷ s.frames;
+  frames_need =
+      s.frames_need + 3;
+})
 
 abbrev pub content_at : ℕ → Place → Place
 content_at n s = at s (cond (eqb n 0) AtContentCr (InContent n))

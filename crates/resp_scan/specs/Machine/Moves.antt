@@ -37,21 +37,24 @@ only_byte x b v = cond (eqb b x) v (Refuse cause.Syntax)
 -- Digits and lines.
 
 abbrev pub int_digit : Place → ℕ → Bool → ℕ → Move
-int_digit s used negative n = cond (nat_le n (greatest_magnitude negative)) (cond (has_total_room s used 2) (Go (at s (InInt negative n))) (Refuse cause.Total)) (Refuse cause.Range)
+int_digit s used negative n = cond (nat_le n (greatest_magnitude negative))
+    (cond (has_total_room s used 2) (Go (at s (InInt negative n))) (Refuse cause.Total)) (Refuse cause.Range)
 
 abbrev pub int_first : Place → Bool → ℕ → Move
 int_first s negative b = cond (is_digit b) (Go (at s (InInt negative (b - 48)))) (Refuse cause.Syntax)
 
 -- a digit that isn't zero begins the text
 abbrev pub big_digit : Place → Bool → ℕ → Move
-big_digit s negative b = cond (eqb b 48) (Go (at s (InBigZeros negative))) (Give (Text (text.Big negative)) (at s (AtBigDigit b (s.bounds.length - 1))))
+big_digit s negative b = cond (eqb b 48) (Go (at s (InBigZeros negative)))
+    (Give (Text (text.Big negative)) (at s (AtBigDigit b (s.bounds.length - 1))))
 
 abbrev pub big_first : Place → Bool → ℕ → Move
 big_first s negative b = cond (is_digit b) (big_digit s negative b) (Refuse cause.Syntax)
 
 -- a byte of content of which length leaves so many, unless length or total refuses it
 abbrev pub content_byte : Place → ℕ → ℕ → (ℕ → Token) → Move
-content_byte s used room token = cond (eqb room 0) (Refuse cause.Length) (cond (has_total_room s used 2) (Byte (at s (token (room - 1)))) (Refuse cause.Total))
+content_byte s used room token = cond (eqb room 0) (Refuse cause.Length)
+    (cond (has_total_room s used 2) (Byte (at s (token (room - 1)))) (Refuse cause.Total))
 
 -- Heads.
 
@@ -78,7 +81,8 @@ full_streamed version.Three streamed = cond streamed cause.Depth cause.Streamed
 
 -- what refuses a byte, other than `-`, behind the `*` of an array that would be a level too deep
 abbrev pub full_cause : Place → ℕ → Cause
-full_cause s b = cond (eqb b 63) (full_streamed s.version s.bounds.streamed) (cond (is_digit b) cause.Depth cause.Syntax)
+full_cause s b = cond (eqb b 63) (full_streamed s.version s.bounds.streamed)
+    (cond (is_digit b) cause.Depth cause.Syntax)
 
 abbrev pub array_head : Place → ℕ → ℕ → Move
 array_head s used b =
@@ -120,7 +124,12 @@ may_close (f ∷ fs) = may_close_of f.kind f.shape
 
 -- a streamed aggregate closes, a map between whole pairs
 abbrev pub close_move : Place → Move
-close_move s = cond (may_close s.frames) (Go (record s { token = AtCloseCr; frames = with_shape (Left 0) s.frames; frames_need = s.frames_need - 3 })) (Refuse cause.Syntax)
+close_move s = cond (may_close s.frames) (Go (record s {
+  token = AtCloseCr;
+  frames =
+      with_shape (Left 0) s.frames;
+  frames_need = s.frames_need - 3;
+})) (Refuse cause.Syntax)
 
 abbrev pub start_three : Place → ℕ → Move
 start_three s b =
@@ -169,7 +178,8 @@ next_in AtBigSign s used b =
     (cond (eqb b 43) (move_unless (over_total s used 3) (Go (at s (AtBigFirst false)))) (big_first s false b))
 next_in (AtBigFirst negative) s used b = big_first s negative b
 next_in (InBigZeros negative) s used b =
-    cond (is_digit b) (cond (has_total_room s used 2) (big_digit s negative b) (Refuse cause.Total)) (only_byte 13 b (Go (at s AtBigZeroLf)))
+    cond (is_digit b) (cond (has_total_room s used 2) (big_digit s negative b) (Refuse cause.Total))
+    (only_byte 13 b (Go (at s AtBigZeroLf)))
 next_in AtBigZeroLf s used b = only_byte 10 b (Give (Text (text.Big false)) (at s AtTextEnd))
 next_in (AtBigDigit d room) s used b = Refuse cause.Syntax
 next_in (InBig room) s used b =

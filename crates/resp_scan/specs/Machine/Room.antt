@@ -55,7 +55,11 @@ has_all k (Begun n) items = has_all_of k n items
 
 abbrev pub after_begin_in : Place → List Frame → Place
 after_begin_in s [] = s
-after_begin_in s (f ∷ fs) = record s { frames = record f { shape = shape_after_begin f.shape } ∷ fs; frames_need = need_after_begin f.kind f.shape s.frames_need }
+after_begin_in s (f ∷ fs) = record s {
+  frames = record f { shape = shape_after_begin f.shape } ∷ fs;
+  frames_need =
+      need_after_begin f.kind f.shape s.frames_need;
+}
 
 abbrev pub after_begin : Place → Place
 after_begin s = after_begin_in s s.frames

@@ -1,5 +1,5 @@
-//! Parts are lent from the caller's piece, and live as long as it does. That no part lives longer is tested by
-//! `tests/lifetimes` at the top of the repository, which breaks a line of this file.
+//! Parts are lent from the caller's piece, and live as long as it does. That no part lives longer
+//! is tested by `tests/lifetimes` at the top of the repository, which breaks a line of this file.
 
 use crate::event::Event;
 use crate::scanner::Scanner;

@@ -13,8 +13,8 @@ use std::test::Fail;
 /// A text, and what is needed before its first byte and behind each one. Behind a whole value, 0.
 type Row = (&'static [u8], &'static [u64]);
 
-/// Gives the scanner a piece, and after each step compares what is needed with the number behind the bytes taken.
-/// Where the value's end was told none is taken, and the first number holds again.
+/// Gives the scanner a piece, and after each step compares what is needed with the number behind
+/// the bytes taken. Where the value's end was told none is taken, and the first number holds again.
 fn feed(rt: &impl Abort, scanner: &mut Scanner, row: &Row, piece: &[u8]) -> Result<(), Fail> {
     let (text, needed) = row;
     let mut from = 0;
@@ -36,7 +36,8 @@ fn feed(rt: &impl Abort, scanner: &mut Scanner, row: &Row, piece: &[u8]) -> Resu
     Err("endless".into())
 }
 
-/// So many bytes of the row's text were given, and all their events: whether the input may end here.
+/// So many bytes of the row's text were given, and all their events: whether the input may end
+/// here.
 fn end(rt: &impl Abort, scanner: &Scanner, row: &Row, size: usize) {
     let (text, needed) = row;
     let is_whole = needed.get(size) == Some(&0);
@@ -678,7 +679,8 @@ fn great_fronts(rt: HostRuntime) -> Result<(), Fail> {
     run(&rt, Version::Three, &greatest, GREATEST_FRONTS)
 }
 
-/// Values, and the number of their last events but Done, which come where nothing is needed any more.
+/// Values, and the number of their last events but Done, which come where nothing is needed any
+/// more.
 const LAST_EVENTS: &[(&[u8], usize)] = &[
     (b"_\r\n", 1),
     (b"+\r\n", 1),

@@ -34,9 +34,10 @@ impl Model for MemorySink {
 }
 
 impl MemorySink {
-    /// An empty sink, that moves at most `most` bytes a call and fails from byte `fails_from` on: a write that
-    /// begins before that byte stops there, and one that begins there fails. With 0 for `most` each write before
-    /// it takes no byte. The room for all that it may take is made here, so no write takes memory.
+    /// An empty sink, that moves at most `most` bytes a call and fails from byte `fails_from` on: a
+    /// write that begins before that byte stops there, and one that begins there fails. With 0 for
+    /// `most` each write before it takes no byte. The room for all that it may take is made here,
+    /// so no write takes memory.
     pub fn new(alloc: Global, most: usize, fails_from: usize) -> Result<Self, AllocError>
         ensures ok { IfOk result (λ sink. sink ≡ record {
           held = [];
@@ -96,7 +97,8 @@ impl Sink for MemorySink {
         ensures within { IfOk result (λ n. n ≤ length from.now) }
         ensures bytes { Writes (Some self.old.held) (Some self.new.held) from.now result }
         ensures calls { self.new.calls ≡ count_after 1 self.old.calls }
-        ensures failures { self.new.failures ≡ failures_after (write_fails result) self.old.failures }
+        ensures failures { self.new.failures ≡
+            failures_after (write_fails result) self.old.failures }
 
         // It fails exactly where no byte may be written any more.
         ensures fails { IsErr result ↔ (self.old.sound ≡ 0) }

@@ -7,7 +7,8 @@ use super::counts::Counts;
 use super::{DeviceFault, Source};
 use std::marker::Model;
 
-/// Reads from a slice, at most a set number of bytes a call. It can be made to fail from a set byte on.
+/// Reads from a slice, at most a set number of bytes a call. It can be made to fail from a set byte
+/// on.
 #[derive(Debug, Drop)]
 pub struct MemorySource<'a> {
     left: &'a [u8],
@@ -52,8 +53,9 @@ impl<'a> MemorySource<'a> {
         }
     }
 
-    /// The same source, but it fails from this byte on, counted from 0 at the next byte that it reads: a read
-    /// that begins before that byte stops there, and one that begins there fails, at the end of the bytes too.
+    /// The same source, but it fails from this byte on, counted from 0 at the next byte that it
+    /// reads: a read that begins before that byte stops there, and one that begins there fails, at
+    /// the end of the bytes too.
     pub fn failing_from(self, byte: usize) -> Self
         ensures { result ≡ record self.entry { sound = Some byte } }
     {
@@ -89,7 +91,8 @@ impl Source for MemorySource<'_> {
         ensures within { IfOk result (λ n. n ≤ length into.old) }
         ensures bytes { Reads (Some self.old.left) (Some self.new.left) into.new result }
         ensures calls { self.new.calls ≡ count_after 1 self.old.calls }
-        ensures failures { self.new.failures ≡ failures_after (read_fails result) self.old.failures }
+        ensures failures { self.new.failures ≡
+            failures_after (read_fails result) self.old.failures }
 
         // It fails exactly where no byte may be read any more.
         ensures fails { IsErr result ↔ (self.old.sound ≡ Some 0) }

@@ -9,8 +9,8 @@ use super::{DeviceFault, Sink, Source};
 use std::io::{Read, Write};
 use std::marker::Model;
 
-/// A reader or a writer of std, whose calls and failures are counted. As a device it claims nothing of its
-/// bytes.
+/// A reader or a writer of std, whose calls and failures are counted. As a device it claims nothing
+/// of its bytes.
 #[derive(Debug, Drop)]
 pub struct Device<T> {
     inner: T,
@@ -72,10 +72,12 @@ impl<R: Read> Source for Device<R> {
         ensures within { IfOk result (λ n. n ≤ length into.old) }
         ensures bytes { Reads None None into.new result }
         ensures calls { self.new.calls ≡ count_after 1 self.old.calls }
-        ensures failures { self.new.failures ≡ failures_after (read_fails result) self.old.failures }
+        ensures failures { self.new.failures ≡
+            failures_after (read_fails result) self.old.failures }
 
         // The bytes are those that `inner` gives, where it tells them.
-        ensures inner { ReadConsumes (R.remaining self.old.inner) (R.remaining self.new.inner) result into.new }
+        ensures inner { ReadConsumes (R.remaining self.old.inner) (R.remaining self.new.inner)
+            result into.new }
     {
         self.counts.add_call();
         match self.inner.read(into) {
@@ -99,10 +101,12 @@ impl<W: Write> Sink for Device<W> {
         ensures within { IfOk result (λ n. n ≤ length from.now) }
         ensures bytes { Writes None None from.now result }
         ensures calls { self.new.calls ≡ count_after 1 self.old.calls }
-        ensures failures { self.new.failures ≡ failures_after (write_fails result) self.old.failures }
+        ensures failures { self.new.failures ≡
+            failures_after (write_fails result) self.old.failures }
 
         // The bytes go to `inner`, where it tells them.
-        ensures inner { WriteAppends (W.contents self.old.inner) (W.contents self.new.inner) result from.now }
+        ensures inner { WriteAppends (W.contents self.old.inner) (W.contents self.new.inner) result
+            from.now }
     {
         self.counts.add_call();
         let result = self.inner.write(from).map_err(|_| DeviceFault);

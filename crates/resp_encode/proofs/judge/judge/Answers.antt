@@ -6,7 +6,8 @@ use Rattle.resp_encode.proofs.judge.judge.Goals as goal
 
 pub returns-in_default-2-clause-fault : goal.returns-in_default-2-clause-fault
 returns-in_default-2-clause-fault c = λ x found.
-    let huge : 2 ^ 64 ≤ length (canonical_text c.args.version x) = subst (λ size. IsSize size (length (canonical_text c.args.version x))) c.in_default.is found.size_found in (
+    let huge : 2 ^ 64 ≤ length (canonical_text c.args.version x) =
+    subst (λ size. IsSize size (length (canonical_text c.args.version x))) c.in_default.is found.size_found in (
       ((c.has_types.ensures x found).0 c.if-not-has_types.false, found.push_at_top.0 c.if-not-found.false),
       (
         omega (arith, found.depth_found, c.depth.ensures),
@@ -18,7 +19,8 @@ returns-in_default-2-clause-fault c = λ x found.
 
 pub returns-in-Some-clause-spelling : goal.returns-in-Some-clause-spelling
 returns-in-Some-clause-spelling c = λ x found value.
-    let sized : length (canonical_text c.args.version x) ≡ c.in-Some.size = subst (λ size. IsSize size (length (canonical_text c.args.version x))) c.in-Some.is found.size_found in
+    let sized : length (canonical_text c.args.version x) ≡ c.in-Some.size =
+    subst (λ size. IsSize size (length (canonical_text c.args.version x))) c.in-Some.is found.size_found in
     spells_if_fits (record { version = c.args.version; limits = c.args.limits.now }) x value (record {
       has_types = (c.has_types.ensures x found).0 c.if-not-has_types.false;
       push_at_top = found.push_at_top.0 c.if-not-found.false;

@@ -13,62 +13,88 @@ use Rattle.resp_encode.proofs.SoFar.{data-take_more, pairs-take_more}
 use Rattle.resp_encode.proofs.survey.+survey.Goals as goal
 
 -- the data of a map and of an attribute, at equal parts
-map_data : {ps qs : List (Value × Value)} → ps ≡ qs → aggregate d.Map (data_of_list (in_turn (map pair_data ps))) ≡ aggregate d.Map (data_of_list (in_turn (map pair_data qs)))
+map_data : {ps qs : List (Value × Value)} → ps ≡ qs → aggregate d.Map (data_of_list (in_turn (map pair_data ps))) ≡
+    aggregate d.Map (data_of_list (in_turn (map pair_data qs)))
 map_data same = ap (λ ps. aggregate d.Map (data_of_list (in_turn (map pair_data ps)))) same
 
-attr_data : {ps qs : List (Value × Value)} {x y : Value} → ps ≡ qs → x ≡ y → aggregate d.Attr (data_of_list (in_turn (map pair_data ps) ++ datum_of x ∷ [])) ≡ aggregate d.Attr (data_of_list (in_turn (map pair_data qs) ++ datum_of y ∷ []))
-attr_data {qs = qs} {x = x} same under = ap (λ ps. aggregate d.Attr (data_of_list (in_turn (map pair_data ps) ++ datum_of x ∷ []))) same ∙ ap (λ z. aggregate d.Attr (data_of_list (in_turn (map pair_data qs) ++ datum_of z ∷ []))) under
+attr_data : {ps qs : List (Value × Value)} {x y : Value} → ps ≡ qs → x ≡ y → aggregate d.Attr (data_of_list (in_turn (map pair_data ps) ++ datum_of x ∷ [])) ≡
+    aggregate d.Attr (data_of_list (in_turn (map pair_data qs) ++ datum_of y ∷ []))
+attr_data {qs = qs} {x = x} same under = ap (λ ps. aggregate d.Attr (data_of_list (in_turn (map pair_data ps) ++ datum_of x ∷ []))) same ∙
+    ap (λ z. aggregate d.Attr (data_of_list (in_turn (map pair_data qs) ++ datum_of z ∷ []))) under
 
 pub survey-returns-in-Bool-clause-found : goal.survey-returns-in-Bool-clause-found
-survey-returns-in-Bool-clause-found t c = subst (λ x. Describes c.args.version x c.of_bool.result) (sym (ap datum_of c.in-Bool.is)) (c.of_bool.ensures c.args.version)
+survey-returns-in-Bool-clause-found t c = subst (λ x. Describes c.args.version x c.of_bool.result) (sym (ap datum_of c.in-Bool.is))
+    (c.of_bool.ensures c.args.version)
 
 pub survey-returns-in-Int-clause-found : goal.survey-returns-in-Int-clause-found
-survey-returns-in-Int-clause-found t c = subst (λ x. Describes c.args.version x c.of_int.result) (sym (ap datum_of c.in-Int.is)) (c.of_int.ensures.found c.args.version)
+survey-returns-in-Int-clause-found t c = subst (λ x. Describes c.args.version x c.of_int.result) (sym (ap datum_of c.in-Int.is))
+    (c.of_int.ensures.found c.args.version)
 
 pub survey-returns-in-Simple-clause-found : goal.survey-returns-in-Simple-clause-found
-survey-returns-in-Simple-clause-found t c = subst (λ x. Describes c.args.version x c.of_line.result) (ap (λ s. d.scalar (d.Simple s)) c.text.ensures.text ∙ sym (ap datum_of c.in-Simple.is)) (c.of_line.ensures.simple c.args.version)
+survey-returns-in-Simple-clause-found t c = subst (λ x. Describes c.args.version x c.of_line.result) (ap (λ s. d.scalar (d.Simple s)) c.text.ensures.text ∙
+    sym (ap datum_of c.in-Simple.is)) (c.of_line.ensures.simple c.args.version)
 
 pub survey-returns-in-Error-clause-found : goal.survey-returns-in-Error-clause-found
-survey-returns-in-Error-clause-found t c = subst (λ x. Describes c.args.version x c.of_line-in-Error.result) (ap (λ s. d.scalar (d.Error s)) c.text-in-Error.ensures.text ∙ sym (ap datum_of c.in-Error.is)) (c.of_line-in-Error.ensures.error c.args.version)
+survey-returns-in-Error-clause-found t c = subst (λ x. Describes c.args.version x c.of_line-in-Error.result)
+    (ap (λ s. d.scalar (d.Error s)) c.text-in-Error.ensures.text ∙ sym (ap datum_of c.in-Error.is)) (c.of_line-in-Error.ensures.error c.args.version)
 
 pub survey-returns-in-Bulk-clause-found : goal.survey-returns-in-Bulk-clause-found
-survey-returns-in-Bulk-clause-found t c = subst (λ x. Describes c.args.version x c.of_bulk.result) (ap (λ s. d.scalar (d.Bulk s)) c.list.ensures ∙ sym (ap datum_of c.in-Bulk.is)) (c.of_bulk.ensures.found c.args.version)
+survey-returns-in-Bulk-clause-found t c = subst (λ x. Describes c.args.version x c.of_bulk.result) (ap (λ s. d.scalar (d.Bulk s)) c.list.ensures ∙
+    sym (ap datum_of c.in-Bulk.is)) (c.of_bulk.ensures.found c.args.version)
 
 pub survey-returns-in-BulkError-clause-found : goal.survey-returns-in-BulkError-clause-found
-survey-returns-in-BulkError-clause-found t c = subst (λ x. Describes c.args.version x c.of_bulk_error.result) (ap (λ s. d.scalar (d.BulkError s)) c.list-in-BulkError.ensures ∙ sym (ap datum_of c.in-BulkError.is)) (c.of_bulk_error.ensures.found c.args.version)
+survey-returns-in-BulkError-clause-found t c = subst (λ x. Describes c.args.version x c.of_bulk_error.result)
+    (ap (λ s. d.scalar (d.BulkError s)) c.list-in-BulkError.ensures ∙ sym (ap datum_of c.in-BulkError.is)) (c.of_bulk_error.ensures.found c.args.version)
 
 pub survey-returns-in-Verbatim-clause-found : goal.survey-returns-in-Verbatim-clause-found
-survey-returns-in-Verbatim-clause-found t c = subst (λ x. Describes c.args.version x c.of_verbatim.result) (ap (λ s. d.scalar (d.Verbatim c.in-Verbatim.format s)) c.list-in-Verbatim.ensures ∙ sym (ap datum_of c.in-Verbatim.is)) (c.of_verbatim.ensures.found c.args.version)
+survey-returns-in-Verbatim-clause-found t c = subst (λ x. Describes c.args.version x c.of_verbatim.result)
+    (ap (λ s. d.scalar (d.Verbatim c.in-Verbatim.format s)) c.list-in-Verbatim.ensures ∙ sym (ap datum_of c.in-Verbatim.is))
+    (c.of_verbatim.ensures.found c.args.version)
 
 pub survey-returns-in-Big-clause-found : goal.survey-returns-in-Big-clause-found
-survey-returns-in-Big-clause-found t c = subst (λ x. Describes c.args.version x c.of_big.result) (ap (λ b. d.scalar (d.Big b c.digits.result.now)) c.is_negative.ensures ∙ ap (λ s. d.scalar (d.Big (is_negative c.in-Big.digits) s)) c.digits.ensures.digits ∙ sym (ap datum_of c.in-Big.is)) (c.of_big.ensures c.args.version)
+survey-returns-in-Big-clause-found t c = subst (λ x. Describes c.args.version x c.of_big.result)
+    (ap (λ b. d.scalar (d.Big b c.digits.result.now)) c.is_negative.ensures ∙
+    ap (λ s. d.scalar (d.Big (is_negative c.in-Big.digits) s)) c.digits.ensures.digits ∙ sym (ap datum_of c.in-Big.is)) (c.of_big.ensures c.args.version)
 
 pub survey-returns-in-Array-clause-found : goal.survey-returns-in-Array-clause-found
-survey-returns-in-Array-clause-found t c = subst (λ x. Describes c.args.version x c.survey_group.result) (ap (λ xs. aggregate d.Array (data_of_list (map datum_of xs))) c.list-in-Array.ensures ∙ sym (ap datum_of c.in-Array.is ∙ datum_of-Array c.in-Array.members)) c.survey_group.ensures.found
+survey-returns-in-Array-clause-found t c = subst (λ x. Describes c.args.version x c.survey_group.result)
+    (ap (λ xs. aggregate d.Array (data_of_list (map datum_of xs))) c.list-in-Array.ensures ∙
+    sym (ap datum_of c.in-Array.is ∙ datum_of-Array c.in-Array.members)) c.survey_group.ensures.found
 
 pub survey-returns-in-Array-clause-is_value : goal.survey-returns-in-Array-clause-is_value
-survey-returns-in-Array-clause-is_value t c = subst IsValue (ap (λ xs. aggregate d.Array (data_of_list (map datum_of xs))) c.list-in-Array.ensures ∙ sym (ap datum_of c.in-Array.is ∙ datum_of-Array c.in-Array.members)) (tt, c.survey_group.ensures.are_values)
+survey-returns-in-Array-clause-is_value t c = subst IsValue (ap (λ xs. aggregate d.Array (data_of_list (map datum_of xs))) c.list-in-Array.ensures ∙
+    sym (ap datum_of c.in-Array.is ∙ datum_of-Array c.in-Array.members)) (tt, c.survey_group.ensures.are_values)
 
 pub survey-returns-in-Set-clause-found : goal.survey-returns-in-Set-clause-found
-survey-returns-in-Set-clause-found t c = subst (λ x. Describes c.args.version x c.survey_group-in-Set.result) (ap (λ xs. aggregate d.Set (data_of_list (map datum_of xs))) c.list-in-Set.ensures ∙ sym (ap datum_of c.in-Set.is ∙ datum_of-Set c.in-Set.members)) c.survey_group-in-Set.ensures.found
+survey-returns-in-Set-clause-found t c = subst (λ x. Describes c.args.version x c.survey_group-in-Set.result)
+    (ap (λ xs. aggregate d.Set (data_of_list (map datum_of xs))) c.list-in-Set.ensures ∙ sym (ap datum_of c.in-Set.is ∙ datum_of-Set c.in-Set.members))
+    c.survey_group-in-Set.ensures.found
 
 pub survey-returns-in-Set-clause-is_value : goal.survey-returns-in-Set-clause-is_value
-survey-returns-in-Set-clause-is_value t c = subst IsValue (ap (λ xs. aggregate d.Set (data_of_list (map datum_of xs))) c.list-in-Set.ensures ∙ sym (ap datum_of c.in-Set.is ∙ datum_of-Set c.in-Set.members)) (tt, c.survey_group-in-Set.ensures.are_values)
+survey-returns-in-Set-clause-is_value t c = subst IsValue (ap (λ xs. aggregate d.Set (data_of_list (map datum_of xs))) c.list-in-Set.ensures ∙
+    sym (ap datum_of c.in-Set.is ∙ datum_of-Set c.in-Set.members)) (tt, c.survey_group-in-Set.ensures.are_values)
 
 pub survey-returns-in-Push-clause-found : goal.survey-returns-in-Push-clause-found
-survey-returns-in-Push-clause-found t c = subst (λ x. Describes c.args.version x c.survey_group-in-Push.result) (ap (λ xs. aggregate d.Push (data_of_list (map datum_of xs))) c.list-in-Push.ensures ∙ sym (ap datum_of c.in-Push.is ∙ datum_of-Push c.in-Push.members)) c.survey_group-in-Push.ensures.found
+survey-returns-in-Push-clause-found t c = subst (λ x. Describes c.args.version x c.survey_group-in-Push.result)
+    (ap (λ xs. aggregate d.Push (data_of_list (map datum_of xs))) c.list-in-Push.ensures ∙ sym (ap datum_of c.in-Push.is ∙ datum_of-Push c.in-Push.members))
+    c.survey_group-in-Push.ensures.found
 
 pub survey-returns-in-Push-clause-is_value : goal.survey-returns-in-Push-clause-is_value
-survey-returns-in-Push-clause-is_value t c = subst IsValue (ap (λ xs. aggregate d.Push (data_of_list (map datum_of xs))) c.list-in-Push.ensures ∙ sym (ap datum_of c.in-Push.is ∙ datum_of-Push c.in-Push.members)) (tt, c.survey_group-in-Push.ensures.are_values)
+survey-returns-in-Push-clause-is_value t c = subst IsValue (ap (λ xs. aggregate d.Push (data_of_list (map datum_of xs))) c.list-in-Push.ensures ∙
+    sym (ap datum_of c.in-Push.is ∙ datum_of-Push c.in-Push.members)) (tt, c.survey_group-in-Push.ensures.are_values)
 
 pub survey-returns-in-Map-clause-found : goal.survey-returns-in-Map-clause-found
-survey-returns-in-Map-clause-found t c = subst (λ x. Describes c.args.version x c.survey_map.result) (map_data c.list-in-Map.ensures ∙ sym (ap datum_of c.in-Map.is ∙ datum_of-Map c.in-Map.pairs)) c.survey_map.ensures.found
+survey-returns-in-Map-clause-found t c = subst (λ x. Describes c.args.version x c.survey_map.result) (map_data c.list-in-Map.ensures ∙
+    sym (ap datum_of c.in-Map.is ∙ datum_of-Map c.in-Map.pairs)) c.survey_map.ensures.found
 
 pub survey-returns-in-Map-clause-is_value : goal.survey-returns-in-Map-clause-is_value
-survey-returns-in-Map-clause-is_value t c = subst IsValue (map_data c.list-in-Map.ensures ∙ sym (ap datum_of c.in-Map.is ∙ datum_of-Map c.in-Map.pairs)) c.survey_map.ensures.is_value
+survey-returns-in-Map-clause-is_value t c = subst IsValue (map_data c.list-in-Map.ensures ∙ sym (ap datum_of c.in-Map.is ∙ datum_of-Map c.in-Map.pairs))
+    c.survey_map.ensures.is_value
 
 pub survey-returns-in-Attr-clause-found : goal.survey-returns-in-Attr-clause-found
-survey-returns-in-Attr-clause-found t c = subst (λ x. Describes c.args.version x c.survey_attr.result) (attr_data c.list-in-Attr.ensures c.deref.ensures ∙ sym (ap datum_of c.in-Attr.is ∙ datum_of-Attr c.in-Attr.pairs c.in-Attr.annotated)) (c.survey_attr.ensures.found (datum_of c.deref.result.now) c.survey_annotated-under.ensures.found)
+survey-returns-in-Attr-clause-found t c = subst (λ x. Describes c.args.version x c.survey_attr.result) (attr_data c.list-in-Attr.ensures c.deref.ensures ∙
+    sym (ap datum_of c.in-Attr.is ∙ datum_of-Attr c.in-Attr.pairs c.in-Attr.annotated))
+    (c.survey_attr.ensures.found (datum_of c.deref.result.now) c.survey_annotated-under.ensures.found)
 
 pub survey-returns-in-Attr-clause-is_value : goal.survey-returns-in-Attr-clause-is_value
 survey-returns-in-Attr-clause-is_value t c =
@@ -89,11 +115,13 @@ pub survey_attr-returns-clause-found : goal.survey_attr-returns-clause-found
 survey_attr-returns-clause-found t c = λ x under.
     let pairs = c.args.pairs.now in
     let front = in_turn (map pair_data pairs) in
-    let each = subst (λ xs. DescribesEach c.args.version xs c.with-found.result) (sym (data_of_list-push front x)) (c.with-found.ensures c.args.version (data_of_list front) x c.survey_pairs.ensures.found under) in
+    let each = subst (λ xs. DescribesEach c.args.version xs c.with-found.result) (sym (data_of_list-push front x))
+    (c.with-found.ensures c.args.version (data_of_list front) x c.survey_pairs.ensures.found under) in
     c.inside.ensures c.args.version (data_of_list (front ++ x ∷ [])) each (sym (count-annotated pair_data pairs x))
 
 pub survey_group-returns-clause-found : goal.survey_group-returns-clause-found
-survey_group-returns-clause-found t c = c.inside.ensures c.args.version _ c.survey_members.ensures.found (sym (count-map datum_of c.args.members.now) ∙ sym (c.requires _))
+survey_group-returns-clause-found t c = c.inside.ensures c.args.version _ c.survey_members.ensures.found (sym (count-map datum_of c.args.members.now) ∙
+    sym (c.requires _))
 
 pub survey_members-loop-member-init : goal.survey_members-loop-member-init
 survey_members-loop-member-init t c = record { found = c.nothing-found.ensures c.args.version; are_values = tt }
@@ -106,7 +134,8 @@ survey_members-loop-member-preserved t c =
     let item = ap datum_of c.member-item.is in
     record {
       found = subst (λ xs. DescribesEach c.args.version xs c.with-found.result) (sym one_more)
-          (c.with-found.ensures c.args.version front _ c.loop-member.invariant.found (subst (λ x. Describes c.args.version x c.survey.result) item c.survey.ensures.found));
+          (c.with-found.ensures c.args.version front _ c.loop-member.invariant.found
+          (subst (λ x. Describes c.args.version x c.survey.result) item c.survey.ensures.found));
       are_values = subst AreValues (sym one_more) (values_with front _ c.loop-member.invariant.are_values (subst IsValue item c.survey.ensures.is_value));
     }
 
@@ -126,11 +155,14 @@ survey_pairs-loop-pair-preserved t c =
     let i = c.loop-pair.pair-index in
     let front = data_of_list (in_turn (map pair_data (take i c.args.pairs.now))) in
     let key = datum_of c.pair-item.result.0 in
-    let one_more = pairs-take_more pair_data c.args.pairs.now i c.pair-item.result c.loop-pair-test.true ∙ ap (λ pair. extended (extended front (pair_data pair).0) (pair_data pair).1) (sym c.pair-item.is) in
+    let one_more = pairs-take_more pair_data c.args.pairs.now i c.pair-item.result c.loop-pair-test.true ∙
+    ap (λ pair. extended (extended front (pair_data pair).0) (pair_data pair).1) (sym c.pair-item.is) in
     record {
       found = subst (λ xs. DescribesEach c.args.version xs c.with-found-in-loop-pair.result) (sym one_more)
-          (c.with-found-in-loop-pair.ensures c.args.version (extended front key) _ (c.with-found.ensures c.args.version front key c.loop-pair.invariant.found c.survey.ensures.found) c.survey-in-loop-pair.ensures.found);
-      are_values = subst AreValues (sym one_more) (values_with (extended front key) _ (values_with front key c.loop-pair.invariant.are_values c.survey.ensures.is_value) c.survey-in-loop-pair.ensures.is_value);
+          (c.with-found-in-loop-pair.ensures c.args.version (extended front key) _
+          (c.with-found.ensures c.args.version front key c.loop-pair.invariant.found c.survey.ensures.found) c.survey-in-loop-pair.ensures.found);
+      are_values = subst AreValues (sym one_more) (values_with (extended front key) _
+          (values_with front key c.loop-pair.invariant.are_values c.survey.ensures.is_value) c.survey-in-loop-pair.ensures.is_value);
     }
 
 pub survey_pairs-returns : goal.survey_pairs-returns

@@ -51,15 +51,18 @@ write_pairs-write_value-requires-in-loop-pair t c =
     let i = c.loop-pair.pair-index in
     let room = pair_room c.args.version pair_data c.args.pairs.now i c.pair-item.result c.loop-pair-test.true in
     let key = ap (λ x. length (canonical_text c.args.version (datum_of x.0))) c.pair-item.is in
-    let item = ap (λ x. length (canonical_text c.args.version (datum_of x.1))) c.pair-item.is in
-    (omega (arith, room, key, item, c.loop-pair.invariant.spare, c.write_value.ensures.spare, c.requires), omega (arith, room, key, item, c.loop-pair.invariant.spare, c.write_value.ensures.spare, c.requires))
+    let item = ap (λ x. length (canonical_text c.args.version (datum_of x.1))) c.pair-item.is in (
+      omega (arith, room, key, item, c.loop-pair.invariant.spare, c.write_value.ensures.spare, c.requires),
+      omega (arith, room, key, item, c.loop-pair.invariant.spare, c.write_value.ensures.spare, c.requires),
+    )
 
 pub write_pairs-loop-pair-preserved : goal.write_pairs-loop-pair-preserved
 write_pairs-loop-pair-preserved t c =
     let i = c.loop-pair.pair-index in
     let front = data_of_list (in_turn (map pair_data (take i c.args.pairs.now))) in
     let pair = pair_data c.pair-item.result in
-    let one_more = pairs-take_more pair_data c.args.pairs.now i c.pair-item.result c.loop-pair-test.true ∙ ap (λ x. extended (extended front (pair_data x).0) (pair_data x).1) (sym c.pair-item.is) in
+    let one_more = pairs-take_more pair_data c.args.pairs.now i c.pair-item.result c.loop-pair-test.true ∙
+    ap (λ x. extended (extended front (pair_data x).0) (pair_data x).1) (sym c.pair-item.is) in
     subst (Fills c.args.out.now c.write_value-in-loop-pair.new.out)
     (sym (ap (λ xs. texts (canonical_trees c.args.version xs)) one_more
     ∙ texts-extended c.args.version (extended front pair.0) pair.1
@@ -73,60 +76,172 @@ write_pairs-returns t c =
 
 pub write_value-write_group-requires : goal.write_value-write_group-requires
 write_value-write_group-requires t c =
-    let xs = c.list-in-Array.result.now in
-    (omega (arith, c.requires, ap length (text_of-Array c.args.version c.args.value.now c.in-Array.members xs c.list-in-Array.ensures c.in-Array.is), length-head 42 (length xs) (texts (canonical_trees c.args.version (data_of_list (map datum_of xs))))), omega (arith, c.requires, ap length (text_of-Array c.args.version c.args.value.now c.in-Array.members xs c.list-in-Array.ensures c.in-Array.is), length-head 42 (length xs) (texts (canonical_trees c.args.version (data_of_list (map datum_of xs))))))
+    let xs = c.list-in-Array.result.now in (
+      omega (
+        arith,
+        c.requires,
+        ap length (text_of-Array c.args.version c.args.value.now c.in-Array.members xs c.list-in-Array.ensures c.in-Array.is),
+        length-head 42 (length xs) (texts (canonical_trees c.args.version (data_of_list (map datum_of xs)))),
+      ),
+      omega (
+        arith,
+        c.requires,
+        ap length (text_of-Array c.args.version c.args.value.now c.in-Array.members xs c.list-in-Array.ensures c.in-Array.is),
+        length-head 42 (length xs) (texts (canonical_trees c.args.version (data_of_list (map datum_of xs)))),
+      ),
+    )
 
 pub write_value-write_group-requires-in-Set : goal.write_value-write_group-requires-in-Set
 write_value-write_group-requires-in-Set t c =
-    let xs = c.list-in-Set.result.now in
-    (omega (arith, c.requires, ap length (text_of-Set c.args.version c.args.value.now c.in-Set.members xs c.list-in-Set.ensures c.in-Set.is), length-head 126 (length xs) (texts (canonical_trees c.args.version (data_of_list (map datum_of xs))))), omega (arith, c.requires, ap length (text_of-Set c.args.version c.args.value.now c.in-Set.members xs c.list-in-Set.ensures c.in-Set.is), length-head 126 (length xs) (texts (canonical_trees c.args.version (data_of_list (map datum_of xs))))))
+    let xs = c.list-in-Set.result.now in (
+      omega (
+        arith,
+        c.requires,
+        ap length (text_of-Set c.args.version c.args.value.now c.in-Set.members xs c.list-in-Set.ensures c.in-Set.is),
+        length-head 126 (length xs) (texts (canonical_trees c.args.version (data_of_list (map datum_of xs)))),
+      ),
+      omega (
+        arith,
+        c.requires,
+        ap length (text_of-Set c.args.version c.args.value.now c.in-Set.members xs c.list-in-Set.ensures c.in-Set.is),
+        length-head 126 (length xs) (texts (canonical_trees c.args.version (data_of_list (map datum_of xs)))),
+      ),
+    )
 
 pub write_value-write_group-requires-in-Push : goal.write_value-write_group-requires-in-Push
 write_value-write_group-requires-in-Push t c =
-    let xs = c.list-in-Push.result.now in
-    (omega (arith, c.requires, ap length (text_of-Push c.args.version c.args.value.now c.in-Push.members xs c.list-in-Push.ensures c.in-Push.is), length-head 62 (length xs) (texts (canonical_trees c.args.version (data_of_list (map datum_of xs))))), omega (arith, c.requires, ap length (text_of-Push c.args.version c.args.value.now c.in-Push.members xs c.list-in-Push.ensures c.in-Push.is), length-head 62 (length xs) (texts (canonical_trees c.args.version (data_of_list (map datum_of xs))))))
+    let xs = c.list-in-Push.result.now in (
+      omega (
+        arith,
+        c.requires,
+        ap length (text_of-Push c.args.version c.args.value.now c.in-Push.members xs c.list-in-Push.ensures c.in-Push.is),
+        length-head 62 (length xs) (texts (canonical_trees c.args.version (data_of_list (map datum_of xs)))),
+      ),
+      omega (
+        arith,
+        c.requires,
+        ap length (text_of-Push c.args.version c.args.value.now c.in-Push.members xs c.list-in-Push.ensures c.in-Push.is),
+        length-head 62 (length xs) (texts (canonical_trees c.args.version (data_of_list (map datum_of xs)))),
+      ),
+    )
 
 pub write_value-write_head-requires : goal.write_value-write_head-requires
 write_value-write_head-requires t c =
     let ps = c.list-pairs.result.now in
-    omega (arith, c.requires, ap length (text_of-Map c.args.version c.args.value.now c.in-Map.pairs ps c.list-pairs.ensures c.in-Map.is), length-head 37 (length ps) (pair_texts c.args.version ps))
+    omega (
+      arith,
+      c.requires,
+      ap length (text_of-Map c.args.version c.args.value.now c.in-Map.pairs ps c.list-pairs.ensures c.in-Map.is),
+      length-head 37 (length ps) (pair_texts c.args.version ps),
+    )
 
 pub write_value-write_pairs-requires : goal.write_value-write_pairs-requires
 write_value-write_pairs-requires t c =
-    let ps = c.list-pairs.result.now in
-    (omega (arith, c.requires, c.write_head.ensures.spare, length-head 37 (length ps) [], ap length (text_of-Map c.args.version c.args.value.now c.in-Map.pairs ps c.list-pairs.ensures c.in-Map.is), length-head 37 (length ps) (pair_texts c.args.version ps)), omega (arith, c.requires, c.write_head.ensures.spare, length-head 37 (length ps) [], ap length (text_of-Map c.args.version c.args.value.now c.in-Map.pairs ps c.list-pairs.ensures c.in-Map.is), length-head 37 (length ps) (pair_texts c.args.version ps)))
+    let ps = c.list-pairs.result.now in (
+      omega (
+        arith,
+        c.requires,
+        c.write_head.ensures.spare,
+        length-head 37 (length ps) [],
+        ap length (text_of-Map c.args.version c.args.value.now c.in-Map.pairs ps c.list-pairs.ensures c.in-Map.is),
+        length-head 37 (length ps) (pair_texts c.args.version ps),
+      ),
+      omega (
+        arith,
+        c.requires,
+        c.write_head.ensures.spare,
+        length-head 37 (length ps) [],
+        ap length (text_of-Map c.args.version c.args.value.now c.in-Map.pairs ps c.list-pairs.ensures c.in-Map.is),
+        length-head 37 (length ps) (pair_texts c.args.version ps),
+      ),
+    )
 
 pub write_value-write_head-requires-in-Attr : goal.write_value-write_head-requires-in-Attr
 write_value-write_head-requires-in-Attr t c =
     let ps = c.list-pairs-in-Attr.result.now in
-    omega (arith, c.requires, ap length (text_of-Attr c.args.version c.args.value.now c.in-Attr.pairs c.in-Attr.annotated ps c.in-Attr.annotated.value c.list-pairs-in-Attr.ensures refl c.in-Attr.is), length-head 124 (length ps) (pair_texts c.args.version ps ++ canonical_text c.args.version (datum_of c.in-Attr.annotated.value)))
+    omega (
+      arith,
+      c.requires,
+      ap length (text_of-Attr c.args.version c.args.value.now c.in-Attr.pairs c.in-Attr.annotated ps c.in-Attr.annotated.value
+          c.list-pairs-in-Attr.ensures refl c.in-Attr.is),
+      length-head 124 (length ps) (pair_texts c.args.version ps ++
+          canonical_text c.args.version (datum_of c.in-Attr.annotated.value)),
+    )
 
 pub write_value-write_pairs-requires-in-Attr : goal.write_value-write_pairs-requires-in-Attr
 write_value-write_pairs-requires-in-Attr t c =
     let ps = c.list-pairs-in-Attr.result.now in
-    let under = canonical_text c.args.version (datum_of c.in-Attr.annotated.value) in
-    (omega (arith, c.requires, c.write_head-in-Attr.ensures.spare, length-head 124 (length ps) [], ap length (text_of-Attr c.args.version c.args.value.now c.in-Attr.pairs c.in-Attr.annotated ps c.in-Attr.annotated.value c.list-pairs-in-Attr.ensures refl c.in-Attr.is), length-head 124 (length ps) (pair_texts c.args.version ps ++ under), length-append (pair_texts c.args.version ps) under), omega (arith, c.requires, c.write_head-in-Attr.ensures.spare, length-head 124 (length ps) [], ap length (text_of-Attr c.args.version c.args.value.now c.in-Attr.pairs c.in-Attr.annotated ps c.in-Attr.annotated.value c.list-pairs-in-Attr.ensures refl c.in-Attr.is), length-head 124 (length ps) (pair_texts c.args.version ps ++ under), length-append (pair_texts c.args.version ps) under))
+    let under = canonical_text c.args.version (datum_of c.in-Attr.annotated.value) in (
+      omega (
+        arith,
+        c.requires,
+        c.write_head-in-Attr.ensures.spare,
+        length-head 124 (length ps) [],
+        ap length (text_of-Attr c.args.version c.args.value.now c.in-Attr.pairs c.in-Attr.annotated ps c.in-Attr.annotated.value c.list-pairs-in-Attr.ensures
+            refl c.in-Attr.is),
+        length-head 124 (length ps) (pair_texts c.args.version ps ++ under),
+        length-append (pair_texts c.args.version ps) under,
+      ),
+      omega (
+        arith,
+        c.requires,
+        c.write_head-in-Attr.ensures.spare,
+        length-head 124 (length ps) [],
+        ap length (text_of-Attr c.args.version c.args.value.now c.in-Attr.pairs c.in-Attr.annotated ps c.in-Attr.annotated.value c.list-pairs-in-Attr.ensures
+            refl c.in-Attr.is),
+        length-head 124 (length ps) (pair_texts c.args.version ps ++ under),
+        length-append (pair_texts c.args.version ps) under,
+      ),
+    )
 
 pub write_value-write_annotated-requires : goal.write_value-write_annotated-requires
 write_value-write_annotated-requires t c =
     let ps = c.list-pairs-in-Attr.result.now in
-    let under = canonical_text c.args.version (datum_of c.deref.result.now) in
-    (omega (arith, c.requires, c.write_head-in-Attr.ensures.spare, c.write_pairs-in-Attr.ensures.spare, length-head 124 (length ps) [], ap length (text_of-Attr c.args.version c.args.value.now c.in-Attr.pairs c.in-Attr.annotated ps c.deref.result.now c.list-pairs-in-Attr.ensures c.deref.ensures c.in-Attr.is), length-head 124 (length ps) (pair_texts c.args.version ps ++ under), length-append (pair_texts c.args.version ps) under), omega (arith, c.requires, c.write_head-in-Attr.ensures.spare, c.write_pairs-in-Attr.ensures.spare, length-head 124 (length ps) [], ap length (text_of-Attr c.args.version c.args.value.now c.in-Attr.pairs c.in-Attr.annotated ps c.deref.result.now c.list-pairs-in-Attr.ensures c.deref.ensures c.in-Attr.is), length-head 124 (length ps) (pair_texts c.args.version ps ++ under), length-append (pair_texts c.args.version ps) under))
+    let under = canonical_text c.args.version (datum_of c.deref.result.now) in (
+      omega (
+        arith,
+        c.requires,
+        c.write_head-in-Attr.ensures.spare,
+        c.write_pairs-in-Attr.ensures.spare,
+        length-head 124 (length ps) [],
+        ap length (text_of-Attr c.args.version c.args.value.now c.in-Attr.pairs c.in-Attr.annotated ps c.deref.result.now c.list-pairs-in-Attr.ensures
+            c.deref.ensures c.in-Attr.is),
+        length-head 124 (length ps) (pair_texts c.args.version ps ++ under),
+        length-append (pair_texts c.args.version ps) under,
+      ),
+      omega (
+        arith,
+        c.requires,
+        c.write_head-in-Attr.ensures.spare,
+        c.write_pairs-in-Attr.ensures.spare,
+        length-head 124 (length ps) [],
+        ap length (text_of-Attr c.args.version c.args.value.now c.in-Attr.pairs c.in-Attr.annotated ps c.deref.result.now c.list-pairs-in-Attr.ensures
+            c.deref.ensures c.in-Attr.is),
+        length-head 124 (length ps) (pair_texts c.args.version ps ++ under),
+        length-append (pair_texts c.args.version ps) under,
+      ),
+    )
 
 pub write_value-returns-in-Array : goal.write_value-returns-in-Array
-write_value-returns-in-Array t c = subst (Fills c.args.out.now c.write_group.new.out) (sym (text_of-Array c.args.version c.args.value.now c.in-Array.members c.list-in-Array.result.now c.list-in-Array.ensures c.in-Array.is)) c.write_group.ensures
+write_value-returns-in-Array t c = subst (Fills c.args.out.now c.write_group.new.out)
+    (sym (text_of-Array c.args.version c.args.value.now c.in-Array.members c.list-in-Array.result.now c.list-in-Array.ensures c.in-Array.is))
+    c.write_group.ensures
 
 pub write_value-returns-in-Set : goal.write_value-returns-in-Set
-write_value-returns-in-Set t c = subst (Fills c.args.out.now c.write_group-in-Set.new.out) (sym (text_of-Set c.args.version c.args.value.now c.in-Set.members c.list-in-Set.result.now c.list-in-Set.ensures c.in-Set.is)) c.write_group-in-Set.ensures
+write_value-returns-in-Set t c = subst (Fills c.args.out.now c.write_group-in-Set.new.out)
+    (sym (text_of-Set c.args.version c.args.value.now c.in-Set.members c.list-in-Set.result.now c.list-in-Set.ensures c.in-Set.is)) c.write_group-in-Set.ensures
 
 pub write_value-returns-in-Push : goal.write_value-returns-in-Push
-write_value-returns-in-Push t c = subst (Fills c.args.out.now c.write_group-in-Push.new.out) (sym (text_of-Push c.args.version c.args.value.now c.in-Push.members c.list-in-Push.result.now c.list-in-Push.ensures c.in-Push.is)) c.write_group-in-Push.ensures
+write_value-returns-in-Push t c = subst (Fills c.args.out.now c.write_group-in-Push.new.out)
+    (sym (text_of-Push c.args.version c.args.value.now c.in-Push.members c.list-in-Push.result.now c.list-in-Push.ensures c.in-Push.is))
+    c.write_group-in-Push.ensures
 
 pub write_value-returns-in-Map : goal.write_value-returns-in-Map
 write_value-returns-in-Map t c =
     let ps = c.list-pairs.result.now in
     subst (Fills c.args.out.now c.write_pairs.new.out)
-    (head_split 37 (length ps) (pair_texts c.args.version ps) ∙ sym (text_of-Map c.args.version c.args.value.now c.in-Map.pairs ps c.list-pairs.ensures c.in-Map.is))
+    (head_split 37 (length ps) (pair_texts c.args.version ps) ∙ sym
+    (text_of-Map c.args.version c.args.value.now c.in-Map.pairs ps c.list-pairs.ensures c.in-Map.is))
     (Writes-append c.write_head.ensures c.write_pairs.ensures)
 
 pub write_value-returns-in-Attr : goal.write_value-returns-in-Attr
@@ -134,5 +249,7 @@ write_value-returns-in-Attr t c =
     let ps = c.list-pairs-in-Attr.result.now in
     let under = canonical_text c.args.version (datum_of c.deref.result.now) in
     subst (Fills c.args.out.now c.write_annotated.new.out)
-    (head_split 124 (length ps) (pair_texts c.args.version ps ++ under) ∙ sym (text_of-Attr c.args.version c.args.value.now c.in-Attr.pairs c.in-Attr.annotated ps c.deref.result.now c.list-pairs-in-Attr.ensures c.deref.ensures c.in-Attr.is))
+    (head_split 124 (length ps) (pair_texts c.args.version ps ++ under) ∙
+    sym (text_of-Attr c.args.version c.args.value.now c.in-Attr.pairs c.in-Attr.annotated ps c.deref.result.now c.list-pairs-in-Attr.ensures c.deref.ensures
+    c.in-Attr.is))
     (Writes-append c.write_head-in-Attr.ensures (Writes-append c.write_pairs-in-Attr.ensures c.write_annotated.ensures))

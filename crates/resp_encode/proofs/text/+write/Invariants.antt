@@ -7,10 +7,12 @@ use Rattle.resp_encode.specs.Writings.{Fills}
 use Rattle.resp_encode.proofs.text.+write.Given as goal
 
 abbrev pub invariant-write_members-loop-member : goal.invariant-write_members-loop-member
-invariant-write_members-loop-member l = Fills l.initial.out l.out (texts (canonical_trees l.version (data_of_list (map datum_of (take l.member-index l.members)))))
+invariant-write_members-loop-member l = Fills l.initial.out l.out
+    (texts (canonical_trees l.version (data_of_list (map datum_of (take l.member-index l.members)))))
 
 abbrev pub invariant-write_pairs-loop-pair : goal.invariant-write_pairs-loop-pair
-invariant-write_pairs-loop-pair l = Fills l.initial.out l.out (texts (canonical_trees l.version (data_of_list (in_turn (map pair_data (take l.pair-index l.pairs))))))
+invariant-write_pairs-loop-pair l = Fills l.initial.out l.out (texts
+    (canonical_trees l.version (data_of_list (in_turn (map pair_data (take l.pair-index l.pairs))))))
 
 -- each call has less text to write, or the same text in a narrower role
 abbrev pub decreases-write_value : goal.decreases-write_value

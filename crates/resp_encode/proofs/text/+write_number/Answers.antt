@@ -23,4 +23,5 @@ returns-else-number-lt10000 t c =
     let n = c.args.number in
     let digits = c.four_digits-thousands.ensures in
     let last = Writes-bytes c.extend_reserved.ensures.items c.extend_reserved.ensures.spare (four digits.thousands digits.hundreds digits.tens digits.ones) in
-    subst (Fills c.args.out.now c.extend_reserved.new.self) (ap (λ digits. c.args.byte ∷ digits) (sym (decimal-four_more n c.if-number-lt10000.false (omega arith)))) (Writes-append c.write_number.ensures last)
+    subst (Fills c.args.out.now c.extend_reserved.new.self) (ap (λ digits. c.args.byte ∷ digits)
+    (sym (decimal-four_more n c.if-number-lt10000.false (omega arith)))) (Writes-append c.write_number.ensures last)

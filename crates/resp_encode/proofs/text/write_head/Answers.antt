@@ -8,7 +8,8 @@ pub extend_reserved-requires-then-number-lt100 : goal.extend_reserved-requires-t
 extend_reserved-requires-then-number-lt100 c = omega (arith, c.requires, length-decimal-two c.args.number (omega arith) (omega arith))
 
 pub returns-then-number-lt10 : goal.returns-then-number-lt10
-returns-then-number-lt10 c = Writes-bytes c.extend_reserved.ensures.items c.extend_reserved.ensures.spare (ap (λ digits. c.args.byte ∷ digits ++ crlf []) (sym (decimal-one c.args.number (omega arith))))
+returns-then-number-lt10 c = Writes-bytes c.extend_reserved.ensures.items c.extend_reserved.ensures.spare
+    (ap (λ digits. c.args.byte ∷ digits ++ crlf []) (sym (decimal-one c.args.number (omega arith))))
 
 pub returns-then-number-lt100 : goal.returns-then-number-lt100
 returns-then-number-lt100 c =

@@ -26,4 +26,5 @@ returns c =
     let digits = c.four_digits-thousands.ensures in
     let last = Writes-bytes c.extend_reserved.ensures.items c.extend_reserved.ensures.spare (four digits.thousands digits.hundreds digits.tens digits.ones) in
     subst (Fills c.args.out.now c.extend_reserved.new.self)
-    (ap (λ digits. c.args.byte ∷ digits) (sym (append_assoc (decimal (n / 10000)) _ (crlf [])) ∙ ap (λ digits. digits ++ crlf []) (sym (decimal-four_more n c.requires.long (omega arith))))) (Writes-append c.write_front.ensures last)
+    (ap (λ digits. c.args.byte ∷ digits) (sym (append_assoc (decimal (n / 10000)) _ (crlf [])) ∙
+    ap (λ digits. digits ++ crlf []) (sym (decimal-four_more n c.requires.long (omega arith))))) (Writes-append c.write_front.ensures last)

@@ -14,9 +14,15 @@ pub write_group-requires : goal.write_group-requires
 write_group-requires c =
     let items = c.args.items.now in
     let xs = data_of_list (map datum_of items) in
-    omega (arith, c.requires, ap length (aggregate_text Three d.Push xs (length items) (count-map datum_of items)), length-head 62 (length items) (texts (canonical_trees Three xs)))
+    omega (
+      arith,
+      c.requires,
+      ap length (aggregate_text Three d.Push xs (length items) (count-map datum_of items)),
+      length-head 62 (length items) (texts (canonical_trees Three xs)),
+    )
 
 pub returns : goal.returns
 returns c =
     let items = c.args.items.now in
-    subst (Fills c.args.out.now c.write_group.new.out) (sym (aggregate_text Three d.Push (data_of_list (map datum_of items)) (length items) (count-map datum_of items))) c.write_group.ensures
+    subst (Fills c.args.out.now c.write_group.new.out) (sym (aggregate_text Three d.Push (data_of_list (map datum_of items)) (length items)
+    (count-map datum_of items))) c.write_group.ensures

@@ -9,7 +9,8 @@ use Rattle.resp_encode.proofs.words.judge_words.Goals.{After-inside-found}
 
 -- what was found describes the command
 described : (c : After-inside-found) → Describes Two (command_of (texts_of c.args.words.now)) c.inside-found.result
-described c = c.inside-found.ensures Two (data_of_list (map word_datum (texts_of c.args.words.now))) c.survey_words.ensures.found (sym (count-words c.args.words.now))
+described c = c.inside-found.ensures Two (data_of_list (map word_datum (texts_of c.args.words.now))) c.survey_words.ensures.found
+    (sym (count-words c.args.words.now))
 
 pub returns-clause-fault : goal.returns-clause-fault
 returns-clause-fault c = c.judge.ensures.fault _ (described (goal.at.returns-clause-fault c).After-inside-found)
@@ -18,4 +19,5 @@ pub returns-clause-fits : goal.returns-clause-fits
 returns-clause-fits c = c.judge.ensures.fits _ (described (goal.at.returns-clause-fits c).After-inside-found)
 
 pub returns-clause-spelling : goal.returns-clause-spelling
-returns-clause-spelling c = c.judge.ensures.spelling _ (described (goal.at.returns-clause-spelling c).After-inside-found) (tt, c.survey_words.ensures.are_values)
+returns-clause-spelling c = c.judge.ensures.spelling _ (described (goal.at.returns-clause-spelling c).After-inside-found)
+    (tt, c.survey_words.ensures.are_values)

@@ -19,13 +19,15 @@ loop-word-preserved c =
     let word = word_datum c.as_slice.result.now in
     let one_more = word_take_more c.args.words.now i c.word-item.result c.loop-word-test.true (c.as_slice.ensures.value ∙ ap (λ w. w.items) c.word-item.is) in
     record {
-      found = subst (λ xs. DescribesEach Two xs c.with-found.result) (sym one_more) (c.with-found.ensures Two front word c.loop-word.invariant.found (c.of_bulk.ensures.found Two));
+      found = subst (λ xs. DescribesEach Two xs c.with-found.result) (sym one_more)
+          (c.with-found.ensures Two front word c.loop-word.invariant.found (c.of_bulk.ensures.found Two));
       are_values = subst AreValues (sym one_more) (values_with front word c.loop-word.invariant.are_values c.of_bulk.ensures.is_text);
     }
 
 pub returns : goal.returns
 returns c =
-    let whole = ap (λ xs. data_of_list (map word_datum xs)) (take_all c.loop-word.word-index (texts_of c.args.words.now) (omega (arith, length-map c.args.words.now (λ word. word.items), c.loop-word-test.false))) in
+    let whole = ap (λ xs. data_of_list (map word_datum xs)) (take_all c.loop-word.word-index (texts_of c.args.words.now)
+    (omega (arith, length-map c.args.words.now (λ word. word.items), c.loop-word-test.false))) in
     record {
       found = subst (λ xs. DescribesEach Two xs c.loop-word.found) whole c.loop-word.invariant.found;
       are_values = subst AreValues whole c.loop-word.invariant.are_values;

@@ -14,13 +14,25 @@ pub write_head-requires : goal.write_head-requires
 write_head-requires c =
     let words = c.args.words.now in
     let xs = data_of_list (map word_datum (texts_of words)) in
-    omega (arith, c.requires, ap length (aggregate_text Two d.Array xs (length words) (count-words words)), length-head 42 (length words) (texts (canonical_trees Two xs)))
+    omega (
+      arith,
+      c.requires,
+      ap length (aggregate_text Two d.Array xs (length words) (count-words words)),
+      length-head 42 (length words) (texts (canonical_trees Two xs)),
+    )
 
 pub write_each-requires : goal.write_each-requires
 write_each-requires c =
     let words = c.args.words.now in
     let xs = data_of_list (map word_datum (texts_of words)) in
-    omega (arith, c.requires, c.write_head.ensures.spare, length-head 42 (length words) [], ap length (aggregate_text Two d.Array xs (length words) (count-words words)), length-head 42 (length words) (texts (canonical_trees Two xs)))
+    omega (
+      arith,
+      c.requires,
+      c.write_head.ensures.spare,
+      length-head 42 (length words) [],
+      ap length (aggregate_text Two d.Array xs (length words) (count-words words)),
+      length-head 42 (length words) (texts (canonical_trees Two xs)),
+    )
 
 pub returns : goal.returns
 returns c =

@@ -1,4 +1,4 @@
-use Rattle.resp_fronts.proofs.FrontLaws.{compose}
+use Rattle.resp_fronts.proofs.FrameLaws.FrontLaws.{compose}
 use Rattle.resp_fronts.proofs.laws.compose.Goals as goal
 
 pub returns : goal.returns

@@ -1,4 +1,4 @@
-use Rattle.resp_fronts.proofs.FrontLaws.{determine}
+use Rattle.resp_fronts.proofs.FrameLaws.FrontLaws.{determine}
 use Rattle.resp_fronts.proofs.laws.determine.Goals as goal
 
 pub returns : goal.returns

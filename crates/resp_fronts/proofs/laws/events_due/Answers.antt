@@ -1,4 +1,4 @@
-use Rattle.resp_fronts.proofs.MoreFrontLaws.{events_due_split}
+use Rattle.resp_fronts.proofs.FrameLaws.MoreFrontLaws.{events_due_split}
 use Rattle.resp_fronts.proofs.laws.events_due.Goals as goal
 
 pub returns : goal.returns

@@ -1,4 +1,4 @@
-use Rattle.resp_fronts.proofs.MoreFrontLaws.{first_byte}
+use Rattle.resp_fronts.proofs.FrameLaws.MoreFrontLaws.{first_byte}
 use Rattle.resp_fronts.proofs.laws.first_byte.Goals as goal
 
 pub returns : goal.returns

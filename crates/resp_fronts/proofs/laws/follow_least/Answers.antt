@@ -1,4 +1,4 @@
-use Rattle.resp_fronts.proofs.FrontLaws.{follow_least}
+use Rattle.resp_fronts.proofs.FrameLaws.FrontLaws.{follow_least}
 use Rattle.resp_fronts.proofs.laws.follow_least.Goals as goal
 
 pub returns : goal.returns

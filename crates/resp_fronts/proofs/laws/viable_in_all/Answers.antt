@@ -1,4 +1,4 @@
-use Rattle.resp_fronts.proofs.FrontLaws.{viable_in_all}
+use Rattle.resp_fronts.proofs.FrameLaws.FrontLaws.{viable_in_all}
 use Rattle.resp_fronts.proofs.laws.viable_in_all.Goals as goal
 
 pub returns : goal.returns

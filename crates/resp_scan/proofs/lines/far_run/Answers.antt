@@ -1,6 +1,6 @@
 use Rattle.std.proofs.Common.{sym, ◌∙◌, ap, take}
 use Rattle.resp_scan.specs.Machine.Runs.{run_to}
-use Rattle.resp_scan.proofs.Runs.{plain_run-run_to}
+use Rattle.resp_scan.proofs.Soundness.Runs.{plain_run-run_to}
 use Rattle.resp_scan.proofs.lines.far_run.Goals as goal
 
 pub returns-clause-run : goal.returns-clause-run

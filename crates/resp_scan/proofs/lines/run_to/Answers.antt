@@ -1,6 +1,6 @@
 use Rattle.std.proofs.Common.{length, sym, arith}
 use Rattle.std.proofs.lemmas.Bool.{eqb-true, eq-eqb}
-use Rattle.resp_scan.proofs.Runs.{run_to_is}
+use Rattle.resp_scan.proofs.Soundness.Runs.{run_to_is}
 use Rattle.resp_scan.proofs.lines.run_to.Goals as goal
 
 pub returns-in-Some-clause-value : goal.returns-in-Some-clause-value

@@ -16,7 +16,8 @@ loop-preserved g c = record {
       let room : length c.read.new.into ≡ vec_len c.loop.buffer = c.read.auto.into ∙ c.as_mut_slice.ensures.len in
       let within : c.in-Ok.count ≤ length c.read.new.into = omega (arith, c.in-Ok.ensures.within, c.as_mut_slice.ensures.len) in
       let same = take-into c.read.new.into c.loop.buffer.items c.loop.buffer.len c.in-Ok.count within (omega (arith, room)) in
-      rw (c.in_ok-extend_from_slice-in-Ok.ensures.items, c.deref.ensures.value, same) (reads_on _ (g.R.Source.remaining c.loop.reader) _ c.loop.bytes.items c.read.new.into c.in-Ok.count c.loop.invariant.so_far c.in-Ok.ensures.bytes);
+      rw (c.in_ok-extend_from_slice-in-Ok.ensures.items, c.deref.ensures.value, same)
+      (reads_on _ (g.R.Source.remaining c.loop.reader) _ c.loop.bytes.items c.read.new.into c.in-Ok.count c.loop.invariant.so_far c.in-Ok.ensures.bytes);
   calls = called_again c.loop.counter _ (g.R.Source.calls c.loop.reader) _ c.loop.invariant.calls c.read.ensures.calls;
   none_failed = c.in-Ok.ensures.failures ∙ c.loop.invariant.none_failed;
   room = c.loop.invariant.room;

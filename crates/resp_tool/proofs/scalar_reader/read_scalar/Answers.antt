@@ -7,7 +7,8 @@ use Rattle.resp_tool.proofs.scalar_reader.read_scalar.Goals as goal
 
 pub returns-then-taken-total-clause-refused : goal.returns-then-taken-total-clause-refused
 returns-then-taken-total-clause-refused c =
-    no_scalar_past_total (record { version = c.args.version; limits = c.args.limits.now }) (scalar_data c.in-Ok.value) c.args.input.now c.in-Ok.rest.now c.no_spelling_begins_another.ensures
+    no_scalar_past_total (record { version = c.args.version; limits = c.args.limits.now }) (scalar_data c.in-Ok.value) c.args.input.now c.in-Ok.rest.now
+    c.no_spelling_begins_another.ensures
     (subst (λ most. SaysLeaf most (scalar_data c.in-Ok.value) c.args.input.now c.in-Ok.rest.now) c.length.ensures.length c.in-Ok.ensures.found)
     (omega (arith, c.total.ensures.total, c.if-taken-total.true))
 
@@ -15,7 +16,8 @@ pub returns-else-taken-total-clause-found : goal.returns-else-taken-total-clause
 returns-else-taken-total-clause-found c =
     let (l, old, in_range, is_leaf, value, short, whole) = c.in-Ok.ensures.found in (
       leaf_text l,
-      leaf_spells _ l _ old in_range is_leaf value (subst (λ y. content_length y ≤ c.args.limits.now.length) (sym value) (omega (arith, short, c.length.ensures.length)))
+      leaf_spells _ l _ old in_range is_leaf value (subst (λ y. content_length y ≤ c.args.limits.now.length) (sym value)
+          (omega (arith, short, c.length.ensures.length)))
           (omega (arith, ap length whole, length-append (leaf_text l) c.in-Ok.rest.now, c.total.ensures.total, c.if-taken-total.false)),
       whole,
     )

@@ -4,7 +4,8 @@ use Rattle.resp_tool.proofs.text.write_number.Goals as goal
 
 pub returns-in_err-write_text : goal.returns-in_err-write_text
 returns-in_err-write_text g c =
-    rw append_assoc (writes_part c.from_residual.result _ _ _ _ c.args.before.now (g.N.Integer.text c.args.number ++ c.args.behind.now) c.from_residual.ensures.0 c.in_err-write_text.ensures)
+    rw append_assoc (writes_part c.from_residual.result _ _ _ _ c.args.before.now (g.N.Integer.text c.args.number ++ c.args.behind.now)
+    c.from_residual.ensures.0 c.in_err-write_text.ensures)
 
 pub returns-in_err-write_text-2 : goal.returns-in_err-write_text-2
 returns-in_err-write_text-2 g c =

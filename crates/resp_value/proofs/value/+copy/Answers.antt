@@ -7,19 +7,23 @@ use Rattle.resp_value.proofs.value.+copy.Goals as goal
 
 pub Value::try_clone-returns-in_ok-copy_members-in-Array : goal.Value::try_clone-returns-in_ok-copy_members-in-Array
 Value::try_clone-returns-in_ok-copy_members-in-Array t c =
-    datum_of-Array _ ∙ ap (λ xs. aggregate d.Array (data_of_list xs)) c.in_ok-copy_members-in-Array.ensures ∙ sym (ap datum_of c.in-Array.is ∙ datum_of-Array c.in-Array.members)
+    datum_of-Array _ ∙ ap (λ xs. aggregate d.Array (data_of_list xs)) c.in_ok-copy_members-in-Array.ensures ∙
+    sym (ap datum_of c.in-Array.is ∙ datum_of-Array c.in-Array.members)
 
 pub Value::try_clone-returns-in_ok-copy_members-in-Set : goal.Value::try_clone-returns-in_ok-copy_members-in-Set
 Value::try_clone-returns-in_ok-copy_members-in-Set t c =
-    datum_of-Set _ ∙ ap (λ xs. aggregate d.Set (data_of_list xs)) c.in_ok-copy_members-in-Set.ensures ∙ sym (ap datum_of c.in-Set.is ∙ datum_of-Set c.in-Set.members)
+    datum_of-Set _ ∙ ap (λ xs. aggregate d.Set (data_of_list xs)) c.in_ok-copy_members-in-Set.ensures ∙
+    sym (ap datum_of c.in-Set.is ∙ datum_of-Set c.in-Set.members)
 
 pub Value::try_clone-returns-in_ok-copy_members-in-Push : goal.Value::try_clone-returns-in_ok-copy_members-in-Push
 Value::try_clone-returns-in_ok-copy_members-in-Push t c =
-    datum_of-Push _ ∙ ap (λ xs. aggregate d.Push (data_of_list xs)) c.in_ok-copy_members-in-Push.ensures ∙ sym (ap datum_of c.in-Push.is ∙ datum_of-Push c.in-Push.members)
+    datum_of-Push _ ∙ ap (λ xs. aggregate d.Push (data_of_list xs)) c.in_ok-copy_members-in-Push.ensures ∙
+    sym (ap datum_of c.in-Push.is ∙ datum_of-Push c.in-Push.members)
 
 pub Value::try_clone-returns-in_ok-copy_pairs-in-Map : goal.Value::try_clone-returns-in_ok-copy_pairs-in-Map
 Value::try_clone-returns-in_ok-copy_pairs-in-Map t c =
-    datum_of-Map _ ∙ ap (λ xs. aggregate d.Map (data_of_list (in_turn xs))) c.in_ok-copy_pairs-in-Map.ensures ∙ sym (ap datum_of c.in-Map.is ∙ datum_of-Map c.in-Map.pairs)
+    datum_of-Map _ ∙ ap (λ xs. aggregate d.Map (data_of_list (in_turn xs))) c.in_ok-copy_pairs-in-Map.ensures ∙
+    sym (ap datum_of c.in-Map.is ∙ datum_of-Map c.in-Map.pairs)
 
 pub Value::try_clone-returns-in_ok-new-in-Attr : goal.Value::try_clone-returns-in_ok-new-in-Attr
 Value::try_clone-returns-in_ok-new-in-Attr t c =

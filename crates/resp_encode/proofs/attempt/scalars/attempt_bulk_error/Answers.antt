@@ -16,5 +16,6 @@ write_string-requires c =
 pub returns : goal.returns
 returns c =
     let fits = c.if-not-has_room.ensures (scalar (d.BulkError c.list-bytes.result.now)) (c.of_bulk_error-found.ensures.found c.args.version) in
-    subst (λ bytes. (deeper : ℕ) → Attempt c.args.version c.args.limits.now deeper (scalar (d.BulkError bytes)) c.args.out.now c.write_string.new.out true) c.list-bytes.ensures
+    subst (λ bytes. (deeper : ℕ) → Attempt c.args.version c.args.limits.now deeper (scalar (d.BulkError bytes)) c.args.out.now c.write_string.new.out true)
+    c.list-bytes.ensures
     (scalar_done fits c.of_bulk_error-found.ensures.is_text c.write_string.ensures)

@@ -14,5 +14,6 @@ write_line-requires c =
 pub returns : goal.returns
 returns c =
     let fits = c.if-not-has_room.ensures (scalar (d.Error c.text-text.result.now)) (c.of_line-found.ensures.error c.args.version) in
-    subst (λ text. (deeper : ℕ) → Attempt c.args.version c.args.limits.now deeper (scalar (d.Error text)) c.args.out.now c.write_line.new.out true) c.text-text.ensures.text
+    subst (λ text. (deeper : ℕ) → Attempt c.args.version c.args.limits.now deeper (scalar (d.Error text)) c.args.out.now c.write_line.new.out true)
+    c.text-text.ensures.text
     (scalar_done fits (c.text-text.ensures.is_line, c.of_line-found.ensures.is_text) c.write_line.ensures)

@@ -9,4 +9,5 @@ pub write_int-requires : goal.write_int-requires
 write_int-requires c = c.if-not-has_room_for_int.ensures.room Three
 
 pub returns : goal.returns
-returns c = λ version bounds. scalar_done (room_for version bounds (d.Int c.args.number.now) tt (omega arith) (c.if-not-has_room_for_int.ensures.room version)) c.has_room_for_int.ensures.is_value c.write_int.ensures
+returns c = λ version bounds. scalar_done (room_for version bounds (d.Int c.args.number.now) tt (omega arith) (c.if-not-has_room_for_int.ensures.room version))
+    c.has_room_for_int.ensures.is_value c.write_int.ensures

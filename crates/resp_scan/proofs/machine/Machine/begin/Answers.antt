@@ -3,7 +3,7 @@ use Rattle.std.proofs.lemmas.Grind.{common_steps}
 use Rattle.resp_scan.specs.declared.frame.Frame.{Frame}
 use Rattle.resp_scan.specs.Machine.Room.{innermost}
 use Rattle.resp_scan.specs.Machine.Fields.{place_of}
-use Rattle.resp_scan.proofs.Places.{top_is}
+use Rattle.resp_scan.proofs.Soundness.Places.{top_is}
 use Rattle.resp_scan.proofs.machine.Machine.begin.Goals as goal
 
 innermost_is : (fs : List Frame) (f : Frame) → innermost fs ≡ Some f → fs ≡ f ∷ drop 1 fs

@@ -12,5 +12,6 @@ invariant-loop-i l = record {
   room : IsWithinRoom l.head l.number;
   same : l.self ≡ l.fn.self;
   frames_need : l.fn.self.frames_need + head_needed l.head l.number ≤ 2 ^ 41;
-  so_far : scan l.from (at (place_of l.fn.self) (InHead l.head l.first)) (drop l.from l.piece) ≡ scan l.i (at (place_of l.fn.self) (InHead l.head l.number)) (drop l.i l.piece);
+  so_far : scan l.from (at (place_of l.fn.self) (InHead l.head l.first)) (drop l.from l.piece) ≡
+      scan l.i (at (place_of l.fn.self) (InHead l.head l.number)) (drop l.i l.piece);
 }

@@ -9,5 +9,6 @@ abbrev pub invariant-loop-i : goal.invariant-loop-i
 invariant-loop-i l = record {
   fits : l.magnitude ≤ greatest_magnitude l.negative;
   same : l.self ≡ l.fn.self;
-  so_far : scan l.from (at (place_of l.fn.self) (InInt l.negative l.first)) (drop l.from l.piece) ≡ scan l.i (at (place_of l.fn.self) (InInt l.negative l.magnitude)) (drop l.i l.piece);
+  so_far : scan l.from (at (place_of l.fn.self) (InInt l.negative l.first)) (drop l.from l.piece) ≡
+      scan l.i (at (place_of l.fn.self) (InInt l.negative l.magnitude)) (drop l.i l.piece);
 }

@@ -1,8 +1,9 @@
 use Rattle.std.proofs.Common.{sym}
 use Rattle.resp_scan.specs.Machine.Fields.{place_of}
-use Rattle.resp_scan.proofs.Runs.{line_part}
+use Rattle.resp_scan.proofs.Soundness.Runs.{line_part}
 use Rattle.resp_scan.proofs.machine.Machine.line.Goals as goal
 
 pub returns-then-run-gt0 : goal.returns-then-run-gt0
 returns-then-run-gt0 c =
-    rw (c.gives.ensures, c.requires) (sym (line_part (place_of c.args.self.now) c.args.self.now.room c.line_run-run.result c.args.piece.now (rw (← c.text_room.ensures, ← c.min-most.ensures) c.line_run-run.ensures.run) c.if-run-gt0.true))
+    rw (c.gives.ensures, c.requires) (sym (line_part (place_of c.args.self.now) c.args.self.now.room c.line_run-run.result c.args.piece.now
+    (rw (← c.text_room.ensures, ← c.min-most.ensures) c.line_run-run.ensures.run) c.if-run-gt0.true))

@@ -3,7 +3,7 @@ use Rattle.std.proofs.lemmas.Grind.{common_steps}
 use Rattle.resp_scan.specs.Machine.First.{after_first}
 use Rattle.resp_scan.specs.Machine.Tokens.{at, AtStart}
 use Rattle.resp_scan.specs.Machine.Fields.{place_of}
-use Rattle.resp_scan.proofs.Starts.{first_is, first_scan, three_is}
+use Rattle.resp_scan.proofs.Soundness.Starts.{first_is, first_scan, three_is}
 use Rattle.resp_scan.proofs.machine.Machine.start.Goals as goal
 
 pub returns-in-43 : goal.returns-in-43
@@ -26,5 +26,6 @@ returns-in-Three c =
     let p = c.args.piece.now in
     let b = get_or p 0 0 in
     let l : 0 < length p = grind (arith, common_steps) in
-    let q = three_is (at s AtStart) b c.in-Some-first_of.first (omega arith) (omega arith) (omega arith) (omega arith) (omega arith) (omega arith) (omega arith) c.in-Three.is (c.in-Some-first_of.ensures (at s AtStart)) in
+    let q = three_is (at s AtStart) b c.in-Some-first_of.first (omega arith) (omega arith) (omega arith) (omega arith) (omega arith) (omega arith) (omega arith)
+    c.in-Three.is (c.in-Some-first_of.ensures (at s AtStart)) in
     c.start_three.ensures ∙ ap (λ v. after_first v (at s AtStart) (drop 1 p)) (sym q) ∙ first_scan s p l

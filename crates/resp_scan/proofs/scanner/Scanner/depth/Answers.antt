@@ -1,7 +1,7 @@
 use Rattle.std.proofs.Common.{◌≡◌, arith, length}
 use Rattle.std.proofs.lemmas.Grind.{common_steps}
 use Rattle.resp_scan.specs.Machine.Fields.{place_of}
-use Rattle.resp_scan.proofs.GivenCounts.{opens_are_frames}
+use Rattle.resp_scan.proofs.DueEvents.GivenCounts.{opens_are_frames}
 use Rattle.resp_scan.proofs.scanner.Scanner.depth.Goals as goal
 
 pub returns-clause-opens : goal.returns-clause-opens

@@ -1,4 +1,4 @@
-use Rattle.resp_scan.proofs.Calls.{finishes, truncated_at}
+use Rattle.resp_scan.proofs.CallClauses.Calls.{finishes, truncated_at}
 use Rattle.resp_scan.proofs.scanner.Scanner.finish.Goals as goal
 
 pub returns-clause-ok : goal.returns-clause-ok

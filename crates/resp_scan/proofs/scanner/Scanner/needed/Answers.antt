@@ -2,10 +2,11 @@ use Rattle.std.proofs.Common.{subst, arith}
 use Rattle.resp_fronts.specs.LeastCompletions.{IsLeast}
 use Rattle.resp_scan.specs.Machine.Fields.{place_of}
 use Rattle.resp_scan.specs.Kinds.{rules_of}
-use Rattle.resp_scan.proofs.LeastNeeded.{least_is_needed}
+use Rattle.resp_scan.proofs.CallClauses.LeastNeeded.{least_is_needed}
 use Rattle.resp_scan.proofs.scanner.Scanner.needed.Goals as goal
 
 pub returns-clause-least : goal.returns-clause-least
 returns-clause-least c =
     let s = place_of c.self.inside.machine in
-    rw (← c.self.view_is) (λ front es w. subst (IsLeast (rules_of s) front) (omega (arith, c.token_needed.ensures)) (least_is_needed s 0 front es c.self.invariant w.lies))
+    rw (← c.self.view_is) (λ front es w. subst (IsLeast (rules_of s) front) (omega (arith, c.token_needed.ensures))
+    (least_is_needed s 0 front es c.self.invariant w.lies))

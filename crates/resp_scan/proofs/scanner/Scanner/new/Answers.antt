@@ -1,6 +1,6 @@
 use Rattle.std.proofs.Common.{reverse, ap, refl}
-use Rattle.resp_scan.proofs.Kept.{sound_new}
-use Rattle.resp_scan.proofs.Calls.{follows_none}
+use Rattle.resp_scan.proofs.Soundness.Kept.{sound_new}
+use Rattle.resp_scan.proofs.CallClauses.Calls.{follows_none}
 use Rattle.resp_scan.proofs.scanner.Scanner.new.Goals as goal
 
 pub invariant_of-result : goal.invariant_of-result

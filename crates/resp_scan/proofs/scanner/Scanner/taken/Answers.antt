@@ -1,6 +1,6 @@
 use Rattle.std.proofs.Common.{arith}
 use Rattle.resp_scan.specs.Machine.Fields.{place_of}
-use Rattle.resp_scan.proofs.GivenCounts.{events_are_few}
+use Rattle.resp_scan.proofs.DueEvents.GivenCounts.{events_are_few}
 use Rattle.resp_scan.proofs.scanner.Scanner.taken.Goals as goal
 
 pub returns-clause-few : goal.returns-clause-few

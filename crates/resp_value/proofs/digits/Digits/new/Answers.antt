@@ -11,7 +11,8 @@ use Rattle.resp_value.proofs.digits.Digits.new.Goals.{then-minus, else-minus, In
 made : (c : In-Ok) → KeepsDigits c.args.text.now c.if-minus.negative c.in-Ok.digits.items × IsKept c.if-minus.negative c.in-Ok.digits.items
 made c =
     let unsigned : c.unsigned_part-digits.result.now ≡ unsigned_part c.args.text.now = c.unsigned_part-digits.ensures in
-    let tested : (0 < length c.unsigned_part-digits.result.now) × All IsDigit c.unsigned_part-digits.result.now = c.are_digits.ensures.0 c.if-not-are_digits.false in
+    let tested : (0 < length c.unsigned_part-digits.result.now) × All IsDigit c.unsigned_part-digits.result.now =
+    c.are_digits.ensures.0 c.if-not-are_digits.false in
     let digits : IsDigits c.unsigned_part-digits.result.now = (tested.0, recursion_from_All IsDigit _ tested.1) in
     keeps_digits_if_tested c.args.text.now c.in-Ok.digits.items c.if-minus.negative
     (subst IsDigits unsigned digits)
@@ -36,7 +37,8 @@ returns-in-Ok-clause-bad c =
 signed : (c : In-Err) → IsSignedDigits c.args.text.now
 signed c =
     let unsigned : c.unsigned_part-digits.result.now ≡ unsigned_part c.args.text.now = c.unsigned_part-digits.ensures in
-    let tested : (0 < length c.unsigned_part-digits.result.now) × All IsDigit c.unsigned_part-digits.result.now = c.are_digits.ensures.0 c.if-not-are_digits.false in
+    let tested : (0 < length c.unsigned_part-digits.result.now) × All IsDigit c.unsigned_part-digits.result.now =
+    c.are_digits.ensures.0 c.if-not-are_digits.false in
     let digits : IsDigits c.unsigned_part-digits.result.now = (tested.0, recursion_from_All IsDigit _ tested.1) in
     (sign_at c.args.text.now, unsigned_part c.args.text.now, subst IsDigits unsigned digits, sign_split c.args.text.now)
 

@@ -1,0 +1,4 @@
+-- Between values.
+pub mod BetweenValues
+pub mod RefusedBetweenValues
+pub mod BegunBetweenValues

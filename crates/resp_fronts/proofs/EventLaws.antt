@@ -1,0 +1,4 @@
+-- Events of trees and of fronts.
+pub mod EventsAround
+pub mod EventPlaces
+pub mod EventsDue

@@ -1,0 +1,147 @@
+-- Bytes that no number, length or count has behind its type byte, its sign and its digits.
+use Rattle.std.proofs.Common.{◌≡◌, ◌≢◌, ◌⊎◌, inl, inr, true, ℕ, ◌<◌, Bool, false, eqb, List, [], ◌∷◌, ◌++◌, refl, sym, ap, subst, ◌∙◌, arith, append_assoc, append-nil}
+use Rattle.std.proofs.lemmas.Bool.{ne_eqb}
+use Rattle.std.proofs.lemmas.Bool.Decides.{eqb_tells}
+use Rattle.resp_value.specs.Numbers.{IsDigit, IsDigits, Sign, Unsigned, Plus, Minus, sign_text, number}
+use Rattle.resp_value.specs.Data.{Kind, Array, Set, Map, Attr, Push}
+use Rattle.resp_value.specs.Trees.{Tree, leaf, node, string, NumberKind, Int, Big, StringKind, Bulk, BulkError, Verbatim, Counted, Streamed, number_byte, string_byte, kind_byte, count, CanStream, IsTree}
+use Rattle.resp_value.proofs.FirstLines.{numeral_sort, string_sort, leaf_of, node_of, sort, sort_of, sort_is, first_line}
+use Rattle.resp_fronts.proofs.FirstLines.BegunLines.{counted_is, tree_of_node}
+use Rattle.resp_fronts.proofs.FirstLines.FirstLineRows.{tree_of_numeral, no_other, number_more_digits, is_string}
+use Rattle.resp_fronts.proofs.FirstLines.MoreFirstLineRows.{string_size, verbatim_least, sort_mark}
+use Rattle.resp_fronts.proofs.FirstLines.CountRows.{line_after}
+use Rattle.resp_fronts.proofs.Refusals.RefusedBytes.{digits_hold}
+use Rattle.resp_fronts.proofs.Refusals.BrokenLines.{NoLineGoesOn, NoLineEnds}
+
+abbrev Tells : Bool → Type 0 → Type 0 → Type 0
+Tells b A B = ((b ≡ true) × A) ⊎ ((b ≡ false) × B)
+
+sort_behind_line : (t : Tree) (a : List ℕ) → IsTree t → first_line t ≡ a → sort_of t ≡ sort a
+sort_behind_line t a p e = sym (sort_is t p) ∙ ap sort e
+
+digits_of_number : (t : Tree) (K : NumberKind) (g : Sign) (a digits : List ℕ) → IsTree t → first_line t ≡ a → sort a ≡ leaf_of (numeral_sort K g digits) →
+    IsDigits digits
+digits_of_number t K g a digits p e s = subst IsTree (tree_of_numeral t K g digits (sort_behind_line t a p e ∙ s)) p
+
+-- a number's type byte, its sign and what follows say so
+pub sort_of_signed : (K : NumberKind) (g : Sign) (first : ℕ) (behind : List ℕ) → (g ≡ Unsigned → (first ≡ 43 → ⊥) × (first ≡ 45 → ⊥)) →
+    sort (number_byte K ∷ (sign_text g ++ first ∷ behind)) ≡ leaf_of (numeral_sort K g (first ∷ behind))
+sort_of_signed Int Plus first behind h = refl
+sort_of_signed Int Minus first behind h = refl
+sort_of_signed Int Unsigned first behind h = let other = h refl in rw (ne_eqb first 43 other.0, ne_eqb first 45 other.1)
+sort_of_signed Big Plus first behind h = refl
+sort_of_signed Big Minus first behind h = refl
+sort_of_signed Big Unsigned first behind h = let other = h refl in rw (ne_eqb first 43 other.0, ne_eqb first 45 other.1)
+
+digit_no_sign : (g : Sign) (digit : ℕ) → IsDigit digit → g ≡ Unsigned → (digit ≡ 43 → ⊥) × (digit ≡ 45 → ⊥)
+digit_no_sign g digit p e = (λ h. omega arith, λ h. omega arith)
+
+-- behind the type byte of a number come a sign and digits alone, and digits alone behind a sign
+pub number_begun_broken : (K : NumberKind) (g : Sign) (byte : ℕ) → (g ≡ Unsigned → (byte ≡ 43 → ⊥) × (byte ≡ 45 → ⊥)) → (IsDigit byte → ⊥) →
+    NoLineGoesOn (number_byte K ∷ (sign_text g ++ [])) byte
+number_begun_broken K g byte no_sign no_digit t behind p e =
+    let h : first_line t ≡ number_byte K ∷ (sign_text g ++ byte ∷ behind) = e ∙ ap (λ z. number_byte K ∷ z) (append_assoc (sign_text g) [] (byte ∷ behind)) in
+    no_digit ((digits_of_number t K g (number_byte K ∷ (sign_text g ++ byte ∷ behind)) (byte ∷ behind) p h (sort_of_signed K g byte behind no_sign)).1.0)
+
+-- and digits alone behind digits
+pub number_broken : (K : NumberKind) (g : Sign) (digit : ℕ) (digits : List ℕ) (byte : ℕ) → IsDigit digit → (IsDigit byte → ⊥) →
+    NoLineGoesOn (number_byte K ∷ (sign_text g ++ digit ∷ digits)) byte
+number_broken K g digit digits byte is_digit no_digit t behind p e =
+    let h : first_line t ≡ number_byte K ∷ (sign_text g ++ digit ∷ (digits ++ byte ∷ behind)) =
+    e ∙ ap (λ z. number_byte K ∷ z) (append_assoc (sign_text g) (digit ∷ digits) (byte ∷ behind)) in
+    let q = digits_of_number t K g (number_byte K ∷ (sign_text g ++ digit ∷ (digits ++ byte ∷ behind))) (digit ∷ (digits ++ byte ∷ behind)) p h
+    (sort_of_signed K g digit (digits ++ byte ∷ behind) (digit_no_sign g digit is_digit)) in
+    no_digit (digits_hold digits behind byte q.1.1)
+
+-- a number has a digit
+pub number_short : (K : NumberKind) (g : Sign) → NoLineEnds (number_byte K ∷ (sign_text g ++ []))
+number_short K g t p e =
+    let n : 0 < 0 = number_more_digits K g t [] p (sort_behind_line t (number_byte K ∷ (sign_text g ++ [])) p e ∙
+    ap (λ z. sort (number_byte K ∷ z)) (sym (append-nil (sign_text g ++ [])))) in
+    omega arith
+
+-- what stands behind a length's type byte, where it is no digit
+abbrev pub IsNoLength : StringKind → ℕ → Type 0
+IsNoLength Bulk byte = (byte ≡ 45 → ⊥) × (byte ≡ 63 → ⊥) × (IsDigit byte → ⊥)
+IsNoLength BulkError byte = IsDigit byte → ⊥
+IsNoLength (Verbatim format) byte = IsDigit byte → ⊥
+
+digit_of_length : (t : Tree) (b first : ℕ) (a behind : List ℕ) → IsTree t → first_line t ≡ a → sort a ≡ leaf_of (string_sort b (first ∷ behind)) → IsDigit first
+digit_of_length t b first a behind p e s = let w = string_size t b (first ∷ behind) p (sort_behind_line t a p e ∙ s) in w.4.1.0
+
+-- behind the type byte of a string come digits, and behind `$` also `-` and `?`
+pub length_begun_broken : (K : StringKind) (byte : ℕ) → IsNoLength K byte → NoLineGoesOn (string_byte K ∷ []) byte
+length_begun_broken Bulk byte other t behind p e = other.2 (digit_of_length t 36 byte (36 ∷ byte ∷ behind) behind p e
+    (rw (ne_eqb byte 45 other.0, ne_eqb byte 63 other.1)))
+length_begun_broken BulkError byte other t behind p e = other (digit_of_length t 33 byte (33 ∷ byte ∷ behind) behind p e refl)
+length_begun_broken (Verbatim format) byte other t behind p e = other (digit_of_length t 61 byte (61 ∷ byte ∷ behind) behind p e refl)
+
+-- and digits alone behind digits
+pub length_broken : (K : StringKind) (digit : ℕ) (digits : List ℕ) (byte : ℕ) → IsDigit digit → (IsDigit byte → ⊥) →
+    NoLineGoesOn (string_byte K ∷ digit ∷ digits) byte
+length_broken K digit digits byte is_digit no_digit t behind p e =
+    let w = is_string t K digit (digits ++ byte ∷ behind) is_digit (sort_behind_line t (string_byte K ∷ digit ∷ (digits ++ byte ∷ behind)) p e) in
+    let i : IsTree (leaf (string w.0 (digit ∷ (digits ++ byte ∷ behind)) w.1)) = subst IsTree w.3 p in
+    no_digit (digits_hold digits behind byte i.0.0.1.1)
+
+-- a length has a digit
+pub length_short : (K : StringKind) → NoLineEnds (string_byte K ∷ [])
+length_short Bulk t p e = no_other t (sort_behind_line t (36 ∷ []) p e)
+length_short BulkError t p e = let w = string_size t 33 [] p (sort_behind_line t (33 ∷ []) p e) in let n : 0 < 0 = w.4.0 in omega arith
+length_short (Verbatim format) t p e = let w = string_size t 61 [] p (sort_behind_line t (61 ∷ []) p e) in let n : 0 < 0 = w.4.0 in omega arith
+
+-- a verbatim string's length counts its format and the `:`
+pub verbatim_short : (digit : ℕ) (digits : List ℕ) → number (digit ∷ digits) < 4 → NoLineEnds (61 ∷ digit ∷ digits)
+verbatim_short digit digits small t p e =
+    let w = string_size t 61 (digit ∷ digits) p (sort_behind_line t (61 ∷ digit ∷ digits) p e) in
+    omega (arith, w.5, verbatim_least w.0 w.1 w.2 w.3)
+
+-- what stands behind an aggregate's type byte, where it is no digit
+abbrev pub IsNoCount : Kind → ℕ → Type 0
+IsNoCount Array byte = (byte ≡ 45 → ⊥) × (byte ≡ 63 → ⊥) × (IsDigit byte → ⊥)
+IsNoCount Set byte = (byte ≡ 63 → ⊥) × (IsDigit byte → ⊥)
+IsNoCount Map byte = (byte ≡ 63 → ⊥) × (IsDigit byte → ⊥)
+IsNoCount Attr byte = IsDigit byte → ⊥
+IsNoCount Push byte = IsDigit byte → ⊥
+
+digit_of_count : (t : Tree) (k : Kind) (first : ℕ) (a behind : List ℕ) → IsTree t → first_line t ≡ a → sort a ≡ node_of k (Counted (first ∷ behind)) →
+    IsDigit first
+digit_of_count t k first a behind p e s =
+    let w = tree_of_node t k (Counted (first ∷ behind)) (sort_behind_line t a p e ∙ s) in
+    let i : IsTree (node k (Counted (first ∷ behind)) w.0) = subst IsTree w.1 p in
+    i.0.0.1.0
+
+-- an aggregate of a kind that can't be streamed has no `?`
+pub no_mark : (k : Kind) → ((n : ℕ) → CanStream k n → ⊥) → NoLineGoesOn (kind_byte k ∷ []) 63
+no_mark k no_stream t behind p e =
+    let w = tree_of_node t k Streamed (sort_behind_line t (kind_byte k ∷ 63 ∷ behind) p e ∙ sort_mark k behind) in
+    let i : IsTree (node k Streamed w.0) = subst IsTree w.1 p in
+    no_stream (count w.0) i.0
+
+-- behind the type byte of an aggregate come digits, behind `*` also `-`, and behind `*`, `~` and `%` also `?`
+pub count_begun_broken : (k : Kind) (byte : ℕ) → IsNoCount k byte → NoLineGoesOn (kind_byte k ∷ []) byte
+count_begun_broken Array byte other t behind p e = other.2 (digit_of_count t Array byte (42 ∷ byte ∷ behind) behind p e
+    (rw (ne_eqb byte 45 other.0, ne_eqb byte 63 other.1)))
+count_begun_broken Set byte other t behind p e = other.1 (digit_of_count t Set byte (126 ∷ byte ∷ behind) behind p e (rw (ne_eqb byte 63 other.0)))
+count_begun_broken Map byte other t behind p e = other.1 (digit_of_count t Map byte (37 ∷ byte ∷ behind) behind p e (rw (ne_eqb byte 63 other.0)))
+count_begun_broken Attr byte other t behind p e = cases (eqb_tells byte 63)
+  where
+    cases : Tells (eqb byte 63) (byte ≡ 63) (byte ≢ 63) → ⊥
+    cases (inl h) = no_mark Attr (λ n s. s) t behind p (e ∙ ap (λ z. 124 ∷ z ∷ behind) h.1)
+    cases (inr h) = other (digit_of_count t Attr byte (124 ∷ byte ∷ behind) behind p e (rw h.0))
+count_begun_broken Push byte other t behind p e = cases (eqb_tells byte 63)
+  where
+    cases : Tells (eqb byte 63) (byte ≡ 63) (byte ≢ 63) → ⊥
+    cases (inl h) = no_mark Push (λ n s. s) t behind p (e ∙ ap (λ z. 62 ∷ z ∷ behind) h.1)
+    cases (inr h) = other (digit_of_count t Push byte (62 ∷ byte ∷ behind) behind p e (rw h.0))
+
+-- and digits alone behind digits
+pub count_broken : (k : Kind) (digit : ℕ) (digits : List ℕ) (byte : ℕ) → IsDigit digit → (IsDigit byte → ⊥) → NoLineGoesOn (kind_byte k ∷ digit ∷ digits) byte
+count_broken k digit digits byte is_digit no_digit t behind p e =
+    let w = counted_is t k digit (digits ++ byte ∷ behind) p is_digit e in
+    let i : IsTree (node k (Counted (digit ∷ (digits ++ byte ∷ behind))) w.0) = subst IsTree w.1 p in
+    no_digit (digits_hold digits behind byte i.0.0.1.1)
+
+-- a count has a digit
+pub count_short : (k : Kind) → NoLineEnds (kind_byte k ∷ [])
+count_short k t p e = let n : 0 < 0 = line_after t k [] p (sort_behind_line t (kind_byte k ∷ []) p e) in omega arith

@@ -1,0 +1,8 @@
+-- What the machine keeps of its numbers, and how its methods stand to it.
+pub mod Runs
+pub mod Starts
+pub mod Sound
+pub mod Kept
+pub mod Places
+pub mod Pieces
+pub mod Counted

@@ -1,0 +1,156 @@
+-- What a token says of the machine's fields.
+use Rattle.std.proofs.Common.{◌≡◌, ◌≢◌, ℕ, ◌+◌, ◌*◌, ◌^◌, ◌<◌, ◌≤◌, true, eqb, List, [], ◌∷◌, length, Some, refl, ap, subst, ◌∙◌, arith}
+use Rattle.std.proofs.lemmas.Bool.{false≢true}
+use Rattle.std.proofs.lemmas.Bool.Decides.{nat_tests}
+use Rattle.resp_scan.specs.declared.frame.Frame.{Frame}
+use Rattle.resp_scan.specs.declared.frame.Shape.{Shape}
+use Rattle.resp_scan.specs.declared.frame.Shape.TheVariants.{Left, Begun}
+use Rattle.resp_scan.specs.declared.machine.State.{State}
+use Rattle.resp_scan.specs.declared.machine.State.TheVariants as state
+use Rattle.resp_scan.specs.declared.machine.Machine.{Machine}
+use Rattle.resp_scan.specs.Machine.Magnitudes.{greatest_magnitude}
+use Rattle.resp_scan.specs.Machine.Tokens.{Place, at, token_within, token_in_shape, AtStart, AtEnd}
+use Rattle.resp_scan.specs.Machine.Heads.{head_needed, may_end, HasFrame}
+use Rattle.resp_scan.specs.Machine.Room.{begun_count, innermost}
+use Rattle.resp_scan.specs.Machine.Moves.{may_close}
+use Rattle.resp_scan.specs.Machine.Fields.{place_of, token_at}
+use Rattle.resp_scan.specs.Machine.Sound.{IsWithinRoom, IsOpen, IsOpenShape, need_of_frame, need_of_frames, IsSound, AreCounted, token_needed}
+use Rattle.resp_scan.proofs.Soundness.Sound.{cond_if, head_more, closes_three}
+
+-- the place of a machine whose state is known
+there : (m : Machine) (x : State) → IsSound (place_of m) → m.state ≡ x → IsSound (at (place_of m) (token_at x m))
+there m x h e = subst (λ v. IsSound (at (place_of m) (token_at v m))) e h
+
+pub few_needed : (m : Machine) (x : State) → IsSound (place_of m) → m.state ≡ x →
+    m.frames_need + token_needed (token_at x m) m.limits.depth (place_of m).frames ≤ 2 ^ 40
+few_needed m x h e = let k = there m x h e in omega (arith, k.total, k.bounds.total_in_range.1)
+
+pub sound_start : (m : Machine) → IsSound (place_of m) → m.state ≡ state.Start → IsSound (at (place_of m) AtStart)
+sound_start m h e = there m state.Start h e
+
+within_open : (f : Frame) (fs : List Frame) (x : Shape) → f.shape ≡ x → x ≢ Left 0 → token_within (f ∷ fs) ≡ AtStart
+within_open f fs (Left n) e h = ap token_in_shape e ∙ cond_if (λ t. t ≡ AtStart) (eqb n 0) AtEnd AtStart
+    (λ z. absurd (h (ap Left (let w : n ≡ 0 = grind (arith, nat_tests) in w)))) (λ z. refl)
+within_open f fs (Begun n) e h = ap token_in_shape e
+
+-- behind a member that isn't the last of its aggregate the next may begin
+pub sound_member : (m : Machine) (f : Frame) (fs : List Frame) → IsSound (place_of m) → m.state ≡ state.Ended → (place_of m).frames ≡ f ∷ fs →
+    f.shape ≢ Left 0 → IsSound (at (place_of m) AtStart)
+sound_member m f fs h e q n = subst (λ t. IsSound (at (place_of m) t)) (ap token_within q ∙ within_open f fs f.shape refl n) (there m state.Ended h e)
+
+pub int_most : (m : Machine) → IsSound (place_of m) → m.state ≡ state.Int → m.magnitude ≤ greatest_magnitude m.negative
+int_most m h e = (there m state.Int h e).token
+
+pub int_lf_most : (m : Machine) → IsSound (place_of m) → m.state ≡ state.IntLf → m.magnitude ≤ greatest_magnitude m.negative
+int_lf_most m h e = (there m state.IntLf h e).token
+
+pub content_some : (m : Machine) → IsSound (place_of m) → m.state ≡ state.Content → 0 < m.count
+content_some m h e = (there m state.Content h e).token
+
+pub chunk_some : (m : Machine) → IsSound (place_of m) → m.state ≡ state.ChunkContent → 0 < m.count
+chunk_some m h e = (there m state.ChunkContent h e).token
+
+pub first_frame : (m : Machine) → IsSound (place_of m) → m.state ≡ state.HeadFirst → HasFrame (place_of m) m.head
+first_frame m h e = let k = there m state.HeadFirst h e in λ o. let l : length (place_of m).frames < m.limits.depth = k.token o in
+    omega (arith, l, k.bounds.depth_in_range.1)
+
+pub more_frame : (m : Machine) → IsSound (place_of m) → m.state ≡ state.HeadMore → HasFrame (place_of m) m.head
+more_frame m h e = let k = there m state.HeadMore h e in λ o. let l : length (place_of m).frames < m.limits.depth = k.token.0 o in
+    omega (arith, l, k.bounds.depth_in_range.1)
+
+pub more_room : (m : Machine) → IsSound (place_of m) → m.state ≡ state.HeadMore → IsWithinRoom m.head m.count
+more_room m h e = (there m state.HeadMore h e).token.1
+
+pub more_need : (m : Machine) → IsSound (place_of m) → m.state ≡ state.HeadMore → m.frames_need + head_needed m.head m.count ≤ 2 ^ 41
+more_need m h e = omega (arith, few_needed m state.HeadMore h e)
+
+pub more_few : (m : Machine) → IsSound (place_of m) → m.state ≡ state.HeadMore → m.count ≤ 2 ^ 40
+more_few m h e = omega (arith, few_needed m state.HeadMore h e, head_more m.head m.count)
+
+pub lf_frame : (m : Machine) → IsSound (place_of m) → m.state ≡ state.HeadLf → HasFrame (place_of m) m.head
+lf_frame m h e = let k = there m state.HeadLf h e in λ o. let l : length (place_of m).frames < m.limits.depth = k.token.0 o in
+    omega (arith, l, k.bounds.depth_in_range.1)
+
+pub lf_need : (m : Machine) → IsSound (place_of m) → m.state ≡ state.HeadLf → m.frames_need + head_needed m.head m.count ≤ 2 ^ 41
+lf_need m h e = omega (arith, few_needed m state.HeadLf h e)
+
+pub lf_few : (m : Machine) → IsSound (place_of m) → m.state ≡ state.HeadLf → m.count ≤ 2 ^ 40
+lf_few m h e = omega (arith, few_needed m state.HeadLf h e, head_more m.head m.count)
+
+pub open_cr_level : (m : Machine) → IsSound (place_of m) → m.state ≡ state.OpenCr → length (place_of m).frames < 128
+open_cr_level m h e = let k = there m state.OpenCr h e in let l : length (place_of m).frames < m.limits.depth = k.token in
+    omega (arith, l, k.bounds.depth_in_range.1)
+
+pub open_lf_level : (m : Machine) → IsSound (place_of m) → m.state ≡ state.OpenLf → length (place_of m).frames < 128
+open_lf_level m h e = let k = there m state.OpenLf h e in let l : length (place_of m).frames < m.limits.depth = k.token in
+    omega (arith, l, k.bounds.depth_in_range.1)
+
+pub format_first_few : (m : Machine) → IsSound (place_of m) → m.state ≡ state.FormatFirst → m.count + 2 ≤ 2 ^ 40
+format_first_few m h e = omega (arith, few_needed m state.FormatFirst h e)
+
+pub format_second_few : (m : Machine) → IsSound (place_of m) → m.state ≡ state.FormatSecond → m.count + 1 ≤ 2 ^ 40
+format_second_few m h e = omega (arith, few_needed m state.FormatSecond h e)
+
+pub lf_room : (m : Machine) → IsSound (place_of m) → m.state ≡ state.HeadLf → IsWithinRoom m.head m.count
+lf_room m h e = (there m state.HeadLf h e).token.1
+
+pub lf_ends : (m : Machine) → IsSound (place_of m) → m.state ≡ state.HeadLf → may_end m.head m.count ≡ true
+lf_ends m h e = (there m state.HeadLf h e).token.2
+
+pub first_four : (m : Machine) → IsSound (place_of m) → m.state ≡ state.FormatFirst → 4 ≤ m.count
+first_four m h e = (there m state.FormatFirst h e).token
+
+pub second_four : (m : Machine) → IsSound (place_of m) → m.state ≡ state.FormatSecond → 4 ≤ m.count
+second_four m h e = (there m state.FormatSecond h e).token
+
+pub third_four : (m : Machine) → IsSound (place_of m) → m.state ≡ state.FormatThird → 4 ≤ m.count
+third_four m h e = (there m state.FormatThird h e).token
+
+pub colon_four : (m : Machine) → IsSound (place_of m) → m.state ≡ state.FormatColon → 4 ≤ m.count
+colon_four m h e = (there m state.FormatColon h e).token
+
+pub content_few : (m : Machine) → IsSound (place_of m) → m.state ≡ state.Content → m.count + 2 ≤ 2 ^ 40
+content_few m h e = omega (arith, few_needed m state.Content h e)
+
+pub chunk_few : (m : Machine) → IsSound (place_of m) → m.state ≡ state.ChunkContent → m.count + 6 ≤ 2 ^ 40
+chunk_few m h e = omega (arith, few_needed m state.ChunkContent h e)
+
+-- What holds of the innermost aggregate where a member may begin.
+
+top_open : (fs : List Frame) (f : Frame) → innermost fs ≡ Some f → IsOpen fs → IsOpenShape f.shape
+top_open [] f e h = absurd (cc)
+top_open (g ∷ fs) f e h = let q : g ≡ f = cc in subst (λ v. IsOpenShape v.shape) q h
+
+top_need : (fs : List Frame) (f : Frame) → innermost fs ≡ Some f → need_of_frame f.kind f.shape ≤ need_of_frames fs
+top_need [] f e = absurd (cc)
+top_need (g ∷ fs) f e = let q : g ≡ f = cc in subst (λ v. need_of_frame v.kind v.shape ≤ need_of_frames (g ∷ fs)) q (omega arith)
+
+top_few : (items : ℕ) (fs : List Frame) (f : Frame) → innermost fs ≡ Some f → AreCounted items fs → begun_count f.shape ≤ items * 2
+top_few items [] f e h = absurd (cc)
+top_few items (g ∷ fs) f e h = let q : g ≡ f = cc in subst (λ v. begun_count v.shape ≤ items * 2) q h.0
+
+pub record IsTop (s : Place) (f : Frame) : Type 0 where
+  pub more : IsOpenShape f.shape
+  pub frames_need : need_of_frame f.kind f.shape ≤ s.frames_need
+  pub few : s.frames_need < 2 ^ 62
+  pub counted : begun_count f.shape < 2 ^ 62
+
+pub top_is : (s : Place) (f : Frame) → IsSound (at s AtStart) → innermost s.frames ≡ Some f → IsTop s f
+top_is s f h e =
+    let c : begun_count f.shape ≤ s.bounds.items * 2 = top_few s.bounds.items s.frames f e h.counted in
+    let o : s.frames_need ≡ need_of_frames s.frames = h.frames_need in
+    let w : s.taken + 0 + token_needed AtStart s.bounds.depth s.frames + s.frames_need ≤ s.bounds.total = h.total in
+    record {
+      more = top_open s.frames f e h.token;
+      frames_need = omega (arith, o, top_need s.frames f e);
+      few = omega (arith, w, h.bounds.total_in_range.1);
+      counted = omega (arith, c, h.bounds.items_in_range.1);
+    }
+
+closing_three : (fs : List Frame) → may_close fs ≡ true → 3 ≤ need_of_frames fs
+closing_three [] m = absurd (false≢true m)
+closing_three (f ∷ fs) m = omega (arith, closes_three f.kind f.shape m)
+
+-- a close was owed
+pub close_owed : (s : Place) → IsSound (at s AtStart) → may_close s.frames ≡ true → 3 ≤ s.frames_need
+close_owed s h m = let o : s.frames_need ≡ need_of_frames s.frames = h.frames_need in omega (arith, o, closing_three s.frames m)

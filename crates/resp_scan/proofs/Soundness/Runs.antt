@@ -1,0 +1,202 @@
+-- Runs of content bytes.
+use Rattle.std.specs.Prelude.{◌≡◌, ◌≢◌, ℕ, zero, suc, ◌+◌, ◌-◌, ◌<◌, ◌≤◌, Bool, true, false, cond, eqb, nat_le, List, [], ◌∷◌, length, take, min, refl}
+use Rattle.std.proofs.Common.{sym, ◌∙◌, ap, arith, get_or, add-zero, add-one, zero-add}
+use Rattle.std.proofs.lemmas.Grind.{common_steps}
+use Rattle.std.proofs.lemmas.Bool.Decides.{nat_tests}
+use Rattle.resp_value.specs.declared.cause.Cause.TheVariants as cause
+use Rattle.resp_scan.specs.Machine.Tokens.{Place, Token, Move, Go, Byte, Give, Refuse, at, InLine, AtLineLf, InBig, InContent, AtContentCr, AtContentLf, InChunk, AtChunkCr, AtChunkLf}
+use Rattle.resp_scan.specs.Machine.Room.{total_room}
+use Rattle.resp_scan.specs.Machine.Heads.{content_at, chunk_at}
+use Rattle.resp_scan.specs.Machine.Moves.{next, content_byte, is_digit, only_byte}
+use Rattle.resp_scan.specs.Machine.Scan.{content, and_more, answer, scan, Part}
+use Rattle.resp_scan.specs.Machine.Runs.{run_to, plain_run, digit_run}
+
+pub plain_run_le : (p : List ℕ) → plain_run p ≤ length p
+plain_run_le [] = omega arith
+plain_run_le (b ∷ bs) = grind (arith, nat_tests, plain_run_le bs)
+
+pub digit_run_le : (p : List ℕ) → digit_run p ≤ length p
+digit_run_le [] = omega arith
+digit_run_le (b ∷ bs) =
+    elim (is_digit b) as (λ v. cond v (digit_run bs + 1) 0 ≤ length (b ∷ bs)) [
+      | true ↦ omega (arith, digit_run_le bs)
+      | false ↦ omega arith
+    ]
+
+-- the first CR or LF is the first LF before the first CR
+pub plain_run-run_to : (p : List ℕ) → plain_run p ≡ run_to 10 (take (run_to 13 p) p)
+plain_run-run_to [] = refl
+plain_run-run_to (b ∷ bs) =
+    elim (eqb b 13) as (λ v. eqb b 13 ≡ v → plain_run (b ∷ bs) ≡ run_to 10 (take (run_to 13 (b ∷ bs)) (b ∷ bs))) [
+      | true ↦ λ e. simp e
+      | false ↦ λ e. simp (e, add-one, plain_run-run_to bs)
+    ] refl
+
+pub run_to_is : (c : ℕ) (p : List ℕ) (k : ℕ) → k ≤ length p → ((j : ℕ) → j < k → get_or p j 0 ≢ c) → (k < length p → get_or p k 0 ≡ c) → run_to c p ≡ k
+run_to_is c [] k h f g = omega arith
+run_to_is c (b ∷ bs) zero h f g = let e : b ≡ c = g (omega arith) in grind (arith, nat_tests)
+run_to_is c (b ∷ bs) (suc k) h f g =
+    let e : b ≢ c = f 0 (omega arith) in
+    let r : run_to c bs ≡ k = run_to_is c bs k (omega arith) (λ j l. f (suc j) (omega arith)) (λ l. g (omega arith)) in
+    grind (arith, nat_tests)
+
+sub_zero : (n : ℕ) → n - 0 ≡ n
+sub_zero n = omega arith
+
+-- a byte is CR, or LF, or neither
+line_cases : (b : ℕ) (P : Bool → Bool → Type 0) → ((y : Bool) → P true y) → P false true → P false false → P (eqb b 13) (eqb b 10)
+line_cases b P cr lf other =
+    elim (eqb b 13) as (λ v. P v (eqb b 10)) [
+      | true ↦ cr (eqb b 10)
+      | false ↦ elim (eqb b 10) as (λ v. P false v) [ true ↦ lf | false ↦ other ]
+    ]
+
+abbrev byte_move : Place → ℕ → (ℕ → Token) → Bool → Bool → Move
+byte_move s room t x y = cond x (Refuse cause.Length) (cond y (Byte (at s (t (room - 1)))) (Refuse cause.Total))
+
+-- where length or total leaves nothing, a byte is no content
+byte_stops : (s : Place) (i room : ℕ) (t : Token) (f : ℕ → Token) (more : Place → ℕ × Place) → min room (total_room s - (i + 2)) ≡ 0 →
+    and_more (content_byte (at s t) (i + 1) room f) (i, at s t) more ≡ (i, at s t)
+byte_stops s i room t f more e =
+    elim (eqb room 0) as (λ v. eqb room 0 ≡ v → and_more (byte_move (at s t) room f v (nat_le (i + 1 + 2) (total_room s))) (i, at s t) more ≡ (i, at s t)) [
+      | true ↦ λ z. refl
+      | false ↦ λ z.
+          let n : nat_le (i + 1 + 2) (total_room s) ≡ false = grind (arith, nat_tests) in
+          simp n
+    ] refl
+
+byte_goes : (s : Place) (i room m : ℕ) (t : Token) (f : ℕ → Token) → min room (total_room s - (i + 2)) ≡ suc m →
+    content_byte (at s t) (i + 1) room f ≡ Byte (at s (f (room - 1)))
+byte_goes s i room m t f e =
+    let z : eqb room 0 ≡ false = grind (arith, nat_tests) in
+    let n : nat_le (i + 1 + 2) (total_room s) ≡ true = grind (arith, nat_tests) in
+    simp (z, n)
+
+abbrev line_move : Place → ℕ → ℕ → Bool → Bool → Move
+line_move s i room x y = cond x (Go (at s AtLineLf)) (cond y (Refuse cause.Syntax) (content_byte (at s (InLine room)) (i + 1) room InLine))
+
+pub content_line : (s : Place) (i room m : ℕ) (p : List ℕ) → min room (total_room s - (i + 2)) ≡ m →
+    content i (at s (InLine room)) p ≡ (i + plain_run (take m p), at s (InLine (room - plain_run (take m p))))
+content_line s i room zero [] e = simp (add-zero, sub_zero)
+content_line s i room (suc m) [] e = simp (add-zero, sub_zero)
+content_line s i room zero (b ∷ bs) e =
+    line_cases b (λ x y. and_more (line_move s i room x y) (i, at s (InLine room)) (λ t. content (i + 1) t bs) ≡ (i + 0, at s (InLine (room - 0))))
+    (λ y. simp (add-zero, sub_zero)) (simp (add-zero, sub_zero)) (byte_stops s i room (InLine room) InLine (λ t. content (i + 1) t bs) e ∙
+    simp (add-zero, sub_zero))
+content_line s i room (suc m) (b ∷ bs) e =
+    let g = byte_goes s i room m (InLine room) InLine e in
+    let e' : min (room - 1) (total_room s - ((i + 1) + 2)) ≡ m = omega (arith, e) in
+    let k = plain_run (take m bs) in
+    let j : (i + 1) + k ≡ i + (k + 1) = omega arith in
+    let q : (room - 1) - k ≡ room - (k + 1) = omega arith in
+    line_cases b (λ x y. and_more (line_move s i room x y) (i, at s (InLine room)) (λ t. content (i + 1) t bs) ≡
+    (i + cond x 0 (cond y 0 (k + 1)), at s (InLine (room - cond x 0 (cond y 0 (k + 1))))))
+    (λ y. simp (add-zero, sub_zero)) (simp (add-zero, sub_zero))
+    (ap (λ v. and_more v (i, at s (InLine room)) (λ t. content (i + 1) t bs)) g ∙ content_line s (i + 1) (room - 1) m bs e' ∙
+    ap (λ n. (n, at s (InLine ((room - 1) - k)))) j ∙ ap (λ n. (i + (k + 1), at s (InLine n))) q)
+
+abbrev big_move : Place → ℕ → ℕ → ℕ → Bool → Move
+big_move s i room b x = cond x (content_byte (at s (InBig room)) (i + 1) room InBig) (only_byte 13 b (Go (at s AtLineLf)))
+
+wants_stops : (x b : ℕ) (t : Place) (stop : ℕ × Place) (more : Place → ℕ × Place) → and_more (only_byte x b (Go t)) stop more ≡ stop
+wants_stops x b t stop more = elim (eqb b x) as (λ v. and_more (cond v (Go t) (Refuse cause.Syntax)) stop more ≡ stop) [ true ↦ refl | false ↦ refl ]
+
+pub content_big : (s : Place) (i room m : ℕ) (p : List ℕ) → min room (total_room s - (i + 2)) ≡ m →
+    content i (at s (InBig room)) p ≡ (i + digit_run (take m p), at s (InBig (room - digit_run (take m p))))
+content_big s i room zero [] e = simp (add-zero, sub_zero)
+content_big s i room (suc m) [] e = simp (add-zero, sub_zero)
+content_big s i room zero (b ∷ bs) e =
+    elim (is_digit b) as (λ x. and_more (big_move s i room b x) (i, at s (InBig room)) (λ t. content (i + 1) t bs) ≡ (i + 0, at s (InBig (room - 0)))) [
+      | true ↦ byte_stops s i room (InBig room) InBig (λ t. content (i + 1) t bs) e ∙ simp (add-zero, sub_zero)
+      | false ↦ wants_stops 13 b (at s AtLineLf) (i, at s (InBig room)) (λ t. content (i + 1) t bs) ∙ simp (add-zero, sub_zero)
+    ]
+content_big s i room (suc m) (b ∷ bs) e =
+    let g = byte_goes s i room m (InBig room) InBig e in
+    let e' : min (room - 1) (total_room s - ((i + 1) + 2)) ≡ m = omega (arith, e) in
+    let k = digit_run (take m bs) in
+    let j : (i + 1) + k ≡ i + (k + 1) = omega arith in
+    let q : (room - 1) - k ≡ room - (k + 1) = omega arith in
+    elim (is_digit b) as (λ x. and_more (big_move s i room b x) (i, at s (InBig room)) (λ t. content (i + 1) t bs) ≡
+    (i + cond x (k + 1) 0, at s (InBig (room - cond x (k + 1) 0)))) [
+      | true ↦ ap (λ v. and_more v (i, at s (InBig room)) (λ t. content (i + 1) t bs)) g ∙ content_big s (i + 1) (room - 1) m bs e' ∙
+          ap (λ n. (n, at s (InBig ((room - 1) - k)))) j ∙ ap (λ n. (i + (k + 1), at s (InBig n))) q
+      | false ↦ wants_stops 13 b (at s AtLineLf) (i, at s (InBig room)) (λ t. content (i + 1) t bs) ∙ simp (add-zero, sub_zero)
+    ]
+
+-- a part, where the run isn't empty
+scan_move : (v : Move) (i n : ℕ) (s t : Place) (bs : List ℕ) → i < n → and_more v (i, s) (λ u. content (i + 1) u bs) ≡ (n, t) →
+    answer v i s (λ u. scan (i + 1) u bs) (λ u. content (i + 1) u bs) ≡ Part i n t
+scan_move (Go u) i n s t bs h e = absurd (let z : i ≡ n = ap (λ o. o.0) e in omega arith)
+scan_move (Byte u) i n s t bs h e = ap (λ o. Part i o.0 o.1) e
+scan_move (Give x u) i n s t bs h e = absurd (let z : i ≡ n = ap (λ o. o.0) e in omega arith)
+scan_move (Refuse c) i n s t bs h e = absurd (let z : i ≡ n = ap (λ o. o.0) e in omega arith)
+
+pub scan_part : (i n : ℕ) (s t : Place) (p : List ℕ) → i < n → content i s p ≡ (n, t) → scan i s p ≡ Part i n t
+scan_part i n s t [] h e = absurd (let z : i ≡ n = ap (λ o. o.0) e in omega arith)
+scan_part i n s t (b ∷ bs) h e = scan_move (next s (i + 1) b) i n s t bs h e
+
+take_min : (r : ℕ) (p : List ℕ) → take (min r (length p)) p ≡ take r p
+take_min r p = grind (arith, common_steps)
+
+pub line_part : (s : Place) (room k : ℕ) (p : List ℕ) → k ≡ plain_run (take (min (min room (total_room s - 2)) (length p)) p) → 0 < k →
+    scan 0 (at s (InLine room)) p ≡ Part 0 k (at s (InLine (room - k)))
+line_part s room k p e h =
+    let m = min room (total_room s - 2) in
+    let q : k ≡ plain_run (take m p) = e ∙ ap plain_run (take_min m p) in
+    scan_part 0 k (at s (InLine room)) (at s (InLine (room - k))) p h (content_line s 0 room m p refl ∙
+    ap (λ j. (j, at s (InLine (room - plain_run (take m p))))) (zero-add (plain_run (take m p))) ∙ ap (λ j. (j, at s (InLine (room - j)))) (sym q))
+
+pub big_part : (s : Place) (room k : ℕ) (p : List ℕ) → k ≡ digit_run (take (min (min room (total_room s - 2)) (length p)) p) → 0 < k →
+    scan 0 (at s (InBig room)) p ≡ Part 0 k (at s (InBig (room - k)))
+big_part s room k p e h =
+    let m = min room (total_room s - 2) in
+    let q : k ≡ digit_run (take m p) = e ∙ ap digit_run (take_min m p) in
+    scan_part 0 k (at s (InBig room)) (at s (InBig (room - k))) p h (content_big s 0 room m p refl ∙
+    ap (λ j. (j, at s (InBig (room - digit_run (take m p))))) (zero-add (digit_run (take m p))) ∙ ap (λ j. (j, at s (InBig (room - j)))) (sym q))
+
+-- Counted content.
+
+content_at_some : (s : Place) (n : ℕ) → 0 < n → content_at n s ≡ at s (InContent n)
+content_at_some s n h = let e : eqb n 0 ≡ false = grind (arith, nat_tests) in simp e
+
+content_some : (s : Place) (i k m : ℕ) (p : List ℕ) → k ≤ length p → (0 < m → k ≡ length p) → content i (content_at (k + m) s) p ≡ (i + k, content_at m s)
+content_some s i zero m [] h f = simp (zero-add, add-zero)
+content_some s i zero zero (b ∷ bs) h f = wants_stops 13 b (at s AtContentLf) (i, at s AtContentCr) (λ t. content (i + 1) t bs) ∙ simp add-zero
+content_some s i zero (suc m) (b ∷ bs) h f = absurd (let e : 0 ≡ suc (length bs) = f (omega arith) in omega arith)
+content_some s i (suc k) m [] h f = absurd (omega arith)
+content_some s i (suc k) m (b ∷ bs) h f =
+    ap (λ t. content i t (b ∷ bs)) (content_at_some s (suc k + m) (omega arith)) ∙
+    ap (λ n. content (i + 1) (content_at n s) bs) (let e : (suc k + m) - 1 ≡ k + m = omega arith in e) ∙
+    content_some s (i + 1) k m bs (omega arith) (λ l. let e : suc k ≡ suc (length bs) = f l in omega arith) ∙
+    ap (λ n. (n, content_at m s)) (let e : (i + 1) + k ≡ i + suc k = omega arith in e)
+
+pub content_part : (s : Place) (i n k : ℕ) (p : List ℕ) → 0 < n → 0 < length p → k ≡ min (length p) n →
+    scan i (at s (InContent n)) p ≡ Part i (i + k) (content_at (n - k) s)
+content_part s i n k p h l e =
+    let j : k + (n - k) ≡ n = omega arith in
+    let q : content_at (k + (n - k)) s ≡ at s (InContent n) = ap (λ v. content_at v s) j ∙ content_at_some s n h in
+    scan_part i (i + k) (at s (InContent n)) (content_at (n - k) s) p (omega arith) (ap (λ t. content i t p) (sym q) ∙
+    content_some s i k (n - k) p (omega arith) (λ z. omega arith))
+
+chunk_at_some : (s : Place) (room n : ℕ) → 0 < n → chunk_at room n s ≡ at s (InChunk room n)
+chunk_at_some s room n h = let e : eqb n 0 ≡ false = grind (arith, nat_tests) in simp e
+
+chunk_some : (s : Place) (room i k m : ℕ) (p : List ℕ) → k ≤ length p → (0 < m → k ≡ length p) →
+    content i (chunk_at room (k + m) s) p ≡ (i + k, chunk_at room m s)
+chunk_some s room i zero m [] h f = simp (zero-add, add-zero)
+chunk_some s room i zero zero (b ∷ bs) h f = wants_stops 13 b (at s (AtChunkLf room)) (i, at s (AtChunkCr room)) (λ t. content (i + 1) t bs) ∙ simp add-zero
+chunk_some s room i zero (suc m) (b ∷ bs) h f = absurd (let e : 0 ≡ suc (length bs) = f (omega arith) in omega arith)
+chunk_some s room i (suc k) m [] h f = absurd (omega arith)
+chunk_some s room i (suc k) m (b ∷ bs) h f =
+    ap (λ t. content i t (b ∷ bs)) (chunk_at_some s room (suc k + m) (omega arith)) ∙
+    ap (λ n. content (i + 1) (chunk_at room n s) bs) (let e : (suc k + m) - 1 ≡ k + m = omega arith in e) ∙
+    chunk_some s room (i + 1) k m bs (omega arith) (λ l. let e : suc k ≡ suc (length bs) = f l in omega arith) ∙
+    ap (λ n. (n, chunk_at room m s)) (let e : (i + 1) + k ≡ i + suc k = omega arith in e)
+
+pub chunk_part : (s : Place) (room i n k : ℕ) (p : List ℕ) → 0 < n → 0 < length p → k ≡ min (length p) n →
+    scan i (at s (InChunk room n)) p ≡ Part i (i + k) (chunk_at room (n - k) s)
+chunk_part s room i n k p h l e =
+    let j : k + (n - k) ≡ n = omega arith in
+    let q : chunk_at room (k + (n - k)) s ≡ at s (InChunk room n) = ap (λ v. chunk_at room v s) j ∙ chunk_at_some s room n h in
+    scan_part i (i + k) (at s (InChunk room n)) (chunk_at room (n - k) s) p (omega arith) (ap (λ t. content i t p) (sym q) ∙
+    chunk_some s room i k (n - k) p (omega arith) (λ z. omega arith))

@@ -1,0 +1,21 @@
+-- What one byte makes of each token.
+pub mod Moves
+pub mod RefusedMoves
+pub mod LeafEvents
+pub mod LinesLead
+pub mod Choices
+pub mod NumbersLead
+pub mod BigNumbersLead
+pub mod LiteralsLead
+pub mod ClosesLead
+pub mod Begins
+pub mod StartLeads
+pub mod ByteTests
+pub mod ContentLead
+pub mod StringLengthEndsLead
+pub mod FormatsLead
+pub mod ChunksBegun
+pub mod StreamsLead
+pub mod ChunkContentLead
+pub mod EachLeads
+pub mod TokenLaws

@@ -1,0 +1,282 @@
+-- Integers.
+use Rattle.std.specs.Prelude.{Bool, true, false, cond, eqb}
+use Rattle.std.proofs.Common.{◌≡◌, ℕ, ◌+◌, ◌-◌, ◌*◌, ◌<◌, ◌≤◌, List, [], ◌∷◌, ◌++◌, refl, sym, ap, subst, ◌∙◌, arith, append-nil}
+use Rattle.resp_value.specs.Bytes.{IsLine}
+use Rattle.resp_value.specs.Numbers.{IsDigit, Sign, Unsigned, Plus, Minus, is_minus, number, sign_text, signed_value}
+use Rattle.resp_value.specs.Rules.{Rules, Grammar, InRange, PushAtTop}
+use Rattle.resp_value.specs.LocalRules.{LeafKeeps, NodeKeeps}
+use Rattle.resp_value.specs.Trees.{leaf, numeral, NumberKind, Int, Big, number_byte}
+use Rattle.resp_value.specs.declared.cause.Cause.TheVariants as cause
+use Rattle.resp_fronts.specs.Events.{Event}
+use Rattle.resp_fronts.specs.Events as e
+use Rattle.resp_fronts.proofs.FirstLines.CountRows.{CompletesUnder, IsRefusedHere}
+use Rattle.resp_fronts.proofs.FirstLines.BegunLines.{number-digit}
+use Rattle.resp_fronts.proofs.Tokens.BegunFronts.{IsBegunBy}
+use Rattle.resp_fronts.proofs.Refusals.BrokenLines.{byte_broken, return_broken}
+use Rattle.resp_fronts.proofs.Refusals.BrokenHeads.{number_begun_broken, number_broken, number_short}
+use Rattle.resp_fronts.proofs.Tokens.LineTokens.{line_begun, no_break_in_line, returned_begun, returned_broken, returned_whole}
+use Rattle.resp_fronts.proofs.Tokens.NumberTokens.{int_token_over, number_begun, number_token_begins, number_token_line, number_token_more}
+use Rattle.resp_scan.specs.Machine.Magnitudes.{greatest_magnitude}
+use Rattle.resp_scan.specs.Machine.Tokens as k
+use Rattle.resp_scan.specs.Machine.Tokens.{Go, Give, Move, Refuse, Place, Token, AtIntFirst, AtIntLf, AtIntSign, InInt, at, after_end}
+use Rattle.resp_scan.specs.Machine.Room.{has_total_room, over_total}
+use Rattle.resp_scan.specs.Machine.Moves as machine
+use Rattle.resp_scan.specs.Machine.Moves.{int_digit, int_first, is_digit, move_unless, only_byte}
+use Rattle.resp_scan.specs.Kinds.{rules_of}
+use Rattle.resp_scan.specs.Machine.Beginnings as b
+use Rattle.resp_scan.specs.Machine.Beginnings.{IntBegun, IntReturned, IsSigned, SignBegun}
+use Rattle.resp_scan.specs.Machine.Standing.{HasCountsOf, IsInside, Leads, StandsAfter}
+use Rattle.resp_scan.proofs.TokenMoves.TokenLaws.{IntSignLeads, IntFirstLeads, IntLeads, IntEndLeads}
+use Rattle.resp_scan.proofs.TokenMoves.Moves.{Ends, goes, value_ends}
+use Rattle.resp_scan.proofs.TokenMoves.RefusedMoves.{broken, fits_or_total, refused, unless_over}
+use Rattle.resp_scan.proofs.TokenMoves.ByteTests.{by_byte, by_digit}
+use Rattle.resp_scan.proofs.TokenMoves.Choices.{if_equal, if_within, wants_leads}
+use Rattle.resp_fronts.specs.Tokens.{IsNumberBegun, IsNumberToken, MayBe, greatest}
+
+-- a byte of a number's beginning that no spelling has there
+pub begun_line : (k : NumberKind) (sign : Sign) → IsLine (number_byte k ∷ (sign_text sign ++ []))
+begun_line Int Unsigned = ((λ z. omega arith, λ z. omega arith), tt)
+begun_line Int Plus = ((λ z. omega arith, λ z. omega arith), ((λ z. omega arith, λ z. omega arith), tt))
+begun_line Int Minus = ((λ z. omega arith, λ z. omega arith), ((λ z. omega arith, λ z. omega arith), tt))
+begun_line Big Unsigned = ((λ z. omega arith, λ z. omega arith), tt)
+begun_line Big Plus = ((λ z. omega arith, λ z. omega arith), ((λ z. omega arith, λ z. omega arith), tt))
+begun_line Big Minus = ((λ z. omega arith, λ z. omega arith), ((λ z. omega arith, λ z. omega arith), tt))
+
+pub begun_dead : (r : Rules) (k : NumberKind) (sign : Sign) (level byte : ℕ) (bytes rest : List ℕ) → (sign ≡ Unsigned → (byte ≡ 43 → ⊥) × (byte ≡ 45 → ⊥)) →
+    (IsDigit byte → ⊥) → IsNumberBegun r k sign level bytes → CompletesUnder r Grammar level bytes (byte ∷ rest) → ⊥
+begun_dead r k sign level byte bytes rest no_sign no_digit w c =
+    if_equal byte 13 (λ z. ⊥)
+    (λ is. return_broken (LeafKeeps r Grammar) (NodeKeeps r Grammar) level (number_byte k ∷ (sign_text sign ++ [])) rest (begun_line k sign)
+    (number_short k sign) (subst (λ z. CompletesUnder r Grammar level z (13 ∷ rest)) w.1
+    (subst (λ z. CompletesUnder r Grammar level bytes (z ∷ rest)) is c)))
+    (λ other. byte_broken (LeafKeeps r Grammar) (NodeKeeps r Grammar) level (number_byte k ∷ (sign_text sign ++ [])) rest byte (begun_line k sign) other
+    (number_begun_broken k sign byte no_sign no_digit) (subst (λ z. CompletesUnder r Grammar level z (byte ∷ rest)) w.1 c))
+
+-- and one of its digits
+pub digits_dead : (r : Rules) (k : NumberKind) (sign : Sign) (first level byte : ℕ) (digits bytes rest : List ℕ) → (byte ≡ 13 → ⊥) → (IsDigit byte → ⊥) →
+    IsNumberToken r k sign (first ∷ digits) level bytes → CompletesUnder r Grammar level bytes (byte ∷ rest) → ⊥
+digits_dead r k sign first level byte digits bytes rest no_return no_digit w c =
+    byte_broken (LeafKeeps r Grammar) (NodeKeeps r Grammar) level (number_byte k ∷ (sign_text sign ++ first ∷ digits)) rest byte
+    (subst IsLine w.are (no_break_in_line r (numeral k sign (first ∷ digits)) level bytes (number_token_line r k sign (first ∷ digits) level bytes w)))
+    no_return (number_broken k sign first digits byte w.are_digits.1.0 no_digit) (subst (λ z. CompletesUnder r Grammar level z (byte ∷ rest)) w.are c)
+
+-- a number without a digit needs one, and its line's end
+pub begun_row : (r : Rules) (k : NumberKind) (negative : Bool) (level : ℕ) (bytes : List ℕ) (shown : List Event) → SignBegun r k negative level bytes shown →
+    IsBegunBy r level bytes 3
+begun_row r k negative level bytes shown w = number_begun r k w.sign level bytes w.token
+
+-- behind a digit it needs the end alone
+pub digits_row : (r : Rules) (k : NumberKind) (sign : Sign) (digits : List ℕ) (level : ℕ) (bytes : List ℕ) → IsNumberToken r k sign digits level bytes →
+    IsBegunBy r level bytes 2
+digits_row r k sign digits level bytes w = line_begun r (numeral k sign digits) level bytes (number_token_line r k sign digits level bytes w)
+
+-- a sign
+pub sign_more : (r : Rules) (k : NumberKind) (level : ℕ) (bytes : List ℕ) (sign : Sign) (byte : ℕ) → MayBe r k sign (48 ∷ []) → sign_text sign ≡ byte ∷ [] →
+    IsNumberBegun r k Unsigned level bytes → IsNumberBegun r k sign level (bytes ++ byte ∷ [])
+sign_more r k level bytes sign byte has_total_room is w = (
+  has_total_room,
+  ap (λ z. z ++ byte ∷ []) w.1 ∙
+      ap (λ z. number_byte k ∷ z) (sym (append-nil (sign_text sign) ∙ is)),
+)
+
+-- a number's beginning, with a sign or without
+pub record AnySign (r : Rules) (k : NumberKind) (negative : Bool) (byte level : ℕ) (bytes : List ℕ) (shown : List Event) : Type 0 where
+  pub sign : Sign
+  pub is_signed : is_minus sign ≡ negative
+  pub token : IsNumberBegun r k sign level bytes
+  pub told : shown ≡ []
+  pub no_sign : sign ≡ Unsigned → (byte ≡ 43 → ⊥) × (byte ≡ 45 → ⊥)
+
+pub signed_any : (r : Rules) (k : NumberKind) (negative : Bool) (byte level : ℕ) (bytes : List ℕ) (shown : List Event) →
+    SignBegun r k negative level bytes shown → AnySign r k negative byte level bytes shown
+signed_any r k negative byte level bytes shown w = record {
+  sign = w.sign;
+  is_signed = minus w.sign negative w.is_signed;
+  token = w.token;
+  told =
+      w.told;
+  no_sign = λ e. absurd (no_unsigned w.sign negative w.is_signed e);
+}
+  where
+    minus : (sign : Sign) (negative : Bool) → IsSigned negative sign → is_minus sign ≡ negative
+    minus Unsigned negative p = absurd p
+    minus Plus negative p = sym p
+    minus Minus negative p = sym p
+
+    no_unsigned : (sign : Sign) (negative : Bool) → IsSigned negative sign → sign ≡ Unsigned → ⊥
+    no_unsigned Unsigned negative p e = p
+    no_unsigned Plus negative p e = cc
+    no_unsigned Minus negative p e = cc
+
+pub unsigned_any : (r : Rules) (k : NumberKind) (byte level : ℕ) (bytes : List ℕ) (shown : List Event) → (byte ≡ 43 → ⊥) → (byte ≡ 45 → ⊥) →
+    IsNumberBegun r k Unsigned level bytes × (shown ≡ []) → AnySign r k false byte level bytes shown
+unsigned_any r k byte level bytes shown no_plus no_minus w = record {
+  sign = Unsigned;
+  is_signed = refl;
+  token = w.0;
+  told = w.1;
+  no_sign =
+      λ e. (no_plus, no_minus);
+}
+
+greatest_is : (sign : Sign) → greatest sign ≡ greatest_magnitude (is_minus sign)
+greatest_is Unsigned = refl
+greatest_is Plus = refl
+greatest_is Minus = refl
+
+one_digit : (sign : Sign) (digit : ℕ) → IsDigit digit → number (digit ∷ []) ≤ greatest sign
+one_digit Unsigned digit d = omega (arith, d.1)
+one_digit Plus digit d = omega (arith, d.1)
+one_digit Minus digit d = omega (arith, d.1)
+
+int_begins : (r : Rules) (negative : Bool) (byte level : ℕ) (bytes : List ℕ) (shown : List Event) → IsDigit byte →
+    AnySign r Int negative byte level bytes shown → IntBegun r negative (byte - 48) level (bytes ++ byte ∷ []) shown
+int_begins r negative byte level bytes shown d w = record {
+  sign = w.sign;
+  first = byte;
+  digits = [];
+  is_signed = w.is_signed;
+  token = number_token_begins r Int w.sign level byte bytes d (one_digit w.sign byte d) w.token;
+  valued = omega arith;
+  told = w.told;
+}
+
+first_leads : (s : Place) (T : ℕ → List ℕ → List Event → Type 0) (negative : Bool) (byte : ℕ) (front : List ℕ) (es : List Event) →
+    IsInside (rules_of s) T s.frames front es → ((level : ℕ) (bytes : List ℕ) (shown : List Event) → T level bytes shown →
+    AnySign (rules_of s) Int negative byte level bytes shown) → Leads s front es byte (int_first s negative byte)
+first_leads s T negative byte front es w any =
+    let r = rules_of s in
+    by_digit s front es byte _ _
+    (λ d. goes r T (IntBegun r negative (byte - 48)) s.frames front (byte ∷ []) es w
+    (λ level bytes shown i t. int_begins r negative byte level bytes shown d (any level bytes shown t)))
+    (λ d. broken r T s.frames front es 3 byte w (λ level bytes shown i t. let a = any level bytes shown t in number_begun r Int a.sign level bytes a.token)
+    (λ level bytes rest shown t c. let a = any level bytes shown t in begun_dead r Int a.sign level byte bytes rest a.no_sign d a.token c))
+
+-- behind the type byte a sign that total lets stand, or what stands there without one
+pub signs_lead : (s : Place) (k : NumberKind) (first : Bool → Token) (used byte : ℕ) (unsigned : Move) (front : List ℕ) (es : List Event) →
+    HasCountsOf s used front → IsInside (rules_of s) (λ level bytes shown. IsNumberBegun (rules_of s) k Unsigned level bytes × (shown ≡ [])) s.frames front es →
+    ((sign : Sign) (level : ℕ) (bytes : List ℕ) → IsNumberBegun (rules_of s) k Unsigned level bytes → MayBe (rules_of s) k sign (48 ∷ [])) →
+    ((negative : Bool) → IsInside (rules_of s) (SignBegun (rules_of s) k negative) s.frames (front ++ byte ∷ []) es →
+    StandsAfter (at s (first negative)) (front ++ byte ∷ []) es) → ((byte ≡ 43 → ⊥) → (byte ≡ 45 → ⊥) → Leads s front es byte unsigned) →
+    Leads s front es byte (cond (eqb byte 45) (move_unless (over_total s (used + 1) 3) (Go (at s (first true))))
+    (cond (eqb byte 43) (move_unless (over_total s (used + 1) 3) (Go (at s (first false)))) unsigned))
+signs_lead s k first used byte unsigned front es c w may_be lies leads =
+    by_byte s front es 45 byte _ _ (λ is. sign Minus true (ap (λ z. z ∷ []) is) refl)
+    (λ no_minus. by_byte s front es 43 byte _ _ (λ is. sign Plus false (ap (λ z. z ∷ []) is) refl) (λ no_plus. leads no_plus no_minus))
+  where
+    sign : (x : Sign) (negative : Bool) → byte ∷ [] ≡ sign_text x → IsSigned negative x →
+        Leads s front es byte (move_unless (over_total s (used + 1) 3) (Go (at s (first negative))))
+    sign x negative is signed_value =
+        let r = rules_of s in
+        let more : IsInside r (SignBegun r k negative) s.frames (front ++ byte ∷ []) es = goes r _ (SignBegun r k negative) s.frames front (byte ∷ []) es w
+        (λ level bytes shown i t. record {
+          sign = x;
+          is_signed = signed_value;
+          token = sign_more r k level bytes x byte (may_be x level bytes t.0) (sym is) t.0;
+          told = t.1;
+        }) in
+        unless_over s front es used byte 3 (Go (at s (first negative)))
+        (fits_or_total s (SignBegun r k negative) front es es used byte 3 (Go (at s (first negative))) c more
+        (λ level bytes shown i t. begun_row r k negative level bytes shown t) (lies negative more))
+
+pub int_sign_leads : IntSignLeads
+int_sign_leads s used byte front es is_byte c w =
+    signs_lead (at s AtIntSign) Int AtIntFirst used byte _ front es c w (λ sign level bytes t. one_digit sign 48 (omega arith, omega arith)) (λ negative x. x)
+    (λ no_plus no_minus. first_leads (at s AtIntSign) (b.TokenHas (rules_of s) AtIntSign) false byte front es w
+    (λ level bytes shown t. unsigned_any (rules_of s) Int byte level bytes shown no_plus no_minus t))
+
+pub int_first_leads : IntFirstLeads
+int_first_leads s negative used byte front es is_byte c w =
+    first_leads (at s (AtIntFirst negative)) (SignBegun (rules_of s) Int negative) negative byte front es w
+    (λ level bytes shown t. signed_any (rules_of s) Int negative byte level bytes shown t)
+
+-- Digits.
+
+int_goes_on : (r : Rules) (negative : Bool) (n byte level : ℕ) (bytes : List ℕ) (shown : List Event) → IsDigit byte →
+    n * 10 + (byte - 48) ≤ greatest_magnitude negative → IntBegun r negative n level bytes shown →
+    IntBegun r negative (n * 10 + (byte - 48)) level (bytes ++ byte ∷ []) shown
+int_goes_on r negative n byte level bytes shown d has_total_room w =
+    let value : number ((w.first ∷ w.digits) ++ byte ∷ []) ≡ n * 10 + (byte - 48) =
+    number-digit (w.first ∷ w.digits) byte ∙ ap (λ m. m * 10 + (byte - 48)) w.valued in
+    record {
+      sign = w.sign;
+      first = w.first;
+      digits = w.digits ++ byte ∷ [];
+      is_signed = w.is_signed;
+      token = number_token_more r Int w.sign (w.first ∷ w.digits) level byte bytes d
+          (omega (arith, value, greatest_is w.sign, ap greatest_magnitude w.is_signed)) w.token;
+      valued = value;
+      told = w.told;
+    }
+
+int_past : (r : Rules) (negative : Bool) (n byte level : ℕ) (bytes : List ℕ) (shown : List Event) → IsDigit byte →
+    greatest_magnitude negative < n * 10 + (byte - 48) → IntBegun r negative n level bytes shown →
+    (head : ℕ) × (tail : List ℕ) × (bytes ++ byte ∷ [] ≡ head ∷ tail) × IsRefusedHere r InRange PushAtTop level (head ∷ tail)
+int_past r negative n byte level bytes shown d past w =
+    let value : number ((w.first ∷ w.digits) ++ byte ∷ []) ≡ n * 10 + (byte - 48) =
+    number-digit (w.first ∷ w.digits) byte ∙ ap (λ m. m * 10 + (byte - 48)) w.valued in
+    let over = int_token_over r w.sign w.first w.digits level byte bytes d (omega (arith, value, greatest_is w.sign, ap greatest_magnitude w.is_signed))
+    w.token in
+    (_, _, over.0, over.1)
+
+signed_is : (sign : Sign) (digits : List ℕ) → signed_value sign digits ≡ machine.with_sign (is_minus sign) (number digits)
+signed_is Unsigned digits = refl
+signed_is Plus digits = refl
+signed_is Minus digits = refl
+
+int_returns : (r : Rules) (negative : Bool) (n level : ℕ) (bytes : List ℕ) (shown : List Event) → IntBegun r negative n level bytes shown →
+    IntReturned r negative n level (bytes ++ 13 ∷ []) shown
+int_returns r negative n level bytes shown w = record {
+  sign = w.sign;
+  digits = w.first ∷ w.digits;
+  returned = record { begun = bytes; line_of = number_token_line r Int w.sign (w.first ∷ w.digits) level bytes w.token; returned = refl };
+  valued = signed_is w.sign (w.first ∷ w.digits) ∙ ap (λ x. machine.with_sign x (number (w.first ∷ w.digits))) w.is_signed ∙
+      ap (machine.with_sign negative) w.valued;
+  told = w.told;
+}
+
+-- an integer's digits
+pub int_row : (r : Rules) (negative : Bool) (n level : ℕ) (bytes : List ℕ) (shown : List Event) → IntBegun r negative n level bytes shown →
+    IsBegunBy r level bytes 2
+int_row r negative n level bytes shown w = digits_row r Int w.sign (w.first ∷ w.digits) level bytes w.token
+
+pub int_leads : IntLeads
+int_leads s negative n used byte front es is_byte c w =
+    let r = rules_of s in
+    let m = n * 10 + (byte - 48) in
+    by_digit (at s (InInt negative n)) front es byte _ _
+    (λ d. if_within m (greatest_magnitude negative) (λ x. Leads (at s (InInt negative n)) front es byte
+    (cond x (cond (has_total_room (at s (InInt negative n)) (used + 1) 2) (Go (at s (InInt negative m))) (Refuse cause.Total)) (Refuse cause.Range)))
+    (λ within.
+    let more = goes r (IntBegun r negative n) (IntBegun r negative m) s.frames front (byte ∷ []) es w
+    (λ level bytes shown i t. int_goes_on r negative n byte level bytes shown d within t) in
+    fits_or_total (at s (InInt negative n)) (IntBegun r negative m) front es es used byte 2 (Go (at s (InInt negative m))) c more
+    (λ level bytes shown i t. int_row r negative m level bytes shown t) more)
+    (λ past. refused r (IntBegun r negative n) InRange PushAtTop s.frames front (byte ∷ []) es refl (omega arith) w
+    (λ level bytes shown i t. int_past r negative n byte level bytes shown d past t)))
+    (λ d. wants_leads (at s (InInt negative n)) (IntBegun r negative n) front es 2 byte 13 (Go (at s (AtIntLf negative n))) w
+    (λ level bytes shown i t. int_row r negative n level bytes shown t)
+    (λ other level bytes rest shown t dead. digits_dead r Int t.sign t.first level byte t.digits bytes rest other d t.token dead)
+    (λ is. subst (λ z. StandsAfter (at s (AtIntLf negative n)) (front ++ z ∷ []) es) (sym is)
+    (goes r (IntBegun r negative n) (IntReturned r negative n) s.frames front (13 ∷ []) es w
+    (λ level bytes shown i t. int_returns r negative n level bytes shown t))))
+
+int_ends : (r : Rules) (negative : Bool) (n level : ℕ) (bytes : List ℕ) (shown : List Event) → IntReturned r negative n level bytes shown →
+    Ends r level (bytes ++ 10 ∷ []) (shown ++ e.Int (machine.with_sign negative n) ∷ [])
+int_ends r negative n level bytes shown w = record {
+  tree = leaf (numeral Int w.sign w.digits);
+  is_tree = w.returned.line_of.is_leaf;
+  keep = w.returned.line_of.keeps;
+  whole = returned_whole r (numeral Int w.sign w.digits) level bytes w.returned;
+  told = λ from. ap (λ z. e.Int z ∷ []) w.valued ∙ ap (λ z. z ++ e.Int (machine.with_sign negative n) ∷ []) (sym w.told);
+}
+
+pub int_end_leads : IntEndLeads
+int_end_leads s negative n used byte front es is_byte c w =
+    let r = rules_of s in
+    wants_leads (at s (AtIntLf negative n)) (IntReturned r negative n) front es 1 byte 10 (Give (k.Int (machine.with_sign negative n)) (after_end s)) w
+    (λ level bytes shown i t. returned_begun r (numeral Int t.sign t.digits) level bytes t.returned)
+    (λ other level bytes rest shown t dead. returned_broken r (numeral Int t.sign t.digits) level bytes rest byte other t.returned dead)
+    (λ is. subst (λ z. StandsAfter (after_end s) (front ++ z ∷ []) (es ++ e.Int (machine.with_sign negative n) ∷ [])) (sym is)
+    (value_ends r (IntReturned r negative n) s.frames front (10 ∷ []) es (e.Int (machine.with_sign negative n) ∷ []) w
+    (λ level bytes shown i t. int_ends r negative n level bytes shown t)))
