@@ -2,7 +2,7 @@
 
 ghost use Rattle.resp_value.specs.Bounds.{AreBounds};
 ghost use Rattle.resp_scan.specs.Machine.Heads.{first_needed};
-ghost use Rattle.std.specs.Prelude.{◌≡◌, ◌↔◌, ◌≤◌, ◌+◌, ℕ, List, length, [], true, None, Some, Err, IsOk, OnOk, OnErr, IfOk, IfErr};
+ghost use Rattle.std.specs.Prelude.{◌≡◌, ◌↔◌, ◌≤◌, ◌+◌, ◌++◌, ℕ, length, take, [], true, None, Some, Err, IsOk, OnOk, OnErr, IfOk, IfErr};
 ghost use Rattle.resp_value.specs.declared.cause.Cause.TheVariants as cause;
 
 use crate::event::{Busy, Event, Fault, Step};
@@ -45,13 +45,15 @@ impl Scanner {
     ghost use Rattle.resp_scan.specs.Parts.{IsOfPiece};
     ghost use Rattle.resp_scan.specs.Kinds.{rules_of};
     ghost use Rattle.resp_scan.specs.Machine.Sound.{IsSound, needed};
-    ghost use Rattle.resp_scan.specs.Reading.{BeginDue, Events, HasRead, IsFaulted, MayEnd, Stepped};
+    ghost use Rattle.resp_scan.specs.Reading.{BeginDue, EndsValue, HasNoDone, HasRead, IfDone, IfNoEvent, IfOtherEvent, IsFaulted, IsRefused, MayEnd, UsesUp, WhereRead, events_of};
+    ghost use Rattle.resp_value.specs.Rules.{WithinTotal, rules_under};
+    ghost use Rattle.resp_value.specs.Spellings.{IsViable};
     ghost use Rattle.resp_scan.specs.Machine.Tokens.{AtStart};
 
     /// A scanner of this version within these limits, between two values.
     pub fn new(version: Version, limits: &Limits) -> Scanner
-        ensures followed { HasRead result [] [] }
-        ensures rules { rules_of result ≡ record { version = version; limits = limits.now } }
+        ensures nothing_read { HasRead result [] [] }
+        ensures rules { rules_of result ≡ rules_under version limits.now }
     {
         Scanner {
             machine: Machine {
@@ -87,23 +89,31 @@ impl Scanner {
     /// Every later step answers the same.
     #[inline(always)]
     pub fn step<'a>(&mut self, piece: &'a [u8]) -> Result<Step<'a>, Fault>
-        // What has come and what was given of it, over every front that was taken and all events
-        // given since the value began.
-        ensures followed { (front : List ℕ) (es : Events) → HasRead self.old front es →
-            Stepped self.old self.new front es piece.now result }
+        // The piece is used up, no value has ended in it, and all events that are due were given.
+        ensures no_event { WhereRead self.old (λ front given.
+            IfNoEvent result (UsesUp self.new front given piece.now)) }
 
-        // And at any time the events given are the first of those due.
-        ensures given { (front : List ℕ) (es : Events) → HasRead self.old front es →
-            BeginDue front es }
+        // The bytes taken are a value, the events given are its events, and the next value may begin.
+        ensures value_whole { WhereRead self.old (λ front given.
+            IfDone result (EndsValue (rules_of self.old) self.new front given)) }
 
-        ensures within { IfOk result (λ step. step.used ≤ length piece.now) }
-        ensures all { IfOk result (λ step. step.event ≡ None → step.used ≡ length piece.now) }
-        ensures lent { IfOk result (λ step. IsOfPiece piece.now step) }
-        ensures rules { rules_of self.new ≡ rules_of self.old }
+        // The bytes used were taken, and the event was given.
+        ensures another_event { WhereRead self.old (λ front given.
+            IfOtherEvent result (λ used event.
+                HasRead self.new (front ++ take used piece.now) (given ++ events_of event))) }
 
-        // A refused byte is the scanner's end.
-        ensures faulted { IfErr result (IsFaulted self.new) }
-        ensures stays { (fault : Fault) → IsFaulted self.old fault →
+        // The refused byte is the first after which nothing can follow, and the fault names why.
+        ensures refusal { WhereRead self.old (λ front given.
+            IfErr result (IsRefused (rules_of self.old) front given piece.now)) }
+
+        ensures first_of_those_due { WhereRead self.old BeginDue }
+        ensures within_piece { IfOk result (λ step. step.used ≤ length piece.now) }
+        ensures whole_piece { IfOk result (λ step.
+            step.event ≡ None → step.used ≡ length piece.now) }
+        ensures part_of_piece { IfOk result (λ step. IsOfPiece piece.now step) }
+        ensures same_rules { rules_of self.new ≡ rules_of self.old }
+        ensures fault_is_kept { IfErr result (IsFaulted self.new) }
+        ensures fault_is_final { (fault : Fault) → IsFaulted self.old fault →
             (result ≡ Err fault) × (self.new ≡ self.old) }
     {
         self.machine.step(piece)
@@ -112,30 +122,30 @@ impl Scanner {
     /// The end of the input. Refuses it by Truncated inside a value, with the number of its bytes
     /// that were taken, and by the fault of a step where one was refused.
     pub fn finish(&self) -> Result<(), Fault>
-        ensures ok { (front : List ℕ) (es : Events) → HasRead self.now front es →
-            (IsOk result ↔ MayEnd (rules_of self.now) front) }
-        ensures truncated { (front : List ℕ) (es : Events) → HasRead self.now front es →
-            IfErr result (λ fault. (fault.cause ≡ cause.Truncated) × (fault.at ≡ length front)) }
-        ensures stays { (fault : Fault) → IsFaulted self.now fault → result ≡ Err fault }
+        ensures may_end { WhereRead self.now (λ front given.
+            IsOk result ↔ MayEnd (rules_of self.now) front) }
+        ensures truncated_inside_a_value { WhereRead self.now (λ front given.
+            IfErr result (λ fault. (fault.cause ≡ cause.Truncated) × (fault.at ≡ length front))) }
+        ensures fault_is_final { (fault : Fault) → IsFaulted self.now fault → result ≡ Err fault }
     {
         self.end()
     }
 
-    /// The same, from the machine's numbers.
+    /// Refuses the end by the machine's numbers.
     fn end(&self) -> Result<(), Fault>
         ensures ok { OnOk result (end_cause self.now ≡ None) }
         ensures err { IfErr result (λ fault. (end_cause self.now ≡ Some fault.cause) ×
             (fault.at ≡ self.now.taken)) }
         ensures sound { IsSound self.now }
     {
-        let at = self.taken();
+        let at = self.machine.taken;
         match self.machine.state {
             State::Failed => Err(Fault {
                 cause: self.machine.cause,
                 at,
             }),
             _ => {
-                if at == 0 || self.needed() == 0 {
+                if at == 0 || self.machine.frames_need + self.machine.token_needed() == 0 {
                     Ok(())
                 } else {
                     Err(Fault {
@@ -152,19 +162,20 @@ impl Scanner {
     /// Refuses, and changes nothing, from a value's first byte until its [`Event::Done`] was given,
     /// and after a fault.
     pub fn set_version(&mut self, version: Version) -> Result<(), Busy>
-        ensures between { (front : List ℕ) (es : Events) → HasRead self.old front es →
-            (IsOk result ↔ (front ≡ [])) }
-        ensures followed { (front : List ℕ) (es : Events) → HasRead self.old front es →
-            OnOk result (HasRead self.new [] []) }
-        ensures rules { OnOk result (rules_of self.new ≡
-            record { version = version; limits = self.old.bounds }) }
-        ensures busy { OnErr result (self.new ≡ self.old) }
-        ensures faulted { (fault : Fault) → IsFaulted self.old fault → OnOk result ⊥ }
+        ensures only_between_values { WhereRead self.old (λ front given.
+            IsOk result ↔ (front ≡ [])) }
+        ensures nothing_read { WhereRead self.old (λ front given.
+            OnOk result (HasRead self.new [] [])) }
+        ensures new_version { OnOk result
+            (rules_of self.new ≡ rules_under version (rules_of self.old).limits) }
+        ensures unchanged_where_busy { OnErr result (self.new ≡ self.old) }
+        ensures never_after_a_fault { (fault : Fault) → IsFaulted self.old fault →
+            OnOk result ⊥ }
     {
         self.change_version(version)
     }
 
-    /// The same, from the machine's token and frames.
+    /// Changes the version where the machine's token and frames say that no value was begun.
     fn change_version(&mut self, version: Version) -> Result<(), Busy>
         ensures between { IsOk result ↔ ((self.old.token ≡ AtStart) × (self.old.frames ≡ [])) }
         ensures ok { OnOk result (self.new ≡ record self.old { version = version }) }
@@ -186,21 +197,25 @@ impl Scanner {
 
     /// The number of aggregates whose Open was given and whose Close wasn't.
     pub fn depth(&self) -> usize
-        ensures frames { result ≡ length self.now.frames }
-        ensures few { result ≤ (rules_of self.now).limits.depth }
-        ensures opens { (front : List ℕ) (es : Events) → HasRead self.now front es →
-            open_count es ≡ result + close_count es }
+        ensures at_most_depth { result ≤ (rules_of self.now).limits.depth }
+        ensures opens_less_closes { WhereRead self.now (λ front given.
+            open_count given ≡ result + close_count given) }
     {
         self.machine.frames.len()
     }
 
     /// The number of bytes taken of the value, 0 between values. A refused byte isn't among them.
+    #[inline]
     pub fn taken(&self) -> u64
-        ensures taken { result ≡ self.now.taken }
-        ensures front { (front : List ℕ) (es : Events) → HasRead self.now front es →
-            result ≡ length front }
-        ensures few { (front : List ℕ) (es : Events) → HasRead self.now front es →
-            length es ≤ result }
+        ensures length_of_front { WhereRead self.now (λ front given. result ≡ length front) }
+        ensures viable { WhereRead self.now (λ front given.
+            IsViable (rules_of self.now) WithinTotal front) }
+        ensures first_of_those_due { WhereRead self.now BeginDue }
+        ensures no_more_events_than_bytes { WhereRead self.now (λ front given.
+            length given ≤ result) }
+        ensures no_value_ended { WhereRead self.now (λ front given. HasNoDone given) }
+        ensures at_most_total { result ≤ (rules_of self.now).limits.total }
+        ensures limits_in_range { AreBounds (rules_of self.now).limits }
     {
         self.machine.taken
     }
@@ -208,9 +223,8 @@ impl Scanner {
     /// The least number of bytes that complete the value: 3 between values, and 0 where only its
     /// Done is owed.
     pub fn needed(&self) -> u64
-        ensures needed { result ≡ needed self.now }
-        ensures least { (front : List ℕ) (es : Events) → HasRead self.now front es →
-            IsLeast (rules_of self.now) front result }
+        ensures least_completion { WhereRead self.now (λ front given.
+            IsLeast (rules_of self.now) front result) }
     {
         self.machine.frames_need + self.machine.token_needed()
     }
