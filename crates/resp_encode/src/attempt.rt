@@ -3,7 +3,8 @@
 //!
 //! Most values have no fault and there is room for them. They are not walked over twice.
 
-ghost use Rattle.std.specs.Prelude.{◌≡◌, ◌+◌, ◌<◌, ◌≤◌, ◌++◌, ◌∷◌, [], ℕ, length, map, IsTrue};
+ghost use Rattle.resp_value.specs.Rules.{rules_under};
+ghost use Rattle.std.specs.Prelude.{◌≡◌, ◌+◌, ◌<◌, ◌≤◌, ◌++◌, ◌∷◌, [], ℕ, length, map};
 ghost use Rattle.std.specs.Bool.{OnTrue, OnFalse};
 ghost use Rattle.resp_value.specs.Bytes.{crlf};
 ghost use Rattle.resp_value.specs.Numbers.{decimal};
@@ -269,7 +270,7 @@ fn attempt_top(value: &Value, version: Version, limits: &Limits, out: &mut Bytes
 pub(crate) fn attempt(value: &Value, version: Version, limits: &Limits, out: &mut BytesMut) -> bool
     ensures writes { OnTrue result (Fills out.old out.new
         (canonical_text version (datum_of value.now))) }
-    ensures fits { OnTrue result (Fits (record { version = version; limits = limits.now })
+    ensures fits { OnTrue result (Fits (rules_under version limits.now)
         (datum_of value.now)) }
     ensures is_value { OnTrue result (IsValue (datum_of value.now)) }
     ensures items { OnFalse result (out.new.items ≡ out.old.items) }

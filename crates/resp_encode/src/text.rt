@@ -1,6 +1,6 @@
 //! The text of a value, into room that is there.
 
-ghost use Rattle.std.specs.Prelude.{◌≡◌, ◌+◌, ◌≤◌, ◌++◌, ◌∷◌, List, [], ℕ, length, map};
+ghost use Rattle.std.specs.Prelude.{◌+◌, ◌≤◌, ◌++◌, ◌∷◌, [], length, map};
 ghost use Rattle.resp_value.specs.Bytes.{crlf};
 ghost use Rattle.resp_value.specs.Numbers.{decimal};
 ghost use Rattle.resp_value.specs.Data.{scalar, data_of_list, in_turn};

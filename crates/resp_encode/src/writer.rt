@@ -1,5 +1,6 @@
 //! Values to a device.
 
+ghost use Rattle.resp_value.specs.Rules.{rules_under};
 ghost use Rattle.std.specs.Prelude.{◌≡◌, ◌≢◌, ◌<◌, length, take, IfOk, OnOk, IfErr, IsErrOf};
 ghost use Rattle.resp_value.specs.Canonical.{canonical_text, Fits};
 ghost use Rattle.resp_value.specs.Devices.{Appends, HasRisen};
@@ -32,16 +33,16 @@ pub fn encode_to<W: Sink>(
     ensures length { IfOk result (λ n. n ≡ length (canonical_text version (datum_of value.now))) }
     ensures ok { OnOk result (Appends (W.written writer.old) (W.written writer.new)
         (canonical_text version (datum_of value.now))) }
-    ensures fits { OnOk result (Fits (record { version = version; limits = limits.now })
+    ensures fits { OnOk result (Fits (rules_under version limits.now)
         (datum_of value.now)) }
     ensures none_failed { OnOk result (W.failures writer.new ≡ W.failures writer.old) }
 
     // Each fault is answered only where the value has it and no earlier one, always where it has,
     // and before anything is written.
     ensures refused { IfErr result (IsFirstRefusal
-        (record { version = version; limits = limits.now }) (datum_of value.now)) }
+        (rules_under version limits.now) (datum_of value.now)) }
     ensures always { (error : EncodeError) → error ≢ EncodeError.OutOfMemory →
-        IsFirstFault (record { version = version; limits = limits.now }) (datum_of value.now)
+        IsFirstFault (rules_under version limits.now) (datum_of value.now)
         error → IsErrOf result (to_error error) }
     ensures before { (error : EncodeError) → IsErrOf result (to_error error) →
         writer.new ≡ writer.old }
