@@ -1,6 +1,6 @@
 //! The command line of the program.
 
-ghost use Rattle.std.specs.Prelude.{◌≡◌, ◌⊎◌, ◌≤◌, ◌<◌, ℕ, OnOk, IfErr};
+ghost use Rattle.std.specs.Prelude.{◌≡◌, ◌≢◌, ◌⊎◌, ◌≤◌, ◌<◌, ℕ, OnOk, IfErr};
 ghost use Rattle.resp_tool.specs.Faults.{status_of};
 ghost use Rattle.resp_tool.specs.Runs.{text_of, RendersStream, RendersStreamFront, RendersOfTask, RendersFrontOfTask};
 
@@ -16,6 +16,7 @@ use resp_value::limits::Limits;
 use resp_value::version::Version;
 use std::alloc::Global;
 use std::convert::AsStr;
+use std::io::ErrorKind as IoErrorKind;
 
 /// How many bytes one read asks for.
 const PIECE: usize = 4_096;
@@ -94,6 +95,21 @@ fn stop<F: Sink>(error: &ToolError, faults: &mut F) -> u8
 {
     let _ = error.line(faults);
     error.status()
+}
+
+/// Says why the words of the command line can't be read, and answers the status: 2 where one is not
+/// UTF-8, and else 3, since memory was refused.
+pub fn refuse_words<F: Sink>(kind: IoErrorKind, faults: &mut F) -> u8
+    ensures bad_arguments { kind ≡ IoErrorKind.InvalidData → result ≡ 2 }
+    ensures other_failures { kind ≢ IoErrorKind.InvalidData → result ≡ 3 }
+{
+    match kind {
+        IoErrorKind::InvalidData => {
+            let _ = write_text(faults, b"error: a word of the command line is not UTF-8\n");
+            BAD_ARGUMENTS
+        }
+        _ => stop(&ToolError::Memory, faults),
+    }
 }
 
 /// Writes what the task wants of each value of the stream, of version 2 under the default limits.
