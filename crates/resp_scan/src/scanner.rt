@@ -1,12 +1,10 @@
 //! The scanner.
 
 ghost use Rattle.resp_value.specs.Bounds.{AreBounds};
-ghost use Rattle.resp_scan.specs.Machine.Heads.{first_needed};
 ghost use Rattle.std.specs.Prelude.{◌≡◌, ◌↔◌, ◌≤◌, ◌+◌, ◌++◌, ℕ, length, take, [], true, None, Some, Err, IsOk, OnOk, OnErr, IfOk, IfErr};
 ghost use Rattle.resp_value.specs.declared.cause.Cause.TheVariants as cause;
 
 use crate::event::{Busy, Event, Fault, Step};
-use crate::heads::needed_behind;
 use crate::machine::{Head, Machine, State};
 use arrayvec::ArrayVec;
 use resp_value::cause::Cause;
@@ -30,7 +28,6 @@ impl Model for Scanner {
 
     ghost use Rattle.resp_scan.specs.Machine.Fields.{place_of};
     ghost use Rattle.resp_scan.specs.Machine.Sound.{IsSound, token_needed};
-    ghost use Rattle.resp_scan.specs.Machine.States.{is_counted};
 
     ghost view = { λ s. place_of s.machine };
 
@@ -100,7 +97,7 @@ impl Scanner {
         // The bytes used were taken, and the event was given.
         ensures another_event { WhereRead self.old (λ front given.
             IfOtherEvent result (λ used event.
-                HasRead self.new (front ++ take used piece.now) (given ++ events_of event))) }
+            HasRead self.new (front ++ take used piece.now) (given ++ events_of event))) }
 
         // The refused byte is the first after which nothing can follow, and the fault names why.
         ensures refusal { WhereRead self.old (λ front given.
@@ -138,14 +135,15 @@ impl Scanner {
             (fault.at ≡ self.now.taken)) }
         ensures sound { IsSound self.now }
     {
-        let at = self.machine.taken;
-        match self.machine.state {
+        let machine = &self.machine;
+        let at = machine.taken;
+        match machine.state {
             State::Failed => Err(Fault {
-                cause: self.machine.cause,
+                cause: machine.cause,
                 at,
             }),
             _ => {
-                if at == 0 || self.machine.frames_need + self.machine.token_needed() == 0 {
+                if at == 0 || machine.needed() == 0 {
                     Ok(())
                 } else {
                     Err(Fault {
@@ -226,7 +224,7 @@ impl Scanner {
         ensures least_completion { WhereRead self.now (λ front given.
             IsLeast (rules_of self.now) front result) }
     {
-        self.machine.frames_need + self.machine.token_needed()
+        self.machine.needed()
     }
 }
 
@@ -243,81 +241,4 @@ fn in_range(limits: &Limits) -> Limits
         limits.items(),
     );
     *limits
-}
-
-impl Machine {
-    ghost use Rattle.resp_scan.specs.Machine.Fields.{place_of};
-    ghost use Rattle.resp_scan.specs.Machine.Sound.{IsSound, token_needed};
-    ghost use Rattle.resp_scan.specs.Machine.States.{is_counted};
-
-    /// The least number of bytes that complete the token.
-    fn token_needed(&self) -> u64
-        requires { IsSound (place_of self.now) }
-        ensures { result ≡ token_needed (place_of self.now).token self.now.limits.depth
-            (place_of self.now).frames }
-    {
-        match self.state {
-            State::Start => { if self.frames.is_empty() { 3 } else { 0 } }
-            State::Ended | State::TextEnd | State::Failed => 0,
-            State::Line | State::Int | State::BigZeros | State::BigDigit | State::Big => 2,
-            State::LineLf | State::IntLf | State::BigZeroLf => 1,
-            State::IntSign | State::IntFirst | State::BigSign | State::BigFirst => 3,
-            State::NullOne => 3,
-            State::NullCr => 2,
-            State::NullLf => 1,
-            State::Bool => 3,
-            State::BoolCr => 2,
-            State::BoolLf => 1,
-            State::BulkHead => 4,
-            State::ArrayHead => { if self.is_full() { 4 } else { 3 } }
-            _ => self.counted_needed(),
-        }
-    }
-
-    /// The least number of bytes that complete a head, counted content or a close.
-    #[tactic(auto, using(crate::proofs::Soundness::Places::more_few, crate::proofs::Soundness::Places::lf_few, crate::proofs::Soundness::Sound::head_more, crate::proofs::Soundness::Places::format_first_few, crate::proofs::Soundness::Places::format_second_few, crate::proofs::Soundness::Places::colon_four, crate::proofs::Soundness::Places::content_few, crate::proofs::Soundness::Places::chunk_few))]
-    fn counted_needed(&self) -> u64
-        requires { IsSound (place_of self.now) }
-        ensures { is_counted self.now.state ≡ true →
-            result ≡ token_needed (place_of self.now).token self.now.limits.depth
-            (place_of self.now).frames }
-    {
-        match self.state {
-            State::HeadFirst => first_needed(self.head),
-            State::HeadMore => needed_behind(self.head, self.count),
-            State::HeadLf => needed_behind(self.head, self.count) - 1,
-            State::FormatFirst => self.count + 2,
-            State::FormatSecond => self.count + 1,
-            State::FormatThird => self.count,
-            State::FormatColon => self.count - 1,
-            State::Content => self.count + 2,
-            State::ContentCr => 2,
-            State::ContentLf => 1,
-            State::StreamCr => 6,
-            State::StreamLf => 5,
-            State::Chunk => 4,
-            State::ChunkContent => self.count + 6,
-            State::ChunkCr => 6,
-            State::ChunkLf => 5,
-            State::OpenCr => 5,
-            State::OpenLf => 4,
-            State::CloseCr => 2,
-            State::CloseLf => 1,
-            _ => 0,
-        }
-    }
-}
-
-/// The least number of bytes that complete a value behind its type byte, or a streamed string
-/// behind a chunk's.
-fn first_needed(head: Head) -> u64
-    ensures { result ≡ first_needed head }
-{
-    match head {
-        Head::Bulk => 4,
-        Head::BulkError => 5,
-        Head::Verbatim => 9,
-        Head::Attr => 6,
-        Head::Chunk { .. } | Head::Array | Head::Set | Head::Map | Head::Push => 3,
-    }
 }

@@ -14,7 +14,7 @@ use Rattle.resp_scan.specs.declared.frame.Frame.{Frame}
 use Rattle.resp_scan.specs.declared.frame.Shape.{Shape}
 use Rattle.resp_scan.specs.declared.frame.Shape.TheVariants.{Left, Begun}
 use Rattle.resp_scan.specs.Machine.Scan.{out_from, out_at_end}
-use Rattle.resp_scan.specs.Machine.Tokens.{Byte, Give, Go, Move, Place, Refuse, Token, at, after_end, token_within, AtStart, AtEnd, AtBigDigit, AtTextEnd, Dead, InBig}
+use Rattle.resp_scan.specs.Machine.Tokens.{Byte, Give, Go, Move, Place, Refuse, Token, at, at_boundary, token_at_boundary, AtStart, AtEnd, AtBigDigit, AtTextEnd, Dead, InBig}
 use Rattle.resp_scan.specs.Machine.Moves.{next}
 use Rattle.resp_scan.specs.Machine.StepOutcomes.{after_bytes}
 use Rattle.resp_scan.specs.Kinds.{event_of, rules_of}
@@ -76,7 +76,7 @@ looked_at_start h = (refl, refl)
 
 -- a counted aggregate closes, and with it each around it that it fills
 settle : (r : Rules) (fs : List Frame) (s : Place) (front : List ℕ) (es : List e.Event) → rules_of s ≡ r → s.taken ≡ length front →
-    IsSound (after_end (record s { frames = fs })) → StandsAfterAt (rules_of s) (token_within fs) fs front es → Settled r front
+    IsSound (at_boundary (record s { frames = fs })) → StandsAfterAt (rules_of s) (token_at_boundary fs) fs front es → Settled r front
 settle r [] s front es q t c w = record {
   place = record s { token = AtEnd; frames = [] };
   stands =
@@ -85,9 +85,9 @@ settle r [] s front es q t c w = record {
 }
 settle r (x ∷ fs) s front es q t c w = by_shape x.shape c w (λ told d l. settle r fs s front told q t d l)
   where
-    by_shape : (shape : Shape) → IsSound (after_end (record s { frames = record x { shape = shape } ∷ fs })) →
-        StandsAfterAt (rules_of s) (token_within (record x { shape = shape } ∷ fs)) (record x { shape = shape } ∷ fs) front es →
-        ((told : List e.Event) → IsSound (after_end (record s { frames = fs })) → StandsAfterAt (rules_of s) (token_within fs) fs front told →
+    by_shape : (shape : Shape) → IsSound (at_boundary (record s { frames = record x { shape = shape } ∷ fs })) →
+        StandsAfterAt (rules_of s) (token_at_boundary (record x { shape = shape } ∷ fs)) (record x { shape = shape } ∷ fs) front es →
+        ((told : List e.Event) → IsSound (at_boundary (record s { frames = fs })) → StandsAfterAt (rules_of s) (token_at_boundary fs) fs front told →
         Settled r front) → Settled r front
     by_shape (Left zero) c w close =
         let p = record s { token = AtEnd; frames = record x { shape = Left 0 } ∷ fs } in

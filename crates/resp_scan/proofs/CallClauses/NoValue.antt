@@ -37,9 +37,9 @@ pub no_value : (r : Rules) (front : List ℕ) (es : List e.Event) → IsViable r
 no_value r front es viable due none n tree spells =
     let rest = drop n front ++ viable.rest in
     let parts : take n front ++ rest ≡ front ++ viable.rest =
-        sym (append_assoc (take n front) (drop n front) viable.rest) ∙ ap (λ z. z ++ viable.rest) (take-drop n front) in
+    sym (append_assoc (take n front) (drop n front) viable.rest) ∙ ap (λ z. z ++ viable.rest) (take-drop n front) in
     let u = unique tree viable.tree rest [] spells.is_tree viable.spells.is_tree
-        (ap (λ z. z ++ rest) spells.spelled ∙ parts ∙ sym viable.spells.spelled ∙ sym (append-nil (text viable.tree))) in
+    (ap (λ z. z ++ rest) spells.spelled ∙ parts ∙ sym viable.spells.spelled ∙ sym (append-nil (text viable.tree))) in
     let empty : viable.rest ≡ [] = no_rest (drop n front) viable.rest u.1 in
     let whole : Spells viable.tree (front ++ []) = subst (λ z. Spells viable.tree (front ++ z)) empty viable.spells in
     let size : length front ≡ length (text viable.tree) = omega (arith, ap length whole.spelled, length-append front []) in

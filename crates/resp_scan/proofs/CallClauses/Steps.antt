@@ -19,7 +19,7 @@ use Rattle.resp_scan.specs.declared.event.Step.{Step}
 use Rattle.resp_scan.specs.declared.event.Fault.{Fault}
 use Rattle.resp_scan.specs.declared.frame.Frame.{Frame}
 use Rattle.resp_scan.specs.Machine.Tokens as k
-use Rattle.resp_scan.specs.Machine.Tokens.{Happening, Place, Token, after_end, at, AtStart, AtEnd, InLine, AtLineLf, AtIntSign, AtIntFirst, InInt, AtIntLf, AtBigSign, AtBigFirst, InBigZeros, AtBigZeroLf, AtBigDigit, InBig, AtTextEnd, AtNullOne, AtNullCr, AtNullLf, AtBool, AtBoolCr, AtBoolLf, AtBulkHead, AtArrayHead, AtHead, InHead, AtHeadLf, AtFormat, AtFormatSecond, AtFormatThird, AtFormatColon, InContent, AtContentCr, AtContentLf, AtStreamCr, AtStreamLf, AtChunk, InChunk, AtChunkCr, AtChunkLf, AtOpenCr, AtOpenLf, AtCloseCr, AtCloseLf, Dead}
+use Rattle.resp_scan.specs.Machine.Tokens.{Happening, Place, Token, at_boundary, at, AtStart, AtEnd, InLine, AtLineLf, AtIntSign, AtIntFirst, InInt, AtIntLf, AtBigSign, AtBigFirst, InBigZeros, AtBigZeroLf, AtBigDigit, InBig, AtTextEnd, AtNullOne, AtNullCr, AtNullLf, AtBool, AtBoolCr, AtBoolLf, AtBulkHead, AtArrayHead, AtHead, InHead, AtHeadLf, AtFormat, AtFormatSecond, AtFormatThird, AtFormatColon, InContent, AtContentCr, AtContentLf, AtStreamCr, AtStreamLf, AtChunk, InChunk, AtChunkCr, AtChunkLf, AtOpenCr, AtOpenLf, AtCloseCr, AtCloseLf, Dead}
 use Rattle.resp_scan.specs.Machine.Scan.{Out, More, Gave, Part, Whole, Bad, out_from, out_from_token, out_at_end, scan}
 use Rattle.resp_scan.specs.Parts.{IsPartOf, IsOfPiece, IsRun}
 use Rattle.resp_scan.specs.Machine.StepOutcomes.{after_bytes, out_of_step, out_of_event, out_of_part, after_step}
@@ -83,7 +83,7 @@ at_top r = record { frames = []; begun = tt; of_levels = tt; ready = tt; whole =
 closed : (s : Place) (fs : List Frame) (front : List ℕ) (es : List e.Event) (p : List ℕ) → HasEnded (rules_of s) fs front es →
     Answered (rules_of s) front es p (out_at_end (record s { token = AtEnd; frames = fs }) fs)
 closed s [] front es p w = (w, at_top (rules_of s))
-closed s (x ∷ fs) front es p w = gives_owed (rules_of s) front es p k.Close (after_end (record s { token = AtEnd; frames = fs }))
+closed s (x ∷ fs) front es p w = gives_owed (rules_of s) front es p k.Close (at_boundary (record s { token = AtEnd; frames = fs }))
     (close_is_owed s x fs front es w)
 
 scanned : (s : Place) (front : List ℕ) (es : List e.Event) (p : List ℕ) → IsText p → IsSound s → s.taken ≡ length front → StandsAfter s front es →
@@ -98,7 +98,7 @@ inside t e h = absurd (false≢true (sym e ∙ h))
 answered_at : (t : Token) (s : Place) (front : List ℕ) (es : List e.Event) (p : List ℕ) → IsText p → IsSound (at s t) → s.taken ≡ length front →
     StandsAfter (at s t) front es → Answered (rules_of s) front es p (out_from_token t (at s t) p)
 answered_at AtEnd s front es p text sound taken w = closed s s.frames front es p w
-answered_at AtTextEnd s front es p text sound taken w = gives_owed (rules_of s) front es p k.TextEnd (after_end s) (text_end_is_owed s front es w)
+answered_at AtTextEnd s front es p text sound taken w = gives_owed (rules_of s) front es p k.TextEnd (at_boundary s) (text_end_is_owed s front es w)
 answered_at (AtBigDigit digit room) s front es p text sound taken w =
     gives_owed (rules_of s) front es p (k.Digit digit) (at s (InBig room)) (big_digit_is_owed s digit room front es w)
 answered_at (Dead c) s front es p text sound taken w = absurd w.took
@@ -283,12 +283,12 @@ refused_is s t front es p fault taken at_taken (counted, within, byte, rest, par
       length-front n p (omega (arith, within)),
     ) in
     let here : take fault.at (front ++ p) ≡ front ++ take n p =
-        ap (take fault.at) before ∙ front-append fault.at (front ++ take n p) (byte ∷ rest) size in
+    ap (take fault.at) before ∙ front-append fault.at (front ++ take n p) (byte ∷ rest) size in
     let viable : IsViable (rules_of s) WithinTotal (front ++ take n p) = subst (λ r. IsViable r WithinTotal (front ++ take n p)) w.rules
-        (followed_is_viable w.before n (front ++ take n p) es w.sound w.taken w.stands) in
+    (followed_is_viable w.before n (front ++ take n p) es w.sound w.taken w.stands) in
     let due = all_due w.before n (front ++ take n p) es w.sound w.looked w.stands in
     let refused : IsRefusedFor (rules_of s) (take (fault.at + 1) (front ++ p)) fault.cause = subst (λ z. IsRefusedFor (rules_of s) z fault.cause)
-        (sym (ap (take (fault.at + 1)) before ∙ front-one-more fault.at (front ++ take n p) byte rest size)) w.cause in
+    (sym (ap (take (fault.at + 1)) before ∙ front-one-more fault.at (front ++ take n p) byte rest size)) w.cause in
     record {
       in_piece = omega (arith, taken, at_taken, counted);
       before_end = omega (arith, taken, at_taken, counted, within, length-append front p);

@@ -60,16 +60,18 @@ mutual
   tree_no_done from (leaf l) = leaf_no_done from l
   tree_no_done from (node k form ts) =
       let at = from + length (form_line form) + 3 in
-      let last = close_event from (text (node k form ts)) ∷ [] in
-      (tt, subst HasNoDone (sym (given-append (events_each at ts) last))
-          (no_done-append (without_places (events_each at ts)) (e.Close ∷ []) (trees_no_done at ts) (tt, tt)))
+      let last = close_event from (text (node k form ts)) ∷ [] in (
+        tt,
+        subst HasNoDone (sym (given-append (events_each at ts) last))
+            (no_done-append (without_places (events_each at ts)) (e.Close ∷ []) (trees_no_done at ts) (tt, tt)),
+      )
 
   pub trees_no_done : (from : ℕ) (ts : Trees) → HasNoDone (without_places (events_each from ts))
   trees_no_done from t.none = tt
   trees_no_done from (t.more u ts) =
       let behind = from + length (text u) in
       subst HasNoDone (sym (given-append (events from u) (events_each behind ts)))
-          (no_done-append (without_places (events from u)) (without_places (events_each behind ts)) (tree_no_done from u) (trees_no_done behind ts))
+      (no_done-append (without_places (events from u)) (without_places (events_each behind ts)) (tree_no_done from u) (trees_no_done behind ts))
 
 -- open frames
 pub frames_no_done : (frames : List Frame) → HasNoDone (without_places (events_around frames))
@@ -77,5 +79,5 @@ frames_no_done [] = tt
 frames_no_done (f ∷ fs) =
     let start = length (text_around fs []) in
     subst HasNoDone (sym (given-append (events_around fs) (frame_events start f)))
-        (no_done-append (without_places (events_around fs)) (without_places (frame_events start f)) (frames_no_done fs)
-            (tt, trees_no_done (start + length (form_line f.form) + 3) f.done))
+    (no_done-append (without_places (events_around fs)) (without_places (frame_events start f)) (frames_no_done fs)
+    (tt, trees_no_done (start + length (form_line f.form) + 3) f.done))

@@ -14,7 +14,7 @@ use Rattle.resp_scan.specs.declared.frame.Shape.TheVariants.{Left, Begun}
 use Rattle.resp_scan.specs.declared.machine.Head.{Head}
 use Rattle.resp_scan.specs.declared.machine.Head.TheVariants as head
 use Rattle.resp_scan.specs.Machine.Magnitudes.{greatest_magnitude}
-use Rattle.resp_scan.specs.Machine.Tokens.{Token, Place, Happening, Move, Go, Byte, Give, Refuse, at, after_end, Null, Truth, Int, Text, TextEnd, Open, Close, AtStart, AtEnd, InLine, AtLineLf, AtIntSign, AtIntFirst, InInt, AtIntLf, AtBigSign, AtBigFirst, InBigZeros, AtBigZeroLf, AtBigDigit, InBig, AtTextEnd, AtNullOne, AtNullCr, AtNullLf, AtBool, AtBoolCr, AtBoolLf, AtBulkHead, AtArrayHead, AtHead, InHead, AtHeadLf, AtFormat, AtFormatSecond, AtFormatThird, AtFormatColon, InContent, AtContentCr, AtContentLf, AtStreamCr, AtStreamLf, AtChunk, InChunk, AtChunkCr, AtChunkLf, AtOpenCr, AtOpenLf, AtCloseCr, AtCloseLf, Dead}
+use Rattle.resp_scan.specs.Machine.Tokens.{Token, Place, Happening, Move, Go, Byte, Give, Refuse, at, at_boundary, Null, Truth, Int, Text, TextEnd, Open, Close, AtStart, AtEnd, InLine, AtLineLf, AtIntSign, AtIntFirst, InInt, AtIntLf, AtBigSign, AtBigFirst, InBigZeros, AtBigZeroLf, AtBigDigit, InBig, AtTextEnd, AtNullOne, AtNullCr, AtNullLf, AtBool, AtBoolCr, AtBoolLf, AtBulkHead, AtArrayHead, AtHead, InHead, AtHeadLf, AtFormat, AtFormatSecond, AtFormatThird, AtFormatColon, InContent, AtContentCr, AtContentLf, AtStreamCr, AtStreamLf, AtChunk, InChunk, AtChunkCr, AtChunkLf, AtOpenCr, AtOpenLf, AtCloseCr, AtCloseLf, Dead}
 use Rattle.resp_scan.specs.Machine.Room.{has_total_room, over_total, is_full, after_begin, begin_cause, with_shape}
 use Rattle.resp_scan.specs.Machine.Heads.{over, may_end, streamed_kind, string_cause, aggregate_cause, after_streamed_open, content_at, chunk_at, head_move, first_needed}
 
@@ -165,14 +165,14 @@ next_in AtStart s used b = start_next s b
 next_in AtEnd s used b = Refuse cause.Syntax
 next_in (InLine room) s used b =
     cond (eqb b 13) (Go (at s AtLineLf)) (cond (eqb b 10) (Refuse cause.Syntax) (content_byte s used room InLine))
-next_in AtLineLf s used b = only_byte 10 b (Give TextEnd (after_end s))
+next_in AtLineLf s used b = only_byte 10 b (Give TextEnd (at_boundary s))
 next_in AtIntSign s used b =
     cond (eqb b 45) (move_unless (over_total s used 3) (Go (at s (AtIntFirst true))))
     (cond (eqb b 43) (move_unless (over_total s used 3) (Go (at s (AtIntFirst false)))) (int_first s false b))
 next_in (AtIntFirst negative) s used b = int_first s negative b
 next_in (InInt negative n) s used b =
     cond (is_digit b) (int_digit s used negative (n * 10 + (b - 48))) (only_byte 13 b (Go (at s (AtIntLf negative n))))
-next_in (AtIntLf negative n) s used b = only_byte 10 b (Give (Int (with_sign negative n)) (after_end s))
+next_in (AtIntLf negative n) s used b = only_byte 10 b (Give (Int (with_sign negative n)) (at_boundary s))
 next_in AtBigSign s used b =
     cond (eqb b 45) (move_unless (over_total s used 3) (Go (at s (AtBigFirst true))))
     (cond (eqb b 43) (move_unless (over_total s used 3) (Go (at s (AtBigFirst false)))) (big_first s false b))
@@ -187,10 +187,10 @@ next_in (InBig room) s used b =
 next_in AtTextEnd s used b = Refuse cause.Syntax
 next_in AtNullOne s used b = only_byte 49 b (Go (at s AtNullCr))
 next_in AtNullCr s used b = only_byte 13 b (Go (at s AtNullLf))
-next_in AtNullLf s used b = only_byte 10 b (Give Null (after_end s))
+next_in AtNullLf s used b = only_byte 10 b (Give Null (at_boundary s))
 next_in AtBool s used b = cond (eqb b 116) (Go (at s (AtBoolCr true))) (only_byte 102 b (Go (at s (AtBoolCr false))))
 next_in (AtBoolCr v) s used b = only_byte 13 b (Go (at s (AtBoolLf v)))
-next_in (AtBoolLf v) s used b = only_byte 10 b (Give (Truth v) (after_end s))
+next_in (AtBoolLf v) s used b = only_byte 10 b (Give (Truth v) (at_boundary s))
 next_in AtBulkHead s used b = bulk_head s used b
 next_in AtArrayHead s used b = array_head s used b
 next_in (AtHead h) s used b = head_first s used h b
@@ -204,7 +204,7 @@ next_in (AtFormatThird x y n) s used b = Go (at s (AtFormatColon (x ∷ y ∷ b 
 next_in (AtFormatColon format n) s used b = only_byte 58 b (Give (Text (text.Verbatim format)) (content_at (n - 4) s))
 next_in (InContent n) s used b = Byte (content_at (n - 1) s)
 next_in AtContentCr s used b = only_byte 13 b (Go (at s AtContentLf))
-next_in AtContentLf s used b = only_byte 10 b (Give TextEnd (after_end s))
+next_in AtContentLf s used b = only_byte 10 b (Give TextEnd (at_boundary s))
 next_in AtStreamCr s used b = only_byte 13 b (Go (at s AtStreamLf))
 next_in AtStreamLf s used b = only_byte 10 b (Give (Text text.Bulk) (at s (AtChunk s.bounds.length)))
 next_in (AtChunk room) s used b = only_byte 59 b (Go (at s (AtHead (head.Chunk room))))
@@ -214,7 +214,7 @@ next_in (AtChunkLf room) s used b = only_byte 10 b (Go (at s (AtChunk room)))
 next_in (AtOpenCr k) s used b = only_byte 13 b (Go (at s (AtOpenLf k)))
 next_in (AtOpenLf k) s used b = only_byte 10 b (Give (Open k None) (after_streamed_open s k))
 next_in AtCloseCr s used b = only_byte 13 b (Go (at s AtCloseLf))
-next_in AtCloseLf s used b = only_byte 10 b (Give Close (after_end (record s { frames = without_first s.frames })))
+next_in AtCloseLf s used b = only_byte 10 b (Give Close (at_boundary (record s { frames = without_first s.frames })))
 next_in (Dead c) s used b = Refuse c
 
 -- what one byte more does, the last of so many of the piece

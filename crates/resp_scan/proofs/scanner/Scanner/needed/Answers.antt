@@ -9,6 +9,6 @@ pub returns : goal.returns
 returns c =
     let s = place_of c.self.inside.machine in
     record {
-      least_completion = rw (← c.self.view_is) (λ front es w. subst (IsLeast (rules_of s) front) (omega (arith, c.token_needed.ensures))
+      least_completion = rw (← c.self.view_is) (λ front es w. subst (IsLeast (rules_of s) front) (omega (arith, c.needed.ensures))
           (least_is_needed s 0 front es c.self.invariant w.stands));
     }

@@ -26,32 +26,32 @@ returns-clause-no_event c =
     let s = place_of c.self.inside.machine in
     let t = place_of c.step.new.self in
     rw (← c.self.view_is) (λ front es w. if_no_event c.step.result s t front es c.args.piece.now (stepped_is c.step.result s t front es c.args.piece.now
-        (is_text c.args.piece.now (λ i. (c.type_inv.piece i).fits)) c.self.invariant c.step.ensures.heard c.step.ensures.lent
-        (fault_stands s.taken c.step.result s t c.args.piece.now c.self.invariant c.step.ensures.heard c.step.ensures.counted) w))
+    (is_text c.args.piece.now (λ i. (c.type_inv.piece i).fits)) c.self.invariant c.step.ensures.heard c.step.ensures.lent
+    (fault_stands s.taken c.step.result s t c.args.piece.now c.self.invariant c.step.ensures.heard c.step.ensures.counted) w))
 
 pub returns-clause-value_whole : goal.returns-clause-value_whole
 returns-clause-value_whole c =
     let s = place_of c.self.inside.machine in
     let t = place_of c.step.new.self in
     rw (← c.self.view_is) (λ front es w. if_done c.step.result s t front es c.args.piece.now (stepped_is c.step.result s t front es c.args.piece.now
-        (is_text c.args.piece.now (λ i. (c.type_inv.piece i).fits)) c.self.invariant c.step.ensures.heard c.step.ensures.lent
-        (fault_stands s.taken c.step.result s t c.args.piece.now c.self.invariant c.step.ensures.heard c.step.ensures.counted) w))
+    (is_text c.args.piece.now (λ i. (c.type_inv.piece i).fits)) c.self.invariant c.step.ensures.heard c.step.ensures.lent
+    (fault_stands s.taken c.step.result s t c.args.piece.now c.self.invariant c.step.ensures.heard c.step.ensures.counted) w))
 
 pub returns-clause-another_event : goal.returns-clause-another_event
 returns-clause-another_event c =
     let s = place_of c.self.inside.machine in
     let t = place_of c.step.new.self in
     rw (← c.self.view_is) (λ front es w. if_other_event c.step.result s t front es c.args.piece.now (stepped_is c.step.result s t front es c.args.piece.now
-        (is_text c.args.piece.now (λ i. (c.type_inv.piece i).fits)) c.self.invariant c.step.ensures.heard c.step.ensures.lent
-        (fault_stands s.taken c.step.result s t c.args.piece.now c.self.invariant c.step.ensures.heard c.step.ensures.counted) w))
+    (is_text c.args.piece.now (λ i. (c.type_inv.piece i).fits)) c.self.invariant c.step.ensures.heard c.step.ensures.lent
+    (fault_stands s.taken c.step.result s t c.args.piece.now c.self.invariant c.step.ensures.heard c.step.ensures.counted) w))
 
 pub returns-clause-refusal : goal.returns-clause-refusal
 returns-clause-refusal c =
     let s = place_of c.self.inside.machine in
     let t = place_of c.step.new.self in
     rw (← c.self.view_is) (λ front es w. if_refused c.step.result s t front es c.args.piece.now (stepped_is c.step.result s t front es c.args.piece.now
-        (is_text c.args.piece.now (λ i. (c.type_inv.piece i).fits)) c.self.invariant c.step.ensures.heard c.step.ensures.lent
-        (fault_stands s.taken c.step.result s t c.args.piece.now c.self.invariant c.step.ensures.heard c.step.ensures.counted) w))
+    (is_text c.args.piece.now (λ i. (c.type_inv.piece i).fits)) c.self.invariant c.step.ensures.heard c.step.ensures.lent
+    (fault_stands s.taken c.step.result s t c.args.piece.now c.self.invariant c.step.ensures.heard c.step.ensures.counted) w))
 
 pub returns-clause-same_rules : goal.returns-clause-same_rules
 returns-clause-same_rules c = rw (← c.self.view_is) (rules_stay c.step.result (place_of c.self.inside.machine) (place_of c.step.new.self) c.args.piece.now
