@@ -1,10 +1,11 @@
 -- What the calls that encode promise.
-use Rattle.std.specs.Prelude.{◌≡◌, ◌≢◌, ℕ, ◌+◌, ◌<◌, ◌≤◌, List, ◌++◌, length, Result, OnOk, OnErr, IfErr, IsErrOf}
+use Rattle.std.specs.Prelude.{◌≡◌, ◌≢◌, ℕ, ◌+◌, ◌<◌, ◌≤◌, List, ◌++◌, length, take, Option, Result, OnOk, OnErr, IfErr, IsErrOf}
 use Rattle.bytes.specs.Filled.{Filled}
 use Rattle.resp_value.specs.Data.{Datum}
 use Rattle.resp_value.specs.Rules.{Rules}
 use Rattle.resp_value.specs.Spellings.{IsSpelling}
 use Rattle.resp_value.specs.Canonical.{canonical_text, Fits}
+use Rattle.resp_value.specs.Devices.{Appends, HasRisen}
 use Rattle.resp_encode.specs.Refusals.{IsFirstFault}
 use Rattle.resp_encode.specs.declared.error.EncodeError.{EncodeError}
 use Rattle.resp_encode.specs.declared.error.EncodeError.TheVariants.{OutOfMemory}
@@ -32,3 +33,17 @@ pub record AppendsWhole (old new : Filled) (text : List ℕ) (result : Result (U
   pub spare_left : OnOk result (old.spare ≤ new.spare + length text)
   -- a refusal takes none of the spare room
   pub spare_kept : OnErr result (old.spare ≤ new.spare)
+
+-- a text was written whole to a device that held and counted what is given here, and this is its length
+pub record WritesWhole (held held' : Option (List ℕ)) (failures failures' : ℕ) (text : List ℕ) (written : ℕ) : Type 0
+    where
+  pub full_length : written ≡ length text
+  pub appended : Appends held held' text
+  pub none_failed : failures' ≡ failures
+
+-- a write failed when this many bytes were written, which are a beginning of the text and not the whole
+pub record WritesPart (held held' : Option (List ℕ)) (failures failures' : ℕ) (text : List ℕ) (written : ℕ) : Type 0
+    where
+  pub not_whole : written < length text
+  pub appended : Appends held held' (take written text)
+  pub failure_counted : HasRisen failures failures'

@@ -11,7 +11,7 @@ use crate::render::{RenderError, Rendering, render_all};
 use crate::scalar_reader::Scalar;
 use crate::scalar_value::to_value;
 use crate::tool_error::{MOST_VALUES, ToolError};
-use resp_encode::{EncodeToError, encode_to};
+use resp_encode::{EncodeError, EncodeToError, encode_to};
 use resp_value::device::{Sink, Source};
 use resp_value::limits::Limits;
 use resp_value::version::Version;
@@ -45,10 +45,8 @@ impl From<EncodeToError> for RenderError {
 
     fn from(error: EncodeToError) -> RenderError {
         match error {
-            EncodeToError::NotInVersion
-            | EncodeToError::NestedPush
-            | EncodeToError::OverLimits(_) => RenderError::OverLimits,
-            EncodeToError::OutOfMemory => RenderError::Memory,
+            EncodeToError::Refused(EncodeError::OutOfMemory) => RenderError::Memory,
+            EncodeToError::Refused(_) => RenderError::OverLimits,
             EncodeToError::Write { .. } => RenderError::Write,
         }
     }

@@ -18,8 +18,8 @@ returns-in_err-encode_to g c =
     let refusal = c.in_err-encode_to.ensures in
     let is_error = is_that_error c.from_residual-in_err-encode_to.result (render_error_of error) c.from_residual-in_err-encode_to.ensures.1 in
     let leaves = leaves_of_refusal rules (datum_of c.in_ok-value.value) old _ _ _ (canonical_text c.args.self.now.version (datum_of c.in_ok-value.value)) error
-    refusal.refused
-    (λ e is. subst (λ new. Appends old (g.W.Sink.written new) []) (sym (refusal.before e (ap Err is))) (Appends-none old))
-    refusal.part refusal.failed in
+    refusal.first_fault
+    (λ e is. subst (λ new. Appends old (g.W.Sink.written new) []) (sym (refusal.nothing_written e (ap Err is))) (Appends-none old))
+    refusal.part in
     leaves_of_equal rules (datum_of c.in_ok-value.value) (scalar_datum c.args.scalar.now) old _ _ _ error c.from_residual-in_err-encode_to.result is_error
     c.in_ok-value.ensures leaves
