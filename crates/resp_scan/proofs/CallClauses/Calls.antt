@@ -17,7 +17,6 @@ use Rattle.resp_fronts.specs.Frames.{text_around}
 use Rattle.resp_fronts.proofs.Tokens.BegunFronts.{IsBegunBy}
 use Rattle.resp_fronts.proofs.EventLaws.EventsAround.{length-around, next_member_at}
 use Rattle.resp_fronts.proofs.FrameLaws.FrontLaws.{all_rules}
-use Rattle.resp_fronts.proofs.FrameLaws.LeastAround.{text_least}
 use Rattle.resp_scan.specs.declared.event.Event.{Event}
 use Rattle.resp_scan.specs.declared.event.Event.TheVariants as event
 use Rattle.resp_scan.specs.declared.event.Step.{Step}
@@ -42,6 +41,7 @@ use Rattle.resp_scan.proofs.CallClauses.LeastNeeded.{least_is_needed}
 use Rattle.resp_scan.proofs.TokenMoves.Moves.{at_level}
 use Rattle.resp_scan.proofs.CallClauses.Rows.{tokens_need}
 use Rattle.resp_fronts.specs.OpenLevels.{AreLevelsOf}
+use Rattle.resp_value.proofs.DefaultLimits.{text_at_least}
 
 -- A front that isn't empty.
 
@@ -64,7 +64,7 @@ between_some r f fs front es w = case w.frames w.of_levels w.whole
     case (g ∷ gs) a e = omega (arith, ap length e, open_some gs g)
 
 ended_some : (r : Rules) (fs : List Frame) (front : List ℕ) (es : List e.Event) → HasEnded r fs front es → 0 < length front
-ended_some r [] front es w = omega (arith, ap length w.whole, text_least w.tree)
+ended_some r [] front es w = omega (arith, ap length w.whole, text_at_least w.tree)
 ended_some r (f ∷ fs) front es w = omega (arith, ap length w.whole, open_some w.outer w.frame)
 
 closing_some : (r : Rules) (fs : List Frame) (last rest front : List ℕ) (es : List e.Event) → 0 < length last → IsClosingIn r fs last rest front es →
@@ -97,7 +97,7 @@ behind_at AtTextEnd s front es c w = inr (omega (
   ap length w.whole,
   longer_around w.frames w.bytes,
   ap length w.took.whole,
-  text_least (leaf w.took.leaf),
+  text_at_least (leaf w.took.leaf),
 ))
 behind_at AtCloseCr s front es c w = inr (closing_some (rules_of s) s.frames (46 ∷ []) (13 ∷ 10 ∷ []) front es (omega arith) w)
 behind_at AtCloseLf s front es c w = inr (closing_some (rules_of s) s.frames (46 ∷ 13 ∷ []) (10 ∷ []) front es (omega arith) w)

@@ -22,7 +22,7 @@ use Rattle.resp_scan.specs.Machine.Tokens as k
 use Rattle.resp_scan.specs.Machine.Tokens.{Happening, Place, Token, at_boundary, at, AtStart, AtEnd, InLine, AtLineLf, AtIntSign, AtIntFirst, InInt, AtIntLf, AtBigSign, AtBigFirst, InBigZeros, AtBigZeroLf, AtBigDigit, InBig, AtTextEnd, AtNullOne, AtNullCr, AtNullLf, AtBool, AtBoolCr, AtBoolLf, AtBulkHead, AtArrayHead, AtHead, InHead, AtHeadLf, AtFormat, AtFormatSecond, AtFormatThird, AtFormatColon, InContent, AtContentCr, AtContentLf, AtStreamCr, AtStreamLf, AtChunk, InChunk, AtChunkCr, AtChunkLf, AtOpenCr, AtOpenLf, AtCloseCr, AtCloseLf, Dead}
 use Rattle.resp_scan.specs.Machine.Scan.{Out, More, Gave, Part, Whole, Bad, out_from, out_from_token, out_at_end, scan}
 use Rattle.resp_scan.specs.Parts.{IsPartOf, IsOfPiece, IsRun}
-use Rattle.resp_scan.specs.Machine.StepOutcomes.{after_bytes, out_of_step, out_of_event, out_of_part, after_step}
+use Rattle.resp_scan.specs.Machine.StepOutcomes.{out_of_step, out_of_event, out_of_part, after_step}
 use Rattle.resp_scan.specs.Kinds.{IsRefusedFor, content_events, event_of, rules_of}
 use Rattle.resp_scan.specs.declared.machine.Head.{Head}
 use Rattle.resp_scan.specs.declared.machine.Head.TheVariants as head
@@ -44,6 +44,7 @@ use Rattle.resp_scan.proofs.TokenMoves.ClosesLead.{close_is_owed}
 use Rattle.resp_scan.proofs.CallClauses.LeastNeeded.{least_is_needed, followed_is_viable}
 use Rattle.resp_scan.proofs.Soundness.Sound.{is_outside}
 use Rattle.resp_scan.proofs.TokenMoves.Choices.{if_below, if_equal, if_within}
+use Rattle.resp_scan.proofs.Soundness.Counted.{sound_counted}
 
 -- What is owed, or what comes of the piece.
 
@@ -168,21 +169,9 @@ Shown s front es p (Whole t) = (t.taken ≡ 0) × f.IsWholeValue (rules_of s) fr
 Shown s front es p (Bad n c t) = (t.taken ≡ s.taken + n) × (n < length p) × (byte : ℕ) × (rest : List ℕ) × (p ≡ take n p ++ byte ∷ rest) ×
     RefusedAt (rules_of s) (front ++ take n p) es byte n c
 
--- a piece's bytes are those of the value
-sound_after : (n : ℕ) (t : Place) → IsSoundBy n t → IsSound (after_bytes n t)
-sound_after n t h = record {
-  bounds = h.bounds;
-  nested = h.nested;
-  counted = h.counted;
-  frames_need = h.frames_need;
-  total = omega (arith, h.total);
-  token =
-      h.token;
-}
-
 shown : (s : Place) (front : List ℕ) (es : List e.Event) (p : List ℕ) (o : Out) → IsOut s o → Answered (rules_of s) front es p o →
     Shown s front es p (after_step o)
-shown s front es p (More n t) h a = (a.0, ap (λ x. x + n) h.taken, sound_after n t h.sound, h.rules, a.1, a.2)
+shown s front es p (More n t) h a = (a.0, ap (λ x. x + n) h.taken, sound_counted t n h.sound, h.rules, a.1, a.2)
 shown s front es p (Gave n x t) h a = (a.0, ap (λ x. x + n) h.0.taken, a.1)
 shown s front es p (Part k n t) h a = (a.0, a.1, ap (λ x. x + n) h.taken, a.2)
 shown s front es p (Whole t) h a = (h.1, a.0, a.1)

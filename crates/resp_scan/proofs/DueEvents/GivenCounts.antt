@@ -18,6 +18,7 @@ use Rattle.resp_scan.proofs.TokenMoves.Moves.{at_level, length-busy}
 use Rattle.resp_scan.proofs.DueEvents.Opens.{LeaveOpen, frames_open, open-append, tree_opens}
 use Rattle.resp_scan.proofs.DueEvents.NoDone.{frames_no_done, no_done-append, tree_no_done}
 use Rattle.resp_scan.proofs.DueEvents.Shown.{IsShown, is_shown}
+use Rattle.resp_scan.proofs.TokenMoves.Begins.{length-waiting}
 
 -- what was given by these frames, of these bytes
 abbrev AreGiven : List Frame → List ℕ → List Event → Type 0
@@ -51,10 +52,6 @@ frames_given : (fs : List Frame) (frames : List opened.Frame) (bytes front : Lis
     front ≡ text_around frames bytes → es ≡ without_places (events_around frames) → AreGiven fs front es
 frames_given fs frames bytes front es same whole told = around_given fs frames bytes front [] es same (record { none_open = refl; no_done = tt; few = omega arith }) whole
     (told ∙ sym (append-nil (without_places (events_around frames))))
-
-length-waiting : (fs : List Frame) → length (waiting_levels fs) ≡ length fs
-length-waiting [] = refl
-length-waiting (f ∷ fs) = ap suc (length-busy fs)
 
 between_given : (r : Rules) (fs : List Frame) (front : List ℕ) (es : List Event) → AwaitsMember r fs front es → AreGiven fs front es
 between_given r fs front es w = frames_given fs w.frames [] front es (sym (same_length (waiting_levels fs) w.frames w.of_levels) ∙ length-waiting fs) w.whole

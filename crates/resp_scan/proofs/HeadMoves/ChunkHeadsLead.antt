@@ -12,7 +12,6 @@ use Rattle.resp_value.proofs.Unique.{chunks_text-append}
 use Rattle.resp_value.proofs.FirstBytes.{all_append}
 use Rattle.resp_fronts.specs.Events.{Event}
 use Rattle.resp_fronts.specs.Events as e
-use Rattle.resp_fronts.proofs.FirstLines.BegunLines.{number-digit}
 use Rattle.resp_fronts.proofs.FirstLines.CountRows.{CompletesUnder, IsRefusedHere}
 use Rattle.resp_fronts.proofs.Tokens.BegunFronts.{IsBegunBy}
 use Rattle.resp_fronts.proofs.Tokens.ChunkTokens.{chunk_length_begun, chunk_length_over, chunk_length_returned_begun, chunk_mark_begun, chunk_zero_begun, chunk_zero_returned_begun, chunked_keeps, streamed_text}
@@ -31,6 +30,7 @@ use Rattle.resp_scan.proofs.HeadMoves.HeadDigits.{head_digit_leads}
 use Rattle.resp_scan.proofs.TokenMoves.LeafEvents.{given-chunked, leaf_told}
 use Rattle.resp_scan.proofs.TokenMoves.Moves.{Ends, goes, retold, value_ends}
 use Rattle.resp_scan.proofs.TokenMoves.RefusedMoves.{broken, refused}
+use Rattle.resp_value.proofs.DigitLemmas.{number-digit}
 
 -- Lengths.
 

@@ -10,7 +10,6 @@ use Rattle.resp_value.proofs.KeptDigits.{number-stripped}
 use Rattle.resp_fronts.specs.Events.{Event, big_events, without_places, last_of, leaf_events}
 use Rattle.resp_fronts.specs.Events as e
 use Rattle.resp_fronts.proofs.FirstLines.CountRows.{IsRefusedHere}
-use Rattle.resp_fronts.proofs.FirstLines.BegunLines.{number-digit}
 use Rattle.resp_fronts.proofs.Tokens.BegunFronts.{IsBegunBy}
 use Rattle.resp_fronts.proofs.Tokens.BegunTypeBytes.{big_token_over}
 use Rattle.resp_fronts.proofs.Tokens.LineTokens.{returned_begun, returned_broken, returned_whole}
@@ -31,6 +30,7 @@ use Rattle.resp_scan.proofs.TokenMoves.NumbersLead.{AnySign, begun_dead, digits_
 use Rattle.resp_scan.proofs.TokenMoves.RefusedMoves.{broken, fits_or_total, refused}
 use Rattle.resp_scan.proofs.TokenMoves.ByteTests.{by_byte, by_digit}
 use Rattle.resp_scan.proofs.TokenMoves.Choices.{if_equal, positive, wants_leads}
+use Rattle.resp_value.proofs.DigitLemmas.{number-digit}
 
 -- Digits without leading zeros.
 

@@ -94,7 +94,7 @@ line_follows r k fs last rest front behind es w streamed c =
     (subst (IsWholeText (LeafKeeps r Grammar) (NodeKeeps r Grammar)) e c))
 
 -- a form that has a close is streamed
-is_streamed : (form : Form) (byte : ℕ) (rest : List ℕ) → close form ≡ byte ∷ rest → form ≡ Streamed
+pub is_streamed : (form : Form) (byte : ℕ) (rest : List ℕ) → close form ≡ byte ∷ rest → form ≡ Streamed
 is_streamed (t.Counted digits) byte rest e = absurd (omega (arith, ap length e))
 is_streamed Streamed byte rest e = refl
 

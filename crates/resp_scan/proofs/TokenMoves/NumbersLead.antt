@@ -10,7 +10,6 @@ use Rattle.resp_value.specs.declared.cause.Cause.TheVariants as cause
 use Rattle.resp_fronts.specs.Events.{Event}
 use Rattle.resp_fronts.specs.Events as e
 use Rattle.resp_fronts.proofs.FirstLines.CountRows.{CompletesUnder, IsRefusedHere}
-use Rattle.resp_fronts.proofs.FirstLines.BegunLines.{number-digit}
 use Rattle.resp_fronts.proofs.Tokens.BegunFronts.{IsBegunBy}
 use Rattle.resp_fronts.proofs.Refusals.BrokenLines.{byte_broken, return_broken}
 use Rattle.resp_fronts.proofs.Refusals.BrokenHeads.{number_begun_broken, number_broken, number_short}
@@ -32,6 +31,7 @@ use Rattle.resp_scan.proofs.TokenMoves.RefusedMoves.{broken, fits_or_total, refu
 use Rattle.resp_scan.proofs.TokenMoves.ByteTests.{by_byte, by_digit}
 use Rattle.resp_scan.proofs.TokenMoves.Choices.{if_equal, if_within, wants_leads}
 use Rattle.resp_fronts.specs.Tokens.{IsNumberBegun, IsNumberToken, MayBe, greatest}
+use Rattle.resp_value.proofs.DigitLemmas.{number-digit}
 
 -- a byte of a number's beginning that no spelling has there
 pub begun_line : (k : NumberKind) (sign : Sign) → IsLine (number_byte k ∷ (sign_text sign ++ []))
