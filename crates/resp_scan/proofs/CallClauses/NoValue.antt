@@ -12,7 +12,7 @@ use Rattle.resp_value.proofs.Unique.{unique}
 use Rattle.resp_fronts.specs.Events as e
 use Rattle.resp_fronts.specs.Events.{all_events, events, events_due, last_of}
 use Rattle.resp_fronts.proofs.EventLaws.EventsDue.{due-append}
-use Rattle.resp_fronts.proofs.FrameLaws.LeastAround.{text_least}
+use Rattle.resp_value.proofs.DefaultLimits.{text_at_least}
 use Rattle.resp_scan.specs.Reading.{AreDue, HasNoDone, HasNoSpelling, HasNoValue, IsSpelled}
 use Rattle.resp_scan.proofs.DueEvents.NoDone.{no_done_behind}
 use Rattle.resp_scan.proofs.TokenMoves.Choices.{if_below, if_within}
@@ -27,7 +27,7 @@ done_is_due t h =
     let n = length (text t) in
     let last = record { at = last_of 0 (text t); event = e.Done } ∷ [] in
     let z = no_done_behind (events_due n (events 0 t)) (events_due n last) (subst HasNoDone (due-append n (events 0 t) last) h) in
-    not_due (last_of 0 (text t)) n (omega (arith, text_least t)) z
+    not_due (last_of 0 (text t)) n (omega (arith, text_at_least t)) z
   where
     not_due : (at n : ℕ) → at < n → HasNoDone (cond (ltb at n) (e.Done ∷ []) []) → ⊥
     not_due at n below = if_below at n (λ x. HasNoDone (cond x (e.Done ∷ []) []) → ⊥) (λ y h. h.0) (λ beyond h. omega (arith, below, beyond))
