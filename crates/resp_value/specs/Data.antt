@@ -41,10 +41,6 @@ abbrev pub data_of_list : List Datum → Data
 data_of_list [] = none
 data_of_list (x ∷ xs) = more x (data_of_list xs)
 
-abbrev pub list_of_data : Data → List Datum
-list_of_data none = []
-list_of_data (more x xs) = x ∷ list_of_data xs
-
 -- keys and values in turn
 abbrev pub in_turn : List (Datum × Datum) → List Datum
 in_turn [] = []

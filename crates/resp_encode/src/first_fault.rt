@@ -1,21 +1,21 @@
-//! Which values are refused, and for what.
+//! The first fault of a value, by its measure.
 
 ghost use Rattle.resp_value.specs.Rules.{rules_under};
 ghost use Rattle.resp_encode.specs.Encodings.{IsVerdict};
 ghost use Rattle.std.specs.Prelude.{◌≡◌, ◌↔◌, IsTrue, IfOk, IsErrOf, length};
 ghost use Rattle.resp_value.specs.Data.{Datum};
 ghost use Rattle.resp_value.specs.Canonical.{IsValue, HasTypes, canonical_text};
-ghost use Rattle.resp_encode.specs.Surveys.{Describes};
+ghost use Rattle.resp_encode.specs.Walks.Measures.{Describes};
 
 use crate::error::EncodeError;
-use crate::findings::Findings;
+use crate::measure::Measure;
 use resp_value::cause::Limit;
 use resp_value::limits::Limits;
 use resp_value::version::Version;
 
-/// Whether the version has each type.
+/// Whether the version has each type of what was measured.
 #[inline]
-pub(crate) fn has_types(found: &Findings, version: Version) -> bool
+pub(crate) fn has_types(found: &Measure, version: Version) -> bool
     ensures { (x : Datum) → Describes version x found.now → (IsTrue result ↔ HasTypes version x) }
 {
     match version {
@@ -24,10 +24,10 @@ pub(crate) fn has_types(found: &Findings, version: Version) -> bool
     }
 }
 
-/// The length of the text, or the first fault of the value. It never answers want of memory.
+/// The bytes of the text of what was measured, or its first fault, which is never want of memory.
 #[inline]
-pub(crate) fn judge(
-    found: &Findings,
+pub(crate) fn checked_size(
+    found: &Measure,
     version: Version,
     limits: &Limits,
 ) -> Result<usize, EncodeError>

@@ -10,7 +10,7 @@ use Rattle.resp_value.specs.Trees.{texts}
 use Rattle.resp_value.specs.Canonical.{IsValue, AreValues, IsKindInTwo, AreInTwo, HasTypes, HaveNoPush, HasPushAtTop, canonical_text, canonical_trees}
 use Rattle.resp_value.specs.declared.version.Version.{Version}
 use Rattle.resp_value.specs.declared.version.Version.TheVariants.{Two, Three}
-use Rattle.resp_encode.specs.Writings.{Fills}
+use Rattle.resp_encode.specs.Walks.Writings.{Fills}
 
 -- the version has the kind
 abbrev pub HasKind : Version → Kind → Type 0
@@ -31,7 +31,7 @@ pub record Suits (version : Version) (bounds : Bounds) (deeper : ℕ) (x : Datum
   pub within_items : most_items x ≤ bounds.items
   pub is_value : IsValue x
 
--- the same of members, none of which is a push
+-- nothing of the members is refused but for the total, and none of them is a push
 pub record SuitEach (version : Version) (bounds : Bounds) (deeper : ℕ) (xs : Data) : Type 0 where
   pub have_types : HaveTypes version xs
   pub no_push : HaveNoPush xs
@@ -47,15 +47,16 @@ pub record Attempt (version : Version) (bounds : Bounds) (deeper : ℕ) (x : Dat
   pub suits : OnTrue done (Suits version bounds deeper x)
   pub part : (text : List ℕ) × Fills old new text
 
--- the same of members
+-- where it is done, the members suit and their texts were appended; else it may be that only a part was
 pub record AttemptEach (version : Version) (bounds : Bounds) (deeper : ℕ) (xs : Data) (old new : Filled)
     (done : Bool) : Type 0 where
   pub whole : OnTrue done (Fills old new (texts (canonical_trees version xs)))
   pub suits : OnTrue done (SuitEach version bounds deeper xs)
   pub part : (text : List ℕ) × Fills old new text
 
--- the same of the head of an attribute, with this number, and of its keys and values in turn
-pub record AttemptNotes (version : Version) (bounds : Bounds) (deeper items : ℕ) (xs : Data) (old new : Filled)
+-- where it is done, the head of an attribute with this number was appended, and the texts of its keys and values in
+-- turn
+pub record AttemptAttributePairs (version : Version) (bounds : Bounds) (deeper items : ℕ) (xs : Data) (old new : Filled)
     (done : Bool) : Type 0 where
   pub whole : OnTrue done (Fills old new (124 ∷ decimal items ++ crlf (texts (canonical_trees version xs))))
   pub has_kind : OnTrue done (HasKind version Attr)

@@ -1,14 +1,14 @@
--- What a walk over a value finds of it.
+-- What the measure of a value says of it.
 use Rattle.std.specs.Prelude.{◌≡◌, ◌↔◌, length, IsTrue}
 use Rattle.resp_value.specs.Data.{Datum, Data, depth, greatest_depth, longest, longest_among, most_items, most_items_among}
 use Rattle.resp_value.specs.Trees.{texts}
 use Rattle.resp_value.specs.Canonical.{IsInTwo, AreInTwo, HasNoPush, HaveNoPush, HasPushAtTop, canonical_text, canonical_trees}
 use Rattle.resp_value.specs.declared.version.Version.{Version}
-use Rattle.resp_encode.specs.Sizes.{IsSize, IsSaturated}
-use Rattle.resp_encode.specs.declared.findings.Findings.{Findings}
+use Rattle.resp_encode.specs.Walks.Sizes.{IsSize, IsSaturated}
+use Rattle.resp_encode.specs.declared.measure.Measure.{Measure}
 
--- what was found of a value
-pub record Describes (version : Version) (x : Datum) (found : Findings) : Type 0 where
+-- the measure is that of the value
+pub record Describes (version : Version) (x : Datum) (found : Measure) : Type 0 where
   pub in_two : IsTrue found.in_two ↔ IsInTwo x
   pub no_push : IsTrue found.no_push ↔ HasNoPush x
   pub push_at_top : IsTrue found.push_at_top ↔ HasPushAtTop x
@@ -17,8 +17,8 @@ pub record Describes (version : Version) (x : Datum) (found : Findings) : Type 0
   pub most_items_found : found.most_items ≡ most_items x
   pub size_found : IsSize found.size (length (canonical_text version x))
 
--- what was found of the members of a value
-pub record DescribesEach (version : Version) (xs : Data) (found : Findings) : Type 0 where
+-- the measure is that of the members of a value
+pub record DescribesEach (version : Version) (xs : Data) (found : Measure) : Type 0 where
   pub in_two : IsTrue found.in_two ↔ AreInTwo xs
   pub no_push : IsTrue found.no_push ↔ HaveNoPush xs
   pub depth_found : IsSaturated found.depth (greatest_depth xs)

@@ -1,9 +1,9 @@
 use Rattle.std.proofs.Common.{◌≡◌, subst, length, arith}
 use Rattle.resp_value.specs.Rules.{rules_under}
 use Rattle.resp_value.specs.Canonical.{canonical_text}
-use Rattle.resp_encode.specs.Sizes.{IsSize}
+use Rattle.resp_encode.specs.Walks.Sizes.{IsSize}
 use Rattle.resp_encode.proofs.Verdicts.{verdict_of_fitting}
-use Rattle.resp_encode.proofs.judge.judge.Goals as goal
+use Rattle.resp_encode.proofs.first_fault.checked_size.Goals as goal
 
 pub returns-in-Some-clause-verdict : goal.returns-in-Some-clause-verdict
 returns-in-Some-clause-verdict c = λ x found value.

@@ -1,27 +1,27 @@
-//! What one walk over a value finds.
+//! The measure of a value: all that decides whether it fits, and how long its text is.
 
 ghost use Rattle.std.specs.Prelude.{◌≡◌, ◌+◌, ◌≤◌, true, ℕ, length};
 ghost use Rattle.resp_value.specs.Data.{Datum, Data, none, aggregate, items_of, count};
 ghost use Rattle.resp_value.specs.Numbers.{decimal};
 ghost use Rattle.resp_value.specs.Values.{extended};
 ghost use Rattle.resp_value.specs.declared.version.Version.{Version};
-ghost use Rattle.resp_encode.specs.Sizes.{IsSize};
+ghost use Rattle.resp_encode.specs.Walks.Sizes.{IsSize};
 
 use crate::digits::digit_count;
 use resp_value::kind::OpenKind;
 
-/// What was found of a value, or of the members of one.
+/// The measure of a value, or of members that stand side by side.
 #[derive(Clone, Copy)]
-pub(crate) struct Findings {
-    /// Version 2 has each type.
+pub(crate) struct Measure {
+    /// Whether version 2 has each type.
     pub(crate) in_two: bool,
-    /// No push stands there.
+    /// Whether no push stands there.
     pub(crate) no_push: bool,
-    /// No push stands below the top of the value.
+    /// Whether no push stands below the top of the value.
     pub(crate) push_at_top: bool,
     /// How many aggregates stand inside one another, if that is below `u64::MAX`.
     pub(crate) depth: u64,
-    /// The longest content.
+    /// The bytes of the longest content.
     pub(crate) longest: u64,
     /// The most members of one array, set or push, or pairs of one map or attribute.
     pub(crate) most_items: u64,
@@ -29,6 +29,7 @@ pub(crate) struct Findings {
     pub(crate) size: Option<u64>,
 }
 
+/// The sum of two sizes, if a `u64` holds it.
 #[inline]
 fn sum(left: Option<u64>, right: Option<u64>) -> Option<u64>
     ensures { (m n : ℕ) → IsSize left m → IsSize right n → IsSize result (m + n) }
@@ -49,21 +50,21 @@ pub(crate) fn head_size(number: u64) -> u64
     digit_count(number) + 3
 }
 
-impl Findings {
+impl Measure {
     ghost use Rattle.resp_value.specs.Kinds.{kind_of};
-    ghost use Rattle.resp_encode.specs.Surveys.{DescribesEach, Describes};
+    ghost use Rattle.resp_encode.specs.Walks.Measures.{DescribesEach, Describes};
 
-    /// Of no members.
+    /// The measure of no members.
     #[inline]
-    pub(crate) fn nothing() -> Findings
+    pub(crate) fn nothing() -> Measure
         ensures { (version : Version) → DescribesEach version none result }
     {
-        Findings::scalar(true, 0, 0)
+        Measure::scalar(true, 0, 0)
     }
 
-    /// Of a value without members.
+    /// The measure of a value without members.
     #[inline]
-    pub(crate) fn scalar(in_two: bool, length: u64, size: u64) -> Findings
+    pub(crate) fn scalar(in_two: bool, length: u64, size: u64) -> Measure
         ensures { result ≡ record {
           in_two = in_two;
           no_push = true;
@@ -75,7 +76,7 @@ impl Findings {
           size = Some size;
         } }
     {
-        Findings {
+        Measure {
             in_two,
             no_push: true,
             push_at_top: true,
@@ -86,13 +87,13 @@ impl Findings {
         }
     }
 
-    /// Of these members and one more behind them.
+    /// The measure of these members and one more behind them.
     #[inline]
-    pub(crate) fn with(&self, next: &Findings) -> Findings
+    pub(crate) fn with(&self, next: &Measure) -> Measure
         ensures { (version : Version) (xs : Data) (x : Datum) → DescribesEach version xs self.now →
             Describes version x next.now → DescribesEach version (extended xs x) result }
     {
-        Findings {
+        Measure {
             in_two: self.in_two & next.in_two,
             no_push: self.no_push & next.no_push,
             push_at_top: true,
@@ -103,14 +104,14 @@ impl Findings {
         }
     }
 
-    /// Of the aggregate that has these members, and this number in its head.
+    /// The measure of the aggregate that has these members, and this number in its head.
     #[inline]
-    pub(crate) fn inside(&self, kind: OpenKind, items: u64) -> Findings
+    pub(crate) fn inside(&self, kind: OpenKind, items: u64) -> Measure
         ensures { (version : Version) (xs : Data) → DescribesEach version xs self.now →
             items ≡ items_of (kind_of kind) (count xs) →
             Describes version (aggregate (kind_of kind) xs) result }
     {
-        Findings {
+        Measure {
             in_two: self.in_two & kind.is_in_two(),
             no_push: self.no_push & kind.is_below(),
             push_at_top: self.no_push,
