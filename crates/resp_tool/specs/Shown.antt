@@ -4,6 +4,8 @@ use Rattle.std.specs.Fmt.{signed_decimal}
 use Rattle.std.specs.List.{flat_map}
 use Rattle.resp_value.specs.Data.{Kind, Array, Set, Map, Attr, Push, Scalar, Null, Int, Simple, Error, Double, Bulk, BulkError, Verbatim, Big, Datum, Data, scalar, aggregate, none, more, count, items_of}
 use Rattle.resp_value.specs.Data as d
+use Rattle.resp_value.specs.Numbers.{sign_text}
+use Rattle.resp_value.specs.Canonical.{sign_of}
 
 -- a byte that stands for itself inside quotes
 abbrev pub is_plain : ℕ → Bool
@@ -39,10 +41,6 @@ abbrev pub truth_word : Bool → List ℕ
 truth_word true = codes "true"
 truth_word false = codes "false"
 
-abbrev pub minus_if : Bool → List ℕ
-minus_if true = codes "-"
-minus_if false = []
-
 -- the line of a value without members
 abbrev pub scalar_line : Scalar → List ℕ
 scalar_line Null = codes "null\n"
@@ -55,7 +53,7 @@ scalar_line (Bulk text) = string_line (codes "bulk") text
 scalar_line (BulkError text) = string_line (codes "bulkerror") text
 scalar_line (Verbatim format text) = codes "verbatim \"" ++ quoted_text format ++ codes "\" \"" ++ quoted_text text ++
     codes "\" " ++ decimal (length text) ++ codes "\n"
-scalar_line (Big negative digits) = codes "big " ++ minus_if negative ++ digits ++ codes "\n"
+scalar_line (Big negative digits) = codes "big " ++ sign_text (sign_of negative) ++ digits ++ codes "\n"
 
 abbrev pub kind_word : Kind → List ℕ
 kind_word Array = codes "array"
@@ -91,7 +89,3 @@ abbrev mutual
 -- the text of a value
 abbrev pub shown_text : Datum → List ℕ
 shown_text x = lines_on 0 x
-
--- the texts of values, one after another
-abbrev pub shown_texts : List Datum → List ℕ
-shown_texts xs = flat_map shown_text xs
