@@ -7,7 +7,7 @@ use Rattle.resp_value.specs.Data as d
 use Rattle.resp_value.specs.Numbers.{sign_text}
 use Rattle.resp_value.specs.Canonical.{sign_of}
 
--- a byte that stands for itself inside quotes
+-- a byte that stands for itself inside quotes: printable, and neither a quote nor a backslash
 abbrev pub is_plain : ℕ → Bool
 is_plain byte = nat_le 32 byte && nat_le byte 126 && cond (byte == 34) false (cond (byte == 92) false true)
 
@@ -15,15 +15,15 @@ is_plain byte = nat_le 32 byte && nat_le byte 126 && cond (byte == 34) false (co
 abbrev pub hex_digit : ℕ → ℕ
 hex_digit n = cond (nat_lt n 10) (n + 48) (n + 87)
 
--- a byte inside quotes that doesn't stand for itself
+-- a byte inside quotes that doesn't stand for itself: a quote, a backslash, CR, LF, a tab, or any other by two digits
 abbrev pub escape_of : ℕ → List ℕ
 escape_of byte =
-    cond (byte == 34) (92 ∷ 34 ∷ [])
-    (cond (byte == 92) (92 ∷ 92 ∷ [])
-    (cond (byte == 13) (92 ∷ 114 ∷ [])
-    (cond (byte == 10) (92 ∷ 110 ∷ [])
-    (cond (byte == 9) (92 ∷ 116 ∷ [])
-    (92 ∷ 120 ∷ hex_digit (byte / 16) ∷ hex_digit (byte % 16) ∷ [])))))
+    cond (byte == 34) (codes "\\\"")
+    (cond (byte == 92) (codes "\\\\")
+    (cond (byte == 13) (codes "\\r")
+    (cond (byte == 10) (codes "\\n")
+    (cond (byte == 9) (codes "\\t")
+    (codes "\\x" ++ hex_digit (byte / 16) ∷ hex_digit (byte % 16) ∷ [])))))
 
 -- a byte inside quotes
 abbrev pub quoted_byte : ℕ → List ℕ
@@ -75,12 +75,12 @@ abbrev mutual
   lines_on level (aggregate k xs) = indentation level ++ kind_word k ++ codes "\n" ++ member_lines (suc level) xs ++
       indentation level ++ codes "end " ++ decimal (items_of k (count xs)) ++ codes "\n"
 
-  -- of members
+  -- the lines of members, one after another
   pub member_lines : ℕ → Data → List ℕ
   member_lines level none = []
   member_lines level (more x xs) = lines_on level x ++ member_lines level xs
 
-  -- of an attribute's keys and values, the word `of`, and the annotated value, which comes last
+  -- the lines of an attribute's keys and values, the word `of`, and those of the annotated value, which comes last
   pub annotating_lines : ℕ → Data → List ℕ
   annotating_lines level none = []
   annotating_lines level (more x none) = indentation level ++ codes "of\n" ++ lines_on (suc level) x

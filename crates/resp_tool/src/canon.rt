@@ -69,8 +69,9 @@ pub fn canon<R: Source, W: Sink>(
     writer: &mut W,
 ) -> Result<(), ToolError>
     requires { (1 ≤ piece) × (piece ≤ 65536) }
-    // Where the reader tells its bytes: the text of each value at Ok; where a value is refused, over
-    // the limits or one too many, the texts of those before it; and else a first part of them.
+    // Where the reader tells its bytes: the text of each value at Ok; where a value is refused or
+    // over the limits, or is one too many, the texts of those before it; and where writing fails or
+    // memory is refused, a first part of them.
     ensures texts_written { IfSome (R.remaining reader.old) (λ input.
         Renders (canonical_text version) (stream_rules version limits.now)
         (DoesNotFit (stream_rules version limits.now)) input

@@ -119,8 +119,8 @@ fn run<R: Source, W: Sink>(
     reader: &mut R,
     writer: &mut W,
 ) -> Result<(), ToolError>
-    ensures stream_written { OnOk result (RendersOfTask task (R.remaining reader.old) (W.written writer.old)
-        (W.written writer.new)) }
+    ensures stream_written { OnOk result (RendersOfTask task (R.remaining reader.old)
+        (W.written writer.old) (W.written writer.new)) }
     ensures front_written { IfErr result (λ error. status_of error ≡ 1 →
         RendersFrontOfTask task (R.remaining reader.old) (W.written writer.old)
         (W.written writer.new)) }

@@ -18,8 +18,8 @@ pub fn read_all<R: Source>(
     reader: &mut R,
 ) -> Result<Vec<u8>, ToolError>
     requires { 1 ≤ piece }
-    ensures whole_input { IfOk result (λ bytes. ReadsAll (R.remaining reader.old) (R.remaining reader.new)
-        bytes.items) }
+    ensures whole_input { IfOk result (λ bytes.
+        ReadsAll (R.remaining reader.old) (R.remaining reader.new) bytes.items) }
     ensures reader_failed { IsErrOf result ToolError.Read →
         HasRisen (R.failures reader.old) (R.failures reader.new) }
     ensures reads_used_up { IsErrOf result ToolError.TooManyTurns →
