@@ -1,4 +1,5 @@
 pub mod Attempts
+pub mod Encodings
 pub mod Refusals
 pub mod Sizes
 pub mod Surveys

@@ -3,7 +3,8 @@
 //!
 //! Most values have no fault and there is room for them. They are not walked over twice.
 
-ghost use Rattle.std.specs.Prelude.{◌≡◌, ◌+◌, ◌<◌, ◌≤◌, ◌++◌, ◌∷◌, [], ℕ, length, map, IsTrue};
+ghost use Rattle.resp_value.specs.Rules.{rules_under};
+ghost use Rattle.std.specs.Prelude.{◌≡◌, ◌+◌, ◌<◌, ◌≤◌, ◌++◌, ◌∷◌, [], ℕ, length, map};
 ghost use Rattle.std.specs.Bool.{OnTrue, OnFalse};
 ghost use Rattle.resp_value.specs.Bytes.{crlf};
 ghost use Rattle.resp_value.specs.Numbers.{decimal};
@@ -78,7 +79,8 @@ fn attempt_value(
     deeper: u64,
     out: &mut BytesMut,
 ) -> bool
-    ensures attempt { Attempt version limits.now deeper (datum_of value.now) out.old out.new result }
+    ensures attempt { Attempt version limits.now deeper (datum_of value.now) out.old out.new result
+        }
     ensures no_push { OnTrue result (HasNoPush (datum_of value.now)) }
 {
     match value {
@@ -128,7 +130,8 @@ fn attempt_group(
 ) -> bool
     requires { (n : ℕ) → items_of (kind_of kind) n ≡ n }
     ensures { Attempt version limits.now deeper
-        (aggregate (kind_of kind) (data_of_list (map datum_of members.now))) out.old out.new result }
+        (aggregate (kind_of kind) (data_of_list (map datum_of members.now))) out.old out.new result
+            }
 {
     if !attempt_head(members.len() as u64, kind, version, limits, deeper, out) {
         return false;
@@ -147,7 +150,8 @@ fn attempt_map(
     out: &mut BytesMut,
 ) -> bool
     ensures { Attempt version limits.now deeper
-        (aggregate d.Map (data_of_list (in_turn (map pair_data pairs.now)))) out.old out.new result }
+        (aggregate d.Map (data_of_list (in_turn (map pair_data pairs.now)))) out.old out.new result
+            }
 {
     if !attempt_head(
         pairs.len() as u64,
@@ -198,7 +202,8 @@ fn attempt_annotated(
     deeper: u64,
     out: &mut BytesMut,
 ) -> bool
-    ensures attempt { Attempt version limits.now deeper (datum_of value.now) out.old out.new result }
+    ensures attempt { Attempt version limits.now deeper (datum_of value.now) out.old out.new result
+        }
     ensures no_push { OnTrue result (HasNoPush (datum_of value.now)) }
 {
     attempt_value(value, version, limits, deeper, out)
@@ -269,7 +274,7 @@ fn attempt_top(value: &Value, version: Version, limits: &Limits, out: &mut Bytes
 pub(crate) fn attempt(value: &Value, version: Version, limits: &Limits, out: &mut BytesMut) -> bool
     ensures writes { OnTrue result (Fills out.old out.new
         (canonical_text version (datum_of value.now))) }
-    ensures fits { OnTrue result (Fits (record { version = version; limits = limits.now })
+    ensures fits { OnTrue result (Fits (rules_under version limits.now)
         (datum_of value.now)) }
     ensures is_value { OnTrue result (IsValue (datum_of value.now)) }
     ensures items { OnFalse result (out.new.items ≡ out.old.items) }

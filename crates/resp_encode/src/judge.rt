@@ -1,10 +1,10 @@
 //! Which values are refused, and for what.
 
-ghost use Rattle.std.specs.Prelude.{◌≡◌, ◌↔◌, IsTrue, IfOk, IfErr, OnOk, IsErrOf, length};
+ghost use Rattle.resp_value.specs.Rules.{rules_under};
+ghost use Rattle.resp_encode.specs.Encodings.{IsVerdict};
+ghost use Rattle.std.specs.Prelude.{◌≡◌, ◌↔◌, IsTrue, IfOk, IsErrOf, length};
 ghost use Rattle.resp_value.specs.Data.{Datum};
-ghost use Rattle.resp_value.specs.Canonical.{IsValue, HasTypes, canonical_text, Fits};
-ghost use Rattle.resp_value.specs.Spellings.{IsSpelling};
-ghost use Rattle.resp_encode.specs.Refusals.{IsFirstFault};
+ghost use Rattle.resp_value.specs.Canonical.{IsValue, HasTypes, canonical_text};
 ghost use Rattle.resp_encode.specs.Surveys.{Describes};
 
 use crate::error::EncodeError;
@@ -31,14 +31,10 @@ pub(crate) fn judge(
     version: Version,
     limits: &Limits,
 ) -> Result<usize, EncodeError>
-    ensures fits { (x : Datum) → Describes version x found.now →
-        IfOk result (λ size. Fits (record { version = version; limits = limits.now }) x ×
-        (size ≡ length (canonical_text version x))) }
-    ensures fault { (x : Datum) → Describes version x found.now →
-        IfErr result (IsFirstFault (record { version = version; limits = limits.now }) x) }
-    ensures spelling { (x : Datum) → Describes version x found.now → IsValue x →
-        OnOk result (IsSpelling (record { version = version; limits = limits.now }) x
-        (canonical_text version x)) }
+    ensures verdict { (x : Datum) → Describes version x found.now → IsValue x →
+        IsVerdict (rules_under version limits.now) x result }
+    ensures size { (x : Datum) → Describes version x found.now →
+        IfOk result (λ size. size ≡ length (canonical_text version x)) }
     ensures not_memory { IsErrOf result EncodeError.OutOfMemory → ⊥ }
 {
     if !has_types(found, version) {

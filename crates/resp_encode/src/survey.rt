@@ -140,7 +140,8 @@ pub(crate) fn survey(value: &Value, version: Version) -> Findings
 fn survey_map(pairs: &[(Value, Value)], version: Version) -> Findings
     ensures found { Describes version (aggregate d.Map
         (data_of_list (in_turn (map pair_data pairs.now)))) result }
-    ensures is_value { IsValue (aggregate d.Map (data_of_list (in_turn (map pair_data pairs.now)))) }
+    ensures is_value { IsValue (aggregate d.Map (data_of_list (in_turn (map pair_data pairs.now))))
+        }
 {
     survey_pairs(pairs, version).inside(OpenKind::Map, pairs.len() as u64)
 }
@@ -195,7 +196,8 @@ fn survey_members(members: &[Value], version: Version) -> Findings
 /// What is found of keys and values in turn.
 #[cycle(survey)]
 fn survey_pairs(pairs: &[(Value, Value)], version: Version) -> Findings
-    ensures found { DescribesEach version (data_of_list (in_turn (map pair_data pairs.now))) result }
+    ensures found { DescribesEach version (data_of_list (in_turn (map pair_data pairs.now))) result
+        }
     ensures are_values { AreValues (data_of_list (in_turn (map pair_data pairs.now))) }
 {
     let mut found = Findings::nothing();

@@ -1,6 +1,6 @@
 //! The text of a value, into room that is there.
 
-ghost use Rattle.std.specs.Prelude.{◌≡◌, ◌+◌, ◌≤◌, ◌++◌, ◌∷◌, List, [], ℕ, length, map};
+ghost use Rattle.std.specs.Prelude.{◌+◌, ◌≤◌, ◌++◌, ◌∷◌, [], length, map};
 ghost use Rattle.resp_value.specs.Bytes.{crlf};
 ghost use Rattle.resp_value.specs.Numbers.{decimal};
 ghost use Rattle.resp_value.specs.Data.{scalar, data_of_list, in_turn};
@@ -186,7 +186,8 @@ pub(crate) fn write_string(out: &mut BytesMut, byte: u8, bytes: &[u8])
 pub(crate) fn write_verbatim(out: &mut BytesMut, format: &[u8; 3], text: &[u8])
     requires { length (canonical_text Three (scalar (d.Verbatim format.now text.now))) ≤
         out.old.spare }
-    ensures { Fills out.old out.new (canonical_text Three (scalar (d.Verbatim format.now text.now))) }
+    ensures { Fills out.old out.new (canonical_text Three (scalar (d.Verbatim format.now text.now)))
+        }
 {
     write_head(out, b'=', text.len() as u64 + 4);
     out.extend_reserved(format);
@@ -256,7 +257,8 @@ fn write_annotated(value: &Value, version: Version, out: &mut BytesMut)
 #[inline(never)]
 pub(crate) fn write_group(members: &[Value], version: Version, byte: u8, out: &mut BytesMut)
     requires { length (decimal (length members.now)) + 3 + length
-        (texts (canonical_trees version (data_of_list (map datum_of members.now)))) ≤ out.old.spare }
+        (texts (canonical_trees version (data_of_list (map datum_of members.now)))) ≤ out.old.spare
+            }
     ensures { Fills out.old out.new (byte ∷ decimal (length members.now) ++
         crlf (texts (canonical_trees version (data_of_list (map datum_of members.now))))) }
 {

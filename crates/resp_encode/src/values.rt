@@ -1,10 +1,11 @@
 //! Values into a buffer.
 
-ghost use Rattle.std.specs.Prelude.{◌≡◌, ◌≢◌, ◌↔◌, ◌+◌, ◌<◌, ◌≤◌, ◌^◌, ◌++◌, length, IsSome, IfSome, IsErrOf, OnOk, OnErr, IfOk, IfErr};
-ghost use Rattle.resp_value.specs.Spellings.{IsSpelling};
-ghost use Rattle.resp_value.specs.Canonical.{canonical_text, Fits};
+ghost use Rattle.resp_value.specs.Rules.{rules_under};
+ghost use Rattle.resp_encode.specs.Encodings.{IsVerdict, AppendsWhole};
+ghost use Rattle.std.specs.Prelude.{◌≡◌, ◌↔◌, ◌<◌, ◌≤◌, ◌^◌, length, IsSome, IfSome, IsErrOf, IfOk};
+ghost use Rattle.resp_value.specs.Canonical.{canonical_text};
 ghost use Rattle.resp_value.specs.Values.{datum_of};
-ghost use Rattle.resp_encode.specs.Refusals.{HasText, IsFirstFault};
+ghost use Rattle.resp_encode.specs.Refusals.{HasText};
 ghost use Rattle.resp_encode.specs.Words.{push_of};
 ghost use Rattle.resp_encode.specs.Writings.{Fills};
 ghost use Rattle.resp_encode.specs.declared.error.EncodeError.{EncodeError};
@@ -36,27 +37,9 @@ pub fn encode(
     value: &Value,
     out: &mut BytesMut,
 ) -> Result<(), EncodeError>
-    ensures ok { OnOk result (out.new.items ≡ out.old.items ++
-        canonical_text version (datum_of value.now)) }
-    ensures spelling { OnOk result (IsSpelling (record { version = version; limits = limits.now })
-        (datum_of value.now) (canonical_text version (datum_of value.now))) }
-    ensures fits { OnOk result (Fits (record { version = version; limits = limits.now })
-        (datum_of value.now)) }
-
-    // Each refusal comes only where the value has that fault and no earlier one, and always where
-    // it has.
-    ensures refused { IfErr result (IsFirstFault (record { version = version; limits = limits.now })
-        (datum_of value.now)) }
-    ensures always { (error : EncodeError) → error ≢ EncodeError.OutOfMemory →
-        IsFirstFault (record { version = version; limits = limits.now }) (datum_of value.now)
-        error → IsErrOf result error }
-    ensures memory { IsErrOf result EncodeError.OutOfMemory →
-        out.old.spare < length (canonical_text version (datum_of value.now)) }
-
-    ensures unchanged { OnErr result (out.new.items ≡ out.old.items) }
-    ensures spare { OnOk result (out.old.spare ≤ out.new.spare + length
-        (canonical_text version (datum_of value.now))) }
-    ensures spare_kept { OnErr result (out.old.spare ≤ out.new.spare) }
+    ensures verdict { IsVerdict (rules_under version limits.now) (datum_of value.now) result }
+    ensures whole_or_nothing { AppendsWhole out.old out.new
+        (canonical_text version (datum_of value.now)) result }
 {
     if attempt(value, version, limits, out) {
         return Ok(());
@@ -71,12 +54,9 @@ pub fn encode(
 #[cold]
 #[inline(never)]
 fn judge_value(value: &Value, version: Version, limits: &Limits) -> Result<usize, EncodeError>
-    ensures fits { IfOk result (λ size. Fits (record { version = version; limits = limits.now })
-        (datum_of value.now) × (size ≡ length (canonical_text version (datum_of value.now)))) }
-    ensures fault { IfErr result (IsFirstFault (record { version = version; limits = limits.now })
-        (datum_of value.now)) }
-    ensures spelling { OnOk result (IsSpelling (record { version = version; limits = limits.now })
-        (datum_of value.now) (canonical_text version (datum_of value.now))) }
+    ensures verdict { IsVerdict (rules_under version limits.now) (datum_of value.now) result }
+    ensures size { IfOk result (λ size. size ≡
+        length (canonical_text version (datum_of value.now))) }
     ensures not_memory { IsErrOf result EncodeError.OutOfMemory → ⊥ }
 {
     let found = survey(value, version);
@@ -95,12 +75,8 @@ fn write_whole(value: &Value, version: Version, out: &mut BytesMut)
 
 /// The length of the text of a push of these values, or its first fault.
 fn judge_push(limits: &Limits, items: &[Value]) -> Result<usize, EncodeError>
-    ensures fits { IfOk result (λ size. Fits (record { version = Three; limits = limits.now })
-        (push_of items.now) × (size ≡ length (canonical_text Three (push_of items.now)))) }
-    ensures fault { IfErr result (IsFirstFault (record { version = Three; limits = limits.now })
-        (push_of items.now)) }
-    ensures spelling { OnOk result (IsSpelling (record { version = Three; limits = limits.now })
-        (push_of items.now) (canonical_text Three (push_of items.now))) }
+    ensures verdict { IsVerdict (rules_under Three limits.now) (push_of items.now) result }
+    ensures size { IfOk result (λ size. size ≡ length (canonical_text Three (push_of items.now))) }
     ensures not_memory { IsErrOf result EncodeError.OutOfMemory → ⊥ }
 {
     let found = survey_group(items, Version::Three, OpenKind::Push);
@@ -118,27 +94,9 @@ fn write_push(items: &[Value], out: &mut BytesMut)
 /// Appends the canonical text of a push of these values, as `encode` does of the value in version
 /// 3.
 pub fn encode_push(limits: &Limits, items: &[Value], out: &mut BytesMut) -> Result<(), EncodeError>
-    ensures ok { OnOk result (out.new.items ≡ out.old.items ++
-        canonical_text Three (push_of items.now)) }
-    ensures spelling { OnOk result (IsSpelling (record { version = Three; limits = limits.now })
-        (push_of items.now) (canonical_text Three (push_of items.now))) }
-    ensures fits { OnOk result (Fits (record { version = Three; limits = limits.now })
-        (push_of items.now)) }
-
-    // Each refusal comes only where the push has that fault and no earlier one, and always where it
-    // has.
-    ensures refused { IfErr result (IsFirstFault (record { version = Three; limits = limits.now })
-        (push_of items.now)) }
-    ensures always { (error : EncodeError) → error ≢ EncodeError.OutOfMemory →
-        IsFirstFault (record { version = Three; limits = limits.now }) (push_of items.now) error →
-        IsErrOf result error }
-    ensures memory { IsErrOf result EncodeError.OutOfMemory →
-        out.old.spare < length (canonical_text Three (push_of items.now)) }
-
-    ensures unchanged { OnErr result (out.new.items ≡ out.old.items) }
-    ensures spare { OnOk result (out.old.spare ≤ out.new.spare + length
-        (canonical_text Three (push_of items.now))) }
-    ensures spare_kept { OnErr result (out.old.spare ≤ out.new.spare) }
+    ensures verdict { IsVerdict (rules_under Three limits.now) (push_of items.now) result }
+    ensures whole_or_nothing { AppendsWhole out.old out.new
+        (canonical_text Three (push_of items.now)) result }
 {
     let size = judge_push(limits, items)?;
     reserve(out, size)?;

@@ -1,11 +1,11 @@
 //! Commands: arrays of bulk strings, in version 2.
 
-ghost use Rattle.std.specs.Prelude.{◌≡◌, ◌≢◌, ◌+◌, ◌<◌, ◌≤◌, ◌++◌, length, map, IsErrOf, IfOk, OnOk, OnErr, IfErr};
-ghost use Rattle.resp_value.specs.Spellings.{IsSpelling};
+ghost use Rattle.resp_value.specs.Rules.{rules_under};
+ghost use Rattle.resp_encode.specs.Encodings.{IsVerdict, AppendsWhole};
+ghost use Rattle.std.specs.Prelude.{◌≡◌, ◌<◌, ◌≤◌, length, map, IsErrOf, IfOk};
 ghost use Rattle.resp_value.specs.Data.{data_of_list};
 ghost use Rattle.resp_value.specs.Trees.{texts};
-ghost use Rattle.resp_value.specs.Canonical.{AreValues, canonical_text, canonical_trees, Fits};
-ghost use Rattle.resp_encode.specs.Refusals.{IsFirstFault};
+ghost use Rattle.resp_value.specs.Canonical.{AreValues, canonical_text, canonical_trees};
 ghost use Rattle.resp_encode.specs.Surveys.{DescribesEach};
 ghost use Rattle.resp_encode.specs.Words.{texts_of, word_datum, command_of};
 ghost use Rattle.resp_encode.specs.Writings.{Fills};
@@ -56,13 +56,10 @@ fn write_words(words: &[Vec<u8>], out: &mut BytesMut)
 
 /// The length of a command's text, or the first limit that it breaks.
 fn judge_words(limits: &Limits, words: &[Vec<u8>]) -> Result<usize, EncodeError>
-    ensures spelling { OnOk result (IsSpelling (record { version = Two; limits = limits.now })
-        (command_of (texts_of words.now)) (canonical_text Two (command_of (texts_of words.now)))) }
-    ensures fits { IfOk result (λ size. Fits (record { version = Two; limits = limits.now })
-        (command_of (texts_of words.now)) ×
-        (size ≡ length (canonical_text Two (command_of (texts_of words.now))))) }
-    ensures fault { IfErr result (IsFirstFault (record { version = Two; limits = limits.now })
-        (command_of (texts_of words.now))) }
+    ensures verdict { IsVerdict (rules_under Two limits.now) (command_of (texts_of words.now))
+        result }
+    ensures size { IfOk result (λ size. size ≡
+        length (canonical_text Two (command_of (texts_of words.now)))) }
     ensures not_memory { IsErrOf result EncodeError.OutOfMemory → ⊥ }
 {
     let found = survey_words(words).inside(OpenKind::Array, words.len() as u64);
@@ -72,16 +69,8 @@ fn judge_words(limits: &Limits, words: &[Vec<u8>]) -> Result<usize, EncodeError>
 /// Whether `encode_words` takes these words, memory aside: the same answer but for want of memory.
 /// Takes none.
 pub fn check_words(limits: &Limits, words: &[Vec<u8>]) -> Result<(), EncodeError>
-    ensures fits { OnOk result (Fits (record { version = Two; limits = limits.now })
-        (command_of (texts_of words.now))) }
-
-    // Each refusal comes only where the command has that fault and no earlier one, and always where
-    // it has.
-    ensures refused { IfErr result (IsFirstFault (record { version = Two; limits = limits.now })
-        (command_of (texts_of words.now))) }
-    ensures always { (error : EncodeError) → error ≢ EncodeError.OutOfMemory →
-        IsFirstFault (record { version = Two; limits = limits.now })
-        (command_of (texts_of words.now)) error → IsErrOf result error }
+    ensures verdict { IsVerdict (rules_under Two limits.now) (command_of (texts_of words.now))
+        result }
     ensures not_memory { IsErrOf result EncodeError.OutOfMemory → ⊥ }
 {
     judge_words(limits, words)?;
@@ -95,27 +84,10 @@ pub fn encode_words(
     words: &[Vec<u8>],
     out: &mut BytesMut,
 ) -> Result<(), EncodeError>
-    ensures ok { OnOk result (out.new.items ≡ out.old.items ++
-        canonical_text Two (command_of (texts_of words.now))) }
-    ensures spelling { OnOk result (IsSpelling (record { version = Two; limits = limits.now })
-        (command_of (texts_of words.now)) (canonical_text Two (command_of (texts_of words.now)))) }
-    ensures fits { OnOk result (Fits (record { version = Two; limits = limits.now })
-        (command_of (texts_of words.now))) }
-
-    // Each refusal comes only where the command has that fault and no earlier one, and always where
-    // it has.
-    ensures refused { IfErr result (IsFirstFault (record { version = Two; limits = limits.now })
-        (command_of (texts_of words.now))) }
-    ensures always { (error : EncodeError) → error ≢ EncodeError.OutOfMemory →
-        IsFirstFault (record { version = Two; limits = limits.now })
-        (command_of (texts_of words.now)) error → IsErrOf result error }
-    ensures memory { IsErrOf result EncodeError.OutOfMemory →
-        out.old.spare < length (canonical_text Two (command_of (texts_of words.now))) }
-
-    ensures unchanged { OnErr result (out.new.items ≡ out.old.items) }
-    ensures spare { OnOk result (out.old.spare ≤ out.new.spare + length
-        (canonical_text Two (command_of (texts_of words.now)))) }
-    ensures spare_kept { OnErr result (out.old.spare ≤ out.new.spare) }
+    ensures verdict { IsVerdict (rules_under Two limits.now) (command_of (texts_of words.now))
+        result }
+    ensures whole_or_nothing { AppendsWhole out.old out.new
+        (canonical_text Two (command_of (texts_of words.now))) result }
 {
     let size = judge_words(limits, words)?;
     reserve(out, size)?;

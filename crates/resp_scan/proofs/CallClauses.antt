@@ -2,6 +2,7 @@
 pub mod Told
 pub mod Faults
 pub mod Heard
+pub mod NoValue
 pub mod Steps
 pub mod Rows
 pub mod LeastNeeded

@@ -9,7 +9,6 @@ pub mod First
 pub mod Fields
 pub mod Sound
 pub mod End
-pub mod States
 pub mod StepOutcomes
 pub mod Runs
 pub mod Beginnings

@@ -18,8 +18,13 @@ pub mod laws;
 mod lines;
 mod literals;
 mod machine;
+mod needed;
 pub mod scanner;
 mod start;
 mod step;
 #[cfg(test)]
 mod tests;
+
+pub use event::{Busy, Event, Fault, Step, TextKind};
+pub use resp_value::kind::OpenKind;
+pub use scanner::Scanner;

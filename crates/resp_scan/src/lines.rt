@@ -53,7 +53,7 @@ impl Machine {
         if piece[i] != b'\n' {
             return self.fail(i, Cause::Syntax);
         }
-        self.ended(i + 1, EventTag::TextEnd)
+        self.at_boundary(i + 1, EventTag::TextEnd)
     }
 }
 

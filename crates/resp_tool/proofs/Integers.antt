@@ -1,7 +1,6 @@
 -- Signed integers at the front of an input.
-use Rattle.std.proofs.Common.{◌≡◌, ℕ, ◌≤◌, ◌⊎◌, inl, inr, true, false, ℤ, eqb, List, [], ◌∷◌, ◌++◌, refl, sym, ap, ◌∙◌, arith, append_assoc}
+use Rattle.std.proofs.Common.{◌≡◌, ℕ, ◌≤◌, false, ℤ, eqb, List, [], ◌∷◌, ◌++◌, refl, sym, ap, ◌∙◌, arith, append_assoc}
 use Rattle.std.proofs.lemmas.Bool.{ne_eqb}
-use Rattle.std.proofs.lemmas.Bool.Decides.{eqb_tells}
 use Rattle.std.proofs.lemmas.Int.{ints}
 use Rattle.resp_value.specs.Bytes.{crlf}
 use Rattle.resp_value.specs.Numbers.{IsDigits, IsNumber, number, Sign, Unsigned, Plus, Minus, sign_text, signed_value, is_minus}
@@ -9,18 +8,7 @@ use Rattle.resp_value.specs.Signs.{sign_at, unsigned_part}
 use Rattle.resp_value.specs.Trees.{numeral, Int}
 use Rattle.resp_value.specs.Rules.{IsInRange}
 use Rattle.resp_tool.specs.Scalars.{SaysInteger, greatest_size, integer_of_size}
-
--- a text is its sign and what lies behind that
-pub sign_split : (text : List ℕ) → text ≡ sign_text (sign_at text) ++ unsigned_part text
-sign_split [] = refl
-sign_split (byte ∷ text) = cases (eqb_tells byte 45) (eqb_tells byte 43)
-  where
-    cases : ((eqb byte 45 ≡ true) × (byte ≡ 45)) ⊎ ((eqb byte 45 ≡ false) × (byte ≡ 45 → ⊥)) →
-        ((eqb byte 43 ≡ true) × (byte ≡ 43)) ⊎ ((eqb byte 43 ≡ false) × (byte ≡ 43 → ⊥)) → byte ∷ text ≡ sign_text (sign_at (byte ∷ text)) ++
-        unsigned_part (byte ∷ text)
-    cases (inl p) q = rw p.0 (ap (λ b. b ∷ text) p.1)
-    cases (inr p) (inl q) = rw (p.0, q.0) (ap (λ b. b ∷ text) q.1)
-    cases (inr p) (inr q) = rw (p.0, q.0) refl
+use Rattle.resp_value.proofs.KeptDigits.{sign_split}
 
 -- the sign of a sign and digits, and what lies behind it
 pub signed_at : (sign : Sign) (digits rest : List ℕ) → IsDigits digits → (sign_at ((sign_text sign ++ digits) ++ rest) ≡ sign) ×

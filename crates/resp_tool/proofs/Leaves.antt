@@ -11,16 +11,12 @@ use Rattle.resp_value.specs.TreeValues.{line_value, leaf_value}
 use Rattle.resp_value.specs.Rules.{IsLeafInTwo}
 use Rattle.resp_tool.proofs.Integers.{signed_at}
 use Rattle.resp_tool.specs.Scalars.{SaysInteger, SaysBulk, SaysLeaf, BeginsWithNoInteger, BeginsWithNoBulk, BeginsWithNoLeaf}
+use Rattle.resp_value.proofs.FirstBytes.{all_front}
 
 -- the bytes of a slice are bytes
 pub bytes_fit : (input : List ℕ) → ((i : ℕ) → Fits w8 (get_or input i 0)) → IsText input
 bytes_fit [] h = tt
 bytes_fit (byte ∷ input) h = (omega (arith, h 0), bytes_fit input (λ i. h (suc i)))
-
--- what is true of each byte is so of those at the front, and of those behind
-pub each_in_front : (P : ℕ → Type 0) (xs ys : List ℕ) → AllByRecursion P (xs ++ ys) → AllByRecursion P xs
-each_in_front P [] ys p = tt
-each_in_front P (x ∷ xs) ys p = (p.0, each_in_front P xs ys p.1)
 
 pub each_behind : (P : ℕ → Type 0) (xs ys : List ℕ) → AllByRecursion P (xs ++ ys) → AllByRecursion P ys
 each_behind P [] ys p = p
@@ -34,7 +30,7 @@ says_line k most input text rest behind old is_line is_text short first e =
       line k text,
       old,
       tt,
-      (is_line, each_in_front IsByte text (crlf behind) rest_is_text.1),
+      (is_line, all_front IsByte text (crlf behind) rest_is_text.1),
       refl,
       short,
       first ∙ ap (λ more. line_byte k ∷ more) e ∙ sym (append_assoc (line_byte k ∷ text) (crlf []) behind),
@@ -66,7 +62,7 @@ says_bulk most content input rest behind is_text short first (digits, is_number,
       string Bulk digits content,
       tt,
       tt,
-      (is_number, tt, each_in_front IsByte content (crlf behind) behind_digits.1.1),
+      (is_number, tt, all_front IsByte content (crlf behind) behind_digits.1.1),
       refl,
       short,
       first ∙ ap (λ more. 36 ∷ more) e

@@ -1,29 +1,14 @@
 -- Runs of bytes at the front of an input: digits, and the text of a line.
-use Rattle.std.proofs.Common.{◌≡◌, ℕ, zero, suc, ◌+◌, ◌-◌, ◌*◌, ◌<◌, ◌≤◌, true, List, [], ◌∷◌, ◌++◌, length, take, drop, get_or, map, refl, sym, ap, subst, ◌∙◌, arith, append_assoc, length-append, drop-cons, take-append-drop}
+use Rattle.std.proofs.Common.{◌≡◌, ℕ, zero, suc, ◌+◌, ◌-◌, ◌*◌, ◌<◌, ◌≤◌, true, List, [], ◌∷◌, ◌++◌, length, take, drop, get_or, refl, sym, ap, subst, ◌∙◌, arith, append_assoc, length-append, drop-cons, take-append-drop}
 use Rattle.std.specs.List.{AllByRecursion}
-use Rattle.std.specs.Int.Digits.{number_from_digits, number_from_digits_after}
-use Rattle.std.proofs.lemmas.Int.Digits.{number_after_ge, number_after_append}
-use Rattle.std.proofs.lemmas.List.{map-append, length-take-le}
+use Rattle.std.proofs.lemmas.List.{length-take-le}
 use Rattle.std.proofs.lemmas.Bool.Decides.{nat_tests}
 use Rattle.std.proofs.Math.Seq.{drop-length, drop-append_seam}
 use Rattle.memchr.specs.Find.{is_byte2}
 use Rattle.resp_value.specs.Bytes.{IsLine, IsPlain, crlf}
 use Rattle.resp_value.specs.Numbers.{IsDigit, IsDigits, IsNumber, number}
 use Rattle.resp_tool.specs.Scalars.{BeginsWithNo, BeginsWithNoNumber}
-
--- one more digit
-pub number-digit : (digits : List ℕ) (byte : ℕ) → number (digits ++ byte ∷ []) ≡ number digits * 10 + (byte - 48)
-number-digit digits byte =
-    ap (number_from_digits 10) (map-append (λ digit. digit - 48) digits (byte ∷ []))
-    ∙ number_after_append 10 0 (map (λ digit. digit - 48) digits) ((byte - 48) ∷ [])
-
--- more digits make a number no less
-pub number-more : (digits others : List ℕ) → number digits ≤ number (digits ++ others)
-number-more digits others =
-    let e : number (digits ++ others) ≡ number_from_digits_after 10 (number digits) (map (λ digit. digit - 48) others) =
-    ap (number_from_digits 10) (map-append (λ digit. digit - 48) digits others)
-    ∙ number_after_append 10 0 (map (λ digit. digit - 48) digits) (map (λ digit. digit - 48) others) in
-    omega (arith, number_after_ge 10 (number digits) (map (λ digit. digit - 48) others))
+use Rattle.resp_value.proofs.DigitLemmas.{number-more, number-digit}
 
 -- one more at the end of a run
 pub AllByRecursion-end : (P : ℕ → Type 0) (xs : List ℕ) (x : ℕ) → AllByRecursion P xs → P x → AllByRecursion P (xs ++ x ∷ [])
@@ -61,18 +46,6 @@ crlf_is_no_digit x p = absurd (omega (arith, p.0))
 -- CR is in no line
 pub crlf_is_not_plain : (x : List ℕ) → BeginsWithNo IsPlain (crlf x)
 crlf_is_not_plain x p = p.0 refl
-
--- texts of one length at the front of an input are one
-pub length_apart : (a b x y : List ℕ) → length a ≡ length b → a ++ x ≡ b ++ y → (a ≡ b) × (x ≡ y)
-length_apart [] [] x y n e = (refl, e)
-length_apart [] (d ∷ b) x y n e = absurd (omega arith)
-length_apart (c ∷ a) [] x y n e = absurd (omega arith)
-length_apart (c ∷ a) (d ∷ b) x y n e =
-    let tail : a ++ x ≡ b ++ y = cc in
-    let same_length : length a ≡ length b = omega arith in
-    let rest = length_apart a b x y same_length tail in
-    let same : a ≡ b = rest.0 in
-    (cc, rest.1)
 
 -- what begins with no digit begins with no number
 pub no_number_without_digit : (most : ℕ) (input : List ℕ) → BeginsWithNo IsDigit input → BeginsWithNoNumber most input

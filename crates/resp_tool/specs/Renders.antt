@@ -1,21 +1,15 @@
 -- What is written for the values of an input, where each has a text.
 use Rattle.std.specs.Prelude.{◌≡◌, ◌≢◌, ℕ, ◌+◌, List, [], ◌++◌, length, flat_map, Option, Result, Ok, Err}
 use Rattle.resp_value.specs.Data.{Datum}
-use Rattle.resp_value.specs.Bounds.{Bounds}
 use Rattle.resp_value.specs.Rules.{Rules}
 use Rattle.resp_value.specs.Spellings.{IsSpelling, AreSpellings, Cut}
 use Rattle.resp_value.specs.Devices.{Appends, HasRisen}
-use Rattle.resp_value.specs.declared.version.Version.{Version}
 use Rattle.resp_tool.specs.Scalars.{BeginsWithNoScalar}
 use Rattle.resp_tool.specs.Written.{AppendsPart}
 use Rattle.resp_tool.specs.declared.render.RenderError.{RenderError}
 use Rattle.resp_tool.specs.declared.render.RenderError.TheVariants as e
 use Rattle.resp_tool.specs.declared.tool_error.ToolError.{ToolError}
 use Rattle.resp_tool.specs.declared.tool_error.ToolError.TheVariants.{Refused, OverLimits, TooManyValues, Read, Write, TooManyTurns, Memory}
-
--- the rules of a stream: its version and limits
-abbrev pub stream_rules : Version → Bounds → Rules
-stream_rules version limits = record { version = version; limits = limits }
 
 -- The text was appended and no write failed; or a write failed, and a first part of it was appended; or nothing
 -- was, since the value is refused, or no memory was found.

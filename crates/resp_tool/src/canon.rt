@@ -4,14 +4,15 @@ ghost use Rattle.std.specs.Prelude.{◌≡◌, ◌+◌, ◌≤◌, [], Some, OnO
 ghost use Rattle.resp_value.specs.Canonical.{canonical_text};
 ghost use Rattle.resp_value.specs.Devices.{count_after, HasRisen};
 ghost use Rattle.resp_tool.specs.Canons.{DoesNotFit, render_error_of};
-ghost use Rattle.resp_tool.specs.Renders.{Renders, OnUnreadInput, stream_rules};
+ghost use Rattle.resp_value.specs.Rules.{rules_under};
+ghost use Rattle.resp_tool.specs.Renders.{Renders, OnUnreadInput};
 
 use crate::input::{MOST_READS, read_all};
 use crate::render::{RenderError, Rendering, render_all};
 use crate::scalar_reader::Scalar;
 use crate::scalar_value::to_value;
 use crate::tool_error::ToolError;
-use resp_encode::{EncodeToError, encode_to};
+use resp_encode::{EncodeError, EncodeToError, encode_to};
 use resp_value::device::{Sink, Source};
 use resp_value::limits::Limits;
 use resp_value::version::Version;
@@ -29,7 +30,7 @@ impl Rendering for Canonical<'_> {
     ghost text = { λ canonical. canonical_text canonical.version };
 
     ghost refuses = { λ canonical.
-        DoesNotFit (stream_rules canonical.version canonical.limits.now) };
+        DoesNotFit (rules_under canonical.version canonical.limits.now) };
 
     ghost takes_memory = { λ _. Unit {0} };
 
@@ -45,10 +46,8 @@ impl From<EncodeToError> for RenderError {
 
     fn from(error: EncodeToError) -> RenderError {
         match error {
-            EncodeToError::NotInVersion
-            | EncodeToError::NestedPush
-            | EncodeToError::OverLimits(_) => RenderError::OverLimits,
-            EncodeToError::OutOfMemory => RenderError::Memory,
+            EncodeToError::Refused(EncodeError::OutOfMemory) => RenderError::Memory,
+            EncodeToError::Refused(_) => RenderError::OverLimits,
             EncodeToError::Write { .. } => RenderError::Write,
         }
     }
@@ -73,8 +72,8 @@ pub fn canon<R: Source, W: Sink>(
     // over the limits, or is one too many, the texts of those before it; and where writing fails or
     // memory is refused, a first part of them.
     ensures texts_written { IfSome (R.remaining reader.old) (λ input.
-        Renders (canonical_text version) (stream_rules version limits.now)
-        (DoesNotFit (stream_rules version limits.now)) input
+        Renders (canonical_text version) (rules_under version limits.now)
+        (DoesNotFit (rules_under version limits.now)) input
         (W.written writer.old) (W.written writer.new) result) }
     ensures read_to_its_end { OnOk result (IfSome (R.remaining reader.old) (λ input.
         R.remaining reader.new ≡ Some [])) }

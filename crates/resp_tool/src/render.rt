@@ -5,7 +5,8 @@ ghost use Rattle.resp_value.specs.Data.{Datum};
 ghost use Rattle.resp_value.specs.Devices.{HasRisen};
 ghost use Rattle.resp_value.specs.Canonical.{IsScalarValue};
 ghost use Rattle.resp_tool.specs.Scalars.{scalar_data, scalar_datum};
-ghost use Rattle.resp_tool.specs.Renders.{Renders, RendersText, IsRenderingError, stream_rules};
+ghost use Rattle.resp_value.specs.Rules.{rules_under};
+ghost use Rattle.resp_tool.specs.Renders.{Renders, RendersText, IsRenderingError};
 
 use crate::scalar_reader::{Scalar, read_scalar};
 use crate::tool_error::{MOST_VALUES, ToolError};
@@ -73,7 +74,7 @@ pub fn render_all<T: Rendering, W: Sink>(
     input: &[u8],
     writer: &mut W,
 ) -> Result<(), ToolError>
-    ensures texts_written { Renders (T.text rendering.now) (stream_rules version limits.now)
+    ensures texts_written { Renders (T.text rendering.now) (rules_under version limits.now)
         (T.refuses rendering.now) input.now (W.written writer.old) (W.written writer.new) result }
 
     // The writer or memory failed.

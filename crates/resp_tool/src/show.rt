@@ -3,7 +3,8 @@
 ghost use Rattle.std.specs.Prelude.{◌≡◌, ◌+◌, ◌≤◌, [], Some, OnOk, IfErr, IfSome, IsErrOf};
 ghost use Rattle.resp_value.specs.Devices.{count_after, HasRisen};
 ghost use Rattle.resp_tool.specs.Shown.{shown_text};
-ghost use Rattle.resp_tool.specs.Renders.{Renders, OnUnreadInput, IsShowError, stream_rules};
+ghost use Rattle.resp_value.specs.Rules.{rules_under};
+ghost use Rattle.resp_tool.specs.Renders.{Renders, OnUnreadInput, IsShowError};
 
 use crate::input::{MOST_READS, read_all};
 use crate::render::{RenderError, Rendering, render_all};
@@ -49,7 +50,7 @@ pub fn show<R: Source, W: Sink>(
     // Where the reader tells its bytes: the line of each value at Ok; where a value is refused, or
     // is one too many, the lines of those before it; where writing fails, a first part of them.
     ensures lines_written { IfSome (R.remaining reader.old) (λ input.
-        Renders shown_text (stream_rules version limits.now) (λ _. ⊥) input
+        Renders shown_text (rules_under version limits.now) (λ _. ⊥) input
         (W.written writer.old) (W.written writer.new) result) }
     ensures read_to_its_end { OnOk result (IfSome (R.remaining reader.old) (λ input.
         R.remaining reader.new ≡ Some [])) }

@@ -1,6 +1,6 @@
 -- The datum of an aggregate of the program, by the lists of its members.
 use Rattle.std.specs.declared.boxed.Box.{Box}
-use Rattle.std.proofs.Common.{Global, ◌≡◌, ℕ, ◌+◌, ◌/◌, length, arith, add-one, length-append, List, [], ◌∷◌, ◌++◌, map, refl, ap, ◌∙◌}
+use Rattle.std.proofs.Common.{Global, ◌≡◌, ◌+◌, ◌/◌, length, arith, add-one, length-append, List, [], ◌∷◌, ◌++◌, map, refl, ap, ◌∙◌}
 use Rattle.resp_value.specs.Data.{Datum, more, aggregate, data_of_list, in_turn, count}
 use Rattle.resp_value.specs.Data as d
 use Rattle.resp_value.specs.Canonical.{IsValue, AreValues}

@@ -136,6 +136,10 @@ sort_is (node Map Streamed ts) p = refl
 sort_is (node Attr Streamed ts) p = refl
 sort_is (node Push Streamed ts) p = refl
 
+-- the sort of a tree is that of its first line
+pub sort_of-line : (t : Tree) {line : List ℕ} → IsTree t → first_line t ≡ line → sort_of t ≡ sort line
+sort_of-line t p e = sym (sort_is t p) ∙ ap sort e
+
 -- what follows the first line and its CR LF
 abbrev pub after_line : Tree → List ℕ
 after_line (leaf l) = leaf_rest l
@@ -152,7 +156,8 @@ sign_line Unsigned digits p = line_from_digits digits p
 sign_line Plus digits p = (plain_above 43 (omega arith), line_from_digits digits p)
 sign_line Minus digits p = (plain_above 45 (omega arith), line_from_digits digits p)
 
-null_is_line : (form : NullForm) → IsLine (null_line form)
+-- the lines of nulls have no CR or LF in them
+pub null_is_line : (form : NullForm) → IsLine (null_line form)
 null_is_line BulkNull = (plain_above 36 (omega arith), (plain_above 45 (omega arith), (plain_above 49 (omega arith), tt)))
 null_is_line ArrayNull = (plain_above 42 (omega arith), (plain_above 45 (omega arith), (plain_above 49 (omega arith), tt)))
 null_is_line PlainNull = (plain_above 95 (omega arith), tt)

@@ -11,6 +11,7 @@ pub mod SpellingLaws
 pub mod ViabilityLaws
 pub mod LocalRuleLemmas
 pub mod ByteLemmas
+pub mod DigitLemmas
 pub mod DefaultLimits
 pub mod SmallTrees
 pub mod TypeBytes

@@ -6,7 +6,7 @@ use Rattle.resp_value.specs.Numbers.{IsDigits, IsNumber, number}
 use Rattle.resp_value.specs.Data.{members_of}
 use Rattle.resp_value.specs.Trees.{Tree, Trees, leaf, node, none, more, Leaf, line, numeral, null, truth, string, chunked, StringKind, Bulk, BulkError, Verbatim, Form, Counted, Streamed, Chunk, text, texts, close, chunks_text, count, leaf_rest, string_byte, payload, IsTree, AreTrees, IsLeaf, HasFormat, IsChunk, Spells}
 use Rattle.resp_value.proofs.Splitting.{line_split, length_split, line_from_digits, plain_above}
-use Rattle.resp_value.proofs.FirstLines.{leaf_of, node_of, leaf_sort, sort, sort_of, sort_is, first_line, first_is_line, after_line, text_is}
+use Rattle.resp_value.proofs.FirstLines.{leaf_of, node_of, leaf_sort, sort_of, sort_is, first_line, first_is_line, after_line, text_is, sort_of-line}
 use Rattle.resp_value.proofs.FirstBytes.{first_byte_is, no_stop}
 
 -- two texts that begin one text begin with one line
@@ -14,7 +14,7 @@ pub same_line : (t u : Tree) (x y : List ℕ) → IsTree t → IsTree u → text
     (sort_of t ≡ sort_of u) × (after_line t ++ x ≡ after_line u ++ y)
 same_line t u x y p q e =
     let a = line_split (first_line t) (first_line u) _ _ (first_is_line t p) (first_is_line u q) (sym (text_is t x) ∙ e ∙ text_is u y) in
-    (sym (sort_is t p) ∙ ap sort a.0 ∙ sort_is u q, a.1)
+    (sort_of-line t p a.0 ∙ sort_is u q, a.1)
 
 -- chunks go on with what follows them
 pub chunks_text-append : (chunks : List Chunk) (rest x : List ℕ) → chunks_text chunks rest ++ x ≡ chunks_text chunks (rest ++ x)

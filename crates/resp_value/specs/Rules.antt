@@ -14,6 +14,10 @@ pub record Rules : Type 0 where
   pub version : Version
   pub limits : Bounds
 
+-- the rules of this version under these limits
+abbrev pub rules_under : Version → Bounds → Rules
+rules_under version limits = record { version = version; limits = limits }
+
 pub data Rule : Type 0 where
   Grammar : Rule
   NoDouble : Rule

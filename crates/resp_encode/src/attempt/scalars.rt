@@ -1,7 +1,7 @@
 //! Values without members: each is written where it has no fault and there is room, and else the
 //! buffer is left.
 
-ghost use Rattle.std.specs.Prelude.{◌≡◌, ◌+◌, ◌≤◌, ◌^◌, ℕ, length};
+ghost use Rattle.std.specs.Prelude.{◌+◌, ◌≤◌, ◌^◌, ℕ, length};
 ghost use Rattle.std.specs.Bool.{OnTrue};
 ghost use Rattle.resp_value.specs.Bounds.{Bounds};
 ghost use Rattle.resp_value.specs.Numbers.{decimal};

@@ -9,12 +9,13 @@ use Rattle.resp_fronts.specs.Frames.{Frame, text_around}
 use Rattle.resp_fronts.specs.LeastCompletions.{HasLeast}
 use Rattle.resp_fronts.specs.MayFollow.{AreKept, AreOpen, CanAllEnd, CanEnd, IsWholeText, MayFollowFrames, MayFollowValue, frames_needed, members_needed, members_missing}
 use Rattle.resp_fronts.proofs.FrameLaws.Composition.{around-append, compose, determine}
-use Rattle.resp_fronts.proofs.FrameLaws.LeastAround.{after_least, are_kept, are_open, members_least, text_least}
+use Rattle.resp_fronts.proofs.FrameLaws.LeastAround.{after_least, are_kept, are_open, members_least}
 use Rattle.resp_fronts.proofs.FrameLaws.Levels.{IsEnded, levels_needed, levels_needed_is, shape_needed, shape_needed_is, within_frames}
 use Rattle.resp_fronts.proofs.FrameLaws.OpenFrames.{shortest_tree}
 use Rattle.resp_fronts.proofs.Refusals.RefusedFronts.{CompletesFront}
 use Rattle.resp_fronts.proofs.FrameLaws.KeptNodes.{shortest_keeps}
 use Rattle.resp_fronts.specs.OpenLevels.{AreLevelsOf, AreReady, HasShape, Level, Shape, to_come, so_far}
+use Rattle.resp_value.proofs.DefaultLimits.{text_at_least}
 
 -- a value or a close may come next
 abbrev pub IsBetween : Rules → List Level → List ℕ → Type 0
@@ -59,7 +60,7 @@ rest_least r [] [] a o = record {
   some = text shortest_tree;
   holds = record { tree = shortest_tree; is_tree = (tt, tt); keep = shortest_keeps r WithinItems 0; whole = refl };
   size = refl;
-  least = λ c w. omega (arith, text_least w.tree, ap length w.whole);
+  least = λ c w. omega (arith, text_at_least w.tree, ap length w.whole);
 }
 rest_least r [] (f ∷ fs) a o = absurd a
 rest_least r (v ∷ vs) [] a o = absurd a

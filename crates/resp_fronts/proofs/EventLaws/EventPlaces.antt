@@ -1,5 +1,5 @@
 -- Where the events of a tree come: at bytes of its text.
-use Rattle.std.proofs.Common.{◌≡◌, ℕ, ◌+◌, ◌-◌, ◌<◌, ◌≤◌, Bool, true, false, cond, eqb, List, [], ◌∷◌, ◌++◌, length, arith, length-append}
+use Rattle.std.proofs.Common.{◌≡◌, ℕ, ◌+◌, ◌-◌, ◌<◌, ◌≤◌, Bool, List, [], ◌∷◌, ◌++◌, length, arith, length-append}
 use Rattle.std.specs.List.{AllByRecursion}
 use Rattle.resp_value.specs.Bytes.{crlf}
 use Rattle.resp_value.specs.Numbers.{sign_text, significant_digits, is_below_zero}
@@ -8,7 +8,8 @@ use Rattle.resp_value.specs.Trees.{Tree, Trees, leaf, node, none, more, Leaf, li
 use Rattle.resp_fronts.specs.Frames.{Frame, text_around}
 use Rattle.resp_fronts.specs.Events.{TextKind, Simple, Error, Bulk, BulkError, Verbatim, Big, Timed, bytes_from, text_events, last_of, big_events, chunk_events, leaf_events, events, events_each, frame_events, events_around}
 use Rattle.resp_fronts.proofs.EventLaws.EventsAround.{next_member_at}
-use Rattle.resp_fronts.proofs.FrameLaws.LeastAround.{text_least}
+use Rattle.resp_value.proofs.DigitLemmas.{length-significant_digits}
+use Rattle.resp_value.proofs.DefaultLimits.{text_at_least}
 
 -- each event comes at one of the bytes from here to there
 abbrev pub AreWithin : ℕ → ℕ → List Timed → Type 0
@@ -40,14 +41,6 @@ text_within kind begins from content ends low high a b c d e f = (
       (bytes_within from content)) ((e, f), tt),
 )
 
-stripped_shorter : (digits : List ℕ) → length (significant_digits digits) ≤ length digits
-stripped_shorter [] = omega arith
-stripped_shorter (d ∷ ds) = cases (eqb d 48) (stripped_shorter ds)
-  where
-    cases : (b : Bool) → length (significant_digits ds) ≤ length ds → length (cond b (significant_digits ds) (d ∷ ds)) ≤ length (d ∷ ds)
-    cases true h = omega arith
-    cases false h = omega arith
-
 big_within : (negative : Bool) (digits : List ℕ) (last low : ℕ) → low + 2 + length digits ≤ last → AreWithin low (last + 1) (big_events negative digits last)
 big_within negative [] last low h = text_within (Big negative) last last [] last low (last + 1) (omega arith) (omega arith) (omega arith) (omega arith)
     (omega arith) (omega arith)
@@ -77,16 +70,16 @@ leaf_within from (line t.Error s) =
     text_within Error from (from + 1) s (last_of from (leaf_text (line t.Error s))) from (from + length (leaf_text (line t.Error s))) (omega arith)
     (omega arith) (omega arith) (omega arith) (omega arith) (omega arith)
 leaf_within from (line t.Double s) = tt
-leaf_within from (numeral t.Int sign digits) = let n = text_least (leaf (numeral t.Int sign digits)) in ((omega arith, omega arith), tt)
+leaf_within from (numeral t.Int sign digits) = let n = text_at_least (leaf (numeral t.Int sign digits)) in ((omega arith, omega arith), tt)
 leaf_within from (numeral t.Big sign digits) =
     let whole = leaf_text (numeral t.Big sign digits) in
     let n : length whole ≡ length (sign_text sign) + length digits + 3 =
     omega (arith, length-append (40 ∷ (sign_text sign ++ digits)) (crlf []), length-append (sign_text sign) digits) in
     within_wider from (last_of from whole + 1) from (from + length whole)
     (big_events (is_below_zero sign digits) (significant_digits digits) (last_of from whole)) (omega arith) (omega arith)
-    (big_within (is_below_zero sign digits) (significant_digits digits) (last_of from whole) from (omega (arith, stripped_shorter digits)))
-leaf_within from (null form) = let n = text_least (leaf (null form)) in ((omega arith, omega arith), tt)
-leaf_within from (truth b) = let n = text_least (leaf (truth b)) in ((omega arith, omega arith), tt)
+    (big_within (is_below_zero sign digits) (significant_digits digits) (last_of from whole) from (omega (arith, length-significant_digits digits)))
+leaf_within from (null form) = let n = text_at_least (leaf (null form)) in ((omega arith, omega arith), tt)
+leaf_within from (truth b) = let n = text_at_least (leaf (truth b)) in ((omega arith, omega arith), tt)
 leaf_within from (string t.Bulk digits s) =
     let whole = leaf_text (string t.Bulk digits s) in
     let n : length whole ≡ length digits + length s + 5 = omega (arith, length-append (36 ∷ digits) (crlf (s ++ crlf [])), length-append s (crlf [])) in
@@ -112,7 +105,7 @@ leaf_within from (chunked chunks zeros) =
     let whole = leaf_text (chunked chunks zeros) in
     let rest = (59 ∷ zeros) ++ crlf [] in
     let n : length whole ≡ length (chunks_text chunks rest) + 4 = omega arith in
-    let m = text_least (leaf (chunked chunks zeros)) in (
+    let m = text_at_least (leaf (chunked chunks zeros)) in (
       (omega arith, omega arith),
       within-append from (from + length whole) (chunk_events (from + 4) chunks) _
           (within_wider (from + 4) (from + 4 + length (chunks_text chunks rest)) from (from + length whole) (chunk_events (from + 4) chunks) (omega arith)

@@ -11,9 +11,9 @@ use Rattle.resp_fronts.specs.MayFollow.{MembersThen, MayFollowValue, ValueThen, 
 use Rattle.resp_fronts.specs.Events.{Timed, events, events_each, close_event, events_around, events_due, without_places}
 use Rattle.resp_fronts.proofs.FrameLaws.OpenFrames.{joined_trees}
 use Rattle.resp_fronts.proofs.FrameLaws.Composition.{around-append, text-node, frame_value, compose_member, determine, first_member}
-use Rattle.resp_fronts.proofs.FrameLaws.LeastAround.{text_least}
 use Rattle.resp_fronts.proofs.EventLaws.EventsAround.{events-node, length-around}
 use Rattle.resp_fronts.proofs.EventLaws.EventPlaces.{AreWithin, within_wider, each_within, around_within}
+use Rattle.resp_value.proofs.DefaultLimits.{text_at_least}
 
 -- each event comes at this byte or behind it
 abbrev pub AreFrom : ℕ → List Timed → Type 0
@@ -96,7 +96,7 @@ events_in_frame f fs value ts whole h =
           append_assoc (events_around (f ∷ fs)) (here ++ mid) h.later ∙ ap (λ z. events_around (f ∷ fs) ++ z) (append_assoc here mid h.later);
       behind = about-append next mid h.later
           (about-append next (events_each next ts) _ (about_within next (next + length (texts ts)) (events_each next ts) (each_within next ts))
-          (omega (arith, text_least u), tt))
+          (omega (arith, text_at_least u), tt))
           (about_earlier (length (text_around fs (text u))) next h.later (omega arith) h.behind);
     }
 

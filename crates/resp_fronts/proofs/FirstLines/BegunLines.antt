@@ -1,15 +1,12 @@
 -- First lines: what completes a begun first line.
-use Rattle.std.proofs.Common.{◌*◌, ◌++◌, ◌+◌, ◌-◌, ◌∙◌, ◌∷◌, ◌≡◌, ◌≤◌, List, [], ap, append-nil, append_assoc, arith, length, length-append, map, refl, sym, ℕ}
-use Rattle.std.proofs.lemmas.Int.Digits.{number_after_append, number_after_ge}
-use Rattle.std.proofs.lemmas.List.{map-append}
-use Rattle.std.specs.Int.Digits.{number_from_digits, number_from_digits_after}
+use Rattle.std.proofs.Common.{◌++◌, ◌+◌, ◌∙◌, ◌∷◌, ◌≡◌, ◌≤◌, List, [], ap, append-nil, append_assoc, arith, length, length-append, refl, sym, ℕ}
 use Rattle.resp_value.specs.Bytes.{IsLine, crlf}
 use Rattle.resp_value.specs.Data.{Array, Attr, Kind, Map, Push, Set, members_of}
 use Rattle.resp_value.specs.LocalRules.{HoldsFrom, LeafRule, NodeRule}
-use Rattle.resp_value.specs.Numbers.{IsDigit, number}
+use Rattle.resp_value.specs.Numbers.{IsDigit}
 use Rattle.resp_value.specs.Trees.{Counted, Form, IsTree, LineKind, Tree, Trees, chunked, kind_byte, leaf, line, node, null, numeral, string, text, truth}
-use Rattle.resp_value.proofs.FirstLines.{after_line, first_is_line, first_line, leaf_of, line_sort, node_of, sort, sort_is, sort_of, text_is}
-use Rattle.resp_value.proofs.Splitting.{digit_is_no, digit_is_no_mark}
+use Rattle.resp_value.proofs.FirstLines.{after_line, first_is_line, first_line, leaf_of, line_sort, node_of, sort, sort_of, text_is, sort_of-line}
+use Rattle.resp_value.proofs.Splitting.{digit_is_no, digit_is_no_mark, return_split}
 use Rattle.resp_fronts.specs.LeastCompletions.{HasLeast}
 use Rattle.resp_fronts.specs.MayFollow.{CompletesValue}
 
@@ -23,17 +20,6 @@ line_begins (x ∷ a) (d ∷ b) y c p e =
     let x0 : x ≡ d = cc in
     let h0 : a ≡ b ++ l = h in
     (l, cc, w)
-
--- two texts with a CR behind a line each have one line
-pub return_split : (a b y c : List ℕ) → IsLine a → IsLine b → a ++ 13 ∷ y ≡ b ++ 13 ∷ c → (a ≡ b) × (y ≡ c)
-return_split [] [] y c p q e = (refl, cc)
-return_split [] (d ∷ b) y c p q e = let h : d ≡ 13 = cc in absurd (q.0.0 h)
-return_split (x ∷ a) [] y c p q e = let h : x ≡ 13 = cc in absurd (p.0.0 h)
-return_split (x ∷ a) (d ∷ b) y c p q e =
-    let t : a ++ 13 ∷ y ≡ b ++ 13 ∷ c = cc in
-    let r = return_split a b y c p.1 q.1 t in
-    let h : a ≡ b = r.0 in
-    (cc, r.1)
 
 -- a tree's text, by its first line
 pub text_first : (t : Tree) → text t ≡ first_line t ++ crlf (after_line t)
@@ -107,18 +93,7 @@ sort_counted Push d cs p = rw (digit_is_no_mark d p)
 -- a count that begins so
 pub counted_is : (t : Tree) (k : Kind) (d : ℕ) (cs : List ℕ) → IsTree t → IsDigit d → first_line t ≡ kind_byte k ∷ d ∷ cs →
     (ts : Trees) × (t ≡ node k (Counted (d ∷ cs)) ts)
-counted_is t k d cs p q e = tree_of_node t k (Counted (d ∷ cs)) (sym (sort_is t p) ∙ ap sort e ∙ sort_counted k d cs q)
-
--- more digits make a number no less
-pub number-more : (ds l : List ℕ) → number ds ≤ number (ds ++ l)
-number-more ds l =
-    let e : number (ds ++ l) ≡ number_from_digits_after 10 (number ds) (map (λ c. c - 48) l) = ap (number_from_digits 10) (map-append (λ c. c - 48) ds l) ∙
-    number_after_append 10 0 (map (λ c. c - 48) ds) (map (λ c. c - 48) l) in
-    omega (arith, number_after_ge 10 (number ds) (map (λ c. c - 48) l))
-
--- a digit more
-pub number-digit : (ds : List ℕ) (x : ℕ) → number (ds ++ x ∷ []) ≡ number ds * 10 + (x - 48)
-number-digit ds x = ap (number_from_digits 10) (map-append (λ c. c - 48) ds (x ∷ [])) ∙ number_after_append 10 0 (map (λ c. c - 48) ds) ((x - 48) ∷ [])
+counted_is t k d cs p q e = tree_of_node t k (Counted (d ∷ cs)) (sort_of-line t p e ∙ sort_counted k d cs q)
 
 -- a greater number in a head is no fewer members
 pub members-more : (k : Kind) (m n : ℕ) → m ≤ n → members_of k m ≤ members_of k n

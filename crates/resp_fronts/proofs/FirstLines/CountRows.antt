@@ -1,5 +1,5 @@
 -- Least completions of an aggregate's type byte and of its count, and what refuses a count.
-use Rattle.std.proofs.Common.{◌*◌, ◌++◌, ◌+◌, ◌<◌, ◌∙◌, ◌∷◌, ◌≡◌, ◌≤◌, List, [], ap, append-nil, arith, false, length, length-append, refl, subst, suc, sym, true, ℕ}
+use Rattle.std.proofs.Common.{◌*◌, ◌++◌, ◌+◌, ◌<◌, ◌∷◌, ◌≡◌, ◌≤◌, List, [], ap, append-nil, arith, false, length, length-append, refl, subst, suc, sym, true, ℕ}
 use Rattle.resp_value.specs.Bytes.{IsLine, crlf}
 use Rattle.resp_value.specs.Data.{Array, Attr, Kind, Map, Push, Set, items_of, members_of}
 use Rattle.resp_value.specs.LocalRules.{HoldsFrom, LeafKeeps, LeafMeets, NodeKeeps, NodeMeets}
@@ -7,13 +7,15 @@ use Rattle.resp_value.specs.Numbers.{IsDigits, number}
 use Rattle.resp_value.specs.Rules.{Grammar, InRange, InVersion, NoDouble, NotStreamed, PushAtTop, Rule, Rules, WithinDepth, WithinItems, WithinTotal, WithinLength, rank}
 use Rattle.resp_value.specs.Trees.{ArrayNull, Big, Bulk, BulkError, BulkNull, Counted, Double, Error, Int, IsTree, PlainNull, Simple, Streamed, Tree, Trees, Verbatim, chunked, count, kind_byte, leaf, line, node, none, null, numeral, string, texts, truth}
 use Rattle.resp_value.proofs.FirstBytes.{byte_at_start}
-use Rattle.resp_value.proofs.FirstLines.{after_line, first_is_line, first_line, sort, sort_is, sort_of}
+use Rattle.resp_value.proofs.FirstLines.{after_line, first_is_line, first_line, sort, sort_of, sort_of-line}
 use Rattle.resp_fronts.specs.LeastCompletions.{HasLeast}
 use Rattle.resp_fronts.specs.MayFollow.{CompletesValue}
-use Rattle.resp_fronts.proofs.FirstLines.BegunLines.{completes_line, counted_is, line_least, members-more, number-more}
-use Rattle.resp_fronts.proofs.FrameLaws.LeastAround.{length-shortest_trees, shortest_trees_hold, texts_least}
+use Rattle.resp_fronts.proofs.FirstLines.BegunLines.{completes_line, counted_is, line_least, members-more}
+use Rattle.resp_fronts.proofs.FrameLaws.LeastAround.{length-shortest_trees, shortest_trees_hold}
 use Rattle.resp_fronts.proofs.FrameLaws.OpenFrames.{are_shortest_trees, count-shortest_trees, shortest_trees}
 use Rattle.resp_fronts.proofs.FrameLaws.KeptNodes.{shortest_keeps}
+use Rattle.resp_value.proofs.DigitLemmas.{number-more}
+use Rattle.resp_value.proofs.DefaultLimits.{texts_at_least}
 
 -- completes b under the rules up to g
 abbrev pub CompletesUnder : Rules → Rule → ℕ → List ℕ → List ℕ → Type 0
@@ -60,7 +62,7 @@ count_row r g k j d ds p q =
     let c : members_of j (number (d ∷ ds ++ l)) ≡ count w.0 = i2.0.1 in
     let h : length (after_line u) ≡ length (texts w.0 ++ []) = ap (λ z. length (after_line z)) w.1 in
     let m = members-more j (number (d ∷ ds)) (number (d ∷ ds ++ l)) (number-more (d ∷ ds) l) in
-    omega (arith, texts_least w.0, length-append (texts w.0) [])))
+    omega (arith, texts_at_least w.0, length-append (texts w.0) [])))
 
 -- what completes a count's line the shortest way
 pub count_ends : (r : Rules) (g : Rule) (k : ℕ) (j : Kind) (d : ℕ) (ds : List ℕ) → IsDigits (d ∷ ds) →
@@ -211,7 +213,7 @@ star_row r k j q z = record {
   least = λ c t. (let u = completes_line (LeafKeeps r WithinItems) (NodeKeeps r WithinItems) k (kind_byte j ∷ []) c (byte_line j) t in
       omega (
         arith,
-        line_after u.tree j u.line u.is_tree (sym (sort_is u.tree u.is_tree) ∙ ap sort u.begins),
+        line_after u.tree j u.line u.is_tree (sort_of-line u.tree u.is_tree u.begins),
         ap length u.whole,
         length-append u.line (crlf (after_line u.tree)),
       ));

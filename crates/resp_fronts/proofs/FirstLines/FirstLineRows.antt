@@ -7,12 +7,13 @@ use Rattle.resp_value.specs.LocalRules.{HoldsFrom, LeafRule, NodeRule}
 use Rattle.resp_value.specs.Numbers.{IsDigit, IsDigits, Minus, Plus, Sign, Unsigned, number, sign_text}
 use Rattle.resp_value.specs.Trees.{Chunk, ArrayNull, Big, Bulk, BulkError, BulkNull, Double, Error, HasFormat, Int, IsTree, NumberKind, PlainNull, Simple, StringKind, Tree, Verbatim, chunked, chunks_text, leaf, line, node, null, number_byte, numeral, payload, string, string_byte, truth, truth_line}
 use Rattle.resp_value.proofs.FirstBytes.{byte_at_start}
-use Rattle.resp_value.proofs.FirstLines.{after_line, chunked_sort, first_line, leaf_of, no_sort, numeral_sort, sort, sort_behind_dollar, sort_is, sort_of, string_sort}
+use Rattle.resp_value.proofs.FirstLines.{after_line, chunked_sort, first_line, leaf_of, no_sort, numeral_sort, sort, sort_behind_dollar, sort_of, string_sort, sort_of-line}
 use Rattle.resp_value.proofs.Splitting.{digit_is_no, digit_is_no_mark, line_from_each}
 use Rattle.resp_fronts.specs.LeastCompletions.{HasLeast}
 use Rattle.resp_fronts.specs.MayFollow.{CompletesValue}
-use Rattle.resp_fronts.proofs.FirstLines.BegunLines.{completes_line, number-more, text_first}
+use Rattle.resp_fronts.proofs.FirstLines.BegunLines.{completes_line, text_first}
 use Rattle.resp_fronts.specs.Tokens.{zeros}
+use Rattle.resp_value.proofs.DigitLemmas.{number-more}
 
 -- a line that can go on by l0
 pub line_row : (L : LeafRule) (N : NodeRule) (k : ℕ) (b l0 : List ℕ) (t : Tree) (m : ℕ) → IsLine b → IsTree t → HoldsFrom L N k t → first_line t ≡ b ++ l0 →
@@ -24,7 +25,7 @@ line_row L N k b l0 t m z p q e h f = record {
   size = omega (arith, length-append l0 (crlf (after_line t)));
   least = λ c w. (let u = completes_line L N k b c z w in omega (
     arith,
-    f u.tree u.line u.is_tree u.keep (sym (sort_is u.tree u.is_tree) ∙ ap sort u.begins),
+    f u.tree u.line u.is_tree u.keep (sort_of-line u.tree u.is_tree u.begins),
     ap length u.whole,
     length-append u.line (crlf (after_line u.tree)),
   ));

@@ -1,5 +1,5 @@
 -- Least completions of begun first lines: `$`, `!`, `=`, `|`, and the `?` of streamed aggregates.
-use Rattle.std.proofs.Common.{◌*◌, ◌++◌, ◌+◌, ◌-◌, ◌<◌, ◌∙◌, ◌∷◌, ◌≡◌, ◌≤◌, List, [], ap, append-nil, arith, length, length-append, map, refl, subst, suc, sym, ℕ}
+use Rattle.std.proofs.Common.{◌*◌, ◌++◌, ◌+◌, ◌-◌, ◌<◌, ◌∙◌, ◌∷◌, ◌≡◌, ◌≤◌, List, [], ap, append-nil, arith, length, length-append, map, refl, subst, suc, ℕ}
 use Rattle.std.proofs.lemmas.Int.Digits.{number_after_append, number_after_ge}
 use Rattle.std.proofs.lemmas.List.{map-append}
 use Rattle.std.specs.Int.Digits.{number_from_digits, number_from_digits_after}
@@ -8,16 +8,17 @@ use Rattle.resp_value.specs.Data.{Array, Attr, Kind, Map, Push, Set, members_of}
 use Rattle.resp_value.specs.LocalRules.{LeafRule, NodeRule}
 use Rattle.resp_value.specs.Numbers.{IsDigit, IsDigits, number}
 use Rattle.resp_value.specs.Trees.{BulkError, BulkNull, CanStream, Counted, Form, HasFormat, IsTree, Simple, Streamed, StringKind, Tree, Verbatim, count, kind_byte, leaf, line, more, node, none, null, payload, string, string_byte, texts}
-use Rattle.resp_value.proofs.FirstLines.{after_line, first_line, form_of, leaf_of, node_of, sort, sort_is, sort_of, string_sort}
+use Rattle.resp_value.proofs.FirstLines.{after_line, first_line, form_of, leaf_of, node_of, sort, sort_of, string_sort, sort_of-line}
 use Rattle.resp_fronts.specs.LeastCompletions.{HasLeast}
 use Rattle.resp_fronts.specs.MayFollow.{CompletesValue}
-use Rattle.resp_fronts.proofs.FirstLines.BegunLines.{completes_line, number-digit, tree_of_node}
+use Rattle.resp_fronts.proofs.FirstLines.BegunLines.{completes_line, tree_of_node}
 use Rattle.resp_fronts.proofs.Tokens.CountedContent.{verbatim_kind}
 use Rattle.resp_fronts.proofs.FirstLines.FirstLineRows.{are_zeros, dollar_more, length-zeros, line_row, string_line, tree_of_string}
-use Rattle.resp_fronts.proofs.FrameLaws.LeastAround.{texts_least}
 use Rattle.resp_fronts.proofs.FrameLaws.OpenFrames.{shortest_trees}
 use Rattle.resp_fronts.proofs.FirstLines.CountRows.{byte_line, line_after}
 use Rattle.resp_fronts.specs.Tokens.{zeros}
+use Rattle.resp_value.proofs.DigitLemmas.{number-digit}
+use Rattle.resp_value.proofs.DefaultLimits.{texts_at_least}
 
 -- `$`: 4
 pub dollar_row : (L : LeafRule) (N : NodeRule) (k : ℕ) → L k (null BulkNull) → HasLeast (CompletesValue L N k (36 ∷ [])) 4
@@ -29,7 +30,7 @@ dollar_row L N k h = record {
   least = λ c w. (let u = completes_line L N k (36 ∷ []) c ((λ e. omega arith, λ e. omega arith), tt) w in
       omega (
         arith,
-        dollar_more u.tree u.line u.is_tree (sym (sort_is u.tree u.is_tree) ∙ ap sort u.begins) u.begins,
+        dollar_more u.tree u.line u.is_tree (sort_of-line u.tree u.is_tree u.begins) u.begins,
         ap length u.whole,
         length-append u.line (crlf (after_line u.tree)),
       ));
@@ -93,7 +94,7 @@ short_verbatim_row L N k d ds p p2 n m h =
 
 attr_size : (u : Tree) (f : Form) → IsTree u → sort_of u ≡ node_of Attr f → 3 ≤ length (after_line u)
 attr_size (leaf x) f i e = absurd (cc)
-attr_size (node k (Counted ds) (more t ts)) f i e = omega (arith, texts_least (more t ts), length-append (texts (more t ts)) [])
+attr_size (node k (Counted ds) (more t ts)) f i e = omega (arith, texts_at_least (more t ts), length-append (texts (more t ts)) [])
 attr_size (node k (Counted ds) none) f i e =
     let k0 : k ≡ Attr = cc in
     let c : members_of k (number ds) ≡ 0 = i.0.1 in
@@ -134,6 +135,6 @@ pub mark_refused : (L : LeafRule) (N : NodeRule) (k : ℕ) (j : Kind) (c : List 
     CompletesValue L N k (kind_byte j ∷ 63 ∷ []) c → ⊥
 mark_refused L N k j c h t =
     let u = completes_line L N k (kind_byte j ∷ 63 ∷ []) c ((byte_line j).0, ((λ e. omega arith, λ e. omega arith), tt)) t in
-    let w = tree_of_node u.tree j Streamed (sym (sort_is u.tree u.is_tree) ∙ ap sort u.begins ∙ sort_mark j u.line) in
+    let w = tree_of_node u.tree j Streamed (sort_of-line u.tree u.is_tree u.begins ∙ sort_mark j u.line) in
     let i : IsTree (node j Streamed w.0) = subst IsTree w.1 u.is_tree in
     h (count w.0) i.0

@@ -6,16 +6,17 @@ use Rattle.resp_value.specs.Numbers.{IsDigits, IsNumber, number}
 use Rattle.resp_value.specs.Trees.{Tree, leaf, null, string, chunked, NullForm, Verbatim, Chunk, IsChunk, chunks_text, null_line, IsTree}
 use Rattle.resp_value.specs.LocalRules.{LeafRule, NodeRule}
 use Rattle.resp_value.proofs.Splitting.{plain_above}
-use Rattle.resp_value.proofs.FirstLines.{sort, sort_of, first_line, first_is_line, after_line}
+use Rattle.resp_value.proofs.FirstLines.{sort, sort_of, first_line, after_line, null_is_line}
 use Rattle.resp_value.proofs.Unique.{chunk_line}
 use Rattle.resp_fronts.specs.LeastCompletions.{HasLeast}
 use Rattle.resp_fronts.specs.MayFollow.{CompletesValue}
-use Rattle.resp_fronts.proofs.FirstLines.BegunLines.{line_begins, completes_line, completes_return, number-digit, text_first}
+use Rattle.resp_fronts.proofs.FirstLines.BegunLines.{line_begins, completes_line, completes_return, text_first}
 use Rattle.resp_fronts.proofs.FirstLines.FirstLineRows.{line_row, are_zeros, zero_digits, string_line}
 use Rattle.resp_fronts.proofs.FirstLines.MoreFirstLineRows.{string_size, verbatim_least}
 use Rattle.resp_fronts.proofs.Tokens.StreamedStrings.{with_chunks, last, completes_chunks, chunks_complete}
 use Rattle.resp_fronts.proofs.Refusals.BrokenLines.{null_short}
 use Rattle.resp_fronts.specs.Tokens.{zeros}
+use Rattle.resp_value.proofs.DigitLemmas.{number-digit}
 
 -- a byte on the shortest way lowers what a value needs by one
 pub next_row : (L : LeafRule) (N : NodeRule) (level : ℕ) (begun : List ℕ) (byte n : ℕ) (rest : List ℕ) → HasLeast (CompletesValue L N level begun) (suc n) →
@@ -65,14 +66,10 @@ pub first_of_least : (L : LeafRule) (N : NodeRule) (level : ℕ) (begun : List �
 first_of_least L N level begun byte n rest h e = next_row L N level begun byte n rest h (subst (CompletesValue L N level begun) e h.holds)
     (omega (arith, h.size, ap length e))
 
-null_is_tree_line : (f : NullForm) → IsLine (null_line f)
-unfolding first_line
-null_is_tree_line f = first_is_line (leaf (null f)) tt
-
 -- `$-1`, `*-1` and `_`: 2
 pub null_line_row : (L : LeafRule) (N : NodeRule) (level : ℕ) (f : NullForm) → L level (null f) → HasLeast (CompletesValue L N level (null_line f)) 2
 unfolding first_line
-null_line_row L N level f h = line_row L N level (null_line f) [] (leaf (null f)) 0 (null_is_tree_line f) tt h (sym (append-nil (null_line f))) refl
+null_line_row L N level f h = line_row L N level (null_line f) [] (leaf (null f)) 0 (null_is_line f) tt h (sym (append-nil (null_line f))) refl
     (λ u l i j e. omega arith)
 
 -- `$-` and `*-`: 3

@@ -1,5 +1,5 @@
 -- The lines of simple strings and of errors.
-use Rattle.std.proofs.Common.{◌≡◌, ℕ, ◌<◌, ◌≤◌, List, [], ◌∷◌, ◌++◌, length, refl, sym, ap, subst, ◌∙◌, arith, length-append}
+use Rattle.std.proofs.Common.{◌≡◌, ℕ, ◌<◌, ◌≤◌, List, [], ◌∷◌, ◌++◌, length, refl, subst, ◌∙◌, arith, length-append}
 use Rattle.resp_value.specs.Bytes.{IsLine, IsText, crlf}
 use Rattle.resp_value.specs.Data.{content_length}
 use Rattle.resp_value.specs.TreeValues.{leaf_value}
@@ -7,7 +7,7 @@ use Rattle.resp_value.specs.Trees.{leaf, line, LineKind, Simple, Error, Double, 
 use Rattle.resp_value.specs.Rules.{Rules, Rule, WithinDepth, WithinLength, rank}
 use Rattle.resp_value.specs.LocalRules.{HoldsFrom, LeafKeeps, NodeKeeps, LeafMeets}
 use Rattle.resp_value.proofs.Splitting.{plain_above}
-use Rattle.resp_value.proofs.FirstLines.{line_sort, leaf_of, sort, sort_is, first_line}
+use Rattle.resp_value.proofs.FirstLines.{line_sort, leaf_of, sort, first_line, sort_of-line}
 use Rattle.resp_fronts.specs.LeastCompletions.{HasLeast}
 use Rattle.resp_fronts.proofs.FirstLines.BegunLines.{line_least, completes_line, tree_of_line}
 use Rattle.resp_fronts.proofs.FrameLaws.KeptNodes.{at_each_rule, leaf_keeps}
@@ -35,7 +35,8 @@ line_has_no_break Simple s p = (plain_above 43 (omega arith), p)
 line_has_no_break Error s p = (plain_above 45 (omega arith), p)
 line_has_no_break Double s p = (plain_above 44 (omega arith), p)
 
-sort_of_text : (k : LineKind) (s : List ℕ) → sort (line_byte k ∷ s) ≡ leaf_of (line_sort k s)
+-- the sort of a simple line
+pub sort_of_text : (k : LineKind) (s : List ℕ) → sort (line_byte k ∷ s) ≡ leaf_of (line_sort k s)
 sort_of_text Simple s = refl
 sort_of_text Error s = refl
 sort_of_text Double s = refl
@@ -57,7 +58,7 @@ pub text_line_too_long : (r : Rules) (level : ℕ) (k : LineKind) (s : List ℕ)
     IsRefusedHere r WithinLength WithinDepth level (line_byte k ∷ s)
 text_line_too_long r level k s p is_line is_text too_long = record {
   dead = λ c t. (let u = completes_line (LeafKeeps r WithinLength) (NodeKeeps r WithinLength) level (line_byte k ∷ s) c (line_has_no_break k s is_line) t in
-      let e = tree_of_line u.tree k (s ++ u.line) (sym (sort_is u.tree u.is_tree) ∙ ap sort u.begins ∙ sort_of_text k (s ++ u.line)) in
+      let e = tree_of_line u.tree k (s ++ u.line) (sort_of-line u.tree u.is_tree u.begins ∙ sort_of_text k (s ++ u.line)) in
       let kept : HoldsFrom (LeafKeeps r WithinLength) (NodeKeeps r WithinLength) level (leaf (line k (s ++ u.line))) =
       subst (HoldsFrom (LeafKeeps r WithinLength) (NodeKeeps r WithinLength) level) e u.keep in
       let fits : content_length (leaf_value (line k (s ++ u.line))) ≤ r.limits.length = kept WithinLength (omega arith) in

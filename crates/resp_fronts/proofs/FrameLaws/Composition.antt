@@ -200,7 +200,8 @@ within_frame L N f fs x n i l p m =
       after = m.after;
     }
 
-kind_no_stop : (k : Kind) (x : List ℕ) → byte_at_start (kind_byte k ∷ x) ≡ 46 → ⊥
+-- no aggregate begins with the `.` of a close
+pub kind_no_stop : (k : Kind) (x : List ℕ) → byte_at_start (kind_byte k ∷ x) ≡ 46 → ⊥
 kind_no_stop Array x e = omega arith
 kind_no_stop Set x e = omega arith
 kind_no_stop Map x e = omega arith

@@ -1,17 +1,17 @@
 -- A begun value within open aggregates: what may follow is what completes the value and then what may come after it.
 use Rattle.std.proofs.Common.{◌*◌, ◌++◌, ◌+◌, ◌<◌, ◌∙◌, ◌∷◌, ◌≡◌, ◌≤◌, ◌⊎◌, List, [], ap, append-nil, append_assoc, arith, false, inl, inr, length, length-append, refl, subst, suc, sym, true, zero, ℕ}
-use Rattle.resp_value.specs.Bytes.{crlf}
 use Rattle.resp_value.specs.Data.{Array, Attr, Kind, Map, Push, Set, members_of}
 use Rattle.resp_value.specs.LocalRules.{HoldsFromEach, LeafRule, NodeRule}
 use Rattle.resp_value.specs.Numbers.{number}
-use Rattle.resp_value.specs.Trees.{ArrayNull, BulkNull, Counted, Form, HasMembers, IsTree, Leaf, PlainNull, Simple, Streamed, Tree, Trees, chunked, close, count, leaf, leaf_line, line, more, node, none, null, numeral, string, text, texts, truth}
-use Rattle.resp_value.proofs.FirstLines.{after_line, first_line, text_is}
+use Rattle.resp_value.specs.Trees.{ArrayNull, BulkNull, Counted, Form, HasMembers, IsTree, Leaf, PlainNull, Simple, Streamed, Tree, chunked, close, count, leaf, leaf_line, line, node, null, numeral, string, text, texts, truth}
+use Rattle.resp_value.proofs.FirstLines.{first_line}
 use Rattle.resp_value.proofs.Unique.{unique}
 use Rattle.resp_fronts.specs.Frames.{Frame, text_around}
 use Rattle.resp_fronts.specs.LeastCompletions.{HasLeast}
 use Rattle.resp_fronts.specs.MayFollow.{AreKept, AreOpen, CanAllEnd, CanEnd, CompletesValue, IsWholeText, MayFollow, MayFollowValue, MembersThen, ValueThen, frames_needed, members_needed, members_missing}
 use Rattle.resp_fronts.proofs.FrameLaws.Composition.{around-append, compose, determine, first_member, member_rest}
 use Rattle.resp_fronts.proofs.FrameLaws.OpenFrames.{are_shortest_trees, count-shortest_trees, shortest_trees}
+use Rattle.resp_value.proofs.DefaultLimits.{texts_at_least}
 
 -- a begins with b, and what follows b is the rest of a, and what follows a
 abbrev pub BeginsBy : List ℕ → List ℕ → List ℕ → List ℕ → Type 0
@@ -98,17 +98,6 @@ unfolding first_line
 first_length (leaf l) = leaf_length l
 first_length (node k f ts) = omega arith
 
--- a text has three bytes at least
-pub text_least : (t : Tree) → 3 ≤ length (text t)
-text_least t =
-    let e : length (text t ++ []) ≡ length (first_line t ++ crlf (after_line t ++ [])) = ap length (text_is t []) in
-    omega (arith, length-append (text t) [], length-append (first_line t) (crlf (after_line t ++ [])), first_length t)
-
--- so texts have three bytes each
-pub texts_least : (ts : Trees) → 3 * count ts ≤ length (texts ts)
-texts_least none = omega arith
-texts_least (more t ts) = omega (arith, texts_least ts, text_least t, length-append (text t) (texts ts))
-
 -- the shortest trees have three bytes each
 pub length-shortest_trees : (n : ℕ) → length (texts (shortest_trees n)) ≡ 3 * n
 length-shortest_trees zero = refl
@@ -148,7 +137,7 @@ members_least L N k j f n q P s h l =
       least = λ c w. omega (
         arith,
         missing_least j f n (count w.members) w.is_form,
-        texts_least w.members,
+        texts_at_least w.members,
         l.least w.rest w.after,
         ap length w.whole,
         length-append (texts w.members ++ close f) w.rest,

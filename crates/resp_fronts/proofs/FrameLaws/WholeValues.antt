@@ -10,12 +10,13 @@ use Rattle.resp_fronts.specs.LeastCompletions.{HasLeast}
 use Rattle.resp_fronts.specs.MayFollow.{CanAllEnd, IsWholeText, MayFollowFrames, MayFollowValue, frames_needed, members_missing}
 use Rattle.resp_fronts.proofs.Between.BetweenValues.{ready_open}
 use Rattle.resp_fronts.proofs.FrameLaws.Composition.{around-append, compose, determine, first_member, member_rest}
-use Rattle.resp_fronts.proofs.FrameLaws.LeastAround.{after_least, are_kept, are_open, text_least}
+use Rattle.resp_fronts.proofs.FrameLaws.LeastAround.{after_least, are_kept, are_open}
 use Rattle.resp_fronts.specs.OpenLevels.{AreLevelsOf, AreReady, Level, so_far}
+use Rattle.resp_value.proofs.DefaultLimits.{text_at_least}
 
 -- a text's first byte is no `.`
 text_no_stop : (t : Tree) (c : List ℕ) → byte_at_start (text t ++ c) ≡ 46 → ⊥
-text_no_stop t c = case (text t) (text_least t) (λ behind e. not_close t c behind e)
+text_no_stop t c = case (text t) (text_at_least t) (λ behind e. not_close t c behind e)
   where
     case : (bytes : List ℕ) → 3 ≤ length bytes → ((behind : List ℕ) → bytes ++ c ≡ 46 ∷ behind → ⊥) → byte_at_start (bytes ++ c) ≡ 46 → ⊥
     case [] n h e = omega arith

@@ -1,11 +1,11 @@
 -- Big numbers past the limit of length: their kept digits count.
-use Rattle.std.proofs.Common.{◌++◌, ◌<◌, ◌∙◌, ◌∷◌, ◌≡◌, ◌≤◌, Bool, List, [], ap, arith, cond, eqb, false, length, length-append, refl, subst, sym, true, ℕ}
+use Rattle.std.proofs.Common.{◌++◌, ◌<◌, ◌∙◌, ◌∷◌, ◌≡◌, ◌≤◌, Bool, List, [], arith, cond, eqb, false, length, length-append, refl, subst, true, ℕ}
 use Rattle.resp_value.specs.Bytes.{crlf}
 use Rattle.resp_value.specs.LocalRules.{HoldsFrom, LeafKeeps, NodeKeeps}
 use Rattle.resp_value.specs.Numbers.{IsDigit, IsDigits, Minus, Plus, Sign, Unsigned, kept_digits, sign_text, significant_digits, zero_if_none}
 use Rattle.resp_value.specs.Rules.{Rules, WithinDepth, WithinLength}
 use Rattle.resp_value.specs.Trees.{Big, leaf, numeral}
-use Rattle.resp_value.proofs.FirstLines.{first_line, leaf_of, numeral_sort, sort, sort_is}
+use Rattle.resp_value.proofs.FirstLines.{first_line, leaf_of, numeral_sort, sort, sort_of-line}
 use Rattle.resp_value.proofs.Splitting.{digit_is_no}
 use Rattle.resp_fronts.proofs.FirstLines.BegunLines.{completes_line}
 use Rattle.resp_fronts.proofs.FirstLines.FirstLineRows.{number_line, tree_of_numeral}
@@ -37,7 +37,7 @@ unfolding first_line
 big_too_long r k g d ds p h n = record {
   dead = λ c t. (let u = completes_line (LeafKeeps r WithinLength) (NodeKeeps r WithinLength) k (40 ∷ (sign_text g ++ d ∷ ds)) c
       (number_line Big g (d ∷ ds) p.1) t in
-      let e = tree_of_numeral u.tree Big g (d ∷ ds ++ u.line) (sym (sort_is u.tree u.is_tree) ∙ ap sort u.begins ∙ big_sort g d ds u.line p.1.0) in
+      let e = tree_of_numeral u.tree Big g (d ∷ ds ++ u.line) (sort_of-line u.tree u.is_tree u.begins ∙ big_sort g d ds u.line p.1.0) in
       let a : HoldsFrom (LeafKeeps r WithinLength) (NodeKeeps r WithinLength) k (leaf (numeral Big g (d ∷ ds ++ u.line))) =
       subst (HoldsFrom (LeafKeeps r WithinLength) (NodeKeeps r WithinLength) k) e u.keep in
       let m : length (kept_digits (d ∷ ds ++ u.line)) ≤ r.limits.length = a WithinLength (omega arith) in

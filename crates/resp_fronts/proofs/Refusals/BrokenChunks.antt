@@ -6,9 +6,9 @@ use Rattle.resp_value.specs.Numbers.{IsDigit, IsDigits, number}
 use Rattle.resp_value.specs.Trees.{Chunk, IsChunk, chunks_text}
 use Rattle.resp_value.specs.Rules.{Rules, Grammar}
 use Rattle.resp_value.specs.LocalRules.{LeafKeeps, NodeKeeps}
-use Rattle.resp_value.proofs.Splitting.{length_split, line_split}
+use Rattle.resp_value.proofs.Splitting.{length_split, line_split, return_split}
 use Rattle.resp_value.proofs.Unique.{chunk_line}
-use Rattle.resp_fronts.proofs.FirstLines.BegunLines.{line_begins, return_split}
+use Rattle.resp_fronts.proofs.FirstLines.BegunLines.{line_begins}
 use Rattle.resp_fronts.proofs.FirstLines.CountRows.{CompletesUnder}
 use Rattle.resp_fronts.proofs.Refusals.RefusedBytes.{digits_hold}
 use Rattle.resp_fronts.proofs.Tokens.StreamedStrings.{completes_chunks, last}

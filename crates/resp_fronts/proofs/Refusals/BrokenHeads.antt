@@ -5,7 +5,7 @@ use Rattle.std.proofs.lemmas.Bool.Decides.{eqb_tells}
 use Rattle.resp_value.specs.Numbers.{IsDigit, IsDigits, Sign, Unsigned, Plus, Minus, sign_text, number}
 use Rattle.resp_value.specs.Data.{Kind, Array, Set, Map, Attr, Push}
 use Rattle.resp_value.specs.Trees.{Tree, leaf, node, string, NumberKind, Int, Big, StringKind, Bulk, BulkError, Verbatim, Counted, Streamed, number_byte, string_byte, kind_byte, count, CanStream, IsTree}
-use Rattle.resp_value.proofs.FirstLines.{numeral_sort, string_sort, leaf_of, node_of, sort, sort_of, sort_is, first_line}
+use Rattle.resp_value.proofs.FirstLines.{numeral_sort, string_sort, leaf_of, node_of, sort, first_line, sort_of-line}
 use Rattle.resp_fronts.proofs.FirstLines.BegunLines.{counted_is, tree_of_node}
 use Rattle.resp_fronts.proofs.FirstLines.FirstLineRows.{tree_of_numeral, no_other, number_more_digits, is_string}
 use Rattle.resp_fronts.proofs.FirstLines.MoreFirstLineRows.{string_size, verbatim_least, sort_mark}
@@ -16,12 +16,9 @@ use Rattle.resp_fronts.proofs.Refusals.BrokenLines.{NoLineGoesOn, NoLineEnds}
 abbrev Tells : Bool → Type 0 → Type 0 → Type 0
 Tells b A B = ((b ≡ true) × A) ⊎ ((b ≡ false) × B)
 
-sort_behind_line : (t : Tree) (a : List ℕ) → IsTree t → first_line t ≡ a → sort_of t ≡ sort a
-sort_behind_line t a p e = sym (sort_is t p) ∙ ap sort e
-
 digits_of_number : (t : Tree) (K : NumberKind) (g : Sign) (a digits : List ℕ) → IsTree t → first_line t ≡ a → sort a ≡ leaf_of (numeral_sort K g digits) →
     IsDigits digits
-digits_of_number t K g a digits p e s = subst IsTree (tree_of_numeral t K g digits (sort_behind_line t a p e ∙ s)) p
+digits_of_number t K g a digits p e s = subst IsTree (tree_of_numeral t K g digits (sort_of-line t p e ∙ s)) p
 
 -- a number's type byte, its sign and what follows say so
 pub sort_of_signed : (K : NumberKind) (g : Sign) (first : ℕ) (behind : List ℕ) → (g ≡ Unsigned → (first ≡ 43 → ⊥) × (first ≡ 45 → ⊥)) →
@@ -56,7 +53,7 @@ number_broken K g digit digits byte is_digit no_digit t behind p e =
 -- a number has a digit
 pub number_short : (K : NumberKind) (g : Sign) → NoLineEnds (number_byte K ∷ (sign_text g ++ []))
 number_short K g t p e =
-    let n : 0 < 0 = number_more_digits K g t [] p (sort_behind_line t (number_byte K ∷ (sign_text g ++ [])) p e ∙
+    let n : 0 < 0 = number_more_digits K g t [] p (sort_of-line t p e ∙
     ap (λ z. sort (number_byte K ∷ z)) (sym (append-nil (sign_text g ++ [])))) in
     omega arith
 
@@ -67,7 +64,7 @@ IsNoLength BulkError byte = IsDigit byte → ⊥
 IsNoLength (Verbatim format) byte = IsDigit byte → ⊥
 
 digit_of_length : (t : Tree) (b first : ℕ) (a behind : List ℕ) → IsTree t → first_line t ≡ a → sort a ≡ leaf_of (string_sort b (first ∷ behind)) → IsDigit first
-digit_of_length t b first a behind p e s = let w = string_size t b (first ∷ behind) p (sort_behind_line t a p e ∙ s) in w.4.1.0
+digit_of_length t b first a behind p e s = let w = string_size t b (first ∷ behind) p (sort_of-line t p e ∙ s) in w.4.1.0
 
 -- behind the type byte of a string come digits, and behind `$` also `-` and `?`
 pub length_begun_broken : (K : StringKind) (byte : ℕ) → IsNoLength K byte → NoLineGoesOn (string_byte K ∷ []) byte
@@ -80,20 +77,20 @@ length_begun_broken (Verbatim format) byte other t behind p e = other (digit_of_
 pub length_broken : (K : StringKind) (digit : ℕ) (digits : List ℕ) (byte : ℕ) → IsDigit digit → (IsDigit byte → ⊥) →
     NoLineGoesOn (string_byte K ∷ digit ∷ digits) byte
 length_broken K digit digits byte is_digit no_digit t behind p e =
-    let w = is_string t K digit (digits ++ byte ∷ behind) is_digit (sort_behind_line t (string_byte K ∷ digit ∷ (digits ++ byte ∷ behind)) p e) in
+    let w = is_string t K digit (digits ++ byte ∷ behind) is_digit (sort_of-line t p e) in
     let i : IsTree (leaf (string w.0 (digit ∷ (digits ++ byte ∷ behind)) w.1)) = subst IsTree w.3 p in
     no_digit (digits_hold digits behind byte i.0.0.1.1)
 
 -- a length has a digit
 pub length_short : (K : StringKind) → NoLineEnds (string_byte K ∷ [])
-length_short Bulk t p e = no_other t (sort_behind_line t (36 ∷ []) p e)
-length_short BulkError t p e = let w = string_size t 33 [] p (sort_behind_line t (33 ∷ []) p e) in let n : 0 < 0 = w.4.0 in omega arith
-length_short (Verbatim format) t p e = let w = string_size t 61 [] p (sort_behind_line t (61 ∷ []) p e) in let n : 0 < 0 = w.4.0 in omega arith
+length_short Bulk t p e = no_other t (sort_of-line t p e)
+length_short BulkError t p e = let w = string_size t 33 [] p (sort_of-line t p e) in let n : 0 < 0 = w.4.0 in omega arith
+length_short (Verbatim format) t p e = let w = string_size t 61 [] p (sort_of-line t p e) in let n : 0 < 0 = w.4.0 in omega arith
 
 -- a verbatim string's length counts its format and the `:`
 pub verbatim_short : (digit : ℕ) (digits : List ℕ) → number (digit ∷ digits) < 4 → NoLineEnds (61 ∷ digit ∷ digits)
 verbatim_short digit digits small t p e =
-    let w = string_size t 61 (digit ∷ digits) p (sort_behind_line t (61 ∷ digit ∷ digits) p e) in
+    let w = string_size t 61 (digit ∷ digits) p (sort_of-line t p e) in
     omega (arith, w.5, verbatim_least w.0 w.1 w.2 w.3)
 
 -- what stands behind an aggregate's type byte, where it is no digit
@@ -107,14 +104,14 @@ IsNoCount Push byte = IsDigit byte → ⊥
 digit_of_count : (t : Tree) (k : Kind) (first : ℕ) (a behind : List ℕ) → IsTree t → first_line t ≡ a → sort a ≡ node_of k (Counted (first ∷ behind)) →
     IsDigit first
 digit_of_count t k first a behind p e s =
-    let w = tree_of_node t k (Counted (first ∷ behind)) (sort_behind_line t a p e ∙ s) in
+    let w = tree_of_node t k (Counted (first ∷ behind)) (sort_of-line t p e ∙ s) in
     let i : IsTree (node k (Counted (first ∷ behind)) w.0) = subst IsTree w.1 p in
     i.0.0.1.0
 
 -- an aggregate of a kind that can't be streamed has no `?`
 pub no_mark : (k : Kind) → ((n : ℕ) → CanStream k n → ⊥) → NoLineGoesOn (kind_byte k ∷ []) 63
 no_mark k no_stream t behind p e =
-    let w = tree_of_node t k Streamed (sort_behind_line t (kind_byte k ∷ 63 ∷ behind) p e ∙ sort_mark k behind) in
+    let w = tree_of_node t k Streamed (sort_of-line t p e ∙ sort_mark k behind) in
     let i : IsTree (node k Streamed w.0) = subst IsTree w.1 p in
     no_stream (count w.0) i.0
 
@@ -144,4 +141,4 @@ count_broken k digit digits byte is_digit no_digit t behind p e =
 
 -- a count has a digit
 pub count_short : (k : Kind) → NoLineEnds (kind_byte k ∷ [])
-count_short k t p e = let n : 0 < 0 = line_after t k [] p (sort_behind_line t (kind_byte k ∷ []) p e) in omega arith
+count_short k t p e = let n : 0 < 0 = line_after t k [] p (sort_of-line t p e) in omega arith

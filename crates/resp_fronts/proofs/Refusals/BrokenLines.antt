@@ -5,7 +5,7 @@ use Rattle.resp_value.specs.Bytes.{IsLine, crlf}
 use Rattle.resp_value.specs.Data.{Kind}
 use Rattle.resp_value.specs.Trees.{Tree, leaf, node, line, numeral, null, truth, string, chunked, NullForm, BulkNull, ArrayNull, PlainNull, Streamed, kind_byte, null_line, truth_line, IsTree}
 use Rattle.resp_value.specs.LocalRules.{LeafRule, NodeRule}
-use Rattle.resp_value.proofs.FirstLines.{null_sort, truth_sort, chunked_sort, leaf_of, node_of, sort, sort_of, sort_is, first_line, first_is_line, after_line}
+use Rattle.resp_value.proofs.FirstLines.{null_sort, truth_sort, chunked_sort, leaf_of, node_of, sort, sort_of, first_line, first_is_line, after_line, sort_of-line}
 use Rattle.resp_fronts.specs.MayFollow.{CompletesValue}
 use Rattle.resp_fronts.proofs.FirstLines.BegunLines.{completes_line, completes_return, tree_of_node}
 use Rattle.resp_fronts.proofs.FirstLines.FirstLineRows.{tree_of_chunked, no_other}
@@ -73,9 +73,6 @@ behind_return_broken L N level begun rest byte is_line no_newline w =
     let e : byte ∷ rest ≡ 10 ∷ after_line u.tree = u.whole in
     no_newline (cc)
 
-sort_behind_line : (t : Tree) (a : List ℕ) → IsTree t → first_line t ≡ a → sort_of t ≡ sort a
-sort_behind_line t a p e = sym (sort_is t p) ∙ ap sort e
-
 tree_of_null : (t : Tree) (f : NullForm) → sort_of t ≡ leaf_of (null_sort f) → t ≡ leaf (null f)
 tree_of_null (leaf (null g)) f e = cc
 tree_of_null (leaf (line k s)) f e = absurd (cc)
@@ -96,19 +93,19 @@ tree_of_truth (node k g ts) b e = absurd (cc)
 
 first_of_null : (t : Tree) (f : NullForm) (a : List ℕ) → IsTree t → first_line t ≡ a → sort a ≡ leaf_of (null_sort f) → a ≡ null_line f
 unfolding first_line
-first_of_null t f a p e s = sym e ∙ ap first_line (tree_of_null t f (sort_behind_line t a p e ∙ s))
+first_of_null t f a p e s = sym e ∙ ap first_line (tree_of_null t f (sort_of-line t p e ∙ s))
 
 first_of_truth : (t : Tree) (b : Bool) (a : List ℕ) → IsTree t → first_line t ≡ a → sort a ≡ leaf_of (truth_sort b) → a ≡ truth_line b
 unfolding first_line
-first_of_truth t b a p e s = sym e ∙ ap first_line (tree_of_truth t b (sort_behind_line t a p e ∙ s))
+first_of_truth t b a p e s = sym e ∙ ap first_line (tree_of_truth t b (sort_of-line t p e ∙ s))
 
 first_of_streamed : (t : Tree) (k : Kind) (a : List ℕ) → IsTree t → first_line t ≡ a → sort a ≡ node_of k Streamed → a ≡ kind_byte k ∷ 63 ∷ []
 unfolding first_line
-first_of_streamed t k a p e s = let w = tree_of_node t k Streamed (sort_behind_line t a p e ∙ s) in sym e ∙ ap first_line w.1
+first_of_streamed t k a p e s = let w = tree_of_node t k Streamed (sort_of-line t p e ∙ s) in sym e ∙ ap first_line w.1
 
 first_of_chunked : (t : Tree) (a : List ℕ) → IsTree t → first_line t ≡ a → sort a ≡ leaf_of chunked_sort → a ≡ 36 ∷ 63 ∷ []
 unfolding first_line
-first_of_chunked t a p e s = let w = tree_of_chunked t (sort_behind_line t a p e ∙ s) in sym e ∙ ap first_line w.2
+first_of_chunked t a p e s = let w = tree_of_chunked t (sort_of-line t p e ∙ s) in sym e ∙ ap first_line w.2
 
 -- behind `$-` and `*-` comes `1`, and nothing behind that
 pub null_begun_broken : (f : NullForm) (first byte : ℕ) → null_line f ≡ first ∷ 45 ∷ 49 ∷ [] → (byte ≡ 49 → ⊥) → NoLineGoesOn (first ∷ 45 ∷ []) byte
@@ -155,7 +152,7 @@ truth_broken false byte t behind p e = omega (arith, ap length (first_of_truth t
 
 -- `#` alone is no line
 pub truth_short : NoLineEnds (35 ∷ [])
-truth_short t p e = no_other t (sort_behind_line t (35 ∷ []) p e)
+truth_short t p e = no_other t (sort_of-line t p e)
 
 -- nothing stands behind `?`
 pub streamed_broken : (k : Kind) (byte : ℕ) → NoLineGoesOn (kind_byte k ∷ 63 ∷ []) byte

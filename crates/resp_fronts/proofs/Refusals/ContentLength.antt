@@ -8,15 +8,16 @@ use Rattle.resp_value.specs.Numbers.{IsDigits, number}
 use Rattle.resp_value.specs.Rules.{Rules, WithinDepth, WithinLength}
 use Rattle.resp_value.specs.TreeValues.{leaf_value}
 use Rattle.resp_value.specs.Trees.{Chunk, Bulk, BulkError, Chunk, HasFormat, IsChunk, IsTree, StringKind, Verbatim, chunked, chunks_text, joined_content, leaf, payload, string, string_byte}
-use Rattle.resp_value.proofs.FirstLines.{sort, sort_is}
+use Rattle.resp_value.proofs.FirstLines.{sort_of-line}
 use Rattle.resp_value.proofs.Splitting.{line_split}
 use Rattle.resp_value.proofs.Unique.{chunk_line}
 use Rattle.resp_fronts.specs.LeastCompletions.{HasLeast}
 use Rattle.resp_fronts.specs.MayFollow.{CompletesValue}
-use Rattle.resp_fronts.proofs.FirstLines.BegunLines.{completes_line, line_begins, number-more}
+use Rattle.resp_fronts.proofs.FirstLines.BegunLines.{completes_line, line_begins}
 use Rattle.resp_fronts.proofs.FirstLines.FirstLineRows.{is_string, string_line, string_row}
 use Rattle.resp_fronts.proofs.FirstLines.CountRows.{CompletesUnder, IsRefusedHere}
 use Rattle.resp_fronts.proofs.Tokens.StreamedStrings.{chunks_complete, chunks_least, completes_chunks, last, with_chunks}
+use Rattle.resp_value.proofs.DigitLemmas.{number-more}
 
 string_content : (K : StringKind) (ds s : List ℕ) → HasFormat K → content_length (leaf_value (string K ds s)) ≡ length (payload K s)
 string_content Bulk ds s p = refl
@@ -31,7 +32,7 @@ string_too_long r k K d ds s p f x n h l =
     let row = string_row (LeafKeeps r WithinDepth) (NodeKeeps r WithinDepth) k K d ds s p f x n h in
     record {
       dead = λ c t. (let u = completes_line (LeafKeeps r WithinLength) (NodeKeeps r WithinLength) k (string_byte K ∷ d ∷ ds) c (string_line K (d ∷ ds) p.1) t in
-          let w = is_string u.tree K d (ds ++ u.line) p.1.0 (sym (sort_is u.tree u.is_tree) ∙ ap sort u.begins) in
+          let w = is_string u.tree K d (ds ++ u.line) p.1.0 (sort_of-line u.tree u.is_tree u.begins) in
           let i2 : IsTree (leaf (string w.0 (d ∷ ds ++ u.line) w.1)) = subst IsTree w.3 u.is_tree in
           let a : HoldsFrom (LeafKeeps r WithinLength) (NodeKeeps r WithinLength) k (leaf (string w.0 (d ∷ ds ++ u.line) w.1)) =
           subst (HoldsFrom (LeafKeeps r WithinLength) (NodeKeeps r WithinLength) k) w.3 u.keep in

@@ -1,17 +1,18 @@
 -- Integers past their range.
-use Rattle.std.proofs.Common.{◌++◌, ◌<◌, ◌∙◌, ◌∷◌, ◌≡◌, ◌≤◌, List, [], ap, arith, refl, subst, sym, ℕ}
+use Rattle.std.proofs.Common.{◌++◌, ◌<◌, ◌∙◌, ◌∷◌, ◌≡◌, ◌≤◌, List, [], arith, refl, subst, ℕ}
 use Rattle.std.proofs.lemmas.Int.{ints}
 use Rattle.resp_value.specs.Bytes.{crlf}
 use Rattle.resp_value.specs.LocalRules.{HoldsFrom, LeafKeeps, LeafMeets, NodeKeeps}
 use Rattle.resp_value.specs.Numbers.{IsDigit, IsDigits, Minus, Plus, Sign, Unsigned, number, sign_text}
 use Rattle.resp_value.specs.Rules.{Grammar, InRange, InVersion, IsInRange, NoDouble, NotStreamed, PushAtTop, Rule, Rules, WithinDepth, WithinItems, WithinTotal, WithinLength, rank}
 use Rattle.resp_value.specs.Trees.{Int, leaf, numeral}
-use Rattle.resp_value.proofs.FirstLines.{first_line, leaf_of, numeral_sort, sort, sort_is}
+use Rattle.resp_value.proofs.FirstLines.{first_line, leaf_of, numeral_sort, sort, sort_of-line}
 use Rattle.resp_value.proofs.Splitting.{digit_is_no}
-use Rattle.resp_fronts.proofs.FirstLines.BegunLines.{completes_line, number-more}
+use Rattle.resp_fronts.proofs.FirstLines.BegunLines.{completes_line}
 use Rattle.resp_fronts.proofs.FirstLines.FirstLineRows.{number_line, tree_of_numeral}
 use Rattle.resp_fronts.proofs.FirstLines.CountRows.{IsRefusedHere}
 use Rattle.resp_fronts.specs.Tokens.{greatest}
+use Rattle.resp_value.proofs.DigitLemmas.{number-more}
 
 in_range : (g : Sign) (ds : List ℕ) → IsInRange (numeral Int g ds) → number ds ≤ greatest g
 in_range Unsigned ds p = omega (arith, ints, p.0, p.1)
@@ -47,7 +48,7 @@ pub int_too_far : (r : Rules) (k : ℕ) (g : Sign) (d : ℕ) (ds : List ℕ) →
 unfolding first_line
 int_too_far r k g d ds p n = record {
   dead = λ c t. (let u = completes_line (LeafKeeps r InRange) (NodeKeeps r InRange) k (58 ∷ (sign_text g ++ d ∷ ds)) c (number_line Int g (d ∷ ds) p.1) t in
-      let e = tree_of_numeral u.tree Int g (d ∷ ds ++ u.line) (sym (sort_is u.tree u.is_tree) ∙ ap sort u.begins ∙ more_sort g d ds u.line p.1.0) in
+      let e = tree_of_numeral u.tree Int g (d ∷ ds ++ u.line) (sort_of-line u.tree u.is_tree u.begins ∙ more_sort g d ds u.line p.1.0) in
       let a : HoldsFrom (LeafKeeps r InRange) (NodeKeeps r InRange) k (leaf (numeral Int g (d ∷ ds ++ u.line))) =
       subst (HoldsFrom (LeafKeeps r InRange) (NodeKeeps r InRange) k) e u.keep in
       omega (arith, in_range g (d ∷ ds ++ u.line) (a InRange (omega arith)), number-more (d ∷ ds) u.line));

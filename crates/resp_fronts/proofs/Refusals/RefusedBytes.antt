@@ -1,5 +1,5 @@
 -- What refuses a type byte: the version, a push below the top, depth, and that no double is read.
-use Rattle.std.proofs.Common.{◌++◌, ◌<◌, ◌∙◌, ◌∷◌, ◌≡◌, ◌≤◌, List, [], ap, arith, refl, subst, sym, ℕ}
+use Rattle.std.proofs.Common.{◌++◌, ◌<◌, ◌∙◌, ◌∷◌, ◌≡◌, ◌≤◌, List, [], arith, refl, subst, ℕ}
 use Rattle.std.specs.List.{AllByRecursion}
 use Rattle.resp_value.specs.Bytes.{crlf}
 use Rattle.resp_value.specs.Data.{Array, Attr, Kind, Map, Push, Set, members_of}
@@ -7,7 +7,7 @@ use Rattle.resp_value.specs.LocalRules.{HoldsFrom, LeafKeeps, LeafMeets, NodeKee
 use Rattle.resp_value.specs.Numbers.{IsDigit, IsDigits, number}
 use Rattle.resp_value.specs.Rules.{Grammar, InRange, InVersion, NoDouble, NotStreamed, PushAtTop, Rule, Rules, WithinDepth, WithinItems, WithinTotal, WithinLength, rank}
 use Rattle.resp_value.specs.Trees.{Counted, Double, Form, count, kind_byte, leaf, line, node, texts}
-use Rattle.resp_value.proofs.FirstLines.{form_of, node_of, sort, sort_is}
+use Rattle.resp_value.proofs.FirstLines.{form_of, node_of, sort, sort_of-line}
 use Rattle.resp_fronts.proofs.FirstLines.BegunLines.{completes_line, counted_is, tree_of_line, tree_of_node}
 use Rattle.resp_fronts.proofs.FrameLaws.OpenFrames.{shortest_trees}
 use Rattle.resp_fronts.proofs.FirstLines.CountRows.{IsRefusedHere, byte_line, count_ends, kind_line}
@@ -40,7 +40,7 @@ kind_refused r g h k j o n q =
     let e = count_ends r h k j 48 [] zero_digits q in
     record {
       dead = λ c t. (let u = completes_line (LeafKeeps r g) (NodeKeeps r g) k (kind_byte j ∷ []) c (byte_line j) t in
-          let w = tree_of_node u.tree j (form_of u.line) (sym (sort_is u.tree u.is_tree) ∙ ap sort u.begins ∙ sort_other j u.line o) in
+          let w = tree_of_node u.tree j (form_of u.line) (sort_of-line u.tree u.is_tree u.begins ∙ sort_other j u.line o) in
           let a : HoldsFrom (LeafKeeps r g) (NodeKeeps r g) k (node j (form_of u.line) w.0) = subst (HoldsFrom (LeafKeeps r g) (NodeKeeps r g) k) w.1 u.keep in
           n (form_of u.line) (count w.0) (a.0 g (omega arith)));
       rest = 48 ∷ crlf (texts (shortest_trees (members_of j 0)));
@@ -79,7 +79,7 @@ array_too_deep r k d p l q =
 pub double_refused : (r : Rules) (k : ℕ) → IsRefusedHere r NoDouble Grammar k (44 ∷ [])
 double_refused r k = record {
   dead = λ c t. (let u = completes_line (LeafKeeps r NoDouble) (NodeKeeps r NoDouble) k (44 ∷ []) c ((λ e. omega arith, λ e. omega arith), tt) t in
-      let e = tree_of_line u.tree Double u.line (sym (sort_is u.tree u.is_tree) ∙ ap sort u.begins) in
+      let e = tree_of_line u.tree Double u.line (sort_of-line u.tree u.is_tree u.begins) in
       let a : HoldsFrom (LeafKeeps r NoDouble) (NodeKeeps r NoDouble) k (leaf (line Double u.line)) =
       subst (HoldsFrom (LeafKeeps r NoDouble) (NodeKeeps r NoDouble) k) e u.keep in
       a NoDouble (omega arith));

@@ -4,7 +4,7 @@ use Rattle.resp_value.specs.Bytes.{IsText, crlf}
 use Rattle.resp_value.specs.LocalRules.{HoldsFrom, LeafRule, NodeRule}
 use Rattle.resp_value.specs.Numbers.{IsDigits, number}
 use Rattle.resp_value.specs.Trees.{Bulk, BulkError, HasFormat, IsLeaf, IsTree, StringKind, Verbatim, leaf, payload, string, string_byte}
-use Rattle.resp_value.proofs.FirstLines.{after_line, first_is_line, first_line, sort, sort_is}
+use Rattle.resp_value.proofs.FirstLines.{after_line, first_is_line, first_line, sort_of-line}
 use Rattle.resp_value.proofs.Splitting.{length_split, line_split}
 use Rattle.resp_fronts.specs.LeastCompletions.{HasLeast}
 use Rattle.resp_fronts.specs.MayFollow.{CompletesValue}
@@ -27,7 +27,7 @@ completes_content L N k K d ds p c q t =
     let b = string_byte K ∷ d ∷ ds in
     let s = line_split (first_line t.tree) b (after_line t.tree) (p ++ c) (first_is_line t.tree t.is_tree) (string_line K (d ∷ ds) q.1)
     (sym (text_first t.tree) ∙ t.whole ∙ append_assoc b (crlf p) c) in
-    let w = is_string t.tree K d ds q.1.0 (sym (sort_is t.tree t.is_tree) ∙ ap sort s.0) in
+    let w = is_string t.tree K d ds q.1.0 (sort_of-line t.tree t.is_tree s.0) in
     record {
       kind = w.0;
       content = w.1;

@@ -1,5 +1,5 @@
 -- The `?` of streamed forms: what refuses it, its least completion, and how it opens an aggregate.
-use Rattle.std.proofs.Common.{◌≡◌, ℕ, ◌+◌, ◌<◌, ◌≤◌, false, List, [], ◌∷◌, ◌++◌, refl, sym, ap, subst, ◌∙◌, arith}
+use Rattle.std.proofs.Common.{◌≡◌, ℕ, ◌+◌, ◌<◌, ◌≤◌, false, List, [], ◌∷◌, ◌++◌, refl, subst, ◌∙◌, arith}
 use Rattle.resp_value.specs.Bytes.{IsLine, crlf}
 use Rattle.resp_value.specs.Data.{Kind, Array, Set, Map, Attr, Push, items_of}
 use Rattle.resp_value.specs.Trees.{leaf, node, none, Chunk, chunked, Streamed, kind_byte, count, CanStream}
@@ -7,7 +7,7 @@ use Rattle.resp_value.specs.Rules.{Rules, Rule, NoDouble, InVersion, InRange, No
 use Rattle.resp_value.specs.LocalRules.{HoldsFrom, LeafKeeps, NodeKeeps, LeafMeets, NodeMeets, IsNoPushBelow}
 use Rattle.resp_value.specs.declared.version.Version.TheVariants.{Two}
 use Rattle.resp_value.proofs.Splitting.{plain_above}
-use Rattle.resp_value.proofs.FirstLines.{sort, sort_is}
+use Rattle.resp_value.proofs.FirstLines.{sort_of-line}
 use Rattle.resp_fronts.specs.MayFollow.{members_missing}
 use Rattle.resp_fronts.proofs.FrameLaws.KeptNodes.{at_each_rule, leaf_keeps, node_keeps}
 use Rattle.resp_fronts.proofs.FirstLines.BegunLines.{completes_line, tree_of_node}
@@ -40,7 +40,7 @@ streamed_string_refused : (r : Rules) (rule before : Rule) (level : ℕ) →
     IsRefusedHere r rule before level (36 ∷ 63 ∷ [])
 streamed_string_refused r rule before level no_chunks keeps = record {
   dead = λ c t. (let u = completes_line (LeafKeeps r rule) (NodeKeeps r rule) level (36 ∷ 63 ∷ []) c mark_line t in
-      let w = tree_of_chunked u.tree (sym (sort_is u.tree u.is_tree) ∙ ap sort u.begins) in
+      let w = tree_of_chunked u.tree (sort_of-line u.tree u.is_tree u.begins) in
       let kept : HoldsFrom (LeafKeeps r rule) (NodeKeeps r rule) level (leaf (chunked w.0 w.1)) =
       subst (HoldsFrom (LeafKeeps r rule) (NodeKeeps r rule) level) w.2 u.keep in
       no_chunks w.0 w.1 (kept rule (omega arith)));
@@ -81,7 +81,8 @@ streamed_begun r k level h can no_push within_depth = record {
     no_items Attr = refl
     no_items Push = refl
 
-streamed_line : (k : Kind) → IsLine (kind_byte k ∷ 63 ∷ [])
+-- the type byte of an aggregate and a `?` are a line
+pub streamed_line : (k : Kind) → IsLine (kind_byte k ∷ 63 ∷ [])
 streamed_line k = ((byte_line k).0, (plain_above 63 (omega arith), tt))
 
 -- a rule that no streamed aggregate of this kind meets, and the one before it that the empty one meets
@@ -89,7 +90,7 @@ streamed_refused : (r : Rules) (rule before : Rule) (k : Kind) (level : ℕ) →
     NodeKeeps r before level k Streamed 0 → IsRefusedHere r rule before level (kind_byte k ∷ 63 ∷ [])
 streamed_refused r rule before k level can no_node keeps = record {
   dead = λ c t. (let u = completes_line (LeafKeeps r rule) (NodeKeeps r rule) level (kind_byte k ∷ 63 ∷ []) c (streamed_line k) t in
-      let w = tree_of_node u.tree k Streamed (sym (sort_is u.tree u.is_tree) ∙ ap sort u.begins ∙ sort_mark k u.line) in
+      let w = tree_of_node u.tree k Streamed (sort_of-line u.tree u.is_tree u.begins ∙ sort_mark k u.line) in
       let kept : HoldsFrom (LeafKeeps r rule) (NodeKeeps r rule) level (node k Streamed w.0) =
       subst (HoldsFrom (LeafKeeps r rule) (NodeKeeps r rule) level) w.1 u.keep in
       no_node (count w.0) (kept.0 rule (omega arith)));

@@ -5,15 +5,16 @@ use Rattle.resp_value.specs.Bytes.{crlf}
 use Rattle.resp_value.specs.LocalRules.{HoldsFrom, LeafRule, NodeRule}
 use Rattle.resp_value.specs.Numbers.{IsDigits, number}
 use Rattle.resp_value.specs.Trees.{Chunk, IsChunk, IsTree, chunked, chunks_text, leaf}
-use Rattle.resp_value.proofs.FirstLines.{after_line, first_is_line, first_line, sort, sort_is}
+use Rattle.resp_value.proofs.FirstLines.{after_line, first_is_line, first_line, sort_of-line}
 use Rattle.resp_value.proofs.Splitting.{length_split, line_split}
 use Rattle.resp_value.proofs.Unique.{chunk_line, chunks_text-append}
 use Rattle.resp_fronts.specs.LeastCompletions.{HasLeast}
 use Rattle.resp_fronts.specs.MayFollow.{CompletesValue}
-use Rattle.resp_fronts.proofs.FirstLines.BegunLines.{line_begins, number-more, text_first}
+use Rattle.resp_fronts.proofs.FirstLines.BegunLines.{line_begins, text_first}
 use Rattle.resp_fronts.proofs.FirstLines.FirstLineRows.{are_zeros, length-zeros, tree_of_chunked}
 use Rattle.resp_fronts.proofs.FirstLines.FirstLineRows.{zero_digits}
 use Rattle.resp_fronts.specs.Tokens.{zeros}
+use Rattle.resp_value.proofs.DigitLemmas.{number-more}
 
 -- the line that ends a streamed string
 abbrev pub last : List ℕ → List ℕ
@@ -79,7 +80,7 @@ pub completes_chunks : (L : LeafRule) (N : NodeRule) (k : ℕ) (ds : List Chunk)
 completes_chunks L N k ds w c p t =
     let s = line_split (first_line t.tree) (36 ∷ 63 ∷ []) (after_line t.tree) (chunks_text ds w ++ c) (first_is_line t.tree t.is_tree)
     ((λ e. omega arith, λ e. omega arith), ((λ e. omega arith, λ e. omega arith), tt)) (sym (text_first t.tree) ∙ t.whole) in
-    let u = tree_of_chunked t.tree (sym (sort_is t.tree t.is_tree) ∙ ap sort s.0) in
+    let u = tree_of_chunked t.tree (sort_of-line t.tree t.is_tree s.0) in
     let i : IsTree (leaf (chunked u.0 u.1)) = subst IsTree u.2 t.is_tree in
     let a : HoldsFrom L N k (leaf (chunked u.0 u.1)) = subst (HoldsFrom L N k) u.2 t.keep in
     let e : chunks_text u.0 (last u.1) ≡ chunks_text ds w ++ c = ap after_line (sym u.2) ∙ s.1 in

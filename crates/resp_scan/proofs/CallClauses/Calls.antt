@@ -17,7 +17,6 @@ use Rattle.resp_fronts.specs.Frames.{text_around}
 use Rattle.resp_fronts.proofs.Tokens.BegunFronts.{IsBegunBy}
 use Rattle.resp_fronts.proofs.EventLaws.EventsAround.{length-around, next_member_at}
 use Rattle.resp_fronts.proofs.FrameLaws.FrontLaws.{all_rules}
-use Rattle.resp_fronts.proofs.FrameLaws.LeastAround.{text_least}
 use Rattle.resp_scan.specs.declared.event.Event.{Event}
 use Rattle.resp_scan.specs.declared.event.Event.TheVariants as event
 use Rattle.resp_scan.specs.declared.event.Step.{Step}
@@ -42,6 +41,7 @@ use Rattle.resp_scan.proofs.CallClauses.LeastNeeded.{least_is_needed}
 use Rattle.resp_scan.proofs.TokenMoves.Moves.{at_level}
 use Rattle.resp_scan.proofs.CallClauses.Rows.{tokens_need}
 use Rattle.resp_fronts.specs.OpenLevels.{AreLevelsOf}
+use Rattle.resp_value.proofs.DefaultLimits.{text_at_least}
 
 -- A front that isn't empty.
 
@@ -64,7 +64,7 @@ between_some r f fs front es w = case w.frames w.of_levels w.whole
     case (g ∷ gs) a e = omega (arith, ap length e, open_some gs g)
 
 ended_some : (r : Rules) (fs : List Frame) (front : List ℕ) (es : List e.Event) → HasEnded r fs front es → 0 < length front
-ended_some r [] front es w = omega (arith, ap length w.whole, text_least w.tree)
+ended_some r [] front es w = omega (arith, ap length w.whole, text_at_least w.tree)
 ended_some r (f ∷ fs) front es w = omega (arith, ap length w.whole, open_some w.outer w.frame)
 
 closing_some : (r : Rules) (fs : List Frame) (last rest front : List ℕ) (es : List e.Event) → 0 < length last → IsClosingIn r fs last rest front es →
@@ -97,7 +97,7 @@ behind_at AtTextEnd s front es c w = inr (omega (
   ap length w.whole,
   longer_around w.frames w.bytes,
   ap length w.took.whole,
-  text_least (leaf w.took.leaf),
+  text_at_least (leaf w.took.leaf),
 ))
 behind_at AtCloseCr s front es c w = inr (closing_some (rules_of s) s.frames (46 ∷ []) (13 ∷ 10 ∷ []) front es (omega arith) w)
 behind_at AtCloseLf s front es c w = inr (closing_some (rules_of s) s.frames (46 ∷ 13 ∷ []) (10 ∷ []) front es (omega arith) w)
@@ -111,7 +111,7 @@ front_or_behind s front es c w = behind_at s.token s front es c w
 
 -- a scanner stands between two values exactly where no byte of a value was taken
 pub between_values : (s : Place) (front : List ℕ) (es : List e.Event) → IsSound s → HasRead s front es → ((s.token ≡ AtStart) × (s.frames ≡ [])) ↔ (front ≡ [])
-between_values s front es c w = (λ h. none_taken s.token s.frames h.0 h.1 w.lies, λ e. case e (front_or_behind s front es c w.lies))
+between_values s front es c w = (λ h. none_taken s.token s.frames h.0 h.1 w.stands, λ e. case e (front_or_behind s front es c w.stands))
   where
     none_taken : (t : Token) (fs : List Frame) → t ≡ AtStart → fs ≡ [] → StandsAfterAt (rules_of s) t fs front es → front ≡ []
     none_taken t fs e d l = top (subst (λ x. AwaitsMember (rules_of s) x front es) d (subst (λ x. StandsAfterAt (rules_of s) x fs front es) e l))
@@ -130,7 +130,7 @@ between_values s front es c w = (λ h. none_taken s.token s.frames h.0 h.1 w.lie
 -- and in another version, then
 pub follows_none : (s : Place) → s.token ≡ AtStart → s.frames ≡ [] → s.taken ≡ 0 → HasRead s [] []
 follows_none s e d z = record {
-  lies = subst (λ x. StandsAfterAt (rules_of s) x s.frames [] []) (sym e)
+  stands = subst (λ x. StandsAfterAt (rules_of s) x s.frames [] []) (sym e)
       (subst (λ x. AwaitsMember (rules_of s) x [] []) (sym d) (record { frames = []; begun = tt; of_levels = tt; ready = tt; whole = refl; told = refl }));
   taken = z;
 }
@@ -139,7 +139,7 @@ follows_none s e d z = record {
 
 spelled_where_none : (s : Place) (front : List ℕ) (es : List e.Event) → IsSound s → HasRead s front es → needed s ≡ 0 → IsSpelled (rules_of s) front
 spelled_where_none s front es c w none =
-    let least = least_is_needed s 0 front es c w.lies in
+    let least = least_is_needed s 0 front es c w.stands in
     let h = least.holds in
     let empty : front ++ least.some ≡ front = ap (λ z. front ++ z) (none-of-length least.some (least.size ∙ none)) ∙ append-nil front in
     record {
@@ -150,7 +150,7 @@ spelled_where_none s front es c w none =
 
 none_where_spelled : (s : Place) (front : List ℕ) (es : List e.Event) → IsSound s → HasRead s front es → IsSpelled (rules_of s) front → needed s ≡ 0
 none_where_spelled s front es c w x =
-    let least = least_is_needed s 0 front es c w.lies in
+    let least = least_is_needed s 0 front es c w.stands in
     let h = least.holds in
     let u = unique x.tree h.tree least.some [] x.spells.is_tree h.spells.is_tree (ap (λ z. z ++ least.some) x.spells.spelled ∙ sym h.spells.spelled ∙
     sym (append-nil (text h.tree))) in
@@ -171,7 +171,7 @@ end_at (Dead c) s h = absurd (h c refl)
 end_at t s h = refl
 
 end_is : (s : Place) (front : List ℕ) (es : List e.Event) → HasRead s front es → end_cause s ≡ ends_by s
-end_is s front es w = end_at s.token s (λ c e. alive s front es c w.lies e)
+end_is s front es w = end_at s.token s (λ c e. alive s front es c w.stands e)
 
 -- the end is refused exactly inside a value
 pub end_told : (s : Place) (front : List ℕ) (es : List e.Event) → IsSound s → HasRead s front es → (MayEnd (rules_of s) front → end_cause s ≡ None) ×
@@ -290,4 +290,4 @@ changed (Err x) s t version front es sound between is w = tt
 
 -- the events given are the first of those due
 pub begin_due : (s : Place) (front : List ℕ) (es : List e.Event) → IsSound s → HasRead s front es → BeginDue front es
-begin_due s front es sound w rest whole spells = (events_owed s, events_are_due s 0 front es sound w.lies rest whole spells)
+begin_due s front es sound w rest whole spells = (events_owed s, events_are_due s 0 front es sound w.stands rest whole spells)

@@ -30,12 +30,12 @@ use Rattle.resp_scan.proofs.HeadMoves.ChunkHeadsLead as chunk_head
 use Rattle.resp_scan.proofs.HeadMoves.ChunkHeadsLead.{returned_needed}
 use Rattle.resp_scan.proofs.TokenMoves.ChunksBegun.{are_whole}
 use Rattle.resp_scan.proofs.HeadMoves.CountsLead as count
-use Rattle.resp_scan.proofs.HeadMoves.HeadsLead.{aggregate_row, end_row, stream_row}
+use Rattle.resp_scan.proofs.HeadMoves.HeadsLead.{aggregate_row, end_row, stream_row, attribute_row}
 use Rattle.resp_scan.proofs.TokenMoves.LinesLead.{line_row}
 use Rattle.resp_scan.proofs.TokenMoves.LiteralsLead.{null_first_row}
 use Rattle.resp_scan.proofs.TokenMoves.NumbersLead.{begun_row, int_row}
 use Rattle.resp_scan.proofs.HeadMoves.OpensLead as opens
-use Rattle.resp_scan.proofs.TokenMoves.StartLeads.{aggregate_row_of_attr, star_row}
+use Rattle.resp_scan.proofs.TokenMoves.StartLeads.{star_row}
 use Rattle.resp_scan.proofs.HeadMoves.StringHeads.{bulk, bulk_error, verbatim}
 use Rattle.resp_scan.proofs.TokenMoves.StringLengthEndsLead as string
 use Rattle.resp_fronts.specs.Tokens.{zeros}
@@ -59,7 +59,7 @@ head_row r (head.Chunk room) level bytes shown c w = by_bytes w.are (chunk_mark_
 head_row r head.Array level bytes shown c w = absurd w
 head_row r head.Set level bytes shown c w = aggregate_row r d.Set level bytes shown refl w
 head_row r head.Map level bytes shown c w = aggregate_row r d.Map level bytes shown refl w
-head_row r head.Attr level bytes shown c w = aggregate_row_of_attr r level bytes shown w
+head_row r head.Attr level bytes shown c w = attribute_row r level bytes shown w
 head_row r head.Push level bytes shown c w = aggregate_row r d.Push level bytes shown refl w
 
 digits_row : (r : Rules) (h : Head) (n level : ℕ) (bytes : List ℕ) (shown : List Event) → AreBounds r.limits → HeadCounts r h n level bytes shown →

@@ -1,5 +1,5 @@
 -- The contract of a step in words of texts and trees.
-use Rattle.std.specs.Prelude.{Bool, true, false, cond, nat_lt, take, drop, get_or, eqb, Option, None, Some, Result, Ok, Err, IfOk, IfErr}
+use Rattle.std.specs.Prelude.{Bool, true, false, cond, nat_lt, take, drop, get_or, eqb, Option, None, Some, Result, Ok, Err, IfOk, IfErr, IfNone}
 use Rattle.std.proofs.Common.{◌≡◌, ℕ, ◌+◌, ◌-◌, ◌*◌, ◌<◌, ◌≤◌, List, [], ◌∷◌, ◌++◌, length, refl, sym, ap, subst, ◌∙◌, arith, append_assoc, append-nil, length-append}
 use Rattle.std.proofs.lemmas.Bool.{false≢true}
 use Rattle.std.proofs.lemmas.Grind.{common_steps}
@@ -19,10 +19,10 @@ use Rattle.resp_scan.specs.declared.event.Step.{Step}
 use Rattle.resp_scan.specs.declared.event.Fault.{Fault}
 use Rattle.resp_scan.specs.declared.frame.Frame.{Frame}
 use Rattle.resp_scan.specs.Machine.Tokens as k
-use Rattle.resp_scan.specs.Machine.Tokens.{Happening, Place, Token, after_end, at, AtStart, AtEnd, InLine, AtLineLf, AtIntSign, AtIntFirst, InInt, AtIntLf, AtBigSign, AtBigFirst, InBigZeros, AtBigZeroLf, AtBigDigit, InBig, AtTextEnd, AtNullOne, AtNullCr, AtNullLf, AtBool, AtBoolCr, AtBoolLf, AtBulkHead, AtArrayHead, AtHead, InHead, AtHeadLf, AtFormat, AtFormatSecond, AtFormatThird, AtFormatColon, InContent, AtContentCr, AtContentLf, AtStreamCr, AtStreamLf, AtChunk, InChunk, AtChunkCr, AtChunkLf, AtOpenCr, AtOpenLf, AtCloseCr, AtCloseLf, Dead}
+use Rattle.resp_scan.specs.Machine.Tokens.{Happening, Place, Token, at_boundary, at, AtStart, AtEnd, InLine, AtLineLf, AtIntSign, AtIntFirst, InInt, AtIntLf, AtBigSign, AtBigFirst, InBigZeros, AtBigZeroLf, AtBigDigit, InBig, AtTextEnd, AtNullOne, AtNullCr, AtNullLf, AtBool, AtBoolCr, AtBoolLf, AtBulkHead, AtArrayHead, AtHead, InHead, AtHeadLf, AtFormat, AtFormatSecond, AtFormatThird, AtFormatColon, InContent, AtContentCr, AtContentLf, AtStreamCr, AtStreamLf, AtChunk, InChunk, AtChunkCr, AtChunkLf, AtOpenCr, AtOpenLf, AtCloseCr, AtCloseLf, Dead}
 use Rattle.resp_scan.specs.Machine.Scan.{Out, More, Gave, Part, Whole, Bad, out_from, out_from_token, out_at_end, scan}
 use Rattle.resp_scan.specs.Parts.{IsPartOf, IsOfPiece, IsRun}
-use Rattle.resp_scan.specs.Machine.StepOutcomes.{after_bytes, out_of_step, out_of_event, out_of_part, after_step}
+use Rattle.resp_scan.specs.Machine.StepOutcomes.{out_of_step, out_of_event, out_of_part, after_step}
 use Rattle.resp_scan.specs.Kinds.{IsRefusedFor, content_events, event_of, rules_of}
 use Rattle.resp_scan.specs.declared.machine.Head.{Head}
 use Rattle.resp_scan.specs.declared.machine.Head.TheVariants as head
@@ -31,7 +31,9 @@ use Rattle.resp_scan.specs.Machine.Sound.{IsTokenSound, IsSound, IsSoundBy, need
 use Rattle.resp_scan.specs.Machine.Owed.{events_owed_at}
 use Rattle.resp_scan.specs.Machine.Standing as f
 use Rattle.resp_scan.specs.Machine.Standing.{AwaitsMember, HasCountsOf, HasEnded, StandsAfter, StandsAfterAt}
-use Rattle.resp_scan.specs.Reading.{AreDue, HasRead, Heard, HasNoValue, IsRefused, IsValue, Stepped, events_of}
+use Rattle.resp_scan.specs.Reading.{AreDue, EndsValue, HasNoValue, HasRead, IfDone, IfNoEvent, IfOtherEvent, IsRefused, IsValue, OnDone, OnOtherEvent, UsesUp, events_of}
+use Rattle.resp_scan.proofs.DueEvents.GivenCounts.{no_done_given}
+use Rattle.resp_scan.proofs.CallClauses.NoValue.{no_spelling, no_value}
 use Rattle.resp_scan.proofs.TokenMoves.EachLeads.{IsLookedAt}
 use Rattle.resp_scan.proofs.DueEvents.EventsDue.{events_are_due}
 use Rattle.resp_scan.proofs.CallClauses.Heard.{Came, RefusedAt, came_scan}
@@ -42,6 +44,7 @@ use Rattle.resp_scan.proofs.TokenMoves.ClosesLead.{close_is_owed}
 use Rattle.resp_scan.proofs.CallClauses.LeastNeeded.{least_is_needed, followed_is_viable}
 use Rattle.resp_scan.proofs.Soundness.Sound.{is_outside}
 use Rattle.resp_scan.proofs.TokenMoves.Choices.{if_below, if_equal, if_within}
+use Rattle.resp_scan.proofs.Soundness.Counted.{sound_counted}
 
 -- What is owed, or what comes of the piece.
 
@@ -81,7 +84,7 @@ at_top r = record { frames = []; begun = tt; of_levels = tt; ready = tt; whole =
 closed : (s : Place) (fs : List Frame) (front : List ℕ) (es : List e.Event) (p : List ℕ) → HasEnded (rules_of s) fs front es →
     Answered (rules_of s) front es p (out_at_end (record s { token = AtEnd; frames = fs }) fs)
 closed s [] front es p w = (w, at_top (rules_of s))
-closed s (x ∷ fs) front es p w = gives_owed (rules_of s) front es p k.Close (after_end (record s { token = AtEnd; frames = fs }))
+closed s (x ∷ fs) front es p w = gives_owed (rules_of s) front es p k.Close (at_boundary (record s { token = AtEnd; frames = fs }))
     (close_is_owed s x fs front es w)
 
 scanned : (s : Place) (front : List ℕ) (es : List e.Event) (p : List ℕ) → IsText p → IsSound s → s.taken ≡ length front → StandsAfter s front es →
@@ -96,7 +99,7 @@ inside t e h = absurd (false≢true (sym e ∙ h))
 answered_at : (t : Token) (s : Place) (front : List ℕ) (es : List e.Event) (p : List ℕ) → IsText p → IsSound (at s t) → s.taken ≡ length front →
     StandsAfter (at s t) front es → Answered (rules_of s) front es p (out_from_token t (at s t) p)
 answered_at AtEnd s front es p text sound taken w = closed s s.frames front es p w
-answered_at AtTextEnd s front es p text sound taken w = gives_owed (rules_of s) front es p k.TextEnd (after_end s) (text_end_is_owed s front es w)
+answered_at AtTextEnd s front es p text sound taken w = gives_owed (rules_of s) front es p k.TextEnd (at_boundary s) (text_end_is_owed s front es w)
 answered_at (AtBigDigit digit room) s front es p text sound taken w =
     gives_owed (rules_of s) front es p (k.Digit digit) (at s (InBig room)) (big_digit_is_owed s digit room front es w)
 answered_at (Dead c) s front es p text sound taken w = absurd w.took
@@ -166,21 +169,9 @@ Shown s front es p (Whole t) = (t.taken ≡ 0) × f.IsWholeValue (rules_of s) fr
 Shown s front es p (Bad n c t) = (t.taken ≡ s.taken + n) × (n < length p) × (byte : ℕ) × (rest : List ℕ) × (p ≡ take n p ++ byte ∷ rest) ×
     RefusedAt (rules_of s) (front ++ take n p) es byte n c
 
--- a piece's bytes are those of the value
-sound_after : (n : ℕ) (t : Place) → IsSoundBy n t → IsSound (after_bytes n t)
-sound_after n t h = record {
-  bounds = h.bounds;
-  nested = h.nested;
-  counted = h.counted;
-  frames_need = h.frames_need;
-  total = omega (arith, h.total);
-  token =
-      h.token;
-}
-
 shown : (s : Place) (front : List ℕ) (es : List e.Event) (p : List ℕ) (o : Out) → IsOut s o → Answered (rules_of s) front es p o →
     Shown s front es p (after_step o)
-shown s front es p (More n t) h a = (a.0, ap (λ x. x + n) h.taken, sound_after n t h.sound, h.rules, a.1, a.2)
+shown s front es p (More n t) h a = (a.0, ap (λ x. x + n) h.taken, sound_counted t n h.sound, h.rules, a.1, a.2)
 shown s front es p (Gave n x t) h a = (a.0, ap (λ x. x + n) h.0.taken, a.1)
 shown s front es p (Part k n t) h a = (a.0, a.1, ap (λ x. x + n) h.taken, a.2)
 shown s front es p (Whole t) h a = (h.1, a.0, a.1)
@@ -189,7 +180,7 @@ shown s front es p (Bad n c t) h (within, byte, rest, parts, w) = (ap (λ x. x +
 follows : (s t : Place) (front : List ℕ) (es : List e.Event) (p : List ℕ) (n : ℕ) → s.taken ≡ length front → n ≤ length p → t.taken ≡ s.taken + n →
     StandsAfter t (front ++ take n p) es → HasRead t (front ++ take n p) es
 follows s t front es p n taken within counts w = record {
-  lies = w;
+  stands = w;
   taken =
       omega (arith, taken, counts, length-append front (take n p), length-front n p (omega (arith, within)));
 }
@@ -219,98 +210,6 @@ value_is s front es fits w = record {
   told = w.told;
 }
 
--- bytes that something must follow spell nothing, and no front of theirs that ends in the piece does
-no_value : (r : Rules) (front piece : List ℕ) (needed : ℕ) → IsLeast r (front ++ piece) needed → 0 < needed → HasNoValue front piece
-no_value r front piece needed least some n tree within spells =
-    let h = least.holds in
-    let rest = drop (n + 1) piece in
-    let parts : (front ++ take (n + 1) piece) ++ (rest ++ least.some) ≡ (front ++ piece) ++ least.some =
-    append_assoc front (take (n + 1) piece) (rest ++ least.some) ∙
-    ap (λ z. front ++ z) (sym (append_assoc (take (n + 1) piece) rest least.some) ∙ ap (λ z. z ++ least.some) (whole_piece (n + 1) piece)) ∙
-    sym (append_assoc front piece least.some) in
-    let u = unique tree h.tree (rest ++ least.some) [] spells.is_tree h.spells.is_tree (ap (λ z. z ++ (rest ++ least.some)) spells.spelled ∙ parts ∙
-    sym h.spells.spelled ∙ sym (append-nil (text h.tree))) in
-    let none : length (rest ++ least.some) ≡ 0 = ap length u.1 in
-    omega (arith, none, length-append rest least.some, least.size, some)
-  where
-    whole_piece : (n : ℕ) (p : List ℕ) → take n p ++ drop n p ≡ p
-    whole_piece n p = grind (arith, common_steps)
-
--- A byte is needed wherever bytes are looked at.
-
-first_some : (h : Head) → 0 < first_needed h
-first_some head.Bulk = omega arith
-first_some head.BulkError = omega arith
-first_some head.Verbatim = omega arith
-first_some (head.Chunk room) = omega arith
-first_some head.Array = omega arith
-first_some head.Set = omega arith
-first_some head.Map = omega arith
-first_some head.Attr = omega arith
-first_some head.Push = omega arith
-
-two_behind : (h : Head) (n : ℕ) → 2 ≤ head_needed h n
-two_behind head.Bulk n = omega arith
-two_behind head.BulkError n = omega arith
-two_behind head.Verbatim n = if_equal n 0 (λ x. 2 ≤ cond x 9 (cond (nat_lt n 4) (n * 10 + 5) (n + 4))) (λ z. omega arith)
-    (λ z. if_below n 4 (λ x. 2 ≤ cond x (n * 10 + 5) (n + 4)) (λ y. omega arith) (λ y. omega arith))
-two_behind (head.Chunk room) n = if_equal n 0 (λ x. 2 ≤ cond x 2 (n + 8)) (λ z. omega arith) (λ z. omega arith)
-two_behind head.Array n = omega arith
-two_behind head.Set n = omega arith
-two_behind head.Map n = omega arith
-two_behind head.Attr n = omega arith
-two_behind head.Push n = omega arith
-
-some_needed : (t : Token) (depth : ℕ) (fs : List Frame) → IsTokenSound t depth fs → is_outside t ≡ false → 0 < token_needed t depth fs
-some_needed AtStart depth fs f e = absurd (false≢true (sym e))
-some_needed AtEnd depth fs f e = absurd (false≢true (sym e))
-some_needed AtTextEnd depth fs f e = absurd (false≢true (sym e))
-some_needed (AtBigDigit digit room) depth fs f e = absurd (false≢true (sym e))
-some_needed (Dead cause) depth fs f e = absurd (false≢true (sym e))
-some_needed (InLine room) depth fs f e = omega arith
-some_needed AtLineLf depth fs f e = omega arith
-some_needed AtIntSign depth fs f e = omega arith
-some_needed (AtIntFirst negative) depth fs f e = omega arith
-some_needed (InInt negative n) depth fs f e = omega arith
-some_needed (AtIntLf negative n) depth fs f e = omega arith
-some_needed AtBigSign depth fs f e = omega arith
-some_needed (AtBigFirst negative) depth fs f e = omega arith
-some_needed (InBigZeros negative) depth fs f e = omega arith
-some_needed AtBigZeroLf depth fs f e = omega arith
-some_needed (InBig room) depth fs f e = omega arith
-some_needed AtNullOne depth fs f e = omega arith
-some_needed AtNullCr depth fs f e = omega arith
-some_needed AtNullLf depth fs f e = omega arith
-some_needed AtBool depth fs f e = omega arith
-some_needed (AtBoolCr x) depth fs f e = omega arith
-some_needed (AtBoolLf x) depth fs f e = omega arith
-some_needed AtBulkHead depth fs f e = omega arith
-some_needed AtArrayHead depth fs f e = if_within depth (length fs) (λ x. 0 < cond x 4 3) (λ z. omega arith) (λ z. omega arith)
-some_needed (AtHead h) depth fs f e = first_some h
-some_needed (InHead h n) depth fs f e = omega (arith, two_behind h n)
-some_needed (AtHeadLf h n) depth fs f e = omega (arith, two_behind h n)
-some_needed (AtFormat n) depth fs f e = omega arith
-some_needed (AtFormatSecond x n) depth fs f e = omega arith
-some_needed (AtFormatThird x y n) depth fs f e = omega (arith, f)
-some_needed (AtFormatColon format n) depth fs f e = omega (arith, f)
-some_needed (InContent n) depth fs f e = omega arith
-some_needed AtContentCr depth fs f e = omega arith
-some_needed AtContentLf depth fs f e = omega arith
-some_needed AtStreamCr depth fs f e = omega arith
-some_needed AtStreamLf depth fs f e = omega arith
-some_needed (AtChunk room) depth fs f e = omega arith
-some_needed (InChunk room n) depth fs f e = omega arith
-some_needed (AtChunkCr room) depth fs f e = omega arith
-some_needed (AtChunkLf room) depth fs f e = omega arith
-some_needed (AtOpenCr o) depth fs f e = omega arith
-some_needed (AtOpenLf o) depth fs f e = omega arith
-some_needed AtCloseCr depth fs f e = omega arith
-some_needed AtCloseLf depth fs f e = omega arith
-
--- behind a byte, a token at which bytes are looked at is inside
-is_inside : (t : Token) (n : ℕ) → IsLookedAt t n → 0 < n → is_outside t ≡ false
-is_inside t n h some = elim (is_outside t) as (λ x. is_outside t ≡ x → x ≡ false) [ true ↦ λ e. absurd (omega (arith, some, (h e).1)) | false ↦ λ e. refl ] refl
-
 -- where a byte is looked at nothing is owed
 none_owed : (t : Token) (n : ℕ) (fs : List Frame) → IsLookedAt t n → events_owed_at t fs ≡ []
 none_owed AtEnd n fs h = absurd (let e : AtEnd ≡ AtStart = (h refl).0 in cc)
@@ -326,24 +225,25 @@ all_due : (t : Place) (n : ℕ) (front : List ℕ) (es : List e.Event) → IsSou
 all_due t n front es sound looked w rest whole spells = events_are_due t n front es sound w rest whole spells ∙
     ap (λ z. es ++ z) (none_owed t.token n t.frames looked) ∙ append-nil es
 
--- so a piece that gives no event ends no value
-none_ended : (r : Rules) (t : Place) (front : List ℕ) (es : List e.Event) (p : List ℕ) (n : ℕ) → n ≡ length p → IsSound t → rules_of t ≡ r →
-    IsLookedAt t.token n → StandsAfter t (front ++ p) es → HasNoValue front p
-none_ended r t front es p n all sound rules within w m tree some spells =
-    let needs : 0 < token_needed t.token t.bounds.depth t.frames =
-    some_needed t.token t.bounds.depth t.frames sound.token (is_inside t.token n within (omega (arith, all, some))) in
-    no_value (rules_of t) front p (needed t) (least_is_needed t 0 (front ++ p) es sound w) (omega (arith, needs)) m tree some spells
-
--- the event
+-- What a step comes to, by its event.
+abbrev OutcomeOf : Place → Place → List ℕ → List e.Event → List ℕ → ℕ → Option Event → Type 0
+OutcomeOf s t front es p n None = UsesUp t front es p n
+OutcomeOf s t front es p n (Some event.Done) = EndsValue (rules_of s) t front es n
+OutcomeOf s t front es p n (Some x) = HasRead t (front ++ take n p) (es ++ events_of x)
 
 heard_is : (s t : Place) (front : List ℕ) (es : List e.Event) (p : List ℕ) (n : ℕ) (x : Option Event) → s.taken ≡ length front → length front ≤ s.bounds.total →
-    IsPartOf p n x → Shown s front es p (out_of_event n x t) → Heard (rules_of s) t front es p n x
-heard_is s t front es p n None taken fits part h = (
-  h.0,
-  none_ended (rules_of s) t front es p n h.0 h.2 h.3 h.4 h.5,
-  all_due t 0 (front ++ p) es h.2 (looked_on t.token n h.4) h.5,
-  record { lies = h.5; taken = omega (arith, taken, h.1, h.0, length-append front p) },
-)
+    IsPartOf p n x → Shown s front es p (out_of_event n x t) →
+    OutcomeOf s t front es p n x
+heard_is s t front es p n None taken fits part h =
+    let reads : HasRead t (front ++ p) es = record { stands = h.5; taken = omega (arith, taken, h.1, h.0, length-append front p) } in
+    let due = all_due t 0 (front ++ p) es h.2 (looked_on t.token n h.4) h.5 in
+    record {
+      whole_piece = h.0;
+      no_value = no_value (rules_of t) (front ++ p) es (followed_is_viable t 0 (front ++ p) es h.2 (omega (arith, reads.taken)) h.5) due
+          (no_done_given t (front ++ p) es h.5);
+      all_due = due;
+      reads = reads;
+    }
 heard_is s t front es p n (Some event.Null) taken fits part h = follows s t front (es ++ e.Null ∷ []) p n taken h.0 h.1 h.2
 heard_is s t front es p n (Some (event.Bool x)) taken fits part h = follows s t front (es ++ e.Bool x ∷ []) p n taken h.0 h.1 h.2
 heard_is s t front es p n (Some (event.Int x)) taken fits part h = follows s t front (es ++ e.Int x ∷ []) p n taken h.0 h.1 h.2
@@ -354,7 +254,7 @@ heard_is s t front es p n (Some (event.Open x c)) taken fits part h = follows s 
 heard_is s t front es p n (Some event.Close) taken fits part h = follows s t front (es ++ e.Close ∷ []) p n taken h.0 h.1 h.2
 heard_is s t front es p n (Some event.Done) taken fits part h =
     let z : t.taken + n ≡ 0 = h.0 in
-    (omega (arith, z), value_is s front es fits h.1, record { lies = h.2; taken = omega (arith, z) })
+    record { no_byte = omega (arith, z); is_value = value_is s front es fits h.1; reads = record { stands = h.2; taken = omega (arith, z) } }
 
 -- A fault.
 
@@ -371,25 +271,77 @@ refused_is s t front es p fault taken at_taken (counted, within, byte, rest, par
       length-append front (take n p),
       length-front n p (omega (arith, within)),
     ) in
+    let here : take fault.at (front ++ p) ≡ front ++ take n p =
+    ap (take fault.at) before ∙ front-append fault.at (front ++ take n p) (byte ∷ rest) size in
+    let viable : IsViable (rules_of s) WithinTotal (front ++ take n p) = subst (λ r. IsViable r WithinTotal (front ++ take n p)) w.rules
+    (followed_is_viable w.before n (front ++ take n p) es w.sound w.taken w.stands) in
+    let due = all_due w.before n (front ++ take n p) es w.sound w.looked w.stands in
+    let refused : IsRefusedFor (rules_of s) (take (fault.at + 1) (front ++ p)) fault.cause = subst (λ z. IsRefusedFor (rules_of s) z fault.cause)
+    (sym (ap (take (fault.at + 1)) before ∙ front-one-more fault.at (front ++ take n p) byte rest size)) w.cause in
     record {
-      behind = omega (arith, taken, at_taken, counted);
-      within = omega (arith, taken, at_taken, counted, within, length-append front p);
-      viable = subst (IsViable (rules_of s) WithinTotal) (sym (ap (take fault.at) before ∙ front-append fault.at (front ++ take n p) (byte ∷ rest) size))
-          (subst (λ r. IsViable r WithinTotal (front ++ take n p)) w.rules (followed_is_viable w.before n (front ++ take n p) es w.sound w.taken w.lies));
-      told = subst (λ z. AreDue z es) (sym (ap (take fault.at) before ∙ front-append fault.at (front ++ take n p) (byte ∷ rest) size))
-          (all_due w.before n (front ++ take n p) es w.sound w.looked w.lies);
-      refused = subst (λ z. IsRefusedFor (rules_of s) z fault.cause)
-          (sym (ap (take (fault.at + 1)) before ∙ front-one-more fault.at (front ++ take n p) byte rest size)) w.cause;
+      in_piece = omega (arith, taken, at_taken, counted);
+      before_end = omega (arith, taken, at_taken, counted, within, length-append front p);
+      viable = subst (IsViable (rules_of s) WithinTotal) (sym here) viable;
+      refused = refused;
+      all_due = subst (λ z. AreDue z es) (sym here) due;
+      no_value = no_spelling (rules_of s) (front ++ p) fault.at fault.cause (subst HasNoValue (sym here)
+          (no_value (rules_of s) (front ++ take n p) es viable due (no_done_given w.before (front ++ take n p) es w.stands))) refused;
     }
+
+abbrev pub Outcome : Place → Place → List ℕ → List e.Event → List ℕ → Result Step Fault → Type 0
+Outcome s t front es p (Ok step) = OutcomeOf s t front es p step.used step.event
+Outcome s t front es p (Err fault) = IsRefused (rules_of s) front es p fault
 
 -- What a step answers.
 pub stepped_is : (result : Result Step Fault) (s t : Place) (front : List ℕ) (es : List e.Event) (p : List ℕ) → IsText p → IsSound s →
     out_of_step s.taken result t ≡ after_step (out_from s p) → IfOk result (λ step. IsOfPiece p step) →
-    IfErr result (λ fault. (fault.at ≡ t.taken) × (t.token ≡ Dead fault.cause)) → HasRead s front es → Stepped s t front es p result
+    IfErr result (λ fault. (fault.at ≡ t.taken) × (t.token ≡ Dead fault.cause)) → HasRead s front es →
+    Outcome s t front es p result
 stepped_is (Ok step) s t front es p text sound h part fault w =
     let fits : length front ≤ s.bounds.total = omega (arith, w.taken, sound.total) in
     heard_is s t front es p step.used step.event w.taken fits part
-    (subst (Shown s front es p) (sym h) (shown s front es p (out_from s p) (is_advanced s p sound) (answered s front es p text sound w.taken w.lies)))
+    (subst (Shown s front es p) (sym h) (shown s front es p (out_from s p) (is_advanced s p sound) (answered s front es p text sound w.taken w.stands)))
 stepped_is (Err x) s t front es p text sound h part fault w =
     refused_is s t front es p x w.taken fault.0
-    (subst (Shown s front es p) (sym h) (shown s front es p (out_from s p) (is_advanced s p sound) (answered s front es p text sound w.taken w.lies)))
+    (subst (Shown s front es p) (sym h) (shown s front es p (out_from s p) (is_advanced s p sound) (answered s front es p text sound w.taken w.stands)))
+
+-- The clauses.
+
+-- no event
+pub if_no_event : (result : Result Step Fault) (s t : Place) (front : List ℕ) (es : List e.Event) (p : List ℕ) → Outcome s t front es p result →
+    IfNoEvent result (UsesUp t front es p)
+if_no_event (Err fault) s t front es p h = tt
+if_no_event (Ok step) s t front es p h = by_event step.event h
+  where
+    by_event : (x : Option Event) → OutcomeOf s t front es p step.used x → IfNone x (UsesUp t front es p step.used)
+    by_event None h = h
+    by_event (Some x) h = tt
+
+-- a value whole
+pub if_done : (result : Result Step Fault) (s t : Place) (front : List ℕ) (es : List e.Event) (p : List ℕ) → Outcome s t front es p result →
+    IfDone result (EndsValue (rules_of s) t front es)
+if_done (Err fault) s t front es p h = tt
+if_done (Ok step) s t front es p h = by_event step.event h
+  where
+    by_event : (x : Option Event) → OutcomeOf s t front es p step.used x → OnDone x (EndsValue (rules_of s) t front es step.used)
+    by_event None h = tt
+    by_event (Some event.Done) h = h
+    by_event (Some x) h = tt
+
+-- another event
+pub if_other_event : (result : Result Step Fault) (s t : Place) (front : List ℕ) (es : List e.Event) (p : List ℕ) → Outcome s t front es p result →
+    IfOtherEvent result (λ used x. HasRead t (front ++ take used p) (es ++ events_of x))
+if_other_event (Err fault) s t front es p h = tt
+if_other_event (Ok step) s t front es p h = by_event step.event h
+  where
+    by_event : (x : Option Event) → OutcomeOf s t front es p step.used x →
+        OnOtherEvent x (λ other. HasRead t (front ++ take step.used p) (es ++ events_of other))
+    by_event None h = tt
+    by_event (Some event.Done) h = tt
+    by_event (Some x) h = h
+
+-- a refusal
+pub if_refused : (result : Result Step Fault) (s t : Place) (front : List ℕ) (es : List e.Event) (p : List ℕ) → Outcome s t front es p result →
+    IfErr result (IsRefused (rules_of s) front es p)
+if_refused (Err fault) s t front es p h = h
+if_refused (Ok step) s t front es p h = tt

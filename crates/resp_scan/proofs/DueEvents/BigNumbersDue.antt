@@ -9,19 +9,19 @@ use Rattle.resp_value.specs.Rules.{Rules}
 use Rattle.resp_value.specs.Trees as t
 use Rattle.resp_value.specs.Trees.{Tree, IsTree, leaf, node, line, numeral, null, truth, string, chunked, leaf_text, text}
 use Rattle.resp_value.proofs.FirstBytes.{first_byte, first_byte_is}
-use Rattle.resp_value.proofs.FirstLines.{after_line, first_line, sort, sort_is}
+use Rattle.resp_value.proofs.FirstLines.{after_line, first_line, sort_of-line}
 use Rattle.resp_fronts.specs.Events as e
 use Rattle.resp_fronts.specs.Events.{Event, big_events, events_due, events, last_of, leaf_events}
-use Rattle.resp_fronts.proofs.FirstLines.BegunLines.{line_begins, number-more, text_first}
+use Rattle.resp_fronts.proofs.FirstLines.BegunLines.{line_begins, text_first}
 use Rattle.resp_fronts.proofs.Refusals.BrokenHeads.{sort_of_signed}
 use Rattle.resp_fronts.proofs.EventLaws.EventsDue.{AreFrom, due_none}
 use Rattle.resp_fronts.proofs.FirstLines.FirstLineRows.{number_line, tree_of_numeral}
 use Rattle.resp_scan.specs.Machine.Beginnings.{BigBegun, BigShown, ZeroReturned}
-use Rattle.resp_scan.proofs.DueEvents.FewEvents.{length-stripped}
 use Rattle.resp_scan.proofs.DueEvents.InsideDue.{AreDueWithin}
 use Rattle.resp_scan.proofs.DueEvents.LinesDue.{returned_is, returned_last}
 use Rattle.resp_scan.proofs.DueEvents.TextsDue.{bytes_later, due_text, text_later}
 use Rattle.resp_fronts.specs.Tokens.{IsNumberBegun}
+use Rattle.resp_value.proofs.DigitLemmas.{number-more, length-significant_digits}
 
 length_of : (sign : Sign) (digits : List ℕ) → length (leaf_text (numeral t.Big sign digits)) ≡ length (sign_text sign) + length digits + 3
 length_of sign digits = omega (arith, length-append (40 ∷ (sign_text sign ++ digits)) (crlf []), length-append (sign_text sign) digits)
@@ -109,7 +109,7 @@ big_begun_due r sign level bytes shown w told from value behind is_tree whole =
       within,
       ap length w.1,
       ap length (append-nil (sign_text sign)),
-      length-stripped digits,
+      length-significant_digits digits,
     )))
     ∙ sym told
 
@@ -126,7 +126,7 @@ big_goes_on r negative kept level bytes w value behind is_tree whole =
     h ∙ ap (λ z. 40 ∷ z) (append_assoc (sign_text w.sign) (w.first ∷ w.digits) l) in
     let digit = w.token.are_digits.1.0 in (
       l,
-      tree_of_numeral value t.Big w.sign (w.first ∷ (w.digits ++ l)) (sym (sort_is value is_tree) ∙ ap sort first ∙
+      tree_of_numeral value t.Big w.sign (w.first ∷ (w.digits ++ l)) (sort_of-line value is_tree first ∙
           sort_of_signed t.Big w.sign w.first (w.digits ++ l) (λ i. (λ j. omega (arith, digit.0, j), λ j. omega (arith, digit.0, j)))),
     )
 
@@ -145,7 +145,7 @@ big_zeros_due r negative level bytes shown w told from value behind is_tree whol
       length-append (sign_text w.sign) zeros,
       length-append zeros l,
       ap length (stripped_zeros zeros l w.left),
-      length-stripped l,
+      length-significant_digits l,
     )))
     ∙ sym told
 
@@ -170,7 +170,7 @@ big_shown_due r room level bytes shown w from value behind is_tree whole =
     let n = from + length bytes in
     let last = last_of from (leaf_text (numeral t.Big b.sign (ds ++ l))) in
     let begins = last - 2 - length (w.digits ++ l) in
-    let kept : length (w.digit ∷ w.digits) ≤ length ds = omega (arith, ap length b.left, length-stripped ds) in
+    let kept : length (w.digit ∷ w.digits) ≤ length ds = omega (arith, ap length b.left, length-significant_digits ds) in
     let place : begins + length (w.digit ∷ w.digits) ≡ n = omega (
       arith,
       kept,

@@ -6,7 +6,7 @@ use Rattle.resp_value.specs.Bytes.{crlf}
 use Rattle.resp_value.specs.Numbers.{IsDigits, IsNumber, number}
 use Rattle.resp_value.specs.Rules.{Rules}
 use Rattle.resp_value.specs.Trees.{Chunk, IsChunk, Tree, IsTree, leaf, chunked, chunks_text, joined_content, leaf_text, text}
-use Rattle.resp_value.proofs.FirstLines.{after_line, first_is_line, first_line, sort, sort_is}
+use Rattle.resp_value.proofs.FirstLines.{after_line, first_is_line, first_line, sort_of-line}
 use Rattle.resp_value.proofs.Splitting.{line_split}
 use Rattle.resp_value.proofs.Unique.{chunk_line, chunks_text-append}
 use Rattle.resp_fronts.specs.Events as e
@@ -85,7 +85,7 @@ stream_of : (cs : List Chunk) (begun behind : List ℕ) (value : Tree) → AllBy
 stream_of cs begun behind value are is_tree whole =
     let s = line_split (first_line value) (36 ∷ 63 ∷ []) (after_line value) (chunks_text cs begun ++ behind) (first_is_line value is_tree) mark_line
     (sym (text_first value) ∙ whole) in
-    let u = tree_of_chunked value (sym (sort_is value is_tree) ∙ ap sort s.0) in
+    let u = tree_of_chunked value (sort_of-line value is_tree s.0) in
     let i : IsTree (leaf (chunked u.0 u.1)) = subst IsTree u.2 is_tree in
     let after : chunks_text u.0 (last u.1) ≡ chunks_text cs begun ++ behind = ap after_line (sym u.2) ∙ s.1 in
     let (more, split, chunks, goes_on) = chunks_begin cs u.0 u.1 (begun ++ behind) are i.0 i.1.0 i.1.1 (after ∙ chunks_text-append cs begun behind) in

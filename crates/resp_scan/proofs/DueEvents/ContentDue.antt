@@ -5,7 +5,7 @@ use Rattle.resp_value.specs.Numbers.{IsDigits, number}
 use Rattle.resp_value.specs.Rules.{Rules}
 use Rattle.resp_value.specs.Trees as t
 use Rattle.resp_value.specs.Trees.{Tree, StringKind, HasFormat, IsTree, leaf, string, leaf_text, payload, string_byte, text}
-use Rattle.resp_value.proofs.FirstLines.{after_line, first_is_line, first_line, sort, sort_is}
+use Rattle.resp_value.proofs.FirstLines.{after_line, first_is_line, first_line, sort_of-line}
 use Rattle.resp_value.proofs.Splitting.{length_split, line_split}
 use Rattle.resp_fronts.specs.Events as e
 use Rattle.resp_fronts.specs.Events.{Event, bytes_from, events_due, events, last_of, leaf_events}
@@ -33,7 +33,7 @@ string_of K first digits begun behind value are is_tree whole =
     let line = string_byte K ∷ first ∷ digits in
     let s = line_split (first_line value) line (after_line value) (begun ++ behind) (first_is_line value is_tree) (string_line K (first ∷ digits) are.1)
     (sym (text_first value) ∙ whole ∙ append_assoc line (crlf begun) behind) in
-    let w = is_string value K first digits are.1.0 (sym (sort_is value is_tree) ∙ ap sort s.0) in
+    let w = is_string value K first digits are.1.0 (sort_of-line value is_tree s.0) in
     let i : IsTree (leaf (string w.0 (first ∷ digits) w.1)) = subst IsTree w.3 is_tree in
     record { kind = w.0; content = w.1; byte = w.2; same = w.3; format = i.1; size = i.0.1; goes_on = ap after_line (sym w.3) ∙ s.1 }
 

@@ -1,5 +1,5 @@
 -- A tree has no more events than its text has bytes, and so have the frames of a front.
-use Rattle.std.proofs.Common.{◌≡◌, ℕ, ◌+◌, ◌≤◌, List, [], ◌∷◌, ◌++◌, length, Bool, true, false, cond, eqb, refl, ap, arith, length-append}
+use Rattle.std.proofs.Common.{◌≡◌, ℕ, ◌+◌, ◌≤◌, List, [], ◌∷◌, ◌++◌, length, Bool, refl, ap, arith, length-append}
 use Rattle.resp_value.specs.Bytes.{crlf}
 use Rattle.resp_value.specs.Numbers.{is_below_zero, sign_text, significant_digits}
 use Rattle.resp_value.specs.Trees as t
@@ -8,24 +8,16 @@ use Rattle.resp_fronts.specs.Frames.{Frame, text_around}
 use Rattle.resp_fronts.specs.Events as e
 use Rattle.resp_fronts.specs.Events.{Event, big_events, close_event, events, events_around, events_each, frame_events, without_places, last_of, leaf_events}
 use Rattle.resp_fronts.proofs.EventLaws.EventsAround.{next_member_at}
-use Rattle.resp_fronts.proofs.FrameLaws.LeastAround.{text_least}
 use Rattle.resp_scan.specs.Kinds.{content_events}
 use Rattle.resp_scan.proofs.TokenMoves.LeafEvents.{given-big, given-chunked, given-line, given-string}
 use Rattle.resp_scan.proofs.TokenMoves.Moves.{given-append}
+use Rattle.resp_value.proofs.DigitLemmas.{length-significant_digits}
+use Rattle.resp_value.proofs.DefaultLimits.{text_at_least}
 
 -- one event for each byte of content
 pub length-content : (s : List ℕ) → length (content_events s) ≡ length s
 length-content [] = refl
 length-content (b ∷ s) = omega (arith, length-content s)
-
--- digits without leading zeros are no more
-pub length-stripped : (digits : List ℕ) → length (significant_digits digits) ≤ length digits
-length-stripped [] = omega arith
-length-stripped (d ∷ ds) = cases (eqb d 48) (length-stripped ds)
-  where
-    cases : (b : Bool) → length (significant_digits ds) ≤ length ds → length (cond b (significant_digits ds) (d ∷ ds)) ≤ length (d ∷ ds)
-    cases true h = omega arith
-    cases false h = omega arith
 
 -- a payload has its content in it
 pub content_in_payload : (k : StringKind) (s : List ℕ) → length s ≤ length (payload k s)
@@ -53,17 +45,17 @@ pub leaf_few : (from : ℕ) (l : Leaf) → length (without_places (leaf_events f
 leaf_few from (line t.Simple s) = omega (arith, text_count e.Simple s _ (given-line from t.Simple s tt), length-append s (crlf []))
 leaf_few from (line t.Error s) = omega (arith, text_count e.Error s _ (given-line from t.Error s tt), length-append s (crlf []))
 leaf_few from (line t.Double s) = omega arith
-leaf_few from (numeral t.Int sign digits) = omega (arith, text_least (leaf (numeral t.Int sign digits)))
+leaf_few from (numeral t.Int sign digits) = omega (arith, text_at_least (leaf (numeral t.Int sign digits)))
 leaf_few from (numeral t.Big sign digits) =
     let whole : length (leaf_text (numeral t.Big sign digits)) ≡ length (sign_text sign) + length digits + 3 =
     omega (arith, length-append (40 ∷ (sign_text sign ++ digits)) (crlf []), length-append (sign_text sign) digits) in
-    omega (arith, case (is_below_zero sign digits) (significant_digits digits) (last_of from (leaf_text (numeral t.Big sign digits))), length-stripped digits)
+    omega (arith, case (is_below_zero sign digits) (significant_digits digits) (last_of from (leaf_text (numeral t.Big sign digits))), length-significant_digits digits)
   where
     case : (negative : Bool) (kept : List ℕ) (last : ℕ) → length (without_places (big_events negative kept last)) ≡ length kept + 2
     case negative [] last = refl
     case negative (d ∷ ds) last = text_count (e.Big negative) (d ∷ ds) _ (given-big negative d ds last)
-leaf_few from (null form) = omega (arith, text_least (leaf (null form)))
-leaf_few from (truth b) = omega (arith, text_least (leaf (truth b)))
+leaf_few from (null form) = omega (arith, text_at_least (leaf (null form)))
+leaf_few from (truth b) = omega (arith, text_at_least (leaf (truth b)))
 leaf_few from (string k digits s) = omega (
   arith,
   text_count _ s _ (given-string from k digits s),

@@ -2,24 +2,22 @@
 use Rattle.std.proofs.Common.{◌≡◌, ◌⊎◌, inl, inr, ℕ, ◌+◌, ◌<◌, ◌≤◌, List, [], ◌∷◌, ◌++◌, length, refl, sym, ap, subst, ◌∙◌, arith, append_assoc, append-nil, length-append}
 use Rattle.resp_value.specs.Bytes.{crlf}
 use Rattle.resp_value.specs.Data.{Kind, members_of}
-use Rattle.resp_value.specs.Data as d
 use Rattle.resp_value.specs.Numbers.{number}
 use Rattle.resp_value.specs.Trees as t
 use Rattle.resp_value.specs.Trees.{Tree, Trees, Form, Counted, Streamed, HasMembers, IsTree, close, count, form_line, kind_byte, node, text, texts}
-use Rattle.resp_value.proofs.FirstBytes.{byte_at_start}
 use Rattle.resp_value.proofs.Unique.{not_close}
 use Rattle.resp_fronts.specs.Frames as opened
 use Rattle.resp_fronts.specs.Frames.{text_around, open_text}
 use Rattle.resp_fronts.specs.MayFollow.{AreOpen}
 use Rattle.resp_fronts.specs.Events as e
 use Rattle.resp_fronts.specs.Events.{Timed, all_events, close_event, events_due, events, events_around, events_each, frame_events, without_places, last_of, open_event}
-use Rattle.resp_fronts.proofs.FrameLaws.Composition.{parted, text-node}
+use Rattle.resp_fronts.proofs.FrameLaws.Composition.{parted, text-node, kind_no_stop}
 use Rattle.resp_fronts.proofs.EventLaws.EventPlaces.{AreWithin, each_within, within_wider}
 use Rattle.resp_fronts.proofs.EventLaws.EventsAround.{events_each-joined, length-around, length-open_text}
 use Rattle.resp_fronts.proofs.EventLaws.EventsDue.{AreFrom, BegunIn, due-append, due_all, due_around, due_none, front_events}
-use Rattle.resp_fronts.proofs.FrameLaws.LeastAround.{text_least}
 use Rattle.resp_fronts.proofs.FrameLaws.OpenFrames.{count-joined_trees, is_node, joined_trees}
 use Rattle.resp_scan.proofs.TokenMoves.Moves.{given-append}
+use Rattle.resp_value.proofs.DefaultLimits.{text_at_least}
 
 -- Done comes at the last byte
 pub done_later : (n : ℕ) (whole : Tree) → n < length (text whole) → events_due n (all_events whole) ≡ events_due n (events 0 whole)
@@ -60,13 +58,6 @@ due_in gs begun rest whole b unfinished spelled =
     ∙ due_around gs begun b.value whole b.all unfinished
     ∙ ap (λ n. without_places (events_around gs) ++ events_due n (events (length (text_around gs [])) b.value)) place
 
-kind_no_stop : (k : Kind) (x : List ℕ) → byte_at_start (kind_byte k ∷ x) ≡ 46 → ⊥
-kind_no_stop d.Array x i = omega arith
-kind_no_stop d.Set x i = omega arith
-kind_no_stop d.Map x i = omega arith
-kind_no_stop d.Attr x i = omega arith
-kind_no_stop d.Push x i = omega arith
-
 -- Frames.
 
 -- nothing, or the begin of a close
@@ -100,7 +91,7 @@ unfinished_by : (last : List ℕ) (us : Trees) (form : Form) (behind rest : List
     length last < length (texts us) + length (close form)
 unfinished_by last t.none (Counted digits) behind rest short stop some same = absurd (omega (arith, some digits refl))
 unfinished_by last t.none Streamed behind rest short stop some same = omega (arith, short)
-unfinished_by last (t.more u us) form behind rest short stop some same = omega (arith, short, text_least u, length-append (text u) (texts us))
+unfinished_by last (t.more u us) form behind rest short stop some same = omega (arith, short, text_at_least u, length-append (text u) (texts us))
 
 -- of an aggregate of which a frame has the first members those of the frame are due, and none of the later ones
 node_due : (g : opened.Frame) (us : Trees) (start n : ℕ) → start + length (open_text g) ≤ n →

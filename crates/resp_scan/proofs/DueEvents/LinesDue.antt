@@ -5,24 +5,22 @@ use Rattle.resp_value.specs.Numbers.{is_below_zero, sign_text, significant_digit
 use Rattle.resp_value.specs.Rules.{Rules}
 use Rattle.resp_value.specs.Trees as t
 use Rattle.resp_value.specs.Trees.{Tree, Leaf, LineKind, IsTree, leaf, line, numeral, null, truth, string, chunked, leaf_rest, leaf_text, line_byte, payload, text}
-use Rattle.resp_value.proofs.FirstLines.{after_line, first_is_line, first_line, leaf_of, line_sort, sort, sort_is}
+use Rattle.resp_value.proofs.FirstLines.{after_line, first_is_line, first_line, sort_of-line}
 use Rattle.resp_value.proofs.Unique.{unique}
 use Rattle.resp_fronts.specs.Events as e
 use Rattle.resp_fronts.specs.Events.{Event, TextKind, big_events, events_due, events, without_places, last_of, leaf_events, text_events}
-use Rattle.resp_fronts.proofs.FirstLines.BegunLines.{line_begins, return_split, text_first, tree_of_line}
+use Rattle.resp_fronts.proofs.FirstLines.BegunLines.{line_begins, text_first, tree_of_line}
 use Rattle.resp_fronts.proofs.Tokens.LineTokens.{no_break_in_line, returned_whole, text_token_line}
 use Rattle.resp_scan.specs.Kinds.{content_events}
 use Rattle.resp_scan.specs.Machine.Beginnings.{LineBegun, TextReturned, line_text_kind}
-use Rattle.resp_scan.proofs.DueEvents.FewEvents.{content_in_chunks, length-stripped}
+use Rattle.resp_scan.proofs.DueEvents.FewEvents.{content_in_chunks}
 use Rattle.resp_scan.proofs.DueEvents.InsideDue.{AreDueWithin}
 use Rattle.resp_scan.proofs.TokenMoves.LeafEvents.{given-big, given-line, leaf_told}
 use Rattle.resp_scan.proofs.DueEvents.TextsDue.{bytes_later, due_text}
 use Rattle.resp_fronts.specs.Tokens.{IsReturned, IsTextLine}
-
-sort_of_line : (k : LineKind) (s : List ℕ) → sort (line_byte k ∷ s) ≡ leaf_of (line_sort k s)
-sort_of_line t.Simple s = refl
-sort_of_line t.Error s = refl
-sort_of_line t.Double s = refl
+use Rattle.resp_value.proofs.DigitLemmas.{length-significant_digits}
+use Rattle.resp_value.proofs.Splitting.{return_split}
+use Rattle.resp_fronts.proofs.FirstLines.TextLines.{sort_of_text}
 
 line_due : (from : ℕ) (k : LineKind) (a b : List ℕ) → IsTextLine k → events_due (from + suc (length a)) (leaf_events from (line k (a ++ b))) ≡
     e.Text (line_text_kind k) ∷ content_events a
@@ -45,8 +43,8 @@ line_begun_due r room level bytes shown w from value behind is_tree whole =
     (no_break_in_line r (line k content) level bytes (text_token_line r k w.size level bytes w.token)) in
     let (l, h, behind_is) = line_begins (first_line value) (line_byte k ∷ content) (after_line value) behind is_line (sym (text_first value) ∙ whole ∙
     ap (λ z. z ++ behind) w.token.are) in
-    let same : value ≡ leaf (line k (content ++ l)) = tree_of_line value k (content ++ l) (sym (sort_is value is_tree) ∙ ap sort h ∙
-    sort_of_line k (content ++ l)) in
+    let same : value ≡ leaf (line k (content ++ l)) = tree_of_line value k (content ++ l) (sort_of-line value is_tree h ∙
+    sort_of_text k (content ++ l)) in
     ap (λ z. events_due (from + length z) (events from value)) w.token.are
     ∙ ap (λ z. events_due (from + suc (length content)) (events from z)) same
     ∙ line_due from k content l w.token.is_text_line
@@ -110,7 +108,7 @@ leaf_but_end from (numeral t.Big sign digits) shown p told some =
     let whole : length (leaf_text (numeral t.Big sign digits)) ≡ length (sign_text sign) + length digits + 3 =
     omega (arith, length-append (40 ∷ (sign_text sign ++ digits)) (crlf []), length-append (sign_text sign) digits) in
     case (is_below_zero sign digits) (significant_digits digits) (last_of from (leaf_text (numeral t.Big sign digits)))
-    (omega (arith, length-stripped digits, whole)) told
+    (omega (arith, length-significant_digits digits, whole)) told
   where
     case : (negative : Bool) (kept : List ℕ) (last : ℕ) → length kept + 2 ≤ last → without_places (big_events negative kept last) ≡ shown ++ e.TextEnd ∷ [] →
         events_due last (big_events negative kept last) ≡ shown

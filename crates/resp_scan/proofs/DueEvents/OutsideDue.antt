@@ -5,7 +5,7 @@ use Rattle.std.proofs.lemmas.Bool.{lt-ltb}
 use Rattle.std.proofs.Common.{◌≡◌, inl, inr, ℕ, zero, suc, ◌+◌, ◌<◌, List, [], ◌∷◌, ◌++◌, length, refl, sym, ap, subst, ◌∙◌, arith, append_assoc, append-nil}
 use Rattle.resp_value.specs.Rules.{Rules, WithinItems}
 use Rattle.resp_value.specs.LocalRules.{LeafKeeps, NodeKeeps}
-use Rattle.resp_value.specs.Trees.{Tree, Form, Counted, Streamed, IsTree, close, count, text}
+use Rattle.resp_value.specs.Trees.{Tree, IsTree, count, text}
 use Rattle.resp_value.proofs.Unique.{unique}
 use Rattle.resp_fronts.specs.Frames as opened
 use Rattle.resp_fronts.specs.Frames.{text_around}
@@ -14,19 +14,19 @@ use Rattle.resp_fronts.specs.Events.{Event, Timed, all_events, events_due, event
 use Rattle.resp_fronts.proofs.Between.BetweenValues.{ready_open}
 use Rattle.resp_fronts.proofs.EventLaws.EventPlaces.{events_within, within_wider}
 use Rattle.resp_fronts.proofs.EventLaws.EventsDue.{AreFrom, due-append, due_all, due_none}
-use Rattle.resp_fronts.proofs.FrameLaws.LeastAround.{text_least}
 use Rattle.resp_scan.specs.declared.frame.Frame.{Frame}
 use Rattle.resp_scan.specs.declared.frame.Shape.{Shape}
 use Rattle.resp_scan.specs.declared.frame.Shape.TheVariants.{Left, Begun}
-use Rattle.resp_scan.specs.Machine.Tokens.{Place, AtStart, AtEnd, AtTextEnd, token_within, token_in_shape}
+use Rattle.resp_scan.specs.Machine.Tokens.{Place, AtStart, AtEnd, AtTextEnd, token_at_boundary, token_in_shape}
 use Rattle.resp_scan.specs.Kinds.{rules_of}
 use Rattle.resp_scan.specs.Machine.Standing.{AwaitsMember, IsClosingIn, StandsAfterAt, busy_levels, waiting_levels}
 use Rattle.resp_scan.specs.Machine.Owed.{events_owed_at_end, events_owed_in}
 use Rattle.resp_scan.specs.Machine.Sound.{IsClosed}
-use Rattle.resp_scan.proofs.TokenMoves.ClosesLead.{close_is_owed}
+use Rattle.resp_scan.proofs.TokenMoves.ClosesLead.{close_is_owed, is_streamed}
 use Rattle.resp_scan.proofs.TokenMoves.BigNumbersLead.{text_end_is_owed}
 use Rattle.resp_scan.proofs.DueEvents.FramesDue.{IsStop, frames_due}
 use Rattle.resp_fronts.specs.OpenLevels.{AreLevelsOf, AreReady, Level, so_far}
+use Rattle.resp_value.proofs.DefaultLimits.{text_at_least}
 
 -- in every tree that the front begins these are the events due by then
 abbrev pub AreDue : List ℕ → List Event → Type 0
@@ -58,32 +58,27 @@ between_due r fs front es w = case w.frames w.of_levels w.ready w.whole w.told
     case (g ∷ gs) a o e told rest whole is_tree spelled = taken_due g gs [] front es (waiting_levels fs) r a o (omega arith) (inl refl) e told rest whole
         is_tree spelled
 
--- what closes with a byte is streamed
-streamed_by : (form : Form) (c : ℕ) (behind : List ℕ) → close form ≡ c ∷ behind → form ≡ Streamed
-streamed_by (Counted digits) c behind closes = absurd (cc)
-streamed_by Streamed c behind closes = refl
-
 -- within the close of the innermost aggregate
 pub closing_in_due : (r : Rules) (fs : List Frame) (last rest front : List ℕ) (es : List Event) → length last < 2 → IsClosingIn r fs (46 ∷ last) rest front es →
     AreDue front es
 closing_in_due r [] last rest front es short w = absurd w
 closing_in_due r (f ∷ fs) last rest front es short w =
     let vs : List Level = record { kind = w.frame.kind; shape = so_far (count w.frame.done) } ∷ busy_levels fs in
-    taken_due w.frame w.outer (46 ∷ last) front es vs r (refl, (streamed_by w.frame.form 46 (last ++ rest) w.closes, refl), w.of_levels) w.ready
+    taken_due w.frame w.outer (46 ∷ last) front es vs r (refl, (is_streamed w.frame.form 46 (last ++ rest) w.closes, refl), w.of_levels) w.ready
     (omega (arith, short)) (inr (last, refl)) w.whole w.told
 
 -- a whole value at the top
 whole_due : (whole : Tree) → events_due (length (text whole)) (all_events whole) ≡ without_places (events 0 whole) ++ e.Done ∷ []
 whole_due whole =
     let n = length (text whole) in
-    let last : last_of 0 (text whole) < n = omega (arith, text_least whole) in
+    let last : last_of 0 (text whole) < n = omega (arith, text_at_least whole) in
     due-append n (events 0 whole) (record { at = last_of 0 (text whole); event = e.Done } ∷ [])
     ∙ ap (λ z. z ++ events_due n (record { at = last_of 0 (text whole); event = e.Done } ∷ []))
     (due_all 0 n (events 0 whole) (within_wider 0 (0 + n) 0 n (events 0 whole) (omega arith) (omega arith) (events_within 0 whole)))
     ∙ ap (λ z. without_places (events 0 whole) ++ z) (rw (lt-ltb (last_of 0 (text whole)) n last) refl)
 
 ended_in : (s : Place) (f : Frame) (shape : Shape) (fs : List Frame) (front : List ℕ) (es : List Event) →
-    ((es : List Event) → StandsAfterAt (rules_of s) (token_within fs) fs front es → AreDue front (es ++ events_owed_at_end fs)) →
+    ((es : List Event) → StandsAfterAt (rules_of s) (token_at_boundary fs) fs front es → AreDue front (es ++ events_owed_at_end fs)) →
     StandsAfterAt (rules_of s) (token_in_shape shape) (record f { shape = shape } ∷ fs) front es →
     AreDue front (es ++ events_owed_in shape (events_owed_at_end fs))
 ended_in s f (Left zero) fs front es outer w rest whole is_tree spelled =
@@ -99,7 +94,7 @@ ended_in s f (Begun n) fs front es outer w rest whole is_tree spelled =
     between_due (rules_of s) (record f { shape = Begun n } ∷ fs) front es w rest whole is_tree spelled ∙ sym (append-nil es)
 
 -- where a value has ended
-pub ended_due : (s : Place) (fs : List Frame) (front : List ℕ) (es : List Event) → StandsAfterAt (rules_of s) (token_within fs) fs front es →
+pub ended_due : (s : Place) (fs : List Frame) (front : List ℕ) (es : List Event) → StandsAfterAt (rules_of s) (token_at_boundary fs) fs front es →
     AreDue front (es ++ events_owed_at_end fs)
 ended_due s [] front es w rest whole is_tree spelled =
     let same : w.tree ≡ whole = (unique w.tree whole rest [] w.is_tree is_tree (ap (λ z. z ++ rest) (sym w.whole) ∙ sym spelled ∙

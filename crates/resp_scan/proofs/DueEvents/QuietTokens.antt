@@ -1,6 +1,5 @@
 -- Tokens of which no event has come: their first line hasn't ended, and it is none of a text or a big number.
 use Rattle.std.proofs.Common.{◌≡◌, inl, inr, ℕ, ◌<◌, Bool, List, [], ◌∷◌, ◌++◌, refl, ap, ◌∙◌, arith, append-nil}
-use Rattle.resp_value.specs.Bytes.{IsLine}
 use Rattle.resp_value.specs.Data.{Kind}
 use Rattle.resp_value.specs.Data as d
 use Rattle.resp_value.specs.Numbers.{Sign, sign_text}
@@ -18,6 +17,7 @@ use Rattle.resp_scan.specs.Machine.Beginnings.{AggregateBegun, CountBegun, Count
 use Rattle.resp_scan.proofs.DueEvents.InsideDue.{AreDueWithin}
 use Rattle.resp_scan.proofs.DueEvents.QuietLines.{IsQuiet, line_of_quiet, quiet_line, quiet_returned, returned_quiet}
 use Rattle.resp_fronts.specs.Tokens.{IsNumberBegun, zeros}
+use Rattle.resp_fronts.proofs.Tokens.StreamedHeads.{streamed_line}
 
 kind_quiet : (k : Kind) → IsQuiet (kind_byte k)
 kind_quiet d.Array = (λ i. omega arith, λ i. omega arith, λ i. omega arith)
@@ -175,9 +175,6 @@ head_returned_quiet r head.Attr n level bytes shown p w = count_returned_quiet r
 head_returned_quiet r head.Push n level bytes shown p w = count_returned_quiet r d.Push n level bytes shown w
 
 -- Streamed heads.
-
-streamed_line : (k : Kind) → IsLine (kind_byte k ∷ 63 ∷ [])
-streamed_line k = ((byte_line k).0, (plain_above 63 (omega arith), tt))
 
 -- a streamed aggregate's line
 pub stream_quiet : (r : Rules) (k : Kind) (level : ℕ) (bytes : List ℕ) (shown : List Event) → StreamBegun r k [] level bytes shown → AreDueWithin bytes shown

@@ -8,7 +8,6 @@ use Rattle.resp_value.specs.Rules.{Rules, WithinItems, WithinLength}
 use Rattle.resp_value.specs.declared.cause.Cause.TheVariants as cause
 use Rattle.resp_fronts.specs.Events.{Event}
 use Rattle.resp_fronts.proofs.FirstLines.CountRows.{IsRefusedHere}
-use Rattle.resp_fronts.proofs.FirstLines.BegunLines.{number-digit}
 use Rattle.resp_fronts.proofs.Tokens.BegunFronts.{IsBegunBy}
 use Rattle.resp_fronts.proofs.Tokens.HeadTokens.{count_begun, count_token_broken, count_token_more, count_token_over}
 use Rattle.resp_scan.specs.declared.machine.Head.{Head}
@@ -24,6 +23,7 @@ use Rattle.resp_scan.proofs.TokenMoves.Moves.{goes}
 use Rattle.resp_scan.proofs.TokenMoves.RefusedMoves.{fits_or_total, refused, unless_over}
 use Rattle.resp_scan.proofs.TokenMoves.ByteTests.{by_digit}
 use Rattle.resp_scan.proofs.TokenMoves.Choices.{if_below, wants_leads}
+use Rattle.resp_value.proofs.DigitLemmas.{number-digit}
 
 pub items_of-members_of : (k : Kind) (n : ℕ) → items_of k (members_of k n) ≡ n
 items_of-members_of d.Array n = refl

@@ -1,7 +1,7 @@
 -- The heads of aggregates before their digits, and the mark of streamed ones.
 use Rattle.std.specs.Prelude.{Bool, true, false, cond, eqb, None, Some}
 use Rattle.std.proofs.Common.{◌≡◌, inr, ℕ, ◌+◌, ◌-◌, ◌*◌, ◌<◌, ◌≤◌, List, [], ◌∷◌, ◌++◌, length, refl, sym, ap, subst, ◌∙◌, arith, append-nil}
-use Rattle.resp_value.specs.Bytes.{IsLine, crlf}
+use Rattle.resp_value.specs.Bytes.{crlf}
 use Rattle.resp_value.specs.Data.{Kind, items_of, members_of}
 use Rattle.resp_value.specs.Data as d
 use Rattle.resp_value.specs.Numbers.{IsDigit, number}
@@ -23,7 +23,7 @@ use Rattle.resp_fronts.proofs.FirstLines.CountRows.{CompletesUnder, IsRefusedHer
 use Rattle.resp_fronts.proofs.FrameLaws.KeptNodes.{at_each_rule, node_keeps}
 use Rattle.resp_fronts.proofs.Refusals.RefusedBytes.{array_too_deep}
 use Rattle.resp_fronts.proofs.FirstLines.ShortRows.{next_row}
-use Rattle.resp_fronts.proofs.Tokens.StreamedHeads.{streamed_array_in_two, streamed_begun, streamed_off, streamed_too_deep}
+use Rattle.resp_fronts.proofs.Tokens.StreamedHeads.{streamed_array_in_two, streamed_begun, streamed_off, streamed_too_deep, streamed_line}
 use Rattle.resp_value.specs.declared.kind.OpenKind.{OpenKind}
 use Rattle.resp_value.specs.declared.kind.OpenKind.TheVariants as kind
 use Rattle.resp_scan.specs.declared.frame.Shape.TheVariants.{Begun}
@@ -214,8 +214,10 @@ no_stream_leads s k least byte front es no_stream w row is =
     broken (rules_of s) (AggregateBegun (rules_of s) k) s.frames front es least byte w (λ level bytes shown i t. row level bytes shown t)
     (λ level bytes rest shown t dead. mark_dead (rules_of s) k level byte bytes rest is no_stream t.are dead)
 
-attribute_row : (r : Rules) (level : ℕ) (bytes : List ℕ) (shown : List Event) → AggregateBegun r d.Attr level bytes shown → IsBegunBy r level bytes 6
-attribute_row r level bytes shown t = subst (λ z. IsBegunBy r level z 6) (sym t.are) (attribute_begun r level t.no_two t.below)
+-- the type byte of an attribute list needs 6 bytes more, since a value comes behind it
+pub attribute_row : (r : Rules) (level : ℕ) (bytes : List ℕ) (shown : List Event) → AggregateBegun r d.Attr level bytes shown →
+    IsBegunBy r level bytes 6
+attribute_row r level bytes shown w = subst (λ z. IsBegunBy r level z 6) (sym w.are) (attribute_begun r level w.no_two w.below)
 
 pub heads_lead : HeadsLead
 heads_lead s head.Bulk h used byte front es is_byte c w = absurd h
@@ -348,16 +350,13 @@ array_head_leads s used byte front es is_byte c w =
 
 -- The line of a streamed head.
 
-mark_line : (k : Kind) → IsLine (kind_byte k ∷ 63 ∷ [])
-mark_line k = ((byte_line k).0, ((λ z. omega arith, λ z. omega arith), tt))
-
 pub open_cr_leads : OpenCrLeads
 open_cr_leads s o used byte front es is_byte c w =
     let r = rules_of s in
     let T = StreamBegun r (kind_of o) [] in
     wants_leads (at s (AtOpenCr o)) T front es 5 byte 13 (Go (at s (AtOpenLf o))) w (λ level bytes shown i t. stream_row r (kind_of o) level bytes shown t)
     (λ other level bytes rest shown t dead. byte_broken (LeafKeeps r Grammar) (NodeKeeps r Grammar) level (kind_byte (kind_of o) ∷ 63 ∷ []) rest byte
-    (mark_line (kind_of o)) other (streamed_broken (kind_of o) byte) (subst (λ z. CompletesUnder r Grammar level z (byte ∷ rest)) t.are dead))
+    (streamed_line (kind_of o)) other (streamed_broken (kind_of o) byte) (subst (λ z. CompletesUnder r Grammar level z (byte ∷ rest)) t.are dead))
     (λ is. subst (λ z. StandsAfter (at s (AtOpenLf o)) (front ++ z ∷ []) es) (sym is)
     (goes r T (StreamBegun r (kind_of o) (13 ∷ [])) s.frames front (13 ∷ []) es w
     (λ level bytes shown i t. record {
@@ -430,6 +429,6 @@ open_end_leads s o used byte front es is_byte c w =
     wants_leads (at s (AtOpenLf o)) T front es 4 byte 10 (Give (k.Open o None) (h.after_streamed_open s o)) w
     (λ level bytes shown i t. end_row r (kind_of o) level bytes shown t)
     (λ other level bytes rest shown t dead. behind_return_broken (LeafKeeps r Grammar) (NodeKeeps r Grammar) level (kind_byte (kind_of o) ∷ 63 ∷ []) rest byte
-    (mark_line (kind_of o)) other (subst (λ z. CompletesUnder r Grammar level z (byte ∷ rest)) t.are dead))
+    (streamed_line (kind_of o)) other (subst (λ z. CompletesUnder r Grammar level z (byte ∷ rest)) t.are dead))
     (λ is. subst (λ z. StandsAfter (h.after_streamed_open s o) (front ++ z ∷ []) (es ++ e.Open (kind_of o) None ∷ [])) (sym is)
     (opens_lie r T s.frames front (10 ∷ []) es (e.Open (kind_of o) None ∷ []) o (Begun 0) w (λ level bytes shown i t. stream_opens r o level bytes shown t)))

@@ -7,7 +7,6 @@ use Rattle.resp_value.specs.Trees.{StringKind}
 use Rattle.resp_value.specs.Rules.{Rules, WithinDepth, WithinLength}
 use Rattle.resp_value.specs.declared.cause.Cause.TheVariants as cause
 use Rattle.resp_fronts.specs.Events.{Event}
-use Rattle.resp_fronts.proofs.FirstLines.BegunLines.{number-digit}
 use Rattle.resp_fronts.proofs.Refusals.BrokenHeads.{IsNoLength}
 use Rattle.resp_fronts.proofs.Tokens.BegunTypeBytes.{length_token_over}
 use Rattle.resp_fronts.proofs.Tokens.HeadTokens.{length_token_more}
@@ -27,6 +26,7 @@ use Rattle.resp_scan.proofs.TokenMoves.Moves.{goes, retold}
 use Rattle.resp_scan.proofs.TokenMoves.RefusedMoves.{broken, refused}
 use Rattle.resp_scan.proofs.HeadMoves.StringHeads.{IsStringHead, bulk, bulk_error, verbatim}
 use Rattle.resp_fronts.specs.Tokens.{zeros}
+use Rattle.resp_value.proofs.DigitLemmas.{number-digit}
 
 -- a string's type byte
 abbrev pub TypeByte : Rules → StringKind → ℕ → List ℕ → List Event → Type 0

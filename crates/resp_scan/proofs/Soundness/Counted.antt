@@ -21,7 +21,8 @@ token_counted x m n = refl
 pub place_counted : (m : Machine) (n : ℕ) → place_of (record m { taken = m.taken + n }) ≡ after_bytes n (place_of m)
 place_counted m n = ap (λ t. record (after_bytes n (place_of m)) { token = t }) (token_counted m.state m (m.taken + n))
 
-sound_counted : (s : Place) (n : ℕ) → IsSoundBy n s → IsSound (after_bytes n s)
+-- a place is as sound once the bytes of a piece are counted
+pub sound_counted : (s : Place) (n : ℕ) → IsSoundBy n s → IsSound (after_bytes n s)
 sound_counted s n h = record {
   bounds = h.bounds;
   nested = h.nested;

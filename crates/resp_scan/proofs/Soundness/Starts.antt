@@ -49,3 +49,9 @@ three_is s b f n1 n2 n3 n4 n5 n6 n7 v e =
     let e6 : eqb b 46 ≡ false = grind (arith, nat_tests) in
     let e7 : eqb b 44 ≡ false = grind (arith, nat_tests) in
     simp (e1, e2, e3, e4, e5, e6, e7, e) (ap (λ x. move_in_three x (first_move s f)) v)
+
+-- what comes of a first byte that is refused, or with which a value begins
+pub ruleset answers = (refused_answer, begun_answer)
+
+-- what comes of a line's type byte
+pub ruleset lines = (begun_line, refused_line)

@@ -10,14 +10,13 @@ use Rattle.resp_value.proofs.KeptDigits.{number-stripped}
 use Rattle.resp_fronts.specs.Events.{Event, big_events, without_places, last_of, leaf_events}
 use Rattle.resp_fronts.specs.Events as e
 use Rattle.resp_fronts.proofs.FirstLines.CountRows.{IsRefusedHere}
-use Rattle.resp_fronts.proofs.FirstLines.BegunLines.{number-digit}
 use Rattle.resp_fronts.proofs.Tokens.BegunFronts.{IsBegunBy}
 use Rattle.resp_fronts.proofs.Tokens.BegunTypeBytes.{big_token_over}
 use Rattle.resp_fronts.proofs.Tokens.LineTokens.{returned_begun, returned_broken, returned_whole}
 use Rattle.resp_fronts.proofs.Tokens.NumberTokens.{number_begun, number_token_begins, number_token_line, number_token_more}
 use Rattle.resp_scan.specs.declared.event.TextKind.TheVariants as text
 use Rattle.resp_scan.specs.Machine.Tokens as k
-use Rattle.resp_scan.specs.Machine.Tokens.{Go, Byte, Give, Refuse, Place, AtBigDigit, AtBigFirst, AtBigSign, AtBigZeroLf, AtLineLf, AtTextEnd, InBig, InBigZeros, at, after_end}
+use Rattle.resp_scan.specs.Machine.Tokens.{Go, Byte, Give, Refuse, Place, AtBigDigit, AtBigFirst, AtBigSign, AtBigZeroLf, AtLineLf, AtTextEnd, InBig, InBigZeros, at, at_boundary}
 use Rattle.resp_scan.specs.Machine.Room.{has_total_room}
 use Rattle.resp_scan.specs.Machine.Moves.{big_digit, big_first, content_byte}
 use Rattle.resp_scan.specs.Kinds.{content_events, rules_of}
@@ -31,6 +30,7 @@ use Rattle.resp_scan.proofs.TokenMoves.NumbersLead.{AnySign, begun_dead, digits_
 use Rattle.resp_scan.proofs.TokenMoves.RefusedMoves.{broken, fits_or_total, refused}
 use Rattle.resp_scan.proofs.TokenMoves.ByteTests.{by_byte, by_digit}
 use Rattle.resp_scan.proofs.TokenMoves.Choices.{if_equal, positive, wants_leads}
+use Rattle.resp_value.proofs.DigitLemmas.{number-digit}
 
 -- Digits without leading zeros.
 
@@ -293,7 +293,7 @@ text_ends r level bytes shown w = record {
 pub text_end_is_owed : TextEndIsOwed
 text_end_is_owed s front es w =
     let r = rules_of s in
-    subst (λ z. StandsAfter (after_end s) z (es ++ e.TextEnd ∷ [])) (append-nil front)
+    subst (λ z. StandsAfter (at_boundary s) z (es ++ e.TextEnd ∷ [])) (append-nil front)
     (value_ends r (TextWhole r) s.frames front [] es (e.TextEnd ∷ []) w (λ level bytes shown i t. text_ends r level bytes shown t))
 
 -- Further digits.

@@ -10,7 +10,6 @@ use Rattle.resp_value.specs.declared.cause.Cause.TheVariants as cause
 use Rattle.resp_fronts.specs.Events.{Event}
 use Rattle.resp_fronts.specs.Events as e
 use Rattle.resp_fronts.proofs.FirstLines.CountRows.{CompletesUnder, IsRefusedHere}
-use Rattle.resp_fronts.proofs.FirstLines.BegunLines.{number-digit}
 use Rattle.resp_fronts.proofs.Tokens.BegunFronts.{IsBegunBy}
 use Rattle.resp_fronts.proofs.Refusals.BrokenLines.{byte_broken, return_broken}
 use Rattle.resp_fronts.proofs.Refusals.BrokenHeads.{number_begun_broken, number_broken, number_short}
@@ -18,7 +17,7 @@ use Rattle.resp_fronts.proofs.Tokens.LineTokens.{line_begun, no_break_in_line, r
 use Rattle.resp_fronts.proofs.Tokens.NumberTokens.{int_token_over, number_begun, number_token_begins, number_token_line, number_token_more}
 use Rattle.resp_scan.specs.Machine.Magnitudes.{greatest_magnitude}
 use Rattle.resp_scan.specs.Machine.Tokens as k
-use Rattle.resp_scan.specs.Machine.Tokens.{Go, Give, Move, Refuse, Place, Token, AtIntFirst, AtIntLf, AtIntSign, InInt, at, after_end}
+use Rattle.resp_scan.specs.Machine.Tokens.{Go, Give, Move, Refuse, Place, Token, AtIntFirst, AtIntLf, AtIntSign, InInt, at, at_boundary}
 use Rattle.resp_scan.specs.Machine.Room.{has_total_room, over_total}
 use Rattle.resp_scan.specs.Machine.Moves as machine
 use Rattle.resp_scan.specs.Machine.Moves.{int_digit, int_first, is_digit, move_unless, only_byte}
@@ -32,6 +31,7 @@ use Rattle.resp_scan.proofs.TokenMoves.RefusedMoves.{broken, fits_or_total, refu
 use Rattle.resp_scan.proofs.TokenMoves.ByteTests.{by_byte, by_digit}
 use Rattle.resp_scan.proofs.TokenMoves.Choices.{if_equal, if_within, wants_leads}
 use Rattle.resp_fronts.specs.Tokens.{IsNumberBegun, IsNumberToken, MayBe, greatest}
+use Rattle.resp_value.proofs.DigitLemmas.{number-digit}
 
 -- a byte of a number's beginning that no spelling has there
 pub begun_line : (k : NumberKind) (sign : Sign) → IsLine (number_byte k ∷ (sign_text sign ++ []))
@@ -274,9 +274,9 @@ int_ends r negative n level bytes shown w = record {
 pub int_end_leads : IntEndLeads
 int_end_leads s negative n used byte front es is_byte c w =
     let r = rules_of s in
-    wants_leads (at s (AtIntLf negative n)) (IntReturned r negative n) front es 1 byte 10 (Give (k.Int (machine.with_sign negative n)) (after_end s)) w
+    wants_leads (at s (AtIntLf negative n)) (IntReturned r negative n) front es 1 byte 10 (Give (k.Int (machine.with_sign negative n)) (at_boundary s)) w
     (λ level bytes shown i t. returned_begun r (numeral Int t.sign t.digits) level bytes t.returned)
     (λ other level bytes rest shown t dead. returned_broken r (numeral Int t.sign t.digits) level bytes rest byte other t.returned dead)
-    (λ is. subst (λ z. StandsAfter (after_end s) (front ++ z ∷ []) (es ++ e.Int (machine.with_sign negative n) ∷ [])) (sym is)
+    (λ is. subst (λ z. StandsAfter (at_boundary s) (front ++ z ∷ []) (es ++ e.Int (machine.with_sign negative n) ∷ [])) (sym is)
     (value_ends r (IntReturned r negative n) s.frames front (10 ∷ []) es (e.Int (machine.with_sign negative n) ∷ []) w
     (λ level bytes shown i t. int_ends r negative n level bytes shown t)))

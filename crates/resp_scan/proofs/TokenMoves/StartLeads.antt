@@ -23,7 +23,7 @@ use Rattle.resp_fronts.specs.FirstByteRefusals.{aggregate_refusal, first_byte_re
 use Rattle.resp_fronts.specs.MayFollow.{members_missing}
 use Rattle.resp_fronts.proofs.Between.BegunBetweenValues as between
 use Rattle.resp_fronts.proofs.Tokens.BegunFronts.{IsBegunBy}
-use Rattle.resp_fronts.proofs.Tokens.BegunTypeBytes.{attribute_begun, bulk_error_begun, dollar_begun, star_begun, star_deep_begun, verbatim_begun}
+use Rattle.resp_fronts.proofs.Tokens.BegunTypeBytes.{bulk_error_begun, dollar_begun, star_begun, star_deep_begun, verbatim_begun}
 use Rattle.resp_fronts.proofs.FrameLaws.Composition.{around-append}
 use Rattle.resp_fronts.proofs.Refusals.FirstRuleBroken.{grammar_cause}
 use Rattle.resp_fronts.proofs.Tokens.LineTokens.{line_begun, text_token_begins}
@@ -50,7 +50,7 @@ use Rattle.resp_scan.specs.Machine.Beginnings.{AggregateBegun, LineBegun, NullLi
 use Rattle.resp_scan.specs.Machine.Standing.{AwaitsMember, IsClosing, HasCountsOf, IsInside, Leads, StandsAfter, StandsAfterAt, busy_levels, waiting_shape, waiting_levels}
 use Rattle.resp_scan.proofs.TokenMoves.TokenLaws.{StartLeads}
 use Rattle.resp_scan.proofs.TokenMoves.Begins.{begins_leads, is_between, length-waiting}
-use Rattle.resp_scan.proofs.HeadMoves.HeadsLead.{aggregate_row, no_two_in_three}
+use Rattle.resp_scan.proofs.HeadMoves.HeadsLead.{aggregate_row, no_two_in_three, attribute_row}
 use Rattle.resp_scan.proofs.TokenMoves.LinesLead.{line_row}
 use Rattle.resp_scan.proofs.TokenMoves.ByteTests.{by_byte}
 use Rattle.resp_scan.proofs.TokenMoves.Choices.{if_within}
@@ -248,11 +248,6 @@ close_leads s front es w = case s.frames w
 
 -- The bytes, one by one.
 
--- the type byte of attributes, behind which a value comes
-pub aggregate_row_of_attr : (r : Rules) (level : ℕ) (bytes : List ℕ) (shown : List Event) → AggregateBegun r d.Attr level bytes shown →
-    IsBegunBy r level bytes 6
-aggregate_row_of_attr r level bytes shown w = subst (λ z. IsBegunBy r level z 6) (sym w.are) (attribute_begun r level w.no_two w.below)
-
 -- `*`, behind which only a null may come where no further aggregate may open
 pub star_row : (s : Place) (level : ℕ) → level ≡ length s.frames → (bytes : List ℕ) → bytes ≡ 42 ∷ [] →
     IsBegunBy (rules_of s) level bytes (cond (is_full s) 4 3)
@@ -406,7 +401,7 @@ bar_leads s front es c w =
     let roomy : 64 ≤ s.bounds.length = c.sound.bounds.length_in_range.0 in
     three_leads s 124 front es (aggregate_refusal r (length s.frames)) (aggregate_move q head.Attr) (λ z. omega arith) refl c w
     (λ no_two answer. aggregate_leads s d.Attr head.Attr 124 front es refl (λ z. omega arith) no_two answer (λ level i. tt) c w
-    (λ level bytes shown u. aggregate_row_of_attr r level bytes shown u) (λ inside. inside))
+    (λ level bytes shown u. attribute_row r level bytes shown u) (λ inside. inside))
 
 greater_leads : (s : Place) (front : List ℕ) (es : List Event) → HasCountsOf (at s AtStart) 0 front → StandsAfter (at s AtStart) front es →
     Leads (at s AtStart) front es 62 (machine.move_in_three s.version (push_move (at s AtStart) s.frames))

@@ -5,7 +5,7 @@ use Rattle.resp_value.specs.Spellings.{IsViable}
 use Rattle.resp_fronts.specs.Events.{Event, Byte, TextEnd, Close, all_events, events_due}
 use Rattle.resp_fronts.specs.LeastCompletions.{IsLeast}
 use Rattle.resp_fronts.proofs.Tokens.BegunFronts.{IsBegunBy}
-use Rattle.resp_scan.specs.Machine.Tokens.{Place, InLine, AtLineLf, AtIntSign, AtIntFirst, InInt, AtIntLf, AtBigSign, AtBigFirst, InBigZeros, AtBigZeroLf, AtBigDigit, InBig, AtTextEnd, at, after_end, AtBool, AtBoolCr, AtBoolLf, AtNullCr, AtNullLf, AtNullOne, AtHeadLf, AtCloseCr, AtCloseLf, AtEnd, InHead, AtArrayHead, AtHead, AtOpenCr, AtOpenLf, AtStart, AtBulkHead, AtChunk, AtChunkCr, AtChunkLf, AtContentCr, AtContentLf, AtFormat, AtFormatColon, AtFormatSecond, AtFormatThird, AtStreamCr, AtStreamLf, InChunk, InContent}
+use Rattle.resp_scan.specs.Machine.Tokens.{Place, InLine, AtLineLf, AtIntSign, AtIntFirst, InInt, AtIntLf, AtBigSign, AtBigFirst, InBigZeros, AtBigZeroLf, AtBigDigit, InBig, AtTextEnd, at, at_boundary, AtBool, AtBoolCr, AtBoolLf, AtNullCr, AtNullLf, AtNullOne, AtHeadLf, AtCloseCr, AtCloseLf, AtEnd, InHead, AtArrayHead, AtHead, AtOpenCr, AtOpenLf, AtStart, AtBulkHead, AtChunk, AtChunkCr, AtChunkLf, AtContentCr, AtContentLf, AtFormat, AtFormatColon, AtFormatSecond, AtFormatThird, AtStreamCr, AtStreamLf, InChunk, InContent}
 use Rattle.resp_scan.specs.declared.machine.Head.{Head}
 use Rattle.resp_scan.specs.declared.machine.Head.TheVariants.{Bulk, BulkError, Verbatim, Chunk, Array, Set, Map, Attr, Push}
 use Rattle.resp_scan.specs.declared.frame.Frame.{Frame}
@@ -64,7 +64,7 @@ BigLeads = (s : Place) (room : ℕ) → ALead (at s (InBig room))
 
 -- the end of a text that is owed
 abbrev pub TextEndIsOwed : Type 0
-TextEndIsOwed = (s : Place) (front : List ℕ) (es : List Event) → StandsAfter (at s AtTextEnd) front es → StandsAfter (after_end s) front (es ++ TextEnd ∷ [])
+TextEndIsOwed = (s : Place) (front : List ℕ) (es : List Event) → StandsAfter (at s AtTextEnd) front es → StandsAfter (at_boundary s) front (es ++ TextEnd ∷ [])
 
 abbrev pub NullOneLeads : Type 0
 NullOneLeads = (s : Place) → ALead (at s AtNullOne)
@@ -101,7 +101,7 @@ HeadEndsLead = (s : Place) (h : Head) (n : ℕ) → IsOfAggregate h → ALead (a
 
 abbrev pub CloseIsOwed : Type 0
 CloseIsOwed = (s : Place) (f : Frame) (fs : List Frame) (front : List ℕ) (es : List Event) →
-    StandsAfter (record s { token = AtEnd; frames = f ∷ fs }) front es → StandsAfter (after_end (record s { frames = fs })) front (es ++ Close ∷ [])
+    StandsAfter (record s { token = AtEnd; frames = f ∷ fs }) front es → StandsAfter (at_boundary (record s { frames = fs })) front (es ++ Close ∷ [])
 
 abbrev pub CloseCrLeads : Type 0
 CloseCrLeads = (s : Place) → ALead (at s AtCloseCr)

@@ -1,6 +1,6 @@
 use Rattle.std.proofs.Common.{◌≡◌, List, ◌++◌, ◌∷◌, [], map, take, sym, ap, ◌∙◌, subst}
 use Rattle.std.proofs.lemmas.List.{take_all}
-use Rattle.resp_value.specs.Data.{data_of_list, in_turn, aggregate, count}
+use Rattle.resp_value.specs.Data.{data_of_list, in_turn, aggregate}
 use Rattle.resp_value.specs.Data as d
 use Rattle.resp_value.specs.Canonical.{IsValue, AreValues}
 use Rattle.resp_value.specs.Values.{datum_of, pair_data, is_negative, extended}

@@ -12,12 +12,9 @@ described : (c : After-inside-found) → Describes Two (command_of (texts_of c.a
 described c = c.inside-found.ensures Two (data_of_list (map word_datum (texts_of c.args.words.now))) c.survey_words.ensures.found
     (sym (count-words c.args.words.now))
 
-pub returns-clause-fault : goal.returns-clause-fault
-returns-clause-fault c = c.judge.ensures.fault _ (described (goal.at.returns-clause-fault c).After-inside-found)
-
-pub returns-clause-fits : goal.returns-clause-fits
-returns-clause-fits c = c.judge.ensures.fits _ (described (goal.at.returns-clause-fits c).After-inside-found)
-
-pub returns-clause-spelling : goal.returns-clause-spelling
-returns-clause-spelling c = c.judge.ensures.spelling _ (described (goal.at.returns-clause-spelling c).After-inside-found)
+pub returns-clause-verdict : goal.returns-clause-verdict
+returns-clause-verdict c = c.judge.ensures.verdict _ (described (goal.at.returns-clause-verdict c).After-inside-found)
     (tt, c.survey_words.ensures.are_values)
+
+pub returns-clause-size : goal.returns-clause-size
+returns-clause-size c = c.judge.ensures.size _ (described (goal.at.returns-clause-size c).After-inside-found)

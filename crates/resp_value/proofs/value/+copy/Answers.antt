@@ -1,5 +1,5 @@
 use Rattle.std.proofs.Common.{◌≡◌, ◌++◌, ◌∷◌, [], map, sym, ap, ◌∙◌}
-use Rattle.resp_value.specs.Values.{datum_of, list_of, pairs_of, pair_data}
+use Rattle.resp_value.specs.Values.{datum_of, pairs_of, pair_data}
 use Rattle.resp_value.specs.Data.{data_of_list, in_turn, aggregate}
 use Rattle.resp_value.specs.Data as d
 use Rattle.resp_value.proofs.DatumOf.{datum_of-Array, datum_of-Set, datum_of-Push, datum_of-Map, datum_of-Attr}

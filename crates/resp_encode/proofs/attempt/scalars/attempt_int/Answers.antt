@@ -1,5 +1,4 @@
 use Rattle.std.proofs.Common.{arith}
-use Rattle.resp_value.specs.Data.{scalar}
 use Rattle.resp_value.specs.Data as d
 use Rattle.resp_value.specs.declared.version.Version.TheVariants.{Three}
 use Rattle.resp_encode.proofs.Attempted.{room_for, scalar_done}
