@@ -50,7 +50,7 @@ leaves_of_refusal rules x before after failures failures' text (to.Refused encod
 leaves_of_refusal rules x before after failures failures' text (to.Write written) refused nothing part =
     (first_bytes before after written text part.appended, part.failure_counted)
 
--- the same of an equal value, and of an outcome with an equal error
+-- what the encoder leaves stands for an equal value too, and for an outcome with an equal error
 pub leaves_of_equal : (rules : Rules) (x y : Datum) (before after : Option (List ℕ)) (failures failures' : ℕ) (error : EncodeToError)
     (r : Result (Unit {0}) RenderError) → r ≡ Err (render_error_of error) → x ≡ y →
     RendersText before after failures failures' (Err (render_error_of error)) (canonical_text rules.version x) (Fits rules x → ⊥) (Unit {0}) →
