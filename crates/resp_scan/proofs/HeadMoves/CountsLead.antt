@@ -21,9 +21,9 @@ use Rattle.resp_scan.specs.Machine.Standing.{HasCountsOf, IsInside, Leads, Stand
 use Rattle.resp_scan.proofs.TokenMoves.TokenLaws.{CountsLead}
 use Rattle.resp_scan.proofs.TokenMoves.Moves.{goes}
 use Rattle.resp_scan.proofs.TokenMoves.RefusedMoves.{fits_or_total, refused, unless_over}
-use Rattle.resp_scan.proofs.TokenMoves.ByteTests.{by_digit}
-use Rattle.resp_scan.proofs.TokenMoves.Choices.{if_below, wants_leads}
+use Rattle.resp_scan.proofs.TokenMoves.ByteTests.{by_digit, wants_leads}
 use Rattle.resp_value.proofs.DigitLemmas.{number-digit}
+use Rattle.resp_value.proofs.Choices.{if_below}
 
 pub items_of-members_of : (k : Kind) (n : ℕ) → items_of k (members_of k n) ≡ n
 items_of-members_of d.Array n = refl

@@ -46,8 +46,8 @@ use Rattle.resp_scan.proofs.TokenMoves.Moves.{at_level, goes}
 use Rattle.resp_scan.proofs.TokenMoves.LiteralsLead.{null_first_row}
 use Rattle.resp_scan.proofs.HeadMoves.OpensLead.{Opened, opens_lie}
 use Rattle.resp_scan.proofs.TokenMoves.RefusedMoves.{broken, fits_or_total, refused, unless_over}
-use Rattle.resp_scan.proofs.TokenMoves.ByteTests.{by_byte, by_digit}
-use Rattle.resp_scan.proofs.TokenMoves.Choices.{if_below, if_digit, if_equal, if_within, wants_leads}
+use Rattle.resp_scan.proofs.TokenMoves.ByteTests.{by_byte, by_digit, wants_leads, if_digit}
+use Rattle.resp_value.proofs.Choices.{if_equal, if_within, if_below}
 
 -- an aggregate's type byte, where the depth leaves room for one
 record MayCount (r : Rules) (k : Kind) (level : ℕ) (bytes : List ℕ) (shown : List Event) : Type 0 where

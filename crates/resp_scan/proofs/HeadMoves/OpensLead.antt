@@ -32,7 +32,7 @@ use Rattle.resp_scan.specs.Machine.Beginnings.{CountReturned}
 use Rattle.resp_scan.specs.Machine.Standing.{IsInside, Leads, StandsAfter, StandsAfterAt}
 use Rattle.resp_scan.proofs.TokenMoves.TokenLaws.{HeadEndsLead}
 use Rattle.resp_scan.proofs.TokenMoves.Moves.{at_level, given-append, longer}
-use Rattle.resp_scan.proofs.TokenMoves.Choices.{wants_leads}
+use Rattle.resp_scan.proofs.TokenMoves.ByteTests.{wants_leads}
 
 -- a form in which so many members haven't begun, or have
 abbrev Shaped : Kind → Shape → Form → Type 0

@@ -32,8 +32,8 @@ use Rattle.resp_scan.specs.Machine.Standing.{AwaitsMember, HasCountsOf, HasBegun
 use Rattle.resp_scan.specs.Machine.Sound.{need_of_frame, need_of_frames}
 use Rattle.resp_scan.proofs.TokenMoves.Moves.{length-busy}
 use Rattle.resp_scan.proofs.TokenMoves.RefusedMoves.{fits_or_past, unless_over}
-use Rattle.resp_scan.proofs.TokenMoves.Choices.{if_equal, positive}
 use Rattle.resp_fronts.specs.OpenLevels.{AreLevelsOf, AreReady, HasShape, Level, to_come, so_far}
+use Rattle.resp_value.proofs.Choices.{if_equal, positive}
 
 pub length-waiting : (fs : List Frame) → length (waiting_levels fs) ≡ length fs
 length-waiting [] = refl

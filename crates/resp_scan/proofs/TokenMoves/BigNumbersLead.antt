@@ -28,9 +28,9 @@ use Rattle.resp_scan.proofs.TokenMoves.LeafEvents.{content_events-append, given-
 use Rattle.resp_scan.proofs.TokenMoves.Moves.{Ends, goes, tells, value_ends}
 use Rattle.resp_scan.proofs.TokenMoves.NumbersLead.{AnySign, begun_dead, digits_dead, digits_row, signed_any, signs_lead, unsigned_any}
 use Rattle.resp_scan.proofs.TokenMoves.RefusedMoves.{broken, fits_or_total, refused}
-use Rattle.resp_scan.proofs.TokenMoves.ByteTests.{by_byte, by_digit}
-use Rattle.resp_scan.proofs.TokenMoves.Choices.{if_equal, positive, wants_leads}
+use Rattle.resp_scan.proofs.TokenMoves.ByteTests.{by_byte, by_digit, wants_leads}
 use Rattle.resp_value.proofs.DigitLemmas.{number-digit}
+use Rattle.resp_value.proofs.Choices.{if_equal, positive}
 
 -- Digits without leading zeros.
 

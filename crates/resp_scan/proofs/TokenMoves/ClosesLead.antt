@@ -28,7 +28,7 @@ use Rattle.resp_scan.specs.Kinds.{IsRefusedFor, rules_of}
 use Rattle.resp_scan.specs.Machine.Standing.{IsClosing, IsClosingIn, Leads, StandsAfterAt, busy_levels}
 use Rattle.resp_scan.proofs.TokenMoves.TokenLaws.{CloseIsOwed, CloseCrLeads, CloseEndLeads}
 use Rattle.resp_scan.proofs.TokenMoves.Moves.{given-append, longer, value_lies}
-use Rattle.resp_scan.proofs.TokenMoves.Choices.{if_equal}
+use Rattle.resp_value.proofs.Choices.{if_equal}
 
 -- the rest of the close ends the aggregate
 closing_ends : (r : Rules) (k : OpenKind) (fs : List Frame) (last rest front : List ℕ) (es : List Event) → IsClosing r k fs last rest front es →

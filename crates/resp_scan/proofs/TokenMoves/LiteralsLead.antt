@@ -21,9 +21,9 @@ use Rattle.resp_scan.specs.Machine.Beginnings.{IsNullBegun, NullLine, NullReturn
 use Rattle.resp_scan.specs.Machine.Standing.{Leads, StandsAfter}
 use Rattle.resp_scan.proofs.TokenMoves.TokenLaws.{NullOneLeads, NullCrLeads, NullEndLeads, BoolLeads, BoolCrLeads, BoolEndLeads}
 use Rattle.resp_scan.proofs.TokenMoves.Moves.{Ends, goes, value_ends}
-use Rattle.resp_scan.proofs.TokenMoves.ByteTests.{by_byte}
-use Rattle.resp_scan.proofs.TokenMoves.Choices.{if_equal, wants_leads}
+use Rattle.resp_scan.proofs.TokenMoves.ByteTests.{by_byte, wants_leads}
 use Rattle.resp_fronts.specs.Tokens.{IsLineOf, IsReturned}
+use Rattle.resp_value.proofs.Choices.{if_equal}
 
 -- Nulls.
 

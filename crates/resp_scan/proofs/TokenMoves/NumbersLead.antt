@@ -28,10 +28,10 @@ use Rattle.resp_scan.specs.Machine.Standing.{HasCountsOf, IsInside, Leads, Stand
 use Rattle.resp_scan.proofs.TokenMoves.TokenLaws.{IntSignLeads, IntFirstLeads, IntLeads, IntEndLeads}
 use Rattle.resp_scan.proofs.TokenMoves.Moves.{Ends, goes, value_ends}
 use Rattle.resp_scan.proofs.TokenMoves.RefusedMoves.{broken, fits_or_total, refused, unless_over}
-use Rattle.resp_scan.proofs.TokenMoves.ByteTests.{by_byte, by_digit}
-use Rattle.resp_scan.proofs.TokenMoves.Choices.{if_equal, if_within, wants_leads}
+use Rattle.resp_scan.proofs.TokenMoves.ByteTests.{by_byte, by_digit, wants_leads}
 use Rattle.resp_fronts.specs.Tokens.{IsNumberBegun, IsNumberToken, MayBe, greatest}
 use Rattle.resp_value.proofs.DigitLemmas.{number-digit}
+use Rattle.resp_value.proofs.Choices.{if_equal, if_within}
 
 -- a byte of a number's beginning that no spelling has there
 pub begun_line : (k : NumberKind) (sign : Sign) → IsLine (number_byte k ∷ (sign_text sign ++ []))
