@@ -15,7 +15,8 @@ use Rattle.resp_scan.specs.Machine.Sound.{IsSoundBy}
 use Rattle.resp_scan.specs.Machine.Standing.{HasCountsOf, Leads, StandsAfter}
 use Rattle.resp_scan.proofs.CallClauses.Fronts.{take-none}
 use Rattle.resp_scan.proofs.TokenMoves.EachLeads.{IsLookedAt, each_leads}
-use Rattle.resp_scan.proofs.Soundness.Sound.{IsMove, is_move, is_outside}
+use Rattle.resp_scan.proofs.Soundness.Sound.{is_move}
+use Rattle.resp_scan.proofs.Soundness.SoundMoves.{IsMove, is_outside}
 
 -- before a refused byte the front was followed, and with it nothing can follow
 pub record RefusedAt (r : Rules) (front : List ℕ) (es : List Event) (byte used : ℕ) (c : Cause) : Type 0 where

@@ -40,9 +40,9 @@ use Rattle.resp_scan.proofs.Soundness.Kept.{IsOut, is_advanced}
 use Rattle.resp_scan.proofs.TokenMoves.BigNumbersLead.{big_digit_is_owed, text_end_is_owed}
 use Rattle.resp_scan.proofs.TokenMoves.ClosesLead.{close_is_owed}
 use Rattle.resp_scan.proofs.CallClauses.LeastNeeded.{least_is_needed, followed_is_viable}
-use Rattle.resp_scan.proofs.Soundness.Sound.{is_outside}
 use Rattle.resp_scan.proofs.Soundness.Counted.{sound_counted}
 use Rattle.resp_value.proofs.Choices.{if_equal, if_within, if_below}
+use Rattle.resp_scan.proofs.Soundness.SoundMoves.{is_outside}
 
 -- What is owed, or what comes of the piece.
 

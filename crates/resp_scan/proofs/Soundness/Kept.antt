@@ -10,7 +10,9 @@ use Rattle.resp_scan.specs.Machine.Moves.{is_digit, next}
 use Rattle.resp_scan.specs.Machine.Scan.{Out, More, Gave, Part, Whole, Bad, and_more, content, answer, scan, out_at_end, out_from_token, out_from}
 use Rattle.resp_scan.specs.Kinds.{rules_of}
 use Rattle.resp_scan.specs.Machine.Sound.{IsTokenSound, token_needed, need_of_frames, IsClosed, IsSoundBy, IsSound}
-use Rattle.resp_scan.proofs.Soundness.Sound.{is_outside, IsPlain, IsNext, IsInside, IsMove, is_move, sound_ended, sound_closed}
+use Rattle.resp_scan.proofs.Soundness.Sound.{is_move}
+use Rattle.resp_scan.proofs.Soundness.SoundMoves.{is_outside, IsPlain, IsNext, IsInside, IsMove}
+use Rattle.resp_scan.proofs.Soundness.SoundFrames.{sound_ended, sound_closed}
 
 -- a digit stands behind no byte
 abbrev pub IsGiven : ℕ → Happening → Type 0

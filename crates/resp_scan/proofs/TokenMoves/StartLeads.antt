@@ -58,6 +58,7 @@ use Rattle.resp_value.proofs.Choices.{if_within}
 use Rattle.std.specs.Str.{byte}
 use Rattle.std.specs.List.{AllByRecursion}
 use Rattle.resp_fronts.proofs.Refusals.FirstByteCauses.{at_answer}
+use Rattle.resp_scan.proofs.Soundness.SoundStarts.{start_rows}
 
 -- Refusals of a first byte by itself.
 
@@ -253,27 +254,6 @@ star_row s level i bytes are =
     if_within s.bounds.depth (length s.frames) (λ x. IsBegunBy (rules_of s) level bytes (cond x 4 3))
     (λ deep. subst (λ z. IsBegunBy (rules_of s) level z 4) (sym are) (star_deep_begun (rules_of s) level (omega (arith, deep, i))))
     (λ below. subst (λ z. IsBegunBy (rules_of s) level z 3) (sym are) (star_begun (rules_of s) level (omega (arith, below, i))))
-
--- each byte at which a value or a close begins, with its move
-abbrev start_rows : Place → List (ℕ × Move)
-start_rows s =
-    (byte "+", line_move s (k.Text text.Simple))
-    ∷ (byte "-", line_move s (k.Text text.Error))
-    ∷ (byte ":", begin_move s 3 AtIntSign)
-    ∷ (byte "$", begin_move s 4 AtBulkHead)
-    ∷ (byte "*", begin_move s (cond (is_full s) 4 3) AtArrayHead)
-    ∷ (byte ".", close_move s)
-    ∷ (byte ",", Refuse cause.Double)
-    ∷ (byte "_", machine.move_in_three s.version (begin_move s 2 AtNullCr))
-    ∷ (byte "#", machine.move_in_three s.version (begin_move s 3 AtBool))
-    ∷ (byte "(", machine.move_in_three s.version (begin_move s 3 AtBigSign))
-    ∷ (byte "!", machine.move_in_three s.version (begin_move s 5 (AtHead head.BulkError)))
-    ∷ (byte "=", machine.move_in_three s.version (begin_move s 9 (AtHead head.Verbatim)))
-    ∷ (byte "~", machine.move_in_three s.version (aggregate_move s head.Set))
-    ∷ (byte "%", machine.move_in_three s.version (aggregate_move s head.Map))
-    ∷ (byte "|", machine.move_in_three s.version (aggregate_move s head.Attr))
-    ∷ (byte ">", machine.move_in_three s.version (push_move s s.frames))
-    ∷ []
 
 -- the tokens that begin in both versions, and those that begin in version 3 alone
 int_begins : (s : Place) → Begins s AtIntSign 58 3
