@@ -40,7 +40,7 @@ use Rattle.resp_scan.specs.declared.machine.Head.TheVariants as head
 use Rattle.resp_scan.specs.Machine.Tokens as k
 use Rattle.resp_scan.specs.Machine.Tokens.{Give, Go, Move, Place, Refuse, Token, AtArrayHead, AtBigSign, AtBool, AtBulkHead, AtCloseCr, AtHead, AtIntSign, AtNullCr, AtStart, InLine, at}
 use Rattle.resp_scan.specs.Machine.Heads.{first_needed}
-use Rattle.resp_scan.specs.Machine.Room.{after_begin, after_begin_in, is_full}
+use Rattle.resp_scan.specs.Machine.Room.{after_begin, is_full}
 use Rattle.resp_scan.specs.Machine.Moves as machine
 use Rattle.resp_scan.specs.Machine.Moves.{aggregate_move, begin_move, close_move, line_move, may_close, may_close_of, push_move, start_next, start_three, move_unless}
 use Rattle.resp_value.specs.Kinds.{kind_of}
@@ -59,6 +59,7 @@ use Rattle.std.specs.Str.{byte}
 use Rattle.std.specs.List.{AllByRecursion}
 use Rattle.resp_fronts.proofs.Refusals.FirstByteCauses.{at_answer}
 use Rattle.resp_scan.proofs.Soundness.SoundStarts.{start_rows}
+use Rattle.resp_scan.proofs.Soundness.SoundFrames.{begun_rules}
 
 -- Refusals of a first byte by itself.
 
@@ -85,17 +86,10 @@ line_begun_by r kind level p = record { kind = kind; size = 0; token = text_toke
 
 -- The first byte of a value.
 
-begun_rules : (s : Place) → rules_of (after_begin s) ≡ rules_of s
-begun_rules s = case s.frames
-  where
-    case : (fs : List Frame) → rules_of (after_begin_in s fs) ≡ rules_of s
-    case [] = refl
-    case (f ∷ fs) = refl
-
 -- the value is begun at the place that counts it
 lies_begun : (s : Place) (token : Token) (fs : List Frame) (front : List ℕ) (es : List Event) → StandsAfterAt (rules_of s) token fs front es →
     StandsAfterAt (rules_of (after_begin s)) token fs front es
-lies_begun s token fs front es h = subst (λ r. StandsAfterAt r token fs front es) (sym (begun_rules s)) h
+lies_begun s token fs front es h = subst (λ r. StandsAfterAt r token fs front es) (sym (begun_rules s s.frames)) h
 
 -- the byte of a simple line gives the begin of its text
 line_leads : (s : Place) (kind : LineKind) (happening : k.Happening) (front : List ℕ) (es : List Event) → IsTextLine kind →
