@@ -18,12 +18,12 @@ use Rattle.resp_scan.specs.Machine.Moves.{is_digit, move_unless, only_byte}
 use Rattle.resp_scan.specs.Kinds.{rules_of}
 use Rattle.resp_scan.specs.Machine.Beginnings.{CountBegun, CountReturned}
 use Rattle.resp_scan.specs.Machine.Standing.{HasCountsOf, IsInside, Leads, StandsAfter}
-use Rattle.resp_scan.proofs.TokenMoves.TokenLaws.{CountsLead}
 use Rattle.resp_scan.proofs.TokenMoves.Moves.{goes}
 use Rattle.resp_scan.proofs.TokenMoves.RefusedMoves.{fits_or_total, refused, unless_over}
 use Rattle.resp_scan.proofs.TokenMoves.ByteTests.{by_digit, wants_leads}
 use Rattle.resp_value.proofs.DigitLemmas.{number-digit}
 use Rattle.resp_value.proofs.Choices.{if_below}
+use Rattle.resp_scan.proofs.TokenMoves.TokenLaws.{ALead, IsOfAggregate}
 
 pub items_of-members_of : (k : Kind) (n : ℕ) → items_of k (members_of k n) ≡ n
 items_of-members_of d.Array n = refl
@@ -122,7 +122,8 @@ count_leads s h k n needed used byte front es e c w counts ends =
     (λ digit. digit_leads p k n needed used byte (InHead h m) front es e digit c w (λ x. counts m (front ++ byte ∷ []) x))
     (λ no_digit. return_leads p k n byte (AtHeadLf h n) front es no_digit w (λ x. ends (front ++ 13 ∷ []) x))
 
-pub counts_lead : CountsLead
+-- every byte behind the digits of an aggregate's head
+pub counts_lead : (s : Place) (h : Head) (n : ℕ) → IsOfAggregate h → ALead (at s (InHead h n))
 counts_lead s head.Bulk n h used byte front es is_byte c w = absurd h
 counts_lead s head.BulkError n h used byte front es is_byte c w = absurd h
 counts_lead s head.Verbatim n h used byte front es is_byte c w = absurd h

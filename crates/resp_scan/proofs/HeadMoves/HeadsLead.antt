@@ -40,7 +40,7 @@ use Rattle.resp_scan.specs.Kinds.{rules_of}
 use Rattle.resp_scan.specs.Machine.Beginnings as b
 use Rattle.resp_scan.specs.Machine.Beginnings.{AggregateBegun, CountBegun, StreamBegun}
 use Rattle.resp_scan.specs.Machine.Standing.{HasCountsOf, IsInside, Leads, StandsAfter}
-use Rattle.resp_scan.proofs.TokenMoves.TokenLaws.{ArrayHeadLeads, HeadsLead, OpenCrLeads, OpenEndLeads}
+use Rattle.resp_scan.proofs.TokenMoves.TokenLaws.{ALead, IsOfAggregate}
 use Rattle.resp_scan.proofs.HeadMoves.CountsLead.{count_digit, count_row, items_of-members_of}
 use Rattle.resp_scan.proofs.TokenMoves.Moves.{at_level, goes}
 use Rattle.resp_scan.proofs.TokenMoves.LiteralsLead.{null_first_row}
@@ -219,7 +219,8 @@ pub attribute_row : (r : Rules) (level : ℕ) (bytes : List ℕ) (shown : List E
     IsBegunBy r level bytes 6
 attribute_row r level bytes shown w = subst (λ z. IsBegunBy r level z 6) (sym w.are) (attribute_begun r level w.no_two w.below)
 
-pub heads_lead : HeadsLead
+-- every byte behind the type byte of an aggregate other than an array
+pub heads_lead : (s : Place) (h : Head) → IsOfAggregate h → ALead (at s (AtHead h))
 heads_lead s head.Bulk h used byte front es is_byte c w = absurd h
 heads_lead s head.BulkError h used byte front es is_byte c w = absurd h
 heads_lead s head.Verbatim h used byte front es is_byte c w = absurd h
@@ -338,7 +339,8 @@ array_first_leads s used byte front es no_minus below c w =
     (λ is. mark_leads p T kind.Array used byte front es is tt c w (may_count s below) (λ level i two. streamed_array_in_two r level two) below)
     (λ no_mark_here no_digit. (no_minus, no_mark_here, no_digit)) (λ x. x)
 
-pub array_head_leads : ArrayHeadLeads
+-- every byte behind `*`
+pub array_head_leads : (s : Place) → ALead (at s AtArrayHead)
 array_head_leads s used byte front es is_byte c w =
     let p = at s AtArrayHead in
     by_byte p front es 45 byte _ _
@@ -350,7 +352,8 @@ array_head_leads s used byte front es is_byte c w =
 
 -- The line of a streamed head.
 
-pub open_cr_leads : OpenCrLeads
+-- every byte behind the `?` of an aggregate's head
+pub open_cr_leads : (s : Place) (kind : OpenKind) → ALead (at s (AtOpenCr kind))
 open_cr_leads s o used byte front es is_byte c w =
     let r = rules_of s in
     let T = StreamBegun r (kind_of o) [] in
@@ -422,7 +425,8 @@ stream_opens r o level bytes shown w =
       told = ap (λ z. z ++ e.Open (kind_of o) None ∷ []) w.told;
     }
 
-pub open_end_leads : OpenEndLeads
+-- every byte behind the CR of a streamed aggregate's head
+pub open_end_leads : (s : Place) (kind : OpenKind) → ALead (at s (AtOpenLf kind))
 open_end_leads s o used byte front es is_byte c w =
     let r = rules_of s in
     let T = StreamBegun r (kind_of o) (13 ∷ []) in

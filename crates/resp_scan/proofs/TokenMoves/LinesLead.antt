@@ -17,7 +17,7 @@ use Rattle.resp_scan.specs.Machine.Moves.{content_byte}
 use Rattle.resp_scan.specs.Kinds.{content_events, rules_of}
 use Rattle.resp_scan.specs.Machine.Beginnings.{LineBegun, TextReturned, line_text_kind}
 use Rattle.resp_scan.specs.Machine.Standing.{HasCountsOf, Leads, StandsAfter}
-use Rattle.resp_scan.proofs.TokenMoves.TokenLaws.{LinesLead, LineEndsLead}
+use Rattle.resp_scan.proofs.TokenMoves.TokenLaws.{ALead}
 use Rattle.resp_scan.proofs.TokenMoves.LeafEvents.{content_events-append, given-line, leaf_told}
 use Rattle.resp_scan.proofs.TokenMoves.Moves.{Ends, goes, tells, value_ends}
 use Rattle.resp_scan.proofs.TokenMoves.RefusedMoves.{broken, fits_or_total, refused}
@@ -75,7 +75,8 @@ line_byte_leads s room used byte front es is_byte no_return no_newline c w =
           (λ level bytes shown e t. line_row r (room - 1) level bytes shown t) more
     ] refl
 
-pub lines_lead : LinesLead
+-- every byte within a line
+pub lines_lead : (s : Place) (room : ℕ) → ALead (at s (InLine room))
 lines_lead s room used byte front es is_byte c w =
     let r = rules_of s in
     elim (eqb byte 13) as (λ x. eqb byte 13 ≡ x → Leads (at s (InLine room)) front es byte
@@ -108,7 +109,8 @@ returned_text_ends r level bytes shown w =
       told = leaf_told w.leaf (shown ++ e.TextEnd ∷ []) w.told;
     }
 
-pub line_ends_lead : LineEndsLead
+-- every byte behind a line's CR
+pub line_ends_lead : (s : Place) → ALead (at s AtLineLf)
 line_ends_lead s used byte front es is_byte c w =
     let r = rules_of s in
     elim (eqb byte 10) as (λ x. eqb byte 10 ≡ x → Leads (at s AtLineLf) front es byte (cond x (Give TextEnd (after_end s)) (Refuse cause.Syntax))) [

@@ -42,13 +42,12 @@ use Rattle.resp_scan.specs.Machine.Tokens.{Give, Go, Move, Place, Refuse, Token,
 use Rattle.resp_scan.specs.Machine.Heads.{first_needed}
 use Rattle.resp_scan.specs.Machine.Room.{after_begin, is_full}
 use Rattle.resp_scan.specs.Machine.Moves as machine
-use Rattle.resp_scan.specs.Machine.Moves.{aggregate_move, begin_move, close_move, line_move, may_close, may_close_of, push_move, start_next, start_three, move_unless}
+use Rattle.resp_scan.specs.Machine.Moves.{aggregate_move, begin_move, close_move, line_move, may_close, may_close_of, push_move, start_next, start_three, move_unless, next}
 use Rattle.resp_value.specs.Kinds.{kind_of}
 use Rattle.resp_scan.specs.Kinds.{IsRefusedFor, event_of, rules_of}
 use Rattle.resp_scan.specs.Machine.Beginnings as b
 use Rattle.resp_scan.specs.Machine.Beginnings.{AggregateBegun, LineBegun, NullLine}
 use Rattle.resp_scan.specs.Machine.Standing.{AwaitsMember, IsClosing, HasCountsOf, IsInside, Leads, StandsAfter, StandsAfterAt, busy_levels, waiting_shape, waiting_levels}
-use Rattle.resp_scan.proofs.TokenMoves.TokenLaws.{StartLeads}
 use Rattle.resp_scan.proofs.TokenMoves.Begins.{begins_leads, is_between, length-waiting}
 use Rattle.resp_scan.proofs.HeadMoves.HeadsLead.{aggregate_row, no_two_in_three, attribute_row}
 use Rattle.resp_scan.proofs.TokenMoves.LinesLead.{line_row}
@@ -360,8 +359,8 @@ other_answer : {A : Type 0} (rows : List (ℕ × A)) (other : A) (byte : ℕ) �
 other_answer [] other byte apart = refl
 other_answer (row ∷ rows) other byte apart = rw (ne_eqb byte row.0 apart.0) (other_answer rows other byte apart.1)
 
--- every byte, where a value may begin
-pub start_leads : StartLeads
+-- every byte where a value may begin
+pub start_leads : (s : Place) (byte : ℕ) (front : List ℕ) (es : List Event) → byte < 256 → HasCountsOf (at s AtStart) 0 front → StandsAfter (at s AtStart) front es → Leads (at s AtStart) front es byte (next (at s AtStart) 1 byte)
 start_leads s byte front es is_byte c w =
     let q = at s AtStart in
     at_answer (λ x v. Leads q front es x v) (start_rows q) (Refuse cause.Syntax) byte (start_rows_lead s front es c w)
