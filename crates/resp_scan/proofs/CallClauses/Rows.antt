@@ -22,8 +22,7 @@ use Rattle.resp_scan.specs.Machine.Heads.{first_needed, head_needed}
 use Rattle.resp_value.specs.Kinds.{kind_of}
 use Rattle.resp_scan.specs.Kinds.{rules_of}
 use Rattle.resp_scan.specs.Machine.Beginnings.{TokenHas, ContentBegun, FormatBegun, HeadBegun, HeadCounts, HeadReturned}
-use Rattle.resp_scan.specs.Machine.Sound.{IsTokenSound, token_needed}
-use Rattle.resp_scan.proofs.TokenMoves.TokenLaws.{TokensNeed}
+use Rattle.resp_scan.specs.Machine.Sound.{IsTokenSound, token_needed, IsSoundBy}
 use Rattle.resp_scan.proofs.TokenMoves.BigNumbersLead.{row_of, shown_row}
 use Rattle.resp_scan.proofs.TokenMoves.ChunkContentLead as chunk
 use Rattle.resp_scan.proofs.HeadMoves.ChunkHeadsLead as chunk_head
@@ -161,5 +160,6 @@ token_row s AtCloseCr level bytes shown c f more i w = absurd w
 token_row s AtCloseLf level bytes shown c f more i w = absurd w
 token_row s (Dead cause) level bytes shown c f more i w = absurd w
 
-pub tokens_need : TokensNeed
+-- inside a value the token needs the least that completes its bytes, but at a text's end, where they are whole
+pub tokens_need : (s : Place) (used level : ℕ) (bytes : List ℕ) (shown : List Event) → IsSoundBy used s → (s.token ≡ AtTextEnd → ⊥) → level ≡ length s.frames → TokenHas (rules_of s) s.token level bytes shown → IsBegunBy (rules_of s) level bytes (token_needed s.token s.bounds.depth s.frames)
 tokens_need s used level bytes shown c more i w = token_row s s.token level bytes shown c.bounds c.token more i w
