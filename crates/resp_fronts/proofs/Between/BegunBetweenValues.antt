@@ -2,7 +2,7 @@
 use Rattle.std.proofs.Common.{◌≡◌, ℕ, zero, suc, ◌<◌, ◌≤◌, Option, None, Some, List, [], ◌∷◌, ◌++◌, length, refl, sym, ap, subst, ◌∙◌, arith, append_assoc, cond}
 use Rattle.resp_value.specs.Data.{items_of}
 use Rattle.resp_value.specs.Trees.{Tree, text}
-use Rattle.resp_value.specs.Rules.{Rules, Rule, Grammar, NoDouble, InVersion, PushAtTop, InRange, NotStreamed, WithinDepth, WithinLength, WithinItems, WithinTotal, rank}
+use Rattle.resp_value.specs.Rules.{Rules, Rule, Grammar, NoDouble, InVersion, PushAtTop, InRange, NotStreamed, WithinDepth, WithinLength, WithinItems, rank}
 use Rattle.resp_value.specs.LocalRules.{LeafKeeps, NodeKeeps}
 use Rattle.resp_value.specs.Bounds.{AreBounds}
 use Rattle.resp_value.specs.Spellings.{IsCause}
@@ -113,9 +113,7 @@ front_answered r levels front byte (Some PushAtTop) no_stop w e early a = refuse
 front_answered r levels front byte (Some InRange) no_stop w e early a = refused_begin r levels front byte InRange PushAtTop no_stop w refl early a
 front_answered r levels front byte (Some NotStreamed) no_stop w e early a = refused_begin r levels front byte NotStreamed InRange no_stop w refl early a
 front_answered r levels front byte (Some WithinDepth) no_stop w e early a = refused_begin r levels front byte WithinDepth NotStreamed no_stop w refl early a
-front_answered r levels front byte (Some WithinLength) no_stop w e early a = absurd (omega arith)
-front_answered r levels front byte (Some WithinItems) no_stop w e early a = absurd (omega arith)
-front_answered r levels front byte (Some WithinTotal) no_stop w e early a = absurd (omega arith)
+front_answered r levels front byte _ no_stop w e early a = absurd (omega arith)
 
 -- between values, the first rule that refuses a byte is its cause
 pub first_byte_cause : (r : Rules) (levels : List Level) (front : List ℕ) (byte : ℕ) → AreBounds r.limits → (byte ≡ 46 → ⊥) → IsBetween r levels front →

@@ -116,10 +116,7 @@ kind_goes_on r rule level k keeps =
 
 no_items : (k : Kind) → items_of k (members_of k 0) ≡ 0
 no_items Array = refl
-no_items Set = refl
-no_items Map = refl
-no_items Attr = refl
-no_items Push = refl
+no_items _ = refl
 
 -- an aggregate on a level
 aggregate_answered : (r : Rules) (level : ℕ) (k : Kind) → IsOther k → (r.version ≡ Two → ⊥) → IsNoPushBelow level k →

@@ -14,26 +14,13 @@ use Rattle.resp_scan.proofs.Soundness.SoundMoves.{is_outside}
 
 first_some : (h : Head) → 0 < first_needed h
 first_some head.Bulk = omega arith
-first_some head.BulkError = omega arith
-first_some head.Verbatim = omega arith
-first_some (head.Chunk room) = omega arith
-first_some head.Array = omega arith
-first_some head.Set = omega arith
-first_some head.Map = omega arith
-first_some head.Attr = omega arith
-first_some head.Push = omega arith
+first_some _ = omega arith
 
 two_behind : (h : Head) (n : ℕ) → 2 ≤ head_needed h n
-two_behind head.Bulk n = omega arith
-two_behind head.BulkError n = omega arith
 two_behind head.Verbatim n = if_equal n 0 (λ x. 2 ≤ cond x 9 (cond (nat_lt n 4) (n * 10 + 5) (n + 4))) (λ z. omega arith)
     (λ z. if_below n 4 (λ x. 2 ≤ cond x (n * 10 + 5) (n + 4)) (λ y. omega arith) (λ y. omega arith))
 two_behind (head.Chunk room) n = if_equal n 0 (λ x. 2 ≤ cond x 2 (n + 8)) (λ z. omega arith) (λ z. omega arith)
-two_behind head.Array n = omega arith
-two_behind head.Set n = omega arith
-two_behind head.Map n = omega arith
-two_behind head.Attr n = omega arith
-two_behind head.Push n = omega arith
+two_behind _ n = omega arith
 
 -- a byte is needed wherever bytes are looked at
 pub some_needed : (t : Token) (depth : ℕ) (fs : List Frame) → IsTokenSound t depth fs → is_outside t ≡ false → 0 < token_needed t depth fs

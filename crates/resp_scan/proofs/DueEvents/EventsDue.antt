@@ -7,7 +7,7 @@ use Rattle.resp_fronts.specs.Events as e
 use Rattle.resp_fronts.specs.Events.{Event, all_events, events_due}
 use Rattle.resp_scan.specs.declared.machine.Head.{Head}
 use Rattle.resp_scan.specs.declared.machine.Head.TheVariants as head
-use Rattle.resp_scan.specs.Machine.Tokens.{Token, Place, AtStart, AtEnd, InLine, AtLineLf, AtIntSign, AtIntFirst, InInt, AtIntLf, AtBigSign, AtBigFirst, InBigZeros, AtBigZeroLf, AtBigDigit, InBig, AtTextEnd, AtNullOne, AtNullCr, AtNullLf, AtBool, AtBoolCr, AtBoolLf, AtBulkHead, AtArrayHead, AtHead, InHead, AtHeadLf, AtFormat, AtFormatSecond, AtFormatThird, AtFormatColon, InContent, AtContentCr, AtContentLf, AtStreamCr, AtStreamLf, AtChunk, InChunk, AtChunkCr, AtChunkLf, AtOpenCr, AtOpenLf, AtCloseCr, AtCloseLf, Dead, at}
+use Rattle.resp_scan.specs.Machine.Tokens.{Token, Place, AtStart, AtEnd, InLine, AtLineLf, AtIntSign, AtIntFirst, InInt, AtIntLf, AtBigSign, AtBigFirst, InBigZeros, AtBigZeroLf, AtBigDigit, InBig, AtTextEnd, AtNullOne, AtNullCr, AtNullLf, AtBool, AtBoolCr, AtBoolLf, AtBulkHead, AtArrayHead, AtHead, InHead, AtHeadLf, AtFormat, AtFormatSecond, AtFormatThird, AtFormatColon, InContent, AtContentCr, AtContentLf, AtStreamCr, AtStreamLf, AtChunk, InChunk, AtChunkCr, AtChunkLf, AtOpenCr, AtOpenLf, AtCloseCr, AtCloseLf, at}
 use Rattle.resp_value.specs.Kinds.{kind_of}
 use Rattle.resp_scan.specs.Kinds.{rules_of}
 use Rattle.resp_scan.specs.Machine.Beginnings as b
@@ -53,8 +53,6 @@ OwesNothing token = (token ≡ AtTextEnd → ⊥) × ((digit room : ℕ) → tok
 
 token_due : (token : Token) (r : Rules) (level : ℕ) (bytes : List ℕ) (shown : List Event) → OwesNothing token → b.TokenHas r token level bytes shown →
     AreDueWithin bytes shown
-token_due AtStart r level bytes shown p w = absurd w
-token_due AtEnd r level bytes shown p w = absurd w
 token_due (InLine room) r level bytes shown p w = line_begun_due r room level bytes shown w
 token_due AtLineLf r level bytes shown p w = text_returned_due r level bytes shown w
 token_due AtIntSign r level bytes shown p w = int_begun_quiet r Unsigned level bytes shown w.0 w.1
@@ -94,9 +92,7 @@ token_due (AtChunkCr room) r level bytes shown p w = chunk_due r room 0 [] level
 token_due (AtChunkLf room) r level bytes shown p w = chunk_due r room 0 (13 ∷ []) level bytes shown (refl, refl) w
 token_due (AtOpenCr k) r level bytes shown p w = stream_quiet r (kind_of k) level bytes shown w
 token_due (AtOpenLf k) r level bytes shown p w = stream_returned_quiet r (kind_of k) level bytes shown w
-token_due AtCloseCr r level bytes shown p w = absurd w
-token_due AtCloseLf r level bytes shown p w = absurd w
-token_due (Dead c) r level bytes shown p w = absurd w
+token_due _ r level bytes shown p w = absurd w
 
 inside_token : (s : Place) (token : Token) (used : ℕ) (front : List ℕ) (es : List Event) → IsSoundBy used (at s token) → OwesNothing token →
     IsInside (rules_of s) (b.TokenHas (rules_of s) token) s.frames front es → AreDue front es

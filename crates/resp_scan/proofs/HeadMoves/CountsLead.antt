@@ -26,11 +26,9 @@ use Rattle.resp_value.proofs.Choices.{if_below}
 use Rattle.resp_scan.proofs.TokenMoves.TokenLaws.{ALead, IsOfAggregate}
 
 pub items_of-members_of : (k : Kind) (n : ℕ) → items_of k (members_of k n) ≡ n
-items_of-members_of d.Array n = refl
-items_of-members_of d.Set n = refl
 items_of-members_of d.Map n = omega arith
 items_of-members_of d.Attr n = omega arith
-items_of-members_of d.Push n = refl
+items_of-members_of _ n = refl
 
 -- behind a count's digits the line's end and the members
 pub count_row : (r : Rules) (k : Kind) (n needed level : ℕ) (bytes : List ℕ) (shown : List Event) → 3 * members_of k n + 2 ≡ needed →
@@ -124,10 +122,6 @@ count_leads s h k n needed used byte front es e c w counts ends =
 
 -- every byte behind the digits of an aggregate's head
 pub counts_lead : (s : Place) (h : Head) (n : ℕ) → IsOfAggregate h → ALead (at s (InHead h n))
-counts_lead s head.Bulk n h used byte front es is_byte c w = absurd h
-counts_lead s head.BulkError n h used byte front es is_byte c w = absurd h
-counts_lead s head.Verbatim n h used byte front es is_byte c w = absurd h
-counts_lead s (head.Chunk room) n h used byte front es is_byte c w = absurd h
 counts_lead s head.Array n h used byte front es is_byte c w = count_leads s head.Array d.Array n ((n * 10 + (byte - 48)) * 3 + 2) used byte front es
     (omega arith) c w (λ m longer x. x) (λ longer x. x)
 counts_lead s head.Set n h used byte front es is_byte c w = count_leads s head.Set d.Set n ((n * 10 + (byte - 48)) * 3 + 2) used byte front es (omega arith) c w
@@ -138,3 +132,4 @@ counts_lead s head.Attr n h used byte front es is_byte c w = count_leads s head.
     c w (λ m longer x. x) (λ longer x. x)
 counts_lead s head.Push n h used byte front es is_byte c w = count_leads s head.Push d.Push n ((n * 10 + (byte - 48)) * 3 + 2) used byte front es (omega arith)
     c w (λ m longer x. x) (λ longer x. x)
+counts_lead s _ n h used byte front es is_byte c w = absurd h

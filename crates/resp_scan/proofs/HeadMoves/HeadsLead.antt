@@ -221,10 +221,6 @@ attribute_row r level bytes shown w = subst (λ z. IsBegunBy r level z 6) (sym w
 
 -- every byte behind the type byte of an aggregate other than an array
 pub heads_lead : (s : Place) (h : Head) → IsOfAggregate h → ALead (at s (AtHead h))
-heads_lead s head.Bulk h used byte front es is_byte c w = absurd h
-heads_lead s head.BulkError h used byte front es is_byte c w = absurd h
-heads_lead s head.Verbatim h used byte front es is_byte c w = absurd h
-heads_lead s (head.Chunk room) h used byte front es is_byte c w = absurd h
 heads_lead s head.Array h used byte front es is_byte c w = absurd w.took
 heads_lead s head.Set h used byte front es is_byte c w =
     let p = at s (AtHead head.Set) in
@@ -249,6 +245,7 @@ heads_lead s head.Push h used byte front es is_byte c w =
     head_leads p (AggregateBegun (rules_of s) d.Push) head.Push d.Push 3 ((byte - 48) * 3 + 2) used byte _ front es (omega arith) c w
     (λ level bytes shown i t. (of_three (rules_of s) d.Push level bytes shown t, row level bytes shown t)) (λ level bytes shown t. t.are)
     (no_stream_leads p d.Push 3 byte front es (λ n can. can) w row) (λ no_mark_here no_digit. no_digit) (λ x. x)
+heads_lead s _ h used byte front es is_byte c w = absurd h
 
 -- Arrays, which version 2 has too, and whose depth is tested behind `*`.
 
@@ -374,17 +371,11 @@ open_cr_leads s o used byte front es is_byte c w =
 
 no_items : (k : Kind) → items_of k 0 ≡ 0
 no_items d.Array = refl
-no_items d.Set = refl
-no_items d.Map = refl
-no_items d.Attr = refl
-no_items d.Push = refl
+no_items _ = refl
 
 no_missing : (k : Kind) → members_missing k Streamed 0 ≡ 0
 no_missing d.Array = refl
-no_missing d.Set = refl
-no_missing d.Map = refl
-no_missing d.Attr = refl
-no_missing d.Push = refl
+no_missing _ = refl
 
 stream_keeps : (r : Rules) (k : Kind) (behind : List ℕ) (level : ℕ) (bytes : List ℕ) (shown : List Event) → StreamBegun r k behind level bytes shown →
     NodeKeeps r WithinItems level k Streamed 0

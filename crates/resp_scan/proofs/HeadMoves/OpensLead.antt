@@ -139,13 +139,10 @@ head_end_leads s o n m used byte front es all w =
 
 -- every byte behind the CR of an aggregate's head
 pub head_ends_lead : (s : Place) (h : Head) (n : ℕ) → IsOfAggregate h → ALead (at s (AtHeadLf h n))
-head_ends_lead s head.Bulk n h used byte front es is_byte c w = absurd h
-head_ends_lead s head.BulkError n h used byte front es is_byte c w = absurd h
-head_ends_lead s head.Verbatim n h used byte front es is_byte c w = absurd h
-head_ends_lead s (head.Chunk room) n h used byte front es is_byte c w = absurd h
 head_ends_lead s head.Array n h used byte front es is_byte c w = head_end_leads (at s (AtHeadLf head.Array n)) kind.Array n n used byte front es refl w
 head_ends_lead s head.Set n h used byte front es is_byte c w = head_end_leads (at s (AtHeadLf head.Set n)) kind.Set n n used byte front es refl w
 head_ends_lead s head.Map n h used byte front es is_byte c w = head_end_leads (at s (AtHeadLf head.Map n)) kind.Map n (n * 2) used byte front es (omega arith) w
 head_ends_lead s head.Attr n h used byte front es is_byte c w = head_end_leads (at s (AtHeadLf head.Attr n)) kind.Attr n (n * 2 + 1) used byte front es
     (omega arith) w
 head_ends_lead s head.Push n h used byte front es is_byte c w = head_end_leads (at s (AtHeadLf head.Push n)) kind.Push n n used byte front es refl w
+head_ends_lead s _ n h used byte front es is_byte c w = absurd h

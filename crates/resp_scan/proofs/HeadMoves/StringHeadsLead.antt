@@ -76,12 +76,7 @@ string_heads_lead s head.BulkError p used byte front es is_byte c w =
 string_heads_lead s head.Verbatim p used byte front es is_byte c w =
     string_head_leads (at s (AtHead head.Verbatim)) head.Verbatim (t.Verbatim (zeros 3)) verbatim used byte front es c
     (retold (rules_of s) _ _ s.frames front es w (λ level bytes shown t. ((t.0, t.1), t.2))) (λ other. other)
-string_heads_lead s (head.Chunk room) p used byte front es is_byte c w = absurd p
-string_heads_lead s head.Array p used byte front es is_byte c w = absurd p
-string_heads_lead s head.Set p used byte front es is_byte c w = absurd p
-string_heads_lead s head.Map p used byte front es is_byte c w = absurd p
-string_heads_lead s head.Attr p used byte front es is_byte c w = absurd p
-string_heads_lead s head.Push p used byte front es is_byte c w = absurd p
+string_heads_lead s _ p used byte front es is_byte c w = absurd p
 
 -- a digit of a length, or its CR
 string_length_leads : (s : Place) (h : Head) (kind : StringKind) (k : IsStringHead h kind) (n used byte : ℕ) (front : List ℕ) (es : List Event) →
@@ -130,8 +125,4 @@ string_lengths_lead s head.BulkError n p used byte front es is_byte c w =
 string_lengths_lead s head.Verbatim n p used byte front es is_byte c w =
     string_length_leads (at s (InHead head.Verbatim n)) head.Verbatim (t.Verbatim (zeros 3)) verbatim n used byte front es c w
 string_lengths_lead s (head.Chunk room) n p used byte front es is_byte c w = absurd p
-string_lengths_lead s head.Array n p used byte front es is_byte c w = absurd p
-string_lengths_lead s head.Set n p used byte front es is_byte c w = absurd p
-string_lengths_lead s head.Map n p used byte front es is_byte c w = absurd p
-string_lengths_lead s head.Attr n p used byte front es is_byte c w = absurd p
-string_lengths_lead s head.Push n p used byte front es is_byte c w = absurd p
+string_lengths_lead s _ n p used byte front es is_byte c w = absurd p

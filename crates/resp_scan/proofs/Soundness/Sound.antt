@@ -5,7 +5,7 @@ use Rattle.std.proofs.lemmas.Bool.Decides.{nat_tests}
 use Rattle.resp_value.specs.declared.cause.Cause.TheVariants as cause
 use Rattle.resp_scan.specs.declared.machine.Head.TheVariants as head
 use Rattle.resp_scan.specs.Machine.Magnitudes.{greatest_magnitude}
-use Rattle.resp_scan.specs.Machine.Tokens.{Token, Place, Move, Go, Refuse, at, AtStart, AtEnd, InLine, AtLineLf, AtIntSign, AtIntFirst, InInt, AtIntLf, AtBigSign, AtBigFirst, InBigZeros, AtBigZeroLf, AtBigDigit, InBig, AtTextEnd, AtNullOne, AtNullCr, AtNullLf, AtBool, AtBoolCr, AtBoolLf, AtBulkHead, AtArrayHead, AtHead, InHead, AtHeadLf, AtFormat, AtFormatSecond, AtFormatThird, AtFormatColon, InContent, AtContentCr, AtContentLf, AtStreamCr, AtStreamLf, AtChunk, InChunk, AtChunkCr, AtChunkLf, AtOpenCr, AtOpenLf, AtCloseCr, AtCloseLf, Dead}
+use Rattle.resp_scan.specs.Machine.Tokens.{Token, Place, Move, Go, Refuse, at, AtStart, InLine, AtLineLf, AtIntSign, AtIntFirst, InInt, AtIntLf, AtBigSign, AtBigFirst, InBigZeros, AtBigZeroLf, AtBigDigit, InBig, AtTextEnd, AtNullOne, AtNullCr, AtNullLf, AtBool, AtBoolCr, AtBoolLf, AtBulkHead, AtArrayHead, AtHead, InHead, AtHeadLf, AtFormat, AtFormatSecond, AtFormatThird, AtFormatColon, InContent, AtContentCr, AtContentLf, AtStreamCr, AtStreamLf, AtChunk, InChunk, AtChunkCr, AtChunkLf, AtOpenCr, AtOpenLf, AtCloseCr, AtCloseLf}
 use Rattle.resp_scan.specs.Machine.Room.{has_total_room, over_total}
 use Rattle.resp_scan.specs.Machine.Heads.{may_end, content_at}
 use Rattle.resp_scan.specs.Machine.Moves.{move_unless, only_byte, is_digit, int_digit, int_first, big_digit, big_first, content_byte, start_next, next_in}
@@ -64,7 +64,6 @@ wants_is i s x b v m = cond_if (IsMove i s) (eqb b x) v (Refuse cause.Syntax) (�
 -- every byte, at every token, keeps the numbers of a place
 pub is_move : (t : Token) (s : Place) (i b : ℕ) → IsSoundBy i (at s t) → (is_outside t ≡ true → i ≡ 0) → IsMove (i + 1) s (next_in t s (i + 1) b)
 is_move AtStart s i b h g = subst (λ k. IsMove (k + 1) s (start_next s b)) (sym (g refl)) (is_first s b (subst (λ k. IsSoundBy k (at s AtStart)) (g refl) h))
-is_move AtEnd s i b h g = tt
 is_move (InLine room) s i b h g =
     cond_if (IsMove (i + 1) s) (eqb b 13) _ _ (λ e. less s (InLine room) AtLineLf i h (omega arith) tt refl) (λ e.
     cond_if (IsMove (i + 1) s) (eqb b 10) _ _ (λ e. tt) (λ e.
@@ -91,12 +90,10 @@ is_move (InBigZeros negative) s i b h g =
     wants_is (i + 1) s 13 b _ (less s (InBigZeros negative) AtBigZeroLf i h (omega arith) tt refl))
 is_move AtBigZeroLf s i b h g = wants_is (i + 1) s 10 b _ (let q : s.taken + i + 1 + s.frames_need ≤ s.bounds.total = h.total in
     stays s AtBigZeroLf AtTextEnd i (i + 1) h (omega (arith, q)) tt)
-is_move (AtBigDigit d room) s i b h g = tt
 is_move (InBig room) s i b h g =
     cond_if (IsMove (i + 1) s) (is_digit b) _ _
     (λ e. is_byte s i room InBig (λ r f. within_total s (InBig room) (InBig r) i 2 h (fits_room s (i + 1) 2 f (omega arith)) (omega arith) tt refl))
     (λ e. wants_is (i + 1) s 13 b _ (less s (InBig room) AtLineLf i h (omega arith) tt refl))
-is_move AtTextEnd s i b h g = tt
 is_move AtNullOne s i b h g = wants_is (i + 1) s 49 b _ (less s AtNullOne AtNullCr i h (omega arith) tt refl)
 is_move AtNullCr s i b h g = wants_is (i + 1) s 13 b _ (less s AtNullCr AtNullLf i h (omega arith) tt refl)
 is_move AtNullLf s i b h g = wants_is (i + 1) s 10 b _ (is_ended s AtNullLf i h (omega arith), tt)
@@ -137,4 +134,4 @@ is_move AtCloseCr s i b h g = wants_is (i + 1) s 13 b _ (less s AtCloseCr AtClos
 is_move AtCloseLf s i b h g =
     let w : s.taken + i + 1 + s.frames_need ≤ s.bounds.total = h.total in
     wants_is (i + 1) s 10 b _ (record { taken = refl; rules = refl; sound = sound_closed s AtCloseLf s.frames i (i + 1) refl h h.token (omega (arith, w)) }, tt)
-is_move (Dead c) s i b h g = tt
+is_move _ s i b h g = tt

@@ -75,10 +75,7 @@ is_opened s t k n i h l q = is_pushed s t (record { kind = k; shape = Left n }) 
 
 streamed_three : (k : OpenKind) → need_of_streamed k 0 ≡ 3
 streamed_three kind.Array = refl
-streamed_three kind.Set = refl
-streamed_three kind.Map = refl
-streamed_three kind.Attr = refl
-streamed_three kind.Push = refl
+streamed_three _ = refl
 
 -- a place whose streamed aggregate has opened
 pub is_opened_streamed : (s : Place) (t : Token) (k : OpenKind) (i : ℕ) → IsSoundBy i (at s t) → length s.frames < s.bounds.depth →
@@ -97,10 +94,7 @@ begun_need : (k : OpenKind) (sh : Shape) (o r : ℕ) → IsOpenShape sh → o �
     need_after_begin k sh o ≡ need_of_frame k (shape_after_begin sh) + r
 begun_need k (Left n) o r h e = omega (arith, h, e)
 begun_need kind.Map (Begun n) o r h e = need_of_map n o r e
-begun_need kind.Array (Begun n) o r h e = e
-begun_need kind.Set (Begun n) o r h e = e
-begun_need kind.Attr (Begun n) o r h e = e
-begun_need kind.Push (Begun n) o r h e = e
+begun_need _ _ o r h e = e
 
 counted_map : (n items : ℕ) → (eqb (n % 2) 0 && nat_le items (n / 2)) ≡ false → n ≤ items * 2 → n + 1 ≤ items * 2
 counted_map n items e l = grind (arith, nat_tests)
@@ -159,10 +153,7 @@ closed_map n e = ap (λ v. cond v 3 6) e
 pub closes_three : (k : OpenKind) (sh : Shape) → may_close_of k sh ≡ true → need_of_frame k sh ≡ 3
 closes_three k (Left n) e = absurd (false≢true e)
 closes_three kind.Map (Begun n) e = closed_map n e
-closes_three kind.Array (Begun n) e = refl
-closes_three kind.Set (Begun n) e = refl
-closes_three kind.Attr (Begun n) e = refl
-closes_three kind.Push (Begun n) e = refl
+closes_three _ _ e = refl
 
 -- a place is as sound at the close of a streamed aggregate
 pub sound_closing : (s : Place) (fs : List Frame) → s.frames ≡ fs → IsSoundBy 0 (at s AtStart) → may_close fs ≡ true →

@@ -17,16 +17,10 @@ use Rattle.resp_scan.proofs.Soundness.SoundFrames.{is_ended, is_opened}
 
 -- a head needs more bytes than its number counts
 pub head_more : (h : Head) (n : ℕ) → n + 1 ≤ head_needed h n
-head_more head.Bulk n = omega arith
-head_more head.BulkError n = omega arith
 head_more head.Verbatim n = cond_if (λ v. n + 1 ≤ v) (eqb n 0) _ _ (λ e. let z : n ≡ 0 = grind (arith, nat_tests) in
     omega (arith, z)) (λ e. cond_if (λ v. n + 1 ≤ v) (nat_lt n 4) _ _ (λ e. omega arith) (λ e. omega arith))
 head_more (head.Chunk room) n = cond_if (λ v. n + 1 ≤ v) (eqb n 0) _ _ (λ e. let z : n ≡ 0 = grind (arith, nat_tests) in omega (arith, z)) (λ e. omega arith)
-head_more head.Array n = omega arith
-head_more head.Set n = omega arith
-head_more head.Map n = omega arith
-head_more head.Attr n = omega arith
-head_more head.Push n = omega arith
+head_more _ n = omega arith
 
 -- a head needs a byte
 pub head_some : (h : Head) (n : ℕ) → 0 < head_needed h n
@@ -34,14 +28,7 @@ head_some h n = omega (arith, head_more h n)
 
 room_of : (s : Place) (x : Head) (n : ℕ) → nat_lt (greatest_number s x) n ≡ false → IsWithinRoom x n
 room_of s (head.Chunk room) n e = grind (arith, nat_tests)
-room_of s head.Bulk n e = tt
-room_of s head.BulkError n e = tt
-room_of s head.Verbatim n e = tt
-room_of s head.Array n e = tt
-room_of s head.Set n e = tt
-room_of s head.Map n e = tt
-room_of s head.Attr n e = tt
-room_of s head.Push n e = tt
+room_of s _ n e = tt
 
 -- a digit of a head keeps the numbers of a place
 pub is_head_digit : (s : Place) (t : Token) (i : ℕ) (x : Head) (n : ℕ) → IsSoundBy i (at s t) → HasLevel x s.bounds.depth s.frames →

@@ -5,7 +5,7 @@ use Rattle.resp_value.specs.declared.cause.Cause.{Cause}
 use Rattle.resp_value.specs.declared.cause.Cause.TheVariants as cause
 use Rattle.resp_value.specs.declared.version.Version.{Version}
 use Rattle.resp_value.specs.declared.version.Version.TheVariants as version
-use Rattle.resp_scan.specs.Machine.Tokens.{Token, Place, Happening, Null, Truth, Int, Text, Digit, TextEnd, Open, Close, Move, Go, Byte, Give, Refuse, at, AtStart, AtEnd, AtBigDigit, AtTextEnd, Dead}
+use Rattle.resp_scan.specs.Machine.Tokens.{Token, Place, Happening, Digit, Move, Go, Byte, Give, Refuse, at, AtStart, AtEnd, AtBigDigit, AtTextEnd, Dead}
 use Rattle.resp_scan.specs.Machine.Room.{has_total_room, over_total, is_full}
 use Rattle.resp_scan.specs.Machine.Heads.{cause_in_three}
 use Rattle.resp_scan.specs.Machine.Moves.{move_unless}
@@ -41,14 +41,8 @@ pub record IsInside (i : ℕ) (s t : Place) : Type 0 where
 
 -- the digit of a big number is owed and never comes of a byte
 abbrev pub IsPlain : Happening → Type 0
-IsPlain Null = Unit {0}
-IsPlain (Truth v) = Unit {0}
-IsPlain (Int n) = Unit {0}
-IsPlain (Text k) = Unit {0}
 IsPlain (Digit d) = ⊥
-IsPlain TextEnd = Unit {0}
-IsPlain (Open k n) = Unit {0}
-IsPlain Close = Unit {0}
+IsPlain _ = Unit {0}
 
 -- a move from a place of so many bytes keeps its numbers
 abbrev pub IsMove : ℕ → Place → Move → Type 0

@@ -29,8 +29,7 @@ line_row r room level bytes shown w = line_begun r (line w.kind w.token.content)
 -- it is no big number
 text_of_line : (k : LineKind) (negative : Bool) (es : List Event) → e.Text (line_text_kind k) ∷ es ≡ e.Text (e.Big negative) ∷ [] → ⊥
 text_of_line t.Simple negative es same = cc
-text_of_line t.Error negative es same = cc
-text_of_line t.Double negative es same = cc
+text_of_line _ negative es same = cc
 
 -- its CR
 line_returns : (r : Rules) (room level : ℕ) (bytes : List ℕ) (shown : List Event) → LineBegun r room level bytes shown →

@@ -36,11 +36,8 @@ use Rattle.resp_value.proofs.Choices.{if_equal, if_within}
 -- a byte of a number's beginning that no spelling has there
 pub begun_line : (k : NumberKind) (sign : Sign) → IsLine (number_byte k ∷ (sign_text sign ++ []))
 begun_line Int Unsigned = ((λ z. omega arith, λ z. omega arith), tt)
-begun_line Int Plus = ((λ z. omega arith, λ z. omega arith), ((λ z. omega arith, λ z. omega arith), tt))
-begun_line Int Minus = ((λ z. omega arith, λ z. omega arith), ((λ z. omega arith, λ z. omega arith), tt))
 begun_line Big Unsigned = ((λ z. omega arith, λ z. omega arith), tt)
-begun_line Big Plus = ((λ z. omega arith, λ z. omega arith), ((λ z. omega arith, λ z. omega arith), tt))
-begun_line Big Minus = ((λ z. omega arith, λ z. omega arith), ((λ z. omega arith, λ z. omega arith), tt))
+begun_line _ _ = ((λ z. omega arith, λ z. omega arith), ((λ z. omega arith, λ z. omega arith), tt))
 
 pub begun_dead : (r : Rules) (k : NumberKind) (sign : Sign) (level byte : ℕ) (bytes rest : List ℕ) → (sign ≡ Unsigned → (byte ≡ 43 → ⊥) × (byte ≡ 45 → ⊥)) →
     (IsDigit byte → ⊥) → IsNumberBegun r k sign level bytes → CompletesUnder r Grammar level bytes (byte ∷ rest) → ⊥
@@ -121,13 +118,11 @@ unsigned_any r k byte level bytes shown no_plus no_minus w = record {
 
 greatest_is : (sign : Sign) → greatest sign ≡ greatest_magnitude (is_minus sign)
 greatest_is Unsigned = refl
-greatest_is Plus = refl
-greatest_is Minus = refl
+greatest_is _ = refl
 
 one_digit : (sign : Sign) (digit : ℕ) → IsDigit digit → number (digit ∷ []) ≤ greatest sign
 one_digit Unsigned digit d = omega (arith, d.1)
-one_digit Plus digit d = omega (arith, d.1)
-one_digit Minus digit d = omega (arith, d.1)
+one_digit _ digit d = omega (arith, d.1)
 
 int_begins : (r : Rules) (negative : Bool) (byte level : ℕ) (bytes : List ℕ) (shown : List Event) → IsDigit byte →
     AnySign r Int negative byte level bytes shown → IntBegun r negative (byte - 48) level (bytes ++ byte ∷ []) shown
@@ -223,8 +218,7 @@ int_past r negative n byte level bytes shown d past w =
 
 signed_is : (sign : Sign) (digits : List ℕ) → signed_value sign digits ≡ machine.with_sign (is_minus sign) (number digits)
 signed_is Unsigned digits = refl
-signed_is Plus digits = refl
-signed_is Minus digits = refl
+signed_is _ digits = refl
 
 int_returns : (r : Rules) (negative : Bool) (n level : ℕ) (bytes : List ℕ) (shown : List Event) → IntBegun r negative n level bytes shown →
     IntReturned r negative n level (bytes ++ 13 ∷ []) shown

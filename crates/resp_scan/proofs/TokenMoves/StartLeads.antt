@@ -169,11 +169,8 @@ push_leads s front es c w no_two answer = case s.frames answer c w
 -- A close.
 
 streamed_has_all : (k : OpenKind) (m : ℕ) → may_close_of k (Begun m) ≡ true → members_missing (kind_of k) Streamed m ≡ 0
-streamed_has_all kind.Array m can = refl
-streamed_has_all kind.Set m can = refl
-streamed_has_all kind.Attr m can = refl
-streamed_has_all kind.Push m can = refl
 streamed_has_all kind.Map m can = grind (arith, nat_tests)
+streamed_has_all _ m can = refl
 
 closes_from : (r : Rules) (f : Frame) (fs : List Frame) (front : List ℕ) (es : List Event) → (w : AwaitsMember r (f ∷ fs) front es) →
     may_close_of f.kind f.shape ≡ true → IsClosing r f.kind fs (46 ∷ []) (13 ∷ 10 ∷ []) (front ++ 46 ∷ []) es
@@ -202,11 +199,8 @@ closes_from r f fs front es w can = case w.frames f.shape w.of_levels w.ready w.
 
 goes_on_first : (k : OpenKind) (shape : Shape) → may_close_of k shape ≡ false → GoesOn (kind_of k) (waiting_shape shape)
 goes_on_first k (Left m) stays = tt
-goes_on_first kind.Array (Begun m) stays = absurd cc
-goes_on_first kind.Set (Begun m) stays = absurd cc
-goes_on_first kind.Attr (Begun m) stays = absurd cc
-goes_on_first kind.Push (Begun m) stays = absurd cc
 goes_on_first kind.Map (Begun m) stays = let odd : 0 < m % 2 = grind (arith, nat_tests) in omega (arith, odd)
+goes_on_first _ _ stays = absurd cc
 
 stop_refused : (r : Rules) (fs : List Frame) (front : List ℕ) (es : List Event) → AwaitsMember r fs front es →
     ((v : Level) (outer : List Level) → waiting_levels fs ≡ v ∷ outer → GoesOn v.kind v.shape) → IsRefusedFor r (front ++ 46 ∷ []) cause.Syntax

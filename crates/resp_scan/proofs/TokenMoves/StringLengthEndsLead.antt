@@ -100,8 +100,4 @@ string_length_ends_lead s head.Verbatim n p used byte front es is_byte c w =
       told = u.1.length.told;
     }))
 string_length_ends_lead s (head.Chunk room) n p used byte front es is_byte c w = absurd p
-string_length_ends_lead s head.Array n p used byte front es is_byte c w = absurd p
-string_length_ends_lead s head.Set n p used byte front es is_byte c w = absurd p
-string_length_ends_lead s head.Map n p used byte front es is_byte c w = absurd p
-string_length_ends_lead s head.Attr n p used byte front es is_byte c w = absurd p
-string_length_ends_lead s head.Push n p used byte front es is_byte c w = absurd p
+string_length_ends_lead s _ n p used byte front es is_byte c w = absurd p

@@ -3,7 +3,7 @@ use Rattle.std.specs.Prelude.{ℕ, ◌+◌, ◌<◌, List}
 use Rattle.resp_fronts.specs.Events.{Event}
 use Rattle.resp_scan.specs.Machine.Tokens.{Place}
 use Rattle.resp_scan.specs.declared.machine.Head.{Head}
-use Rattle.resp_scan.specs.declared.machine.Head.TheVariants.{Bulk, BulkError, Verbatim, Chunk, Array, Set, Map, Attr, Push}
+use Rattle.resp_scan.specs.declared.machine.Head.TheVariants.{Bulk, BulkError, Verbatim, Chunk}
 use Rattle.resp_scan.specs.Machine.Moves.{next}
 use Rattle.resp_scan.specs.Machine.Standing.{StandsAfter, Leads, HasCountsOf}
 
@@ -18,20 +18,11 @@ IsOfAggregate Bulk = ⊥
 IsOfAggregate BulkError = ⊥
 IsOfAggregate Verbatim = ⊥
 IsOfAggregate (Chunk room) = ⊥
-IsOfAggregate Array = Unit {0}
-IsOfAggregate Set = Unit {0}
-IsOfAggregate Map = Unit {0}
-IsOfAggregate Attr = Unit {0}
-IsOfAggregate Push = Unit {0}
+IsOfAggregate _ = Unit {0}
 
 -- the head of a string that isn't streamed
 abbrev pub IsOfString : Head → Type 0
 IsOfString Bulk = Unit {0}
 IsOfString BulkError = Unit {0}
 IsOfString Verbatim = Unit {0}
-IsOfString (Chunk room) = ⊥
-IsOfString Array = ⊥
-IsOfString Set = ⊥
-IsOfString Map = ⊥
-IsOfString Attr = ⊥
-IsOfString Push = ⊥
+IsOfString _ = ⊥
