@@ -4,6 +4,8 @@ pub mod Faults
 pub mod Heard
 pub mod Answered
 pub mod Hearing
+pub mod Nearer
+pub mod Turns
 pub mod NoValue
 pub mod Steps
 pub mod Rows

@@ -14,3 +14,4 @@ pub mod Runs
 pub mod Beginnings
 pub mod Standing
 pub mod Owed
+pub mod Turns

@@ -59,7 +59,7 @@ impl Machine {
 
 /// The bytes before the first CR or LF: the first few by hand, then by vectors.
 #[inline]
-fn line_run(s: &[u8]) -> usize
+pub fn line_run(s: &[u8]) -> usize
     ensures run { result ≡ plain_run s.now }
     ensures within { result ≤ length s.now }
 {

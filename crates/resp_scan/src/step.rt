@@ -21,7 +21,7 @@ impl Machine {
     /// Behind a value: its end or its parent's close is owed, or the next member may begin.
     #[inline]
     #[tactic(auto, using(crate::proofs::Soundness::Places::sound_member))]
-    fn after_value(&mut self, piece: &[u8]) -> Taken
+    pub fn after_value(&mut self, piece: &[u8]) -> Taken
         requires state { self.old.state ≡ State.Boundary }
         requires sound { IsSound (place_of self.old) }
         ensures { out_of result self.new ≡ out_from (place_of self.old) piece.now }
@@ -45,7 +45,7 @@ impl Machine {
     /// Goes on from the token in which the piece begins.
     #[inline(never)]
     #[tactic(auto, using(crate::proofs::Soundness::Places::tokens_fit))]
-    fn resume(&mut self, piece: &[u8]) -> Taken
+    pub fn resume(&mut self, piece: &[u8]) -> Taken
         requires { IsSound (place_of self.old) }
         ensures { out_of result self.new ≡ out_from (place_of self.old) piece.now }
     {
@@ -191,7 +191,7 @@ impl Machine {
 
 /// The bytes from the first index to the second.
 #[inline]
-fn run(piece: &[u8], start: usize, used: usize) -> &[u8]
+pub fn run(piece: &[u8], start: usize, used: usize) -> &[u8]
     requires start { start ≤ used }
     requires within { used ≤ length piece.now }
     ensures { result.now ≡ drop start (take used piece.now) }
@@ -200,7 +200,7 @@ fn run(piece: &[u8], start: usize, used: usize) -> &[u8]
 }
 
 /// A constant of one byte, this digit.
-fn digit_text(byte: u8) -> &'static [u8]
+pub fn digit_text(byte: u8) -> &'static [u8]
     requires { is_digit byte ≡ true }
     ensures { result.now ≡ byte ∷ [] }
 {

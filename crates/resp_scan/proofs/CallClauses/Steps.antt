@@ -41,7 +41,7 @@ use Rattle.resp_scan.proofs.Soundness.Counted.{sound_counted}
 use Rattle.resp_scan.proofs.CallClauses.Answered.{Answered, answered}
 
 -- with the bytes that a step counts
-abbrev Shown : Place → List ℕ → List e.Event → List ℕ → Out → Type 0
+abbrev pub Shown : Place → List ℕ → List e.Event → List ℕ → Out → Type 0
 Shown s front es p (More n t) = (n ≡ length p) × (t.taken ≡ s.taken + n) × IsSound t × (rules_of t ≡ rules_of s) × IsLookedAt t.token n ×
     StandsAfter t (front ++ p) es
 Shown s front es p (Gave n happening t) = (n ≤ length p) × (t.taken ≡ s.taken + n) × StandsAfter t (front ++ take n p) (es ++ event_of happening ∷ [])
@@ -51,7 +51,7 @@ Shown s front es p (Whole t) = (t.taken ≡ 0) × f.IsWholeValue (rules_of s) fr
 Shown s front es p (Bad n c t) = (t.taken ≡ s.taken + n) × (n < length p) × (byte : ℕ) × (rest : List ℕ) × (p ≡ take n p ++ byte ∷ rest) ×
     RefusedAt (rules_of s) (front ++ take n p) es byte n c
 
-shown : (s : Place) (front : List ℕ) (es : List e.Event) (p : List ℕ) (o : Out) → IsOut s o → Answered (rules_of s) front es p o →
+pub shown : (s : Place) (front : List ℕ) (es : List e.Event) (p : List ℕ) (o : Out) → IsOut s o → Answered (rules_of s) front es p o →
     Shown s front es p (after_step o)
 shown s front es p (More n t) h a = (a.0, ap (λ x. x + n) h.taken, sound_counted t n h.sound, h.rules, a.1, a.2)
 shown s front es p (Gave n x t) h a = (a.0, ap (λ x. x + n) h.0.taken, a.1)
@@ -59,7 +59,7 @@ shown s front es p (Part k n t) h a = (a.0, a.1, ap (λ x. x + n) h.taken, a.2)
 shown s front es p (Whole t) h a = (h.1, a.0, a.1)
 shown s front es p (Bad n c t) h (within, byte, rest, parts, w) = (ap (λ x. x + n) h.0.taken, within, byte, rest, parts, w)
 
-follows : (s t : Place) (front : List ℕ) (es : List e.Event) (p : List ℕ) (n : ℕ) → s.taken ≡ length front → n ≤ length p → t.taken ≡ s.taken + n →
+pub follows : (s t : Place) (front : List ℕ) (es : List e.Event) (p : List ℕ) (n : ℕ) → s.taken ≡ length front → n ≤ length p → t.taken ≡ s.taken + n →
     StandsAfter t (front ++ take n p) es → HasRead t (front ++ take n p) es
 follows s t front es p n taken within counts w = record {
   stands = w;
@@ -83,7 +83,7 @@ part_heard false s t front es p q n taken run h = follows s t front (es ++ conte
 -- Values.
 
 -- a whole value within total is within all rules
-value_is : (s : Place) (front : List ℕ) (es : List e.Event) → length front ≤ s.bounds.total → f.IsWholeValue (rules_of s) front es →
+pub value_is : (s : Place) (front : List ℕ) (es : List e.Event) → length front ≤ s.bounds.total → f.IsWholeValue (rules_of s) front es →
     IsValue (rules_of s) front es
 value_is s front es fits w = record {
   tree = w.tree;
@@ -108,12 +108,12 @@ all_due t n front es sound looked w rest whole spells = events_are_due t n front
     ap (λ z. es ++ z) (none_owed t.token n t.frames looked) ∙ append-nil es
 
 -- What a step comes to, by its event.
-abbrev OutcomeOf : Place → Place → List ℕ → List e.Event → List ℕ → ℕ → Option Event → Type 0
+abbrev pub OutcomeOf : Place → Place → List ℕ → List e.Event → List ℕ → ℕ → Option Event → Type 0
 OutcomeOf s t front es p n None = UsesUp t front es p n
 OutcomeOf s t front es p n (Some event.Done) = EndsValue (rules_of s) t front es n
 OutcomeOf s t front es p n (Some x) = HasRead t (front ++ take n p) (es ++ events_of x)
 
-heard_is : (s t : Place) (front : List ℕ) (es : List e.Event) (p : List ℕ) (n : ℕ) (x : Option Event) → s.taken ≡ length front → length front ≤ s.bounds.total →
+pub heard_is : (s t : Place) (front : List ℕ) (es : List e.Event) (p : List ℕ) (n : ℕ) (x : Option Event) → s.taken ≡ length front → length front ≤ s.bounds.total →
     IsPartOf p n x → Shown s front es p (out_of_event n x t) →
     OutcomeOf s t front es p n x
 heard_is s t front es p n None taken fits part h =
@@ -140,7 +140,7 @@ heard_is s t front es p n (Some event.Done) taken fits part h =
 
 -- A fault.
 
-refused_is : (s t : Place) (front : List ℕ) (es : List e.Event) (p : List ℕ) (fault : Fault) → s.taken ≡ length front → fault.at ≡ t.taken →
+pub refused_is : (s t : Place) (front : List ℕ) (es : List e.Event) (p : List ℕ) (fault : Fault) → s.taken ≡ length front → fault.at ≡ t.taken →
     Shown s front es p (Bad (fault.at - s.taken) fault.cause t) → IsRefused (rules_of s) front es p fault
 refused_is s t front es p fault taken at_taken (counted, within, byte, rest, parts, w) =
     let n = fault.at - s.taken in

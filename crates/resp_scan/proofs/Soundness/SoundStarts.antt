@@ -92,21 +92,49 @@ array_needed s = subst (λ n. cond (nat_le s.bounds.depth n) 4 3 ≤ cond (is_fu
 are_first : (s : Place) → IsSoundBy 0 (at s AtStart) → AllByRecursion (λ row. IsMove 1 s row.1) (start_rows s)
 are_first s h = (
   is_line s _ tt h,
-  (is_line s _ tt h,
-  (is_begun s 3 AtIntSign h (omega arith) (omega arith) tt refl,
-  (is_begun s 4 AtBulkHead h (omega arith) (omega arith) tt refl,
-  (is_begun s (cond (is_full s) 4 3) AtArrayHead h (array_some s) (array_needed s) tt refl,
-  (is_closing s h,
-  (tt,
-  (is_three 1 s s.version _ (is_begun s 2 AtNullCr h (omega arith) (omega arith) tt refl),
-  (is_three 1 s s.version _ (is_begun s 3 AtBool h (omega arith) (omega arith) tt refl),
-  (is_three 1 s s.version _ (is_begun s 3 AtBigSign h (omega arith) (omega arith) tt refl),
-  (is_three 1 s s.version _ (is_begun s 5 (AtHead head.BulkError) h (omega arith) (omega arith) (λ o. absurd (false≢true o)) refl),
-  (is_three 1 s s.version _ (is_begun s 9 (AtHead head.Verbatim) h (omega arith) (omega arith) (λ o. absurd (false≢true o)) refl),
-  (is_three 1 s s.version _ (is_aggregate s head.Set h (omega arith)),
-  (is_three 1 s s.version _ (is_aggregate s head.Map h (omega arith)),
-  (is_three 1 s s.version _ (is_aggregate s head.Attr h (omega arith)),
-  (is_three 1 s s.version _ (is_push s s.frames h), tt)))))))))))))))
+  (
+    is_line s _ tt h,
+    (
+      is_begun s 3 AtIntSign h (omega arith) (omega arith) tt refl,
+      (
+        is_begun s 4 AtBulkHead h (omega arith) (omega arith) tt refl,
+        (
+          is_begun s (cond (is_full s) 4 3) AtArrayHead h (array_some s) (array_needed s) tt refl,
+          (
+            is_closing s h,
+            (
+              tt,
+              (
+                is_three 1 s s.version _ (is_begun s 2 AtNullCr h (omega arith) (omega arith) tt refl),
+                (
+                  is_three 1 s s.version _ (is_begun s 3 AtBool h (omega arith) (omega arith) tt refl),
+                  (
+                    is_three 1 s s.version _ (is_begun s 3 AtBigSign h (omega arith) (omega arith) tt refl),
+                    (
+                      is_three 1 s s.version _ (is_begun s 5 (AtHead head.BulkError) h (omega arith) (omega arith) (λ o. absurd (false≢true o)) refl),
+                      (
+                        is_three 1 s s.version _ (is_begun s 9 (AtHead head.Verbatim) h (omega arith) (omega arith) (λ o. absurd (false≢true o)) refl),
+                        (
+                          is_three 1 s s.version _ (is_aggregate s head.Set h (omega arith)),
+                          (
+                            is_three 1 s s.version _ (is_aggregate s head.Map h (omega arith)),
+                            (
+                              is_three 1 s s.version _ (is_aggregate s head.Attr h (omega arith)),
+                              (is_three 1 s s.version _ (is_push s s.frames h), tt),
+                            ),
+                          ),
+                        ),
+                      ),
+                    ),
+                  ),
+                ),
+              ),
+            ),
+          ),
+        ),
+      ),
+    ),
+  ),
 )
 
 -- every byte where a value may begin keeps the numbers of a place

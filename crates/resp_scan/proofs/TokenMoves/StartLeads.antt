@@ -304,28 +304,59 @@ start_rows_lead : (s : Place) (front : List ℕ) (es : List Event) → HasCounts
     AllByRecursion (λ row. Leads (at s AtStart) front es row.0 row.1) (start_rows (at s AtStart))
 start_rows_lead s front es c w = (
   line_leads s t.Simple (k.Text text.Simple) front es tt refl (λ z. omega arith) refl c w,
-  (line_leads s t.Error (k.Text text.Error) front es tt refl (λ z. omega arith) refl c w,
-  (token_leads s AtIntSign 58 3 front es (int_begins s) (λ z. omega arith) c w refl,
-  (token_leads s AtBulkHead 36 4 front es (bulk_begins s) (λ z. omega arith) c w refl,
-  (token_leads s AtArrayHead 42 (cond (is_full (at s AtStart)) 4 3) front es (array_begins s) (λ z. omega arith) c w refl,
-  (close_leads s front es w,
-  (answer_named (at s AtStart) front es 44 NoDouble cause.Double c (λ z. omega arith) w refl refl,
-  (later AtNullCr 95 2 (null_begins s) (λ z. omega arith) refl,
-  (later AtBool 35 3 (truth_begins s) (λ z. omega arith) refl,
-  (later AtBigSign 40 3 (big_begins s roomy) (λ z. omega arith) refl,
-  (later (AtHead head.BulkError) 33 5 (bulk_error_begins s) (λ z. omega arith) refl,
-  (later (AtHead head.Verbatim) 61 9 (verbatim_begins s roomy) (λ z. omega arith) refl,
-  (later_aggregate d.Set head.Set (λ level i. tt)
-      (λ took. record { took = took; row = λ level bytes shown i u. aggregate_row (rules_of s) d.Set level bytes shown refl u; lies = λ fs x y inside. inside })
-      (λ z. omega arith) refl,
-  (later_aggregate d.Map head.Map (λ level i. tt)
-      (λ took. record { took = took; row = λ level bytes shown i u. aggregate_row (rules_of s) d.Map level bytes shown refl u; lies = λ fs x y inside. inside })
-      (λ z. omega arith) refl,
-  (later_aggregate d.Attr head.Attr (λ level i. tt)
-      (λ took. record { took = took; row = λ level bytes shown i u. attribute_row (rules_of s) level bytes shown u; lies = λ fs x y inside. inside })
-      (λ z. omega arith) refl,
-  (three_leads s 62 front es (push_refusal (rules_of s) (length s.frames)) (push_move (at s AtStart) s.frames) (λ z. omega arith) refl c w
-      (push_leads s front es c w), tt)))))))))))))))
+  (
+    line_leads s t.Error (k.Text text.Error) front es tt refl (λ z. omega arith) refl c w,
+    (
+      token_leads s AtIntSign 58 3 front es (int_begins s) (λ z. omega arith) c w refl,
+      (
+        token_leads s AtBulkHead 36 4 front es (bulk_begins s) (λ z. omega arith) c w refl,
+        (
+          token_leads s AtArrayHead 42 (cond (is_full (at s AtStart)) 4 3) front es (array_begins s) (λ z. omega arith) c w refl,
+          (
+            close_leads s front es w,
+            (
+              answer_named (at s AtStart) front es 44 NoDouble cause.Double c (λ z. omega arith) w refl refl,
+              (
+                later AtNullCr 95 2 (null_begins s) (λ z. omega arith) refl,
+                (
+                  later AtBool 35 3 (truth_begins s) (λ z. omega arith) refl,
+                  (
+                    later AtBigSign 40 3 (big_begins s roomy) (λ z. omega arith) refl,
+                    (
+                      later (AtHead head.BulkError) 33 5 (bulk_error_begins s) (λ z. omega arith) refl,
+                      (
+                        later (AtHead head.Verbatim) 61 9 (verbatim_begins s roomy) (λ z. omega arith) refl,
+                        (
+                          later_aggregate d.Set head.Set (λ level i. tt)
+                              (λ took. record { took = took; row = λ level bytes shown i u. aggregate_row (rules_of s) d.Set level bytes shown refl u; lies = λ fs x y inside. inside })
+                              (λ z. omega arith) refl,
+                          (
+                            later_aggregate d.Map head.Map (λ level i. tt)
+                                (λ took. record { took = took; row = λ level bytes shown i u. aggregate_row (rules_of s) d.Map level bytes shown refl u; lies = λ fs x y inside. inside })
+                                (λ z. omega arith) refl,
+                            (
+                              later_aggregate d.Attr head.Attr (λ level i. tt)
+                                  (λ took. record { took = took; row = λ level bytes shown i u. attribute_row (rules_of s) level bytes shown u; lies = λ fs x y inside. inside })
+                                  (λ z. omega arith) refl,
+                              (
+                                three_leads s 62 front es (push_refusal (rules_of s) (length s.frames)) (push_move (at s AtStart) s.frames) (λ z. omega arith) refl c w
+                                    (push_leads s front es c w),
+                                tt,
+                              ),
+                            ),
+                          ),
+                        ),
+                      ),
+                    ),
+                  ),
+                ),
+              ),
+            ),
+          ),
+        ),
+      ),
+    ),
+  ),
 )
   where
     roomy : 64 ≤ s.bounds.length
