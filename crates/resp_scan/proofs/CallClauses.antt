@@ -6,6 +6,7 @@ pub mod Answered
 pub mod Hearing
 pub mod Nearer
 pub mod Turns
+pub mod WholeTexts
 pub mod NoValue
 pub mod Steps
 pub mod Rows

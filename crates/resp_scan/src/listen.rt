@@ -39,10 +39,9 @@ impl Machine {
     ghost use Rattle.resp_scan.specs.Machine.Room.{total_room};
     ghost use Rattle.resp_scan.specs.Machine.Scan.{out_from};
     ghost use Rattle.resp_scan.specs.Machine.Sound.{IsSound};
-    ghost use Rattle.resp_scan.specs.Machine.Tokens.{Place};
+    ghost use Rattle.resp_scan.specs.Machine.Tokens.{Dead, Place};
     ghost use Rattle.resp_scan.specs.Listening.{Hears, IsTextOf, whole_text_events};
-    ghost use Rattle.resp_scan.specs.Machine.Heads.{content_at};
-    ghost use Rattle.resp_scan.specs.Machine.Turns.{IsLineTag, IsTurn};
+    ghost use Rattle.resp_scan.specs.Machine.Turns.{IsLineTag, IsTurn, LeavesContent};
 
     /// Tells the listener what stands in the piece, up to the end of a value.
     #[inline(always)]
@@ -55,7 +54,7 @@ impl Machine {
     {
         let mut used = 0;
         loop {
-            let turned = self.turn(&piece[used..], listener);
+            let turned = self.turn(behind(piece, used), listener);
             used += turned.used;
             match turned.turn {
                 Turn::On => {}
@@ -99,19 +98,31 @@ impl Machine {
     #[inline(always)]
     fn turn<L: Listener>(&mut self, rest: &[u8], listener: &mut L) -> Turned
         requires { IsSound (place_of self.old) }
-        ensures { IsTurn (place_of self.old) (place_of self.new) (L.has_heard listener.old)
+        ensures is_turn { IsTurn (place_of self.old) (place_of self.new) (L.has_heard listener.old)
             (L.has_heard listener.new) L.may_stop rest.now result }
+        ensures failed { result.turn ≡ Turn.Failed →
+            (place_of self.new).token ≡ Dead self.new.cause }
     {
-        let taken = match self.state {
-            State::Start => self.start(rest),
-            State::Boundary => self.after_value(rest),
-            _ => self.resume(rest),
-        };
+        let taken = self.advance(rest);
         match taken.tag {
             EventTag::Simple => self.tell_line(rest, taken, TextKind::Simple, listener),
             EventTag::Error => self.tell_line(rest, taken, TextKind::Error, listener),
             EventTag::Bulk => self.tell_content(rest, taken, listener),
             _ => self.tell(rest, taken, listener),
+        }
+    }
+
+    /// Goes on from the token in which the rest begins.
+    #[inline(always)]
+    #[tactic(auto, using(crate::proofs::Soundness::Places::sound_start))]
+    fn advance(&mut self, rest: &[u8]) -> Taken
+        requires { IsSound (place_of self.old) }
+        ensures { out_of result self.new ≡ out_from (place_of self.old) rest.now }
+    {
+        match self.state {
+            State::Start => self.start(rest),
+            State::Boundary => self.after_value(rest),
+            _ => self.resume(rest),
         }
     }
 
@@ -126,12 +137,14 @@ impl Machine {
     ) -> Turned
         requires whole { (s : Place) × IsSound s × (out_of taken self.old ≡ out_from s rest.now) }
         requires tag { IsLineTag taken.tag kind }
-        ensures { (s : Place) → IsSound s → out_of taken self.old ≡ out_from s rest.now →
+        ensures is_turn { (s : Place) → IsSound s → out_of taken self.old ≡ out_from s rest.now →
             IsTurn s (place_of self.new) (L.has_heard listener.old) (L.has_heard listener.new)
             L.may_stop rest.now result }
+        ensures failed { result.turn ≡ Turn.Failed →
+            (place_of self.new).token ≡ Dead self.new.cause }
     {
-        let behind = &rest[taken.used..];
-        match self.whole_line(behind) {
+        let after = behind(rest, taken.used);
+        match self.whole_line(after, taken.used) {
             Some(run) => self.tell_whole(rest, taken.used, kind, run, listener),
             None => self.tell(rest, taken, listener),
         }
@@ -139,9 +152,17 @@ impl Machine {
 
     /// Tells a counted string: whole where it ends in this rest, and else that it begins.
     #[inline(always)]
-    fn tell_content<L: Listener>(&mut self, rest: &[u8], taken: Taken, listener: &mut L) -> Turned {
-        let behind = &rest[taken.used..];
-        match self.whole_content(behind) {
+    fn tell_content<L: Listener>(&mut self, rest: &[u8], taken: Taken, listener: &mut L) -> Turned
+        requires whole { (s : Place) × IsSound s × (out_of taken self.old ≡ out_from s rest.now) }
+        requires tag { taken.tag ≡ EventTag.Bulk }
+        ensures is_turn { (s : Place) → IsSound s → out_of taken self.old ≡ out_from s rest.now →
+            IsTurn s (place_of self.new) (L.has_heard listener.old) (L.has_heard listener.new)
+            L.may_stop rest.now result }
+        ensures failed { result.turn ≡ Turn.Failed →
+            (place_of self.new).token ≡ Dead self.new.cause }
+    {
+        let after = behind(rest, taken.used);
+        match self.whole_content(after) {
             Some(run) => self.tell_whole(rest, taken.used, TextKind::Bulk, run, listener),
             None => self.tell(rest, taken, listener),
         }
@@ -166,6 +187,7 @@ impl Machine {
             (whole_text_events kind (take run (drop head rest.now))) goes_on }
         ensures machine { self.new ≡ record self.old
             { taken = self.old.taken + (head + run + 2); state = State.Boundary } }
+        ensures not_failed { result.turn ≡ Turn.Failed → ⊥ }
     {
         let used = head + run + 2;
         self.taken += used as u64;
@@ -173,17 +195,21 @@ impl Machine {
         told(used, listener.whole_text(kind, &rest[head..head + run]))
     }
 
-    /// How many bytes of a line stand before its CR LF, where these stand in this piece.
+    /// How many bytes of a line stand before its CR LF, where these stand in this piece. So many
+    /// bytes before it aren't counted yet.
     #[inline(always)]
-    fn whole_line(&self, piece: &[u8]) -> Option<usize>
-        ensures { IfSome result (λ run. (self.now.state ≡ State.Line) × EndsAt piece.now run ×
-            (run ≡ plain_run (take (min (min self.now.room (total_room (place_of self.now) - 2))
-            (length piece.now)) piece.now))) }
+    fn whole_line(&self, piece: &[u8], head: usize) -> Option<usize>
+        requires { head ≤ 2 ^ 63 }
+        ensures few { IfSome result (λ run. run ≤ 2 ^ 63) }
+        ensures line { IfSome result (λ run. (self.now.state ≡ State.Line) × EndsAt piece.now run ×
+            (run ≡ plain_run (take (min (min self.now.room
+            (total_room (place_of self.now) - (head + 2))) (length piece.now)) piece.now))) }
     {
         let State::Line = self.state else {
             return None;
         };
-        let most = self.text_room().min(piece.len() as u64) as usize;
+        let total = self.total_room().saturating_sub(head as u64 + 2);
+        let most = self.room.min(total).min(piece.len() as u64) as usize;
         let run = line_run(&piece[..most]);
         ends_at(piece, run)
     }
@@ -191,8 +217,9 @@ impl Machine {
     /// How many bytes of counted content stand before its CR LF, where these stand in this piece.
     #[inline(always)]
     fn whole_content(&self, piece: &[u8]) -> Option<usize>
-        ensures { IfSome result (λ run. EndsAt piece.now run ×
-            ((place_of self.now).token ≡ (content_at run (place_of self.now)).token)) }
+        ensures few { IfSome result (λ run. run ≤ 2 ^ 63) }
+        ensures content { IfSome result (λ run. EndsAt piece.now run ×
+            LeavesContent self.now.state self.now.count run) }
     {
         let count = match self.state {
             State::Content => self.count,
@@ -209,9 +236,11 @@ impl Machine {
     #[inline(always)]
     fn tell<L: Listener>(&mut self, rest: &[u8], taken: Taken, listener: &mut L) -> Turned
         requires { (s : Place) × IsSound s × (out_of taken self.old ≡ out_from s rest.now) }
-        ensures { (s : Place) → IsSound s → out_of taken self.old ≡ out_from s rest.now →
+        ensures is_turn { (s : Place) → IsSound s → out_of taken self.old ≡ out_from s rest.now →
             IsTurn s (place_of self.new) (L.has_heard listener.old) (L.has_heard listener.new)
             L.may_stop rest.now result }
+        ensures failed { result.turn ≡ Turn.Failed →
+            (place_of self.new).token ≡ Dead self.new.cause }
     {
         let used = taken.used;
         self.taken += used as u64;
@@ -253,10 +282,20 @@ fn ends(used: usize, turn: Turn) -> Turned
 /// A turn that told the listener an event, which answered whether to go on.
 #[inline]
 fn told(used: usize, goes_on: bool) -> Turned
-    ensures { result ≡ record { used = used; turn = turn_of goes_on } }
+    ensures told { result ≡ record { used = used; turn = turn_of goes_on } }
+    ensures not_failed { result.turn ≡ Turn.Failed → ⊥ }
 {
     let turn = if goes_on { Turn::On } else { Turn::Stopped };
     Turned { used, turn }
+}
+
+/// The bytes from this index on.
+#[inline]
+fn behind(piece: &[u8], from: usize) -> &[u8]
+    requires { from ≤ length piece.now }
+    ensures { result.now ≡ drop from piece.now }
+{
+    &piece[from..]
 }
 
 /// This index, where CR LF stand there.

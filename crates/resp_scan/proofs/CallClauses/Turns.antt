@@ -14,12 +14,13 @@ use Rattle.resp_scan.specs.declared.machine.Taken.{Taken}
 use Rattle.resp_scan.specs.declared.listen.Turn.TheVariants as turn
 use Rattle.resp_scan.specs.declared.listen.Turned.{Turned}
 use Rattle.resp_scan.specs.Kinds.{content_events, event_of, rules_of}
-use Rattle.resp_scan.specs.Reading.{BeginDue, Events, HasRead}
+use Rattle.resp_value.specs.declared.cause.Cause.{Cause}
+use Rattle.resp_scan.specs.Reading.{BeginDue, Events, HasRead, IsFaulted}
 use Rattle.resp_scan.specs.Listening.{Hears, MayBeGiven, StopsWithin}
 use Rattle.resp_scan.specs.Machine.Tokens.{Happening, Place, Dead}
 use Rattle.resp_scan.specs.Machine.Fields.{out_by, out_of, place_of}
 use Rattle.resp_scan.specs.Machine.Owed.{events_owed}
-use Rattle.resp_scan.specs.Machine.Scan.{Out, More, Gave, Part, Whole, Bad, out_from}
+use Rattle.resp_scan.specs.Machine.Scan.{Out, More, Gave, Part, Whole, Bad, out_from, out_from_token}
 use Rattle.resp_scan.specs.Machine.Sound.{IsSound}
 use Rattle.resp_scan.specs.Machine.StepOutcomes.{after_bytes, after_step}
 use Rattle.resp_scan.specs.Machine.Turns.{IsTurn, OutcomeOfTurn, turn_of}
@@ -66,7 +67,7 @@ turn_told s t HasHeard MayStop front given p n more goes_on sound rules w hears 
       may_stop = h.may_stop;
       first_due = begin_fewer (front ++ take n p) (given ++ h.told) h.later
           (subst (BeginDue (front ++ take n p)) (ap (λ z. given ++ z) h.parts ∙ sym (append_assoc given h.told h.later))
-              (begin_due t (front ++ take n p) (given ++ more) sound w));
+          (begin_due t (front ++ take n p) (given ++ more) sound w));
       viable = subst (λ r. IsViable r WithinTotal (front ++ take n p)) rules (read_is_viable t (front ++ take n p) (given ++ more) sound w);
       taken = w.taken;
     }
@@ -131,10 +132,26 @@ nearer_told tag.Part n m s x h telling none = absurd (omega (arith, h, none))
 nearer_told tag.ChunkPart n m s x h telling none = absurd (omega (arith, h, none))
 nearer_told w n m s x h telling none = h none
 
+-- A place of a refused byte answers the refusal.
+pub from_dead : (s : Place) (p : List ℕ) (fault : Fault) → IsFaulted s fault → out_from s p ≡ Bad 0 fault.cause s
+from_dead s p fault f = ap (λ t. out_from_token t s p) f.0
+
+no_bad : (w : EventTag) (n : ℕ) (m : Machine) {k : ℕ} {c : Cause} {s : Place} → IsTelling w → out_by w n m ≡ Bad k c s → ⊥
+no_bad tag.More n m telling e = absurd telling
+no_bad tag.Failed n m telling e = absurd telling
+no_bad tag.Done n m telling e = absurd telling
+no_bad w n m telling e = absurd (cc)
+
+same_place : (n : ℕ) (c : Cause) (t : Place) (d : Cause) (s : Place) → Bad n c t ≡ Bad 0 d s → after_bytes n t ≡ s
+same_place n c t d s e =
+    let none : n ≡ 0 = cc in
+    let same : t ≡ s = cc in
+    ap (λ k. record t { taken = t.taken + k }) none ∙ ap (λ k. record t { taken = k }) (let z : t.taken + 0 ≡ t.taken = omega arith in z) ∙ same
+
 outcome_told : (w : EventTag) (n : ℕ) (m : Machine) (s : Place) (p : List ℕ) (HasHeard MayStop : Events → Type 0) (goes_on : Bool) → IsTelling w →
     IsSound (after_bytes n (place_of m)) → rules_of (place_of m) ≡ rules_of s → (front : List ℕ) (given : Events) → ReadsOn s front given p (out_by w n m) →
     (MayBeGiven (given ++ events_told p (out_by w n m)) →
-        MatchBool goes_on (HasHeard (given ++ events_told p (out_by w n m))) (StopsWithin MayStop given (events_told p (out_by w n m)))) →
+    MatchBool goes_on (HasHeard (given ++ events_told p (out_by w n m))) (StopsWithin MayStop given (events_told p (out_by w n m)))) →
     OutcomeOfTurn s (after_bytes n (place_of m)) HasHeard MayStop front given p n (turn_of goes_on)
 outcome_told tag.More n m s p HasHeard MayStop goes_on telling sound rules front given reads hears = absurd telling
 outcome_told tag.Failed n m s p HasHeard MayStop goes_on telling sound rules front given reads hears = absurd telling
@@ -157,6 +174,7 @@ is_told w taken m s p HadHeard HasHeard MayStop goes_on telling text is sound ou
       sound = there;
       rules = rules;
       within = (used_within taken m s p sound out).0;
+      dead = λ fault f. absurd (no_bad w n m telling (here ∙ from_dead s p fault f));
       nearer = λ on none. nearer_told w n m s goes_on (subst (IsNearer s) (sym here) (is_nearer s p sound)) telling none;
       outcome = λ front given w had. outcome front given w had;
     }
@@ -167,7 +185,7 @@ is_told w taken m s p HadHeard HasHeard MayStop goes_on telling text is sound ou
         let here : out_by w taken.used m ≡ out_from s p = ap (λ x. out_by x taken.used m) (sym is) ∙ out in
         let kept : IsOut s (out_by w taken.used m) = subst (IsOut s) (sym here) (is_advanced s p sound) in
         outcome_told w taken.used m s p HasHeard MayStop goes_on telling (sound_told w taken.used m (counted_out s (out_by w taken.used m) kept))
-            (rules_told w taken.used m s kept) front given (reads_more s front given p (out_by w taken.used m) text sound here had_read) (hears given had)
+        (rules_told w taken.used m s kept) front given (reads_more s front given p (out_by w taken.used m) text sound here had_read) (hears given had)
 
 -- Nothing more stands in the piece.
 pub is_more : (taken : Taken) (m : Machine) (s : Place) (p : List ℕ) (HasHeard MayStop : Events → Type 0) → IsText p → taken.tag ≡ tag.More → IsSound s →
@@ -181,6 +199,7 @@ is_more taken m s p HasHeard MayStop text is sound out =
       sound = sound_told tag.More n m (counted_out s (out_by tag.More n m) kept);
       rules = kept.rules;
       within = (used_within taken m s p sound out).0;
+      dead = λ fault f. absurd (let z : More n (place_of m) ≡ Bad 0 fault.cause s = here ∙ from_dead s p fault f in cc);
       nearer = λ on none. absurd (cc);
       outcome = λ front given w had. (
         heard_is s (after_bytes n (place_of m)) front given p n None w.taken (omega (arith, w.taken, sound.total)) tt
@@ -201,6 +220,7 @@ is_done taken m s p HasHeard MayStop text is sound out =
       sound = kept.0;
       rules = kept.2;
       within = (used_within taken m s p sound out).0;
+      dead = λ fault f. absurd (let z : Whole (after_bytes n (place_of m)) ≡ Bad 0 fault.cause s = here ∙ from_dead s p fault f in cc);
       nearer = λ on none. absurd (cc);
       outcome = λ front given w had. (
         (let h = shows s front given p (out_by tag.Done n m) text sound here w in record {
@@ -226,6 +246,7 @@ is_failed taken m s p HasHeard MayStop text is sound out =
       sound = sound_told tag.Failed n m (counted_out s (out_by tag.Failed n m) kept);
       rules = kept.0.rules;
       within = (used_within taken m s p sound out).0;
+      dead = λ other f. (refl, same_place n m.cause (place_of m) other.cause s (here ∙ from_dead s p other f));
       nearer = λ on none. absurd (cc);
       outcome = λ front given w had. (
         record {
@@ -233,7 +254,7 @@ is_failed taken m s p HasHeard MayStop text is sound out =
           kept = (kept.1, refl);
           refused = refused_is s (after_bytes n (place_of m)) front given p fault w.taken refl
               (subst (λ k. Shown s front given p (Bad k m.cause (after_bytes n (place_of m)))) (sym size)
-                  (shows s front given p (out_by tag.Failed n m) text sound here w));
+              (shows s front given p (out_by tag.Failed n m) text sound here w));
         },
         had,
       );

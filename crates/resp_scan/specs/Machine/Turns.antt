@@ -7,6 +7,8 @@ use Rattle.resp_scan.specs.declared.event.Fault.{Fault}
 use Rattle.resp_scan.specs.declared.listen.Turn.{Turn}
 use Rattle.resp_scan.specs.declared.listen.Turned.{Turned}
 use Rattle.resp_scan.specs.declared.listen.Turn.TheVariants.{On, More, Done, Failed, Stopped}
+use Rattle.resp_scan.specs.declared.machine.State.{State}
+use Rattle.resp_scan.specs.declared.machine.State.TheVariants as state
 use Rattle.resp_scan.specs.declared.machine.EventTag.{EventTag}
 use Rattle.resp_scan.specs.declared.machine.EventTag.TheVariants as tag
 use Rattle.resp_scan.specs.declared.event.TextKind.{TextKind}
@@ -49,6 +51,7 @@ pub record IsTurn (s t : Place) (HadHeard HasHeard MayStop : Events → Type 0) 
   pub sound : IsSound t
   pub rules : rules_of t ≡ rules_of s
   pub within : turned.used ≤ length piece
+  pub dead : (fault : Fault) → IsFaulted s fault → (turned.turn ≡ Failed) × (t ≡ s)
   pub nearer : turned.turn ≡ On → turned.used ≡ 0 → length (events_owed t) < length (events_owed s)
   pub outcome : (front : List ℕ) (given : Events) → HasRead s front given → HadHeard given →
       OutcomeOfTurn s t HasHeard MayStop front given piece turned.used turned.turn
@@ -69,3 +72,9 @@ pub record EndsAt (piece : List ℕ) (at : ℕ) : Type 0 where
   pub within : at + 2 ≤ length piece
   pub cr : get_or piece at 0 ≡ byte "\r"
   pub lf : get_or piece (at + 1) 0 ≡ byte "\n"
+
+-- how many bytes of counted content are still to come in this state, which has such a count
+abbrev pub LeavesContent : State → ℕ → ℕ → Type 0
+LeavesContent state.Content count left = left ≡ count
+LeavesContent state.ContentCr count left = left ≡ 0
+LeavesContent _ count left = ⊥

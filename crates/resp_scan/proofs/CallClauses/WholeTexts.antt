@@ -1,0 +1,264 @@
+-- A text told whole: its head, its content and its CR LF, as one turn.
+use Rattle.std.specs.Prelude.{Bool, true, false, take, drop, get_or, MatchBool, min, eqb, cond}
+use Rattle.std.specs.Str.{byte}
+use Rattle.std.specs.List.{AllByRecursion}
+use Rattle.std.proofs.Common.{◌≡◌, ℕ, suc, ◌+◌, ◌-◌, ◌<◌, ◌≤◌, List, [], ◌∷◌, ◌++◌, length, reverse, refl, sym, ap, subst, ◌∙◌, arith, zero-add, add-one, drop-cons, append_assoc, append-nil, length-append}
+use Prim.Native.Nat.{zero}
+use Rattle.std.proofs.lemmas.Grind.{common_steps}
+use Rattle.std.proofs.lemmas.List.{drop-take, length-drop, take-append-drop}
+use Rattle.std.proofs.lemmas.Bool.Decides.{nat_tests}
+use Rattle.resp_value.specs.Bytes.{IsLine, IsText}
+use Rattle.resp_fronts.specs.Events as e
+use Rattle.resp_scan.specs.declared.event.TextKind.{TextKind}
+use Rattle.resp_scan.specs.declared.event.TextKind.TheVariants as kind
+use Rattle.resp_scan.specs.declared.machine.State.{State}
+use Rattle.resp_scan.specs.declared.machine.EventTag.{EventTag}
+use Rattle.resp_scan.specs.declared.machine.EventTag.TheVariants as tag
+use Rattle.resp_scan.specs.declared.machine.Taken.{Taken}
+use Rattle.resp_scan.specs.declared.machine.Machine.{Machine}
+use Rattle.resp_scan.specs.declared.machine.State.TheVariants as state
+use Rattle.resp_scan.specs.Kinds.{content_events, event_of, rules_of, text_kind_of}
+use Rattle.resp_scan.specs.Reading.{Events, HasRead}
+use Rattle.resp_scan.specs.declared.listen.Turned.{Turned}
+use Rattle.resp_scan.specs.Listening.{Hears, IsTextOf, whole_text_events}
+use Rattle.resp_scan.specs.Machine.Fields.{out_by, out_of, place_of, token_at}
+use Rattle.resp_scan.specs.Machine.Tokens.{Place, Text, TextEnd, at, at_boundary, InLine, InContent, AtContentCr}
+use Rattle.resp_scan.specs.Machine.Heads.{content_at}
+use Rattle.resp_scan.specs.Machine.Room.{total_room}
+use Rattle.resp_scan.specs.Machine.Runs.{plain_run}
+use Rattle.resp_scan.specs.Machine.Scan.{Bad, Gave, Part, out_from, scan}
+use Rattle.resp_scan.specs.Machine.Sound.{IsSound, IsTokenSound}
+use Rattle.resp_scan.specs.Machine.StepOutcomes.{after_bytes}
+use Rattle.resp_scan.specs.Machine.Turns.{EndsAt, IsLineTag, IsTurn, LeavesContent, OutcomeOfTurn, turn_of}
+use Rattle.resp_scan.proofs.CallClauses.Turns.{from_dead, reads_more, turn_told}
+use Rattle.resp_scan.proofs.Soundness.Counted.{counted_out}
+use Rattle.resp_scan.proofs.Soundness.Kept.{IsOut, is_advanced}
+use Rattle.resp_scan.proofs.Soundness.Pieces.{used_within}
+use Rattle.resp_scan.proofs.Soundness.Runs.{content_part, line_part, plain_run_le}
+use Rattle.resp_value.proofs.Choices.{if_equal}
+
+-- the piece behind a run that CR LF follow
+behind_run : (p : List ℕ) (run : ℕ) → EndsAt p run → drop run p ≡ byte "\r" ∷ byte "\n" ∷ drop (run + 2) p
+behind_run p run ends =
+    let first : run < length p = omega (arith, ends.within) in
+    let second : run + 1 < length p = omega (arith, ends.within) in
+    let a : drop run p ≡ get_or p run 0 ∷ drop (run + 1) p = drop_next p run first in
+    let b : drop (run + 1) p ≡ get_or p (run + 1) 0 ∷ drop ((run + 1) + 1) p = drop_next p (run + 1) second in
+    a ∙ ap (λ z. z ∷ drop (run + 1) p) ends.cr ∙ ap (λ z. byte "\r" ∷ z) (b ∙ ap (λ z. z ∷ drop ((run + 1) + 1) p) ends.lf) ∙
+    ap (λ n. byte "\r" ∷ byte "\n" ∷ drop n p) (let z : (run + 1) + 1 ≡ run + 2 = omega arith in z)
+  where
+    drop_next : (p : List ℕ) (i : ℕ) → i < length p → drop i p ≡ get_or p i 0 ∷ drop (i + 1) p
+    drop_next p i within = rw (add-one, drop-cons p i 0) refl
+
+text_behind : (n : ℕ) (p : List ℕ) → IsText p → IsText (drop n p)
+text_behind zero p text = text
+text_behind (suc n) [] text = tt
+text_behind (suc n) (b ∷ bs) text = text_behind n bs text.1
+
+-- a token at which CR LF end the text
+abbrev pub EndsText : Place → Type 0
+EndsText t = (more : List ℕ) → Gave 2 TextEnd (at_boundary t) ≡ out_from t (byte "\r" ∷ byte "\n" ∷ more)
+
+-- content of so many bytes leads from one place to another
+abbrev pub RunsTo : Place → Place → List ℕ → ℕ → Type 0
+RunsTo s t p run = (0 < run → Part 0 run t ≡ out_from s p) × (run ≡ 0 → s ≡ t)
+
+-- Places stay sound.
+sound_after_run : (s t : Place) (p : List ℕ) (run : ℕ) → IsSound s → RunsTo s t p run → IsSound (after_bytes run t)
+sound_after_run s t p zero sound runs =
+    subst IsSound (runs.1 refl ∙ ap (λ n. record t { taken = n }) (let z : t.taken ≡ t.taken + 0 = omega arith in z)) sound
+sound_after_run s t p (suc n) sound runs =
+    counted_out s (Part 0 (suc n) t) (subst (IsOut s) (sym (runs.0 (omega arith))) (is_advanced s p sound))
+
+-- Content was read, the bytes of it counted.
+after_run : (s t : Place) (front : List ℕ) (given : Events) (p : List ℕ) (run : ℕ) → IsText p → IsSound s → HasRead s front given → RunsTo s t p run →
+    HasRead (after_bytes run t) (front ++ take run p) (given ++ content_events (take run p))
+after_run s t front given p zero text sound w runs =
+    subst (λ x. HasRead x (front ++ []) (given ++ []))
+    (runs.1 refl ∙ ap (λ n. record t { taken = n }) (let z : t.taken ≡ t.taken + 0 = omega arith in z))
+    (subst (λ z. HasRead s z (given ++ [])) (sym (append-nil front)) (subst (HasRead s front) (sym (append-nil given)) w))
+after_run s t front given p (suc n) text sound w runs = reads_more s front given p (Part 0 (suc n) t) text sound (runs.0 (omega arith)) w
+
+-- CR LF behind content end the text.
+ends_here : (t : Place) (p : List ℕ) (run : ℕ) → EndsAt p run → EndsText t → Gave 2 TextEnd (at_boundary t) ≡ out_from t (drop run p)
+ends_here t p run ends ends_text = ends_text (drop (run + 2) p) ∙ ap (out_from t) (sym (behind_run p run ends))
+
+pub sound_text_ends : (s t : Place) (p : List ℕ) (run : ℕ) → IsSound s → EndsAt p run → RunsTo s t p run → EndsText (after_bytes run t) →
+    IsSound (after_bytes 2 (at_boundary (after_bytes run t)))
+sound_text_ends s t p run sound ends runs ends_text =
+    let u = after_bytes run t in
+    counted_out u (Gave 2 TextEnd (at_boundary u))
+    (subst (IsOut u) (sym (ends_here u p run ends ends_text)) (is_advanced u (drop run p) (sound_after_run s t p run sound runs)))
+
+-- two runs of one list
+taken_on : (n m : ℕ) (p : List ℕ) → take n p ++ take m (drop n p) ≡ take (n + m) p
+taken_on n m p =
+    let shorter : take n (take (n + m) p) ≡ take n p = grind (arith, common_steps) in
+    ap (λ z. take n p ++ z) (sym (drop-take n m p)) ∙ ap (λ z. z ++ drop n (take (n + m) p)) (sym shorter) ∙ take-append-drop n (take (n + m) p)
+
+-- Behind content and its CR LF the text has ended.
+pub text_ends : (s t : Place) (front : List ℕ) (given : Events) (p : List ℕ) (run : ℕ) → IsText p → IsSound s → HasRead s front given → EndsAt p run →
+    RunsTo s t p run → EndsText (after_bytes run t) →
+    HasRead (after_bytes 2 (at_boundary (after_bytes run t))) (front ++ take (run + 2) p) (given ++ (content_events (take run p) ++ e.TextEnd ∷ []))
+text_ends s t front given p run text sound w ends runs ends_text =
+    let u = after_bytes run t in
+    let last = at_boundary u in
+    let rest = drop run p in
+    let read = reads_more u (front ++ take run p) (given ++ content_events (take run p)) rest (Gave 2 TextEnd last) (text_behind run p text)
+    (sound_after_run s t p run sound runs) (ends_here u p run ends ends_text) (after_run s t front given p run text sound w runs) in
+    let bytes : (front ++ take run p) ++ take 2 rest ≡ front ++ take (run + 2) p =
+    append_assoc front (take run p) (take 2 rest) ∙ ap (λ z. front ++ z) (taken_on run 2 p) in
+    subst (λ z. HasRead (after_bytes 2 last) z (given ++ (content_events (take run p) ++ e.TextEnd ∷ []))) bytes
+    (subst (HasRead (after_bytes 2 last) ((front ++ take run p) ++ take 2 rest)) (append_assoc given (content_events (take run p)) (e.TextEnd ∷ [])) read)
+
+-- Lines.
+
+-- a line's content
+pub line_runs : (t : Place) (n room run : ℕ) (p : List ℕ) →
+    run ≡ plain_run (take (min (min room (total_room t - (n + 2))) (length p)) p) →
+    RunsTo (after_bytes n (at t (InLine room))) (after_bytes n (at t (InLine (room - run)))) p run
+line_runs t n room run p is =
+    let u = after_bytes n t in
+    let rooms : total_room t - (n + 2) ≡ total_room u - 2 = omega arith in
+    let here : run ≡ plain_run (take (min (min room (total_room u - 2)) (length p)) p) =
+    is ∙ ap (λ k. plain_run (take (min (min room k) (length p)) p)) rooms in
+    (λ some. sym (line_part u room run p here some), λ none. ap (λ k. at u (InLine k)) (let z : room ≡ room - run = omega (arith, none) in z))
+
+-- CR LF end a line
+pub line_ends : (t : Place) (room : ℕ) → EndsText (at t (InLine room))
+line_ends t room more = refl
+
+-- the bytes of a run are those of a line
+plain_line : (p : List ℕ) → IsLine (take (plain_run p) p)
+plain_line [] = tt
+plain_line (b ∷ bs) = if_equal b 13 (λ x. IsLine (take (cond x 0 (cond (eqb b 10) 0 (plain_run bs + 1))) (b ∷ bs))) (λ is. tt)
+    (λ no_cr. if_equal b 10 (λ x. IsLine (take (cond x 0 (plain_run bs + 1)) (b ∷ bs))) (λ is. tt)
+    (λ no_lf. subst (λ n. IsLine (take n (b ∷ bs))) (let z : suc (plain_run bs) ≡ plain_run bs + 1 = omega arith in z) ((no_cr, no_lf), plain_line bs)))
+
+pub run_is_line : (p : List ℕ) (most run : ℕ) → run ≡ plain_run (take most p) → IsLine (take run p)
+run_is_line p most run is =
+    let few : plain_run (take most p) ≤ length (take most p) = plain_run_le (take most p) in
+    let same : take (plain_run (take most p)) (take most p) ≡ take (plain_run (take most p)) p = taken_short (plain_run (take most p)) most p few in
+    subst IsLine (ap (λ n. take n p) (sym is)) (subst IsLine same (plain_line (take most p)))
+  where
+    taken_short : (n most : ℕ) (p : List ℕ) → n ≤ length (take most p) → take n (take most p) ≡ take n p
+    taken_short n most p few = grind (arith, common_steps)
+
+-- The turn.
+
+-- a text whose head, content and CR LF lie in the piece
+pub whole_turn : (s : Place) (m m' : Machine) (n run : ℕ) (k : TextKind) (t : Place) (p : List ℕ) (HadHeard HasHeard MayStop : Events → Type 0) (goes_on : Bool)
+    (turned : Turned) → IsText p → IsSound s → Gave n (Text k) (place_of m) ≡ out_from s p → EndsAt (drop n p) run →
+    RunsTo (after_bytes n (place_of m)) t (drop n p) run → EndsText (after_bytes run t) → rules_of t ≡ rules_of (place_of m) →
+    after_bytes 2 (at_boundary (after_bytes run t)) ≡ place_of m' → n + run + 2 ≤ length p →
+    Hears HadHeard HasHeard MayStop (whole_text_events k (take run (drop n p))) goes_on → turned.used ≡ n + run + 2 → turned.turn ≡ turn_of goes_on →
+    IsTurn s (place_of m') HadHeard HasHeard MayStop p turned
+whole_turn s m m' n run k t p HadHeard HasHeard MayStop goes_on turned text sound here ends runs ends_text rules there within hears used is_turn =
+    let u = after_bytes n (place_of m) in
+    let kept : IsOut s (Gave n (Text k) (place_of m)) = subst (IsOut s) (sym here) (is_advanced s p sound) in
+    let sound_u : IsSound u = counted_out s (Gave n (Text k) (place_of m)) kept in
+    let last = after_bytes 2 (at_boundary (after_bytes run t)) in
+    let sound_last : IsSound last = sound_text_ends u t (drop n p) run sound_u ends runs ends_text in
+    let same_rules : rules_of last ≡ rules_of s = rules ∙ kept.0.rules in
+    let size : n + (run + 2) ≡ turned.used = omega (arith, used) in
+    subst (λ x. IsTurn s x HadHeard HasHeard MayStop p turned) there (record {
+      sound = sound_last;
+      rules = same_rules;
+      within = omega (arith, used, within);
+      dead = λ fault f. absurd (let z : Gave n (Text k) (place_of m) ≡ Bad 0 fault.cause s = here ∙ from_dead s p fault f in cc);
+      nearer = λ on none. absurd (omega (arith, used, none));
+      outcome = λ front given w had.
+          let read = text_ends u t (front ++ take n p) (given ++ e.Text (text_kind_of k) ∷ []) (drop n p) run (text_behind n p text) sound_u
+          (reads_more s front given p (Gave n (Text k) (place_of m)) text sound here w) ends runs ends_text in
+          let bytes : (front ++ take n p) ++ take (run + 2) (drop n p) ≡ front ++ take turned.used p =
+          append_assoc front (take n p) (take (run + 2) (drop n p)) ∙ ap (λ z. front ++ z) (taken_on n (run + 2) p ∙ ap (λ j. take j p) size) in
+          let more = whole_text_events k (take run (drop n p)) in
+          subst (OutcomeOfTurn s last HasHeard MayStop front given p turned.used) (sym is_turn)
+          (turn_told s last HasHeard MayStop front given p turned.used more goes_on sound_last same_rules
+          (subst (λ z. HasRead last z (given ++ more)) bytes
+          (subst (HasRead last ((front ++ take n p) ++ take (run + 2) (drop n p)))
+          (append_assoc given (e.Text (text_kind_of k) ∷ []) (content_events (take run (drop n p)) ++ e.TextEnd ∷ [])) read))
+          (hears given had));
+    })
+
+-- The tags.
+
+-- a line's tag stands for its text
+pub line_tag : (w : EventTag) (k : TextKind) (n : ℕ) (m : Machine) → IsLineTag w k → out_by w n m ≡ Gave n (Text k) (place_of m)
+line_tag tag.Simple k n m is = ap (λ x. Gave n (Text x) (place_of m)) (sym is)
+line_tag tag.Error k n m is = ap (λ x. Gave n (Text x) (place_of m)) (sym is)
+line_tag w k n m is = absurd is
+
+-- a line is the text of its kind
+pub line_text_is : (w : EventTag) (k : TextKind) (bytes : List ℕ) → IsLineTag w k → IsLine bytes → IsTextOf k bytes
+line_text_is tag.Simple k bytes is line = subst (λ x. IsTextOf x bytes) (sym is) line
+line_text_is tag.Error k bytes is line = subst (λ x. IsTextOf x bytes) (sym is) line
+line_text_is w k bytes is line = absurd is
+
+-- A line told whole is a turn.
+pub line_turn : (s : Place) (m m' : Machine) (taken : Taken) (run : ℕ) (k : TextKind) (p : List ℕ) (HadHeard HasHeard MayStop : Events → Type 0) (goes_on : Bool)
+    (turned : Turned) → IsText p → IsSound s → IsLineTag taken.tag k → out_of taken m ≡ out_from s p → m.state ≡ state.Line →
+    EndsAt (drop taken.used p) run →
+    run ≡ plain_run (take (min (min m.room (total_room (place_of m) - (taken.used + 2))) (length (drop taken.used p))) (drop taken.used p)) →
+    m' ≡ record m { taken = m.taken + (taken.used + run + 2); state = state.Boundary } →
+    Hears HadHeard HasHeard MayStop (whole_text_events k (take run (drop taken.used p))) goes_on → turned.used ≡ taken.used + run + 2 →
+    turned.turn ≡ turn_of goes_on → IsTurn s (place_of m') HadHeard HasHeard MayStop p turned
+line_turn s m m' taken run k p HadHeard HasHeard MayStop goes_on turned text sound line out is_line ends run_is machine hears used is_turn =
+    let n = taken.used in
+    let place : place_of m ≡ at (place_of m) (InLine m.room) = ap (λ x. record (place_of m) { token = token_at x m }) is_line in
+    let t = after_bytes n (at (place_of m) (InLine (m.room - run))) in
+    let runs : RunsTo (after_bytes n (place_of m)) t (drop n p) run =
+    subst (λ x. RunsTo (after_bytes n x) t (drop n p) run) (sym place) (line_runs (place_of m) n m.room run (drop n p) run_is) in
+    let there : after_bytes 2 (at_boundary (after_bytes run t)) ≡ place_of m' =
+    ap (λ j. record (at_boundary (place_of m)) { taken = j }) (let z : ((m.taken + n) + run) + 2 ≡ m.taken + (n + run + 2) = omega arith in z) ∙
+    ap place_of (sym machine) in
+    let size : n ≤ length p = (used_within taken m s p sound out).0 in
+    whole_turn s m m' n run k t p HadHeard HasHeard MayStop goes_on turned text sound (sym (line_tag taken.tag k n m line) ∙ out) ends runs
+    (line_ends (after_bytes run (after_bytes n (place_of m))) (m.room - run)) refl there
+    (omega (arith, ends.within, length-drop n p, size)) hears used is_turn
+
+-- Counted content.
+
+-- a place at which so much content is still to come
+content_runs : (u : Place) (run : ℕ) (p : List ℕ) → 0 < run → run ≤ length p → RunsTo (at u (InContent run)) (content_at 0 u) p run
+content_runs u run p some within = (λ more. sym (part more), λ none. absurd (omega (arith, some, none)))
+  where
+    part : 0 < run → out_from (at u (InContent run)) p ≡ Part 0 run (content_at 0 u)
+    part more = content_part u 0 run run p some (omega (arith, some, within)) (let z : run ≡ min (length p) run = omega (arith, within) in z) ∙
+        (let left : run - run ≡ 0 = omega arith in ap (λ k. Part 0 k (content_at (run - run) u)) (zero-add run) ∙ ap (λ k. Part 0 run (content_at k u)) left)
+
+-- CR LF end content
+content_ends : (u : Place) → EndsText (content_at 0 u)
+content_ends u more = refl
+
+-- Content told whole is a turn.
+pub content_turn : (s : Place) (m m' : Machine) (taken : Taken) (run : ℕ) (p : List ℕ) (HadHeard HasHeard MayStop : Events → Type 0) (goes_on : Bool)
+    (turned : Turned) → IsText p → IsSound s → taken.tag ≡ tag.Bulk → out_of taken m ≡ out_from s p → EndsAt (drop taken.used p) run →
+    LeavesContent m.state m.count run →
+    m' ≡ record m { taken = m.taken + (taken.used + run + 2); state = state.Boundary } →
+    Hears HadHeard HasHeard MayStop (whole_text_events kind.Bulk (take run (drop taken.used p))) goes_on → turned.used ≡ taken.used + run + 2 →
+    turned.turn ≡ turn_of goes_on → IsTurn s (place_of m') HadHeard HasHeard MayStop p turned
+content_turn s m m' taken run p HadHeard HasHeard MayStop goes_on turned text sound bulk out ends left machine hears used is_turn =
+    let n = taken.used in
+    let here : Gave n (Text kind.Bulk) (place_of m) ≡ out_from s p = ap (λ x. out_by x n m) (sym bulk) ∙ out in
+    let kept : IsOut s (Gave n (Text kind.Bulk) (place_of m)) = subst (IsOut s) (sym here) (is_advanced s p sound) in
+    let there : after_bytes 2 (at_boundary (after_bytes run (after_bytes n (content_at 0 (place_of m))))) ≡ place_of m' =
+    ap (λ j. record (at_boundary (place_of m)) { taken = j }) (let z : ((m.taken + n) + run) + 2 ≡ m.taken + (n + run + 2) = omega arith in z) ∙
+    ap place_of (sym machine) in
+    let size : n ≤ length p = (used_within taken m s p sound out).0 in
+    whole_turn s m m' n run kind.Bulk (after_bytes n (content_at 0 (place_of m))) p HadHeard HasHeard MayStop goes_on turned text sound here ends
+    (runs_from m.state refl left kept.0.sound.token) (content_ends (after_bytes run (after_bytes n (place_of m)))) refl there
+    (omega (arith, ends.within, length-drop n p, size)) hears used is_turn
+  where
+    runs_from : (x : State) → m.state ≡ x → LeavesContent x m.count run → IsTokenSound (token_at m.state m) m.limits.depth (reverse m.frames.items) →
+        RunsTo (after_bytes taken.used (place_of m)) (after_bytes taken.used (content_at 0 (place_of m))) (drop taken.used p) run
+    runs_from state.Content is left sound_token =
+        let n = taken.used in
+        let some : 0 < m.count = subst (λ z. IsTokenSound (token_at z m) m.limits.depth (reverse m.frames.items)) is sound_token in
+        let place : place_of m ≡ at (place_of m) (InContent run) = ap (λ z. record (place_of m) { token = token_at z m }) is ∙
+        ap (λ k. at (place_of m) (InContent k)) (sym left) in
+        subst (λ z. RunsTo (after_bytes n z) (after_bytes n (content_at 0 (place_of m))) (drop n p) run) (sym place)
+        (content_runs (after_bytes n (place_of m)) run (drop n p) (omega (arith, left, some)) (omega (arith, ends.within)))
+    runs_from state.ContentCr is left sound_token =
+        (λ some. absurd (omega (arith, some, left)), λ none. ap (λ z. record (after_bytes taken.used (place_of m)) { token = token_at z m }) is)
+    runs_from x is left sound_token = absurd left
