@@ -7,6 +7,7 @@ pub mod Hearing
 pub mod Nearer
 pub mod Turns
 pub mod WholeTexts
+pub mod Loops
 pub mod NoValue
 pub mod Steps
 pub mod Rows

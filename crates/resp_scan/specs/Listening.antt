@@ -1,5 +1,5 @@
 -- What a listener is told, and what it says of it.
-use Rattle.std.specs.Prelude.{◌≡◌, ℕ, ◌<◌, ◌≤◌, Bool, List, [], ◌∷◌, ◌++◌, length, take, MatchBool}
+use Rattle.std.specs.Prelude.{◌≡◌, ℕ, ◌<◌, ◌≤◌, Bool, true, false, List, [], ◌∷◌, ◌++◌, length, take, MatchBool, Result, Ok, Err, IfOk, IfErr}
 use Rattle.resp_value.specs.Bounds.{AreBounds}
 use Rattle.resp_value.specs.Bytes.{IsLine}
 use Rattle.resp_value.specs.Rules.{Rules, WithinTotal}
@@ -8,6 +8,10 @@ use Rattle.resp_fronts.specs.Events as e
 use Rattle.resp_scan.specs.declared.event.TextKind.{TextKind}
 use Rattle.resp_scan.specs.declared.event.TextKind.TheVariants as text
 use Rattle.resp_scan.specs.declared.event.Fault.{Fault}
+use Rattle.resp_scan.specs.declared.event.Scanned.{Scanned}
+use Rattle.resp_scan.specs.declared.event.ScanError as error
+use Rattle.resp_scan.specs.declared.event.ScanError.TheVariants as stop
+use Rattle.resp_value.specs.declared.cause.Cause.TheVariants as cause
 use Rattle.resp_scan.specs.Kinds.{content_events, rules_of, text_kind_of}
 use Rattle.resp_scan.specs.Machine.Tokens.{Place}
 use Rattle.resp_scan.specs.Reading.{AreDue, BeginDue, Events, HasNoValue, HasRead, IsRefused, IsValue}
@@ -41,3 +45,69 @@ abbrev pub IsTextOf : TextKind → List ℕ → Type 0
 IsTextOf text.Simple bytes = IsLine bytes
 IsTextOf text.Error bytes = IsLine bytes
 IsTextOf _ bytes = Unit {0}
+
+-- What a call over a piece comes to, for every front that was read and the events that the listener heard of it.
+
+-- A value has ended: some tree within the rules spells the text, the listener has heard its events, and nothing is read
+-- of the next.
+pub record HearsValue (r : Rules) (s : Place) (HasHeard : Events → Type 0) (written : List ℕ) : Type 0 where
+  pub heard : Events
+  pub is_value : IsValue r written heard
+  pub has_heard : HasHeard heard
+  pub reads : HasRead s [] []
+
+-- The piece is used up: no value has ended, and the listener has heard all events that are due.
+pub record HearsPiece (s : Place) (HasHeard : Events → Type 0) (written : List ℕ) : Type 0 where
+  pub heard : Events
+  pub no_value : HasNoValue written
+  pub all_due : AreDue written heard
+  pub has_heard : HasHeard heard
+  pub reads : HasRead s written heard
+
+-- A byte was refused: the listener has heard all events that are due before it.
+pub record HearsRefusal (r : Rules) (HasHeard : Events → Type 0) (front piece : List ℕ) (fault : Fault) : Type 0 where
+  pub heard : Events
+  pub refused : IsRefused r front heard piece fault
+  pub has_heard : HasHeard heard
+
+-- The listener stopped, told events that are the first of those due of the bytes taken. These are viable.
+pub record StopsBehind (r : Rules) (MayStop : Events → Type 0) (front piece : List ℕ) (taken : ℕ) : Type 0 where
+  pub told : Events
+  pub may_stop : MayStop told
+  pub in_piece : length front ≤ taken
+  pub within : taken ≤ length (front ++ piece)
+  pub viable : IsViable r WithinTotal (take taken (front ++ piece))
+  pub first_due : BeginDue (take taken (front ++ piece)) told
+
+-- this holds of every front that the scanner has read, where the listener has heard the events given of it
+abbrev pub WhereHeard : Place → (Events → Type 0) → (List ℕ → Type 0) → Type 0
+WhereHeard s HasHeard P = (front : List ℕ) (given : Events) → HasRead s front given → HasHeard given → P front
+
+-- where a value has ended behind so many bytes
+abbrev pub IfWhole : Result Scanned error.ScanError → (ℕ → Type 0) → Type 0
+IfWhole result P = IfOk result (λ scanned. scanned.is_whole ≡ true → P scanned.used)
+
+-- where none has, and the piece was used up
+abbrev pub IfUsedUp : Result Scanned error.ScanError → Type 0 → Type 0
+IfUsedUp result P = IfOk result (λ scanned. scanned.is_whole ≡ false → P)
+
+abbrev pub OnFault : error.ScanError → (Fault → Type 0) → Type 0
+OnFault (stop.Fault fault) P = P fault
+OnFault (stop.Stopped taken) P = Unit {0}
+
+-- where a byte was refused
+abbrev pub IfRefused : Result Scanned error.ScanError → (Fault → Type 0) → Type 0
+IfRefused result P = IfErr result (λ stop. OnFault stop P)
+
+abbrev pub OnStopped : error.ScanError → (ℕ → Type 0) → Type 0
+OnStopped (stop.Fault fault) P = Unit {0}
+OnStopped (stop.Stopped taken) P = P taken
+
+-- where the listener stopped, the bytes taken
+abbrev pub IfStopped : Result Scanned error.ScanError → (ℕ → Type 0) → Type 0
+IfStopped result P = IfErr result (λ stop. OnStopped stop P)
+
+-- the fault that stands behind it
+abbrev pub fault_of : error.ScanError → Fault
+fault_of (stop.Fault fault) = fault
+fault_of (stop.Stopped taken) = record { cause = cause.OutOfMemory; at = taken }

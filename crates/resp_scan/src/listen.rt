@@ -1,6 +1,6 @@
 //! The loop over a piece: what stands in it is told to a listener, up to the end of a value.
 
-ghost use Rattle.std.specs.Prelude.{◌≡◌, ◌≤◌, ◌<◌, ◌+◌, ◌-◌, ◌^◌, Bool, length, IfSome, min, take, drop};
+ghost use Rattle.std.specs.Prelude.{◌≡◌, ◌≤◌, ◌<◌, ◌+◌, ◌-◌, ◌^◌, ◌++◌, Bool, Err, length, IfErr, IfOk, IfSome, false, min, take, drop};
 ghost use Rattle.resp_scan.specs.Machine.Runs.{plain_run};
 ghost use Rattle.resp_scan.specs.Machine.Turns.{EndsAt, turn_of};
 
@@ -40,7 +40,9 @@ impl Machine {
     ghost use Rattle.resp_scan.specs.Machine.Scan.{out_from};
     ghost use Rattle.resp_scan.specs.Machine.Sound.{IsSound};
     ghost use Rattle.resp_scan.specs.Machine.Tokens.{Dead, Place};
-    ghost use Rattle.resp_scan.specs.Listening.{Hears, IsTextOf, whole_text_events};
+    ghost use Rattle.resp_scan.specs.Listening.{Hears, HearsPiece, HearsRefusal, HearsValue, IfRefused, IfStopped, IfUsedUp, IfWhole, IsTextOf, StopsBehind, WhereHeard, fault_of, whole_text_events};
+    ghost use Rattle.resp_scan.specs.Reading.{IsFaulted};
+    ghost use Rattle.resp_scan.specs.declared.event.Fault.{Fault};
     ghost use Rattle.resp_scan.specs.Machine.Turns.{IsLineTag, IsTurn, LeavesContent};
 
     /// Tells the listener what stands in the piece, up to the end of a value.
@@ -51,6 +53,27 @@ impl Machine {
         listener: &mut L,
     ) -> Result<Scanned, ScanError>
         requires { IsSound (place_of self.old) }
+        ensures sound { IsSound (place_of self.new) }
+        ensures value_whole { WhereHeard (place_of self.old) (L.has_heard listener.old) (λ front.
+            IfWhole result (λ used. HearsValue (rules_of (place_of self.old)) (place_of self.new)
+            (L.has_heard listener.new) (front ++ take used piece.now))) }
+        ensures used_up { WhereHeard (place_of self.old) (L.has_heard listener.old) (λ front.
+            IfUsedUp result (HearsPiece (place_of self.new) (L.has_heard listener.new)
+            (front ++ piece.now))) }
+        ensures refusal { WhereHeard (place_of self.old) (L.has_heard listener.old) (λ front.
+            IfRefused result (HearsRefusal (rules_of (place_of self.old))
+            (L.has_heard listener.new) front piece.now)) }
+        ensures stopped { WhereHeard (place_of self.old) (L.has_heard listener.old) (λ front.
+            IfStopped result (StopsBehind (rules_of (place_of self.old)) L.may_stop front
+            piece.now)) }
+        ensures within_piece { IfOk result (λ scanned. scanned.used ≤ length piece.now) }
+        ensures whole_piece { IfOk result (λ scanned.
+            scanned.is_whole ≡ false → scanned.used ≡ length piece.now) }
+        ensures same_rules { rules_of (place_of self.new) ≡ rules_of (place_of self.old) }
+        ensures fault_is_kept { IfErr result (λ stop.
+            IsFaulted (place_of self.new) (fault_of stop)) }
+        ensures fault_is_final { (fault : Fault) → IsFaulted (place_of self.old) fault →
+            (result ≡ Err (ScanError.Fault fault)) × (place_of self.new ≡ place_of self.old) }
     {
         let mut used = 0;
         loop {

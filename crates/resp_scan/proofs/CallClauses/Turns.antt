@@ -31,7 +31,7 @@ use Rattle.resp_scan.proofs.CallClauses.Nearer.{IsNearer, is_nearer}
 use Rattle.resp_scan.proofs.CallClauses.Steps.{Shown, shown, follows, heard_is, refused_is, value_is}
 use Rattle.resp_scan.proofs.Soundness.Counted.{IsCounted, counted_out}
 use Rattle.resp_scan.proofs.Soundness.Kept.{IsOut, is_advanced}
-use Rattle.resp_scan.proofs.Soundness.Pieces.{done_none, failed_is, used_within}
+use Rattle.resp_scan.proofs.Soundness.Pieces.{Takes, done_none, failed_is, said_kept, used_within}
 
 -- What a sound place has read is viable.
 pub read_is_viable : (s : Place) (front : List ℕ) (given : Events) → IsSound s → HasRead s front given → IsViable (rules_of s) WithinTotal front
@@ -132,6 +132,11 @@ nearer_told tag.Part n m s x h telling none = absurd (omega (arith, h, none))
 nearer_told tag.ChunkPart n m s x h telling none = absurd (omega (arith, h, none))
 nearer_told w n m s x h telling none = h none
 
+-- A listener's answer doesn't end the piece.
+pub not_more : (goes_on : Bool) → turn_of goes_on ≡ turn.More → ⊥
+not_more true e = absurd (cc)
+not_more false e = absurd (cc)
+
 -- A place of a refused byte answers the refusal.
 pub from_dead : (s : Place) (p : List ℕ) (fault : Fault) → IsFaulted s fault → out_from s p ≡ Bad 0 fault.cause s
 from_dead s p fault f = ap (λ t. out_from_token t s p) f.0
@@ -174,6 +179,7 @@ is_told w taken m s p HadHeard HasHeard MayStop goes_on telling text is sound ou
       sound = there;
       rules = rules;
       within = (used_within taken m s p sound out).0;
+      whole_piece = λ more. absurd (not_more goes_on more);
       dead = λ fault f. absurd (no_bad w n m telling (here ∙ from_dead s p fault f));
       nearer = λ on none. nearer_told w n m s goes_on (subst (IsNearer s) (sym here) (is_nearer s p sound)) telling none;
       outcome = λ front given w had. outcome front given w had;
@@ -199,6 +205,7 @@ is_more taken m s p HasHeard MayStop text is sound out =
       sound = sound_told tag.More n m (counted_out s (out_by tag.More n m) kept);
       rules = kept.rules;
       within = (used_within taken m s p sound out).0;
+      whole_piece = λ more. subst (λ w. Takes (length p) (out_by w n m)) is (said_kept taken m s p sound out).1;
       dead = λ fault f. absurd (let z : More n (place_of m) ≡ Bad 0 fault.cause s = here ∙ from_dead s p fault f in cc);
       nearer = λ on none. absurd (cc);
       outcome = λ front given w had. (
@@ -220,6 +227,7 @@ is_done taken m s p HasHeard MayStop text is sound out =
       sound = kept.0;
       rules = kept.2;
       within = (used_within taken m s p sound out).0;
+      whole_piece = λ more. absurd (cc);
       dead = λ fault f. absurd (let z : Whole (after_bytes n (place_of m)) ≡ Bad 0 fault.cause s = here ∙ from_dead s p fault f in cc);
       nearer = λ on none. absurd (cc);
       outcome = λ front given w had. (
@@ -246,6 +254,7 @@ is_failed taken m s p HasHeard MayStop text is sound out =
       sound = sound_told tag.Failed n m (counted_out s (out_by tag.Failed n m) kept);
       rules = kept.0.rules;
       within = (used_within taken m s p sound out).0;
+      whole_piece = λ more. absurd (cc);
       dead = λ other f. (refl, same_place n m.cause (place_of m) other.cause s (here ∙ from_dead s p other f));
       nearer = λ on none. absurd (cc);
       outcome = λ front given w had. (

@@ -30,7 +30,7 @@ use Rattle.resp_scan.specs.Machine.Scan.{Bad, Gave, Part, out_from, scan}
 use Rattle.resp_scan.specs.Machine.Sound.{IsSound, IsTokenSound}
 use Rattle.resp_scan.specs.Machine.StepOutcomes.{after_bytes}
 use Rattle.resp_scan.specs.Machine.Turns.{EndsAt, IsLineTag, IsTurn, LeavesContent, OutcomeOfTurn, turn_of}
-use Rattle.resp_scan.proofs.CallClauses.Turns.{from_dead, reads_more, turn_told}
+use Rattle.resp_scan.proofs.CallClauses.Turns.{from_dead, not_more, reads_more, turn_told}
 use Rattle.resp_scan.proofs.Soundness.Counted.{counted_out}
 use Rattle.resp_scan.proofs.Soundness.Kept.{IsOut, is_advanced}
 use Rattle.resp_scan.proofs.Soundness.Pieces.{used_within}
@@ -91,7 +91,7 @@ sound_text_ends s t p run sound ends runs ends_text =
     (subst (IsOut u) (sym (ends_here u p run ends ends_text)) (is_advanced u (drop run p) (sound_after_run s t p run sound runs)))
 
 -- two runs of one list
-taken_on : (n m : ℕ) (p : List ℕ) → take n p ++ take m (drop n p) ≡ take (n + m) p
+pub taken_on : (n m : ℕ) (p : List ℕ) → take n p ++ take m (drop n p) ≡ take (n + m) p
 taken_on n m p =
     let shorter : take n (take (n + m) p) ≡ take n p = grind (arith, common_steps) in
     ap (λ z. take n p ++ z) (sym (drop-take n m p)) ∙ ap (λ z. z ++ drop n (take (n + m) p)) (sym shorter) ∙ take-append-drop n (take (n + m) p)
@@ -165,6 +165,7 @@ whole_turn s m m' n run k t p HadHeard HasHeard MayStop goes_on turned text soun
       sound = sound_last;
       rules = same_rules;
       within = omega (arith, used, within);
+      whole_piece = λ more. absurd (not_more goes_on (sym is_turn ∙ more));
       dead = λ fault f. absurd (let z : Gave n (Text k) (place_of m) ≡ Bad 0 fault.cause s = here ∙ from_dead s p fault f in cc);
       nearer = λ on none. absurd (omega (arith, used, none));
       outcome = λ front given w had.

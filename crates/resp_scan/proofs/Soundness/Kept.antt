@@ -60,7 +60,7 @@ is_content : (i : ℕ) (s : Place) (p : List ℕ) → IsSoundBy i s → is_outsi
 is_content i s [] h g = same i s h
 is_content i s (b ∷ bs) h g = content_next (next s (i + 1) b) i s bs h (is_move s.token s i b h (no_outside i 0 s.token g)) (λ t. is_content (i + 1) t bs)
 
-dead : (i : ℕ) (s : Place) (c : Cause) → IsSoundBy i s → IsNext i s (at s (Dead c))
+pub dead : (i : ℕ) (s : Place) (c : Cause) → IsSoundBy i s → IsNext i s (at s (Dead c))
 dead i s c h = record {
   taken = refl;
   rules = refl;

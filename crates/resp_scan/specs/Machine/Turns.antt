@@ -51,6 +51,7 @@ pub record IsTurn (s t : Place) (HadHeard HasHeard MayStop : Events → Type 0) 
   pub sound : IsSound t
   pub rules : rules_of t ≡ rules_of s
   pub within : turned.used ≤ length piece
+  pub whole_piece : turned.turn ≡ More → turned.used ≡ length piece
   pub dead : (fault : Fault) → IsFaulted s fault → (turned.turn ≡ Failed) × (t ≡ s)
   pub nearer : turned.turn ≡ On → turned.used ≡ 0 → length (events_owed t) < length (events_owed s)
   pub outcome : (front : List ℕ) (given : Events) → HasRead s front given → HadHeard given →

@@ -1,0 +1,209 @@
+-- The loop over a piece: what its turns so far have read and told, and what the last one answers.
+use Prim.Native.Nat.{zero}
+use Rattle.std.specs.Prelude.{Bool, true, false, take, drop, cond, eqb}
+use Rattle.std.proofs.Common.{◌≡◌, ℕ, ◌+◌, ◌-◌, ◌*◌, ◌<◌, ◌≤◌, List, [], ◌∷◌, ◌++◌, length, refl, sym, ap, subst, ◌∙◌, arith, append_assoc, append-nil, length-append, suc}
+use Rattle.std.proofs.lemmas.List.{length-drop, take-append-drop}
+use Rattle.resp_value.specs.Rules.{Rules, WithinTotal}
+use Rattle.resp_value.specs.Spellings.{IsViable}
+use Rattle.resp_value.specs.declared.cause.Cause.{Cause}
+use Rattle.resp_scan.specs.declared.event.Fault.{Fault}
+use Rattle.resp_scan.specs.declared.frame.Frame.{Frame}
+use Rattle.resp_scan.specs.declared.frame.Shape.{Shape}
+use Rattle.resp_scan.specs.declared.frame.Shape.TheVariants.{Left, Begun}
+use Rattle.resp_scan.specs.declared.listen.Turn.TheVariants as turn
+use Rattle.resp_scan.specs.declared.listen.Turned.{Turned}
+use Rattle.resp_fronts.specs.Events as e
+use Rattle.resp_scan.specs.Kinds.{IsRefusedFor, rules_of}
+use Rattle.resp_scan.specs.Reading.{AreDue, BeginDue, Events, HasNoSpelling, HasNoValue, HasRead, IsFaulted, IsRefused, IsValue}
+use Rattle.resp_scan.specs.Listening.{HearsPiece, HearsRefusal, HearsValue, StopsBehind}
+use Rattle.resp_scan.specs.Machine.Tokens.{Token, Place, AtBigDigit, AtEnd, AtTextEnd, Dead}
+use Rattle.resp_scan.specs.Machine.Owed.{events_owed, events_owed_at, events_owed_at_end, events_owed_in}
+use Rattle.resp_scan.specs.Machine.Sound.{IsSound}
+use Rattle.resp_scan.specs.Machine.Turns.{GoesOn, IsTurn, OutcomeOfTurn, Refuses, Stops}
+use Rattle.resp_scan.proofs.CallClauses.Fronts.{front-append}
+use Rattle.resp_scan.proofs.CallClauses.WholeTexts.{taken_on}
+
+-- What the turns so far have come to.
+pub record Runs (s₀ s : Place) (HadHeard HasHeard : Events → Type 0) (piece : List ℕ) (used : ℕ) : Type 0 where
+  pub sound : IsSound s
+  pub rules : rules_of s ≡ rules_of s₀
+  pub within : used ≤ length piece
+  pub dead : (fault : Fault) → IsFaulted s₀ fault → s ≡ s₀
+  pub reads : (front : List ℕ) (given : Events) → HasRead s₀ front given → HadHeard given → GoesOn s HasHeard front given piece used
+
+-- Before the first turn nothing was read.
+pub runs_none : (s : Place) (H : Events → Type 0) (piece : List ℕ) → IsSound s → Runs s s H H piece 0
+runs_none s H piece sound = record {
+  sound = sound;
+  rules = refl;
+  within = omega arith;
+  dead = λ fault f. refl;
+  reads = λ front given w had. record {
+    told = [];
+    reads = subst (λ z. HasRead s z (given ++ [])) (sym (append-nil front)) (subst (HasRead s front) (sym (append-nil given)) w);
+    heard = subst H (sym (append-nil given)) had;
+  };
+}
+
+-- the bytes of one turn behind those of the turns before
+bytes_on : (front piece : List ℕ) (used n : ℕ) → (front ++ take used piece) ++ take n (drop used piece) ≡ front ++ take (used + n) piece
+bytes_on front piece used n = append_assoc front (take used piece) (take n (drop used piece)) ∙ ap (λ z. front ++ z) (taken_on used n piece)
+
+-- all bytes of the piece
+bytes_all : (front piece : List ℕ) (used : ℕ) → (front ++ take used piece) ++ drop used piece ≡ front ++ piece
+bytes_all front piece used = append_assoc front (take used piece) (drop used piece) ∙ ap (λ z. front ++ z) (take-append-drop used piece)
+
+-- A turn more.
+pub runs_on : (s₀ s t : Place) (H₀ H H' M : Events → Type 0) (piece : List ℕ) (used : ℕ) (turned : Turned) → Runs s₀ s H₀ H piece used →
+    IsTurn s t H H' M (drop used piece) turned → turned.turn ≡ turn.On → Runs s₀ t H₀ H' piece (used + turned.used)
+runs_on s₀ s t H₀ H H' M piece used turned r v on = record {
+  sound = v.sound;
+  rules = v.rules ∙ r.rules;
+  within = omega (arith, r.within, v.within, length-drop used piece);
+  dead = λ fault f. absurd (let z : turn.On ≡ turn.Failed = sym on ∙ (v.dead fault (subst (λ x. IsFaulted x fault) (sym (r.dead fault f)) f)).0 in cc);
+  reads = λ front given w had.
+      let a = r.reads front given w had in
+      let b : GoesOn t H' (front ++ take used piece) (given ++ a.told) (drop used piece) turned.used =
+          subst (OutcomeOfTurn s t H' M (front ++ take used piece) (given ++ a.told) (drop used piece) turned.used) on
+              (v.outcome (front ++ take used piece) (given ++ a.told) a.reads a.heard) in
+      record {
+        told = a.told ++ b.told;
+        reads = subst (λ z. HasRead t z (given ++ (a.told ++ b.told))) (bytes_on front piece used turned.used)
+            (subst (HasRead t ((front ++ take used piece) ++ take turned.used (drop used piece))) (append_assoc given a.told b.told) b.reads);
+        heard = subst H' (append_assoc given a.told b.told) b.heard;
+      };
+}
+
+-- The turns end.
+
+shape_few : (x : Shape) (outer : List e.Event) → length (events_owed_in x outer) ≤ length outer + 1
+shape_few (Begun n) outer = omega arith
+shape_few (Left n) outer = elim (eqb n 0) as (λ b. length (cond b (e.Close ∷ outer) []) ≤ length outer + 1) [ true ↦ omega arith | false ↦ omega arith ]
+
+end_few : (fs : List Frame) → length (events_owed_at_end fs) ≤ length fs + 1
+end_few [] = omega arith
+end_few (f ∷ fs) = omega (arith, shape_few f.shape (events_owed_at_end fs), end_few fs)
+
+owed_few : (t : Token) (fs : List Frame) → length (events_owed_at t fs) ≤ length fs + 2
+owed_few AtEnd fs = omega (arith, end_few fs)
+owed_few AtTextEnd fs = omega (arith, end_few fs)
+owed_few (AtBigDigit digit room) fs = omega arith
+owed_few t fs = omega arith
+
+-- what is left to do: bytes, and events that are owed
+abbrev pub work_left : Place → List ℕ → ℕ → ℕ
+work_left s piece used = (length piece - used) * 256 + length (events_owed s)
+
+pub less_work : (s t : Place) (H H' M : Events → Type 0) (piece : List ℕ) (used : ℕ) (turned : Turned) → used ≤ length piece →
+    IsTurn s t H H' M (drop used piece) turned → turned.turn ≡ turn.On → work_left t piece (used + turned.used) < work_left s piece used
+less_work s t H H' M piece used turned within v on = by_used turned.used refl
+  where
+    few : length (events_owed t) ≤ 130
+    few = omega (arith, owed_few t.token t.frames, v.sound.nested, v.sound.bounds.depth_in_range.1)
+
+    fits : turned.used ≤ length piece - used
+    fits = omega (arith, v.within, length-drop used piece)
+
+    by_used : (n : ℕ) → turned.used ≡ n → work_left t piece (used + turned.used) < work_left s piece used
+    by_used zero none = omega (arith, v.nearer on none, none)
+    by_used (suc n) some = omega (arith, few, fits, some, within)
+
+-- What the last turn answers.
+
+-- a value
+pub value_heard : (s₀ s t : Place) (H₀ H H' M : Events → Type 0) (piece : List ℕ) (used : ℕ) (turned : Turned) → Runs s₀ s H₀ H piece used →
+    IsTurn s t H H' M (drop used piece) turned → turned.turn ≡ turn.Done → (front : List ℕ) (given : Events) → HasRead s₀ front given → H₀ given →
+    HearsValue (rules_of s₀) t H' (front ++ take (used + turned.used) piece)
+value_heard s₀ s t H₀ H H' M piece used turned r v done front given w had =
+    let a = r.reads front given w had in
+    let b = subst (OutcomeOfTurn s t H' M (front ++ take used piece) (given ++ a.told) (drop used piece) turned.used) done
+        (v.outcome (front ++ take used piece) (given ++ a.told) a.reads a.heard) in
+    record {
+      heard = given ++ a.told;
+      is_value = subst (λ n. IsValue (rules_of s₀) (front ++ take n piece) (given ++ a.told))
+          (let z : used ≡ used + turned.used = omega (arith, b.0.no_byte) in z)
+          (subst (λ x. IsValue x (front ++ take used piece) (given ++ a.told)) r.rules b.0.is_value);
+      has_heard = b.1;
+      reads = b.0.reads;
+    }
+
+-- the end of the piece
+pub piece_heard : (s₀ s t : Place) (H₀ H H' M : Events → Type 0) (piece : List ℕ) (used : ℕ) (turned : Turned) → Runs s₀ s H₀ H piece used →
+    IsTurn s t H H' M (drop used piece) turned → turned.turn ≡ turn.More → (front : List ℕ) (given : Events) → HasRead s₀ front given → H₀ given →
+    HearsPiece t H' (front ++ piece)
+piece_heard s₀ s t H₀ H H' M piece used turned r v more front given w had =
+    let a = r.reads front given w had in
+    let b = subst (OutcomeOfTurn s t H' M (front ++ take used piece) (given ++ a.told) (drop used piece) turned.used) more
+        (v.outcome (front ++ take used piece) (given ++ a.told) a.reads a.heard) in
+    let all = bytes_all front piece used in
+    record {
+      heard = given ++ a.told;
+      no_value = subst HasNoValue all b.0.no_value;
+      all_due = subst (λ z. AreDue z (given ++ a.told)) all b.0.all_due;
+      has_heard = b.1;
+      reads = subst (λ z. HasRead t z (given ++ a.told)) all b.0.reads;
+    }
+
+-- a refused byte, by the cause that stands
+pub refusal_heard : (s₀ s t : Place) (H₀ H H' M : Events → Type 0) (piece : List ℕ) (used : ℕ) (turned : Turned) (c : Cause) → Runs s₀ s H₀ H piece used →
+    IsTurn s t H H' M (drop used piece) turned → turned.turn ≡ turn.Failed → t.token ≡ Dead c → (front : List ℕ) (given : Events) → HasRead s₀ front given →
+    H₀ given → HearsRefusal (rules_of s₀) H' front piece (record { cause = c; at = t.taken })
+refusal_heard s₀ s t H₀ H H' M piece used turned c r v failed dead front given w had =
+    let a = r.reads front given w had in
+    let b = subst (OutcomeOfTurn s t H' M (front ++ take used piece) (given ++ a.told) (drop used piece) turned.used) failed
+        (v.outcome (front ++ take used piece) (given ++ a.told) a.reads a.heard) in
+    let f = b.0.refused in
+    let all = bytes_all front piece used in
+    let same_cause : b.0.fault.cause ≡ c = let z : Dead b.0.fault.cause ≡ Dead c = sym b.0.kept.0 ∙ dead in cc in
+    let same : b.0.fault ≡ record { cause = c; at = t.taken } = ap (λ x. record { cause = x; at = b.0.fault.at }) same_cause ∙
+        ap (λ n. record { cause = c; at = n }) (sym b.0.kept.1) in
+    record {
+      heard = given ++ a.told;
+      refused = subst (IsRefused (rules_of s₀) front (given ++ a.told) piece) same (subst (λ x. IsRefused x front (given ++ a.told) piece b.0.fault) r.rules (record {
+        in_piece = omega (arith, f.in_piece, length-append front (take used piece));
+        before_end = omega (arith, f.before_end, ap length all);
+        viable = subst (λ z. IsViable (rules_of s) WithinTotal (take b.0.fault.at z)) all f.viable;
+        refused = subst (λ z. IsRefusedFor (rules_of s) (take (b.0.fault.at + 1) z) b.0.fault.cause) all f.refused;
+        all_due = subst (λ z. AreDue (take b.0.fault.at z) (given ++ a.told)) all f.all_due;
+        no_value = subst (HasNoSpelling (rules_of s)) all f.no_value;
+      }));
+      has_heard = b.1;
+    }
+
+-- the listener's stop
+pub stop_heard : (s₀ s t : Place) (H₀ H H' M : Events → Type 0) (piece : List ℕ) (used : ℕ) (turned : Turned) → Runs s₀ s H₀ H piece used →
+    IsTurn s t H H' M (drop used piece) turned → turned.turn ≡ turn.Stopped → (front : List ℕ) (given : Events) → HasRead s₀ front given → H₀ given →
+    StopsBehind (rules_of s₀) M front piece t.taken
+stop_heard s₀ s t H₀ H H' M piece used turned r v stopped front given w had =
+    let a = r.reads front given w had in
+    let b = subst (OutcomeOfTurn s t H' M (front ++ take used piece) (given ++ a.told) (drop used piece) turned.used) stopped
+        (v.outcome (front ++ take used piece) (given ++ a.told) a.reads a.heard) in
+    let n = used + turned.used in
+    let here = bytes_on front piece used turned.used in
+    let size : length (front ++ take n piece) ≡ t.taken = sym (ap length here) ∙ sym b.taken in
+    let parts : front ++ piece ≡ (front ++ take n piece) ++ drop n piece = sym (bytes_all front piece n) in
+    let cut : take t.taken (front ++ piece) ≡ (front ++ take used piece) ++ take turned.used (drop used piece) =
+        ap (take t.taken) parts ∙ front-append t.taken (front ++ take n piece) (drop n piece) size ∙ sym here in
+    record {
+      told = b.told;
+      may_stop = b.may_stop;
+      in_piece = omega (arith, size, length-append front (take n piece));
+      within = omega (arith, size, ap length parts, length-append (front ++ take n piece) (drop n piece));
+      viable = subst (IsViable (rules_of s₀) WithinTotal) (sym cut)
+          (subst (λ x. IsViable x WithinTotal ((front ++ take used piece) ++ take turned.used (drop used piece))) r.rules b.viable);
+      first_due = subst (λ z. BeginDue z b.told) (sym cut) b.first_due;
+    }
+
+-- A fault that stands is answered again, and nothing else.
+pub fault_again : (s₀ s t : Place) (H₀ H H' M : Events → Type 0) (piece : List ℕ) (used : ℕ) (turned : Turned) (fault : Fault) → Runs s₀ s H₀ H piece used →
+    IsTurn s t H H' M (drop used piece) turned → IsFaulted s₀ fault → (turned.turn ≡ turn.Failed) × (t ≡ s₀)
+fault_again s₀ s t H₀ H H' M piece used turned fault r v f =
+    let same = r.dead fault f in
+    let again = v.dead fault (subst (λ x. IsFaulted x fault) (sym same) f) in
+    (again.0, again.1 ∙ same)
+
+-- it is the cause that stands
+pub same_fault : (t : Place) (c : Cause) (fault : Fault) → t.token ≡ Dead c → IsFaulted t fault → record { cause = c; at = t.taken } ≡ fault
+same_fault t c fault dead f =
+    let same : c ≡ fault.cause = let z : Dead c ≡ Dead fault.cause = sym dead ∙ f.0 in cc in
+    ap (λ x. record { cause = x; at = t.taken }) same ∙ ap (λ n. record { cause = fault.cause; at = n }) f.1
