@@ -27,6 +27,7 @@ mod step;
 #[cfg(test)]
 mod tests;
 
-pub use event::{Busy, Event, Fault, Step, TextKind};
+pub use event::{Busy, Event, Fault, ScanError, Scanned, Step, TextKind};
+pub use listener::Listener;
 pub use resp_value::kind::OpenKind;
 pub use scanner::Scanner;

@@ -1,10 +1,11 @@
 //! The scanner.
 
 ghost use Rattle.resp_value.specs.Bounds.{AreBounds};
-ghost use Rattle.std.specs.Prelude.{◌≡◌, ◌↔◌, ◌≤◌, ◌+◌, ◌++◌, ℕ, length, take, [], true, None, Some, Err, IsOk, OnOk, OnErr, IfOk, IfErr};
+ghost use Rattle.std.specs.Prelude.{◌≡◌, ◌↔◌, ◌≤◌, ◌+◌, ◌++◌, ℕ, length, take, [], false, None, Some, Err, IsOk, OnOk, OnErr, IfOk, IfErr};
 ghost use Rattle.resp_value.specs.declared.cause.Cause.TheVariants as cause;
 
-use crate::event::{Busy, Event, Fault, Step};
+use crate::event::{Busy, Event, Fault, ScanError, Scanned, Step};
+use crate::listener::Listener;
 use crate::machine::{Head, Machine, State};
 use arrayvec::ArrayVec;
 use resp_value::cause::Cause;
@@ -43,6 +44,7 @@ impl Scanner {
     ghost use Rattle.resp_scan.specs.Kinds.{rules_of};
     ghost use Rattle.resp_scan.specs.Machine.Sound.{IsSound, needed};
     ghost use Rattle.resp_scan.specs.Reading.{BeginDue, EndsValue, HasNoDone, HasRead, IfDone, IfNoEvent, IfOtherEvent, IsFaulted, IsRefused, MayEnd, UsesUp, WhereRead, events_of};
+    ghost use Rattle.resp_scan.specs.Listening.{HearsPiece, HearsRefusal, HearsValue, IfRefused, IfStopped, IfUsedUp, IfWhole, StopsBehind, WhereHeard, fault_of};
     ghost use Rattle.resp_value.specs.Rules.{WithinTotal, rules_under};
     ghost use Rattle.resp_value.specs.Spellings.{IsViable};
     ghost use Rattle.resp_scan.specs.Machine.Tokens.{AtStart};
@@ -114,6 +116,47 @@ impl Scanner {
             (result ≡ Err fault) × (self.new ≡ self.old) }
     {
         self.machine.step(piece)
+    }
+
+    /// Tells the listener what stands in the piece, up to the end of a value: the events that
+    /// [`Scanner::step`] would give, and a text that lies whole in the piece by one call.
+    ///
+    /// Refuses the first byte after which nothing can follow, as [`Scanner::step`] does. Where the
+    /// listener stops, no byte is read any more: every later call answers OutOfMemory.
+    #[inline(always)]
+    pub fn scan<L: Listener>(
+        &mut self,
+        piece: &[u8],
+        listener: &mut L,
+    ) -> Result<Scanned, ScanError>
+        // The bytes are a value, the listener has heard its events, and the next value may begin.
+        ensures value_whole { WhereHeard self.old (L.has_heard listener.old) (λ front.
+            IfWhole result (λ used. HearsValue (rules_of self.old) self.new
+            (L.has_heard listener.new) (front ++ take used piece.now))) }
+
+        // No value has ended in the piece, and the listener has heard all events that are due.
+        ensures used_up { WhereHeard self.old (L.has_heard listener.old) (λ front.
+            IfUsedUp result (HearsPiece self.new (L.has_heard listener.new)
+            (front ++ piece.now))) }
+
+        // The refused byte is the first after which nothing can follow, and the fault names why.
+        ensures refusal { WhereHeard self.old (L.has_heard listener.old) (λ front.
+            IfRefused result (HearsRefusal (rules_of self.old) (L.has_heard listener.new) front
+            piece.now)) }
+
+        // The listener stopped where it may, told events that are the first of those due.
+        ensures stopped { WhereHeard self.old (L.has_heard listener.old) (λ front.
+            IfStopped result (StopsBehind (rules_of self.old) L.may_stop front piece.now)) }
+
+        ensures within_piece { IfOk result (λ scanned. scanned.used ≤ length piece.now) }
+        ensures whole_piece { IfOk result (λ scanned.
+            scanned.is_whole ≡ false → scanned.used ≡ length piece.now) }
+        ensures same_rules { rules_of self.new ≡ rules_of self.old }
+        ensures fault_is_kept { IfErr result (λ stop. IsFaulted self.new (fault_of stop)) }
+        ensures fault_is_final { (fault : Fault) → IsFaulted self.old fault →
+            (result ≡ Err (ScanError.Fault fault)) × (self.new ≡ self.old) }
+    {
+        self.machine.scan(piece, listener)
     }
 
     /// The end of the input. Refuses it by Truncated inside a value, with the number of its bytes

@@ -64,8 +64,8 @@ runs_on s₀ s t H₀ H H' M piece used turned r v on = record {
   reads = λ front given w had.
       let a = r.reads front given w had in
       let b : GoesOn t H' (front ++ take used piece) (given ++ a.told) (drop used piece) turned.used =
-          subst (OutcomeOfTurn s t H' M (front ++ take used piece) (given ++ a.told) (drop used piece) turned.used) on
-              (v.outcome (front ++ take used piece) (given ++ a.told) a.reads a.heard) in
+      subst (OutcomeOfTurn s t H' M (front ++ take used piece) (given ++ a.told) (drop used piece) turned.used) on
+      (v.outcome (front ++ take used piece) (given ++ a.told) a.reads a.heard) in
       record {
         told = a.told ++ b.told;
         reads = subst (λ z. HasRead t z (given ++ (a.told ++ b.told))) (bytes_on front piece used turned.used)
@@ -117,7 +117,7 @@ pub value_heard : (s₀ s t : Place) (H₀ H H' M : Events → Type 0) (piece : 
 value_heard s₀ s t H₀ H H' M piece used turned r v done front given w had =
     let a = r.reads front given w had in
     let b = subst (OutcomeOfTurn s t H' M (front ++ take used piece) (given ++ a.told) (drop used piece) turned.used) done
-        (v.outcome (front ++ take used piece) (given ++ a.told) a.reads a.heard) in
+    (v.outcome (front ++ take used piece) (given ++ a.told) a.reads a.heard) in
     record {
       heard = given ++ a.told;
       is_value = subst (λ n. IsValue (rules_of s₀) (front ++ take n piece) (given ++ a.told))
@@ -134,7 +134,7 @@ pub piece_heard : (s₀ s t : Place) (H₀ H H' M : Events → Type 0) (piece : 
 piece_heard s₀ s t H₀ H H' M piece used turned r v more front given w had =
     let a = r.reads front given w had in
     let b = subst (OutcomeOfTurn s t H' M (front ++ take used piece) (given ++ a.told) (drop used piece) turned.used) more
-        (v.outcome (front ++ take used piece) (given ++ a.told) a.reads a.heard) in
+    (v.outcome (front ++ take used piece) (given ++ a.told) a.reads a.heard) in
     let all = bytes_all front piece used in
     record {
       heard = given ++ a.told;
@@ -151,12 +151,12 @@ pub refusal_heard : (s₀ s t : Place) (H₀ H H' M : Events → Type 0) (piece 
 refusal_heard s₀ s t H₀ H H' M piece used turned c r v failed dead front given w had =
     let a = r.reads front given w had in
     let b = subst (OutcomeOfTurn s t H' M (front ++ take used piece) (given ++ a.told) (drop used piece) turned.used) failed
-        (v.outcome (front ++ take used piece) (given ++ a.told) a.reads a.heard) in
+    (v.outcome (front ++ take used piece) (given ++ a.told) a.reads a.heard) in
     let f = b.0.refused in
     let all = bytes_all front piece used in
     let same_cause : b.0.fault.cause ≡ c = let z : Dead b.0.fault.cause ≡ Dead c = sym b.0.kept.0 ∙ dead in cc in
     let same : b.0.fault ≡ record { cause = c; at = t.taken } = ap (λ x. record { cause = x; at = b.0.fault.at }) same_cause ∙
-        ap (λ n. record { cause = c; at = n }) (sym b.0.kept.1) in
+    ap (λ n. record { cause = c; at = n }) (sym b.0.kept.1) in
     record {
       heard = given ++ a.told;
       refused = subst (IsRefused (rules_of s₀) front (given ++ a.told) piece) same (subst (λ x. IsRefused x front (given ++ a.told) piece b.0.fault) r.rules (record {
@@ -177,13 +177,13 @@ pub stop_heard : (s₀ s t : Place) (H₀ H H' M : Events → Type 0) (piece : L
 stop_heard s₀ s t H₀ H H' M piece used turned r v stopped front given w had =
     let a = r.reads front given w had in
     let b = subst (OutcomeOfTurn s t H' M (front ++ take used piece) (given ++ a.told) (drop used piece) turned.used) stopped
-        (v.outcome (front ++ take used piece) (given ++ a.told) a.reads a.heard) in
+    (v.outcome (front ++ take used piece) (given ++ a.told) a.reads a.heard) in
     let n = used + turned.used in
     let here = bytes_on front piece used turned.used in
     let size : length (front ++ take n piece) ≡ t.taken = sym (ap length here) ∙ sym b.taken in
     let parts : front ++ piece ≡ (front ++ take n piece) ++ drop n piece = sym (bytes_all front piece n) in
     let cut : take t.taken (front ++ piece) ≡ (front ++ take used piece) ++ take turned.used (drop used piece) =
-        ap (take t.taken) parts ∙ front-append t.taken (front ++ take n piece) (drop n piece) size ∙ sym here in
+    ap (take t.taken) parts ∙ front-append t.taken (front ++ take n piece) (drop n piece) size ∙ sym here in
     record {
       told = b.told;
       may_stop = b.may_stop;
