@@ -34,7 +34,7 @@ pub due_all : (from n : ℕ) (es : List Timed) → AreWithin from n es → event
 due_all from n [] p = refl
 due_all from n (e ∷ es) p = rw (lt-ltb e.at n p.0.1) (ap (λ z. e.event ∷ z) (due_all from n es p.1))
 
--- and those that come behind it aren't
+-- events that come behind the first so many bytes are not due
 pub due_none : (n : ℕ) (es : List Timed) → AreFrom n es → events_due n es ≡ []
 due_none n [] p = refl
 due_none n (e ∷ es) p = rw (le-ltb e.at n p.0) (due_none n es p.1)

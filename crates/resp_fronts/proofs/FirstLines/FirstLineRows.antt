@@ -119,12 +119,12 @@ truth_row L N k false h = line_row L N k (35 ∷ 102 ∷ []) [] (leaf (truth fal
   ((λ e. omega arith, λ e. omega arith), tt),
 ) tt h refl refl (λ u l i j e. omega arith)
 
--- so many they are
+-- as many zeros as were asked for
 pub length-zeros : (n : ℕ) → length (zeros n) ≡ n
 length-zeros zero = refl
 length-zeros (suc n) = omega (arith, length-zeros n)
 
--- and bytes
+-- zeros are bytes
 pub are_zeros : (n : ℕ) → IsText (zeros n)
 are_zeros zero = tt
 are_zeros (suc n) = (omega arith, are_zeros n)

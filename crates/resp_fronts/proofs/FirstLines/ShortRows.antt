@@ -60,7 +60,7 @@ before_newline_row L N level line n is_line h = record {
       omega (arith, ap length u.whole, h.least (after_line u.tree) behind));
 }
 
--- and so does the first byte of what the least completion is
+-- the first byte of the least completion leaves one byte fewer to come
 pub first_of_least : (L : LeafRule) (N : NodeRule) (level : ℕ) (begun : List ℕ) (byte n : ℕ) (rest : List ℕ) →
     (h : HasLeast (CompletesValue L N level begun) (suc n)) → h.some ≡ byte ∷ rest → HasLeast (CompletesValue L N level (begun ++ byte ∷ [])) n
 first_of_least L N level begun byte n rest h e = next_row L N level begun byte n rest h (subst (CompletesValue L N level begun) e h.holds)

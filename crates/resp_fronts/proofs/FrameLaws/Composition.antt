@@ -147,7 +147,7 @@ first_member L N (f ∷ fs) x o h m =
     m.after in
     record { tree = t; rest = r; is_tree = p; keep = q; whole = e; after = a }
 
--- and the other way
+-- a value and what may follow it may come within the frames
 pub member_rest : (L : LeafRule) (N : NodeRule) (fs : List Frame) (x : List ℕ) → ValueThen L N fs x → MayFollowFrames L N fs x
 member_rest L N [] x m = record {
   tree = m.tree;

@@ -34,7 +34,7 @@ number_begun_broken K g byte no_sign no_digit t behind p e =
     let h : first_line t ≡ number_byte K ∷ (sign_text g ++ byte ∷ behind) = e ∙ ap (λ z. number_byte K ∷ z) (append_assoc (sign_text g) [] (byte ∷ behind)) in
     no_digit ((digits_of_number t K g (number_byte K ∷ (sign_text g ++ byte ∷ behind)) (byte ∷ behind) p h (sort_of_signed K g byte behind no_sign)).1.0)
 
--- and digits alone behind digits
+-- behind a number's digits come digits alone
 pub number_broken : (K : NumberKind) (g : Sign) (digit : ℕ) (digits : List ℕ) (byte : ℕ) → IsDigit digit → (IsDigit byte → ⊥) →
     NoLineGoesOn (number_byte K ∷ (sign_text g ++ digit ∷ digits)) byte
 number_broken K g digit digits byte is_digit no_digit t behind p e =
@@ -67,7 +67,7 @@ length_begun_broken Bulk byte other t behind p e = other.2 (digit_of_length t 36
 length_begun_broken BulkError byte other t behind p e = other (digit_of_length t 33 byte (33 ∷ byte ∷ behind) behind p e refl)
 length_begun_broken (Verbatim format) byte other t behind p e = other (digit_of_length t 61 byte (61 ∷ byte ∷ behind) behind p e refl)
 
--- and digits alone behind digits
+-- behind a length's digits come digits alone
 pub length_broken : (K : StringKind) (digit : ℕ) (digits : List ℕ) (byte : ℕ) → IsDigit digit → (IsDigit byte → ⊥) →
     NoLineGoesOn (string_byte K ∷ digit ∷ digits) byte
 length_broken K digit digits byte is_digit no_digit t behind p e =
@@ -122,7 +122,7 @@ count_begun_broken Push byte other t behind p e =
     if_equal byte 63 (λ x. ⊥) (λ mark. no_mark Push (λ n s. s) t behind p (e ∙ ap (λ z. 62 ∷ z ∷ behind) mark))
     (λ no_mark. other (digit_of_count t Push byte (62 ∷ byte ∷ behind) behind p e (rw (ne_eqb byte 63 no_mark))))
 
--- and digits alone behind digits
+-- behind a count's digits come digits alone
 pub count_broken : (k : Kind) (digit : ℕ) (digits : List ℕ) (byte : ℕ) → IsDigit digit → (IsDigit byte → ⊥) → NoLineGoesOn (kind_byte k ∷ digit ∷ digits) byte
 count_broken k digit digits byte is_digit no_digit t behind p e =
     let w = counted_is t k digit (digits ++ byte ∷ behind) p is_digit e in

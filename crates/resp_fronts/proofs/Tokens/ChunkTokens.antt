@@ -173,7 +173,7 @@ chunk_content_begun r level chunks digits part left w are_digits is_text some si
     begun_by r level chunks ((59 ∷ digits) ++ crlf part) (left + 6) (omega arith)
     (subst (HasLeast (CompletesUnder r WithinItems level (streamed_text chunks ((59 ∷ digits) ++ crlf part)))) (omega (arith, length-zeros left)) row)
 
--- and behind the CR of a whole chunk: 5
+-- behind the CR of a whole chunk: 5
 pub chunk_returned_begun : (r : Rules) (level : ℕ) (chunks : List Chunk) (digits part : List ℕ) → AreWhole r chunks → IsDigits digits → IsText part →
     0 < number digits → number digits ≡ length part → length (joined_content chunks) + number digits ≤ r.limits.length →
     IsBegunBy r level (streamed_text chunks ((59 ∷ digits) ++ crlf part) ++ 13 ∷ []) 5

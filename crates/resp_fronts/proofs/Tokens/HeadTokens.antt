@@ -48,7 +48,7 @@ count_token_more r k first digits level digit bytes p fits w = record {
   are = ap (λ z. z ++ digit ∷ []) w.are;
 }
 
--- and one that makes too many
+-- a digit that makes too many members is refused
 pub count_token_over : (r : Rules) (k : Kind) (first : ℕ) (digits : List ℕ) (level digit : ℕ) (bytes : List ℕ) → IsDigit digit →
     r.limits.items < items_of k (members_of k (number (first ∷ (digits ++ digit ∷ [])))) → IsCountToken r k first digits level bytes →
     (bytes ++ digit ∷ [] ≡ kind_byte k ∷ first ∷ (digits ++ digit ∷ [])) ×
@@ -101,7 +101,7 @@ count_opens r k first digits level bytes some w =
       can_end = ((w.count.are_digits, omega arith), subst (NodeKeeps r WithinItems level k (Counted (first ∷ digits))) (sym all) w.count.keeps);
     }
 
--- and ends one that has none
+-- the LF of a head ends an aggregate without members
 pub count_ends_empty : (r : Rules) (k : Kind) (first : ℕ) (digits : List ℕ) (level : ℕ) (bytes : List ℕ) → members_of k (number (first ∷ digits)) ≡ 0 →
     IsCountReturned r k first digits level bytes → CompletesUnder r WithinItems level bytes (10 ∷ [])
 count_ends_empty r k first digits level bytes empty w = record {
@@ -149,7 +149,7 @@ bulk_length_begun r first digits level bytes w =
     (string_row (LeafKeeps r WithinItems) (NodeKeeps r WithinItems) level Bulk first digits (zeros n) w.are_digits tt (are_zeros n) (sym size)
     (string_keeps r WithinItems level Bulk (first ∷ digits) (zeros n) tt tt (omega (arith, w.fits))))
 
--- so also of a bulk error
+-- a bulk error's length needs its content and two line ends
 pub error_length_begun : (r : Rules) (first : ℕ) (digits : List ℕ) (level : ℕ) (bytes : List ℕ) → IsLengthToken r BulkError first digits level bytes →
     IsBegunBy r level bytes (number (first ∷ digits) + 2 + 2)
 error_length_begun r first digits level bytes w =

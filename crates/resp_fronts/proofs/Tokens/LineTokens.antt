@@ -65,7 +65,7 @@ returned_ends r l level bytes w = record {
   whole = returned_whole r l level bytes w;
 }
 
--- and no other byte goes on
+-- no other byte than LF goes on behind a line's CR
 pub returned_broken : (r : Rules) (l : Leaf) (level : ℕ) (bytes rest : List ℕ) (byte : ℕ) → (byte ≡ 10 → ⊥) → IsReturned r l level bytes →
     CompletesUnder r Grammar level bytes (byte ∷ rest) → ⊥
 returned_broken r l level bytes rest byte no_newline w c =

@@ -55,7 +55,7 @@ streamed_string_in_two r level is_two = streamed_string_refused r InVersion NoDo
     (λ earlier. at_each_rule (λ a. rank a ≤ 1 → LeafMeets r a level (chunked [] (48 ∷ []))) (λ e. tt) (λ e. tt) (λ e. absurd (omega arith)) (λ e. tt) (λ e. tt)
     (λ e. absurd (omega arith)) (λ e. tt) (λ e. omega arith) (λ e. tt) (λ e. tt) earlier)
 
--- and in version 3 where streamed forms are off
+-- `$?` in version 3 where streamed forms are off
 pub streamed_string_off : (r : Rules) (level : ℕ) → (r.version ≡ Two → ⊥) → r.limits.streamed ≡ false → IsRefusedHere r NotStreamed InRange level (36 ∷ 63 ∷ [])
 streamed_string_off r level no_two off = streamed_string_refused r NotStreamed InRange level (λ chunks zeros h. h off)
     (λ earlier. at_each_rule (λ a. rank a ≤ 4 → LeafMeets r a level (chunked [] (48 ∷ []))) (λ e. tt) (λ e. tt) (λ e. λ is_two. absurd (no_two is_two))
@@ -109,7 +109,7 @@ streamed_off r k level no_two off can no_push = streamed_refused r NotStreamed I
     (λ earlier. at_each_rule (λ a. rank a ≤ 4 → NodeMeets r a level k Streamed 0) (λ e. tt) (λ e. tt) (λ e. λ is_two. absurd (no_two is_two)) (λ e. no_push)
     (λ e. tt) (λ e. absurd (omega arith)) (λ e. absurd (omega arith)) (λ e. tt) (λ e. absurd (omega arith)) (λ e. tt) earlier)
 
--- and at full depth
+-- a streamed aggregate's head at full depth
 pub streamed_too_deep : (r : Rules) (k : Kind) (level : ℕ) → HasStreamed r → r.limits.depth ≤ level → CanStream k 0 → IsNoPushBelow level k →
     IsRefusedHere r WithinDepth NotStreamed level (kind_byte k ∷ 63 ∷ [])
 streamed_too_deep r k level h deep can no_push = streamed_refused r WithinDepth NotStreamed k level can (λ n (within : level < r.limits.depth). omega arith)

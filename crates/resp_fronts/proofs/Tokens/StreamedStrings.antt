@@ -88,7 +88,7 @@ completes_chunks L N k ds w c p t =
     let x0 : u.0 ≡ with_chunks ds es = x in
     record { more = es; zeros = u.1; are_chunks = y; digits = i.1.0; zero = i.1.1; keep = subst (λ v. L k (chunked v u.1)) x0 a; whole = f }
 
--- and the other way
+-- what completes the chunks completes the streamed string
 pub chunks_complete : (L : LeafRule) (N : NodeRule) (k : ℕ) (ds : List Chunk) (w c : List ℕ) → AllByRecursion IsChunk ds → CompletesChunks L k ds w c →
     CompletesValue L N k (36 ∷ 63 ∷ crlf (chunks_text ds w)) c
 chunks_complete L N k ds w c p t = record {

@@ -199,6 +199,7 @@ judge r s front (b ∷ bs) bytes w =
     let z = settle_at s.token r s front w in
     judge_byte r z.place front b bs bytes.0 z.stands z.open_or_whole (λ t x. judge r t (front ++ b ∷ []) bs bytes.1 x)
 
+-- every text is viable or has one fault
 pub every_text_is_judged : EveryTextIsJudged
 every_text_is_judged r whole bounds bytes = one (judge r (record {
   token = AtStart;

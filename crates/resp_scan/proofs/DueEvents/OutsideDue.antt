@@ -104,7 +104,7 @@ ended_due s [] front es w rest whole is_tree spelled =
     ∙ ap (λ z. z ++ e.Done ∷ []) (ap (λ z. without_places (events 0 z)) (sym same) ∙ sym w.told)
 ended_due s (f ∷ fs) front es w rest whole is_tree spelled = ended_in s f f.shape fs front es (λ es. ended_due s fs front es) w rest whole is_tree spelled
 
--- the same where the token says so
+-- the events due where a value has ended, as its token says
 pub at_end_due : (s : Place) (fs : List Frame) (front : List ℕ) (es : List Event) → IsClosed fs → StandsAfterAt (rules_of s) AtEnd fs front es →
     AreDue front (es ++ events_owed_at_end fs)
 at_end_due s [] front es closed w rest whole is_tree spelled = ended_due s [] front es w rest whole is_tree spelled
@@ -112,7 +112,7 @@ at_end_due s (f ∷ fs) front es closed w rest whole is_tree spelled =
     ended_due s (f ∷ fs) front es (subst (λ shape. StandsAfterAt (rules_of s) (token_in_shape shape) (f ∷ fs) front es) (sym closed) w) rest whole is_tree
     spelled
 
--- and where the end of its text comes first
+-- the events due where the end of a text is owed
 pub text_end_due : (s : Place) (front : List ℕ) (es : List Event) → StandsAfterAt (rules_of s) AtTextEnd s.frames front es →
     AreDue front (es ++ e.TextEnd ∷ events_owed_at_end s.frames)
 text_end_due s front es w rest whole is_tree spelled =

@@ -62,7 +62,7 @@ line_quiet from (node k form ts) q =
           (omega (arith, length-append (kind_byte k ∷ form_line form) (crlf (texts ts ++ close form))), tt),
     )
 
--- so nothing is due of a line that may go on
+-- nothing is due of a line that may go on
 pub quiet_line : (bytes : List ℕ) (shown : List Event) (head : ℕ) (tail : List ℕ) → bytes ≡ head ∷ tail → shown ≡ [] → IsQuiet head → IsLine (head ∷ tail) →
     AreDueWithin bytes shown
 quiet_line bytes shown head tail are told q is_line from value behind is_tree e =
@@ -95,7 +95,7 @@ line_of_quiet r l level bytes shown w told q =
     let are : bytes ≡ leaf_byte l ∷ cs = w.is_line ∙ begins in
     quiet_line bytes shown (leaf_byte l) cs are told q (subst IsLine are (no_break_in_line r l level bytes w))
 
--- and with its CR
+-- nothing is due of a leaf's line and its CR
 pub returned_quiet : (r : Rules) (l : Leaf) (level : ℕ) (bytes : List ℕ) (shown : List Event) → IsReturned r l level bytes → shown ≡ [] →
     IsQuiet (leaf_byte l) → AreDueWithin bytes shown
 returned_quiet r l level bytes shown w told q =

@@ -17,6 +17,7 @@ array_next : (s : Place) (used b : ℕ) → is_full s ≡ false → eqb b 45 ≡
     array_head (at s AtArrayHead) used b ≡ head_first (at s (AtHead head.Array)) used head.Array b
 array_next s used b f e = simp (e, f)
 
+-- an array's head is scanned as any head
 pub array_scan : (s : Place) (i : ℕ) (p : List ℕ) → is_full s ≡ false → 0 < length p → get_or p 0 0 ≢ 45 →
     scan i (at s (AtHead head.Array)) p ≡ scan i (at s AtArrayHead) p
 array_scan s i [] f l n = absurd (omega arith)

@@ -25,6 +25,7 @@ use Rattle.resp_value.proofs.DigitLemmas.{number-digit}
 use Rattle.resp_value.proofs.Choices.{if_below}
 use Rattle.resp_scan.proofs.TokenMoves.TokenLaws.{ALead, IsOfAggregate}
 
+-- the items of the members that a count asks for
 pub items_of-members_of : (k : Kind) (n : ℕ) → items_of k (members_of k n) ≡ n
 items_of-members_of d.Map n = omega arith
 items_of-members_of d.Attr n = omega arith

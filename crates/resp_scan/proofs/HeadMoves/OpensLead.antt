@@ -87,6 +87,7 @@ opens_as r T fs front es k (Begun n) w form (is, none_yet) c p told e t = record
   told = t;
 }
 
+-- behind a head's LF a place stands within the aggregate
 pub opens_lie : (r : Rules) (T : ℕ → List ℕ → List Event → Type 0) (fs : List Frame) (front bytes_more : List ℕ) (es new : List Event) (k : OpenKind)
     (shape : Shape) → IsInside r T fs front es → ((level : ℕ) (bytes : List ℕ) (shown : List Event) → level ≡ length fs → T level bytes shown →
     Opened r k shape level (bytes ++ bytes_more) (shown ++ new)) →

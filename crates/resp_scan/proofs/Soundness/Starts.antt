@@ -10,24 +10,29 @@ use Rattle.resp_scan.specs.Machine.Moves.{move_unless, begin_move, line_move, st
 use Rattle.resp_scan.specs.Machine.Scan.{Gave, Bad, scan}
 use Rattle.resp_scan.specs.Machine.First.{after_first, first_move, by_first}
 
+-- a value that begins answers with its token
 pub begun_answer : (s u : Place) (n : ℕ) (t : Token) (p : List ℕ) → None ≡ begin_cause s n → at u AtStart ≡ after_begin s →
     after_first (begin_move s n t) s p ≡ scan 1 (at u t) p
 begun_answer s u n t p e f =
     ap (λ v. after_first (move_unless v (Go (at (after_begin s) t))) s p) (sym e) ∙ ap (λ v. scan 1 (at v t) p) (sym f)
 
+-- a value that may not begin answers with its cause
 pub refused_answer : (s : Place) (n : ℕ) (t : Token) (c : Cause) (p : List ℕ) → Some c ≡ begin_cause s n →
     after_first (begin_move s n t) s p ≡ Bad 0 c (at s (Dead c))
 refused_answer s n t c p e = ap (λ v. after_first (move_unless v (Go (at (after_begin s) t))) s p) (sym e)
 
+-- a line that begins answers with its event
 pub begun_line : (s u : Place) (e : Happening) (p : List ℕ) → None ≡ begin_cause s 2 → at u AtStart ≡ after_begin s →
     after_first (line_move s e) s p ≡ Gave 1 e (at u (InLine s.bounds.length))
 begun_line s u e p h f =
     ap (λ v. after_first (move_unless v (Give e (at (after_begin s) (InLine s.bounds.length)))) s p) (sym h) ∙
     ap (λ v. Gave 1 e (at v (InLine s.bounds.length))) (sym f)
 
+-- a line that may not begin answers with its cause
 pub refused_line : (s : Place) (e : Happening) (c : Cause) (p : List ℕ) → Some c ≡ begin_cause s 2 → after_first (line_move s e) s p ≡ Bad 0 c (at s (Dead c))
 refused_line s e c p h = ap (λ v. after_first (move_unless v (Give e (at (after_begin s) (InLine s.bounds.length)))) s p) (sym h)
 
+-- a scan of the first byte of a value
 pub first_scan : (s : Place) (p : List ℕ) → 0 < length p → after_first (start_next (at s AtStart) (get_or p 0 0)) (at s AtStart) (drop 1 p) ≡
     scan 0 (at s AtStart) p
 first_scan s [] h = absurd (omega arith)
@@ -38,6 +43,7 @@ pub first_is : (s : Place) (p : List ℕ) (b : ℕ) → 0 < length p → get_or 
     scan 0 (at s AtStart) p
 first_is s p b l e = ap (λ v. after_first (start_next (at s AtStart) v) (at s AtStart) (drop 1 p)) (sym e) ∙ first_scan s p l
 
+-- the move of a byte that version 3 alone has
 pub three_is : (s : Place) (b : ℕ) (f : First) → b ≢ 43 → b ≢ 45 → b ≢ 58 → b ≢ 36 → b ≢ 42 → b ≢ 46 → b ≢ 44 → s.version ≡ version.Three →
     start_three s b ≡ by_first s (Some f) → start_next s b ≡ first_move s f
 three_is s b f n1 n2 n3 n4 n5 n6 n7 v e =

@@ -35,6 +35,7 @@ use Rattle.resp_scan.proofs.TokenMoves.RefusedMoves.{fits_or_past, unless_over}
 use Rattle.resp_fronts.specs.OpenLevels.{AreLevelsOf, AreReady, HasShape, Level, to_come, so_far}
 use Rattle.resp_value.proofs.Choices.{if_equal, positive}
 
+-- as many levels wait as frames are open
 pub length-waiting : (fs : List Frame) → length (waiting_levels fs) ≡ length fs
 length-waiting [] = refl
 length-waiting (f ∷ fs) = ap suc (length-busy fs)
@@ -226,6 +227,7 @@ from_move s front es byte v h = case s.frames v h
     case (f ∷ fs) (Give e t) h = h
     case (f ∷ fs) (Refuse c) h = h
 
+-- a first byte that begins a value leads on where its move does
 pub begins_leads : (s : Place) (T : ℕ → List ℕ → List Event → Type 0) (front : List ℕ) (es new : List Event) (byte needed : ℕ) (v : Move) →
     HasCountsOf s 0 front → (byte ≡ 46 → ⊥) → first_byte_refusal (rules_of s) (length s.frames) byte ≡ None → AwaitsMember (rules_of s) s.frames front es →
     ((level : ℕ) → level ≡ length s.frames → T level (byte ∷ []) new) →

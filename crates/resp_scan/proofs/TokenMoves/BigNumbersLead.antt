@@ -328,7 +328,7 @@ digits_more r room byte level bytes shown d some w =
       told = ap (λ z. z ++ e.Byte byte ∷ []) w.told ∙ ap (λ z. e.Text (e.Big w.negative) ∷ z) (sym (content_events-append (w.digit ∷ w.digits) (byte ∷ [])));
     }
 
--- and those of which some were given
+-- digits of a big number of which some were given: 2
 pub shown_row : (r : Rules) (room level : ℕ) (bytes : List ℕ) (shown : List Event) → BigShown r room level bytes shown → IsBegunBy r level bytes 2
 shown_row r room level bytes shown w = row_of r w.negative (w.digit ∷ w.digits) level bytes w.token
 

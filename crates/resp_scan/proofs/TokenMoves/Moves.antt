@@ -28,12 +28,14 @@ use Rattle.resp_fronts.specs.OpenLevels.{AreLevelsOf, AreReady, HasShape}
 
 -- Lists of events.
 
+-- events and more events, without their places
 pub given-append : (a b : List Timed) → without_places (a ++ b) ≡ without_places a ++ without_places b
 given-append [] b = refl
 given-append (e ∷ es) b = ap (λ z. e.event ∷ z) (given-append es b)
 
 -- Levels.
 
+-- as many levels are busy as frames are open
 pub length-busy : (fs : List Frame) → length (busy_levels fs) ≡ length fs
 length-busy [] = refl
 length-busy (f ∷ fs) = ap suc (length-busy fs)
@@ -60,6 +62,7 @@ follows_by r T fs front es w = record {
       w.whole;
 }
 
+-- a longer front has more bytes within the same frames
 pub longer : (frames : List opened.Frame) (front bytes more : List ℕ) → front ≡ text_around frames bytes → front ++ more ≡ text_around frames (bytes ++ more)
 longer frames front bytes more e = ap (λ q. q ++ more) e ∙ around-append frames bytes more
 
@@ -79,7 +82,7 @@ tells r T U fs front more es new w step = record {
   told = ap (λ z. z ++ new) w.told ∙ append_assoc (without_places (events_around w.frames)) w.shown new;
 }
 
--- and none
+-- more bytes without an event lead within the same value
 pub goes : (r : Rules) (T U : ℕ → List ℕ → List Event → Type 0) (fs : List Frame) (front more : List ℕ) (es : List Event) → IsInside r T fs front es →
     ((level : ℕ) (bytes : List ℕ) (shown : List Event) → level ≡ length fs → T level bytes shown → U level (bytes ++ more) shown) →
     IsInside r U fs (front ++ more) es
@@ -95,7 +98,7 @@ goes r T U fs front more es w step = record {
   told = w.told;
 }
 
--- the same bytes, told in other words
+-- bytes within a value, as another token tells them
 pub retold : (r : Rules) (T U : ℕ → List ℕ → List Event → Type 0) (fs : List Frame) (front : List ℕ) (es : List Event) → IsInside r T fs front es →
     ((level : ℕ) (bytes : List ℕ) (shown : List Event) → T level bytes shown → U level bytes shown) → IsInside r U fs front es
 retold r T U fs front es w words = record {

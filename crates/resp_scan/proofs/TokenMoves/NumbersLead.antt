@@ -39,6 +39,7 @@ begun_line Int Unsigned = ((λ z. omega arith, λ z. omega arith), tt)
 begun_line Big Unsigned = ((λ z. omega arith, λ z. omega arith), tt)
 begun_line _ _ = ((λ z. omega arith, λ z. omega arith), ((λ z. omega arith, λ z. omega arith), tt))
 
+-- no byte but a sign or a digit goes on behind a number's type byte, and none but a digit behind its sign
 pub begun_dead : (r : Rules) (k : NumberKind) (sign : Sign) (level byte : ℕ) (bytes rest : List ℕ) → (sign ≡ Unsigned → (byte ≡ 43 → ⊥) × (byte ≡ 45 → ⊥)) →
     (IsDigit byte → ⊥) → IsNumberBegun r k sign level bytes → CompletesUnder r Grammar level bytes (byte ∷ rest) → ⊥
 begun_dead r k sign level byte bytes rest no_sign no_digit w c =
@@ -49,7 +50,7 @@ begun_dead r k sign level byte bytes rest no_sign no_digit w c =
     (λ other. byte_broken (LeafKeeps r Grammar) (NodeKeeps r Grammar) level (number_byte k ∷ (sign_text sign ++ [])) rest byte (begun_line k sign) other
     (number_begun_broken k sign byte no_sign no_digit) (subst (λ z. CompletesUnder r Grammar level z (byte ∷ rest)) w.1 c))
 
--- and one of its digits
+-- no byte but a digit or CR goes on behind a number's digits
 pub digits_dead : (r : Rules) (k : NumberKind) (sign : Sign) (first level byte : ℕ) (digits bytes rest : List ℕ) → (byte ≡ 13 → ⊥) → (IsDigit byte → ⊥) →
     IsNumberToken r k sign (first ∷ digits) level bytes → CompletesUnder r Grammar level bytes (byte ∷ rest) → ⊥
 digits_dead r k sign first level byte digits bytes rest no_return no_digit w c =
@@ -84,6 +85,7 @@ pub record AnySign (r : Rules) (k : NumberKind) (negative : Bool) (byte level : 
   pub told : shown ≡ []
   pub no_sign : sign ≡ Unsigned → (byte ≡ 43 → ⊥) × (byte ≡ 45 → ⊥)
 
+-- the sign of a number, as its token has it
 pub signed_any : (r : Rules) (k : NumberKind) (negative : Bool) (byte level : ℕ) (bytes : List ℕ) (shown : List Event) →
     SignBegun r k negative level bytes shown → AnySign r k negative byte level bytes shown
 signed_any r k negative byte level bytes shown w = record {
@@ -105,6 +107,7 @@ signed_any r k negative byte level bytes shown w = record {
     no_unsigned Plus negative p e = cc
     no_unsigned Minus negative p e = cc
 
+-- a number without a sign, as its token has it
 pub unsigned_any : (r : Rules) (k : NumberKind) (byte level : ℕ) (bytes : List ℕ) (shown : List Event) → (byte ≡ 43 → ⊥) → (byte ≡ 45 → ⊥) →
     IsNumberBegun r k Unsigned level bytes × (shown ≡ []) → AnySign r k false byte level bytes shown
 unsigned_any r k byte level bytes shown no_plus no_minus w = record {
