@@ -14,6 +14,7 @@ use Rattle.resp_fronts.specs.MayFollow.{CompletesValue}
 use Rattle.resp_fronts.proofs.FirstLines.BegunLines.{completes_line, text_first}
 use Rattle.resp_fronts.specs.Tokens.{zeros}
 use Rattle.resp_value.proofs.DigitLemmas.{number-more}
+use Rattle.std.proofs.lemmas.Bool.{ne_eqb}
 
 -- a line that can go on by l0
 pub line_row : (L : LeafRule) (N : NodeRule) (k : ℕ) (b l0 : List ℕ) (t : Tree) (m : ℕ) → IsLine b → IsTree t → HoldsFrom L N k t → first_line t ≡ b ++ l0 →
@@ -202,3 +203,20 @@ chunked_row L N k h = line_row L N k (36 ∷ 63 ∷ []) [] (leaf (chunked [] (48
       length-append c.digits (crlf (c.content ++ crlf (chunks_text cs ((59 ∷ z) ++ crlf [])))),
       length-append c.content (crlf (chunks_text cs ((59 ∷ z) ++ crlf []))),
     )
+
+-- a number's type byte, its sign and what follows say so
+pub sort_of_signed : (K : NumberKind) (g : Sign) (first : ℕ) (behind : List ℕ) → (g ≡ Unsigned → (first ≡ 43 → ⊥) × (first ≡ 45 → ⊥)) →
+    sort (number_byte K ∷ (sign_text g ++ first ∷ behind)) ≡ leaf_of (numeral_sort K g (first ∷ behind))
+sort_of_signed Int Unsigned first behind h = let other = h refl in rw (ne_eqb first 43 other.0, ne_eqb first 45 other.1)
+sort_of_signed Big Unsigned first behind h = let other = h refl in rw (ne_eqb first 43 other.0, ne_eqb first 45 other.1)
+sort_of_signed _ _ first behind h = refl
+
+-- a digit is no sign
+pub digit_no_sign : (g : Sign) (digit : ℕ) → IsDigit digit → g ≡ Unsigned → (digit ≡ 43 → ⊥) × (digit ≡ 45 → ⊥)
+digit_no_sign g digit p e = (λ h. omega arith, λ h. omega arith)
+
+-- the sort of a number's first line behind a digit
+pub sort_of_digits : (K : NumberKind) (g : Sign) (digit : ℕ) (digits behind : List ℕ) → IsDigit digit →
+    sort (number_byte K ∷ ((sign_text g ++ digit ∷ digits) ++ behind)) ≡ leaf_of (numeral_sort K g (digit ∷ digits ++ behind))
+sort_of_digits K g digit digits behind p = ap (λ z. sort (number_byte K ∷ z)) (append_assoc (sign_text g) (digit ∷ digits) behind) ∙
+    sort_of_signed K g digit (digits ++ behind) (digit_no_sign g digit p)

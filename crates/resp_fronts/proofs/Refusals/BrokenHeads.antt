@@ -3,10 +3,10 @@ use Rattle.std.proofs.Common.{◌≡◌, ℕ, ◌<◌, List, [], ◌∷◌, ◌+
 use Rattle.std.proofs.lemmas.Bool.{ne_eqb}
 use Rattle.resp_value.specs.Numbers.{IsDigit, IsDigits, Sign, Unsigned, sign_text, number}
 use Rattle.resp_value.specs.Data.{Kind, Array, Set, Map, Attr, Push}
-use Rattle.resp_value.specs.Trees.{Tree, leaf, node, string, NumberKind, Int, Big, StringKind, Bulk, BulkError, Verbatim, Counted, Streamed, number_byte, string_byte, kind_byte, count, CanStream, IsTree}
+use Rattle.resp_value.specs.Trees.{Tree, leaf, node, string, NumberKind, StringKind, Bulk, BulkError, Verbatim, Counted, Streamed, number_byte, string_byte, kind_byte, count, CanStream, IsTree}
 use Rattle.resp_value.proofs.FirstLines.{numeral_sort, string_sort, leaf_of, node_of, sort, first_line, sort_of-line}
 use Rattle.resp_fronts.proofs.FirstLines.BegunLines.{counted_is, tree_of_node}
-use Rattle.resp_fronts.proofs.FirstLines.FirstLineRows.{tree_of_numeral, no_other, number_more_digits, is_string}
+use Rattle.resp_fronts.proofs.FirstLines.FirstLineRows.{tree_of_numeral, no_other, number_more_digits, is_string, sort_of_signed, digit_no_sign}
 use Rattle.resp_fronts.proofs.FirstLines.MoreFirstLineRows.{string_size, verbatim_least, sort_mark}
 use Rattle.resp_fronts.proofs.FirstLines.CountRows.{line_after}
 use Rattle.resp_fronts.proofs.Refusals.RefusedBytes.{digits_hold}
@@ -16,16 +16,6 @@ use Rattle.resp_value.proofs.Choices.{if_equal}
 digits_of_number : (t : Tree) (K : NumberKind) (g : Sign) (a digits : List ℕ) → IsTree t → first_line t ≡ a → sort a ≡ leaf_of (numeral_sort K g digits) →
     IsDigits digits
 digits_of_number t K g a digits p e s = subst IsTree (tree_of_numeral t K g digits (sort_of-line t p e ∙ s)) p
-
--- a number's type byte, its sign and what follows say so
-pub sort_of_signed : (K : NumberKind) (g : Sign) (first : ℕ) (behind : List ℕ) → (g ≡ Unsigned → (first ≡ 43 → ⊥) × (first ≡ 45 → ⊥)) →
-    sort (number_byte K ∷ (sign_text g ++ first ∷ behind)) ≡ leaf_of (numeral_sort K g (first ∷ behind))
-sort_of_signed Int Unsigned first behind h = let other = h refl in rw (ne_eqb first 43 other.0, ne_eqb first 45 other.1)
-sort_of_signed Big Unsigned first behind h = let other = h refl in rw (ne_eqb first 43 other.0, ne_eqb first 45 other.1)
-sort_of_signed _ _ first behind h = refl
-
-digit_no_sign : (g : Sign) (digit : ℕ) → IsDigit digit → g ≡ Unsigned → (digit ≡ 43 → ⊥) × (digit ≡ 45 → ⊥)
-digit_no_sign g digit p e = (λ h. omega arith, λ h. omega arith)
 
 -- behind the type byte of a number come a sign and digits alone, and digits alone behind a sign
 pub number_begun_broken : (K : NumberKind) (g : Sign) (byte : ℕ) → (g ≡ Unsigned → (byte ≡ 43 → ⊥) × (byte ≡ 45 → ⊥)) → (IsDigit byte → ⊥) →

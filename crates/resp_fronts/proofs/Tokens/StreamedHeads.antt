@@ -14,21 +14,15 @@ use Rattle.resp_fronts.proofs.FirstLines.BegunLines.{completes_line, tree_of_nod
 use Rattle.resp_fronts.proofs.FirstLines.CountRows.{IsRefusedHere, byte_line}
 use Rattle.resp_fronts.proofs.FirstLines.FirstLineRows.{tree_of_chunked, chunked_row, zero_digits}
 use Rattle.resp_fronts.proofs.FirstLines.MoreFirstLineRows.{sort_mark, mark_row}
-use Rattle.resp_fronts.proofs.Tokens.BegunFronts.{IsBegunBy, Opens}
+use Rattle.resp_fronts.proofs.Tokens.BegunFronts.{IsBegunBy, Opens, begun_by}
 use Rattle.resp_fronts.specs.OpenLevels.{so_far}
 use Rattle.resp_fronts.specs.Tokens.{HasStreamed}
 
 -- `$?`: 6
 pub streamed_string_begun : (r : Rules) (level : ℕ) → HasStreamed r → IsBegunBy r level (36 ∷ 63 ∷ []) 6
-streamed_string_begun r level h = record {
-  head = 36;
-  tail = 63 ∷ [];
-  parts = refl;
-  some = omega arith;
-  least =
-      chunked_row (LeafKeeps r WithinItems) (NodeKeeps r WithinItems) level
-      (leaf_keeps r WithinItems level (chunked [] (48 ∷ [])) tt (λ is_two. absurd (h.0 is_two)) tt (λ off. absurd (h.1 off)) (omega arith));
-}
+streamed_string_begun r level h =
+    begun_by 36 (63 ∷ []) (omega arith)
+    (chunked_row (LeafKeeps r WithinItems) (NodeKeeps r WithinItems) level (leaf_keeps r WithinItems level (chunked [] (48 ∷ [])) tt (λ is_two. absurd (h.0 is_two)) tt (λ off. absurd (h.1 off)) (omega arith)))
 
 -- its line has no break in it
 pub mark_line : IsLine (36 ∷ 63 ∷ [])
@@ -64,15 +58,9 @@ streamed_string_off r level no_two off = streamed_string_refused r NotStreamed I
 -- `?` behind an aggregate's type byte: 5
 pub streamed_begun : (r : Rules) (k : Kind) (level : ℕ) → HasStreamed r → CanStream k 0 → IsNoPushBelow level k → level < r.limits.depth →
     IsBegunBy r level (kind_byte k ∷ 63 ∷ []) 5
-streamed_begun r k level h can no_push within_depth = record {
-  head = kind_byte k;
-  tail = 63 ∷ [];
-  parts = refl;
-  some = omega arith;
-  least =
-      mark_row (LeafKeeps r WithinItems) (NodeKeeps r WithinItems) level k can
-      (node_keeps r WithinItems level k Streamed 0 (λ is_two. absurd (h.0 is_two)) no_push (λ off. absurd (h.1 off)) within_depth (omega (arith, no_items k)));
-}
+streamed_begun r k level h can no_push within_depth =
+    begun_by (kind_byte k) (63 ∷ []) (omega arith)
+    (mark_row (LeafKeeps r WithinItems) (NodeKeeps r WithinItems) level k can (node_keeps r WithinItems level k Streamed 0 (λ is_two. absurd (h.0 is_two)) no_push (λ off. absurd (h.1 off)) within_depth (omega (arith, no_items k))))
   where
     no_items : (k : Kind) → items_of k 0 ≡ 0
     no_items Array = refl

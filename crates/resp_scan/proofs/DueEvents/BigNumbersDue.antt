@@ -13,9 +13,8 @@ use Rattle.resp_value.proofs.FirstLines.{after_line, first_line, sort_of-line}
 use Rattle.resp_fronts.specs.Events as e
 use Rattle.resp_fronts.specs.Events.{Event, big_events, events_due, events, last_of, leaf_events}
 use Rattle.resp_fronts.proofs.FirstLines.BegunLines.{line_begins, text_first}
-use Rattle.resp_fronts.proofs.Refusals.BrokenHeads.{sort_of_signed}
 use Rattle.resp_fronts.proofs.EventLaws.EventsDue.{AreFrom, due_none}
-use Rattle.resp_fronts.proofs.FirstLines.FirstLineRows.{number_line, tree_of_numeral}
+use Rattle.resp_fronts.proofs.FirstLines.FirstLineRows.{number_line, tree_of_numeral, sort_of_signed}
 use Rattle.resp_scan.specs.Machine.Beginnings.{BigBegun, BigShown, ZeroReturned}
 use Rattle.resp_scan.proofs.DueEvents.InsideDue.{AreDueWithin}
 use Rattle.resp_scan.proofs.DueEvents.LinesDue.{returned_is, returned_last}

@@ -12,7 +12,7 @@ use Rattle.resp_fronts.proofs.FirstLines.CountRows.{CompletesUnder}
 use Rattle.resp_fronts.proofs.Tokens.BegunFronts.{IsBegunBy}
 use Rattle.resp_fronts.proofs.Refusals.BrokenLines.{null_begun_broken, null_broken, null_short, truth_begun_broken, truth_broken, truth_short, line_broken}
 use Rattle.resp_fronts.proofs.Tokens.LineTokens.{line_begun, returned_begun, returned_broken, returned_whole, line_of_broken}
-use Rattle.resp_fronts.proofs.Tokens.NumberTokens.{dollar_null_begun, null_token_line, star_null_begun, truth_begun, truth_token_line}
+use Rattle.resp_fronts.proofs.Tokens.NumberTokens.{null_begun, null_token_line, truth_begun, truth_token_line}
 use Rattle.resp_scan.specs.Machine.Tokens as k
 use Rattle.resp_scan.specs.Machine.Tokens.{Go, Give, Refuse, Place, AtBool, AtBoolCr, AtBoolLf, AtNullCr, AtNullLf, AtNullOne, at, after_end}
 use Rattle.resp_scan.specs.Kinds.{rules_of}
@@ -28,8 +28,8 @@ use Rattle.resp_fronts.specs.Tokens.{IsLineOf, IsReturned}
 
 -- a null's first two bytes
 pub null_first_row : (r : Rules) (level : ℕ) (bytes : List ℕ) → IsNullBegun bytes → IsBegunBy r level bytes 3
-null_first_row r level bytes (inl is) = subst (λ z. IsBegunBy r level z 3) (sym is) (dollar_null_begun r level)
-null_first_row r level bytes (inr is) = subst (λ z. IsBegunBy r level z 3) (sym is) (star_null_begun r level)
+null_first_row r level bytes (inl is) = subst (λ z. IsBegunBy r level z 3) (sym is) (null_begun r BulkNull level 36 refl (omega arith) (λ is_two e. absurd (cc)))
+null_first_row r level bytes (inr is) = subst (λ z. IsBegunBy r level z 3) (sym is) (null_begun r ArrayNull level 42 refl (omega arith) (λ is_two e. absurd (cc)))
 
 mark_line : (first : ℕ) → (first ≡ 13 → ⊥) → (first ≡ 10 → ⊥) → IsLine (first ∷ 45 ∷ [])
 mark_line first p q = ((p, q), ((λ z. omega arith, λ z. omega arith), tt))
