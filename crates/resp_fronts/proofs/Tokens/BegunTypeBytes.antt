@@ -21,7 +21,8 @@ use Rattle.resp_fronts.specs.Tokens.{HasString, IsLengthToken, IsNumberToken, ze
 pub dollar_begun : (r : Rules) (level : ℕ) → IsBegunBy r level (36 ∷ []) 4
 dollar_begun r level =
     begun_by 36 [] (omega arith)
-    (dollar_row (LeafKeeps r WithinItems) (NodeKeeps r WithinItems) level (leaf_keeps r WithinItems level (null BulkNull) tt (λ is_two. tt) tt (λ off. tt) (omega arith)))
+    (dollar_row (LeafKeeps r WithinItems) (NodeKeeps r WithinItems) level
+    (leaf_keeps r WithinItems level (null BulkNull) tt (λ is_two. tt) tt (λ off. tt) (omega arith)))
 
 -- `!`: 5
 pub bulk_error_begun : (r : Rules) (level : ℕ) → (r.version ≡ Two → ⊥) → IsBegunBy r level (33 ∷ []) 5
@@ -33,7 +34,8 @@ bulk_error_begun r level no_two =
 pub verbatim_begun : (r : Rules) (level : ℕ) → (r.version ≡ Two → ⊥) → 4 ≤ r.limits.length → IsBegunBy r level (61 ∷ []) 9
 verbatim_begun r level no_two roomy =
     begun_by 61 [] (omega arith)
-    (verbatim_row (LeafKeeps r WithinItems) (NodeKeeps r WithinItems) level (string_keeps r WithinItems level (Verbatim (zeros 3)) (52 ∷ []) [] no_two (refl, are_zeros 3) (omega arith)))
+    (verbatim_row (LeafKeeps r WithinItems) (NodeKeeps r WithinItems) level
+    (string_keeps r WithinItems level (Verbatim (zeros 3)) (52 ∷ []) [] no_two (refl, are_zeros 3) (omega arith)))
 
 -- `*` at full depth: 4
 pub star_deep_begun : (r : Rules) (level : ℕ) → r.limits.depth ≤ level → IsBegunBy r level (42 ∷ []) 4
@@ -52,7 +54,8 @@ pub aggregate_begun : (r : Rules) (k : Kind) (level : ℕ) → (r.version ≡ Tw
     IsBegunBy r level (kind_byte k ∷ []) 3
 aggregate_begun r k level no_two no_push below none =
     begun_by (kind_byte k) [] (omega arith)
-    (star_row r level k (node_keeps r WithinItems level k (Counted (48 ∷ [])) 0 (λ is_two. absurd (no_two is_two)) no_push (λ off. tt) below (omega (arith, no_items k))) none)
+    (star_row r level k (node_keeps r WithinItems level k (Counted (48 ∷ [])) 0 (λ is_two. absurd (no_two is_two)) no_push (λ off. tt) below
+    (omega (arith, no_items k))) none)
   where
     no_items : (k : Kind) → items_of k 0 ≡ 0
     no_items Array = refl
@@ -62,7 +65,9 @@ aggregate_begun r k level no_two no_push below none =
 pub attribute_begun : (r : Rules) (level : ℕ) → (r.version ≡ Two → ⊥) → level < r.limits.depth → IsBegunBy r level (124 ∷ []) 6
 attribute_begun r level no_two below =
     begun_by 124 [] (omega arith)
-    (attr_row (LeafKeeps r WithinItems) (NodeKeeps r WithinItems) level (node_keeps r WithinItems level Attr (Counted (48 ∷ [])) 1 (λ is_two. absurd (no_two is_two)) tt (λ off. tt) below (omega arith)) (shortest_keeps r WithinItems (suc level)))
+    (attr_row (LeafKeeps r WithinItems) (NodeKeeps r WithinItems) level
+    (node_keeps r WithinItems level Attr (Counted (48 ∷ [])) 1 (λ is_two. absurd (no_two is_two)) tt (λ off. tt) below (omega arith))
+    (shortest_keeps r WithinItems (suc level)))
 
 -- a leaf within the rules before that of length
 leaf_before_length : (r : Rules) (level : ℕ) (l : Leaf) → IsNoDouble l → (r.version ≡ Two → IsLeafInTwo l) → IsInRange l → IsCountedLeaf l →

@@ -76,7 +76,8 @@ returned_broken r l level bytes rest byte no_newline w c =
 pub line_of_broken : (r : Rules) (l : Leaf) (level : ℕ) (bytes rest : List ℕ) (byte : ℕ) → (byte ≡ 13 → ⊥) → NoLineGoesOn (leaf_line l) byte →
     IsLineOf r l level bytes → CompletesUnder r Grammar level bytes (byte ∷ rest) → ⊥
 line_of_broken r l level bytes rest byte no_return no_line w c =
-    byte_broken (LeafKeeps r Grammar) (NodeKeeps r Grammar) level (leaf_line l) rest byte (subst IsLine w.is_line (no_break_in_line r l level bytes w)) no_return
+    byte_broken (LeafKeeps r Grammar) (NodeKeeps r Grammar) level (leaf_line l) rest byte (subst IsLine w.is_line (no_break_in_line r l level bytes w))
+    no_return
     no_line (subst (λ z. CompletesUnder r Grammar level z (byte ∷ rest)) w.is_line c)
 
 -- a line has no LF in it

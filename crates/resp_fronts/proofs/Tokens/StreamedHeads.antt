@@ -22,7 +22,8 @@ use Rattle.resp_fronts.specs.Tokens.{HasStreamed}
 pub streamed_string_begun : (r : Rules) (level : ℕ) → HasStreamed r → IsBegunBy r level (36 ∷ 63 ∷ []) 6
 streamed_string_begun r level h =
     begun_by 36 (63 ∷ []) (omega arith)
-    (chunked_row (LeafKeeps r WithinItems) (NodeKeeps r WithinItems) level (leaf_keeps r WithinItems level (chunked [] (48 ∷ [])) tt (λ is_two. absurd (h.0 is_two)) tt (λ off. absurd (h.1 off)) (omega arith)))
+    (chunked_row (LeafKeeps r WithinItems) (NodeKeeps r WithinItems) level
+    (leaf_keeps r WithinItems level (chunked [] (48 ∷ [])) tt (λ is_two. absurd (h.0 is_two)) tt (λ off. absurd (h.1 off)) (omega arith)))
 
 -- its line has no break in it
 pub mark_line : IsLine (36 ∷ 63 ∷ [])
@@ -60,7 +61,9 @@ pub streamed_begun : (r : Rules) (k : Kind) (level : ℕ) → HasStreamed r → 
     IsBegunBy r level (kind_byte k ∷ 63 ∷ []) 5
 streamed_begun r k level h can no_push within_depth =
     begun_by (kind_byte k) (63 ∷ []) (omega arith)
-    (mark_row (LeafKeeps r WithinItems) (NodeKeeps r WithinItems) level k can (node_keeps r WithinItems level k Streamed 0 (λ is_two. absurd (h.0 is_two)) no_push (λ off. absurd (h.1 off)) within_depth (omega (arith, no_items k))))
+    (mark_row (LeafKeeps r WithinItems) (NodeKeeps r WithinItems) level k can
+    (node_keeps r WithinItems level k Streamed 0 (λ is_two. absurd (h.0 is_two)) no_push (λ off. absurd (h.1 off)) within_depth
+    (omega (arith, no_items k))))
   where
     no_items : (k : Kind) → items_of k 0 ≡ 0
     no_items Array = refl

@@ -99,11 +99,13 @@ least_at s token used front es c w = inside_least (rules_of s) (b.TokenHas (rule
     (λ level bytes shown i t. tokens_need (at s token) used level bytes shown c (λ e. cc) i t)
 
 -- where a place stands, it needs the least that completes the front
-pub least_is_needed : (s : Place) (used : ℕ) (front : List ℕ) (es : List Event) → IsSoundBy used s → StandsAfter s front es → IsLeast (rules_of s) front (needed s)
+pub least_is_needed : (s : Place) (used : ℕ) (front : List ℕ) (es : List Event) → IsSoundBy used s → StandsAfter s front es →
+    IsLeast (rules_of s) front (needed s)
 least_is_needed s used front es c w = subst (λ n. IsLeast (rules_of s) front (token_needed s.token s.bounds.depth s.frames + n)) (sym c.frames_need)
     (least_at s s.token used front es c w)
 
 -- the front of a place begins a spelling within every rule
-pub followed_is_viable : (s : Place) (used : ℕ) (front : List ℕ) (es : List Event) → IsSoundBy used s → length front ≡ s.taken + used → StandsAfter s front es → IsViable (rules_of s) WithinTotal front
+pub followed_is_viable : (s : Place) (used : ℕ) (front : List ℕ) (es : List Event) → IsSoundBy used s → length front ≡ s.taken + used → StandsAfter s front es →
+    IsViable (rules_of s) WithinTotal front
 followed_is_viable s used front es c taken w = (viable_in_all (rules_of s) front (needed s) (least_is_needed s used front es c w)).1
     (omega (arith, c.total, taken))

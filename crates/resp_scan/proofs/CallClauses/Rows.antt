@@ -157,5 +157,6 @@ token_row s (AtOpenLf k) level bytes shown c f more i w = end_row (rules_of s) (
 token_row s _ level bytes shown c f more i w = absurd w
 
 -- inside a value the token needs the least that completes its bytes, but at a text's end, where they are whole
-pub tokens_need : (s : Place) (used level : ℕ) (bytes : List ℕ) (shown : List Event) → IsSoundBy used s → (s.token ≡ AtTextEnd → ⊥) → level ≡ length s.frames → TokenHas (rules_of s) s.token level bytes shown → IsBegunBy (rules_of s) level bytes (token_needed s.token s.bounds.depth s.frames)
+pub tokens_need : (s : Place) (used level : ℕ) (bytes : List ℕ) (shown : List Event) → IsSoundBy used s → (s.token ≡ AtTextEnd → ⊥) → level ≡ length s.frames →
+    TokenHas (rules_of s) s.token level bytes shown → IsBegunBy (rules_of s) level bytes (token_needed s.token s.bounds.depth s.frames)
 tokens_need s used level bytes shown c more i w = token_row s s.token level bytes shown c.bounds c.token more i w

@@ -127,5 +127,6 @@ due_at s (AtBigDigit digit room) used front es c w =
 due_at s token used front es c w = no_more front es (inside_token s token used front es c (λ i. cc, λ x y i. cc) w)
 
 -- of every tree that the front begins, the events due by then are those given and those owed
-pub events_are_due : (s : Place) (used : ℕ) (front : List ℕ) (es : List Event) → IsSoundBy used s → StandsAfter s front es → (rest : List ℕ) (whole : Tree) → Spells whole (front ++ rest) → events_due (length front) (all_events whole) ≡ es ++ events_owed s
+pub events_are_due : (s : Place) (used : ℕ) (front : List ℕ) (es : List Event) → IsSoundBy used s → StandsAfter s front es → (rest : List ℕ) (whole : Tree) →
+    Spells whole (front ++ rest) → events_due (length front) (all_events whole) ≡ es ++ events_owed s
 events_are_due s used front es c w rest whole spells = due_at s s.token used front es c w rest whole spells.is_tree spells.spelled

@@ -49,7 +49,11 @@ leaf_few from (numeral t.Int sign digits) = omega (arith, text_at_least (leaf (n
 leaf_few from (numeral t.Big sign digits) =
     let whole : length (leaf_text (numeral t.Big sign digits)) ≡ length (sign_text sign) + length digits + 3 =
     omega (arith, length-append (40 ∷ (sign_text sign ++ digits)) (crlf []), length-append (sign_text sign) digits) in
-    omega (arith, case (is_below_zero sign digits) (significant_digits digits) (last_of from (leaf_text (numeral t.Big sign digits))), length-significant_digits digits)
+    omega (
+      arith,
+      case (is_below_zero sign digits) (significant_digits digits) (last_of from (leaf_text (numeral t.Big sign digits))),
+      length-significant_digits digits,
+    )
   where
     case : (negative : Bool) (kept : List ℕ) (last : ℕ) → length (without_places (big_events negative kept last)) ≡ length kept + 2
     case negative [] last = refl

@@ -45,7 +45,14 @@ leaf_shown bytes l shown told fits = record {
 big_shown : (r : Rules) (negative : Bool) (kept : List ℕ) (level : ℕ) (bytes : List ℕ) (shown : List Event) → BigBegun r negative kept level bytes →
     (s : List ℕ) → length s ≤ length kept → shown ≡ e.Text (e.Big negative) ∷ content_events s → IsShown bytes shown
 big_shown r negative kept level bytes shown w s fits told = text_shown bytes (e.Big negative) s shown told
-    (omega (arith, fits, ap length w.left, length-significant_digits (w.first ∷ w.digits), ap length w.token.are, length-append (sign_text w.sign) (w.first ∷ w.digits)))
+    (omega (
+      arith,
+      fits,
+      ap length w.left,
+      length-significant_digits (w.first ∷ w.digits),
+      ap length w.token.are,
+      length-append (sign_text w.sign) (w.first ∷ w.digits),
+    ))
 
 content_shown : (r : Rules) (n level : ℕ) (bytes : List ℕ) (shown : List Event) → ContentBegun r n level bytes shown → IsShown bytes shown
 content_shown r n level bytes shown w = text_shown bytes _ w.part shown w.told

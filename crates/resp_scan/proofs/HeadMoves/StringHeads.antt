@@ -66,7 +66,8 @@ bulk = record {
   most = λ s. refl;
   cause = refl;
   first_row = λ r level bytes roomy w. subst (λ z. IsBegunBy r level z 4) (sym w.1) (dollar_begun r level);
-  row = λ r n level bytes shown roomy w. subst (IsBegunBy r level bytes) (omega (arith, w.valued)) (plain_length_begun r t.Bulk w.first w.digits level bytes tt (λ s. refl) w.token);
+  row = λ r n level bytes shown roomy w. subst (IsBegunBy r level bytes) (omega (arith, w.valued))
+      (plain_length_begun r t.Bulk w.first w.digits level bytes tt (λ s. refl) w.token);
   counts = λ r n level bytes shown w. w;
   length = λ r n level bytes shown w. w;
   ends = λ r n level bytes shown e w. w;
@@ -82,7 +83,8 @@ bulk_error = record {
   most = λ s. refl;
   cause = refl;
   first_row = λ r level bytes roomy w. subst (λ z. IsBegunBy r level z 5) (sym w.1) (bulk_error_begun r level w.0);
-  row = λ r n level bytes shown roomy w. subst (IsBegunBy r level bytes) (omega (arith, w.valued)) (plain_length_begun r t.BulkError w.first w.digits level bytes tt (λ s. refl) w.token);
+  row = λ r n level bytes shown roomy w. subst (IsBegunBy r level bytes) (omega (arith, w.valued))
+      (plain_length_begun r t.BulkError w.first w.digits level bytes tt (λ s. refl) w.token);
   counts = λ r n level bytes shown w. w;
   length = λ r n level bytes shown w. w;
   ends = λ r n level bytes shown e w. w;

@@ -70,7 +70,8 @@ is_array_head s i b h =
     cond_if (IsMove (i + 1) s) (is_full s) _ _ (λ e. tt) (λ e. is_head_first s AtArrayHead i head.Array b h (λ o. not_full s e)))
 
 -- a place with so many bytes of content to come keeps its numbers
-pub is_content_at : (s : Place) (t : Token) (i n : ℕ) → IsSoundBy i (at s t) → n + 3 ≤ token_needed t s.bounds.depth s.frames → IsInside (i + 1) s (content_at n s)
+pub is_content_at : (s : Place) (t : Token) (i n : ℕ) → IsSoundBy i (at s t) → n + 3 ≤ token_needed t s.bounds.depth s.frames →
+    IsInside (i + 1) s (content_at n s)
 is_content_at s t i n h q =
     cond_if (λ u. IsInside (i + 1) s (at s u)) (eqb n 0) AtContentCr (InContent n)
     (λ e. less s t AtContentCr i h (omega (arith, q)) tt refl)

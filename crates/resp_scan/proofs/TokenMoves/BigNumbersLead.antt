@@ -238,7 +238,8 @@ digit_shown r digit room level bytes shown w = record {
 }
 
 -- the digit that is owed is given without a byte
-pub big_digit_is_owed : (s : Place) (digit room : ℕ) (front : List ℕ) (es : List Event) → StandsAfter (at s (AtBigDigit digit room)) front es → StandsAfter (at s (InBig room)) front (es ++ e.Byte digit ∷ [])
+pub big_digit_is_owed : (s : Place) (digit room : ℕ) (front : List ℕ) (es : List Event) → StandsAfter (at s (AtBigDigit digit room)) front es →
+    StandsAfter (at s (InBig room)) front (es ++ e.Byte digit ∷ [])
 big_digit_is_owed s digit room front es w =
     let r = rules_of s in
     subst (λ z. StandsAfter (at s (InBig room)) z (es ++ e.Byte digit ∷ [])) (append-nil front)
@@ -256,7 +257,8 @@ text_ends r level bytes shown w = record {
 }
 
 -- the end of a text that is owed is given without a byte
-pub text_end_is_owed : (s : Place) (front : List ℕ) (es : List Event) → StandsAfter (at s AtTextEnd) front es → StandsAfter (after_end s) front (es ++ e.TextEnd ∷ [])
+pub text_end_is_owed : (s : Place) (front : List ℕ) (es : List Event) → StandsAfter (at s AtTextEnd) front es →
+    StandsAfter (after_end s) front (es ++ e.TextEnd ∷ [])
 text_end_is_owed s front es w =
     let r = rules_of s in
     subst (λ z. StandsAfter (after_end s) z (es ++ e.TextEnd ∷ [])) (append-nil front)

@@ -46,7 +46,8 @@ closing_ends r k fs last rest front es w =
     ap without_places (events-closed f w.outer) ∙ given-append (events_around w.outer) (events from tree))
 
 -- the close that is owed is given without a byte
-pub close_is_owed : (s : Place) (f : Frame) (fs : List Frame) (front : List ℕ) (es : List Event) → StandsAfter (record s { token = AtEnd; frames = f ∷ fs }) front es → StandsAfter (after_end (record s { frames = fs })) front (es ++ e.Close ∷ [])
+pub close_is_owed : (s : Place) (f : Frame) (fs : List Frame) (front : List ℕ) (es : List Event) →
+    StandsAfter (record s { token = AtEnd; frames = f ∷ fs }) front es → StandsAfter (after_end (record s { frames = fs })) front (es ++ e.Close ∷ [])
 close_is_owed s f fs front es w =
     subst (λ z. StandsAfterAt (rules_of s) (token_within fs) fs z (es ++ e.Close ∷ [])) (append-nil front)
     (closing_ends (rules_of s) f.kind fs [] [] front es w)

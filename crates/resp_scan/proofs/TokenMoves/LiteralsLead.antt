@@ -28,8 +28,10 @@ use Rattle.resp_fronts.specs.Tokens.{IsLineOf, IsReturned}
 
 -- a null's first two bytes
 pub null_first_row : (r : Rules) (level : ℕ) (bytes : List ℕ) → IsNullBegun bytes → IsBegunBy r level bytes 3
-null_first_row r level bytes (inl is) = subst (λ z. IsBegunBy r level z 3) (sym is) (null_begun r BulkNull level 36 refl (omega arith) (λ is_two e. absurd (cc)))
-null_first_row r level bytes (inr is) = subst (λ z. IsBegunBy r level z 3) (sym is) (null_begun r ArrayNull level 42 refl (omega arith) (λ is_two e. absurd (cc)))
+null_first_row r level bytes (inl is) = subst (λ z. IsBegunBy r level z 3) (sym is)
+    (null_begun r BulkNull level 36 refl (omega arith) (λ is_two e. absurd (cc)))
+null_first_row r level bytes (inr is) = subst (λ z. IsBegunBy r level z 3) (sym is)
+    (null_begun r ArrayNull level 42 refl (omega arith) (λ is_two e. absurd (cc)))
 
 mark_line : (first : ℕ) → (first ≡ 13 → ⊥) → (first ≡ 10 → ⊥) → IsLine (first ∷ 45 ∷ [])
 mark_line first p q = ((p, q), ((λ z. omega arith, λ z. omega arith), tt))
