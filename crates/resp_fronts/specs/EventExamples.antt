@@ -1,11 +1,11 @@
 -- Trees and their events, worked out by hand.
 use Rattle.std.specs.Prelude.{◌≡◌, ℕ, false, true, Some, None, List, [], ◌∷◌, codes}
+use Rattle.std.specs.Str.{byte}
 use Rattle.resp_value.specs.Numbers.{Minus}
 use Rattle.resp_value.specs.Data.{Array, Attr}
 use Rattle.resp_value.specs.Trees as t
 use Rattle.resp_value.specs.Trees.{Tree, leaf, node, none, more, line, numeral, null, string, chunked, PlainNull, Counted, Streamed, text}
 use Rattle.resp_fronts.specs.Events.{Event, Null, Text, Byte, TextEnd, Open, Close, Done, Simple, Bulk, Verbatim, Big, Timed, all_events}
-use Rattle.std.specs.Str.{byte}
 
 -- an event, at the index of its byte
 abbrev comes : ℕ → Event → Timed

@@ -1,5 +1,6 @@
 -- What has come and what may follow, for the rules up to one before total.
 use Rattle.std.specs.Prelude.{◌≡◌, ◌↔◌, ℕ, ◌+◌, ◌<◌, ◌≤◌, None, Some, List, [], ◌∷◌, ◌++◌, length}
+use Rattle.std.specs.Str.{byte}
 use Rattle.resp_value.specs.Bounds.{AreBounds}
 use Rattle.resp_value.specs.Trees.{Tree, Spells, text, IsTree}
 use Rattle.resp_value.specs.Rules.{Rules, Rule, WithinItems, WithinTotal, rank}
@@ -10,7 +11,6 @@ use Rattle.resp_fronts.specs.Events.{events, events_around, events_due, without_
 use Rattle.resp_fronts.specs.FirstByteRefusals.{first_byte_refusal}
 use Rattle.resp_fronts.specs.LeastCompletions.{HasLeast, Continues, IsLeast}
 use Rattle.resp_fronts.specs.MayFollow.{MayFollow, CompletesValue, AreKept, AreOpen, CanAllEnd, frames_needed}
-use Rattle.std.specs.Str.{byte}
 
 -- what has come, and what may follow it, spell a tree within the rules
 abbrev pub WhatMayFollowContinues : Type 0

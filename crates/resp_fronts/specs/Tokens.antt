@@ -1,5 +1,6 @@
 -- The bytes of a value so far, token by token, on a level and within the rules.
 use Rattle.std.specs.Prelude.{◌≡◌, ℕ, zero, suc, ◌≤◌, false, List, [], ◌∷◌, ◌++◌, length, codes}
+use Rattle.std.specs.Str.{byte}
 use Rattle.resp_value.specs.Bytes.{IsLine, IsText, crlf}
 use Rattle.resp_value.specs.Data.{Kind, members_of}
 use Rattle.resp_value.specs.LocalRules.{LeafKeeps, NodeKeeps}
@@ -7,7 +8,6 @@ use Rattle.resp_value.specs.Numbers.{IsDigits, Sign, Minus, kept_digits, number,
 use Rattle.resp_value.specs.Rules.{Rules, WithinItems}
 use Rattle.resp_value.specs.Trees.{Big, Bulk, Counted, Double, HasFormat, Int, IsLeaf, Leaf, LineKind, NumberKind, StringKind, kind_byte, leaf_line, leaf_rest, line_byte, number_byte, payload, string_byte}
 use Rattle.resp_value.specs.declared.version.Version.TheVariants.{Two}
-use Rattle.std.specs.Str.{byte}
 
 -- a simple string or an error
 abbrev pub IsTextLine : LineKind → Type 0

@@ -9,6 +9,7 @@ use Rattle.resp_value.specs.Spellings.{IsCause}
 use Rattle.resp_value.specs.declared.version.Version.{Version}
 use Rattle.resp_value.specs.declared.version.Version.TheVariants.{Two, Three}
 use Rattle.resp_value.proofs.FirstBytes.{begins, first_byte_is}
+use Rattle.resp_value.proofs.Choices.{if_within}
 use Rattle.resp_fronts.specs.Frames.{text_around}
 use Rattle.resp_fronts.specs.MayFollow.{IsWholeText, MayFollowFrames}
 use Rattle.resp_fronts.specs.FirstByteRefusals.{refusal_in_three, aggregate_refusal, push_refusal, first_byte_answers, first_byte_refusal}
@@ -20,7 +21,6 @@ use Rattle.resp_fronts.proofs.Between.RefusedBetweenValues.{refuse_first, refuse
 use Rattle.resp_fronts.proofs.Refusals.FirstRuleBroken.{refused_cause, grammar_cause}
 use Rattle.resp_fronts.proofs.Refusals.FirstByteCauses.{GoesOn, IsAnswered, goes_on_before, at_answer, first_byte_answered, and_rows}
 use Rattle.resp_fronts.specs.OpenLevels.{Level, so_far}
-use Rattle.resp_value.proofs.Choices.{if_within}
 
 -- a first byte that no value has
 pub begin_broken : (r : Rules) (levels : List Level) (front : List ℕ) (byte : ℕ) → (byte ≡ 46 → ⊥) → (w : IsBetween r levels front) →

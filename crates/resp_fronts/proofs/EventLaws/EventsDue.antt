@@ -6,6 +6,7 @@ use Rattle.resp_value.specs.Trees.{Tree, Trees, leaf, node, none, more, text, te
 use Rattle.resp_value.specs.LocalRules.{LeafRule, NodeRule, HoldsFrom, HoldsFromEach}
 use Rattle.resp_value.proofs.FirstBytes.{byte_at_start}
 use Rattle.resp_value.proofs.Unique.{unique}
+use Rattle.resp_value.proofs.DefaultLimits.{text_at_least}
 use Rattle.resp_fronts.specs.Frames.{Frame, open_text, text_around}
 use Rattle.resp_fronts.specs.MayFollow.{MembersThen, MayFollowValue, ValueThen, AreKept, AreOpen}
 use Rattle.resp_fronts.specs.Events.{Timed, events, events_each, close_event, events_around, events_due, without_places}
@@ -13,7 +14,6 @@ use Rattle.resp_fronts.proofs.FrameLaws.OpenFrames.{joined_trees}
 use Rattle.resp_fronts.proofs.FrameLaws.Composition.{around-append, text-node, frame_value, compose_member, determine, first_member}
 use Rattle.resp_fronts.proofs.EventLaws.EventsAround.{events-node, length-around}
 use Rattle.resp_fronts.proofs.EventLaws.EventPlaces.{AreWithin, within_wider, each_within, around_within}
-use Rattle.resp_value.proofs.DefaultLimits.{text_at_least}
 
 -- each event comes at this byte or behind it
 abbrev pub AreFrom : ℕ → List Timed → Type 0

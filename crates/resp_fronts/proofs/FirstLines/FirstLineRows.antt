@@ -1,6 +1,7 @@
 -- Least completions of begun first lines: numbers, `_`, `#`, `$` and the lengths of strings.
 use Rattle.std.proofs.Common.{◌++◌, ◌+◌, ◌<◌, ◌∙◌, ◌∷◌, ◌≡◌, ◌≤◌, Bool, List, [], ap, append-nil, append_assoc, arith, false, length, length-append, refl, subst, suc, sym, true, zero, ℕ}
 use Rattle.std.specs.List.{AllByRecursion}
+use Rattle.std.proofs.lemmas.Bool.{ne_eqb}
 use Rattle.resp_value.specs.Bytes.{IsLine, IsText, crlf}
 use Rattle.resp_value.specs.Data.{Array, Attr, Map, Push, Set}
 use Rattle.resp_value.specs.LocalRules.{HoldsFrom, LeafRule, NodeRule}
@@ -9,12 +10,11 @@ use Rattle.resp_value.specs.Trees.{Chunk, ArrayNull, Big, Bulk, BulkError, BulkN
 use Rattle.resp_value.proofs.FirstBytes.{byte_at_start}
 use Rattle.resp_value.proofs.FirstLines.{after_line, chunked_sort, first_line, leaf_of, no_sort, numeral_sort, sort, sort_behind_dollar, sort_of, string_sort, sort_of-line}
 use Rattle.resp_value.proofs.Splitting.{digit_is_no, digit_is_no_mark, line_from_each}
+use Rattle.resp_value.proofs.DigitLemmas.{number-more}
 use Rattle.resp_fronts.specs.LeastCompletions.{HasLeast}
 use Rattle.resp_fronts.specs.MayFollow.{CompletesValue}
 use Rattle.resp_fronts.proofs.FirstLines.BegunLines.{completes_line, text_first}
 use Rattle.resp_fronts.specs.Tokens.{zeros}
-use Rattle.resp_value.proofs.DigitLemmas.{number-more}
-use Rattle.std.proofs.lemmas.Bool.{ne_eqb}
 
 -- a line that can go on by l0
 pub line_row : (L : LeafRule) (N : NodeRule) (k : ℕ) (b l0 : List ℕ) (t : Tree) (m : ℕ) → IsLine b → IsTree t → HoldsFrom L N k t → first_line t ≡ b ++ l0 →

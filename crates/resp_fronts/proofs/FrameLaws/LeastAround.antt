@@ -6,12 +6,12 @@ use Rattle.resp_value.specs.Numbers.{number}
 use Rattle.resp_value.specs.Trees.{ArrayNull, BulkNull, Counted, Form, HasMembers, IsTree, Leaf, PlainNull, Simple, Streamed, Tree, chunked, close, count, leaf, leaf_line, line, node, null, numeral, string, text, texts, truth}
 use Rattle.resp_value.proofs.FirstLines.{first_line}
 use Rattle.resp_value.proofs.Unique.{unique}
+use Rattle.resp_value.proofs.DefaultLimits.{texts_at_least}
 use Rattle.resp_fronts.specs.Frames.{Frame, text_around}
 use Rattle.resp_fronts.specs.LeastCompletions.{HasLeast}
 use Rattle.resp_fronts.specs.MayFollow.{AreKept, AreOpen, CanAllEnd, CanEnd, CompletesValue, IsWholeText, MayFollow, MayFollowValue, MembersThen, ValueThen, frames_needed, members_needed, members_missing}
 use Rattle.resp_fronts.proofs.FrameLaws.Composition.{around-append, compose, determine, first_member, member_rest}
 use Rattle.resp_fronts.proofs.FrameLaws.OpenFrames.{are_shortest_trees, count-shortest_trees, shortest_trees}
-use Rattle.resp_value.proofs.DefaultLimits.{texts_at_least}
 
 -- a begins with b, and what follows b is the rest of a, and what follows a
 abbrev pub BeginsBy : List ℕ → List ℕ → List ℕ → List ℕ → Type 0

@@ -5,13 +5,13 @@ use Rattle.resp_value.specs.Numbers.{IsDigit, IsDigits, Sign, Unsigned, sign_tex
 use Rattle.resp_value.specs.Data.{Kind, Array, Set, Map, Attr, Push}
 use Rattle.resp_value.specs.Trees.{Tree, leaf, node, string, NumberKind, StringKind, Bulk, BulkError, Verbatim, Counted, Streamed, number_byte, string_byte, kind_byte, count, CanStream, IsTree}
 use Rattle.resp_value.proofs.FirstLines.{numeral_sort, string_sort, leaf_of, node_of, sort, first_line, sort_of-line}
+use Rattle.resp_value.proofs.Choices.{if_equal}
 use Rattle.resp_fronts.proofs.FirstLines.BegunLines.{counted_is, tree_of_node}
 use Rattle.resp_fronts.proofs.FirstLines.FirstLineRows.{tree_of_numeral, no_other, number_more_digits, is_string, sort_of_signed, digit_no_sign}
 use Rattle.resp_fronts.proofs.FirstLines.MoreFirstLineRows.{string_size, verbatim_least, sort_mark}
 use Rattle.resp_fronts.proofs.FirstLines.CountRows.{line_after}
 use Rattle.resp_fronts.proofs.Refusals.RefusedBytes.{digits_hold}
 use Rattle.resp_fronts.proofs.Refusals.BrokenLines.{NoLineGoesOn, NoLineEnds}
-use Rattle.resp_value.proofs.Choices.{if_equal}
 
 digits_of_number : (t : Tree) (K : NumberKind) (g : Sign) (a digits : List ℕ) → IsTree t → first_line t ≡ a → sort a ≡ leaf_of (numeral_sort K g digits) →
     IsDigits digits

@@ -15,6 +15,7 @@ use Rattle.resp_value.specs.declared.version.Version.{Version}
 use Rattle.resp_value.specs.declared.version.Version.TheVariants.{Two, Three}
 use Rattle.resp_value.proofs.ByTests.{apart_by_test}
 use Rattle.resp_value.proofs.FirstBytes.{first_byte, first_byte_is, at_first_byte, at_first_byte_of_two}
+use Rattle.resp_value.proofs.Choices.{if_equal, if_within}
 use Rattle.resp_fronts.specs.FirstByteRefusals.{answer_beside, refusal_in_three, aggregate_refusal, push_refusal, first_byte_answers, first_byte_refusal}
 use Rattle.resp_fronts.proofs.FrameLaws.KeptNodes.{at_each_rule, leaf_keeps, node_keeps}
 use Rattle.resp_fronts.proofs.FirstLines.FirstLineRows.{are_zeros, zero_digits}
@@ -23,7 +24,6 @@ use Rattle.resp_fronts.proofs.Refusals.RefusedFronts.{fewer_rules}
 use Rattle.resp_fronts.proofs.Refusals.RefusedBytes.{IsOther, kind_too_deep, push_below, double_refused}
 use Rattle.resp_fronts.proofs.FirstLines.CountRows.{CompletesUnder, IsRefusedHere, count_ends}
 use Rattle.resp_fronts.specs.Tokens.{zeros}
-use Rattle.resp_value.proofs.Choices.{if_equal, if_within}
 
 -- a value can go on behind these bytes, within the rules up to this one
 pub record GoesOn (r : Rules) (rule : Rule) (level : ℕ) (bytes : List ℕ) : Type 0 where

@@ -7,11 +7,11 @@ use Rattle.resp_value.specs.Numbers.{IsDigits, Sign, Unsigned, number, sign_text
 use Rattle.resp_value.specs.Rules.{Grammar, InRange, InVersion, IsInRange, NoDouble, PushAtTop, Rule, Rules, WithinTotal, rank}
 use Rattle.resp_value.specs.Trees.{Int, leaf, numeral}
 use Rattle.resp_value.proofs.FirstLines.{first_line, sort_of-line}
+use Rattle.resp_value.proofs.DigitLemmas.{number-more}
 use Rattle.resp_fronts.proofs.FirstLines.BegunLines.{completes_line}
 use Rattle.resp_fronts.proofs.FirstLines.FirstLineRows.{number_line, tree_of_numeral, sort_of_digits}
 use Rattle.resp_fronts.proofs.FirstLines.CountRows.{IsRefusedHere}
 use Rattle.resp_fronts.specs.Tokens.{greatest}
-use Rattle.resp_value.proofs.DigitLemmas.{number-more}
 
 in_range : (g : Sign) (ds : List ℕ) → IsInRange (numeral Int g ds) → number ds ≤ greatest g
 in_range Unsigned ds p = omega (arith, ints, p.0, p.1)

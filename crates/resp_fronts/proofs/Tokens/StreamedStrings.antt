@@ -8,13 +8,13 @@ use Rattle.resp_value.specs.Trees.{Chunk, IsChunk, IsTree, chunked, chunks_text,
 use Rattle.resp_value.proofs.FirstLines.{after_line, first_is_line, first_line, sort_of-line}
 use Rattle.resp_value.proofs.Splitting.{length_split, line_split}
 use Rattle.resp_value.proofs.Unique.{chunk_line, chunks_text-append}
+use Rattle.resp_value.proofs.DigitLemmas.{number-more}
 use Rattle.resp_fronts.specs.LeastCompletions.{HasLeast}
 use Rattle.resp_fronts.specs.MayFollow.{CompletesValue}
 use Rattle.resp_fronts.proofs.FirstLines.BegunLines.{line_begins, text_first}
 use Rattle.resp_fronts.proofs.FirstLines.FirstLineRows.{are_zeros, length-zeros, tree_of_chunked}
 use Rattle.resp_fronts.proofs.FirstLines.FirstLineRows.{zero_digits}
 use Rattle.resp_fronts.specs.Tokens.{zeros}
-use Rattle.resp_value.proofs.DigitLemmas.{number-more}
 
 -- the line that ends a streamed string
 abbrev pub last : List ℕ → List ℕ

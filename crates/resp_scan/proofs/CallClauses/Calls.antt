@@ -5,18 +5,20 @@ use Rattle.std.proofs.lemmas.Bool.Decides.{nat_tests}
 use Rattle.std.proofs.Common.{◌≡◌, ◌⊎◌, inl, inr, ℕ, suc, ◌<◌, ◌≤◌, List, [], ◌∷◌, ◌++◌, length, refl, sym, ap, subst, ◌∙◌, arith, append-nil}
 use Rattle.resp_value.specs.Bytes.{IsText}
 use Rattle.resp_value.specs.declared.version.Version.{Version}
-use Rattle.resp_scan.specs.declared.event.Busy.{Busy}
 use Rattle.resp_value.specs.Rules.{Rules}
 use Rattle.resp_value.specs.Trees.{Spells, leaf, text}
 use Rattle.resp_value.specs.declared.cause.Cause.{Cause}
 use Rattle.resp_value.specs.declared.cause.Cause.TheVariants as cause
 use Rattle.resp_value.proofs.Unique.{unique}
+use Rattle.resp_value.proofs.DefaultLimits.{text_at_least}
 use Rattle.resp_fronts.specs.Events as e
 use Rattle.resp_fronts.specs.Frames as opened
 use Rattle.resp_fronts.specs.Frames.{text_around}
 use Rattle.resp_fronts.proofs.Tokens.BegunFronts.{IsBegunBy}
 use Rattle.resp_fronts.proofs.EventLaws.EventsAround.{length-around, next_member_at}
 use Rattle.resp_fronts.proofs.FrameLaws.FrontLaws.{all_rules}
+use Rattle.resp_fronts.specs.OpenLevels.{AreLevelsOf}
+use Rattle.resp_scan.specs.declared.event.Busy.{Busy}
 use Rattle.resp_scan.specs.declared.event.Event.{Event}
 use Rattle.resp_scan.specs.declared.event.Event.TheVariants as event
 use Rattle.resp_scan.specs.declared.event.Step.{Step}
@@ -40,8 +42,6 @@ use Rattle.resp_scan.proofs.Soundness.Kept.{IsOut, is_advanced}
 use Rattle.resp_scan.proofs.CallClauses.LeastNeeded.{least_is_needed}
 use Rattle.resp_scan.proofs.TokenMoves.Moves.{at_level}
 use Rattle.resp_scan.proofs.CallClauses.Rows.{tokens_need}
-use Rattle.resp_fronts.specs.OpenLevels.{AreLevelsOf}
-use Rattle.resp_value.proofs.DefaultLimits.{text_at_least}
 
 -- A front that isn't empty.
 

@@ -2,6 +2,7 @@
 use Rattle.std.specs.Prelude.{true, false, cond, nat_lt}
 use Rattle.std.proofs.Common.{◌≡◌, ℕ, ◌+◌, ◌*◌, ◌<◌, ◌≤◌, List, length, refl, sym, arith}
 use Rattle.std.proofs.lemmas.Bool.{false≢true}
+use Rattle.resp_value.proofs.Choices.{if_equal, if_within, if_below}
 use Rattle.resp_scan.specs.declared.frame.Frame.{Frame}
 use Rattle.resp_scan.specs.Machine.Tokens.{Token, AtStart, AtEnd, AtBigDigit, AtTextEnd, AtArrayHead, AtHead, InHead, AtHeadLf, AtFormatThird, AtFormatColon, Dead}
 use Rattle.resp_scan.specs.declared.machine.Head.{Head}
@@ -9,7 +10,6 @@ use Rattle.resp_scan.specs.declared.machine.Head.TheVariants as head
 use Rattle.resp_scan.specs.Machine.Heads.{first_needed, head_needed}
 use Rattle.resp_scan.specs.Machine.Sound.{IsTokenSound, token_needed}
 use Rattle.resp_scan.proofs.TokenMoves.EachLeads.{IsLookedAt}
-use Rattle.resp_value.proofs.Choices.{if_equal, if_within, if_below}
 use Rattle.resp_scan.proofs.Soundness.SoundMoves.{is_outside}
 
 first_some : (h : Head) → 0 < first_needed h

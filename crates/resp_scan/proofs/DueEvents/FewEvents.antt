@@ -4,6 +4,8 @@ use Rattle.resp_value.specs.Bytes.{crlf}
 use Rattle.resp_value.specs.Numbers.{is_below_zero, sign_text, significant_digits}
 use Rattle.resp_value.specs.Trees as t
 use Rattle.resp_value.specs.Trees.{Chunk, Tree, Trees, Leaf, StringKind, leaf, node, line, numeral, null, truth, string, chunked, chunks_text, close, form_line, joined_content, kind_byte, leaf_text, payload, string_byte, text, texts}
+use Rattle.resp_value.proofs.DigitLemmas.{length-significant_digits}
+use Rattle.resp_value.proofs.DefaultLimits.{text_at_least}
 use Rattle.resp_fronts.specs.Frames.{Frame, text_around}
 use Rattle.resp_fronts.specs.Events as e
 use Rattle.resp_fronts.specs.Events.{Event, big_events, close_event, events, events_around, events_each, frame_events, without_places, last_of, leaf_events}
@@ -11,8 +13,6 @@ use Rattle.resp_fronts.proofs.EventLaws.EventsAround.{next_member_at}
 use Rattle.resp_scan.specs.Kinds.{content_events}
 use Rattle.resp_scan.proofs.TokenMoves.LeafEvents.{given-big, given-chunked, given-line, given-string}
 use Rattle.resp_scan.proofs.TokenMoves.Moves.{given-append}
-use Rattle.resp_value.proofs.DigitLemmas.{length-significant_digits}
-use Rattle.resp_value.proofs.DefaultLimits.{text_at_least}
 
 -- one event for each byte of content
 pub length-content : (s : List ℕ) → length (content_events s) ≡ length s

@@ -4,6 +4,7 @@ use Rattle.resp_value.specs.Bytes.{crlf}
 use Rattle.resp_value.specs.Trees as t
 use Rattle.resp_value.specs.Trees.{Tree, Trees, Form, Counted, Streamed, HasMembers, IsTree, close, count, form_line, kind_byte, node, text, texts}
 use Rattle.resp_value.proofs.Unique.{not_close}
+use Rattle.resp_value.proofs.DefaultLimits.{text_at_least}
 use Rattle.resp_fronts.specs.Frames as opened
 use Rattle.resp_fronts.specs.Frames.{text_around, open_text}
 use Rattle.resp_fronts.specs.MayFollow.{AreOpen}
@@ -15,7 +16,6 @@ use Rattle.resp_fronts.proofs.EventLaws.EventsAround.{events_each-joined, length
 use Rattle.resp_fronts.proofs.EventLaws.EventsDue.{AreFrom, BegunIn, due-append, due_all, due_around, due_none, front_events}
 use Rattle.resp_fronts.proofs.FrameLaws.OpenFrames.{count-joined_trees, is_node, joined_trees}
 use Rattle.resp_scan.proofs.TokenMoves.Moves.{given-append}
-use Rattle.resp_value.proofs.DefaultLimits.{text_at_least}
 
 -- Done comes at the last byte
 pub done_later : (n : ℕ) (whole : Tree) → n < length (text whole) → events_due n (all_events whole) ≡ events_due n (events 0 whole)

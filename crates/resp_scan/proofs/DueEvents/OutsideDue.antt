@@ -7,6 +7,7 @@ use Rattle.resp_value.specs.Rules.{Rules, WithinItems}
 use Rattle.resp_value.specs.LocalRules.{LeafKeeps, NodeKeeps}
 use Rattle.resp_value.specs.Trees.{Tree, IsTree, count, text}
 use Rattle.resp_value.proofs.Unique.{unique}
+use Rattle.resp_value.proofs.DefaultLimits.{text_at_least}
 use Rattle.resp_fronts.specs.Frames as opened
 use Rattle.resp_fronts.specs.Frames.{text_around}
 use Rattle.resp_fronts.specs.Events as e
@@ -14,6 +15,7 @@ use Rattle.resp_fronts.specs.Events.{Event, Timed, all_events, events_due, event
 use Rattle.resp_fronts.proofs.Between.BetweenValues.{ready_open}
 use Rattle.resp_fronts.proofs.EventLaws.EventPlaces.{events_within, within_wider}
 use Rattle.resp_fronts.proofs.EventLaws.EventsDue.{AreFrom, due-append, due_all, due_none}
+use Rattle.resp_fronts.specs.OpenLevels.{AreLevelsOf, AreReady, Level, so_far}
 use Rattle.resp_scan.specs.declared.frame.Frame.{Frame}
 use Rattle.resp_scan.specs.declared.frame.Shape.{Shape}
 use Rattle.resp_scan.specs.declared.frame.Shape.TheVariants.{Left, Begun}
@@ -25,8 +27,6 @@ use Rattle.resp_scan.specs.Machine.Sound.{IsClosed}
 use Rattle.resp_scan.proofs.TokenMoves.ClosesLead.{close_is_owed, is_streamed}
 use Rattle.resp_scan.proofs.TokenMoves.BigNumbersLead.{text_end_is_owed}
 use Rattle.resp_scan.proofs.DueEvents.FramesDue.{IsStop, frames_due}
-use Rattle.resp_fronts.specs.OpenLevels.{AreLevelsOf, AreReady, Level, so_far}
-use Rattle.resp_value.proofs.DefaultLimits.{text_at_least}
 
 -- in every tree that the front begins these are the events due by then
 abbrev pub AreDue : List ℕ → List Event → Type 0

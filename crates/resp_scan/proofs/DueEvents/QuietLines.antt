@@ -6,17 +6,17 @@ use Rattle.resp_value.specs.Trees.{Tree, Leaf, leaf, node, line, numeral, null, 
 use Rattle.resp_value.specs.Rules.{Rules}
 use Rattle.resp_value.proofs.FirstBytes.{leaf_begins, first_byte, first_byte_is, leaf_byte}
 use Rattle.resp_value.proofs.FirstLines.{after_line, first_is_line, first_line}
+use Rattle.resp_value.proofs.Splitting.{return_split}
 use Rattle.resp_fronts.specs.Events as e
 use Rattle.resp_fronts.specs.Events.{Event, chunk_events, events, events_each, last_of, leaf_events}
 use Rattle.resp_fronts.proofs.FirstLines.BegunLines.{line_begins, text_first}
 use Rattle.resp_fronts.proofs.EventLaws.EventPlaces.{each_within}
 use Rattle.resp_fronts.proofs.EventLaws.EventsDue.{AreFrom, due_none}
 use Rattle.resp_fronts.proofs.Tokens.LineTokens.{no_break_in_line}
+use Rattle.resp_fronts.specs.Tokens.{IsLineOf, IsReturned}
 use Rattle.resp_scan.proofs.DueEvents.FramesDue.{from-append, from_later, from_within}
 use Rattle.resp_scan.proofs.DueEvents.InsideDue.{AreDueWithin}
 use Rattle.resp_scan.proofs.DueEvents.TextsDue.{chunks_later, text_later}
-use Rattle.resp_fronts.specs.Tokens.{IsLineOf, IsReturned}
-use Rattle.resp_value.proofs.Splitting.{return_split}
 
 -- the byte begins neither a simple string, nor an error, nor a big number
 abbrev pub IsQuiet : ℕ → Type 0

@@ -11,13 +11,13 @@ use Rattle.resp_value.proofs.Splitting.{plain_above}
 use Rattle.resp_fronts.specs.Events.{Event}
 use Rattle.resp_fronts.proofs.FirstLines.CountRows.{byte_line, kind_line}
 use Rattle.resp_fronts.proofs.FirstLines.FirstLineRows.{number_line, string_line}
+use Rattle.resp_fronts.specs.Tokens.{IsNumberBegun, zeros}
+use Rattle.resp_fronts.proofs.Tokens.StreamedHeads.{streamed_line}
 use Rattle.resp_scan.specs.declared.machine.Head.{Head}
 use Rattle.resp_scan.specs.declared.machine.Head.TheVariants as head
 use Rattle.resp_scan.specs.Machine.Beginnings.{AggregateBegun, CountBegun, CountReturned, HeadBegun, HeadCounts, HeadReturned, IntBegun, IntReturned, IsNullBegun, LengthBegun, LengthReturned, NullLine, NullReturned, StreamBegun}
 use Rattle.resp_scan.proofs.DueEvents.InsideDue.{AreDueWithin}
 use Rattle.resp_scan.proofs.DueEvents.QuietLines.{IsQuiet, line_of_quiet, quiet_line, quiet_returned, returned_quiet}
-use Rattle.resp_fronts.specs.Tokens.{IsNumberBegun, zeros}
-use Rattle.resp_fronts.proofs.Tokens.StreamedHeads.{streamed_line}
 
 kind_quiet : (k : Kind) → IsQuiet (kind_byte k)
 kind_quiet d.Array = (λ i. omega arith, λ i. omega arith, λ i. omega arith)

@@ -4,6 +4,7 @@ use Rattle.resp_value.specs.Bytes.{crlf}
 use Rattle.resp_value.specs.Numbers.{number, sign_text}
 use Rattle.resp_value.specs.Trees.{Leaf, joined_content, leaf_text, payload, string_byte}
 use Rattle.resp_value.specs.Rules.{Rules}
+use Rattle.resp_value.proofs.DigitLemmas.{length-significant_digits}
 use Rattle.resp_fronts.specs.Events as e
 use Rattle.resp_fronts.specs.Events.{Event, without_places, leaf_events}
 use Rattle.resp_fronts.proofs.Tokens.LineTokens.{returned_whole}
@@ -15,7 +16,6 @@ use Rattle.resp_scan.specs.Machine.Beginnings.{TokenHas, BigBegun, ChunkBegun, C
 use Rattle.resp_scan.specs.Counts.{open_count, close_count}
 use Rattle.resp_scan.proofs.DueEvents.FewEvents.{content_in_chunks, content_in_payload, leaf_few, length-content}
 use Rattle.resp_scan.proofs.DueEvents.Opens.{LeaveOpen, closes-append, content_opens, leaf_opens, open-append, opens-append}
-use Rattle.resp_value.proofs.DigitLemmas.{length-significant_digits}
 
 -- as many opens as closes, and no more events than bytes
 pub record IsShown (bytes : List ℕ) (shown : List Event) : Type 0 where

@@ -14,12 +14,12 @@ use Rattle.resp_fronts.proofs.Tokens.BegunFronts.{IsBegunBy}
 use Rattle.resp_fronts.proofs.Tokens.BegunTypeBytes.{dollar_begun, bulk_error_begun, verbatim_begun}
 use Rattle.resp_fronts.proofs.Tokens.HeadTokens.{plain_length_begun, verbatim_length_begun, short_length_begun, zero_length_begun}
 use Rattle.resp_fronts.proofs.Tokens.StringTokens.{HasRoom, IsStringBegun, short_token_broken}
+use Rattle.resp_fronts.specs.Tokens.{zeros}
 use Rattle.resp_scan.specs.declared.machine.Head.{Head}
 use Rattle.resp_scan.specs.declared.machine.Head.TheVariants as head
 use Rattle.resp_scan.specs.Machine.Tokens.{Place}
 use Rattle.resp_scan.specs.Machine.Heads.{number_cause, first_needed, head_needed, may_end, greatest_number, streamed_kind}
 use Rattle.resp_scan.specs.Machine.Beginnings.{HeadCounts, HeadReturned, LengthBegun, LengthReturned}
-use Rattle.resp_fronts.specs.Tokens.{zeros}
 
 -- a head that is one of a counted string of this kind, and what is said of it in the words of strings
 pub record IsStringHead (h : Head) (kind : StringKind) : Type 0 where

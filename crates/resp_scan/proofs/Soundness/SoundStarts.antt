@@ -1,9 +1,12 @@
 -- The first byte of a value keeps the numbers of a place.
 use Rattle.std.proofs.Common.{◌≡◌, ℕ, ◌<◌, ◌≤◌, false, cond, nat_le, List, [], ◌∷◌, refl, sym, subst, arith}
 use Rattle.std.proofs.lemmas.Bool.{false≢true}
+use Rattle.std.specs.List.{AllByRecursion}
+use Rattle.std.specs.Str.{byte}
 use Rattle.resp_value.specs.declared.cause.Cause.TheVariants as cause
 use Rattle.resp_value.specs.declared.version.Version.{Version}
 use Rattle.resp_value.specs.declared.version.Version.TheVariants as version
+use Rattle.resp_fronts.proofs.Refusals.FirstByteCauses.{at_answer, and_rows}
 use Rattle.resp_scan.specs.declared.frame.Frame.{Frame}
 use Rattle.resp_scan.specs.declared.machine.Head.{Head}
 use Rattle.resp_scan.specs.declared.machine.Head.TheVariants as head
@@ -14,9 +17,6 @@ use Rattle.resp_scan.specs.Machine.Moves.{begin_move, line_move, aggregate_move,
 use Rattle.resp_scan.specs.Machine.Sound.{token_needed, IsTokenSound, IsSoundBy}
 use Rattle.resp_scan.proofs.Soundness.SoundMoves.{cond_if, is_outside, IsPlain, IsMove, unless_is, not_full}
 use Rattle.resp_scan.proofs.Soundness.SoundFrames.{begun_length, begun_taken, begun_rules, sound_begun, sound_closing}
-use Rattle.std.specs.List.{AllByRecursion}
-use Rattle.std.specs.Str.{byte}
-use Rattle.resp_fronts.proofs.Refusals.FirstByteCauses.{at_answer, and_rows}
 use Rattle.resp_scan.specs.declared.event.TextKind.TheVariants as text
 
 is_begun : (s : Place) (n : ℕ) (u : Token) → IsSoundBy 0 (at s AtStart) → 0 < n → token_needed u s.bounds.depth (after_begin s).frames ≤ n →

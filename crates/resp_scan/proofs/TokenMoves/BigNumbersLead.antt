@@ -7,6 +7,8 @@ use Rattle.resp_value.specs.Rules.{Rules, WithinDepth, WithinLength}
 use Rattle.resp_value.specs.Trees.{leaf, numeral, Big, leaf_text}
 use Rattle.resp_value.specs.declared.cause.Cause.TheVariants as cause
 use Rattle.resp_value.proofs.KeptDigits.{number-stripped}
+use Rattle.resp_value.proofs.DigitLemmas.{number-digit}
+use Rattle.resp_value.proofs.Choices.{if_equal, positive}
 use Rattle.resp_fronts.specs.Events.{Event, big_events, without_places, last_of, leaf_events}
 use Rattle.resp_fronts.specs.Events as e
 use Rattle.resp_fronts.proofs.FirstLines.CountRows.{IsRefusedHere}
@@ -23,14 +25,11 @@ use Rattle.resp_scan.specs.Kinds.{content_events, rules_of}
 use Rattle.resp_scan.specs.Machine.Beginnings as b
 use Rattle.resp_scan.specs.Machine.Beginnings.{BigBegun, BigDigitOwed, BigShown, IsSigned, SignBegun, TextReturned, TextWhole, ZeroReturned}
 use Rattle.resp_scan.specs.Machine.Standing.{HasCountsOf, IsInside, Leads, StandsAfter}
-use Rattle.resp_scan.proofs.TokenMoves.TokenLaws.{ALead}
 use Rattle.resp_scan.proofs.TokenMoves.LeafEvents.{content_events-append, given-big, leaf_told}
-use Rattle.resp_scan.proofs.TokenMoves.Moves.{Ends, goes, tells, value_ends}
+use Rattle.resp_scan.proofs.TokenMoves.Moves.{Ends, goes, tells, value_ends, ALead}
 use Rattle.resp_scan.proofs.TokenMoves.NumbersLead.{AnySign, digits_dead, digits_row, signed_any, signs_lead, unsigned_any, first_digit_leads}
 use Rattle.resp_scan.proofs.TokenMoves.RefusedMoves.{fits_or_total, refused}
 use Rattle.resp_scan.proofs.TokenMoves.ByteTests.{by_digit, wants_leads}
-use Rattle.resp_value.proofs.DigitLemmas.{number-digit}
-use Rattle.resp_value.proofs.Choices.{if_equal, positive}
 
 -- Digits without leading zeros.
 

@@ -5,9 +5,9 @@ use Rattle.resp_value.specs.Trees as t
 use Rattle.resp_value.specs.Trees.{Leaf, LineKind, StringKind, Chunk, line, numeral, null, truth, string, chunked, joined_content, leaf_text}
 use Rattle.resp_fronts.specs.Events.{Event, Timed, TextKind, bytes_from, big_events, chunk_events, without_places, leaf_events, text_events}
 use Rattle.resp_fronts.specs.Events as e
+use Rattle.resp_fronts.specs.Tokens.{IsTextLine}
 use Rattle.resp_scan.specs.Kinds.{content_events}
 use Rattle.resp_scan.specs.Machine.Beginnings.{line_text_kind, string_text_kind}
-use Rattle.resp_fronts.specs.Tokens.{IsTextLine}
 
 -- the events of content and of more content
 pub content_events-append : (a b : List ℕ) → content_events (a ++ b) ≡ content_events a ++ content_events b

@@ -13,16 +13,15 @@ use Rattle.resp_fronts.proofs.Tokens.BegunFronts.{IsBegunBy}
 use Rattle.resp_fronts.proofs.Refusals.BrokenLines.{null_begun_broken, null_broken, null_short, truth_begun_broken, truth_broken, truth_short, line_broken}
 use Rattle.resp_fronts.proofs.Tokens.LineTokens.{line_begun, returned_begun, returned_broken, returned_whole, line_of_broken}
 use Rattle.resp_fronts.proofs.Tokens.NumberTokens.{null_begun, null_token_line, truth_begun, truth_token_line}
+use Rattle.resp_fronts.specs.Tokens.{IsLineOf, IsReturned}
 use Rattle.resp_scan.specs.Machine.Tokens as k
 use Rattle.resp_scan.specs.Machine.Tokens.{Go, Give, Refuse, Place, AtBool, AtBoolCr, AtBoolLf, AtNullCr, AtNullLf, AtNullOne, at, after_end}
 use Rattle.resp_scan.specs.Kinds.{rules_of}
 use Rattle.resp_scan.specs.Machine.Beginnings as b
 use Rattle.resp_scan.specs.Machine.Beginnings.{IsNullBegun, NullLine, NullReturned}
 use Rattle.resp_scan.specs.Machine.Standing.{Leads, StandsAfter}
-use Rattle.resp_scan.proofs.TokenMoves.TokenLaws.{ALead}
-use Rattle.resp_scan.proofs.TokenMoves.Moves.{Ends, goes, value_ends}
+use Rattle.resp_scan.proofs.TokenMoves.Moves.{Ends, goes, value_ends, ALead}
 use Rattle.resp_scan.proofs.TokenMoves.ByteTests.{by_byte, wants_leads}
-use Rattle.resp_fronts.specs.Tokens.{IsLineOf, IsReturned}
 
 -- Nulls.
 

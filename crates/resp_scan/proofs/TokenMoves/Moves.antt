@@ -1,5 +1,5 @@
 -- What bytes make of what has come: inside a value, at its end, and where one begins.
-use Rattle.std.specs.Prelude.{false, cond, eqb}
+use Rattle.std.specs.Prelude.{false, cond, eqb, ℕ, ◌+◌, ◌<◌, List}
 use Rattle.std.proofs.lemmas.Bool.Decides.{nat_tests}
 use Rattle.std.proofs.Common.{◌≡◌, ℕ, zero, suc, ◌+◌, ◌-◌, List, [], ◌∷◌, ◌++◌, length, refl, sym, ap, subst, ◌∙◌, arith, append_assoc}
 use Rattle.resp_value.specs.Data.{members_of}
@@ -8,6 +8,7 @@ use Rattle.resp_value.specs.Trees as t
 use Rattle.resp_value.specs.Trees.{Tree, Trees, Form, Counted, Streamed, IsTree, close, count, form_line, kind_byte, none, text}
 use Rattle.resp_value.specs.Rules.{Rules, WithinItems}
 use Rattle.resp_value.specs.LocalRules.{LeafKeeps, NodeKeeps, HoldsFrom}
+use Rattle.resp_value.specs.Kinds.{kind_of}
 use Rattle.resp_fronts.specs.Frames as opened
 use Rattle.resp_fronts.specs.Frames.{text_around}
 use Rattle.resp_fronts.specs.MayFollow.{CanAllEnd, CanEnd, members_missing}
@@ -18,13 +19,35 @@ use Rattle.resp_fronts.proofs.FrameLaws.Levels.{around-with, with_member}
 use Rattle.resp_fronts.proofs.FrameLaws.LevelsAlone.{same_length}
 use Rattle.resp_fronts.proofs.EventLaws.EventsAround.{events-member}
 use Rattle.resp_fronts.proofs.Tokens.BegunFronts.{FollowsBy}
+use Rattle.resp_fronts.specs.OpenLevels.{AreLevelsOf, AreReady, HasShape}
 use Rattle.resp_scan.specs.declared.frame.Frame.{Frame}
 use Rattle.resp_scan.specs.declared.frame.Shape.{Shape}
 use Rattle.resp_scan.specs.declared.frame.Shape.TheVariants.{Left, Begun}
-use Rattle.resp_scan.specs.Machine.Tokens.{AtStart, AtEnd, token_within, token_in_shape}
-use Rattle.resp_value.specs.Kinds.{kind_of}
-use Rattle.resp_scan.specs.Machine.Standing.{HasBegun, HaveBegun, IsInside, StandsAfterAt, busy_shape, busy_levels}
-use Rattle.resp_fronts.specs.OpenLevels.{AreLevelsOf, AreReady, HasShape}
+use Rattle.resp_scan.specs.Machine.Tokens.{AtStart, AtEnd, token_within, token_in_shape, Place}
+use Rattle.resp_scan.specs.Machine.Standing.{HasBegun, HaveBegun, IsInside, StandsAfterAt, busy_shape, busy_levels, StandsAfter, Leads, HasCountsOf}
+use Rattle.resp_scan.specs.declared.machine.Head.{Head}
+use Rattle.resp_scan.specs.declared.machine.Head.TheVariants.{Bulk, BulkError, Verbatim, Chunk}
+use Rattle.resp_scan.specs.Machine.Moves.{next}
+
+-- the place that a byte leads to lies at the longer front, and a byte that is refused has its cause
+abbrev pub ALead : Place → Type 0
+ALead s = (used byte : ℕ) (front : List ℕ) (es : List Event) → byte < 256 → HasCountsOf s used front → StandsAfter s front es →
+    Leads s front es byte (next s (used + 1) byte)
+
+-- the head of an aggregate
+abbrev pub IsOfAggregate : Head → Type 0
+IsOfAggregate Bulk = ⊥
+IsOfAggregate BulkError = ⊥
+IsOfAggregate Verbatim = ⊥
+IsOfAggregate (Chunk room) = ⊥
+IsOfAggregate _ = Unit {0}
+
+-- the head of a string that isn't streamed
+abbrev pub IsOfString : Head → Type 0
+IsOfString Bulk = Unit {0}
+IsOfString BulkError = Unit {0}
+IsOfString Verbatim = Unit {0}
+IsOfString _ = ⊥
 
 -- Lists of events.
 

@@ -7,6 +7,8 @@ use Rattle.resp_value.specs.Rules.{Rules, Grammar, InRange, PushAtTop}
 use Rattle.resp_value.specs.LocalRules.{LeafKeeps, NodeKeeps}
 use Rattle.resp_value.specs.Trees.{leaf, numeral, NumberKind, Int, Big, number_byte}
 use Rattle.resp_value.specs.declared.cause.Cause.TheVariants as cause
+use Rattle.resp_value.proofs.DigitLemmas.{number-digit}
+use Rattle.resp_value.proofs.Choices.{if_within}
 use Rattle.resp_fronts.specs.Events.{Event}
 use Rattle.resp_fronts.specs.Events as e
 use Rattle.resp_fronts.proofs.FirstLines.CountRows.{CompletesUnder, IsRefusedHere}
@@ -15,6 +17,7 @@ use Rattle.resp_fronts.proofs.Refusals.BrokenLines.{line_broken}
 use Rattle.resp_fronts.proofs.Refusals.BrokenHeads.{number_begun_broken, number_broken, number_short}
 use Rattle.resp_fronts.proofs.Tokens.LineTokens.{line_begun, returned_begun, returned_broken, returned_whole, line_of_broken}
 use Rattle.resp_fronts.proofs.Tokens.NumberTokens.{int_token_over, number_begun, number_token_begins, number_token_line, number_token_more}
+use Rattle.resp_fronts.specs.Tokens.{IsNumberBegun, IsNumberToken, MayBe, greatest}
 use Rattle.resp_scan.specs.Machine.Magnitudes.{greatest_magnitude}
 use Rattle.resp_scan.specs.Machine.Tokens as k
 use Rattle.resp_scan.specs.Machine.Tokens.{Go, Give, Move, Refuse, Place, Token, AtIntFirst, AtIntLf, AtIntSign, InInt, at, after_end}
@@ -25,13 +28,9 @@ use Rattle.resp_scan.specs.Kinds.{rules_of}
 use Rattle.resp_scan.specs.Machine.Beginnings as b
 use Rattle.resp_scan.specs.Machine.Beginnings.{IntBegun, IntReturned, IsSigned, SignBegun}
 use Rattle.resp_scan.specs.Machine.Standing.{HasCountsOf, IsInside, Leads, StandsAfter}
-use Rattle.resp_scan.proofs.TokenMoves.TokenLaws.{ALead}
-use Rattle.resp_scan.proofs.TokenMoves.Moves.{Ends, goes, value_ends}
+use Rattle.resp_scan.proofs.TokenMoves.Moves.{Ends, goes, value_ends, ALead}
 use Rattle.resp_scan.proofs.TokenMoves.RefusedMoves.{broken, fits_or_total, refused, unless_over}
 use Rattle.resp_scan.proofs.TokenMoves.ByteTests.{by_byte, by_digit, wants_leads}
-use Rattle.resp_fronts.specs.Tokens.{IsNumberBegun, IsNumberToken, MayBe, greatest}
-use Rattle.resp_value.proofs.DigitLemmas.{number-digit}
-use Rattle.resp_value.proofs.Choices.{if_within}
 
 -- a byte of a number's beginning that no spelling has there
 pub begun_line : (k : NumberKind) (sign : Sign) → IsLine (number_byte k ∷ (sign_text sign ++ []))

@@ -6,6 +6,9 @@ use Rattle.resp_value.specs.Rules.{Rules, Rule, Grammar, WithinItems, WithinTota
 use Rattle.resp_value.specs.Spellings.{IsViable}
 use Rattle.resp_value.specs.Causes.{cause_of}
 use Rattle.resp_value.specs.declared.cause.Cause.TheVariants as cause
+use Rattle.resp_value.specs.declared.kind.OpenKind.{OpenKind}
+use Rattle.resp_value.specs.declared.kind.OpenKind.TheVariants as kind
+use Rattle.resp_value.specs.Kinds.{kind_of}
 use Rattle.resp_fronts.specs.Events.{Event}
 use Rattle.resp_fronts.specs.LeastCompletions.{Continues, IsLeast}
 use Rattle.resp_fronts.proofs.FirstLines.CountRows.{CompletesUnder, IsRefusedHere}
@@ -14,15 +17,12 @@ use Rattle.resp_fronts.proofs.FrameLaws.Levels as l
 use Rattle.resp_fronts.specs.OpenLevels as o
 use Rattle.resp_fronts.proofs.Tokens.BegunFronts as b
 use Rattle.resp_fronts.proofs.Tokens.BegunFronts.{IsBegunBy}
-use Rattle.resp_value.specs.declared.kind.OpenKind.{OpenKind}
-use Rattle.resp_value.specs.declared.kind.OpenKind.TheVariants as kind
 use Rattle.resp_scan.specs.declared.frame.Frame.{Frame}
 use Rattle.resp_scan.specs.declared.frame.Shape.{Shape}
 use Rattle.resp_scan.specs.declared.frame.Shape.TheVariants.{Left, Begun}
 use Rattle.resp_scan.specs.Machine.Tokens.{Move, Place, Refuse}
 use Rattle.resp_scan.specs.Machine.Room.{has_total_room, over_total}
 use Rattle.resp_scan.specs.Machine.Moves.{move_unless}
-use Rattle.resp_value.specs.Kinds.{kind_of}
 use Rattle.resp_scan.specs.Kinds.{IsRefusedFor, rules_of}
 use Rattle.resp_scan.specs.Machine.Standing.{HasCountsOf, HasBegun, HaveBegun, IsInside, Leads, busy_shape, busy_levels, waiting_shape}
 use Rattle.resp_scan.specs.Machine.Sound.{need_of_frame, need_of_frames}

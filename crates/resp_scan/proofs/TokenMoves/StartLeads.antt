@@ -3,6 +3,8 @@ use Rattle.std.specs.Prelude.{true, false, cond, None, Some, Option}
 use Rattle.std.proofs.lemmas.Bool.{ne_eqb}
 use Rattle.std.proofs.lemmas.Bool.Decides.{nat_tests}
 use Rattle.std.proofs.Common.{◌≡◌, ℕ, suc, ◌-◌, ◌%◌, ◌<◌, ◌≤◌, List, [], ◌∷◌, ◌++◌, length, refl, sym, ap, subst, ◌∙◌, arith, append-nil}
+use Rattle.std.specs.Str.{byte}
+use Rattle.std.specs.List.{AllByRecursion}
 use Rattle.resp_value.specs.Data.{Kind}
 use Rattle.resp_value.specs.Data as d
 use Rattle.resp_value.specs.Numbers.{Unsigned}
@@ -15,6 +17,10 @@ use Rattle.resp_value.specs.declared.cause.Cause.{Cause}
 use Rattle.resp_value.specs.declared.cause.Cause.TheVariants as cause
 use Rattle.resp_value.specs.declared.version.Version.{Version}
 use Rattle.resp_value.specs.declared.version.Version.TheVariants as version
+use Rattle.resp_value.specs.declared.kind.OpenKind.{OpenKind}
+use Rattle.resp_value.specs.declared.kind.OpenKind.TheVariants as kind
+use Rattle.resp_value.specs.Kinds.{kind_of}
+use Rattle.resp_value.proofs.Choices.{if_within}
 use Rattle.resp_fronts.specs.Frames as opened
 use Rattle.resp_fronts.specs.Frames.{text_around}
 use Rattle.resp_fronts.specs.Events.{Event, events_around, without_places}
@@ -29,8 +35,9 @@ use Rattle.resp_fronts.proofs.Refusals.FirstRuleBroken.{grammar_cause}
 use Rattle.resp_fronts.proofs.Tokens.LineTokens.{line_begun, text_token_begins}
 use Rattle.resp_fronts.proofs.Tokens.NumberTokens.{null_token_line, number_begun, truth_begun}
 use Rattle.resp_fronts.proofs.Between.RefusedBetweenValues.{GoesOn, refuse_stop}
-use Rattle.resp_value.specs.declared.kind.OpenKind.{OpenKind}
-use Rattle.resp_value.specs.declared.kind.OpenKind.TheVariants as kind
+use Rattle.resp_fronts.specs.OpenLevels.{AreLevelsOf, AreReady, HasShape, Level, so_far}
+use Rattle.resp_fronts.specs.Tokens.{IsTextLine}
+use Rattle.resp_fronts.proofs.Refusals.FirstByteCauses.{at_answer, and_rows}
 use Rattle.resp_scan.specs.declared.event.TextKind.TheVariants as text
 use Rattle.resp_scan.specs.declared.frame.Frame.{Frame}
 use Rattle.resp_scan.specs.declared.frame.Shape.{Shape}
@@ -43,7 +50,6 @@ use Rattle.resp_scan.specs.Machine.Heads.{first_needed}
 use Rattle.resp_scan.specs.Machine.Room.{after_begin, is_full}
 use Rattle.resp_scan.specs.Machine.Moves as machine
 use Rattle.resp_scan.specs.Machine.Moves.{aggregate_move, begin_move, close_move, line_move, may_close, may_close_of, push_move, start_next, start_three, move_unless, next}
-use Rattle.resp_value.specs.Kinds.{kind_of}
 use Rattle.resp_scan.specs.Kinds.{IsRefusedFor, event_of, rules_of}
 use Rattle.resp_scan.specs.Machine.Beginnings as b
 use Rattle.resp_scan.specs.Machine.Beginnings.{AggregateBegun, LineBegun, NullLine}
@@ -51,12 +57,6 @@ use Rattle.resp_scan.specs.Machine.Standing.{AwaitsMember, IsClosing, HasCountsO
 use Rattle.resp_scan.proofs.TokenMoves.Begins.{begins_leads, is_between, length-waiting}
 use Rattle.resp_scan.proofs.HeadMoves.HeadsLead.{aggregate_row, no_two_in_three, attribute_row}
 use Rattle.resp_scan.proofs.TokenMoves.LinesLead.{line_row}
-use Rattle.resp_fronts.specs.OpenLevels.{AreLevelsOf, AreReady, HasShape, Level, so_far}
-use Rattle.resp_fronts.specs.Tokens.{IsTextLine}
-use Rattle.resp_value.proofs.Choices.{if_within}
-use Rattle.std.specs.Str.{byte}
-use Rattle.std.specs.List.{AllByRecursion}
-use Rattle.resp_fronts.proofs.Refusals.FirstByteCauses.{at_answer, and_rows}
 use Rattle.resp_scan.proofs.Soundness.SoundStarts.{start_rows}
 use Rattle.resp_scan.proofs.Soundness.SoundFrames.{begun_rules}
 
