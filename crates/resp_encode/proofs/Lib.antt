@@ -5,5 +5,6 @@ pub mod Extended
 pub mod Counts
 pub mod SoFar
 pub mod ValueTexts
+pub mod Verdicts
 pub mod Found
 pub mod Attempted

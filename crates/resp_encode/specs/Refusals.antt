@@ -9,7 +9,7 @@ use Rattle.resp_value.specs.declared.cause.Limit.TheVariants.{Depth, Length, Ite
 use Rattle.resp_encode.specs.declared.error.EncodeError.{EncodeError}
 use Rattle.resp_encode.specs.declared.error.EncodeError.TheVariants.{NotInVersion, NestedPush, OverLimits, OutOfMemory}
 use Rattle.resp_encode.specs.declared.error.EncodeToError.{EncodeToError}
-use Rattle.resp_encode.specs.declared.error.EncodeToError.TheVariants as to
+use Rattle.resp_encode.specs.declared.error.EncodeToError.TheVariants.{Refused, Write}
 
 -- the version has each type of the value, and no push stands below its top
 abbrev pub HasText : Version → Datum → Type 0
@@ -31,25 +31,13 @@ IsFirstFault rules x NestedPush = HasTypes rules.version x × (HasPushAtTop x �
 IsFirstFault rules x (OverLimits over) = HasText rules.version x × IsFirstOver rules x over
 IsFirstFault rules x OutOfMemory = Fits rules x
 
--- the same of a call that writes to a device; a write is tried only where the value has no fault
+-- the value has the fault that is named, or none where a write failed, since nothing is written before all faults are
+-- found
 abbrev pub IsFirstRefusal : Rules → Datum → EncodeToError → Type 0
-IsFirstRefusal rules x to.NotInVersion = IsFirstFault rules x NotInVersion
-IsFirstRefusal rules x to.NestedPush = IsFirstFault rules x NestedPush
-IsFirstRefusal rules x (to.OverLimits over) = IsFirstFault rules x (OverLimits over)
-IsFirstRefusal rules x to.OutOfMemory = Fits rules x
-IsFirstRefusal rules x (to.Write written) = Fits rules x
+IsFirstRefusal rules x (Refused error) = IsFirstFault rules x error
+IsFirstRefusal rules x (Write written) = Fits rules x
 
 -- this holds of how many bytes were written, where a write failed
 abbrev pub IfWrite : (ℕ → Type 0) → EncodeToError → Type 0
-IfWrite P to.NotInVersion = Unit {0}
-IfWrite P to.NestedPush = Unit {0}
-IfWrite P (to.OverLimits over) = Unit {0}
-IfWrite P to.OutOfMemory = Unit {0}
-IfWrite P (to.Write written) = P written
-
--- the fault as a call that writes to a device names it
-abbrev pub to_error : EncodeError → EncodeToError
-to_error NotInVersion = to.NotInVersion
-to_error NestedPush = to.NestedPush
-to_error (OverLimits over) = to.OverLimits over
-to_error OutOfMemory = to.OutOfMemory
+IfWrite P (Refused error) = Unit {0}
+IfWrite P (Write written) = P written

@@ -3,7 +3,8 @@
 //!
 //! Most values have no fault and there is room for them. They are not walked over twice.
 
-ghost use Rattle.std.specs.Prelude.{◌≡◌, ◌+◌, ◌<◌, ◌≤◌, ◌++◌, ◌∷◌, [], ℕ, length, map, IsTrue};
+ghost use Rattle.resp_value.specs.Rules.{rules_under};
+ghost use Rattle.std.specs.Prelude.{◌≡◌, ◌+◌, ◌<◌, ◌≤◌, ◌++◌, ◌∷◌, [], ℕ, length, map};
 ghost use Rattle.std.specs.Bool.{OnTrue, OnFalse};
 ghost use Rattle.resp_value.specs.Bytes.{crlf};
 ghost use Rattle.resp_value.specs.Numbers.{decimal};
@@ -12,12 +13,11 @@ ghost use Rattle.resp_value.specs.Data as d;
 ghost use Rattle.resp_value.specs.Trees.{kind_byte};
 ghost use Rattle.resp_value.specs.Canonical.{IsValue, HasNoPush, canonical_text, Fits};
 ghost use Rattle.resp_value.specs.Values.{datum_of, pair_data};
-ghost use Rattle.resp_encode.specs.Attempts.{HasKind, Attempt, AttemptEach, AttemptNotes};
+ghost use Rattle.resp_encode.specs.Walks.Attempts.{HasKind, Attempt, AttemptEach, AttemptAttributePairs};
 ghost use Rattle.resp_value.specs.Kinds.{kind_of};
-ghost use Rattle.resp_encode.specs.Writings.{Fills};
+ghost use Rattle.resp_encode.specs.Walks.Writings.{Fills};
 
-use crate::findings::head_size;
-use crate::room::room;
+use crate::room::{has_room_for_head, room};
 use crate::text::write_head;
 use bytes::BytesMut;
 use resp_value::kind::OpenKind;
@@ -61,7 +61,7 @@ fn attempt_head(
     if !has_kind(version, kind) || deeper == 0 {
         return false;
     }
-    if items > limits.items() || head_size(items) > room(out) {
+    if items > limits.items() || !has_room_for_head(out, items, 0) {
         return false;
     }
     write_head(out, kind.byte(), items);
@@ -106,7 +106,7 @@ fn attempt_value(
         }
         Value::Map(pairs) => attempt_map(pairs.list(), version, limits, deeper, out),
         Value::Attr(pairs, annotated) => {
-            if !attempt_notes(pairs.list(), version, limits, deeper, out) {
+            if !attempt_attribute_pairs(pairs.list(), version, limits, deeper, out) {
                 return false;
             }
             attempt_annotated(annotated, version, limits, deeper - 1, out)
@@ -115,7 +115,8 @@ fn attempt_value(
     }
 }
 
-/// The same of an aggregate that counts its members one by one.
+/// Appends the text of an aggregate that counts its members one by one, as far as nothing is in the
+/// way.
 #[cycle(attempt)]
 #[inline(never)]
 fn attempt_group(
@@ -136,7 +137,7 @@ fn attempt_group(
     attempt_members(members, version, limits, deeper - 1, out)
 }
 
-/// The same of a map of these pairs.
+/// Appends the text of a map of these pairs, as far as nothing is in the way.
 #[cycle(attempt)]
 #[inline(never)]
 fn attempt_map(
@@ -162,17 +163,17 @@ fn attempt_map(
     attempt_pairs(pairs, version, limits, deeper - 1, out)
 }
 
-/// The same of the head and the pairs of an attribute.
+/// Appends the head and the pairs of an attribute, as far as nothing is in the way.
 #[cycle(attempt)]
 #[inline(never)]
-fn attempt_notes(
+fn attempt_attribute_pairs(
     pairs: &[(Value, Value)],
     version: Version,
     limits: &Limits,
     deeper: u64,
     out: &mut BytesMut,
 ) -> bool
-    ensures { AttemptNotes version limits.now deeper (length pairs.now)
+    ensures { AttemptAttributePairs version limits.now deeper (length pairs.now)
         (data_of_list (in_turn (map pair_data pairs.now))) out.old out.new result }
 {
     if !attempt_head(
@@ -188,7 +189,7 @@ fn attempt_notes(
     attempt_pairs(pairs, version, limits, deeper - 1, out)
 }
 
-/// The same of the value that an attribute annotates.
+/// Appends the text of the value that an attribute annotates, as far as nothing is in the way.
 #[cycle(attempt)]
 #[inline(never)]
 fn attempt_annotated(
@@ -204,7 +205,7 @@ fn attempt_annotated(
     attempt_value(value, version, limits, deeper, out)
 }
 
-/// The same of values that stand side by side.
+/// Appends the texts of values that stand side by side, as far as nothing is in the way.
 #[cycle(attempt)]
 #[inline(never)]
 fn attempt_members(
@@ -225,7 +226,7 @@ fn attempt_members(
     true
 }
 
-/// The same of keys and values in turn.
+/// Appends the texts of keys and values in turn, as far as nothing is in the way.
 #[cycle(attempt)]
 #[inline(never)]
 fn attempt_pairs(
@@ -249,7 +250,7 @@ fn attempt_pairs(
     true
 }
 
-/// The same of a value that may be a push.
+/// Appends the text of a value that may be a push, as far as nothing is in the way.
 #[inline(always)]
 fn attempt_top(value: &Value, version: Version, limits: &Limits, out: &mut BytesMut) -> bool
     ensures { Attempt version limits.now limits.now.depth (datum_of value.now) out.old out.new
@@ -269,7 +270,7 @@ fn attempt_top(value: &Value, version: Version, limits: &Limits, out: &mut Bytes
 pub(crate) fn attempt(value: &Value, version: Version, limits: &Limits, out: &mut BytesMut) -> bool
     ensures writes { OnTrue result (Fills out.old out.new
         (canonical_text version (datum_of value.now))) }
-    ensures fits { OnTrue result (Fits (record { version = version; limits = limits.now })
+    ensures fits { OnTrue result (Fits (rules_under version limits.now)
         (datum_of value.now)) }
     ensures is_value { OnTrue result (IsValue (datum_of value.now)) }
     ensures items { OnFalse result (out.new.items ≡ out.old.items) }

@@ -1,8 +1,7 @@
 //! The digits of a number, and how many it has.
 
-ghost use Rattle.std.specs.Prelude.{◌≡◌, ◌+◌, ◌/◌, ◌%◌, ◌≤◌, length, nat_abs};
+ghost use Rattle.std.specs.Prelude.{◌≡◌, ◌+◌, ◌/◌, ◌%◌, ◌≤◌, length};
 ghost use Rattle.resp_value.specs.Numbers.{decimal};
-ghost use Rattle.resp_value.specs.Canonical.{int_sign, int_size};
 
 /// How many decimal digits a number has, without leading zeros.
 #[inline]

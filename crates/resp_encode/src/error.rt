@@ -21,22 +21,12 @@ pub enum EncodeError {
     OutOfMemory,
 }
 
-/// Why a value was not written whole to a device. All but the last are found before anything is
-/// written.
+/// Why a value was not written whole to a device.
 #[derive(Clone, Copy, Debug, PartialEq, Eq, Error)]
 pub enum EncodeToError {
-    /// The value holds a type that the version hasn't.
-    #[error("the version has no such type")]
-    NotInVersion,
-    /// A push stands below the top of the value.
-    #[error("a push stands below the top")]
-    NestedPush,
-    /// The value breaks this limit, and none before it.
-    #[error("the value is over a limit")]
-    OverLimits(Limit),
-    /// No memory was found for the text.
-    #[error("out of memory")]
-    OutOfMemory,
+    /// The value was refused, or memory was wanting for its text, before anything was written.
+    #[error(transparent)]
+    Refused(EncodeError),
     /// A write failed, or took no byte.
     #[error("the device failed after {written} bytes")]
     Write {
@@ -47,16 +37,11 @@ pub enum EncodeToError {
 
 impl From<EncodeError> for EncodeToError {
     ghost use Rattle.std.specs.Prelude.{◌≡◌};
-    ghost use Rattle.resp_encode.specs.Refusals.{to_error};
+    ghost use Rattle.resp_encode.specs.declared.error.EncodeToError.{EncodeToError};
 
-    ghost from_gives = { λ error converted. converted ≡ to_error error };
+    ghost from_gives = { λ error converted. converted ≡ EncodeToError.Refused error };
 
     fn from(error: EncodeError) -> EncodeToError {
-        match error {
-            EncodeError::NotInVersion => EncodeToError::NotInVersion,
-            EncodeError::NestedPush => EncodeToError::NestedPush,
-            EncodeError::OverLimits(over) => EncodeToError::OverLimits(over),
-            EncodeError::OutOfMemory => EncodeToError::OutOfMemory,
-        }
+        EncodeToError::Refused(error)
     }
 }

@@ -366,9 +366,9 @@ fn devices(rt: HostRuntime) -> Result<(), Fail> {
     let foo = bulk(alloc, b"foo")?;
     let mut sink = MemorySink::new(alloc, 2, 3)?;
     let answer = encode_to(alloc, Version::Two, &standard, &foo, &mut sink);
-    if answer == Err(EncodeToError::OutOfMemory) {
+    if answer == Err(EncodeToError::Refused(EncodeError::OutOfMemory)) {
         assert_eq!(rt; sink.bytes(), b"".as_slice());
-        return Err(Fail::from(EncodeToError::OutOfMemory));
+        return Err(Fail::from(EncodeError::OutOfMemory));
     }
     assert_eq!(rt; answer, Err(EncodeToError::Write { written: 3 }));
     assert_eq!(rt; sink.bytes(), b"$3\r".as_slice());
@@ -385,7 +385,10 @@ fn devices(rt: HostRuntime) -> Result<(), Fail> {
         &Value::Bool(true),
         &mut sink,
     );
-    assert_eq!(rt; answer, Err(EncodeToError::NotInVersion));
+    assert_eq!(rt;
+        answer,
+        Err(EncodeToError::Refused(EncodeError::NotInVersion))
+    );
     assert_eq!(rt; sink.bytes().len(), 9);
     Ok(())
 }

@@ -1,6 +1,6 @@
 //! The text of a value, into room that is there.
 
-ghost use Rattle.std.specs.Prelude.{◌≡◌, ◌+◌, ◌≤◌, ◌++◌, ◌∷◌, List, [], ℕ, length, map};
+ghost use Rattle.std.specs.Prelude.{◌+◌, ◌≤◌, ◌++◌, ◌∷◌, [], length, map};
 ghost use Rattle.resp_value.specs.Bytes.{crlf};
 ghost use Rattle.resp_value.specs.Numbers.{decimal};
 ghost use Rattle.resp_value.specs.Data.{scalar, data_of_list, in_turn};
@@ -9,7 +9,7 @@ ghost use Rattle.resp_value.specs.Trees.{texts};
 ghost use Rattle.resp_value.specs.Canonical.{canonical_text, canonical_trees};
 ghost use Rattle.resp_value.specs.Values.{datum_of, pair_data};
 ghost use Rattle.resp_value.specs.declared.version.Version.TheVariants.{Three};
-ghost use Rattle.resp_encode.specs.Writings.{Fills};
+ghost use Rattle.resp_encode.specs.Walks.Writings.{Fills};
 
 use crate::digits::{four_digits, two_digits};
 use bytes::BytesMut;
@@ -33,8 +33,8 @@ pub(crate) fn write_head(out: &mut BytesMut, byte: u8, number: u64)
     }
 }
 
-/// The same of a number of three digits and more. Each byte is stored where it stays: bytes put
-/// together elsewhere and copied in one piece would have to be waited for.
+/// Appends a head with a number of three digits and more. Each byte is stored where it stays: bytes
+/// put together elsewhere and copied in one piece would have to be waited for.
 #[inline(never)]
 fn write_long_head(out: &mut BytesMut, byte: u8, number: u64)
     requires long { 100 ≤ number }
@@ -52,7 +52,7 @@ fn write_long_head(out: &mut BytesMut, byte: u8, number: u64)
     }
 }
 
-/// The same of a number of five digits and more.
+/// Appends a head with a number of five digits and more.
 #[inline(never)]
 fn write_longer_head(out: &mut BytesMut, byte: u8, number: u64)
     requires long { 10000 ≤ number }
@@ -92,7 +92,7 @@ fn write_number(out: &mut BytesMut, byte: u8, number: u64)
     }
 }
 
-/// The same of a number of one digit to four.
+/// Appends the byte and a number of one digit to four.
 #[inline]
 fn write_short_number(out: &mut BytesMut, byte: u8, number: u64)
     requires short { number ≤ 9999 }

@@ -1,20 +1,21 @@
 //! Values into a buffer.
 
-ghost use Rattle.std.specs.Prelude.{◌≡◌, ◌≢◌, ◌↔◌, ◌+◌, ◌<◌, ◌≤◌, ◌^◌, ◌++◌, length, IsSome, IfSome, IsErrOf, OnOk, OnErr, IfOk, IfErr};
-ghost use Rattle.resp_value.specs.Spellings.{IsSpelling};
-ghost use Rattle.resp_value.specs.Canonical.{canonical_text, Fits};
+ghost use Rattle.resp_value.specs.Rules.{rules_under};
+ghost use Rattle.resp_encode.specs.Encodings.{IsVerdict, AppendsWhole};
+ghost use Rattle.std.specs.Prelude.{◌≡◌, ◌↔◌, ◌<◌, ◌≤◌, ◌^◌, length, IsSome, IfSome, IsErrOf, IfOk};
+ghost use Rattle.resp_value.specs.Canonical.{canonical_text};
 ghost use Rattle.resp_value.specs.Values.{datum_of};
-ghost use Rattle.resp_encode.specs.Refusals.{HasText, IsFirstFault};
+ghost use Rattle.resp_encode.specs.Refusals.{HasText};
 ghost use Rattle.resp_encode.specs.Words.{push_of};
-ghost use Rattle.resp_encode.specs.Writings.{Fills};
+ghost use Rattle.resp_encode.specs.Walks.Writings.{Fills};
 ghost use Rattle.resp_encode.specs.declared.error.EncodeError.{EncodeError};
 ghost use Rattle.resp_value.specs.declared.version.Version.TheVariants.{Three};
 
 use crate::attempt::attempt;
 use crate::error::EncodeError;
-use crate::judge::{has_types, judge};
+use crate::first_fault::{checked_size, has_types};
+use crate::measure_value::{measure_group, measure_value};
 use crate::room::reserve;
-use crate::survey::{survey, survey_group};
 use crate::text::{write_group, write_value};
 use bytes::BytesMut;
 use resp_value::kind::OpenKind;
@@ -36,32 +37,14 @@ pub fn encode(
     value: &Value,
     out: &mut BytesMut,
 ) -> Result<(), EncodeError>
-    ensures ok { OnOk result (out.new.items ≡ out.old.items ++
-        canonical_text version (datum_of value.now)) }
-    ensures spelling { OnOk result (IsSpelling (record { version = version; limits = limits.now })
-        (datum_of value.now) (canonical_text version (datum_of value.now))) }
-    ensures fits { OnOk result (Fits (record { version = version; limits = limits.now })
-        (datum_of value.now)) }
-
-    // Each refusal comes only where the value has that fault and no earlier one, and always where
-    // it has.
-    ensures refused { IfErr result (IsFirstFault (record { version = version; limits = limits.now })
-        (datum_of value.now)) }
-    ensures always { (error : EncodeError) → error ≢ EncodeError.OutOfMemory →
-        IsFirstFault (record { version = version; limits = limits.now }) (datum_of value.now)
-        error → IsErrOf result error }
-    ensures memory { IsErrOf result EncodeError.OutOfMemory →
-        out.old.spare < length (canonical_text version (datum_of value.now)) }
-
-    ensures unchanged { OnErr result (out.new.items ≡ out.old.items) }
-    ensures spare { OnOk result (out.old.spare ≤ out.new.spare + length
-        (canonical_text version (datum_of value.now))) }
-    ensures spare_kept { OnErr result (out.old.spare ≤ out.new.spare) }
+    ensures verdict { IsVerdict (rules_under version limits.now) (datum_of value.now) result }
+    ensures whole_or_nothing { AppendsWhole out.old out.new
+        (canonical_text version (datum_of value.now)) result }
 {
     if attempt(value, version, limits, out) {
         return Ok(());
     }
-    let size = judge_value(value, version, limits)?;
+    let size = checked_value_size(value, version, limits)?;
     reserve(out, size)?;
     write_whole(value, version, out);
     Ok(())
@@ -70,17 +53,18 @@ pub fn encode(
 /// The length of the text of a value, or its first fault.
 #[cold]
 #[inline(never)]
-fn judge_value(value: &Value, version: Version, limits: &Limits) -> Result<usize, EncodeError>
-    ensures fits { IfOk result (λ size. Fits (record { version = version; limits = limits.now })
-        (datum_of value.now) × (size ≡ length (canonical_text version (datum_of value.now)))) }
-    ensures fault { IfErr result (IsFirstFault (record { version = version; limits = limits.now })
-        (datum_of value.now)) }
-    ensures spelling { OnOk result (IsSpelling (record { version = version; limits = limits.now })
-        (datum_of value.now) (canonical_text version (datum_of value.now))) }
+fn checked_value_size(
+    value: &Value,
+    version: Version,
+    limits: &Limits,
+) -> Result<usize, EncodeError>
+    ensures verdict { IsVerdict (rules_under version limits.now) (datum_of value.now) result }
+    ensures size { IfOk result (λ size. size ≡
+        length (canonical_text version (datum_of value.now))) }
     ensures not_memory { IsErrOf result EncodeError.OutOfMemory → ⊥ }
 {
-    let found = survey(value, version);
-    judge(&found, version, limits)
+    let found = measure_value(value, version);
+    checked_size(&found, version, limits)
 }
 
 /// Appends the text of a value into room that is there.
@@ -94,17 +78,13 @@ fn write_whole(value: &Value, version: Version, out: &mut BytesMut)
 }
 
 /// The length of the text of a push of these values, or its first fault.
-fn judge_push(limits: &Limits, items: &[Value]) -> Result<usize, EncodeError>
-    ensures fits { IfOk result (λ size. Fits (record { version = Three; limits = limits.now })
-        (push_of items.now) × (size ≡ length (canonical_text Three (push_of items.now)))) }
-    ensures fault { IfErr result (IsFirstFault (record { version = Three; limits = limits.now })
-        (push_of items.now)) }
-    ensures spelling { OnOk result (IsSpelling (record { version = Three; limits = limits.now })
-        (push_of items.now) (canonical_text Three (push_of items.now))) }
+fn checked_push_size(limits: &Limits, items: &[Value]) -> Result<usize, EncodeError>
+    ensures verdict { IsVerdict (rules_under Three limits.now) (push_of items.now) result }
+    ensures size { IfOk result (λ size. size ≡ length (canonical_text Three (push_of items.now))) }
     ensures not_memory { IsErrOf result EncodeError.OutOfMemory → ⊥ }
 {
-    let found = survey_group(items, Version::Three, OpenKind::Push);
-    judge(&found, Version::Three, limits)
+    let found = measure_group(items, Version::Three, OpenKind::Push);
+    checked_size(&found, Version::Three, limits)
 }
 
 /// Appends the text of a push of these values into room that is there.
@@ -118,29 +98,11 @@ fn write_push(items: &[Value], out: &mut BytesMut)
 /// Appends the canonical text of a push of these values, as `encode` does of the value in version
 /// 3.
 pub fn encode_push(limits: &Limits, items: &[Value], out: &mut BytesMut) -> Result<(), EncodeError>
-    ensures ok { OnOk result (out.new.items ≡ out.old.items ++
-        canonical_text Three (push_of items.now)) }
-    ensures spelling { OnOk result (IsSpelling (record { version = Three; limits = limits.now })
-        (push_of items.now) (canonical_text Three (push_of items.now))) }
-    ensures fits { OnOk result (Fits (record { version = Three; limits = limits.now })
-        (push_of items.now)) }
-
-    // Each refusal comes only where the push has that fault and no earlier one, and always where it
-    // has.
-    ensures refused { IfErr result (IsFirstFault (record { version = Three; limits = limits.now })
-        (push_of items.now)) }
-    ensures always { (error : EncodeError) → error ≢ EncodeError.OutOfMemory →
-        IsFirstFault (record { version = Three; limits = limits.now }) (push_of items.now) error →
-        IsErrOf result error }
-    ensures memory { IsErrOf result EncodeError.OutOfMemory →
-        out.old.spare < length (canonical_text Three (push_of items.now)) }
-
-    ensures unchanged { OnErr result (out.new.items ≡ out.old.items) }
-    ensures spare { OnOk result (out.old.spare ≤ out.new.spare + length
-        (canonical_text Three (push_of items.now))) }
-    ensures spare_kept { OnErr result (out.old.spare ≤ out.new.spare) }
+    ensures verdict { IsVerdict (rules_under Three limits.now) (push_of items.now) result }
+    ensures whole_or_nothing { AppendsWhole out.old out.new
+        (canonical_text Three (push_of items.now)) result }
 {
-    let size = judge_push(limits, items)?;
+    let size = checked_push_size(limits, items)?;
     reserve(out, size)?;
     write_push(items, out);
     Ok(())
@@ -153,7 +115,7 @@ pub fn size(version: Version, value: &Value) -> Option<u64>
     ensures some { IsSome result ↔ (HasText version (datum_of value.now) ×
         (length (canonical_text version (datum_of value.now)) < 2 ^ 64)) }
 {
-    let found = survey(value, version);
+    let found = measure_value(value, version);
     if has_types(&found, version) && found.push_at_top {
         found.size
     } else {

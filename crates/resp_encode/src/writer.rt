@@ -1,10 +1,11 @@
 //! Values to a device.
 
-ghost use Rattle.std.specs.Prelude.{◌≡◌, ◌≢◌, ◌<◌, length, take, IfOk, OnOk, IfErr, IsErrOf};
+ghost use Rattle.resp_value.specs.Rules.{rules_under};
+ghost use Rattle.std.specs.Prelude.{◌≡◌, ◌≢◌, ◌<◌, length, IfOk, OnOk, IfErr, IsErrOf};
 ghost use Rattle.resp_value.specs.Canonical.{canonical_text, Fits};
-ghost use Rattle.resp_value.specs.Devices.{Appends, HasRisen};
 ghost use Rattle.resp_value.specs.Values.{datum_of};
-ghost use Rattle.resp_encode.specs.Refusals.{IsFirstFault, IsFirstRefusal, IfWrite, to_error};
+ghost use Rattle.resp_encode.specs.Refusals.{IsFirstFault, IsFirstRefusal, IfWrite};
+ghost use Rattle.resp_encode.specs.Encodings.{WritesWhole, WritesPart};
 ghost use Rattle.resp_encode.specs.declared.error.EncodeError.{EncodeError};
 
 use crate::error::{EncodeError, EncodeToError};
@@ -29,30 +30,25 @@ pub fn encode_to<W: Sink>(
     value: &Value,
     writer: &mut W,
 ) -> Result<u64, EncodeToError>
-    ensures length { IfOk result (λ n. n ≡ length (canonical_text version (datum_of value.now))) }
-    ensures ok { OnOk result (Appends (W.written writer.old) (W.written writer.new)
+    ensures whole { IfOk result (WritesWhole (W.written writer.old) (W.written writer.new)
+        (W.failures writer.old) (W.failures writer.new)
         (canonical_text version (datum_of value.now))) }
-    ensures fits { OnOk result (Fits (record { version = version; limits = limits.now })
-        (datum_of value.now)) }
-    ensures none_failed { OnOk result (W.failures writer.new ≡ W.failures writer.old) }
+    ensures fits { OnOk result (Fits (rules_under version limits.now) (datum_of value.now)) }
 
     // Each fault is answered only where the value has it and no earlier one, always where it has,
     // and before anything is written.
-    ensures refused { IfErr result (IsFirstRefusal
-        (record { version = version; limits = limits.now }) (datum_of value.now)) }
-    ensures always { (error : EncodeError) → error ≢ EncodeError.OutOfMemory →
-        IsFirstFault (record { version = version; limits = limits.now }) (datum_of value.now)
-        error → IsErrOf result (to_error error) }
-    ensures before { (error : EncodeError) → IsErrOf result (to_error error) →
-        writer.new ≡ writer.old }
+    ensures first_fault { IfErr result (IsFirstRefusal (rules_under version limits.now)
+        (datum_of value.now)) }
+    ensures every_fault { (error : EncodeError) → error ≢ EncodeError.OutOfMemory →
+        IsFirstFault (rules_under version limits.now) (datum_of value.now) error →
+        IsErrOf result (EncodeToError.Refused error) }
+    ensures nothing_written { (error : EncodeError) →
+        IsErrOf result (EncodeToError.Refused error) → writer.new ≡ writer.old }
 
     // Where a write failed, the first bytes were written, as many as the refusal tells.
-    ensures within { IfErr result (IfWrite
-        (λ written. written < length (canonical_text version (datum_of value.now)))) }
-    ensures part { IfErr result (IfWrite (λ written. Appends (W.written writer.old)
-        (W.written writer.new) (take written (canonical_text version (datum_of value.now))))) }
-    ensures failed { IfErr result (IfWrite
-        (λ written. HasRisen (W.failures writer.old) (W.failures writer.new))) }
+    ensures part { IfErr result (IfWrite (WritesPart (W.written writer.old) (W.written writer.new)
+        (W.failures writer.old) (W.failures writer.new)
+        (canonical_text version (datum_of value.now)))) }
 {
     let mut text = BytesMut::new(alloc);
     encode(version, limits, value, &mut text)?;

@@ -3,7 +3,10 @@ pub mod Told
 pub mod Faults
 pub mod Heard
 pub mod Answered
-pub mod SomeNeeded
+pub mod Hearing
+pub mod Nearer
+pub mod Turns
+pub mod NoValue
 pub mod Steps
 pub mod Rows
 pub mod LeastNeeded

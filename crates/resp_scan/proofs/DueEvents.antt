@@ -1,6 +1,7 @@
 -- The events due of what has come.
 pub mod Opens
 pub mod FewEvents
+pub mod NoDone
 pub mod Shown
 pub mod GivenCounts
 pub mod FramesDue

@@ -9,9 +9,9 @@ pub mod First
 pub mod Fields
 pub mod Sound
 pub mod End
-pub mod States
 pub mod StepOutcomes
 pub mod Runs
 pub mod Beginnings
 pub mod Standing
 pub mod Owed
+pub mod Turns

@@ -1,5 +1,6 @@
 -- What a step promises of what has come, in words of texts and trees.
-use Rattle.std.specs.Prelude.{◌≡◌, ◌⊎◌, ℕ, ◌+◌, ◌<◌, ◌≤◌, List, [], ◌∷◌, ◌++◌, length, take, Option, None, Some, Result, Ok, Err}
+use Rattle.std.specs.Prelude.{◌≡◌, ◌⊎◌, ℕ, ◌+◌, ◌<◌, ◌≤◌, List, [], ◌∷◌, ◌++◌, length, take, Option, None, Some, Result, Ok, Err, IfOk, IfNone}
+use Rattle.std.specs.List.{AllByRecursion}
 use Rattle.resp_value.specs.Trees.{Tree, Spells}
 use Rattle.resp_value.specs.Rules.{Rules, WithinTotal, Keeps}
 use Rattle.resp_value.specs.Spellings.{IsViable}
@@ -22,17 +23,22 @@ Events = List e.Event
 abbrev pub IsFaulted : Place → Fault → Type 0
 IsFaulted s fault = (s.token ≡ Dead fault.cause) × (s.taken ≡ fault.at)
 
--- these are the bytes taken of the value at the top, and the events given of it
-pub record HasRead (s : Place) (front : List ℕ) (es : Events) : Type 0 where
-  pub lies : StandsAfter s front es
+-- What a scanner has read since a value began: it has taken the bytes of this front, and given these events of it. How
+-- the scanner stands to them is opaque to callers: `new` establishes this relation, and `step` keeps it.
+pub record HasRead (s : Place) (front : List ℕ) (given : Events) : Type 0 where
+  pub stands : StandsAfter s front given
   pub taken : s.taken ≡ length front
 
+-- this holds of every front that the scanner has read, and of the events given of it
+abbrev pub WhereRead : Place → (List ℕ → Events → Type 0) → Type 0
+WhereRead s P = (front : List ℕ) (given : Events) → HasRead s front given → P front given
+
 -- some tree within the rules spells the front, and these are its events
-pub record IsValue (r : Rules) (front : List ℕ) (es : Events) : Type 0 where
+pub record IsValue (r : Rules) (front : List ℕ) (given : Events) : Type 0 where
   pub tree : Tree
   pub spells : Spells tree front
   pub keeps : Keeps r WithinTotal tree
-  pub told : es ≡ without_places (events 0 tree)
+  pub told : given ≡ without_places (events 0 tree)
 
 -- some tree within the rules spells the front
 pub record IsSpelled (r : Rules) (front : List ℕ) : Type 0 where
@@ -44,19 +50,32 @@ pub record IsSpelled (r : Rules) (front : List ℕ) : Type 0 where
 abbrev pub MayEnd : Rules → List ℕ → Type 0
 MayEnd r front = (front ≡ []) ⊎ IsSpelled r front
 
--- of every tree that the front begins, these events are due by then
+-- these are the events due by then of every tree that the front begins
 abbrev pub AreDue : List ℕ → Events → Type 0
 AreDue front es = (rest : List ℕ) (whole : Tree) → Spells whole (front ++ rest) →
     events_due (length front) (all_events whole) ≡ es
 
--- and these are the first of them
+-- these are the first of the events due by then of every tree that the front begins
 abbrev pub BeginDue : List ℕ → Events → Type 0
 BeginDue front es = (rest : List ℕ) (whole : Tree) → Spells whole (front ++ rest) →
     (later : Events) × (events_due (length front) (all_events whole) ≡ es ++ later)
 
--- no tree is spelled by the front and a front of the piece that isn't empty
-abbrev pub HasNoValue : List ℕ → List ℕ → Type 0
-HasNoValue front piece = (n : ℕ) (tree : Tree) → n < length piece → Spells tree (front ++ take (n + 1) piece) → ⊥
+-- no front of the text is a spelling, in any version and under any limits
+abbrev pub HasNoValue : List ℕ → Type 0
+HasNoValue text = (n : ℕ) (tree : Tree) → Spells tree (take n text) → ⊥
+
+-- no front of the text is a spelling within the rules
+abbrev pub HasNoSpelling : Rules → List ℕ → Type 0
+HasNoSpelling r text = (n : ℕ) → IsSpelled r (take n text) → ⊥
+
+-- any event but the end of the value
+abbrev pub IsNotDone : e.Event → Type 0
+IsNotDone e.Done = ⊥
+IsNotDone _ = Unit {0}
+
+-- the value has not ended among these events
+abbrev pub HasNoDone : Events → Type 0
+HasNoDone given = AllByRecursion IsNotDone given
 
 -- the events that an event stands for, content byte by byte
 abbrev pub events_of : Event → Events
@@ -70,36 +89,48 @@ events_of (event.Open kind members) = e.Open (kind_of kind) members ∷ []
 events_of event.Close = e.Close ∷ []
 events_of event.Done = []
 
--- Without an event the piece is used, no value has ended in it, and the events given are those due. At Done what has
--- come is a value, and the events given are its. Any other event adds to the events given.
-abbrev pub Heard : Rules → Place → List ℕ → Events → List ℕ → ℕ → Option Event → Type 0
-Heard r s front es piece n None = (n ≡ length piece) × HasNoValue front piece × AreDue (front ++ piece) es ×
-    HasRead s (front ++ piece) es
-Heard r s front es piece n (Some event.Done) = (n ≡ 0) × IsValue r front es × HasRead s [] []
-Heard r s front es piece n (Some event.Null) = HasRead s (front ++ take n piece) (es ++ events_of event.Null)
-Heard r s front es piece n (Some (event.Bool truth)) =
-    HasRead s (front ++ take n piece) (es ++ events_of (event.Bool truth))
-Heard r s front es piece n (Some (event.Int number)) =
-    HasRead s (front ++ take n piece) (es ++ events_of (event.Int number))
-Heard r s front es piece n (Some (event.Text kind)) =
-    HasRead s (front ++ take n piece) (es ++ events_of (event.Text kind))
-Heard r s front es piece n (Some (event.Part bytes)) =
-    HasRead s (front ++ take n piece) (es ++ events_of (event.Part bytes))
-Heard r s front es piece n (Some event.TextEnd) = HasRead s (front ++ take n piece) (es ++ events_of event.TextEnd)
-Heard r s front es piece n (Some (event.Open kind members)) =
-    HasRead s (front ++ take n piece) (es ++ events_of (event.Open kind members))
-Heard r s front es piece n (Some event.Close) = HasRead s (front ++ take n piece) (es ++ events_of event.Close)
+-- Outcomes of a step.
 
--- of the front and the piece, the bytes before the fault are viable, and with the next byte they aren't, by the cause
--- that the fault names, the first in the order of the rules; all events due before were given
-pub record IsRefused (r : Rules) (front : List ℕ) (es : Events) (piece : List ℕ) (fault : Fault) : Type 0 where
-  pub behind : length front ≤ fault.at
-  pub within : fault.at < length (front ++ piece)
+-- where a step gave no event
+abbrev pub IfNoEvent : Result Step Fault → (ℕ → Type 0) → Type 0
+IfNoEvent result P = IfOk result (λ step. IfNone step.event (P step.used))
+
+abbrev pub OnDone : Option Event → Type 0 → Type 0
+OnDone (Some event.Done) P = P
+OnDone _ P = Unit {0}
+
+-- where a step gave Done
+abbrev pub IfDone : Result Step Fault → (ℕ → Type 0) → Type 0
+IfDone result P = IfOk result (λ step. OnDone step.event (P step.used))
+
+abbrev pub OnOtherEvent : Option Event → (Event → Type 0) → Type 0
+OnOtherEvent None P = Unit {0}
+OnOtherEvent (Some event.Done) P = Unit {0}
+OnOtherEvent (Some event) P = P event
+
+-- where a step gave an event that isn't Done
+abbrev pub IfOtherEvent : Result Step Fault → (ℕ → Event → Type 0) → Type 0
+IfOtherEvent result P = IfOk result (λ step. OnOtherEvent step.event (P step.used))
+
+-- the piece is used up: no value has ended, all events due were given, and the longer front was read
+pub record UsesUp (s : Place) (front : List ℕ) (given : Events) (piece : List ℕ) (used : ℕ) : Type 0 where
+  pub whole_piece : used ≡ length piece
+  pub no_value : HasNoValue (front ++ piece)
+  pub all_due : AreDue (front ++ piece) given
+  pub reads : HasRead s (front ++ piece) given
+
+-- the bytes taken are a value and the events given are its events; no byte was used, and nothing is read of the next
+pub record EndsValue (r : Rules) (s : Place) (front : List ℕ) (given : Events) (used : ℕ) : Type 0 where
+  pub no_byte : used ≡ 0
+  pub is_value : IsValue r front given
+  pub reads : HasRead s [] []
+
+-- Of the front and the piece the bytes before the fault are viable. With the next byte they aren't, for the cause that
+-- the fault names, the first in the order of the rules. All events due before were given, and no value has ended.
+pub record IsRefused (r : Rules) (front : List ℕ) (given : Events) (piece : List ℕ) (fault : Fault) : Type 0 where
+  pub in_piece : length front ≤ fault.at
+  pub before_end : fault.at < length (front ++ piece)
   pub viable : IsViable r WithinTotal (take fault.at (front ++ piece))
   pub refused : IsRefusedFor r (take (fault.at + 1) (front ++ piece)) fault.cause
-  pub told : AreDue (take fault.at (front ++ piece)) es
-
--- from a scanner that has taken this front and given these events: what a step answers, and where it leads
-abbrev pub Stepped : Place → Place → List ℕ → Events → List ℕ → Result Step Fault → Type 0
-Stepped old new front es piece (Ok step) = Heard (rules_of old) new front es piece step.used step.event
-Stepped old new front es piece (Err fault) = IsRefused (rules_of old) front es piece fault
+  pub all_due : AreDue (take fault.at (front ++ piece)) given
+  pub no_value : HasNoSpelling r (front ++ piece)

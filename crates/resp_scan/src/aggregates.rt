@@ -30,7 +30,7 @@ impl Machine {
         });
         self.kind = kind;
         self.count = number;
-        self.ended(used, EventTag::Open)
+        self.at_boundary(used, EventTag::Open)
     }
 
     #[inline]
@@ -81,7 +81,7 @@ impl Machine {
             kind,
             shape: Shape::Begun(0),
         });
-        self.ended(i + 1, EventTag::OpenStreamed)
+        self.at_boundary(i + 1, EventTag::OpenStreamed)
     }
 
     /// Whether the innermost open aggregate may close here: it is streamed, and a map between whole
@@ -147,6 +147,6 @@ impl Machine {
             return self.fail(i, Cause::Syntax);
         }
         let _ = self.frames.pop();
-        self.ended(i + 1, EventTag::Close)
+        self.at_boundary(i + 1, EventTag::Close)
     }
 }

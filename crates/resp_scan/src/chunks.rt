@@ -8,7 +8,7 @@ use resp_value::cause::Cause;
 impl Machine {
     ghost use Rattle.resp_scan.specs.Machine.Fields.{place_of, out_of};
     ghost use Rattle.resp_scan.specs.Machine.Scan.{scan, Gave};
-    ghost use Rattle.resp_scan.specs.Machine.Tokens.{at, after_end, TextEnd, AtStreamCr, AtStreamLf, AtChunk, InChunk, AtChunkCr, AtChunkLf};
+    ghost use Rattle.resp_scan.specs.Machine.Tokens.{at, at_boundary, TextEnd, AtStreamCr, AtStreamLf, AtChunk, InChunk, AtChunkCr, AtChunkLf};
     ghost use Rattle.resp_scan.specs.Machine.Heads.{chunk_at};
 
     /// Behind `$?`.
@@ -67,12 +67,12 @@ impl Machine {
         requires within { i ≤ length piece.now }
         requires room { count ≤ room }
         ensures ends { count ≡ 0 → out_of result self.new ≡
-            Gave i TextEnd (after_end (place_of self.old)) }
+            Gave i TextEnd (at_boundary (place_of self.old)) }
         ensures begins { 0 < count → out_of result self.new ≡
             scan i (at (place_of self.old) (InChunk (room - count) count)) (drop i piece.now) }
     {
         if count == 0 {
-            return self.ended(i, EventTag::TextEnd);
+            return self.at_boundary(i, EventTag::TextEnd);
         }
         self.room = room - count;
         self.count = count;

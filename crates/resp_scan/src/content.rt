@@ -66,7 +66,7 @@ impl Machine {
         if piece[i] != b'\n' {
             return self.fail(i, Cause::Syntax);
         }
-        self.ended(i + 1, EventTag::TextEnd)
+        self.at_boundary(i + 1, EventTag::TextEnd)
     }
 
     /// The first byte of a verbatim string's format; so many bytes come with the front.

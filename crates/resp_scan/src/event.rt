@@ -71,6 +71,30 @@ pub struct Fault {
     pub at: u64,
 }
 
+/// What one call over a piece did.
+#[derive(Clone, Copy, Debug, PartialEq, Eq)]
+pub struct Scanned {
+    /// The number of bytes taken from the front of the piece; the whole piece where no value has
+    /// ended.
+    pub used: usize,
+    /// Whether a value has ended behind them.
+    pub is_whole: bool,
+}
+
+/// Why a call over a piece went no further.
+#[derive(Clone, Copy, Debug, PartialEq, Eq, Error)]
+pub enum ScanError {
+    /// A byte was refused.
+    #[error("the value is refused")]
+    Fault(Fault),
+    /// The listener stopped.
+    #[error("the listener stopped")]
+    Stopped {
+        /// The number of bytes of the value that were taken, with those of what it was told last.
+        taken: u64,
+    },
+}
+
 /// The refusal of a change of version: a value was begun, or a byte was refused.
 #[derive(Clone, Copy, Debug, PartialEq, Eq, Error)]
 #[error("a value was begun")]

@@ -5,6 +5,7 @@ ghost use Rattle.resp_scan.specs.Machine.Heads.{head_needed, streamed_kind, may_
 ghost use Rattle.std.specs.Prelude.{◌≡◌, ◌≢◌, ℕ, ◌≤◌, ◌<◌, ◌+◌, ◌^◌, length, drop, IfNone, true};
 
 use crate::machine::{EventTag, Head, Machine, State, Taken};
+use crate::needed::needed_behind;
 use resp_value::cause::Cause;
 use resp_value::kind::OpenKind;
 use resp_value::version::Version;
@@ -269,32 +270,5 @@ fn may_end(head: Head, number: u64) -> bool
     match head {
         Head::Verbatim => number >= 4,
         _ => true,
-    }
-}
-
-/// The fewest bytes that complete a value, or a streamed string, behind a head's digits of this
-/// value.
-#[inline]
-pub fn needed_behind(head: Head, number: u64) -> u64
-    requires { number < 2 ^ 44 }
-    ensures more { number ≤ result }
-    ensures few { result < 2 ^ 48 }
-    ensures needed { result ≡ head_needed head number }
-{
-    match head {
-        Head::Bulk | Head::BulkError => number + 4,
-        Head::Verbatim => {
-            if number == 0 {
-                9
-            } else if number < 4 {
-                number * 10 + 5
-            } else {
-                number + 4
-            }
-        }
-        Head::Chunk { .. } => { if number == 0 { 2 } else { number + 8 } }
-        Head::Array | Head::Set | Head::Push => number * 3 + 2,
-        Head::Map => number * 6 + 2,
-        Head::Attr => number * 6 + 5,
     }
 }

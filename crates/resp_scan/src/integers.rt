@@ -100,7 +100,7 @@ impl Machine {
             return self.fail(i, Cause::Syntax);
         }
         self.value = with_sign(negative, magnitude);
-        self.ended(i + 1, EventTag::Int)
+        self.at_boundary(i + 1, EventTag::Int)
     }
 }
 

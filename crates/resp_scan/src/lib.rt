@@ -16,10 +16,17 @@ mod heads;
 mod integers;
 pub mod laws;
 mod lines;
+mod listen;
+pub mod listener;
 mod literals;
 mod machine;
+mod needed;
 pub mod scanner;
 mod start;
 mod step;
 #[cfg(test)]
 mod tests;
+
+pub use event::{Busy, Event, Fault, Step, TextKind};
+pub use resp_value::kind::OpenKind;
+pub use scanner::Scanner;

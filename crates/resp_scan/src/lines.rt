@@ -53,13 +53,13 @@ impl Machine {
         if piece[i] != b'\n' {
             return self.fail(i, Cause::Syntax);
         }
-        self.ended(i + 1, EventTag::TextEnd)
+        self.at_boundary(i + 1, EventTag::TextEnd)
     }
 }
 
 /// The bytes before the first CR or LF: the first few by hand, then by vectors.
 #[inline]
-fn line_run(s: &[u8]) -> usize
+pub fn line_run(s: &[u8]) -> usize
     ensures run { result ≡ plain_run s.now }
     ensures within { result ≤ length s.now }
 {

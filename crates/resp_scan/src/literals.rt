@@ -53,7 +53,7 @@ impl Machine {
         if piece[i] != b'\n' {
             return self.fail(i, Cause::Syntax);
         }
-        self.ended(i + 1, EventTag::Null)
+        self.at_boundary(i + 1, EventTag::Null)
     }
 
     /// Behind `#`.
@@ -103,6 +103,6 @@ impl Machine {
             return self.fail(i, Cause::Syntax);
         }
         self.truth = truth;
-        self.ended(i + 1, EventTag::Bool)
+        self.at_boundary(i + 1, EventTag::Bool)
     }
 }

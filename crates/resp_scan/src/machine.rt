@@ -32,8 +32,9 @@ pub enum Head {
 pub enum State {
     /// A value's first byte, or in a streamed aggregate a close.
     Start,
-    /// A value has ended: a close or the end is owed, or the next member may begin.
-    Ended,
+    /// Behind a value or an aggregate's head: a close or the end is owed, or the next member may
+    /// begin.
+    Boundary,
     Line,
     LineLf,
     IntSign,
@@ -307,13 +308,13 @@ impl Machine {
         }
     }
 
-    /// A value has ended.
+    /// Behind a value or an aggregate's head, with this event.
     #[inline]
-    pub fn ended(&mut self, used: usize, tag: EventTag) -> Taken
+    pub fn at_boundary(&mut self, used: usize, tag: EventTag) -> Taken
         ensures gives { result ≡ record { used = used; tag = tag } }
-        ensures state { self.new ≡ record self.old { state = State.Ended } }
+        ensures state { self.new ≡ record self.old { state = State.Boundary } }
     {
-        self.state = State::Ended;
+        self.state = State::Boundary;
         Taken { used, tag }
     }
 }

@@ -1,12 +1,10 @@
 //! The scanner.
 
 ghost use Rattle.resp_value.specs.Bounds.{AreBounds};
-ghost use Rattle.resp_scan.specs.Machine.Heads.{first_needed};
-ghost use Rattle.std.specs.Prelude.{◌≡◌, ◌↔◌, ◌≤◌, ◌+◌, ℕ, List, length, [], true, None, Some, Err, IsOk, OnOk, OnErr, IfOk, IfErr};
+ghost use Rattle.std.specs.Prelude.{◌≡◌, ◌↔◌, ◌≤◌, ◌+◌, ◌++◌, ℕ, length, take, [], true, None, Some, Err, IsOk, OnOk, OnErr, IfOk, IfErr};
 ghost use Rattle.resp_value.specs.declared.cause.Cause.TheVariants as cause;
 
 use crate::event::{Busy, Event, Fault, Step};
-use crate::heads::needed_behind;
 use crate::machine::{Head, Machine, State};
 use arrayvec::ArrayVec;
 use resp_value::cause::Cause;
@@ -30,7 +28,6 @@ impl Model for Scanner {
 
     ghost use Rattle.resp_scan.specs.Machine.Fields.{place_of};
     ghost use Rattle.resp_scan.specs.Machine.Sound.{IsSound, token_needed};
-    ghost use Rattle.resp_scan.specs.Machine.States.{is_counted};
 
     ghost view = { λ s. place_of s.machine };
 
@@ -45,13 +42,15 @@ impl Scanner {
     ghost use Rattle.resp_scan.specs.Parts.{IsOfPiece};
     ghost use Rattle.resp_scan.specs.Kinds.{rules_of};
     ghost use Rattle.resp_scan.specs.Machine.Sound.{IsSound, needed};
-    ghost use Rattle.resp_scan.specs.Reading.{BeginDue, Events, HasRead, IsFaulted, MayEnd, Stepped};
+    ghost use Rattle.resp_scan.specs.Reading.{BeginDue, EndsValue, HasNoDone, HasRead, IfDone, IfNoEvent, IfOtherEvent, IsFaulted, IsRefused, MayEnd, UsesUp, WhereRead, events_of};
+    ghost use Rattle.resp_value.specs.Rules.{WithinTotal, rules_under};
+    ghost use Rattle.resp_value.specs.Spellings.{IsViable};
     ghost use Rattle.resp_scan.specs.Machine.Tokens.{AtStart};
 
     /// A scanner of this version within these limits, between two values.
     pub fn new(version: Version, limits: &Limits) -> Scanner
-        ensures followed { HasRead result [] [] }
-        ensures rules { rules_of result ≡ record { version = version; limits = limits.now } }
+        ensures nothing_read { HasRead result [] [] }
+        ensures rules { rules_of result ≡ rules_under version limits.now }
     {
         Scanner {
             machine: Machine {
@@ -87,23 +86,31 @@ impl Scanner {
     /// Every later step answers the same.
     #[inline(always)]
     pub fn step<'a>(&mut self, piece: &'a [u8]) -> Result<Step<'a>, Fault>
-        // What has come and what was given of it, over every front that was taken and all events
-        // given since the value began.
-        ensures followed { (front : List ℕ) (es : Events) → HasRead self.old front es →
-            Stepped self.old self.new front es piece.now result }
+        // The piece is used up, no value has ended in it, and all events that are due were given.
+        ensures no_event { WhereRead self.old (λ front given.
+            IfNoEvent result (UsesUp self.new front given piece.now)) }
 
-        // And at any time the events given are the first of those due.
-        ensures given { (front : List ℕ) (es : Events) → HasRead self.old front es →
-            BeginDue front es }
+        // The bytes taken are a value, the events given are its events, and the next value may begin.
+        ensures value_whole { WhereRead self.old (λ front given.
+            IfDone result (EndsValue (rules_of self.old) self.new front given)) }
 
-        ensures within { IfOk result (λ step. step.used ≤ length piece.now) }
-        ensures all { IfOk result (λ step. step.event ≡ None → step.used ≡ length piece.now) }
-        ensures lent { IfOk result (λ step. IsOfPiece piece.now step) }
-        ensures rules { rules_of self.new ≡ rules_of self.old }
+        // The bytes used were taken, and the event was given.
+        ensures another_event { WhereRead self.old (λ front given.
+            IfOtherEvent result (λ used event.
+            HasRead self.new (front ++ take used piece.now) (given ++ events_of event))) }
 
-        // A refused byte is the scanner's end.
-        ensures faulted { IfErr result (IsFaulted self.new) }
-        ensures stays { (fault : Fault) → IsFaulted self.old fault →
+        // The refused byte is the first after which nothing can follow, and the fault names why.
+        ensures refusal { WhereRead self.old (λ front given.
+            IfErr result (IsRefused (rules_of self.old) front given piece.now)) }
+
+        ensures first_of_those_due { WhereRead self.old BeginDue }
+        ensures within_piece { IfOk result (λ step. step.used ≤ length piece.now) }
+        ensures whole_piece { IfOk result (λ step.
+            step.event ≡ None → step.used ≡ length piece.now) }
+        ensures part_of_piece { IfOk result (λ step. IsOfPiece piece.now step) }
+        ensures same_rules { rules_of self.new ≡ rules_of self.old }
+        ensures fault_is_kept { IfErr result (IsFaulted self.new) }
+        ensures fault_is_final { (fault : Fault) → IsFaulted self.old fault →
             (result ≡ Err fault) × (self.new ≡ self.old) }
     {
         self.machine.step(piece)
@@ -112,30 +119,31 @@ impl Scanner {
     /// The end of the input. Refuses it by Truncated inside a value, with the number of its bytes
     /// that were taken, and by the fault of a step where one was refused.
     pub fn finish(&self) -> Result<(), Fault>
-        ensures ok { (front : List ℕ) (es : Events) → HasRead self.now front es →
-            (IsOk result ↔ MayEnd (rules_of self.now) front) }
-        ensures truncated { (front : List ℕ) (es : Events) → HasRead self.now front es →
-            IfErr result (λ fault. (fault.cause ≡ cause.Truncated) × (fault.at ≡ length front)) }
-        ensures stays { (fault : Fault) → IsFaulted self.now fault → result ≡ Err fault }
+        ensures may_end { WhereRead self.now (λ front given.
+            IsOk result ↔ MayEnd (rules_of self.now) front) }
+        ensures truncated_inside_a_value { WhereRead self.now (λ front given.
+            IfErr result (λ fault. (fault.cause ≡ cause.Truncated) × (fault.at ≡ length front))) }
+        ensures fault_is_final { (fault : Fault) → IsFaulted self.now fault → result ≡ Err fault }
     {
         self.end()
     }
 
-    /// The same, from the machine's numbers.
+    /// Refuses the end by the machine's numbers.
     fn end(&self) -> Result<(), Fault>
         ensures ok { OnOk result (end_cause self.now ≡ None) }
         ensures err { IfErr result (λ fault. (end_cause self.now ≡ Some fault.cause) ×
             (fault.at ≡ self.now.taken)) }
         ensures sound { IsSound self.now }
     {
-        let at = self.taken();
-        match self.machine.state {
+        let machine = &self.machine;
+        let at = machine.taken;
+        match machine.state {
             State::Failed => Err(Fault {
-                cause: self.machine.cause,
+                cause: machine.cause,
                 at,
             }),
             _ => {
-                if at == 0 || self.needed() == 0 {
+                if at == 0 || machine.needed() == 0 {
                     Ok(())
                 } else {
                     Err(Fault {
@@ -152,19 +160,20 @@ impl Scanner {
     /// Refuses, and changes nothing, from a value's first byte until its [`Event::Done`] was given,
     /// and after a fault.
     pub fn set_version(&mut self, version: Version) -> Result<(), Busy>
-        ensures between { (front : List ℕ) (es : Events) → HasRead self.old front es →
-            (IsOk result ↔ (front ≡ [])) }
-        ensures followed { (front : List ℕ) (es : Events) → HasRead self.old front es →
-            OnOk result (HasRead self.new [] []) }
-        ensures rules { OnOk result (rules_of self.new ≡
-            record { version = version; limits = self.old.bounds }) }
-        ensures busy { OnErr result (self.new ≡ self.old) }
-        ensures faulted { (fault : Fault) → IsFaulted self.old fault → OnOk result ⊥ }
+        ensures only_between_values { WhereRead self.old (λ front given.
+            IsOk result ↔ (front ≡ [])) }
+        ensures nothing_read { WhereRead self.old (λ front given.
+            OnOk result (HasRead self.new [] [])) }
+        ensures new_version { OnOk result
+            (rules_of self.new ≡ rules_under version (rules_of self.old).limits) }
+        ensures unchanged_where_busy { OnErr result (self.new ≡ self.old) }
+        ensures never_after_a_fault { (fault : Fault) → IsFaulted self.old fault →
+            OnOk result ⊥ }
     {
         self.change_version(version)
     }
 
-    /// The same, from the machine's token and frames.
+    /// Changes the version where the machine's token and frames say that no value was begun.
     fn change_version(&mut self, version: Version) -> Result<(), Busy>
         ensures between { IsOk result ↔ ((self.old.token ≡ AtStart) × (self.old.frames ≡ [])) }
         ensures ok { OnOk result (self.new ≡ record self.old { version = version }) }
@@ -186,21 +195,25 @@ impl Scanner {
 
     /// The number of aggregates whose Open was given and whose Close wasn't.
     pub fn depth(&self) -> usize
-        ensures frames { result ≡ length self.now.frames }
-        ensures few { result ≤ (rules_of self.now).limits.depth }
-        ensures opens { (front : List ℕ) (es : Events) → HasRead self.now front es →
-            open_count es ≡ result + close_count es }
+        ensures at_most_depth { result ≤ (rules_of self.now).limits.depth }
+        ensures opens_less_closes { WhereRead self.now (λ front given.
+            open_count given ≡ result + close_count given) }
     {
         self.machine.frames.len()
     }
 
     /// The number of bytes taken of the value, 0 between values. A refused byte isn't among them.
+    #[inline]
     pub fn taken(&self) -> u64
-        ensures taken { result ≡ self.now.taken }
-        ensures front { (front : List ℕ) (es : Events) → HasRead self.now front es →
-            result ≡ length front }
-        ensures few { (front : List ℕ) (es : Events) → HasRead self.now front es →
-            length es ≤ result }
+        ensures length_of_front { WhereRead self.now (λ front given. result ≡ length front) }
+        ensures viable { WhereRead self.now (λ front given.
+            IsViable (rules_of self.now) WithinTotal front) }
+        ensures first_of_those_due { WhereRead self.now BeginDue }
+        ensures no_more_events_than_bytes { WhereRead self.now (λ front given.
+            length given ≤ result) }
+        ensures no_value_ended { WhereRead self.now (λ front given. HasNoDone given) }
+        ensures at_most_total { result ≤ (rules_of self.now).limits.total }
+        ensures limits_in_range { AreBounds (rules_of self.now).limits }
     {
         self.machine.taken
     }
@@ -208,11 +221,10 @@ impl Scanner {
     /// The least number of bytes that complete the value: 3 between values, and 0 where only its
     /// Done is owed.
     pub fn needed(&self) -> u64
-        ensures needed { result ≡ needed self.now }
-        ensures least { (front : List ℕ) (es : Events) → HasRead self.now front es →
-            IsLeast (rules_of self.now) front result }
+        ensures least_completion { WhereRead self.now (λ front given.
+            IsLeast (rules_of self.now) front result) }
     {
-        self.machine.frames_need + self.machine.token_needed()
+        self.machine.needed()
     }
 }
 
@@ -229,81 +241,4 @@ fn in_range(limits: &Limits) -> Limits
         limits.items(),
     );
     *limits
-}
-
-impl Machine {
-    ghost use Rattle.resp_scan.specs.Machine.Fields.{place_of};
-    ghost use Rattle.resp_scan.specs.Machine.Sound.{IsSound, token_needed};
-    ghost use Rattle.resp_scan.specs.Machine.States.{is_counted};
-
-    /// The least number of bytes that complete the token.
-    fn token_needed(&self) -> u64
-        requires { IsSound (place_of self.now) }
-        ensures { result ≡ token_needed (place_of self.now).token self.now.limits.depth
-            (place_of self.now).frames }
-    {
-        match self.state {
-            State::Start => { if self.frames.is_empty() { 3 } else { 0 } }
-            State::Ended | State::TextEnd | State::Failed => 0,
-            State::Line | State::Int | State::BigZeros | State::BigDigit | State::Big => 2,
-            State::LineLf | State::IntLf | State::BigZeroLf => 1,
-            State::IntSign | State::IntFirst | State::BigSign | State::BigFirst => 3,
-            State::NullOne => 3,
-            State::NullCr => 2,
-            State::NullLf => 1,
-            State::Bool => 3,
-            State::BoolCr => 2,
-            State::BoolLf => 1,
-            State::BulkHead => 4,
-            State::ArrayHead => { if self.is_full() { 4 } else { 3 } }
-            _ => self.counted_needed(),
-        }
-    }
-
-    /// The least number of bytes that complete a head, counted content or a close.
-    #[tactic(auto, using(crate::proofs::Soundness::Places::more_few, crate::proofs::Soundness::Places::lf_few, crate::proofs::Soundness::Sound::head_more, crate::proofs::Soundness::Places::format_first_few, crate::proofs::Soundness::Places::format_second_few, crate::proofs::Soundness::Places::colon_four, crate::proofs::Soundness::Places::content_few, crate::proofs::Soundness::Places::chunk_few))]
-    fn counted_needed(&self) -> u64
-        requires { IsSound (place_of self.now) }
-        ensures { is_counted self.now.state ≡ true →
-            result ≡ token_needed (place_of self.now).token self.now.limits.depth
-            (place_of self.now).frames }
-    {
-        match self.state {
-            State::HeadFirst => first_needed(self.head),
-            State::HeadMore => needed_behind(self.head, self.count),
-            State::HeadLf => needed_behind(self.head, self.count) - 1,
-            State::FormatFirst => self.count + 2,
-            State::FormatSecond => self.count + 1,
-            State::FormatThird => self.count,
-            State::FormatColon => self.count - 1,
-            State::Content => self.count + 2,
-            State::ContentCr => 2,
-            State::ContentLf => 1,
-            State::StreamCr => 6,
-            State::StreamLf => 5,
-            State::Chunk => 4,
-            State::ChunkContent => self.count + 6,
-            State::ChunkCr => 6,
-            State::ChunkLf => 5,
-            State::OpenCr => 5,
-            State::OpenLf => 4,
-            State::CloseCr => 2,
-            State::CloseLf => 1,
-            _ => 0,
-        }
-    }
-}
-
-/// The least number of bytes that complete a value behind its type byte, or a streamed string
-/// behind a chunk's.
-fn first_needed(head: Head) -> u64
-    ensures { result ≡ first_needed head }
-{
-    match head {
-        Head::Bulk => 4,
-        Head::BulkError => 5,
-        Head::Verbatim => 9,
-        Head::Attr => 6,
-        Head::Chunk { .. } | Head::Array | Head::Set | Head::Map | Head::Push => 3,
-    }
 }

@@ -6,6 +6,7 @@ ghost use Rattle.resp_scan.specs.Machine.Moves as m;
 ghost use Rattle.resp_scan.specs.Machine.Tokens.{Place};
 
 use crate::machine::{EventTag, Head, Machine, State, Taken};
+use crate::needed::first_needed;
 use resp_value::cause::Cause;
 use resp_value::version::Version;
 
@@ -19,7 +20,7 @@ impl Machine {
     ghost use Rattle.resp_scan.specs.declared.event.TextKind.TheVariants as text;
 
     #[inline]
-    #[tactic(auto, using(crate::proofs::Soundness::Starts::first_scan, crate::proofs::Soundness::Starts::refused_answer, crate::proofs::Soundness::Starts::begun_answer))]
+    #[tactic(auto, using(crate::proofs::Soundness::Starts::first_scan, crate::proofs::Soundness::Starts::answers))]
     pub fn start(&mut self, piece: &[u8]) -> Taken
         requires { IsSound (at (place_of self.old) AtStart) }
         ensures { out_of result self.new ≡ scan 0 (at (place_of self.old) AtStart) piece.now }
@@ -58,7 +59,7 @@ impl Machine {
     }
 
     #[inline]
-    #[tactic(auto, using(crate::proofs::Soundness::Starts::begun_line, crate::proofs::Soundness::Starts::refused_line))]
+    #[tactic(auto, using(crate::proofs::Soundness::Starts::lines))]
     fn line_begins(&mut self, tag: EventTag) -> Taken
         requires { IsSound (at (place_of self.old) AtStart) }
         ensures simple { (p : List ℕ) → tag ≡ EventTag.Simple →
@@ -80,7 +81,7 @@ impl Machine {
 
     /// A form that version 3 alone has.
     #[inline]
-    #[tactic(auto, using(crate::proofs::Soundness::Starts::refused_answer, crate::proofs::Soundness::Starts::begun_answer))]
+    #[tactic(auto, using(crate::proofs::Soundness::Starts::answers))]
     fn start_three(&mut self, piece: &[u8], first: First) -> Taken
         requires within { 0 < length piece.now }
         requires sound { IsSound (at (place_of self.old) AtStart) }
@@ -101,42 +102,41 @@ impl Machine {
                 Some(cause) => self.fail(0, cause),
                 None => self.big_sign(piece, 1),
             },
-            First::BulkError => self.head_begins(piece, Head::BulkError, 5),
-            First::Verbatim => self.head_begins(piece, Head::Verbatim, 9),
-            First::Set => self.aggregate_begins(piece, Head::Set, 3),
-            First::Map => self.aggregate_begins(piece, Head::Map, 3),
-            First::Attr => self.aggregate_begins(piece, Head::Attr, 6),
+            First::BulkError => self.head_begins(piece, Head::BulkError),
+            First::Verbatim => self.head_begins(piece, Head::Verbatim),
+            First::Set => self.aggregate_begins(piece, Head::Set),
+            First::Map => self.aggregate_begins(piece, Head::Map),
+            First::Attr => self.aggregate_begins(piece, Head::Attr),
             First::Push => {
                 if !self.frames.is_empty() {
                     return self.fail(0, Cause::NestedPush);
                 }
-                self.aggregate_begins(piece, Head::Push, 3)
+                self.aggregate_begins(piece, Head::Push)
             }
         }
     }
 
+    /// The head of a string or of an aggregate that version 3 alone has.
     #[inline(never)]
-    #[tactic(auto, using(crate::proofs::Soundness::Starts::refused_answer, crate::proofs::Soundness::Starts::begun_answer))]
-    fn head_begins(&mut self, piece: &[u8], head: Head, needed: u64) -> Taken
+    #[tactic(auto, using(crate::proofs::Soundness::Starts::answers))]
+    fn head_begins(&mut self, piece: &[u8], head: Head) -> Taken
         requires some { 0 < length piece.now }
-        requires few { needed < 10 }
         requires level { HasFrame (place_of self.old) head }
         requires sound { IsSound (at (place_of self.old) AtStart) }
         ensures { out_of result self.new ≡
-            after_first (m.begin_move (at (place_of self.old) AtStart) needed (AtHead head))
+            after_first (m.begin_move (at (place_of self.old) AtStart) (first_needed head) (AtHead head))
             (at (place_of self.old) AtStart) (drop 1 piece.now) }
     {
-        match self.begin(needed) {
+        match self.begin(first_needed(head)) {
             Some(cause) => self.fail(0, cause),
             None => self.head_first(piece, 1, head),
         }
     }
 
+    /// The head of an aggregate, which opens a level more.
     #[inline]
-    fn aggregate_begins(&mut self, piece: &[u8], head: Head, needed: u64) -> Taken
+    fn aggregate_begins(&mut self, piece: &[u8], head: Head) -> Taken
         requires some { 0 < length piece.now }
-        requires few { needed < 10 }
-        requires needed { needed ≡ first_needed head }
         requires sound { IsSound (at (place_of self.old) AtStart) }
         ensures { out_of result self.new ≡
             after_first (m.aggregate_move (at (place_of self.old) AtStart) head)
@@ -145,7 +145,7 @@ impl Machine {
         if self.is_full() {
             return self.fail(0, Cause::Depth);
         }
-        self.head_begins(piece, head, needed)
+        self.head_begins(piece, head)
     }
 }
 

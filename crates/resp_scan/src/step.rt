@@ -1,6 +1,6 @@
 //! One step: the token in which the piece begins, and the event that it comes to.
 
-ghost use Rattle.std.specs.Prelude.{◌≡◌, ◌≤◌, ◌∷◌, [], length, take, drop, true, IfOk, IfErr};
+ghost use Rattle.std.specs.Prelude.{◌≡◌, ◌≤◌, ◌∷◌, ℕ, List, [], length, take, drop, true, IfOk, IfErr};
 ghost use Rattle.resp_scan.specs.Machine.Moves.{is_digit};
 
 use crate::event::{Event, Fault, Step, TextKind};
@@ -16,14 +16,13 @@ impl Machine {
     ghost use Rattle.resp_scan.specs.Machine.Fields.{place_of, out_of};
     ghost use Rattle.resp_scan.specs.Machine.Scan.{out_from};
     ghost use Rattle.resp_scan.specs.Machine.Sound.{IsSound};
-    ghost use Rattle.resp_scan.specs.Machine.States.{is_counted};
     ghost use Rattle.resp_scan.specs.Machine.Tokens.{Place};
 
     /// Behind a value: its end or its parent's close is owed, or the next member may begin.
     #[inline]
     #[tactic(auto, using(crate::proofs::Soundness::Places::sound_member))]
-    fn after_value(&mut self, piece: &[u8]) -> Taken
-        requires state { self.old.state ≡ State.Ended }
+    pub fn after_value(&mut self, piece: &[u8]) -> Taken
+        requires state { self.old.state ≡ State.Boundary }
         requires sound { IsSound (place_of self.old) }
         ensures { out_of result self.new ≡ out_from (place_of self.old) piece.now }
     {
@@ -36,23 +35,23 @@ impl Machine {
             Some(frame) => match frame.shape {
                 Shape::Left(0) => {
                     let _ = self.frames.pop();
-                    self.ended(0, EventTag::Close)
+                    self.at_boundary(0, EventTag::Close)
                 }
                 _ => self.start(piece),
             },
         }
     }
 
-    /// The tokens in which a piece seldom begins.
+    /// Goes on from the token in which the piece begins.
     #[inline(never)]
-    #[tactic(auto, using(crate::proofs::Soundness::Places::sound_start, crate::proofs::Soundness::Places::int_most, crate::proofs::Soundness::Places::int_lf_most))]
-    fn resume(&mut self, piece: &[u8]) -> Taken
+    #[tactic(auto, using(crate::proofs::Soundness::Places::tokens_fit))]
+    pub fn resume(&mut self, piece: &[u8]) -> Taken
         requires { IsSound (place_of self.old) }
         ensures { out_of result self.new ≡ out_from (place_of self.old) piece.now }
     {
         match self.state {
             State::Start => self.start(piece),
-            State::Ended => self.after_value(piece),
+            State::Boundary => self.after_value(piece),
             State::Line => self.line(piece),
             State::LineLf => self.line_lf(piece, 0),
             State::IntSign => self.int_sign(piece, 0),
@@ -63,12 +62,9 @@ impl Machine {
             State::BigFirst => self.big_first(piece, 0, self.big_negative),
             State::BigZeros => self.big_zeros(piece, 0, self.big_negative),
             State::BigZeroLf => self.big_zero_lf(piece, 0),
-            State::BigDigit => {
-                self.state = State::Big;
-                self.gives(0, EventTag::Digit)
-            }
+            State::BigDigit => self.first_digit(),
             State::Big => self.big(piece),
-            State::TextEnd => self.ended(0, EventTag::TextEnd),
+            State::TextEnd => self.at_boundary(0, EventTag::TextEnd),
             State::NullOne => self.null_one(piece, 0),
             State::NullCr => self.null_cr(piece, 0),
             State::NullLf => self.null_lf(piece, 0),
@@ -77,19 +73,6 @@ impl Machine {
             State::BoolLf => self.bool_lf(piece, 0, self.truth),
             State::BulkHead => self.bulk_head(piece, 0),
             State::ArrayHead => self.array_head(piece, 0),
-            _ => self.resume_counted(piece),
-        }
-    }
-
-    /// The tokens of heads, counted content and closes.
-    #[inline]
-    #[tactic(auto, using(crate::proofs::Soundness::Places::content_some, crate::proofs::Soundness::Places::chunk_some, crate::proofs::Soundness::Places::first_frame, crate::proofs::Soundness::Places::more_frame, crate::proofs::Soundness::Places::more_need, crate::proofs::Soundness::Places::more_few, crate::proofs::Soundness::Places::lf_few, crate::proofs::Soundness::Places::lf_ends, crate::proofs::Soundness::Places::lf_room, crate::proofs::Soundness::Places::more_room, crate::proofs::Soundness::Places::first_four, crate::proofs::Soundness::Places::second_four, crate::proofs::Soundness::Places::third_four, crate::proofs::Soundness::Places::colon_four, crate::proofs::Soundness::Places::lf_frame, crate::proofs::Soundness::Places::lf_need, crate::proofs::Soundness::Places::open_cr_level, crate::proofs::Soundness::Places::open_lf_level))]
-    fn resume_counted(&mut self, piece: &[u8]) -> Taken
-        requires { IsSound (place_of self.old) }
-        ensures { is_counted self.old.state ≡ true →
-            out_of result self.new ≡ out_from (place_of self.old) piece.now }
-    {
-        match self.state {
             State::HeadFirst => self.head_first(piece, 0, self.head),
             State::HeadMore => self.head_more(piece, 0, self.head, self.count),
             State::HeadLf => self.head_lf(piece, 0, self.head, self.count),
@@ -110,8 +93,18 @@ impl Machine {
             State::OpenLf => self.open_lf(piece, 0, self.kind),
             State::CloseCr => self.close_cr(piece, 0),
             State::CloseLf => self.close_lf(piece, 0),
-            _ => self.fail(0, self.cause),
+            State::Failed => self.fail(0, self.cause),
         }
+    }
+
+    /// The first digit of a big number is given.
+    #[inline]
+    fn first_digit(&mut self) -> Taken
+        requires { self.old.state ≡ State.BigDigit }
+        ensures { (piece : List ℕ) → out_of result self.new ≡ out_from (place_of self.old) piece }
+    {
+        self.state = State::Big;
+        self.gives(0, EventTag::Digit)
     }
 
     /// The answer of a step whose token came to this.
@@ -172,7 +165,7 @@ impl Machine {
                 let got = self.start(piece);
                 self.answer(piece, got)
             }
-            State::Ended => {
+            State::Boundary => {
                 let got = self.after_value(piece);
                 self.answer(piece, got)
             }
@@ -198,7 +191,7 @@ impl Machine {
 
 /// The bytes from the first index to the second.
 #[inline]
-fn run(piece: &[u8], start: usize, used: usize) -> &[u8]
+pub fn run(piece: &[u8], start: usize, used: usize) -> &[u8]
     requires start { start ≤ used }
     requires within { used ≤ length piece.now }
     ensures { result.now ≡ drop start (take used piece.now) }
@@ -207,7 +200,7 @@ fn run(piece: &[u8], start: usize, used: usize) -> &[u8]
 }
 
 /// A constant of one byte, this digit.
-fn digit_text(byte: u8) -> &'static [u8]
+pub fn digit_text(byte: u8) -> &'static [u8]
     requires { is_digit byte ≡ true }
     ensures { result.now ≡ byte ∷ [] }
 {

@@ -18,7 +18,7 @@ use std::test::Fail;
 /// A number of bytes, so often.
 type Run = (&'static [u8], usize);
 
-/// An input, and what is said of it: its events, and how it ends.
+/// An input, and what is said of it: its events, and how it ends. A repeated text is folded.
 type Row = (&'static [Run], &'static str);
 
 /// How an input is cut into pieces.
@@ -208,6 +208,23 @@ fn joined(alloc: Global, runs: &[Run]) -> Result<Vec<u8>, AllocError> {
     Ok(input)
 }
 
+/// What a row wants, where `^3 ab^` stands for `ababab`.
+fn unfolded(alloc: Global, wanted: &str) -> Result<Vec<u8>, Fail> {
+    let mut out = Vec::new(alloc);
+    for (index, part) in wanted.split('^').enumerate() {
+        if index % 2 == 0 {
+            add(&mut out, part.as_bytes())?;
+            continue;
+        }
+        let (times, text) = part.split_once(' ').ok_or("a number and a text")?;
+        let times: u32 = times.parse()?;
+        for _ in 0..times {
+            add(&mut out, text.as_bytes())?;
+        }
+    }
+    Ok(out)
+}
+
 /// Every row, whole, at each cut in two, and byte by byte with an empty piece behind each byte.
 fn run(
     rt: &impl Abort,
@@ -216,21 +233,14 @@ fn run(
     limits: &Limits,
     rows: &[Row],
 ) -> Result<(), Fail> {
-    for (runs, wanted) in rows {
+    for (runs, text) in rows {
         let input = joined(alloc, runs)?;
+        let wanted = unfolded(alloc, text)?;
         let whole = said(alloc, version, limits, &input, Cut::Everywhere)?;
-        assert_eq!(rt;
-            whole.as_slice(),
-            wanted.as_bytes(),
-            "byte by byte: {wanted}"
-        );
+        assert_eq!(rt; whole.as_slice(), wanted.as_slice(), "byte by byte: {text}");
         for place in 0..input.len() + 1 {
             let cut = said(alloc, version, limits, &input, Cut::At(place))?;
-            assert_eq!(rt;
-                cut.as_slice(),
-                wanted.as_bytes(),
-                "cut at {place}: {wanted}"
-            );
+            assert_eq!(rt; cut.as_slice(), wanted.as_slice(), "cut at {place}: {text}");
         }
     }
     Ok(())

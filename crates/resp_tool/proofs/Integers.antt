@@ -7,7 +7,7 @@ use Rattle.resp_value.specs.Numbers.{IsDigits, IsNumber, number, Sign, Unsigned,
 use Rattle.resp_value.specs.Signs.{sign_at, unsigned_part}
 use Rattle.resp_value.specs.Trees.{numeral, Int}
 use Rattle.resp_value.specs.Rules.{IsInRange}
-use Rattle.resp_tool.specs.Scalars.{SaysInteger, greatest_size, with_sign}
+use Rattle.resp_tool.specs.Scalars.{SaysInteger, greatest_size, integer_of_size}
 use Rattle.resp_value.proofs.KeptDigits.{sign_split}
 
 -- the sign of a sign and digits, and what lies behind it
@@ -22,7 +22,7 @@ signed_at Unsigned (d ∷ digits) rest p =
     (rw (no_minus, no_plus) refl, rw (no_minus, no_plus) refl)
 
 -- the value of a sign and digits
-pub signed_is : (sign : Sign) (digits : List ℕ) → signed_value sign digits ≡ with_sign (is_minus sign) (number digits)
+pub signed_is : (sign : Sign) (digits : List ℕ) → signed_value sign digits ≡ integer_of_size (is_minus sign) (number digits)
 signed_is Unsigned digits = refl
 signed_is Plus digits = refl
 signed_is Minus digits = refl
@@ -51,12 +51,12 @@ integer_parts i input behind (sign, digits, are_digits, e, value, in_range) =
 
 -- a sign, digits of a size within the range, and CR LF are an integer's line
 pub integer_line : (input digits behind : List ℕ) (size : ℕ) → IsNumber size digits → unsigned_part input ≡ digits ++ crlf behind →
-    size ≤ greatest_size (is_minus (sign_at input)) → SaysInteger (with_sign (is_minus (sign_at input)) size) input behind
+    size ≤ greatest_size (is_minus (sign_at input)) → SaysInteger (integer_of_size (is_minus (sign_at input)) size) input behind
 integer_line input digits behind size p e small = (
   sign_at input,
   digits,
   p.0,
   sign_split input ∙ ap (λ rest. sign_text (sign_at input) ++ rest) e ∙ sym (append_assoc (sign_text (sign_at input)) digits (crlf behind)),
-  signed_is (sign_at input) digits ∙ ap (with_sign (is_minus (sign_at input))) p.1,
+  signed_is (sign_at input) digits ∙ ap (integer_of_size (is_minus (sign_at input))) p.1,
   in_range_by_size (sign_at input) digits (omega (arith, p.1)),
 )

@@ -4,10 +4,11 @@ use Rattle.std.proofs.Common.{◌≡◌, ℕ, List, [], take, drop, Option, Resu
 use Rattle.resp_value.specs.Data.{Datum}
 use Rattle.resp_value.specs.Rules.{Rules}
 use Rattle.resp_value.specs.Canonical.{canonical_text, Fits}
-use Rattle.resp_value.specs.Devices.{Appends, HasRisen}
+use Rattle.resp_value.specs.Devices.{Appends}
 use Rattle.resp_value.specs.declared.cause.Limit.{Limit}
 use Rattle.resp_value.specs.declared.cause.Limit.TheVariants.{Depth, Length, Items, Total}
-use Rattle.resp_encode.specs.Refusals.{IsFirstOver, IsFirstRefusal, IfWrite, to_error}
+use Rattle.resp_encode.specs.Encodings.{WritesPart}
+use Rattle.resp_encode.specs.Refusals.{IsFirstOver, IsFirstRefusal, IfWrite}
 use Rattle.resp_encode.specs.declared.error.EncodeError.{EncodeError}
 use Rattle.resp_encode.specs.declared.error.EncodeError.TheVariants as encode
 use Rattle.resp_encode.specs.declared.error.EncodeToError.{EncodeToError}
@@ -35,21 +36,21 @@ first_bytes before after n text appended = record {
 
 -- what the encoder leaves where it refuses
 pub leaves_of_refusal : (rules : Rules) (x : Datum) (before after : Option (List ℕ)) (failures failures' : ℕ) (text : List ℕ) (error : EncodeToError) →
-    IsFirstRefusal rules x error → ((e : EncodeError) → error ≡ to_error e → Appends before after []) →
-    IfWrite (λ n. Appends before after (take n text)) error → IfWrite (λ n. HasRisen failures failures') error →
+    IsFirstRefusal rules x error → ((e : EncodeError) → error ≡ to.Refused e → Appends before after []) →
+    IfWrite (WritesPart before after failures failures' text) error →
     RendersText before after failures failures' (Err (render_error_of error)) text (Fits rules x → ⊥) (Unit {0})
-leaves_of_refusal rules x before after failures failures' text to.NotInVersion refused nothing part failed =
+leaves_of_refusal rules x before after failures failures' text (to.Refused encode.NotInVersion) refused nothing part =
     (nothing encode.NotInVersion refl, λ fits. refused fits.has_types)
-leaves_of_refusal rules x before after failures failures' text to.NestedPush refused nothing part failed =
+leaves_of_refusal rules x before after failures failures' text (to.Refused encode.NestedPush) refused nothing part =
     (nothing encode.NestedPush refl, λ fits. refused.1 fits.push_at_top)
-leaves_of_refusal rules x before after failures failures' text (to.OverLimits over) refused nothing part failed =
+leaves_of_refusal rules x before after failures failures' text (to.Refused (encode.OverLimits over)) refused nothing part =
     (nothing (encode.OverLimits over) refl, over_limit_is_unfit rules x over refused.1)
-leaves_of_refusal rules x before after failures failures' text to.OutOfMemory refused nothing part failed =
+leaves_of_refusal rules x before after failures failures' text (to.Refused encode.OutOfMemory) refused nothing part =
     (nothing encode.OutOfMemory refl, tt)
-leaves_of_refusal rules x before after failures failures' text (to.Write written) refused nothing part failed =
-    (first_bytes before after written text part, failed)
+leaves_of_refusal rules x before after failures failures' text (to.Write written) refused nothing part =
+    (first_bytes before after written text part.appended, part.failure_counted)
 
--- the same of an equal value, and of an outcome with an equal error
+-- what the encoder leaves stands for an equal value too, and for an outcome with an equal error
 pub leaves_of_equal : (rules : Rules) (x y : Datum) (before after : Option (List ℕ)) (failures failures' : ℕ) (error : EncodeToError)
     (r : Result (Unit {0}) RenderError) → r ≡ Err (render_error_of error) → x ≡ y →
     RendersText before after failures failures' (Err (render_error_of error)) (canonical_text rules.version x) (Fits rules x → ⊥) (Unit {0}) →

@@ -5,6 +5,7 @@ use Rattle.resp_tool.specs.Written.{refusal_line}
 use Rattle.resp_tool.specs.declared.tool_error.ToolError.{ToolError}
 use Rattle.resp_tool.specs.declared.tool_error.ToolError.TheVariants.{Refused, OverLimits, TooManyValues, Read, Write, TooManyTurns, Memory}
 
+-- the line that says why the program stops
 abbrev pub fault_line : ToolError → List ℕ
 fault_line (Refused value cause at) = refusal_line value (name_of cause) at
 fault_line (OverLimits value) = codes "value " ++ decimal value ++ codes ": OverLimits\n"
@@ -14,11 +15,9 @@ fault_line Write = codes "write failed\n"
 fault_line TooManyTurns = codes "too many turns\n"
 fault_line Memory = codes "out of memory\n"
 
+-- 1 for an input that was refused, and 3 for a device or memory that failed
 abbrev pub status_of : ToolError → ℕ
 status_of (Refused value cause at) = 1
 status_of (OverLimits value) = 1
 status_of TooManyValues = 1
-status_of Read = 3
-status_of Write = 3
-status_of TooManyTurns = 3
-status_of Memory = 3
+status_of _ = 3

@@ -1,7 +1,7 @@
 -- What was read of an input.
 use Rattle.std.specs.Prelude.{◌≡◌, ℕ, List, [], Option, None, Some}
 use Rattle.resp_tool.specs.declared.tool_error.ToolError.{ToolError}
-use Rattle.resp_tool.specs.declared.tool_error.ToolError.TheVariants.{Refused, OverLimits, TooManyValues, Read, Write, TooManyTurns, Memory}
+use Rattle.resp_tool.specs.declared.tool_error.ToolError.TheVariants.{Read, TooManyTurns, Memory}
 
 -- the bytes are all that was left to read, where the reader tells that, and nothing is left
 abbrev pub ReadsAll : Option (List ℕ) → Option (List ℕ) → List ℕ → Type 0
@@ -10,10 +10,7 @@ ReadsAll (Some left) after bytes = (bytes ≡ left) × (after ≡ Some [])
 
 -- the reading failed, wanted too many reads, or found no memory
 abbrev pub IsReadError : ToolError → Type 0
-IsReadError (Refused value cause at) = ⊥
-IsReadError (OverLimits value) = ⊥
-IsReadError TooManyValues = ⊥
 IsReadError Read = Unit {0}
-IsReadError Write = ⊥
 IsReadError TooManyTurns = Unit {0}
 IsReadError Memory = Unit {0}
+IsReadError _ = ⊥

@@ -1,22 +1,15 @@
 -- What is written for the values of an input, where each has a text.
 use Rattle.std.specs.Prelude.{◌≡◌, ◌≢◌, ℕ, ◌+◌, List, [], ◌++◌, length, flat_map, Option, Result, Ok, Err}
 use Rattle.resp_value.specs.Data.{Datum}
-use Rattle.resp_value.specs.Bounds.{Bounds}
 use Rattle.resp_value.specs.Rules.{Rules}
 use Rattle.resp_value.specs.Spellings.{IsSpelling, AreSpellings, Cut}
 use Rattle.resp_value.specs.Devices.{Appends, HasRisen}
-use Rattle.resp_value.specs.declared.version.Version.{Version}
-use Rattle.resp_value.specs.declared.cause.Cause.{Cause}
 use Rattle.resp_tool.specs.Scalars.{BeginsWithNoScalar}
 use Rattle.resp_tool.specs.Written.{AppendsPart}
 use Rattle.resp_tool.specs.declared.render.RenderError.{RenderError}
 use Rattle.resp_tool.specs.declared.render.RenderError.TheVariants as e
 use Rattle.resp_tool.specs.declared.tool_error.ToolError.{ToolError}
 use Rattle.resp_tool.specs.declared.tool_error.ToolError.TheVariants.{Refused, OverLimits, TooManyValues, Read, Write, TooManyTurns, Memory}
-
--- the rules of a stream: its version and limits
-abbrev pub stream_rules : Version → Bounds → Rules
-stream_rules version limits = record { version = version; limits = limits }
 
 -- The text was appended and no write failed; or a write failed, and a first part of it was appended; or nothing
 -- was, since the value is refused, or no memory was found.
@@ -78,62 +71,38 @@ pub record IsUnfitRest (rules : Rules) (IsRefused : Datum → Type 0) (rest : Li
   pub whole : rest ≡ front ++ behind
   pub refused : IsRefused value
 
--- a fact of a value over the limits
-abbrev pub OnOverLimits : ToolError → (ℕ → Type 0) → Type 0
-OnOverLimits (Refused value cause at) P = Unit {0}
-OnOverLimits (OverLimits value) P = P value
-OnOverLimits TooManyValues P = Unit {0}
-OnOverLimits Read P = Unit {0}
-OnOverLimits Write P = Unit {0}
-OnOverLimits TooManyTurns P = Unit {0}
-OnOverLimits Memory P = Unit {0}
+-- the most values of one run
+abbrev pub most_values : ℕ
+most_values = 1000000000
 
--- a fact of a refused value
-abbrev pub OnRefused : ToolError → (ℕ → Cause → ℕ → Type 0) → Type 0
-OnRefused (Refused value cause at) P = P value cause at
-OnRefused (OverLimits value) P = Unit {0}
-OnRefused TooManyValues P = Unit {0}
-OnRefused Read P = Unit {0}
-OnRefused Write P = Unit {0}
-OnRefused TooManyTurns P = Unit {0}
-OnRefused Memory P = Unit {0}
+-- What a run has written of an input, by how it ended: the text of each value; of those before the value with some
+-- number, and what stands there; or a first part of the texts of some. Where the input was not read, nothing.
+abbrev pub Renders : (Datum → List ℕ) → Rules → (Datum → Type 0) → List ℕ → Option (List ℕ) → Option (List ℕ) →
+    Result (Unit {0}) ToolError → Type 0
+Renders text rules IsUnfit input before after (Ok x) = RendersAll text rules input before after
+Renders text rules IsUnfit input before after (Err (Refused number cause at)) =
+    RendersFront text rules input before after number (IsRefusedRest rules)
+Renders text rules IsUnfit input before after (Err (OverLimits number)) =
+    RendersFront text rules input before after number (IsUnfitRest rules IsUnfit)
+Renders text rules IsUnfit input before after (Err TooManyValues) =
+    RendersFront text rules input before after (most_values + 1) IsSomeRest
+Renders text rules IsUnfit input before after (Err Write) = RendersPart text rules input before after
+Renders text rules IsUnfit input before after (Err Memory) = RendersPart text rules input before after
+Renders text rules IsUnfit input before after (Err _) = Appends before after []
 
--- a fact of a stop while the input is read
-abbrev pub OnUnread : ToolError → Type 0 → Type 0
-OnUnread (Refused value cause at) P = Unit {0}
-OnUnread (OverLimits value) P = Unit {0}
-OnUnread TooManyValues P = Unit {0}
-OnUnread Read P = P
-OnUnread Write P = Unit {0}
-OnUnread TooManyTurns P = P
-OnUnread Memory P = P
+-- a fact of a stop at which the input was not read to its end, a failed reader or too many reads
+abbrev pub OnUnreadInput : ToolError → Type 0 → Type 0
+OnUnreadInput Read P = P
+OnUnreadInput TooManyTurns P = P
+OnUnreadInput _ P = Unit {0}
 
 -- a reason to stop that `show` has: it encodes nothing
 abbrev pub IsShowError : ToolError → Type 0
-IsShowError (Refused value cause at) = Unit {0}
-IsShowError (OverLimits value) = ⊥
-IsShowError TooManyValues = Unit {0}
-IsShowError Read = Unit {0}
-IsShowError Write = Unit {0}
-IsShowError TooManyTurns = Unit {0}
-IsShowError Memory = Unit {0}
-
--- a fact of a stop in the middle of the texts
-abbrev pub OnPart : ToolError → Type 0 → Type 0
-OnPart (Refused value cause at) P = Unit {0}
-OnPart (OverLimits value) P = Unit {0}
-OnPart TooManyValues P = Unit {0}
-OnPart Read P = Unit {0}
-OnPart Write P = P
-OnPart TooManyTurns P = Unit {0}
-OnPart Memory P = P
+IsShowError (OverLimits number) = ⊥
+IsShowError _ = Unit {0}
 
 -- a reason to stop once the input is read
 abbrev pub IsRenderingError : ToolError → Type 0
-IsRenderingError (Refused value cause at) = Unit {0}
-IsRenderingError (OverLimits value) = Unit {0}
-IsRenderingError TooManyValues = Unit {0}
 IsRenderingError Read = ⊥
-IsRenderingError Write = Unit {0}
 IsRenderingError TooManyTurns = ⊥
-IsRenderingError Memory = Unit {0}
+IsRenderingError _ = Unit {0}

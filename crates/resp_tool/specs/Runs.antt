@@ -38,9 +38,10 @@ abbrev pub RendersFrontOfTask : Task → Option (List ℕ) → Option (List ℕ)
 RendersFrontOfTask task stream before after = IfSome stream (λ input. (number : ℕ) ×
     RendersFront (text_of task) default_rules input before after number IsSomeRest)
 
--- the same of one of the tasks
+-- the texts of the whole stream were written, by one of the tasks
 abbrev pub RendersStream : Option (List ℕ) → Option (List ℕ) → Option (List ℕ) → Type 0
 RendersStream stream before after = (task : Task) × RendersOfTask task stream before after
 
+-- the texts of the values before one with some number were written, by one of the tasks
 abbrev pub RendersStreamFront : Option (List ℕ) → Option (List ℕ) → Option (List ℕ) → Type 0
 RendersStreamFront stream before after = (task : Task) × RendersFrontOfTask task stream before after

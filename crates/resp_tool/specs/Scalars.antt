@@ -28,9 +28,9 @@ greatest_size true = 9223372036854775808
 greatest_size false = 9223372036854775807
 
 -- the integer of this size, with a minus or without
-abbrev pub with_sign : Bool → ℕ → ℤ
-with_sign true n = neg_ℤ (pos n)
-with_sign false n = pos n
+abbrev pub integer_of_size : Bool → ℕ → ℤ
+integer_of_size true n = neg_ℤ (pos n)
+integer_of_size false n = pos n
 
 -- the input is a signed integer's line, of this value, and then more
 abbrev pub SaysInteger : ℤ → List ℕ → List ℕ → Type 0

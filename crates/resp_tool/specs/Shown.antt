@@ -4,8 +4,10 @@ use Rattle.std.specs.Fmt.{signed_decimal}
 use Rattle.std.specs.List.{flat_map}
 use Rattle.resp_value.specs.Data.{Kind, Array, Set, Map, Attr, Push, Scalar, Null, Int, Simple, Error, Double, Bulk, BulkError, Verbatim, Big, Datum, Data, scalar, aggregate, none, more, count, items_of}
 use Rattle.resp_value.specs.Data as d
+use Rattle.resp_value.specs.Numbers.{sign_text}
+use Rattle.resp_value.specs.Canonical.{sign_of}
 
--- a byte that stands for itself inside quotes
+-- a byte that stands for itself inside quotes: printable, and neither a quote nor a backslash
 abbrev pub is_plain : ℕ → Bool
 is_plain byte = nat_le 32 byte && nat_le byte 126 && cond (byte == 34) false (cond (byte == 92) false true)
 
@@ -13,15 +15,15 @@ is_plain byte = nat_le 32 byte && nat_le byte 126 && cond (byte == 34) false (co
 abbrev pub hex_digit : ℕ → ℕ
 hex_digit n = cond (nat_lt n 10) (n + 48) (n + 87)
 
--- a byte inside quotes that doesn't stand for itself
+-- a byte inside quotes that doesn't stand for itself: a quote, a backslash, CR, LF, a tab, or any other by two digits
 abbrev pub escape_of : ℕ → List ℕ
 escape_of byte =
-    cond (byte == 34) (92 ∷ 34 ∷ [])
-    (cond (byte == 92) (92 ∷ 92 ∷ [])
-    (cond (byte == 13) (92 ∷ 114 ∷ [])
-    (cond (byte == 10) (92 ∷ 110 ∷ [])
-    (cond (byte == 9) (92 ∷ 116 ∷ [])
-    (92 ∷ 120 ∷ hex_digit (byte / 16) ∷ hex_digit (byte % 16) ∷ [])))))
+    cond (byte == 34) (codes "\\\"")
+    (cond (byte == 92) (codes "\\\\")
+    (cond (byte == 13) (codes "\\r")
+    (cond (byte == 10) (codes "\\n")
+    (cond (byte == 9) (codes "\\t")
+    (codes "\\x" ++ hex_digit (byte / 16) ∷ hex_digit (byte % 16) ∷ [])))))
 
 -- a byte inside quotes
 abbrev pub quoted_byte : ℕ → List ℕ
@@ -39,10 +41,6 @@ abbrev pub truth_word : Bool → List ℕ
 truth_word true = codes "true"
 truth_word false = codes "false"
 
-abbrev pub minus_if : Bool → List ℕ
-minus_if true = codes "-"
-minus_if false = []
-
 -- the line of a value without members
 abbrev pub scalar_line : Scalar → List ℕ
 scalar_line Null = codes "null\n"
@@ -55,7 +53,7 @@ scalar_line (Bulk text) = string_line (codes "bulk") text
 scalar_line (BulkError text) = string_line (codes "bulkerror") text
 scalar_line (Verbatim format text) = codes "verbatim \"" ++ quoted_text format ++ codes "\" \"" ++ quoted_text text ++
     codes "\" " ++ decimal (length text) ++ codes "\n"
-scalar_line (Big negative digits) = codes "big " ++ minus_if negative ++ digits ++ codes "\n"
+scalar_line (Big negative digits) = codes "big " ++ sign_text (sign_of negative) ++ digits ++ codes "\n"
 
 abbrev pub kind_word : Kind → List ℕ
 kind_word Array = codes "array"
@@ -77,12 +75,12 @@ abbrev mutual
   lines_on level (aggregate k xs) = indentation level ++ kind_word k ++ codes "\n" ++ member_lines (suc level) xs ++
       indentation level ++ codes "end " ++ decimal (items_of k (count xs)) ++ codes "\n"
 
-  -- of members
+  -- the lines of members, one after another
   pub member_lines : ℕ → Data → List ℕ
   member_lines level none = []
   member_lines level (more x xs) = lines_on level x ++ member_lines level xs
 
-  -- of an attribute's keys and values, the word `of`, and the annotated value, which comes last
+  -- the lines of an attribute's keys and values, the word `of`, and those of the annotated value, which comes last
   pub annotating_lines : ℕ → Data → List ℕ
   annotating_lines level none = []
   annotating_lines level (more x none) = indentation level ++ codes "of\n" ++ lines_on (suc level) x
@@ -91,7 +89,3 @@ abbrev mutual
 -- the text of a value
 abbrev pub shown_text : Datum → List ℕ
 shown_text x = lines_on 0 x
-
--- the texts of values, one after another
-abbrev pub shown_texts : List Datum → List ℕ
-shown_texts xs = flat_map shown_text xs

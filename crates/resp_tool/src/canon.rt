@@ -1,17 +1,18 @@
 //! `canon`: each value of a stream again, in its one canonical spelling.
 
 ghost use Rattle.std.specs.Prelude.{◌≡◌, ◌+◌, ◌≤◌, [], Some, OnOk, IfErr, IfSome, IsErrOf};
-ghost use Rattle.resp_value.specs.Canonical.{canonical_text, Fits};
+ghost use Rattle.resp_value.specs.Canonical.{canonical_text};
 ghost use Rattle.resp_value.specs.Devices.{count_after, HasRisen};
-ghost use Rattle.resp_tool.specs.Canons.{render_error_of};
-ghost use Rattle.resp_tool.specs.Renders.{RendersAll, RendersFront, RendersPart, OnRefused, OnOverLimits, OnPart, IsRefusedRest, IsSomeRest, IsUnfitRest, stream_rules};
+ghost use Rattle.resp_tool.specs.Canons.{DoesNotFit, render_error_of};
+ghost use Rattle.resp_value.specs.Rules.{rules_under};
+ghost use Rattle.resp_tool.specs.Renders.{Renders, OnUnreadInput};
 
 use crate::input::{MOST_READS, read_all};
 use crate::render::{RenderError, Rendering, render_all};
 use crate::scalar_reader::Scalar;
 use crate::scalar_value::to_value;
-use crate::tool_error::{MOST_VALUES, ToolError};
-use resp_encode::{EncodeToError, encode_to};
+use crate::tool_error::ToolError;
+use resp_encode::{EncodeError, EncodeToError, encode_to};
 use resp_value::device::{Sink, Source};
 use resp_value::limits::Limits;
 use resp_value::version::Version;
@@ -28,8 +29,8 @@ struct Canonical<'a> {
 impl Rendering for Canonical<'_> {
     ghost text = { λ canonical. canonical_text canonical.version };
 
-    ghost refuses = { λ canonical x. Fits (stream_rules canonical.version canonical.limits.now) x →
-        ⊥ };
+    ghost refuses = { λ canonical.
+        DoesNotFit (rules_under canonical.version canonical.limits.now) };
 
     ghost takes_memory = { λ _. Unit {0} };
 
@@ -45,10 +46,8 @@ impl From<EncodeToError> for RenderError {
 
     fn from(error: EncodeToError) -> RenderError {
         match error {
-            EncodeToError::NotInVersion
-            | EncodeToError::NestedPush
-            | EncodeToError::OverLimits(_) => RenderError::OverLimits,
-            EncodeToError::OutOfMemory => RenderError::Memory,
+            EncodeToError::Refused(EncodeError::OutOfMemory) => RenderError::Memory,
+            EncodeToError::Refused(_) => RenderError::OverLimits,
             EncodeToError::Write { .. } => RenderError::Write,
         }
     }
@@ -69,28 +68,25 @@ pub fn canon<R: Source, W: Sink>(
     writer: &mut W,
 ) -> Result<(), ToolError>
     requires { (1 ≤ piece) × (piece ≤ 65536) }
-    ensures ok { OnOk result (IfSome (R.remaining reader.old) (λ input.
-        RendersAll (canonical_text version) (stream_rules version limits.now) input (W.written writer.old) (W.written writer.new) × (R.remaining reader.new ≡ Some []))) }
-    ensures refused { IfErr result (λ error. OnRefused error
-        (λ value cause at. IfSome (R.remaining reader.old) (λ input.
-        RendersFront (canonical_text version) (stream_rules version limits.now) input (W.written writer.old) (W.written writer.new) value (IsRefusedRest (stream_rules version limits.now))))) }
-    ensures over_limits { IfErr result (λ error. OnOverLimits error
-        (λ value. IfSome (R.remaining reader.old) (λ input.
-        RendersFront (canonical_text version) (stream_rules version limits.now) input (W.written writer.old) (W.written writer.new) value (IsUnfitRest (stream_rules version limits.now) (λ x. Fits (stream_rules version limits.now) x → ⊥))))) }
-    ensures too_many { IsErrOf result ToolError.TooManyValues →
-        IfSome (R.remaining reader.old) (λ input.
-        RendersFront (canonical_text version) (stream_rules version limits.now) input (W.written writer.old) (W.written writer.new) (MOST_VALUES + 1) IsSomeRest) }
+    // Where the reader tells its bytes: the text of each value at Ok; where a value is refused or
+    // over the limits, or is one too many, the texts of those before it; and where writing fails or
+    // memory is refused, a first part of them.
+    ensures texts_written { IfSome (R.remaining reader.old) (λ input.
+        Renders (canonical_text version) (rules_under version limits.now)
+        (DoesNotFit (rules_under version limits.now)) input
+        (W.written writer.old) (W.written writer.new) result) }
+    ensures read_to_its_end { OnOk result (IfSome (R.remaining reader.old) (λ input.
+        R.remaining reader.new ≡ Some [])) }
 
-    // A device or memory that failed.
-    ensures read { IsErrOf result ToolError.Read →
-        HasRisen (R.failures reader.old) (R.failures reader.new) × (writer.new ≡ writer.old) }
-    ensures turns { IsErrOf result ToolError.TooManyTurns →
-        (R.calls reader.new ≡ count_after MOST_READS (R.calls reader.old)) ×
-        (writer.new ≡ writer.old) }
-    ensures write { IsErrOf result ToolError.Write →
+    // A device that failed.
+    ensures reader_failed { IsErrOf result ToolError.Read →
+        HasRisen (R.failures reader.old) (R.failures reader.new) }
+    ensures reads_used_up { IsErrOf result ToolError.TooManyTurns →
+        R.calls reader.new ≡ count_after MOST_READS (R.calls reader.old) }
+    ensures writer_failed { IsErrOf result ToolError.Write →
         HasRisen (W.failures writer.old) (W.failures writer.new) }
-    ensures part { IfErr result (λ error. OnPart error (IfSome (R.remaining reader.old) (λ input.
-        RendersPart (canonical_text version) (stream_rules version limits.now) input (W.written writer.old) (W.written writer.new)))) }
+    ensures unread_writes_nothing { IfErr result (λ error.
+        OnUnreadInput error (writer.new ≡ writer.old)) }
 {
     let input = read_all(alloc, piece, reader)?;
     let canonical = Canonical {

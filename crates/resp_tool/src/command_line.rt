@@ -1,6 +1,6 @@
 //! The command line of the program.
 
-ghost use Rattle.std.specs.Prelude.{◌≡◌, ◌⊎◌, ◌≤◌, ◌<◌, ℕ, OnOk, IfErr};
+ghost use Rattle.std.specs.Prelude.{◌≡◌, ◌≢◌, ◌⊎◌, ◌≤◌, ◌<◌, ℕ, OnOk, IfErr};
 ghost use Rattle.resp_tool.specs.Faults.{status_of};
 ghost use Rattle.resp_tool.specs.Runs.{text_of, RendersStream, RendersStreamFront, RendersOfTask, RendersFrontOfTask};
 
@@ -16,6 +16,7 @@ use resp_value::limits::Limits;
 use resp_value::version::Version;
 use std::alloc::Global;
 use std::convert::AsStr;
+use std::io::ErrorKind as IoErrorKind;
 
 /// How many bytes one read asks for.
 const PIECE: usize = 4_096;
@@ -69,8 +70,8 @@ fn explain<W: Sink, F: Sink>(
     writer: &mut W,
     faults: &mut F,
 ) -> u8
-    ensures statuses { (result ≡ 0) ⊎ (2 ≤ result) × (result ≤ 3) }
-    ensures bad_arguments { result ≡ 2 → writer.new ≡ writer.old }
+    ensures never_one { (result ≡ 0) ⊎ (2 ≤ result) × (result ≤ 3) }
+    ensures bad_words_write_nothing { result ≡ 2 → writer.new ≡ writer.old }
 {
     let text = match format!(in alloc; "{error}") {
         Ok(text) => text,
@@ -96,6 +97,21 @@ fn stop<F: Sink>(error: &ToolError, faults: &mut F) -> u8
     error.status()
 }
 
+/// Says why the words of the command line can't be read, and answers the status: 2 where one is not
+/// UTF-8, and else 3, since memory was refused.
+pub fn refuse_words<F: Sink>(kind: IoErrorKind, faults: &mut F) -> u8
+    ensures two_where_not_text { kind ≡ IoErrorKind.InvalidData → result ≡ 2 }
+    ensures three_without_memory { kind ≢ IoErrorKind.InvalidData → result ≡ 3 }
+{
+    match kind {
+        IoErrorKind::InvalidData => {
+            let _ = write_text(faults, b"error: a word of the command line is not UTF-8\n");
+            BAD_ARGUMENTS
+        }
+        _ => stop(&ToolError::Memory, faults),
+    }
+}
+
 /// Writes what the task wants of each value of the stream, of version 2 under the default limits.
 fn run<R: Source, W: Sink>(
     alloc: Global,
@@ -103,9 +119,9 @@ fn run<R: Source, W: Sink>(
     reader: &mut R,
     writer: &mut W,
 ) -> Result<(), ToolError>
-    ensures well { OnOk result (RendersOfTask task (R.remaining reader.old) (W.written writer.old)
-        (W.written writer.new)) }
-    ensures refused { IfErr result (λ error. status_of error ≡ 1 →
+    ensures stream_written { OnOk result (RendersOfTask task (R.remaining reader.old)
+        (W.written writer.old) (W.written writer.new)) }
+    ensures front_written { IfErr result (λ error. status_of error ≡ 1 →
         RendersFrontOfTask task (R.remaining reader.old) (W.written writer.old)
         (W.written writer.new)) }
 {
@@ -129,12 +145,13 @@ pub fn command<S: AsStr, R: Source, W: Sink, F: Sink>(
     writer: &mut W,
     faults: &mut F,
 ) -> u8
-    ensures statuses { result ≤ 3 }
-    ensures well { result ≡ 0 → (reader.new ≡ reader.old) ⊎
+    ensures at_most_three { result ≤ 3 }
+    ensures all_at_zero { result ≡ 0 → (reader.new ≡ reader.old) ⊎
         RendersStream (R.remaining reader.old) (W.written writer.old) (W.written writer.new) }
-    ensures refused { result ≡ 1 → RendersStreamFront (R.remaining reader.old)
+    ensures front_at_one { result ≡ 1 → RendersStreamFront (R.remaining reader.old)
         (W.written writer.old) (W.written writer.new) }
-    ensures bad_arguments { result ≡ 2 → (reader.new ≡ reader.old) × (writer.new ≡ writer.old) }
+    ensures nothing_at_two { result ≡ 2 →
+        (reader.new ≡ reader.old) × (writer.new ≡ writer.old) }
 {
     let task = match parse(alloc, words) {
         Ok(task) => task,

@@ -18,13 +18,13 @@ pub fn read_all<R: Source>(
     reader: &mut R,
 ) -> Result<Vec<u8>, ToolError>
     requires { 1 ≤ piece }
-    ensures all { IfOk result (λ bytes. ReadsAll (R.remaining reader.old) (R.remaining reader.new)
-        bytes.items) }
-    ensures read { IsErrOf result ToolError.Read →
+    ensures whole_input { IfOk result (λ bytes.
+        ReadsAll (R.remaining reader.old) (R.remaining reader.new) bytes.items) }
+    ensures reader_failed { IsErrOf result ToolError.Read →
         HasRisen (R.failures reader.old) (R.failures reader.new) }
-    ensures turns { IsErrOf result ToolError.TooManyTurns →
+    ensures reads_used_up { IsErrOf result ToolError.TooManyTurns →
         R.calls reader.new ≡ count_after MOST_READS (R.calls reader.old) }
-    ensures others { IfErr result IsReadError }
+    ensures no_other_error { IfErr result IsReadError }
 {
     let mut bytes = Vec::new(alloc);
     let mut buffer = vec![in alloc; 0u8; piece]?;

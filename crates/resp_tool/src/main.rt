@@ -15,6 +15,7 @@ mod text;
 mod tool_error;
 
 use resp_value::device::Device;
+use std::env;
 use std::io::{self, BufWriter, Write};
 use std::process::ExitCode;
 
@@ -23,10 +24,16 @@ const DEVICE_FAILED: u8 = 3;
 
 fn main(rt: HostRuntime) -> io::Result<ExitCode> {
     let alloc = rt.alloc();
-    let words: Vec<String> = std::env::args(&rt)?.collect(alloc)?;
+    let mut faults = Device::new(rt.stderr());
+    let words: Vec<String> = match env::args(&rt) {
+        Ok(words) => words.collect(alloc)?,
+        Err(error) => {
+            let status = command_line::refuse_words(error.kind(), &mut faults);
+            return Ok(ExitCode::from(status));
+        }
+    };
     let mut reader = Device::new(rt.stdin());
     let mut writer = Device::new(BufWriter::new(alloc, rt.stdout())?);
-    let mut faults = Device::new(rt.stderr());
     let status = command_line::command(
         alloc,
         words.as_slice(),

@@ -5,7 +5,8 @@ ghost use Rattle.resp_value.specs.Data.{Datum};
 ghost use Rattle.resp_value.specs.Devices.{HasRisen};
 ghost use Rattle.resp_value.specs.Canonical.{IsScalarValue};
 ghost use Rattle.resp_tool.specs.Scalars.{scalar_data, scalar_datum};
-ghost use Rattle.resp_tool.specs.Renders.{RendersText, RendersAll, RendersFront, RendersPart, OnRefused, OnOverLimits, OnPart, IsRefusedRest, IsSomeRest, IsUnfitRest, IsRenderingError, stream_rules};
+ghost use Rattle.resp_value.specs.Rules.{rules_under};
+ghost use Rattle.resp_tool.specs.Renders.{Renders, RendersText, IsRenderingError};
 
 use crate::scalar_reader::{Scalar, read_scalar};
 use crate::tool_error::{MOST_VALUES, ToolError};
@@ -73,23 +74,14 @@ pub fn render_all<T: Rendering, W: Sink>(
     input: &[u8],
     writer: &mut W,
 ) -> Result<(), ToolError>
-    ensures ok { OnOk result (RendersAll (T.text rendering.now) (stream_rules version limits.now)
-        input.now (W.written writer.old) (W.written writer.new)) }
-    ensures refused { IfErr result (λ error. OnRefused error (λ value cause at.
-        RendersFront (T.text rendering.now) (stream_rules version limits.now) input.now (W.written writer.old) (W.written writer.new) value (IsRefusedRest (stream_rules version limits.now)))) }
-    ensures over_limits { IfErr result (λ error. OnOverLimits error (λ value.
-        RendersFront (T.text rendering.now) (stream_rules version limits.now) input.now (W.written writer.old) (W.written writer.new) value (IsUnfitRest (stream_rules version limits.now) (T.refuses rendering.now)))) }
-    ensures too_many { IsErrOf result ToolError.TooManyValues →
-        RendersFront (T.text rendering.now) (stream_rules version limits.now) input.now (W.written writer.old) (W.written writer.new) (MOST_VALUES + 1) IsSomeRest }
+    ensures texts_written { Renders (T.text rendering.now) (rules_under version limits.now)
+        (T.refuses rendering.now) input.now (W.written writer.old) (W.written writer.new) result }
 
     // The writer or memory failed.
-    ensures write { IsErrOf result ToolError.Write →
+    ensures writer_failed { IsErrOf result ToolError.Write →
         HasRisen (W.failures writer.old) (W.failures writer.new) }
-    ensures memory { IsErrOf result ToolError.Memory → T.takes_memory rendering.now }
-    ensures part { IfErr result (λ error. OnPart error
-        (RendersPart (T.text rendering.now) (stream_rules version limits.now) input.now
-        (W.written writer.old) (W.written writer.new))) }
-    ensures others { IfErr result IsRenderingError }
+    ensures memory_taken { IsErrOf result ToolError.Memory → T.takes_memory rendering.now }
+    ensures nothing_read { IfErr result IsRenderingError }
 {
     // No spelling is empty, so each value leaves less, and where nothing is left no value is.
     laws::no_spelling_is_empty();

@@ -6,7 +6,7 @@ ghost use Rattle.resp_value.specs.Numbers.{IsDigit, IsNumber, is_minus};
 ghost use Rattle.resp_value.specs.Signs.{sign_at, unsigned_part};
 ghost use Rattle.resp_value.specs.Canonical.{IsScalarValue};
 ghost use Rattle.resp_value.specs.Spellings.{IsSpelling};
-ghost use Rattle.resp_tool.specs.Scalars.{scalar_data, scalar_datum, SaysInteger, greatest_size, with_sign, SaysBulk, SaysLeaf, BeginsWithNoLine, BeginsWithNoNumber, BeginsWithNo, BeginsWithNoEnd, BeginsWithNoInteger, BeginsWithNoBulk, BeginsWithNoLeaf, BeginsWithNoScalar};
+ghost use Rattle.resp_tool.specs.Scalars.{scalar_data, scalar_datum, SaysInteger, greatest_size, integer_of_size, SaysBulk, SaysLeaf, BeginsWithNoLine, BeginsWithNoNumber, BeginsWithNo, BeginsWithNoEnd, BeginsWithNoInteger, BeginsWithNoBulk, BeginsWithNoLeaf, BeginsWithNoScalar};
 
 use crate::tool_error::ToolError;
 use memchr::memchr2;
@@ -136,7 +136,7 @@ fn most_size(negative: bool) -> u64
 /// The integer of this sign and size.
 fn signed_integer(negative: bool, size: u64) -> i64
     requires { size ≤ greatest_size negative }
-    ensures { result ≡ with_sign negative size }
+    ensures { result ≡ integer_of_size negative size }
 {
     if !negative {
         size as i64
@@ -218,7 +218,8 @@ fn null_or_bulk(most: u64, input: &[u8]) -> Result<(Scalar<'_>, &[u8]), Refusal>
 /// bytes.
 fn leaf(most: u64, input: &[u8]) -> Result<(Scalar<'_>, &[u8]), Refusal>
     requires { (10 ≤ most) × (most ≤ 9223372036854775808) }
-    ensures found { IfOk result (λ found. SaysLeaf most (scalar_data found.0) input.now found.1.now) }
+    ensures found { IfOk result (λ found.
+        SaysLeaf most (scalar_data found.0) input.now found.1.now) }
     ensures refused { IfErr result (λ refusal. BeginsWithNoLeaf most input.now) }
     ensures left { IfErr result (λ refusal. refusal.left ≤ length input.now) }
 {

@@ -3,13 +3,14 @@
 ghost use Rattle.std.specs.Prelude.{◌≡◌, ◌+◌, ◌≤◌, [], Some, OnOk, IfErr, IfSome, IsErrOf};
 ghost use Rattle.resp_value.specs.Devices.{count_after, HasRisen};
 ghost use Rattle.resp_tool.specs.Shown.{shown_text};
-ghost use Rattle.resp_tool.specs.Renders.{RendersAll, RendersFront, RendersPart, OnRefused, OnUnread, IsRefusedRest, IsSomeRest, IsShowError, stream_rules};
+ghost use Rattle.resp_value.specs.Rules.{rules_under};
+ghost use Rattle.resp_tool.specs.Renders.{Renders, OnUnreadInput, IsShowError};
 
 use crate::input::{MOST_READS, read_all};
 use crate::render::{RenderError, Rendering, render_all};
 use crate::scalar_reader::Scalar;
 use crate::shown::write_scalar;
-use crate::tool_error::{MOST_VALUES, ToolError};
+use crate::tool_error::ToolError;
 use resp_value::device::{Sink, Source};
 use resp_value::limits::Limits;
 use resp_value::version::Version;
@@ -46,26 +47,26 @@ pub fn show<R: Source, W: Sink>(
     writer: &mut W,
 ) -> Result<(), ToolError>
     requires { (1 ≤ piece) × (piece ≤ 65536) }
-    ensures ok { OnOk result (IfSome (R.remaining reader.old) (λ input.
-        RendersAll shown_text (stream_rules version limits.now) input (W.written writer.old) (W.written writer.new) × (R.remaining reader.new ≡ Some []))) }
-    ensures refused { IfErr result (λ error. OnRefused error
-        (λ value cause at. IfSome (R.remaining reader.old) (λ input.
-        RendersFront shown_text (stream_rules version limits.now) input (W.written writer.old) (W.written writer.new) value (IsRefusedRest (stream_rules version limits.now))))) }
-    ensures too_many { IsErrOf result ToolError.TooManyValues →
-        IfSome (R.remaining reader.old) (λ input.
-        RendersFront shown_text (stream_rules version limits.now) input (W.written writer.old) (W.written writer.new) (MOST_VALUES + 1) IsSomeRest) }
+    // Where the reader tells its bytes: the line of each value at Ok; where a value is refused, or
+    // is one too many, the lines of those before it; where writing fails, a first part of them.
+    ensures lines_written { IfSome (R.remaining reader.old) (λ input.
+        Renders shown_text (rules_under version limits.now) (λ _. ⊥) input
+        (W.written writer.old) (W.written writer.new) result) }
+    ensures read_to_its_end { OnOk result (IfSome (R.remaining reader.old) (λ input.
+        R.remaining reader.new ≡ Some [])) }
+    ensures never_over_limits { IfErr result IsShowError }
 
     // A device or memory that failed.
-    ensures read { IsErrOf result ToolError.Read →
+    ensures reader_failed { IsErrOf result ToolError.Read →
         HasRisen (R.failures reader.old) (R.failures reader.new) }
-    ensures turns { IsErrOf result ToolError.TooManyTurns →
+    ensures reads_used_up { IsErrOf result ToolError.TooManyTurns →
         R.calls reader.new ≡ count_after MOST_READS (R.calls reader.old) }
-    ensures write { IsErrOf result ToolError.Write →
+    ensures writer_failed { IsErrOf result ToolError.Write →
         HasRisen (W.failures writer.old) (W.failures writer.new) }
-    ensures part { IsErrOf result ToolError.Write → IfSome (R.remaining reader.old) (λ input.
-        RendersPart shown_text (stream_rules version limits.now) input (W.written writer.old) (W.written writer.new)) }
-    ensures unread { IfErr result (λ error. OnUnread error (writer.new ≡ writer.old)) }
-    ensures others { IfErr result IsShowError }
+    ensures unread_writes_nothing { IfErr result (λ error.
+        OnUnreadInput error (writer.new ≡ writer.old)) }
+    ensures no_memory_writes_nothing { IsErrOf result ToolError.Memory →
+        writer.new ≡ writer.old }
 {
     let input = read_all(alloc, piece, reader)?;
     render_all(&Lines, version, limits, input.as_slice(), writer)

@@ -9,7 +9,7 @@ use Rattle.resp_fronts.specs.Events.{without_places, events}
 use Rattle.resp_fronts.specs.Events as e
 use Rattle.resp_scan.specs.declared.frame.Frame.{Frame}
 use Rattle.resp_scan.specs.Machine.Tokens as k
-use Rattle.resp_scan.specs.Machine.Tokens.{Happening, Place, Token, after_end, at, AtStart, AtEnd, InLine, AtLineLf, AtIntSign, AtIntFirst, InInt, AtIntLf, AtBigSign, AtBigFirst, InBigZeros, AtBigZeroLf, AtBigDigit, InBig, AtTextEnd, AtNullOne, AtNullCr, AtNullLf, AtBool, AtBoolCr, AtBoolLf, AtBulkHead, AtArrayHead, AtHead, InHead, AtHeadLf, AtFormat, AtFormatSecond, AtFormatThird, AtFormatColon, InContent, AtContentCr, AtContentLf, AtStreamCr, AtStreamLf, AtChunk, InChunk, AtChunkCr, AtChunkLf, AtOpenCr, AtOpenLf, AtCloseCr, AtCloseLf, Dead}
+use Rattle.resp_scan.specs.Machine.Tokens.{Happening, Place, Token, at_boundary, at, AtStart, AtEnd, InLine, AtLineLf, AtIntSign, AtIntFirst, InInt, AtIntLf, AtBigSign, AtBigFirst, InBigZeros, AtBigZeroLf, AtBigDigit, InBig, AtTextEnd, AtNullOne, AtNullCr, AtNullLf, AtBool, AtBoolCr, AtBoolLf, AtBulkHead, AtArrayHead, AtHead, InHead, AtHeadLf, AtFormat, AtFormatSecond, AtFormatThird, AtFormatColon, InContent, AtContentCr, AtContentLf, AtStreamCr, AtStreamLf, AtChunk, InChunk, AtChunkCr, AtChunkLf, AtOpenCr, AtOpenLf, AtCloseCr, AtCloseLf, Dead}
 use Rattle.resp_scan.specs.Machine.Scan.{Out, More, Gave, Part, Whole, Bad, out_from, out_from_token, out_at_end, scan}
 use Rattle.resp_scan.specs.Kinds.{content_events, event_of, rules_of}
 use Rattle.resp_scan.specs.Machine.Sound.{IsSound}
@@ -59,7 +59,7 @@ at_top r = record { frames = []; begun = tt; of_levels = tt; ready = tt; whole =
 closed : (s : Place) (fs : List Frame) (front : List ℕ) (es : List e.Event) (p : List ℕ) → HasEnded (rules_of s) fs front es →
     Answered (rules_of s) front es p (out_at_end (record s { token = AtEnd; frames = fs }) fs)
 closed s [] front es p w = (w, at_top (rules_of s))
-closed s (x ∷ fs) front es p w = gives_owed (rules_of s) front es p k.Close (after_end (record s { token = AtEnd; frames = fs }))
+closed s (x ∷ fs) front es p w = gives_owed (rules_of s) front es p k.Close (at_boundary (record s { token = AtEnd; frames = fs }))
     (close_is_owed s x fs front es w)
 
 scanned : (s : Place) (front : List ℕ) (es : List e.Event) (p : List ℕ) → IsText p → IsSound s → s.taken ≡ length front → StandsAfter s front es →
@@ -75,7 +75,7 @@ inside t e h = absurd (false≢true (sym e ∙ h))
 answered_at : (t : Token) (s : Place) (front : List ℕ) (es : List e.Event) (p : List ℕ) → IsText p → IsSound (at s t) → s.taken ≡ length front →
     StandsAfter (at s t) front es → Answered (rules_of s) front es p (out_from_token t (at s t) p)
 answered_at AtEnd s front es p text sound taken w = closed s s.frames front es p w
-answered_at AtTextEnd s front es p text sound taken w = gives_owed (rules_of s) front es p k.TextEnd (after_end s) (text_end_is_owed s front es w)
+answered_at AtTextEnd s front es p text sound taken w = gives_owed (rules_of s) front es p k.TextEnd (at_boundary s) (text_end_is_owed s front es w)
 answered_at (AtBigDigit digit room) s front es p text sound taken w =
     gives_owed (rules_of s) front es p (k.Digit digit) (at s (InBig room)) (big_digit_is_owed s digit room front es w)
 answered_at (Dead c) s front es p text sound taken w = absurd w.took

@@ -111,7 +111,7 @@ front_or_behind s front es c w = behind_at s.token s front es c w
 
 -- a scanner stands between two values exactly where no byte of a value was taken
 pub between_values : (s : Place) (front : List ℕ) (es : List e.Event) → IsSound s → HasRead s front es → ((s.token ≡ AtStart) × (s.frames ≡ [])) ↔ (front ≡ [])
-between_values s front es c w = (λ h. none_taken s.token s.frames h.0 h.1 w.lies, λ e. case e (front_or_behind s front es c w.lies))
+between_values s front es c w = (λ h. none_taken s.token s.frames h.0 h.1 w.stands, λ e. case e (front_or_behind s front es c w.stands))
   where
     none_taken : (t : Token) (fs : List Frame) → t ≡ AtStart → fs ≡ [] → StandsAfterAt (rules_of s) t fs front es → front ≡ []
     none_taken t fs e d l = top (subst (λ x. AwaitsMember (rules_of s) x front es) d (subst (λ x. StandsAfterAt (rules_of s) x fs front es) e l))
@@ -130,7 +130,7 @@ between_values s front es c w = (λ h. none_taken s.token s.frames h.0 h.1 w.lie
 -- a place that waits for a value at the top has read nothing
 pub follows_none : (s : Place) → s.token ≡ AtStart → s.frames ≡ [] → s.taken ≡ 0 → HasRead s [] []
 follows_none s e d z = record {
-  lies = subst (λ x. StandsAfterAt (rules_of s) x s.frames [] []) (sym e)
+  stands = subst (λ x. StandsAfterAt (rules_of s) x s.frames [] []) (sym e)
       (subst (λ x. AwaitsMember (rules_of s) x [] []) (sym d) (record { frames = []; begun = tt; of_levels = tt; ready = tt; whole = refl; told = refl }));
   taken = z;
 }
@@ -139,7 +139,7 @@ follows_none s e d z = record {
 
 spelled_where_none : (s : Place) (front : List ℕ) (es : List e.Event) → IsSound s → HasRead s front es → needed s ≡ 0 → IsSpelled (rules_of s) front
 spelled_where_none s front es c w none =
-    let least = least_is_needed s 0 front es c w.lies in
+    let least = least_is_needed s 0 front es c w.stands in
     let h = least.holds in
     let empty : front ++ least.some ≡ front = ap (λ z. front ++ z) (none-of-length least.some (least.size ∙ none)) ∙ append-nil front in
     record {
@@ -150,7 +150,7 @@ spelled_where_none s front es c w none =
 
 none_where_spelled : (s : Place) (front : List ℕ) (es : List e.Event) → IsSound s → HasRead s front es → IsSpelled (rules_of s) front → needed s ≡ 0
 none_where_spelled s front es c w x =
-    let least = least_is_needed s 0 front es c w.lies in
+    let least = least_is_needed s 0 front es c w.stands in
     let h = least.holds in
     let u = unique x.tree h.tree least.some [] x.spells.is_tree h.spells.is_tree (ap (λ z. z ++ least.some) x.spells.spelled ∙ sym h.spells.spelled ∙
     sym (append-nil (text h.tree))) in
@@ -171,7 +171,7 @@ end_at (Dead c) s h = absurd (h c refl)
 end_at t s h = refl
 
 end_is : (s : Place) (front : List ℕ) (es : List e.Event) → HasRead s front es → end_cause s ≡ ends_by s
-end_is s front es w = end_at s.token s (λ c e. alive s front es c w.lies e)
+end_is s front es w = end_at s.token s (λ c e. alive s front es c w.stands e)
 
 -- the end is refused exactly inside a value
 pub end_told : (s : Place) (front : List ℕ) (es : List e.Event) → IsSound s → HasRead s front es → (MayEnd (rules_of s) front → end_cause s ≡ None) ×
@@ -296,4 +296,4 @@ changed (Err x) s t version front es sound between is w = tt
 
 -- the events given are the first of those due
 pub begin_due : (s : Place) (front : List ℕ) (es : List e.Event) → IsSound s → HasRead s front es → BeginDue front es
-begin_due s front es sound w rest whole spells = (events_owed s, events_are_due s 0 front es sound w.lies rest whole spells)
+begin_due s front es sound w rest whole spells = (events_owed s, events_are_due s 0 front es sound w.stands rest whole spells)

@@ -24,7 +24,7 @@ pub record RefusedAt (r : Rules) (front : List ℕ) (es : List Event) (byte used
   pub rules : rules_of before ≡ r
   pub sound : IsSoundBy used before
   pub taken : length front ≡ before.taken + used
-  pub lies : StandsAfter before front es
+  pub stands : StandsAfter before front es
   pub looked : IsLookedAt before.token used
   pub cause : IsRefusedFor r (front ++ byte ∷ []) c
 
@@ -180,7 +180,7 @@ came_move (Refuse x) r i s front es b bs q c w at_front m l f g =
             rules = q;
             sound = c.sound;
             taken = c.taken;
-            lies = w;
+            stands = w;
             looked = at_front;
             cause =
                 subst (λ z. IsRefusedFor z (front ++ b ∷ []) x) q l;

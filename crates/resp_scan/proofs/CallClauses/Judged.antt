@@ -15,7 +15,7 @@ use Rattle.resp_scan.specs.declared.frame.Frame.{Frame}
 use Rattle.resp_scan.specs.declared.frame.Shape.{Shape}
 use Rattle.resp_scan.specs.declared.frame.Shape.TheVariants.{Left, Begun}
 use Rattle.resp_scan.specs.Machine.Scan.{out_from, out_at_end}
-use Rattle.resp_scan.specs.Machine.Tokens.{Byte, Give, Go, Move, Place, Refuse, Token, at, after_end, token_within, AtStart, AtEnd, AtBigDigit, AtTextEnd, Dead, InBig}
+use Rattle.resp_scan.specs.Machine.Tokens.{Byte, Give, Go, Move, Place, Refuse, Token, at, at_boundary, token_at_boundary, AtStart, AtEnd, AtBigDigit, AtTextEnd, Dead, InBig}
 use Rattle.resp_scan.specs.Machine.Moves.{next}
 use Rattle.resp_scan.specs.Machine.StepOutcomes.{after_bytes}
 use Rattle.resp_scan.specs.Kinds.{event_of, rules_of}
@@ -37,7 +37,7 @@ record Stands (r : Rules) (s : Place) (front : List ℕ) : Type 0 where
   pub rules : rules_of s ≡ r
   pub taken : s.taken ≡ length front
   pub events : List e.Event
-  pub lies : StandsAfter s front events
+  pub stands : StandsAfter s front events
 
 -- nothing is owed: a byte is looked at, or a value is whole at the top
 record Settled (r : Rules) (front : List ℕ) : Type 0 where
@@ -68,7 +68,7 @@ judged_more : (r : Rules) (front : List ℕ) (b : ℕ) (bs : List ℕ) → Judge
 judged_more r front b bs h = subst (Judged r) (append_assoc front (b ∷ []) bs) h
 
 followed : (r : Rules) (s : Place) (front : List ℕ) → Stands r s front → IsViable r WithinTotal front
-followed r s front w = subst (λ x. IsViable x WithinTotal front) w.rules (followed_is_viable s 0 front w.events w.sound (omega (arith, w.taken)) w.lies)
+followed r s front w = subst (λ x. IsViable x WithinTotal front) w.rules (followed_is_viable s 0 front w.events w.sound (omega (arith, w.taken)) w.stands)
 
 -- What is owed.
 
@@ -77,18 +77,18 @@ looked_at_start h = (refl, refl)
 
 -- a counted aggregate closes, and with it each around it that it fills
 settle : (r : Rules) (fs : List Frame) (s : Place) (front : List ℕ) (es : List e.Event) → rules_of s ≡ r → s.taken ≡ length front →
-    IsSound (after_end (record s { frames = fs })) → StandsAfterAt (rules_of s) (token_within fs) fs front es → Settled r front
+    IsSound (at_boundary (record s { frames = fs })) → StandsAfterAt (rules_of s) (token_at_boundary fs) fs front es → Settled r front
 settle r [] s front es q t c w = record {
   place = record s { token = AtEnd; frames = [] };
   stands =
-      record { sound = c; rules = q; taken = t; events = es; lies = w };
+      record { sound = c; rules = q; taken = t; events = es; stands = w };
   open_or_whole = inr (subst (λ x. f.IsWholeValue x front es) q w);
 }
 settle r (x ∷ fs) s front es q t c w = by_shape x.shape c w (λ told d l. settle r fs s front told q t d l)
   where
-    by_shape : (shape : Shape) → IsSound (after_end (record s { frames = record x { shape = shape } ∷ fs })) →
-        StandsAfterAt (rules_of s) (token_within (record x { shape = shape } ∷ fs)) (record x { shape = shape } ∷ fs) front es →
-        ((told : List e.Event) → IsSound (after_end (record s { frames = fs })) → StandsAfterAt (rules_of s) (token_within fs) fs front told →
+    by_shape : (shape : Shape) → IsSound (at_boundary (record s { frames = record x { shape = shape } ∷ fs })) →
+        StandsAfterAt (rules_of s) (token_at_boundary (record x { shape = shape } ∷ fs)) (record x { shape = shape } ∷ fs) front es →
+        ((told : List e.Event) → IsSound (at_boundary (record s { frames = fs })) → StandsAfterAt (rules_of s) (token_at_boundary fs) fs front told →
         Settled r front) → Settled r front
     by_shape (Left zero) c w close =
         let p = record s { token = AtEnd; frames = record x { shape = Left 0 } ∷ fs } in
@@ -104,7 +104,7 @@ settle r (x ∷ fs) s front es q t c w = by_shape x.shape c w (λ told d l. sett
             rules = q;
             taken = t;
             events = es;
-            lies =
+            stands =
                 subst (λ v. StandsAfterAt (rules_of s) (cond v AtEnd AtStart) p.frames front es) z w;
           };
           open_or_whole = inl looked_at_start;
@@ -112,7 +112,7 @@ settle r (x ∷ fs) s front es q t c w = by_shape x.shape c w (λ told d l. sett
     by_shape (Begun n) c w close = record {
       place = record s { token = AtStart; frames = record x { shape = Begun n } ∷ fs };
       stands =
-          record { sound = c; rules = q; taken = t; events = es; lies = w };
+          record { sound = c; rules = q; taken = t; events = es; stands = w };
       open_or_whole = inl looked_at_start;
     }
 
@@ -124,14 +124,14 @@ settle_at AtStart r s front w = record { place = at s AtStart; stands = w; open_
 settle_at AtEnd r s front w = end_at s.frames w
   where
     end_at : (fs : List Frame) → Stands r (record s { token = AtEnd; frames = fs }) front → Settled r front
-    end_at [] w = settle r [] s front w.events w.rules w.taken w.sound w.lies
+    end_at [] w = settle r [] s front w.events w.rules w.taken w.sound w.stands
     end_at (x ∷ fs) w =
         let p = record s { token = AtEnd; frames = x ∷ fs } in
         let next_one : IsOut p (out_at_end p p.frames) = is_advanced p [] w.sound in
-        settle r fs s front (w.events ++ e.Close ∷ []) w.rules w.taken next_one.0.sound (close_is_owed s x fs front w.events w.lies)
+        settle r fs s front (w.events ++ e.Close ∷ []) w.rules w.taken next_one.0.sound (close_is_owed s x fs front w.events w.stands)
 settle_at AtTextEnd r s front w =
     let next_one : IsOut (at s AtTextEnd) (out_from (at s AtTextEnd) []) = is_advanced (at s AtTextEnd) [] w.sound in
-    settle r s.frames s front (w.events ++ e.TextEnd ∷ []) w.rules w.taken next_one.0.sound (text_end_is_owed s front w.events w.lies)
+    settle r s.frames s front (w.events ++ e.TextEnd ∷ []) w.rules w.taken next_one.0.sound (text_end_is_owed s front w.events w.stands)
 settle_at (AtBigDigit digit room) r s front w =
     let next_one : IsOut (at s (AtBigDigit digit room)) (out_from (at s (AtBigDigit digit room)) []) = is_advanced (at s (AtBigDigit digit room)) [] w.sound in
     settled_here r (at s (InBig room)) front (record {
@@ -140,9 +140,9 @@ settle_at (AtBigDigit digit room) r s front w =
       taken = w.taken;
       events =
           w.events ++ e.Byte digit ∷ [];
-      lies = big_digit_is_owed s digit room front w.events w.lies;
+      stands = big_digit_is_owed s digit room front w.events w.stands;
     }) refl
-settle_at (Dead c) r s front w = absurd w.lies.took
+settle_at (Dead c) r s front w = absurd w.stands.took
 settle_at token r s front w = settled_here r (at s token) front w refl
 
 -- One byte.
@@ -157,7 +157,7 @@ behind_whole r front es b w = grammar_cause r (front ++ b ∷ []) (λ rest c.
 
 stands_after : (r : Rules) (s t : Place) (front : List ℕ) (b : ℕ) (es : List e.Event) → Stands r s front → t.taken ≡ s.taken → rules_of t ≡ rules_of s →
     IsSoundBy 1 t → StandsAfter t (front ++ b ∷ []) es → Stands r (after_bytes 1 t) (front ++ b ∷ [])
-stands_after r s t front b es w same rules sound lies = record {
+stands_after r s t front b es w same rules sound stands = record {
   sound = record {
     bounds = sound.bounds;
     nested = sound.nested;
@@ -170,7 +170,7 @@ stands_after r s t front b es w same rules sound lies = record {
   rules = rules ∙ w.rules;
   taken = omega (arith, w.taken, same, length-append front (b ∷ []));
   events = es;
-  lies = lies;
+  stands = stands;
 }
 
 judge_move : (v : Move) (r : Rules) (s : Place) (front : List ℕ) (b : ℕ) (bs : List ℕ) → (w : Stands r s front) → IsMove 1 s v → Leads s front w.events b v →
@@ -188,7 +188,7 @@ judge_byte : (r : Rules) (s : Place) (front : List ℕ) (b : ℕ) (bs : List ℕ
     Judged r (front ++ b ∷ bs)
 judge_byte r s front b bs is_byte w (inl looked) f =
     judge_move (next s 1 b) r s front b bs w (is_move s.token s 0 b w.sound (λ h. refl))
-    (each_leads s.token s 0 b front w.events is_byte (record { sound = w.sound; taken = omega (arith, w.taken) }) looked w.lies) f
+    (each_leads s.token s 0 b front w.events is_byte (record { sound = w.sound; taken = omega (arith, w.taken) }) looked w.stands) f
 judge_byte r s front b bs is_byte w (inr whole) f = inr (fault_here r front b bs Grammar (followed r s front w) (behind_whole r front w.events b whole))
 
 -- Every byte.
@@ -217,7 +217,7 @@ every_text_is_judged r whole bounds bytes = one (judge r (record {
       rules = refl;
       taken = refl;
       events = [];
-      lies = record { frames = []; begun = tt; of_levels = tt; ready = tt; whole = refl; told = refl };
+      stands = record { frames = []; begun = tt; of_levels = tt; ready = tt; whole = refl; told = refl };
     }
 
     one : Judged r whole → IsViable r WithinTotal whole ⊎ HasOneFault r whole

@@ -1,6 +1,7 @@
 -- The contract of a step in words of texts and trees.
-use Rattle.std.specs.Prelude.{Bool, true, false, take, drop, get_or, eqb, Option, None, Some, Result, Ok, Err, IfOk, IfErr}
-use Rattle.std.proofs.Common.{◌≡◌, ℕ, ◌+◌, ◌-◌, ◌<◌, ◌≤◌, List, [], ◌∷◌, ◌++◌, length, refl, sym, ap, subst, ◌∙◌, arith, append_assoc, append-nil, length-append}
+use Rattle.std.specs.Prelude.{Bool, true, false, cond, nat_lt, take, drop, get_or, eqb, Option, None, Some, Result, Ok, Err, IfOk, IfErr, IfNone}
+use Rattle.std.proofs.Common.{◌≡◌, ℕ, ◌+◌, ◌-◌, ◌*◌, ◌<◌, ◌≤◌, List, [], ◌∷◌, ◌++◌, length, refl, sym, ap, subst, ◌∙◌, arith, append_assoc, append-nil, length-append}
+use Rattle.std.proofs.lemmas.Bool.{false≢true}
 use Rattle.std.proofs.lemmas.Grind.{common_steps}
 use Rattle.resp_value.specs.Bytes.{IsText}
 use Rattle.resp_value.specs.Trees.{text}
@@ -17,8 +18,9 @@ use Rattle.resp_scan.specs.declared.event.Event.TheVariants as event
 use Rattle.resp_scan.specs.declared.event.Step.{Step}
 use Rattle.resp_scan.specs.declared.event.Fault.{Fault}
 use Rattle.resp_scan.specs.declared.frame.Frame.{Frame}
-use Rattle.resp_scan.specs.Machine.Tokens.{Place, Token, AtStart, AtEnd, AtBigDigit, AtTextEnd, Dead}
-use Rattle.resp_scan.specs.Machine.Scan.{Out, More, Gave, Part, Whole, Bad, out_from}
+use Rattle.resp_scan.specs.Machine.Tokens as k
+use Rattle.resp_scan.specs.Machine.Tokens.{Happening, Place, Token, at_boundary, at, AtStart, AtEnd, InLine, AtLineLf, AtIntSign, AtIntFirst, InInt, AtIntLf, AtBigSign, AtBigFirst, InBigZeros, AtBigZeroLf, AtBigDigit, InBig, AtTextEnd, AtNullOne, AtNullCr, AtNullLf, AtBool, AtBoolCr, AtBoolLf, AtBulkHead, AtArrayHead, AtHead, InHead, AtHeadLf, AtFormat, AtFormatSecond, AtFormatThird, AtFormatColon, InContent, AtContentCr, AtContentLf, AtStreamCr, AtStreamLf, AtChunk, InChunk, AtChunkCr, AtChunkLf, AtOpenCr, AtOpenLf, AtCloseCr, AtCloseLf, Dead}
+use Rattle.resp_scan.specs.Machine.Scan.{Out, More, Gave, Part, Whole, Bad, out_from, out_from_token, out_at_end, scan}
 use Rattle.resp_scan.specs.Parts.{IsPartOf, IsOfPiece, IsRun}
 use Rattle.resp_scan.specs.Machine.StepOutcomes.{out_of_step, out_of_event, out_of_part, after_step}
 use Rattle.resp_scan.specs.Kinds.{IsRefusedFor, content_events, event_of, rules_of}
@@ -26,7 +28,9 @@ use Rattle.resp_scan.specs.Machine.Sound.{IsSound, IsSoundBy, needed, token_need
 use Rattle.resp_scan.specs.Machine.Owed.{events_owed_at}
 use Rattle.resp_scan.specs.Machine.Standing as f
 use Rattle.resp_scan.specs.Machine.Standing.{AwaitsMember, HasCountsOf, HasEnded, StandsAfter, StandsAfterAt}
-use Rattle.resp_scan.specs.Reading.{AreDue, HasRead, Heard, HasNoValue, IsRefused, IsValue, Stepped, events_of}
+use Rattle.resp_scan.specs.Reading.{AreDue, EndsValue, HasNoValue, HasRead, IfDone, IfNoEvent, IfOtherEvent, IsRefused, IsValue, OnDone, OnOtherEvent, UsesUp, events_of}
+use Rattle.resp_scan.proofs.DueEvents.GivenCounts.{no_done_given}
+use Rattle.resp_scan.proofs.CallClauses.NoValue.{no_spelling, no_value}
 use Rattle.resp_scan.proofs.TokenMoves.EachLeads.{IsLookedAt}
 use Rattle.resp_scan.proofs.DueEvents.EventsDue.{events_are_due}
 use Rattle.resp_scan.proofs.CallClauses.Heard.{RefusedAt}
@@ -35,10 +39,9 @@ use Rattle.resp_scan.proofs.Soundness.Kept.{IsOut, is_advanced}
 use Rattle.resp_scan.proofs.CallClauses.LeastNeeded.{least_is_needed, followed_is_viable}
 use Rattle.resp_scan.proofs.Soundness.Counted.{sound_counted}
 use Rattle.resp_scan.proofs.CallClauses.Answered.{Answered, answered}
-use Rattle.resp_scan.proofs.CallClauses.SomeNeeded.{some_needed, is_inside}
 
 -- with the bytes that a step counts
-abbrev Shown : Place → List ℕ → List e.Event → List ℕ → Out → Type 0
+abbrev pub Shown : Place → List ℕ → List e.Event → List ℕ → Out → Type 0
 Shown s front es p (More n t) = (n ≡ length p) × (t.taken ≡ s.taken + n) × IsSound t × (rules_of t ≡ rules_of s) × IsLookedAt t.token n ×
     StandsAfter t (front ++ p) es
 Shown s front es p (Gave n happening t) = (n ≤ length p) × (t.taken ≡ s.taken + n) × StandsAfter t (front ++ take n p) (es ++ event_of happening ∷ [])
@@ -48,7 +51,7 @@ Shown s front es p (Whole t) = (t.taken ≡ 0) × f.IsWholeValue (rules_of s) fr
 Shown s front es p (Bad n c t) = (t.taken ≡ s.taken + n) × (n < length p) × (byte : ℕ) × (rest : List ℕ) × (p ≡ take n p ++ byte ∷ rest) ×
     RefusedAt (rules_of s) (front ++ take n p) es byte n c
 
-shown : (s : Place) (front : List ℕ) (es : List e.Event) (p : List ℕ) (o : Out) → IsOut s o → Answered (rules_of s) front es p o →
+pub shown : (s : Place) (front : List ℕ) (es : List e.Event) (p : List ℕ) (o : Out) → IsOut s o → Answered (rules_of s) front es p o →
     Shown s front es p (after_step o)
 shown s front es p (More n t) h a = (a.0, ap (λ x. x + n) h.taken, sound_counted t n h.sound, h.rules, a.1, a.2)
 shown s front es p (Gave n x t) h a = (a.0, ap (λ x. x + n) h.0.taken, a.1)
@@ -56,10 +59,10 @@ shown s front es p (Part k n t) h a = (a.0, a.1, ap (λ x. x + n) h.taken, a.2)
 shown s front es p (Whole t) h a = (h.1, a.0, a.1)
 shown s front es p (Bad n c t) h (within, byte, rest, parts, w) = (ap (λ x. x + n) h.0.taken, within, byte, rest, parts, w)
 
-follows : (s t : Place) (front : List ℕ) (es : List e.Event) (p : List ℕ) (n : ℕ) → s.taken ≡ length front → n ≤ length p → t.taken ≡ s.taken + n →
+pub follows : (s t : Place) (front : List ℕ) (es : List e.Event) (p : List ℕ) (n : ℕ) → s.taken ≡ length front → n ≤ length p → t.taken ≡ s.taken + n →
     StandsAfter t (front ++ take n p) es → HasRead t (front ++ take n p) es
 follows s t front es p n taken within counts w = record {
-  lies = w;
+  stands = w;
   taken =
       omega (arith, taken, counts, length-append front (take n p), length-front n p (omega (arith, within)));
 }
@@ -80,7 +83,7 @@ part_heard false s t front es p q n taken run h = follows s t front (es ++ conte
 -- Values.
 
 -- a whole value within total is within all rules
-value_is : (s : Place) (front : List ℕ) (es : List e.Event) → length front ≤ s.bounds.total → f.IsWholeValue (rules_of s) front es →
+pub value_is : (s : Place) (front : List ℕ) (es : List e.Event) → length front ≤ s.bounds.total → f.IsWholeValue (rules_of s) front es →
     IsValue (rules_of s) front es
 value_is s front es fits w = record {
   tree = w.tree;
@@ -88,23 +91,6 @@ value_is s front es fits w = record {
   keeps = all_rules (rules_of s) w.tree ((keeps_locally (rules_of s) WithinItems w.tree (omega arith)).1 w.keep) (omega (arith, fits, ap length w.whole));
   told = w.told;
 }
-
--- bytes that something must follow spell nothing, and no front of theirs that ends in the piece does
-no_value : (r : Rules) (front piece : List ℕ) (needed : ℕ) → IsLeast r (front ++ piece) needed → 0 < needed → HasNoValue front piece
-no_value r front piece needed least some n tree within spells =
-    let h = least.holds in
-    let rest = drop (n + 1) piece in
-    let parts : (front ++ take (n + 1) piece) ++ (rest ++ least.some) ≡ (front ++ piece) ++ least.some =
-    append_assoc front (take (n + 1) piece) (rest ++ least.some) ∙
-    ap (λ z. front ++ z) (sym (append_assoc (take (n + 1) piece) rest least.some) ∙ ap (λ z. z ++ least.some) (whole_piece (n + 1) piece)) ∙
-    sym (append_assoc front piece least.some) in
-    let u = unique tree h.tree (rest ++ least.some) [] spells.is_tree h.spells.is_tree (ap (λ z. z ++ (rest ++ least.some)) spells.spelled ∙ parts ∙
-    sym h.spells.spelled ∙ sym (append-nil (text h.tree))) in
-    let none : length (rest ++ least.some) ≡ 0 = ap length u.1 in
-    omega (arith, none, length-append rest least.some, least.size, some)
-  where
-    whole_piece : (n : ℕ) (p : List ℕ) → take n p ++ drop n p ≡ p
-    whole_piece n p = grind (arith, common_steps)
 
 -- where a byte is looked at nothing is owed
 none_owed : (t : Token) (n : ℕ) (fs : List Frame) → IsLookedAt t n → events_owed_at t fs ≡ []
@@ -121,24 +107,25 @@ all_due : (t : Place) (n : ℕ) (front : List ℕ) (es : List e.Event) → IsSou
 all_due t n front es sound looked w rest whole spells = events_are_due t n front es sound w rest whole spells ∙
     ap (λ z. es ++ z) (none_owed t.token n t.frames looked) ∙ append-nil es
 
--- so a piece that gives no event ends no value
-none_ended : (r : Rules) (t : Place) (front : List ℕ) (es : List e.Event) (p : List ℕ) (n : ℕ) → n ≡ length p → IsSound t → rules_of t ≡ r →
-    IsLookedAt t.token n → StandsAfter t (front ++ p) es → HasNoValue front p
-none_ended r t front es p n all sound rules within w m tree some spells =
-    let needs : 0 < token_needed t.token t.bounds.depth t.frames =
-    some_needed t.token t.bounds.depth t.frames sound.token (is_inside t.token n within (omega (arith, all, some))) in
-    no_value (rules_of t) front p (needed t) (least_is_needed t 0 (front ++ p) es sound w) (omega (arith, needs)) m tree some spells
+-- What a step comes to, by its event.
+abbrev pub OutcomeOf : Place → Place → List ℕ → List e.Event → List ℕ → ℕ → Option Event → Type 0
+OutcomeOf s t front es p n None = UsesUp t front es p n
+OutcomeOf s t front es p n (Some event.Done) = EndsValue (rules_of s) t front es n
+OutcomeOf s t front es p n (Some x) = HasRead t (front ++ take n p) (es ++ events_of x)
 
--- the event
-
-heard_is : (s t : Place) (front : List ℕ) (es : List e.Event) (p : List ℕ) (n : ℕ) (x : Option Event) → s.taken ≡ length front → length front ≤ s.bounds.total →
-    IsPartOf p n x → Shown s front es p (out_of_event n x t) → Heard (rules_of s) t front es p n x
-heard_is s t front es p n None taken fits part h = (
-  h.0,
-  none_ended (rules_of s) t front es p n h.0 h.2 h.3 h.4 h.5,
-  all_due t 0 (front ++ p) es h.2 (looked_on t.token n h.4) h.5,
-  record { lies = h.5; taken = omega (arith, taken, h.1, h.0, length-append front p) },
-)
+pub heard_is : (s t : Place) (front : List ℕ) (es : List e.Event) (p : List ℕ) (n : ℕ) (x : Option Event) → s.taken ≡ length front → length front ≤ s.bounds.total →
+    IsPartOf p n x → Shown s front es p (out_of_event n x t) →
+    OutcomeOf s t front es p n x
+heard_is s t front es p n None taken fits part h =
+    let reads : HasRead t (front ++ p) es = record { stands = h.5; taken = omega (arith, taken, h.1, h.0, length-append front p) } in
+    let due = all_due t 0 (front ++ p) es h.2 (looked_on t.token n h.4) h.5 in
+    record {
+      whole_piece = h.0;
+      no_value = no_value (rules_of t) (front ++ p) es (followed_is_viable t 0 (front ++ p) es h.2 (omega (arith, reads.taken)) h.5) due
+          (no_done_given t (front ++ p) es h.5);
+      all_due = due;
+      reads = reads;
+    }
 heard_is s t front es p n (Some event.Null) taken fits part h = follows s t front (es ++ e.Null ∷ []) p n taken h.0 h.1 h.2
 heard_is s t front es p n (Some (event.Bool x)) taken fits part h = follows s t front (es ++ e.Bool x ∷ []) p n taken h.0 h.1 h.2
 heard_is s t front es p n (Some (event.Int x)) taken fits part h = follows s t front (es ++ e.Int x ∷ []) p n taken h.0 h.1 h.2
@@ -149,11 +136,11 @@ heard_is s t front es p n (Some (event.Open x c)) taken fits part h = follows s 
 heard_is s t front es p n (Some event.Close) taken fits part h = follows s t front (es ++ e.Close ∷ []) p n taken h.0 h.1 h.2
 heard_is s t front es p n (Some event.Done) taken fits part h =
     let z : t.taken + n ≡ 0 = h.0 in
-    (omega (arith, z), value_is s front es fits h.1, record { lies = h.2; taken = omega (arith, z) })
+    record { no_byte = omega (arith, z); is_value = value_is s front es fits h.1; reads = record { stands = h.2; taken = omega (arith, z) } }
 
 -- A fault.
 
-refused_is : (s t : Place) (front : List ℕ) (es : List e.Event) (p : List ℕ) (fault : Fault) → s.taken ≡ length front → fault.at ≡ t.taken →
+pub refused_is : (s t : Place) (front : List ℕ) (es : List e.Event) (p : List ℕ) (fault : Fault) → s.taken ≡ length front → fault.at ≡ t.taken →
     Shown s front es p (Bad (fault.at - s.taken) fault.cause t) → IsRefused (rules_of s) front es p fault
 refused_is s t front es p fault taken at_taken (counted, within, byte, rest, parts, w) =
     let n = fault.at - s.taken in
@@ -166,25 +153,77 @@ refused_is s t front es p fault taken at_taken (counted, within, byte, rest, par
       length-append front (take n p),
       length-front n p (omega (arith, within)),
     ) in
+    let here : take fault.at (front ++ p) ≡ front ++ take n p =
+    ap (take fault.at) before ∙ front-append fault.at (front ++ take n p) (byte ∷ rest) size in
+    let viable : IsViable (rules_of s) WithinTotal (front ++ take n p) = subst (λ r. IsViable r WithinTotal (front ++ take n p)) w.rules
+    (followed_is_viable w.before n (front ++ take n p) es w.sound w.taken w.stands) in
+    let due = all_due w.before n (front ++ take n p) es w.sound w.looked w.stands in
+    let refused : IsRefusedFor (rules_of s) (take (fault.at + 1) (front ++ p)) fault.cause = subst (λ z. IsRefusedFor (rules_of s) z fault.cause)
+    (sym (ap (take (fault.at + 1)) before ∙ front-one-more fault.at (front ++ take n p) byte rest size)) w.cause in
     record {
-      behind = omega (arith, taken, at_taken, counted);
-      within = omega (arith, taken, at_taken, counted, within, length-append front p);
-      viable = subst (IsViable (rules_of s) WithinTotal) (sym (ap (take fault.at) before ∙ front-append fault.at (front ++ take n p) (byte ∷ rest) size))
-          (subst (λ r. IsViable r WithinTotal (front ++ take n p)) w.rules (followed_is_viable w.before n (front ++ take n p) es w.sound w.taken w.lies));
-      told = subst (λ z. AreDue z es) (sym (ap (take fault.at) before ∙ front-append fault.at (front ++ take n p) (byte ∷ rest) size))
-          (all_due w.before n (front ++ take n p) es w.sound w.looked w.lies);
-      refused = subst (λ z. IsRefusedFor (rules_of s) z fault.cause)
-          (sym (ap (take (fault.at + 1)) before ∙ front-one-more fault.at (front ++ take n p) byte rest size)) w.cause;
+      in_piece = omega (arith, taken, at_taken, counted);
+      before_end = omega (arith, taken, at_taken, counted, within, length-append front p);
+      viable = subst (IsViable (rules_of s) WithinTotal) (sym here) viable;
+      refused = refused;
+      all_due = subst (λ z. AreDue z es) (sym here) due;
+      no_value = no_spelling (rules_of s) (front ++ p) fault.at fault.cause (subst HasNoValue (sym here)
+          (no_value (rules_of s) (front ++ take n p) es viable due (no_done_given w.before (front ++ take n p) es w.stands))) refused;
     }
+
+abbrev pub Outcome : Place → Place → List ℕ → List e.Event → List ℕ → Result Step Fault → Type 0
+Outcome s t front es p (Ok step) = OutcomeOf s t front es p step.used step.event
+Outcome s t front es p (Err fault) = IsRefused (rules_of s) front es p fault
 
 -- What a step answers.
 pub stepped_is : (result : Result Step Fault) (s t : Place) (front : List ℕ) (es : List e.Event) (p : List ℕ) → IsText p → IsSound s →
     out_of_step s.taken result t ≡ after_step (out_from s p) → IfOk result (λ step. IsOfPiece p step) →
-    IfErr result (λ fault. (fault.at ≡ t.taken) × (t.token ≡ Dead fault.cause)) → HasRead s front es → Stepped s t front es p result
+    IfErr result (λ fault. (fault.at ≡ t.taken) × (t.token ≡ Dead fault.cause)) → HasRead s front es →
+    Outcome s t front es p result
 stepped_is (Ok step) s t front es p text sound h part fault w =
     let fits : length front ≤ s.bounds.total = omega (arith, w.taken, sound.total) in
     heard_is s t front es p step.used step.event w.taken fits part
-    (subst (Shown s front es p) (sym h) (shown s front es p (out_from s p) (is_advanced s p sound) (answered s front es p text sound w.taken w.lies)))
+    (subst (Shown s front es p) (sym h) (shown s front es p (out_from s p) (is_advanced s p sound) (answered s front es p text sound w.taken w.stands)))
 stepped_is (Err x) s t front es p text sound h part fault w =
     refused_is s t front es p x w.taken fault.0
-    (subst (Shown s front es p) (sym h) (shown s front es p (out_from s p) (is_advanced s p sound) (answered s front es p text sound w.taken w.lies)))
+    (subst (Shown s front es p) (sym h) (shown s front es p (out_from s p) (is_advanced s p sound) (answered s front es p text sound w.taken w.stands)))
+
+-- The clauses.
+
+-- no event
+pub if_no_event : (result : Result Step Fault) (s t : Place) (front : List ℕ) (es : List e.Event) (p : List ℕ) → Outcome s t front es p result →
+    IfNoEvent result (UsesUp t front es p)
+if_no_event (Err fault) s t front es p h = tt
+if_no_event (Ok step) s t front es p h = by_event step.event h
+  where
+    by_event : (x : Option Event) → OutcomeOf s t front es p step.used x → IfNone x (UsesUp t front es p step.used)
+    by_event None h = h
+    by_event (Some x) h = tt
+
+-- a value whole
+pub if_done : (result : Result Step Fault) (s t : Place) (front : List ℕ) (es : List e.Event) (p : List ℕ) → Outcome s t front es p result →
+    IfDone result (EndsValue (rules_of s) t front es)
+if_done (Err fault) s t front es p h = tt
+if_done (Ok step) s t front es p h = by_event step.event h
+  where
+    by_event : (x : Option Event) → OutcomeOf s t front es p step.used x → OnDone x (EndsValue (rules_of s) t front es step.used)
+    by_event None h = tt
+    by_event (Some event.Done) h = h
+    by_event (Some x) h = tt
+
+-- another event
+pub if_other_event : (result : Result Step Fault) (s t : Place) (front : List ℕ) (es : List e.Event) (p : List ℕ) → Outcome s t front es p result →
+    IfOtherEvent result (λ used x. HasRead t (front ++ take used p) (es ++ events_of x))
+if_other_event (Err fault) s t front es p h = tt
+if_other_event (Ok step) s t front es p h = by_event step.event h
+  where
+    by_event : (x : Option Event) → OutcomeOf s t front es p step.used x →
+        OnOtherEvent x (λ other. HasRead t (front ++ take step.used p) (es ++ events_of other))
+    by_event None h = tt
+    by_event (Some event.Done) h = tt
+    by_event (Some x) h = h
+
+-- a refusal
+pub if_refused : (result : Result Step Fault) (s t : Place) (front : List ℕ) (es : List e.Event) (p : List ℕ) → Outcome s t front es p result →
+    IfErr result (IsRefused (rules_of s) front es p)
+if_refused (Err fault) s t front es p h = h
+if_refused (Ok step) s t front es p h = tt

@@ -19,7 +19,7 @@ use Rattle.resp_fronts.specs.OpenLevels.{AreLevelsOf, AreReady, Level, so_far}
 use Rattle.resp_scan.specs.declared.frame.Frame.{Frame}
 use Rattle.resp_scan.specs.declared.frame.Shape.{Shape}
 use Rattle.resp_scan.specs.declared.frame.Shape.TheVariants.{Left, Begun}
-use Rattle.resp_scan.specs.Machine.Tokens.{Place, AtStart, AtEnd, AtTextEnd, token_within, token_in_shape}
+use Rattle.resp_scan.specs.Machine.Tokens.{Place, AtStart, AtEnd, AtTextEnd, token_at_boundary, token_in_shape}
 use Rattle.resp_scan.specs.Kinds.{rules_of}
 use Rattle.resp_scan.specs.Machine.Standing.{AwaitsMember, IsClosingIn, StandsAfterAt, busy_levels, waiting_levels}
 use Rattle.resp_scan.specs.Machine.Owed.{events_owed_at_end, events_owed_in}
@@ -78,7 +78,7 @@ whole_due whole =
     ∙ ap (λ z. without_places (events 0 whole) ++ z) (rw (lt-ltb (last_of 0 (text whole)) n last) refl)
 
 ended_in : (s : Place) (f : Frame) (shape : Shape) (fs : List Frame) (front : List ℕ) (es : List Event) →
-    ((es : List Event) → StandsAfterAt (rules_of s) (token_within fs) fs front es → AreDue front (es ++ events_owed_at_end fs)) →
+    ((es : List Event) → StandsAfterAt (rules_of s) (token_at_boundary fs) fs front es → AreDue front (es ++ events_owed_at_end fs)) →
     StandsAfterAt (rules_of s) (token_in_shape shape) (record f { shape = shape } ∷ fs) front es →
     AreDue front (es ++ events_owed_in shape (events_owed_at_end fs))
 ended_in s f (Left zero) fs front es outer w rest whole is_tree spelled =
@@ -94,7 +94,7 @@ ended_in s f (Begun n) fs front es outer w rest whole is_tree spelled =
     between_due (rules_of s) (record f { shape = Begun n } ∷ fs) front es w rest whole is_tree spelled ∙ sym (append-nil es)
 
 -- where a value has ended
-pub ended_due : (s : Place) (fs : List Frame) (front : List ℕ) (es : List Event) → StandsAfterAt (rules_of s) (token_within fs) fs front es →
+pub ended_due : (s : Place) (fs : List Frame) (front : List ℕ) (es : List Event) → StandsAfterAt (rules_of s) (token_at_boundary fs) fs front es →
     AreDue front (es ++ events_owed_at_end fs)
 ended_due s [] front es w rest whole is_tree spelled =
     let same : w.tree ≡ whole = (unique w.tree whole rest [] w.is_tree is_tree (ap (λ z. z ++ rest) (sym w.whole) ∙ sym spelled ∙

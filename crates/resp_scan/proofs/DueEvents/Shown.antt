@@ -1,4 +1,4 @@
--- The events shown of a token: none opens or closes an aggregate, and there are no more than the token has bytes.
+-- The events shown of a token: they leave no aggregate open, none is Done, and they are no more than the token has bytes.
 use Rattle.std.proofs.Common.{◌≡◌, ℕ, ◌+◌, ◌≤◌, List, [], ◌∷◌, ◌++◌, length, Bool, refl, sym, ap, subst, arith, length-append}
 use Rattle.resp_value.specs.Bytes.{crlf}
 use Rattle.resp_value.specs.Numbers.{number, sign_text}
@@ -15,23 +15,30 @@ use Rattle.resp_scan.specs.Kinds.{content_events}
 use Rattle.resp_scan.specs.Machine.Beginnings.{TokenHas, BigBegun, ChunkBegun, ChunksBegun, ContentBegun, HeadBegun, HeadCounts, HeadReturned}
 use Rattle.resp_scan.specs.Counts.{open_count, close_count}
 use Rattle.resp_scan.proofs.DueEvents.FewEvents.{content_in_chunks, content_in_payload, leaf_few, length-content}
+use Rattle.resp_scan.specs.Reading.{HasNoDone}
+use Rattle.resp_scan.proofs.DueEvents.NoDone.{content_no_done, leaf_no_done, no_done-append, no_done_before}
 use Rattle.resp_scan.proofs.DueEvents.Opens.{LeaveOpen, closes-append, content_opens, leaf_opens, open-append, opens-append}
 
--- as many opens as closes, and no more events than bytes
+-- as many opens as closes, no Done, and no more events than bytes
 pub record IsShown (bytes : List ℕ) (shown : List Event) : Type 0 where
   pub none_open : LeaveOpen 0 shown
+  pub no_done : HasNoDone shown
   pub few : length shown ≤ length bytes
 
 none_shown : (bytes : List ℕ) (shown : List Event) → shown ≡ [] → IsShown bytes shown
-none_shown bytes shown told = record { none_open = subst (LeaveOpen 0) (sym told) refl; few = omega (arith, ap length told) }
+none_shown bytes shown told = record {
+  none_open = subst (LeaveOpen 0) (sym told) refl;
+  no_done = subst HasNoDone (sym told) tt;
+  few = omega (arith, ap length told);
+}
 
 -- a text's kind, and content
 text_shown : (bytes : List ℕ) (k : e.TextKind) (s : List ℕ) (shown : List Event) → shown ≡ e.Text k ∷ content_events s → length s + 1 ≤ length bytes →
     IsShown bytes shown
 text_shown bytes k s shown told fits = record {
   none_open = subst (LeaveOpen 0) (sym told) (omega (arith, content_opens s));
-  few =
-      omega (arith, ap length told, length-content s);
+  no_done = subst HasNoDone (sym told) (tt, content_no_done s);
+  few = omega (arith, ap length told, length-content s);
 }
 
 -- the events of a leaf but for the end of its text
@@ -39,6 +46,7 @@ leaf_shown : (bytes : List ℕ) (l : Leaf) (shown : List Event) → without_plac
     length (leaf_text l) ≤ length bytes + 1 → IsShown bytes shown
 leaf_shown bytes l shown told fits = record {
   none_open = omega (arith, leaf_opens 0 l, ap open_count told, ap close_count told, opens-append shown (e.TextEnd ∷ []), closes-append shown (e.TextEnd ∷ []));
+  no_done = no_done_before shown (e.TextEnd ∷ []) (subst HasNoDone told (leaf_no_done 0 l));
   few = omega (arith, leaf_few 0 l, ap length told, length-append shown (e.TextEnd ∷ []));
 }
 
@@ -65,15 +73,16 @@ content_shown r n level bytes shown w = text_shown bytes _ w.part shown w.told
 
 -- bytes behind chunks that are no more than these
 chunks_shown : (r : Rules) (room : ℕ) (begun : List ℕ) (level : ℕ) (bytes : List ℕ) (shown : List Event) → ChunksBegun r room begun level bytes shown →
-    LeaveOpen 0 shown × (length shown + length begun ≤ length bytes)
+    LeaveOpen 0 shown × HasNoDone shown × (length shown + length begun ≤ length bytes)
 chunks_shown r room begun level bytes shown w = (
   subst (LeaveOpen 0) (sym w.told) (omega (arith, content_opens (joined_content w.chunks))),
+  subst HasNoDone (sym w.told) (tt, content_no_done (joined_content w.chunks)),
   omega (arith, ap length w.told, length-content (joined_content w.chunks), ap length w.are, content_in_chunks w.chunks begun),
 )
 
 streamed_shown : (r : Rules) (room : ℕ) (begun : List ℕ) (level : ℕ) (bytes : List ℕ) (shown : List Event) → ChunksBegun r room begun level bytes shown →
     IsShown bytes shown
-streamed_shown r room begun level bytes shown w = let h = chunks_shown r room begun level bytes shown w in record { none_open = h.0; few = omega (arith, h.1) }
+streamed_shown r room begun level bytes shown w = let h = chunks_shown r room begun level bytes shown w in record { none_open = h.0; no_done = h.1; few = omega (arith, h.2) }
 
 chunk_shown : (r : Rules) (room n : ℕ) (behind : List ℕ) (level : ℕ) (bytes : List ℕ) (shown : List Event) → ChunkBegun r room n behind level bytes shown →
     IsShown bytes shown
@@ -81,9 +90,10 @@ chunk_shown r room n behind level bytes shown w =
     let begun = (59 ∷ w.digits) ++ crlf (w.part ++ behind) in
     let h = chunks_shown r (room + number w.digits) begun level bytes w.before w.chunks in record {
       none_open = subst (LeaveOpen 0) (sym w.told) (open-append 0 0 w.before (content_events w.part) h.0 (content_opens w.part));
+      no_done = subst HasNoDone (sym w.told) (no_done-append w.before (content_events w.part) h.1 (content_no_done w.part));
       few = omega (
         arith,
-        h.1,
+        h.2,
         ap length w.told,
         length-append w.before (content_events w.part),
         length-content w.part,
@@ -137,7 +147,7 @@ is_shown (InContent n) r level bytes shown w = content_shown r n level bytes sho
 is_shown AtContentCr r level bytes shown w = content_shown r 0 level bytes shown w
 is_shown AtContentLf r level bytes shown w =
     let h = content_shown r 0 level w.before shown w.content in
-    record { none_open = h.none_open; few = omega (arith, h.few, ap length w.returned, length-append w.before (13 ∷ [])) }
+    record { none_open = h.none_open; no_done = h.no_done; few = omega (arith, h.few, ap length w.returned, length-append w.before (13 ∷ [])) }
 is_shown AtStreamCr r level bytes shown w = none_shown bytes shown w.2
 is_shown AtStreamLf r level bytes shown w = none_shown bytes shown w.2
 is_shown (AtChunk room) r level bytes shown w = streamed_shown r room [] level bytes shown w

@@ -18,7 +18,7 @@ use Rattle.resp_fronts.proofs.Tokens.BegunFronts.{IsBegunBy}
 use Rattle.resp_fronts.proofs.Tokens.ChunkTokens.{chunk_length_begun, chunk_length_over, chunk_length_returned_begun, chunk_mark_begun, chunk_zero_begun, chunk_zero_returned_begun, chunked_keeps, streamed_text}
 use Rattle.resp_fronts.proofs.Refusals.BrokenChunks.{chunk_length_broken, chunk_length_returned_broken, chunk_mark_broken}
 use Rattle.resp_scan.specs.declared.machine.Head.TheVariants as head
-use Rattle.resp_scan.specs.Machine.Tokens.{Move, Place, Go, Give, TextEnd, AtHead, InHead, AtHeadLf, InChunk, at, after_end}
+use Rattle.resp_scan.specs.Machine.Tokens.{Move, Place, Go, Give, TextEnd, AtHead, InHead, AtHeadLf, InChunk, at, at_boundary}
 use Rattle.resp_scan.specs.Machine.Heads.{chunk_needed}
 use Rattle.resp_scan.specs.Machine.Moves.{head_digit}
 use Rattle.resp_scan.specs.Kinds.{IsRefusedFor, rules_of}
@@ -202,10 +202,10 @@ pub chunk_length_ends_lead : (s : Place) (room n : ℕ) → ALead (at s (AtHeadL
 chunk_length_ends_lead s room n used byte front es is_byte c w =
     let r = rules_of s in
     let here = at s (AtHeadLf (head.Chunk room) n) in
-    let v : Move = cond (eqb n 0) (Give TextEnd (after_end s)) (Go (at s (InChunk (room - n) n))) in
+    let v : Move = cond (eqb n 0) (Give TextEnd (at_boundary s)) (Go (at s (InChunk (room - n) n))) in
     wanted here front es 10 byte v
     (λ is_newline. subst (λ z. Leads here front es z v) (sym is_newline)
-    (by_test here front es 10 (eqb n 0) (Give TextEnd (after_end s)) (Go (at s (InChunk (room - n) n)))
+    (by_test here front es 10 (eqb n 0) (Give TextEnd (at_boundary s)) (Go (at s (InChunk (room - n) n)))
     (λ z. (let none : n ≡ 0 = grind (arith, nat_tests) in
     value_ends r (ChunkLength r room n (13 ∷ [])) s.frames front (10 ∷ []) es (e.TextEnd ∷ []) w
     (λ level bytes shown i t. string_ends r room level bytes shown (subst (λ m. ChunkLength r room m (13 ∷ []) level bytes shown) none t))))

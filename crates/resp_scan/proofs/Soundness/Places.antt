@@ -9,7 +9,7 @@ use Rattle.resp_scan.specs.declared.machine.State.{State}
 use Rattle.resp_scan.specs.declared.machine.State.TheVariants as state
 use Rattle.resp_scan.specs.declared.machine.Machine.{Machine}
 use Rattle.resp_scan.specs.Machine.Magnitudes.{greatest_magnitude}
-use Rattle.resp_scan.specs.Machine.Tokens.{Place, at, token_within, token_in_shape, AtStart, AtEnd}
+use Rattle.resp_scan.specs.Machine.Tokens.{Place, at, token_at_boundary, token_in_shape, AtStart, AtEnd}
 use Rattle.resp_scan.specs.Machine.Heads.{head_needed, may_end, HasFrame}
 use Rattle.resp_scan.specs.Machine.Room.{begun_count, innermost}
 use Rattle.resp_scan.specs.Machine.Moves.{may_close}
@@ -32,15 +32,15 @@ few_needed m x h e = let k = there m x h e in omega (arith, k.total, k.bounds.to
 pub sound_start : (m : Machine) → IsSound (place_of m) → m.state ≡ state.Start → IsSound (at (place_of m) AtStart)
 sound_start m h e = there m state.Start h e
 
-within_open : (f : Frame) (fs : List Frame) (x : Shape) → f.shape ≡ x → x ≢ Left 0 → token_within (f ∷ fs) ≡ AtStart
+within_open : (f : Frame) (fs : List Frame) (x : Shape) → f.shape ≡ x → x ≢ Left 0 → token_at_boundary (f ∷ fs) ≡ AtStart
 within_open f fs (Left n) e h = ap token_in_shape e ∙ cond_if (λ t. t ≡ AtStart) (eqb n 0) AtEnd AtStart
     (λ z. absurd (h (ap Left (let w : n ≡ 0 = grind (arith, nat_tests) in w)))) (λ z. refl)
 within_open f fs (Begun n) e h = ap token_in_shape e
 
 -- behind a member that isn't the last of its aggregate the next may begin
-pub sound_member : (m : Machine) (f : Frame) (fs : List Frame) → IsSound (place_of m) → m.state ≡ state.Ended → (place_of m).frames ≡ f ∷ fs →
+pub sound_member : (m : Machine) (f : Frame) (fs : List Frame) → IsSound (place_of m) → m.state ≡ state.Boundary → (place_of m).frames ≡ f ∷ fs →
     f.shape ≢ Left 0 → IsSound (at (place_of m) AtStart)
-sound_member m f fs h e q n = subst (λ t. IsSound (at (place_of m) t)) (ap token_within q ∙ within_open f fs f.shape refl n) (there m state.Ended h e)
+sound_member m f fs h e q n = subst (λ t. IsSound (at (place_of m) t)) (ap token_at_boundary q ∙ within_open f fs f.shape refl n) (there m state.Boundary h e)
 
 -- an integer so far is no greater than it may be
 pub int_most : (m : Machine) → IsSound (place_of m) → m.state ≡ state.Int → m.magnitude ≤ greatest_magnitude m.negative
@@ -184,3 +184,9 @@ closing_three (f ∷ fs) m = omega (arith, closes_three f.kind f.shape m)
 -- a close was owed
 pub close_owed : (s : Place) → IsSound (at s AtStart) → may_close s.frames ≡ true → 3 ≤ s.frames_need
 close_owed s h m = let o : s.frames_need ≡ need_of_frames s.frames = h.frames_need in omega (arith, o, closing_three s.frames m)
+
+-- what each token says of the machine's fields
+pub ruleset tokens_fit = (sound_start, int_most, int_lf_most, content_some, chunk_some, first_frame, more_frame, more_need, more_few, lf_few, lf_ends, lf_room, more_room, first_four, second_four, third_four, colon_four, lf_frame, lf_need, open_cr_level, open_lf_level)
+
+-- what each token needs is a number that a `u64` holds
+pub ruleset needs_fit = (more_few, lf_few, head_more, format_first_few, format_second_few, colon_four, content_few, chunk_few)

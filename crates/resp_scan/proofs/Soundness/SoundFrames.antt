@@ -9,7 +9,7 @@ use Rattle.resp_value.specs.declared.kind.OpenKind.TheVariants as kind
 use Rattle.resp_scan.specs.declared.frame.Frame.{Frame}
 use Rattle.resp_scan.specs.declared.frame.Shape.{Shape}
 use Rattle.resp_scan.specs.declared.frame.Shape.TheVariants.{Left, Begun}
-use Rattle.resp_scan.specs.Machine.Tokens.{Token, Place, at, after_end, token_within, token_in_shape, AtStart, AtEnd, AtCloseCr}
+use Rattle.resp_scan.specs.Machine.Tokens.{Token, Place, at, at_boundary, token_at_boundary, token_in_shape, AtStart, AtEnd, AtCloseCr}
 use Rattle.resp_scan.specs.Machine.Room.{over_total, after_begin_in, items_cause, has_all, shape_after_begin, begun_count, need_after_begin, with_shape}
 use Rattle.resp_scan.specs.Machine.Heads.{after_open, after_streamed_open}
 use Rattle.resp_scan.specs.Machine.Moves.{may_close, may_close_of, without_first}
@@ -21,7 +21,7 @@ needed_shape : (depth : ℕ) (f : Frame) (fs : List Frame) (sh : Shape) → toke
 needed_shape depth f fs (Left n) = cond_if (λ t. token_needed t depth (f ∷ fs) ≡ 0) (eqb n 0) AtEnd AtStart (λ e. refl) (λ e. refl)
 needed_shape depth f fs (Begun n) = refl
 
-needed_within : (depth : ℕ) (fs : List Frame) → token_needed (token_within fs) depth fs ≡ 0
+needed_within : (depth : ℕ) (fs : List Frame) → token_needed (token_at_boundary fs) depth fs ≡ 0
 needed_within depth [] = refl
 needed_within depth (f ∷ fs) = needed_shape depth f fs f.shape
 
@@ -31,13 +31,13 @@ fits_shape depth f fs (Left n) e =
     (λ z. subst IsOpenShape (sym e) (let w : 0 < n = grind (arith, nat_tests) in w))
 fits_shape depth f fs (Begun n) e = subst IsOpenShape (sym e) tt
 
-fits_within : (depth : ℕ) (fs : List Frame) → IsTokenSound (token_within fs) depth fs
+fits_within : (depth : ℕ) (fs : List Frame) → IsTokenSound (token_at_boundary fs) depth fs
 fits_within depth [] = tt
 fits_within depth (f ∷ fs) = fits_shape depth f fs f.shape refl
 
 -- a place is as sound once a value has ended
 pub sound_ended : (s : Place) (j : ℕ) → AreBounds s.bounds → length s.frames ≤ s.bounds.depth → AreCounted s.bounds.items s.frames →
-    s.frames_need ≡ need_of_frames s.frames → s.taken + j + s.frames_need ≤ s.bounds.total → IsSoundBy j (after_end s)
+    s.frames_need ≡ need_of_frames s.frames → s.taken + j + s.frames_need ≤ s.bounds.total → IsSoundBy j (at_boundary s)
 sound_ended s j b n k o w = record {
   bounds = b;
   nested = n;
@@ -48,7 +48,7 @@ sound_ended s j b n k o w = record {
 }
 
 -- a place whose value has ended
-pub is_ended : (s : Place) (t : Token) (i : ℕ) → IsSoundBy i (at s t) → 1 ≤ token_needed t s.bounds.depth s.frames → IsNext (i + 1) s (after_end s)
+pub is_ended : (s : Place) (t : Token) (i : ℕ) → IsSoundBy i (at s t) → 1 ≤ token_needed t s.bounds.depth s.frames → IsNext (i + 1) s (at_boundary s)
 is_ended s t i h q =
     let w : s.taken + i + token_needed t s.bounds.depth s.frames + s.frames_need ≤ s.bounds.total = h.total in
     record { taken = refl; rules = refl; sound = sound_ended s (i + 1) h.bounds h.nested h.counted h.frames_need (omega (arith, w, q)) }
@@ -57,7 +57,7 @@ is_ended s t i h q =
 
 is_pushed : (s : Place) (t : Token) (f : Frame) (i n : ℕ) → IsSoundBy i (at s t) → length s.frames < s.bounds.depth → begun_count f.shape ≤ s.bounds.items * 2 →
     need_of_frame f.kind f.shape ≡ n → n + 1 ≤ token_needed t s.bounds.depth s.frames →
-    IsNext (i + 1) s (after_end (record s { frames = f ∷ s.frames; frames_need = s.frames_need + n }))
+    IsNext (i + 1) s (at_boundary (record s { frames = f ∷ s.frames; frames_need = s.frames_need + n }))
 is_pushed s t f i n h l k e q =
     let w : s.taken + i + token_needed t s.bounds.depth s.frames + s.frames_need ≤ s.bounds.total = h.total in
     let o : s.frames_need ≡ need_of_frames s.frames = h.frames_need in
@@ -175,7 +175,7 @@ sound_closing s (x ∷ fs) e h m =
 
 -- the innermost aggregate, which has all, ends
 pub sound_closed : (s : Place) (t : Token) (fs : List Frame) (i j : ℕ) → s.frames ≡ fs → IsSoundBy i (at s t) → IsClosed fs →
-    s.taken + j + s.frames_need ≤ s.bounds.total → IsSoundBy j (after_end (record s { frames = without_first fs }))
+    s.taken + j + s.frames_need ≤ s.bounds.total → IsSoundBy j (at_boundary (record s { frames = without_first fs }))
 sound_closed s t [] i j e h c w =
     sound_ended (record s { frames = [] }) j h.bounds (omega arith) tt (h.frames_need ∙ ap need_of_frames e) w
 sound_closed s t (x ∷ fs) i j e h c w =

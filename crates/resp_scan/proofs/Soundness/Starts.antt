@@ -74,3 +74,9 @@ array_scan s i (b ∷ bs) f l n = let e : eqb b 45 ≡ false = grind (arith, nat
     answer_same (head_first (at s (AtHead head.Array)) (i + 1) head.Array b) i (at s (AtHead head.Array)) (at s AtArrayHead) (λ t. scan (i + 1) t bs)
     (λ t. content (i + 1) t bs) (λ c. refl) ∙
     ap (λ v. answer v i (at s AtArrayHead) (λ t. scan (i + 1) t bs) (λ t. content (i + 1) t bs)) (sym (array_next s (i + 1) b f e))
+
+-- what comes of a first byte that is refused, or with which a value begins
+pub ruleset answers = (refused_answer, begun_answer)
+
+-- what comes of a line's type byte
+pub ruleset lines = (begun_line, refused_line)

@@ -18,7 +18,7 @@ use Rattle.resp_fronts.proofs.Tokens.LineTokens.{returned_begun, returned_broken
 use Rattle.resp_fronts.proofs.Tokens.NumberTokens.{number_token_begins, number_token_line, number_token_more}
 use Rattle.resp_scan.specs.declared.event.TextKind.TheVariants as text
 use Rattle.resp_scan.specs.Machine.Tokens as k
-use Rattle.resp_scan.specs.Machine.Tokens.{Go, Byte, Give, Refuse, Place, AtBigDigit, AtBigFirst, AtBigSign, AtBigZeroLf, AtLineLf, AtTextEnd, InBig, InBigZeros, at, after_end}
+use Rattle.resp_scan.specs.Machine.Tokens.{Go, Byte, Give, Refuse, Place, AtBigDigit, AtBigFirst, AtBigSign, AtBigZeroLf, AtLineLf, AtTextEnd, InBig, InBigZeros, at, at_boundary}
 use Rattle.resp_scan.specs.Machine.Room.{has_total_room}
 use Rattle.resp_scan.specs.Machine.Moves.{big_digit, big_first, content_byte}
 use Rattle.resp_scan.specs.Kinds.{content_events, rules_of}
@@ -257,10 +257,10 @@ text_ends r level bytes shown w = record {
 
 -- the end of a text that is owed is given without a byte
 pub text_end_is_owed : (s : Place) (front : List ℕ) (es : List Event) → StandsAfter (at s AtTextEnd) front es →
-    StandsAfter (after_end s) front (es ++ e.TextEnd ∷ [])
+    StandsAfter (at_boundary s) front (es ++ e.TextEnd ∷ [])
 text_end_is_owed s front es w =
     let r = rules_of s in
-    subst (λ z. StandsAfter (after_end s) z (es ++ e.TextEnd ∷ [])) (append-nil front)
+    subst (λ z. StandsAfter (at_boundary s) z (es ++ e.TextEnd ∷ [])) (append-nil front)
     (value_ends r (TextWhole r) s.frames front [] es (e.TextEnd ∷ []) w (λ level bytes shown i t. text_ends r level bytes shown t))
 
 -- Further digits.

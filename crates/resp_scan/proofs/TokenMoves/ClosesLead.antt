@@ -23,7 +23,7 @@ use Rattle.resp_fronts.proofs.Refusals.RefusedFronts.{CompletesFront}
 use Rattle.resp_fronts.proofs.FrameLaws.WholeValues.{closed_text}
 use Rattle.resp_scan.specs.declared.frame.Frame.{Frame}
 use Rattle.resp_scan.specs.Machine.Tokens as k
-use Rattle.resp_scan.specs.Machine.Tokens.{Give, Go, Move, Place, Refuse, AtCloseCr, AtCloseLf, AtEnd, at, after_end, token_within}
+use Rattle.resp_scan.specs.Machine.Tokens.{Give, Go, Move, Place, Refuse, AtCloseCr, AtCloseLf, AtEnd, at, at_boundary, token_at_boundary}
 use Rattle.resp_scan.specs.Machine.Moves.{only_byte, without_first}
 use Rattle.resp_scan.specs.Kinds.{IsRefusedFor, rules_of}
 use Rattle.resp_scan.specs.Machine.Standing.{IsClosing, IsClosingIn, Leads, StandsAfterAt, busy_levels, StandsAfter}
@@ -31,7 +31,7 @@ use Rattle.resp_scan.proofs.TokenMoves.Moves.{given-append, longer, value_lies, 
 
 -- the rest of the close ends the aggregate
 closing_ends : (r : Rules) (k : OpenKind) (fs : List Frame) (last rest front : List ℕ) (es : List Event) → IsClosing r k fs last rest front es →
-    StandsAfterAt r (token_within fs) fs (front ++ rest) (es ++ e.Close ∷ [])
+    StandsAfterAt r (token_at_boundary fs) fs (front ++ rest) (es ++ e.Close ∷ [])
 closing_ends r k fs last rest front es w =
     let f = w.frame in
     let tree = node f.kind f.form f.done in
@@ -46,9 +46,9 @@ closing_ends r k fs last rest front es w =
 
 -- the close that is owed is given without a byte
 pub close_is_owed : (s : Place) (f : Frame) (fs : List Frame) (front : List ℕ) (es : List Event) →
-    StandsAfter (record s { token = AtEnd; frames = f ∷ fs }) front es → StandsAfter (after_end (record s { frames = fs })) front (es ++ e.Close ∷ [])
+    StandsAfter (record s { token = AtEnd; frames = f ∷ fs }) front es → StandsAfter (at_boundary (record s { frames = fs })) front (es ++ e.Close ∷ [])
 close_is_owed s f fs front es w =
-    subst (λ z. StandsAfterAt (rules_of s) (token_within fs) fs z (es ++ e.Close ∷ [])) (append-nil front)
+    subst (λ z. StandsAfterAt (rules_of s) (token_at_boundary fs) fs z (es ++ e.Close ∷ [])) (append-nil front)
     (closing_ends (rules_of s) f.kind fs [] [] front es w)
 
 -- A byte of a close.
@@ -137,10 +137,10 @@ close_end_leads s used byte front es is_byte c w = case s.frames w
   where
     case : (fs : List Frame) → IsClosingIn (rules_of s) fs (46 ∷ 13 ∷ []) (10 ∷ []) front es →
         Leads (record s { token = AtCloseLf; frames = fs }) front es byte
-        (only_byte 10 byte (Give k.Close (after_end (record s { token = AtCloseLf; frames = without_first fs }))))
+        (only_byte 10 byte (Give k.Close (at_boundary (record s { token = AtCloseLf; frames = without_first fs }))))
     case [] w = absurd w
     case (f ∷ fs) w = if_equal byte 10 (λ z. Leads (record s { token = AtCloseLf; frames = f ∷ fs }) front es byte
-        (cond z (Give k.Close (after_end (record s { token = AtCloseLf; frames = fs }))) (Refuse cause.Syntax)))
-        (λ is. subst (λ z. StandsAfterAt (rules_of s) (token_within fs) fs (front ++ z ∷ []) (es ++ e.Close ∷ [])) (sym is)
+        (cond z (Give k.Close (at_boundary (record s { token = AtCloseLf; frames = fs }))) (Refuse cause.Syntax)))
+        (λ is. subst (λ z. StandsAfterAt (rules_of s) (token_at_boundary fs) fs (front ++ z ∷ []) (es ++ e.Close ∷ [])) (sym is)
         (closing_ends (rules_of s) f.kind fs (46 ∷ 13 ∷ []) (10 ∷ []) front es w))
         (λ other. syntax (rules_of s) (front ++ byte ∷ []) (no_newline (rules_of s) f.kind fs front es byte other w))

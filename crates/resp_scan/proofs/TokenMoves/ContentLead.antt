@@ -10,7 +10,7 @@ use Rattle.resp_fronts.proofs.FirstLines.CountRows.{CompletesUnder}
 use Rattle.resp_fronts.proofs.Tokens.BegunFronts.{IsBegunBy}
 use Rattle.resp_fronts.proofs.Tokens.ContentTokens.{content_begun, content_broken, content_returned_begun}
 use Rattle.resp_fronts.proofs.Tokens.PayloadTokens.{content_returned_broken, payload_more, whole_content}
-use Rattle.resp_scan.specs.Machine.Tokens.{Place, Go, Give, TextEnd, AtContentCr, AtContentLf, InContent, at, after_end}
+use Rattle.resp_scan.specs.Machine.Tokens.{Place, Go, Give, TextEnd, AtContentCr, AtContentLf, InContent, at, at_boundary}
 use Rattle.resp_scan.specs.Machine.Heads.{content_at}
 use Rattle.resp_scan.specs.Kinds.{rules_of}
 use Rattle.resp_scan.specs.Machine.Beginnings.{ContentBegun, ContentReturned, string_text_kind}
@@ -74,8 +74,8 @@ content_ends_value r level bytes shown w =
 
 -- every byte behind the CR of a string's content
 pub content_ends_lead : (s : Place) → ALead (at s AtContentLf)
-content_ends_lead s used byte front es is_byte c w = wanted (at s AtContentLf) front es 10 byte (Give TextEnd (after_end s))
-    (λ is_newline. subst (λ z. StandsAfter (after_end s) (front ++ z ∷ []) (es ++ e.TextEnd ∷ [])) (sym is_newline)
+content_ends_lead s used byte front es is_byte c w = wanted (at s AtContentLf) front es 10 byte (Give TextEnd (at_boundary s))
+    (λ is_newline. subst (λ z. StandsAfter (at_boundary s) (front ++ z ∷ []) (es ++ e.TextEnd ∷ [])) (sym is_newline)
     (value_ends (rules_of s) (ContentReturned (rules_of s)) s.frames front (10 ∷ []) es (e.TextEnd ∷ []) w
     (λ level bytes shown i t. content_ends_value (rules_of s) level bytes shown t)))
     (λ other. broken (rules_of s) (ContentReturned (rules_of s)) s.frames front es 1 byte w

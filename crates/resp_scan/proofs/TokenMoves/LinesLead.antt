@@ -11,7 +11,7 @@ use Rattle.resp_fronts.specs.Events as e
 use Rattle.resp_fronts.proofs.FirstLines.CountRows.{CompletesUnder}
 use Rattle.resp_fronts.proofs.Tokens.BegunFronts.{IsBegunBy}
 use Rattle.resp_fronts.proofs.Tokens.LineTokens.{line_begun, line_broken_by_newline, returned_begun, returned_broken, returned_whole, text_token_line, text_token_more, text_token_over}
-use Rattle.resp_scan.specs.Machine.Tokens.{Go, Byte, Give, Refuse, TextEnd, Place, after_end, InLine, AtLineLf, at}
+use Rattle.resp_scan.specs.Machine.Tokens.{Go, Byte, Give, Refuse, TextEnd, Place, at_boundary, InLine, AtLineLf, at}
 use Rattle.resp_scan.specs.Machine.Room.{has_total_room}
 use Rattle.resp_scan.specs.Machine.Moves.{content_byte}
 use Rattle.resp_scan.specs.Kinds.{content_events, rules_of}
@@ -111,10 +111,10 @@ returned_text_ends r level bytes shown w =
 pub line_ends_lead : (s : Place) → ALead (at s AtLineLf)
 line_ends_lead s used byte front es is_byte c w =
     let r = rules_of s in
-    elim (eqb byte 10) as (λ x. eqb byte 10 ≡ x → Leads (at s AtLineLf) front es byte (cond x (Give TextEnd (after_end s)) (Refuse cause.Syntax))) [
+    elim (eqb byte 10) as (λ x. eqb byte 10 ≡ x → Leads (at s AtLineLf) front es byte (cond x (Give TextEnd (at_boundary s)) (Refuse cause.Syntax))) [
       | true ↦ λ x.
           let b : byte ≡ 10 = grind (arith, nat_tests) in
-          subst (λ z. StandsAfter (after_end s) (front ++ z ∷ []) (es ++ e.TextEnd ∷ [])) (sym b)
+          subst (λ z. StandsAfter (at_boundary s) (front ++ z ∷ []) (es ++ e.TextEnd ∷ [])) (sym b)
           (value_ends r (TextReturned r) s.frames front (10 ∷ []) es (e.TextEnd ∷ []) w (λ level bytes shown i t. returned_text_ends r level bytes shown t))
       | false ↦ λ x.
           broken r (TextReturned r) s.frames front es 1 byte w (λ level bytes shown i t. returned_begun r t.leaf level bytes t.returned)

@@ -15,7 +15,7 @@ use Rattle.resp_fronts.proofs.Tokens.LineTokens.{line_begun, returned_begun, ret
 use Rattle.resp_fronts.proofs.Tokens.NumberTokens.{null_begun, null_token_line, truth_begun, truth_token_line}
 use Rattle.resp_fronts.specs.Tokens.{IsLineOf, IsReturned}
 use Rattle.resp_scan.specs.Machine.Tokens as k
-use Rattle.resp_scan.specs.Machine.Tokens.{Go, Give, Refuse, Place, AtBool, AtBoolCr, AtBoolLf, AtNullCr, AtNullLf, AtNullOne, at, after_end}
+use Rattle.resp_scan.specs.Machine.Tokens.{Go, Give, Refuse, Place, AtBool, AtBoolCr, AtBoolLf, AtNullCr, AtNullLf, AtNullOne, at, at_boundary}
 use Rattle.resp_scan.specs.Kinds.{rules_of}
 use Rattle.resp_scan.specs.Machine.Beginnings as b
 use Rattle.resp_scan.specs.Machine.Beginnings.{IsNullBegun, NullLine, NullReturned}
@@ -98,10 +98,10 @@ null_ends r level bytes shown w = record {
 pub null_end_leads : (s : Place) → ALead (at s AtNullLf)
 null_end_leads s used byte front es is_byte c w =
     let r = rules_of s in
-    wants_leads (at s AtNullLf) (NullReturned r) front es 1 byte 10 (Give k.Null (after_end s)) w
+    wants_leads (at s AtNullLf) (NullReturned r) front es 1 byte 10 (Give k.Null (at_boundary s)) w
     (λ level bytes shown i t. returned_begun r (null t.form) level bytes t.returned)
     (λ other level bytes rest shown t dead. returned_broken r (null t.form) level bytes rest byte other t.returned dead)
-    (λ is. subst (λ z. StandsAfter (after_end s) (front ++ z ∷ []) (es ++ e.Null ∷ [])) (sym is)
+    (λ is. subst (λ z. StandsAfter (at_boundary s) (front ++ z ∷ []) (es ++ e.Null ∷ [])) (sym is)
     (value_ends r (NullReturned r) s.frames front (10 ∷ []) es (e.Null ∷ []) w (λ level bytes shown i t. null_ends r level bytes shown t)))
 
 -- Truth values.
@@ -158,9 +158,9 @@ truth_ends r x level bytes shown w none = record {
 pub bool_end_leads : (s : Place) (truth : Bool) → ALead (at s (AtBoolLf truth))
 bool_end_leads s x used byte front es is_byte c w =
     let r = rules_of s in
-    wants_leads (at s (AtBoolLf x)) (b.TokenHas r (AtBoolLf x)) front es 1 byte 10 (Give (k.Truth x) (after_end s)) w
+    wants_leads (at s (AtBoolLf x)) (b.TokenHas r (AtBoolLf x)) front es 1 byte 10 (Give (k.Truth x) (at_boundary s)) w
     (λ level bytes shown i t. returned_begun r (truth x) level bytes t.0)
     (λ other level bytes rest shown t dead. returned_broken r (truth x) level bytes rest byte other t.0 dead)
-    (λ is. subst (λ z. StandsAfter (after_end s) (front ++ z ∷ []) (es ++ e.Bool x ∷ [])) (sym is)
+    (λ is. subst (λ z. StandsAfter (at_boundary s) (front ++ z ∷ []) (es ++ e.Bool x ∷ [])) (sym is)
     (value_ends r (b.TokenHas r (AtBoolLf x)) s.frames front (10 ∷ []) es (e.Bool x ∷ []) w
     (λ level bytes shown i t. truth_ends r x level bytes shown t.0 t.1)))

@@ -23,7 +23,7 @@ use Rattle.resp_fronts.specs.OpenLevels.{AreLevelsOf, AreReady, HasShape}
 use Rattle.resp_scan.specs.declared.frame.Frame.{Frame}
 use Rattle.resp_scan.specs.declared.frame.Shape.{Shape}
 use Rattle.resp_scan.specs.declared.frame.Shape.TheVariants.{Left, Begun}
-use Rattle.resp_scan.specs.Machine.Tokens.{AtStart, AtEnd, token_within, token_in_shape, Place}
+use Rattle.resp_scan.specs.Machine.Tokens.{AtStart, AtEnd, token_at_boundary, token_in_shape, Place}
 use Rattle.resp_scan.specs.Machine.Standing.{HasBegun, HaveBegun, IsInside, StandsAfterAt, busy_shape, busy_levels, StandsAfter, Leads, HasCountsOf}
 use Rattle.resp_scan.specs.declared.machine.Head.{Head}
 use Rattle.resp_scan.specs.declared.machine.Head.TheVariants.{Bulk, BulkError, Verbatim, Chunk}
@@ -211,7 +211,7 @@ member_ends r f fs g gs u (Begun n) front es k h b bs a o e told =
 pub value_lies : (r : Rules) (fs : List Frame) (frames : List opened.Frame) (u : Tree) (front : List ℕ) (es : List Event) → HaveBegun fs →
     AreLevelsOf (busy_levels fs) frames → CanAllEnd (LeafKeeps r WithinItems) (NodeKeeps r WithinItems) frames → IsTree u →
     HoldsFrom (LeafKeeps r WithinItems) (NodeKeeps r WithinItems) (length frames) u → front ≡ text_around frames (text u) →
-    es ≡ without_places (events_around frames) ++ without_places (events (length (text_around frames [])) u) → StandsAfterAt r (token_within fs) fs front es
+    es ≡ without_places (events_around frames) ++ without_places (events (length (text_around frames [])) u) → StandsAfterAt r (token_at_boundary fs) fs front es
 value_lies r [] [] u front es b a o p q e told = record { tree = u; is_tree = p; keep = q; whole = e; told = told }
 value_lies r [] (g ∷ gs) u front es b a o p q e told = absurd a
 value_lies r (f ∷ fs) [] u front es b a o p q e told = absurd a
@@ -222,7 +222,7 @@ value_lies r (f ∷ fs) (g ∷ gs) u front es b a o p q e told =
 -- bytes that end the value, and events more
 pub value_ends : (r : Rules) (T : ℕ → List ℕ → List Event → Type 0) (fs : List Frame) (front more : List ℕ) (es new : List Event) → IsInside r T fs front es →
     ((level : ℕ) (bytes : List ℕ) (shown : List Event) → level ≡ length fs → T level bytes shown → Ends r level (bytes ++ more) (shown ++ new)) →
-    StandsAfterAt r (token_within fs) fs (front ++ more) (es ++ new)
+    StandsAfterAt r (token_at_boundary fs) fs (front ++ more) (es ++ new)
 value_ends r T fs front more es new w last =
     let t = last (length w.frames) w.bytes w.shown (at_level w) w.took in
     value_lies r fs w.frames t.tree (front ++ more) (es ++ new) w.begun w.of_levels w.can_end t.is_tree t.keep (longer w.frames front w.bytes more w.whole ∙

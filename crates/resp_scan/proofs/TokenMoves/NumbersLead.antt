@@ -20,7 +20,7 @@ use Rattle.resp_fronts.proofs.Tokens.NumberTokens.{int_token_over, number_begun,
 use Rattle.resp_fronts.specs.Tokens.{IsNumberBegun, IsNumberToken, MayBe, greatest}
 use Rattle.resp_scan.specs.Machine.Magnitudes.{greatest_magnitude}
 use Rattle.resp_scan.specs.Machine.Tokens as k
-use Rattle.resp_scan.specs.Machine.Tokens.{Go, Give, Move, Refuse, Place, Token, AtIntFirst, AtIntLf, AtIntSign, InInt, at, after_end}
+use Rattle.resp_scan.specs.Machine.Tokens.{Go, Give, Move, Refuse, Place, Token, AtIntFirst, AtIntLf, AtIntSign, InInt, at, at_boundary}
 use Rattle.resp_scan.specs.Machine.Room.{has_total_room, over_total}
 use Rattle.resp_scan.specs.Machine.Moves as machine
 use Rattle.resp_scan.specs.Machine.Moves.{int_digit, int_first, is_digit, move_unless, only_byte}
@@ -276,9 +276,9 @@ int_ends r negative n level bytes shown w = record {
 pub int_end_leads : (s : Place) (negative : Bool) (n : ℕ) → ALead (at s (AtIntLf negative n))
 int_end_leads s negative n used byte front es is_byte c w =
     let r = rules_of s in
-    wants_leads (at s (AtIntLf negative n)) (IntReturned r negative n) front es 1 byte 10 (Give (k.Int (machine.with_sign negative n)) (after_end s)) w
+    wants_leads (at s (AtIntLf negative n)) (IntReturned r negative n) front es 1 byte 10 (Give (k.Int (machine.with_sign negative n)) (at_boundary s)) w
     (λ level bytes shown i t. returned_begun r (numeral Int t.sign t.digits) level bytes t.returned)
     (λ other level bytes rest shown t dead. returned_broken r (numeral Int t.sign t.digits) level bytes rest byte other t.returned dead)
-    (λ is. subst (λ z. StandsAfter (after_end s) (front ++ z ∷ []) (es ++ e.Int (machine.with_sign negative n) ∷ [])) (sym is)
+    (λ is. subst (λ z. StandsAfter (at_boundary s) (front ++ z ∷ []) (es ++ e.Int (machine.with_sign negative n) ∷ [])) (sym is)
     (value_ends r (IntReturned r negative n) s.frames front (10 ∷ []) es (e.Int (machine.with_sign negative n) ∷ []) w
     (λ level bytes shown i t. int_ends r negative n level bytes shown t)))

@@ -1,6 +1,7 @@
 -- What each token has of the value that it is in: the bytes begun, and the events given of them.
-use Rattle.std.specs.Prelude.{◌≡◌, ◌⊎◌, ℕ, ◌+◌, ◌-◌, ◌<◌, ◌≤◌, Bool, true, false, List, [], ◌∷◌, ◌++◌, length}
+use Rattle.std.specs.Prelude.{codes, ◌≡◌, ◌⊎◌, ℕ, ◌+◌, ◌-◌, ◌<◌, ◌≤◌, Bool, true, false, List, [], ◌∷◌, ◌++◌, length}
 use Rattle.std.specs.List.{AllByRecursion}
+use Rattle.std.specs.Str.{byte}
 use Rattle.resp_value.specs.Bytes.{IsText, crlf}
 use Rattle.resp_value.specs.Data.{Kind}
 use Rattle.resp_value.specs.Data as d
@@ -120,7 +121,7 @@ pub record TextWhole (r : Rules) (level : ℕ) (bytes : List ℕ) (shown : List 
 
 -- `$-` or `*-`
 abbrev pub IsNullBegun : List ℕ → Type 0
-IsNullBegun bytes = (bytes ≡ 36 ∷ 45 ∷ []) ⊎ (bytes ≡ 42 ∷ 45 ∷ [])
+IsNullBegun bytes = (bytes ≡ codes "$-") ⊎ (bytes ≡ codes "*-")
 
 -- the line of a null, or of a truth value, whose event comes at its end
 pub record NullLine (r : Rules) (level : ℕ) (bytes : List ℕ) (shown : List Event) : Type 0 where
@@ -154,7 +155,7 @@ pub record LengthReturned (r : Rules) (k : StringKind) (n : ℕ) (level : ℕ) (
     0 where
   pub before : List ℕ
   pub length : LengthBegun r k n level before shown
-  pub returned : bytes ≡ before ++ 13 ∷ []
+  pub returned : bytes ≡ before ++ codes "\r"
 
 -- of a verbatim string's payload these bytes have come, and so many are left
 pub record FormatBegun (r : Rules) (format begun : List ℕ) (n : ℕ) (level : ℕ) (bytes : List ℕ)
@@ -177,7 +178,7 @@ pub record ContentBegun (r : Rules) (n : ℕ) (level : ℕ) (bytes : List ℕ) (
 pub record ContentReturned (r : Rules) (level : ℕ) (bytes : List ℕ) (shown : List Event) : Type 0 where
   pub before : List ℕ
   pub content : ContentBegun r 0 level before shown
-  pub returned : bytes ≡ before ++ 13 ∷ []
+  pub returned : bytes ≡ before ++ codes "\r"
 
 -- Streamed strings.
 
@@ -188,7 +189,7 @@ pub record ChunksBegun (r : Rules) (room : ℕ) (begun : List ℕ) (level : ℕ)
   pub are_chunks : AllByRecursion IsChunk chunks
   pub has_streamed : HasStreamed r
   pub leaves : room + length (joined_content chunks) ≡ r.limits.length
-  pub are : bytes ≡ 36 ∷ 63 ∷ crlf (chunks_text chunks begun)
+  pub are : bytes ≡ byte "$" ∷ byte "?" ∷ crlf (chunks_text chunks begun)
   pub told : shown ≡ e.Text e.Bulk ∷ content_events (joined_content chunks)
 
 -- whole chunks and the digits of one, and bytes behind them
@@ -198,7 +199,7 @@ pub record ChunkLength (r : Rules) (room n : ℕ) (behind : List ℕ) (level : �
   pub are_digits : IsDigits digits
   pub valued : number digits ≡ n
   pub fits : n ≤ room
-  pub chunks : ChunksBegun r room ((59 ∷ digits) ++ behind) level bytes shown
+  pub chunks : ChunksBegun r room ((byte ";" ∷ digits) ++ behind) level bytes shown
 
 -- whole chunks, and one that is begun, of which so many bytes are left; length leaves so many behind it
 pub record ChunkBegun (r : Rules) (room n : ℕ) (behind : List ℕ) (level : ℕ) (bytes : List ℕ)
@@ -210,7 +211,7 @@ pub record ChunkBegun (r : Rules) (room n : ℕ) (behind : List ℕ) (level : �
   pub is_text : IsText part
   pub valued : number digits ≡ length part + n
   pub some : 0 < number digits
-  pub chunks : ChunksBegun r (room + number digits) ((59 ∷ digits) ++ crlf (part ++ behind)) level bytes before
+  pub chunks : ChunksBegun r (room + number digits) ((byte ";" ∷ digits) ++ crlf (part ++ behind)) level bytes before
   pub told : shown ≡ before ++ content_events part
 
 -- Aggregates.
@@ -246,7 +247,7 @@ pub record StreamBegun (r : Rules) (k : Kind) (behind : List ℕ) (level : ℕ) 
   pub can_stream : CanStream k 0
   pub no_push : IsNoPushBelow level k
   pub below : level < r.limits.depth
-  pub are : bytes ≡ (kind_byte k ∷ 63 ∷ []) ++ behind
+  pub are : bytes ≡ (kind_byte k ∷ codes "?") ++ behind
   pub told : shown ≡ []
 
 -- Heads.
@@ -254,9 +255,9 @@ pub record StreamBegun (r : Rules) (k : Kind) (behind : List ℕ) (level : ℕ) 
 -- a head before its first digit
 abbrev pub HeadBegun : Rules → Head → ℕ → List ℕ → List Event → Type 0
 HeadBegun r head.Bulk level bytes shown = ⊥
-HeadBegun r head.BulkError level bytes shown = (r.version ≡ Two → ⊥) × (bytes ≡ 33 ∷ []) × (shown ≡ [])
-HeadBegun r head.Verbatim level bytes shown = (r.version ≡ Two → ⊥) × (bytes ≡ 61 ∷ []) × (shown ≡ [])
-HeadBegun r (head.Chunk room) level bytes shown = ChunksBegun r room (59 ∷ []) level bytes shown
+HeadBegun r head.BulkError level bytes shown = (r.version ≡ Two → ⊥) × (bytes ≡ codes "!") × (shown ≡ [])
+HeadBegun r head.Verbatim level bytes shown = (r.version ≡ Two → ⊥) × (bytes ≡ codes "=") × (shown ≡ [])
+HeadBegun r (head.Chunk room) level bytes shown = ChunksBegun r room (codes ";") level bytes shown
 HeadBegun r head.Array level bytes shown = ⊥
 HeadBegun r head.Set level bytes shown = AggregateBegun r d.Set level bytes shown
 HeadBegun r head.Map level bytes shown = AggregateBegun r d.Map level bytes shown
@@ -280,7 +281,7 @@ abbrev pub HeadReturned : Rules → Head → ℕ → ℕ → List ℕ → List E
 HeadReturned r head.Bulk n level bytes shown = LengthReturned r t.Bulk n level bytes shown
 HeadReturned r head.BulkError n level bytes shown = LengthReturned r t.BulkError n level bytes shown
 HeadReturned r head.Verbatim n level bytes shown = (4 ≤ n) × LengthReturned r (t.Verbatim (zeros 3)) n level bytes shown
-HeadReturned r (head.Chunk room) n level bytes shown = ChunkLength r room n (13 ∷ []) level bytes shown
+HeadReturned r (head.Chunk room) n level bytes shown = ChunkLength r room n (codes "\r") level bytes shown
 HeadReturned r head.Array n level bytes shown = CountReturned r d.Array n level bytes shown
 HeadReturned r head.Set n level bytes shown = CountReturned r d.Set n level bytes shown
 HeadReturned r head.Map n level bytes shown = CountReturned r d.Map n level bytes shown
@@ -307,11 +308,11 @@ TokenHas r AtTextEnd level bytes shown = TextWhole r level bytes shown
 TokenHas r AtNullOne level bytes shown = IsNullBegun bytes × (shown ≡ [])
 TokenHas r AtNullCr level bytes shown = NullLine r level bytes shown
 TokenHas r AtNullLf level bytes shown = NullReturned r level bytes shown
-TokenHas r AtBool level bytes shown = (r.version ≡ Two → ⊥) × (bytes ≡ 35 ∷ []) × (shown ≡ [])
+TokenHas r AtBool level bytes shown = (r.version ≡ Two → ⊥) × (bytes ≡ codes "#") × (shown ≡ [])
 TokenHas r (AtBoolCr b) level bytes shown = IsLineOf r (truth b) level bytes × (shown ≡ [])
 TokenHas r (AtBoolLf b) level bytes shown = IsReturned r (truth b) level bytes × (shown ≡ [])
-TokenHas r AtBulkHead level bytes shown = (bytes ≡ 36 ∷ []) × (shown ≡ [])
-TokenHas r AtArrayHead level bytes shown = (bytes ≡ 42 ∷ []) × (shown ≡ [])
+TokenHas r AtBulkHead level bytes shown = (bytes ≡ codes "$") × (shown ≡ [])
+TokenHas r AtArrayHead level bytes shown = (bytes ≡ codes "*") × (shown ≡ [])
 TokenHas r (AtHead h) level bytes shown = HeadBegun r h level bytes shown
 TokenHas r (InHead h n) level bytes shown = HeadCounts r h n level bytes shown
 TokenHas r (AtHeadLf h n) level bytes shown = HeadReturned r h n level bytes shown
@@ -323,14 +324,14 @@ TokenHas r (AtFormatColon format n) level bytes shown = FormatBegun r format for
 TokenHas r (InContent n) level bytes shown = ContentBegun r n level bytes shown × (0 < n)
 TokenHas r AtContentCr level bytes shown = ContentBegun r 0 level bytes shown
 TokenHas r AtContentLf level bytes shown = ContentReturned r level bytes shown
-TokenHas r AtStreamCr level bytes shown = HasStreamed r × (bytes ≡ 36 ∷ 63 ∷ []) × (shown ≡ [])
-TokenHas r AtStreamLf level bytes shown = HasStreamed r × (bytes ≡ 36 ∷ 63 ∷ 13 ∷ []) × (shown ≡ [])
+TokenHas r AtStreamCr level bytes shown = HasStreamed r × (bytes ≡ codes "$?") × (shown ≡ [])
+TokenHas r AtStreamLf level bytes shown = HasStreamed r × (bytes ≡ codes "$?\r") × (shown ≡ [])
 TokenHas r (AtChunk room) level bytes shown = ChunksBegun r room [] level bytes shown
 TokenHas r (InChunk room n) level bytes shown = ChunkBegun r room n [] level bytes shown × (0 < n)
 TokenHas r (AtChunkCr room) level bytes shown = ChunkBegun r room 0 [] level bytes shown
-TokenHas r (AtChunkLf room) level bytes shown = ChunkBegun r room 0 (13 ∷ []) level bytes shown
+TokenHas r (AtChunkLf room) level bytes shown = ChunkBegun r room 0 (codes "\r") level bytes shown
 TokenHas r (AtOpenCr k) level bytes shown = StreamBegun r (kind_of k) [] level bytes shown
-TokenHas r (AtOpenLf k) level bytes shown = StreamBegun r (kind_of k) (13 ∷ []) level bytes shown
+TokenHas r (AtOpenLf k) level bytes shown = StreamBegun r (kind_of k) (codes "\r") level bytes shown
 TokenHas r AtCloseCr level bytes shown = ⊥
 TokenHas r AtCloseLf level bytes shown = ⊥
 TokenHas r (Dead c) level bytes shown = ⊥

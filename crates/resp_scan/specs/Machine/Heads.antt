@@ -10,7 +10,7 @@ use Rattle.resp_scan.specs.declared.event.TextKind.TheVariants as text
 use Rattle.resp_scan.specs.declared.frame.Shape.TheVariants.{Left, Begun}
 use Rattle.resp_scan.specs.declared.machine.Head.{Head}
 use Rattle.resp_scan.specs.declared.machine.Head.TheVariants.{Bulk, BulkError, Verbatim, Chunk, Array, Set, Map, Attr, Push}
-use Rattle.resp_scan.specs.Machine.Tokens.{Place, Move, Go, Give, Text, TextEnd, Open, at, after_end, InContent, AtContentCr, AtFormat, InChunk, AtChunkCr}
+use Rattle.resp_scan.specs.Machine.Tokens.{Place, Move, Go, Give, Text, TextEnd, Open, at, at_boundary, InContent, AtContentCr, AtFormat, InChunk, AtChunkCr}
 use Rattle.resp_scan.specs.Machine.Room.{over_total, is_full}
 
 -- the greatest number that length or items allow
@@ -108,14 +108,14 @@ aggregate_cause s used = cause_in_three s.version
 
 -- an aggregate opens with so many members
 abbrev pub after_open : Place → OpenKind → ℕ → Place
-after_open s k n = after_end (record s {
+after_open s k n = at_boundary (record s {
   frames = record { kind = k; shape = Left n } ∷ s.frames;
   frames_need =
       s.frames_need + n * 3;
 })
 
 abbrev pub after_streamed_open : Place → OpenKind → Place
-after_streamed_open s k = after_end (record s {
+after_streamed_open s k = at_boundary (record s {
   frames = record { kind = k; shape = Begun 0 } ∷ s.frames;
   frames_need =
       s.frames_need + 3;
@@ -149,7 +149,7 @@ abbrev pub head_move : Place → Head → ℕ → Move
 head_move s Bulk n = Give (Text text.Bulk) (content_at n s)
 head_move s BulkError n = Give (Text text.BulkError) (content_at n s)
 head_move s Verbatim n = Go (at s (AtFormat n))
-head_move s (Chunk room) n = cond (eqb n 0) (Give TextEnd (after_end s)) (Go (at s (InChunk (room - n) n)))
+head_move s (Chunk room) n = cond (eqb n 0) (Give TextEnd (at_boundary s)) (Go (at s (InChunk (room - n) n)))
 head_move s Array n = Give (Open kind.Array (Some n)) (after_open s kind.Array n)
 head_move s Set n = Give (Open kind.Set (Some n)) (after_open s kind.Set n)
 head_move s Map n = Give (Open kind.Map (Some n)) (after_open s kind.Map (n * 2))

@@ -1,5 +1,6 @@
 -- The machine by bytes: what one byte more makes of a place.
 use Rattle.std.specs.Prelude.{ℕ, ◌+◌, ◌-◌, ◌*◌, ◌%◌, Bool, true, false, ◌&&◌, ℤ, pos, cond, eqb, nat_le, List, [], ◌∷◌, Option, None, Some}
+use Rattle.std.specs.Str.{byte}
 use Rattle.std.proofs.Common.{neg_ℤ}
 use Rattle.resp_value.specs.declared.cause.Cause.{Cause}
 use Rattle.resp_value.specs.declared.cause.Cause.TheVariants as cause
@@ -14,7 +15,7 @@ use Rattle.resp_scan.specs.declared.frame.Shape.TheVariants.{Left, Begun}
 use Rattle.resp_scan.specs.declared.machine.Head.{Head}
 use Rattle.resp_scan.specs.declared.machine.Head.TheVariants as head
 use Rattle.resp_scan.specs.Machine.Magnitudes.{greatest_magnitude}
-use Rattle.resp_scan.specs.Machine.Tokens.{Token, Place, Happening, Move, Go, Byte, Give, Refuse, at, after_end, Null, Truth, Int, Text, TextEnd, Open, Close, AtStart, AtEnd, InLine, AtLineLf, AtIntSign, AtIntFirst, InInt, AtIntLf, AtBigSign, AtBigFirst, InBigZeros, AtBigZeroLf, AtBigDigit, InBig, AtTextEnd, AtNullOne, AtNullCr, AtNullLf, AtBool, AtBoolCr, AtBoolLf, AtBulkHead, AtArrayHead, AtHead, InHead, AtHeadLf, AtFormat, AtFormatSecond, AtFormatThird, AtFormatColon, InContent, AtContentCr, AtContentLf, AtStreamCr, AtStreamLf, AtChunk, InChunk, AtChunkCr, AtChunkLf, AtOpenCr, AtOpenLf, AtCloseCr, AtCloseLf, Dead}
+use Rattle.resp_scan.specs.Machine.Tokens.{Token, Place, Happening, Move, Go, Byte, Give, Refuse, at, at_boundary, Null, Truth, Int, Text, TextEnd, Open, Close, AtStart, AtEnd, InLine, AtLineLf, AtIntSign, AtIntFirst, InInt, AtIntLf, AtBigSign, AtBigFirst, InBigZeros, AtBigZeroLf, AtBigDigit, InBig, AtTextEnd, AtNullOne, AtNullCr, AtNullLf, AtBool, AtBoolCr, AtBoolLf, AtBulkHead, AtArrayHead, AtHead, InHead, AtHeadLf, AtFormat, AtFormatSecond, AtFormatThird, AtFormatColon, InContent, AtContentCr, AtContentLf, AtStreamCr, AtStreamLf, AtChunk, InChunk, AtChunkCr, AtChunkLf, AtOpenCr, AtOpenLf, AtCloseCr, AtCloseLf, Dead}
 use Rattle.resp_scan.specs.Machine.Room.{has_total_room, over_total, is_full, after_begin, begin_cause, with_shape}
 use Rattle.resp_scan.specs.Machine.Heads.{over, may_end, streamed_kind, string_cause, aggregate_cause, after_streamed_open, content_at, chunk_at, head_move, first_needed}
 
@@ -23,7 +24,7 @@ with_sign true n = neg_ℤ (pos n)
 with_sign false n = pos n
 
 abbrev pub is_digit : ℕ → Bool
-is_digit b = nat_le 48 b && nat_le b 57
+is_digit b = nat_le (byte "0") b && nat_le b (byte "9")
 
 -- a move, unless a cause refuses it
 abbrev pub move_unless : Option Cause → Move → Move
@@ -41,11 +42,11 @@ int_digit s used negative n = cond (nat_le n (greatest_magnitude negative))
     (cond (has_total_room s used 2) (Go (at s (InInt negative n))) (Refuse cause.Total)) (Refuse cause.Range)
 
 abbrev pub int_first : Place → Bool → ℕ → Move
-int_first s negative b = cond (is_digit b) (Go (at s (InInt negative (b - 48)))) (Refuse cause.Syntax)
+int_first s negative b = cond (is_digit b) (Go (at s (InInt negative (b - byte "0")))) (Refuse cause.Syntax)
 
 -- a digit that isn't zero begins the text
 abbrev pub big_digit : Place → Bool → ℕ → Move
-big_digit s negative b = cond (eqb b 48) (Go (at s (InBigZeros negative)))
+big_digit s negative b = cond (eqb b (byte "0")) (Go (at s (InBigZeros negative)))
     (Give (Text (text.Big negative)) (at s (AtBigDigit b (s.bounds.length - 1))))
 
 abbrev pub big_first : Place → Bool → ℕ → Move
@@ -67,13 +68,13 @@ head_digit s used h n = move_unless (over s used h n) (Go (at s (InHead h n)))
 
 abbrev pub head_first : Place → ℕ → Head → ℕ → Move
 head_first s used h b =
-    cond (eqb b 63) (streamed_move s used (streamed_kind h))
-    (cond (is_digit b) (head_digit s used h (b - 48)) (Refuse cause.Syntax))
+    cond (eqb b (byte "?")) (streamed_move s used (streamed_kind h))
+    (cond (is_digit b) (head_digit s used h (b - byte "0")) (Refuse cause.Syntax))
 
 abbrev pub bulk_head : Place → ℕ → ℕ → Move
 bulk_head s used b =
-    cond (eqb b 45) (Go (at s AtNullOne))
-    (cond (eqb b 63) (move_unless (string_cause s used) (Go (at s AtStreamCr))) (head_first s used head.Bulk b))
+    cond (eqb b (byte "-")) (Go (at s AtNullOne))
+    (cond (eqb b (byte "?")) (move_unless (string_cause s used) (Go (at s AtStreamCr))) (head_first s used head.Bulk b))
 
 abbrev pub full_streamed : Version → Bool → Cause
 full_streamed version.Two streamed = cause.Version
@@ -81,12 +82,12 @@ full_streamed version.Three streamed = cond streamed cause.Depth cause.Streamed
 
 -- what refuses a byte, other than `-`, behind the `*` of an array that would be a level too deep
 abbrev pub full_cause : Place → ℕ → Cause
-full_cause s b = cond (eqb b 63) (full_streamed s.version s.bounds.streamed)
+full_cause s b = cond (eqb b (byte "?")) (full_streamed s.version s.bounds.streamed)
     (cond (is_digit b) cause.Depth cause.Syntax)
 
 abbrev pub array_head : Place → ℕ → ℕ → Move
 array_head s used b =
-    cond (eqb b 45) (move_unless (over_total s used 3) (Go (at s AtNullOne)))
+    cond (eqb b (byte "-")) (move_unless (over_total s used 3) (Go (at s AtNullOne)))
     (cond (is_full s) (Refuse (full_cause s b)) (head_first s used head.Array b))
 
 -- A value's first byte.
@@ -133,26 +134,26 @@ close_move s = cond (may_close s.frames) (Go (record s {
 
 abbrev pub start_three : Place → ℕ → Move
 start_three s b =
-    cond (eqb b 95) (move_in_three s.version (begin_move s 2 AtNullCr))
-    (cond (eqb b 35) (move_in_three s.version (begin_move s 3 AtBool))
-    (cond (eqb b 40) (move_in_three s.version (begin_move s 3 AtBigSign))
-    (cond (eqb b 33) (move_in_three s.version (begin_move s 5 (AtHead head.BulkError)))
-    (cond (eqb b 61) (move_in_three s.version (begin_move s 9 (AtHead head.Verbatim)))
-    (cond (eqb b 126) (move_in_three s.version (aggregate_move s head.Set))
-    (cond (eqb b 37) (move_in_three s.version (aggregate_move s head.Map))
-    (cond (eqb b 124) (move_in_three s.version (aggregate_move s head.Attr))
-    (cond (eqb b 62) (move_in_three s.version (push_move s s.frames))
+    cond (eqb b (byte "_")) (move_in_three s.version (begin_move s 2 AtNullCr))
+    (cond (eqb b (byte "#")) (move_in_three s.version (begin_move s 3 AtBool))
+    (cond (eqb b (byte "(")) (move_in_three s.version (begin_move s 3 AtBigSign))
+    (cond (eqb b (byte "!")) (move_in_three s.version (begin_move s 5 (AtHead head.BulkError)))
+    (cond (eqb b (byte "=")) (move_in_three s.version (begin_move s 9 (AtHead head.Verbatim)))
+    (cond (eqb b (byte "~")) (move_in_three s.version (aggregate_move s head.Set))
+    (cond (eqb b (byte "%")) (move_in_three s.version (aggregate_move s head.Map))
+    (cond (eqb b (byte "|")) (move_in_three s.version (aggregate_move s head.Attr))
+    (cond (eqb b (byte ">")) (move_in_three s.version (push_move s s.frames))
     (Refuse cause.Syntax)))))))))
 
 abbrev pub start_next : Place → ℕ → Move
 start_next s b =
-    cond (eqb b 43) (line_move s (Text text.Simple))
-    (cond (eqb b 45) (line_move s (Text text.Error))
-    (cond (eqb b 58) (begin_move s 3 AtIntSign)
-    (cond (eqb b 36) (begin_move s 4 AtBulkHead)
-    (cond (eqb b 42) (begin_move s (cond (is_full s) 4 3) AtArrayHead)
-    (cond (eqb b 46) (close_move s)
-    (cond (eqb b 44) (Refuse cause.Double)
+    cond (eqb b (byte "+")) (line_move s (Text text.Simple))
+    (cond (eqb b (byte "-")) (line_move s (Text text.Error))
+    (cond (eqb b (byte ":")) (begin_move s 3 AtIntSign)
+    (cond (eqb b (byte "$")) (begin_move s 4 AtBulkHead)
+    (cond (eqb b (byte "*")) (begin_move s (cond (is_full s) 4 3) AtArrayHead)
+    (cond (eqb b (byte ".")) (close_move s)
+    (cond (eqb b (byte ",")) (Refuse cause.Double)
     (start_three s b)))))))
 
 abbrev pub without_first : List Frame → List Frame
@@ -164,57 +165,57 @@ abbrev pub next_in : Token → Place → ℕ → ℕ → Move
 next_in AtStart s used b = start_next s b
 next_in AtEnd s used b = Refuse cause.Syntax
 next_in (InLine room) s used b =
-    cond (eqb b 13) (Go (at s AtLineLf)) (cond (eqb b 10) (Refuse cause.Syntax) (content_byte s used room InLine))
-next_in AtLineLf s used b = only_byte 10 b (Give TextEnd (after_end s))
+    cond (eqb b (byte "\r")) (Go (at s AtLineLf)) (cond (eqb b (byte "\n")) (Refuse cause.Syntax) (content_byte s used room InLine))
+next_in AtLineLf s used b = only_byte (byte "\n") b (Give TextEnd (at_boundary s))
 next_in AtIntSign s used b =
-    cond (eqb b 45) (move_unless (over_total s used 3) (Go (at s (AtIntFirst true))))
-    (cond (eqb b 43) (move_unless (over_total s used 3) (Go (at s (AtIntFirst false)))) (int_first s false b))
+    cond (eqb b (byte "-")) (move_unless (over_total s used 3) (Go (at s (AtIntFirst true))))
+    (cond (eqb b (byte "+")) (move_unless (over_total s used 3) (Go (at s (AtIntFirst false)))) (int_first s false b))
 next_in (AtIntFirst negative) s used b = int_first s negative b
 next_in (InInt negative n) s used b =
-    cond (is_digit b) (int_digit s used negative (n * 10 + (b - 48))) (only_byte 13 b (Go (at s (AtIntLf negative n))))
-next_in (AtIntLf negative n) s used b = only_byte 10 b (Give (Int (with_sign negative n)) (after_end s))
+    cond (is_digit b) (int_digit s used negative (n * 10 + (b - byte "0"))) (only_byte (byte "\r") b (Go (at s (AtIntLf negative n))))
+next_in (AtIntLf negative n) s used b = only_byte (byte "\n") b (Give (Int (with_sign negative n)) (at_boundary s))
 next_in AtBigSign s used b =
-    cond (eqb b 45) (move_unless (over_total s used 3) (Go (at s (AtBigFirst true))))
-    (cond (eqb b 43) (move_unless (over_total s used 3) (Go (at s (AtBigFirst false)))) (big_first s false b))
+    cond (eqb b (byte "-")) (move_unless (over_total s used 3) (Go (at s (AtBigFirst true))))
+    (cond (eqb b (byte "+")) (move_unless (over_total s used 3) (Go (at s (AtBigFirst false)))) (big_first s false b))
 next_in (AtBigFirst negative) s used b = big_first s negative b
 next_in (InBigZeros negative) s used b =
     cond (is_digit b) (cond (has_total_room s used 2) (big_digit s negative b) (Refuse cause.Total))
-    (only_byte 13 b (Go (at s AtBigZeroLf)))
-next_in AtBigZeroLf s used b = only_byte 10 b (Give (Text (text.Big false)) (at s AtTextEnd))
+    (only_byte (byte "\r") b (Go (at s AtBigZeroLf)))
+next_in AtBigZeroLf s used b = only_byte (byte "\n") b (Give (Text (text.Big false)) (at s AtTextEnd))
 next_in (AtBigDigit d room) s used b = Refuse cause.Syntax
 next_in (InBig room) s used b =
-    cond (is_digit b) (content_byte s used room InBig) (only_byte 13 b (Go (at s AtLineLf)))
+    cond (is_digit b) (content_byte s used room InBig) (only_byte (byte "\r") b (Go (at s AtLineLf)))
 next_in AtTextEnd s used b = Refuse cause.Syntax
-next_in AtNullOne s used b = only_byte 49 b (Go (at s AtNullCr))
-next_in AtNullCr s used b = only_byte 13 b (Go (at s AtNullLf))
-next_in AtNullLf s used b = only_byte 10 b (Give Null (after_end s))
-next_in AtBool s used b = cond (eqb b 116) (Go (at s (AtBoolCr true))) (only_byte 102 b (Go (at s (AtBoolCr false))))
-next_in (AtBoolCr v) s used b = only_byte 13 b (Go (at s (AtBoolLf v)))
-next_in (AtBoolLf v) s used b = only_byte 10 b (Give (Truth v) (after_end s))
+next_in AtNullOne s used b = only_byte (byte "1") b (Go (at s AtNullCr))
+next_in AtNullCr s used b = only_byte (byte "\r") b (Go (at s AtNullLf))
+next_in AtNullLf s used b = only_byte (byte "\n") b (Give Null (at_boundary s))
+next_in AtBool s used b = cond (eqb b (byte "t")) (Go (at s (AtBoolCr true))) (only_byte (byte "f") b (Go (at s (AtBoolCr false))))
+next_in (AtBoolCr v) s used b = only_byte (byte "\r") b (Go (at s (AtBoolLf v)))
+next_in (AtBoolLf v) s used b = only_byte (byte "\n") b (Give (Truth v) (at_boundary s))
 next_in AtBulkHead s used b = bulk_head s used b
 next_in AtArrayHead s used b = array_head s used b
 next_in (AtHead h) s used b = head_first s used h b
 next_in (InHead h n) s used b =
-    cond (is_digit b) (head_digit s used h (n * 10 + (b - 48)))
-    (cond (may_end h n) (only_byte 13 b (Go (at s (AtHeadLf h n)))) (Refuse cause.Syntax))
-next_in (AtHeadLf h n) s used b = only_byte 10 b (head_move s h n)
+    cond (is_digit b) (head_digit s used h (n * 10 + (b - byte "0")))
+    (cond (may_end h n) (only_byte (byte "\r") b (Go (at s (AtHeadLf h n)))) (Refuse cause.Syntax))
+next_in (AtHeadLf h n) s used b = only_byte (byte "\n") b (head_move s h n)
 next_in (AtFormat n) s used b = Go (at s (AtFormatSecond b n))
 next_in (AtFormatSecond x n) s used b = Go (at s (AtFormatThird x b n))
 next_in (AtFormatThird x y n) s used b = Go (at s (AtFormatColon (x ∷ y ∷ b ∷ []) n))
-next_in (AtFormatColon format n) s used b = only_byte 58 b (Give (Text (text.Verbatim format)) (content_at (n - 4) s))
+next_in (AtFormatColon format n) s used b = only_byte (byte ":") b (Give (Text (text.Verbatim format)) (content_at (n - 4) s))
 next_in (InContent n) s used b = Byte (content_at (n - 1) s)
-next_in AtContentCr s used b = only_byte 13 b (Go (at s AtContentLf))
-next_in AtContentLf s used b = only_byte 10 b (Give TextEnd (after_end s))
-next_in AtStreamCr s used b = only_byte 13 b (Go (at s AtStreamLf))
-next_in AtStreamLf s used b = only_byte 10 b (Give (Text text.Bulk) (at s (AtChunk s.bounds.length)))
-next_in (AtChunk room) s used b = only_byte 59 b (Go (at s (AtHead (head.Chunk room))))
+next_in AtContentCr s used b = only_byte (byte "\r") b (Go (at s AtContentLf))
+next_in AtContentLf s used b = only_byte (byte "\n") b (Give TextEnd (at_boundary s))
+next_in AtStreamCr s used b = only_byte (byte "\r") b (Go (at s AtStreamLf))
+next_in AtStreamLf s used b = only_byte (byte "\n") b (Give (Text text.Bulk) (at s (AtChunk s.bounds.length)))
+next_in (AtChunk room) s used b = only_byte (byte ";") b (Go (at s (AtHead (head.Chunk room))))
 next_in (InChunk room n) s used b = Byte (chunk_at room (n - 1) s)
-next_in (AtChunkCr room) s used b = only_byte 13 b (Go (at s (AtChunkLf room)))
-next_in (AtChunkLf room) s used b = only_byte 10 b (Go (at s (AtChunk room)))
-next_in (AtOpenCr k) s used b = only_byte 13 b (Go (at s (AtOpenLf k)))
-next_in (AtOpenLf k) s used b = only_byte 10 b (Give (Open k None) (after_streamed_open s k))
-next_in AtCloseCr s used b = only_byte 13 b (Go (at s AtCloseLf))
-next_in AtCloseLf s used b = only_byte 10 b (Give Close (after_end (record s { frames = without_first s.frames })))
+next_in (AtChunkCr room) s used b = only_byte (byte "\r") b (Go (at s (AtChunkLf room)))
+next_in (AtChunkLf room) s used b = only_byte (byte "\n") b (Go (at s (AtChunk room)))
+next_in (AtOpenCr k) s used b = only_byte (byte "\r") b (Go (at s (AtOpenLf k)))
+next_in (AtOpenLf k) s used b = only_byte (byte "\n") b (Give (Open k None) (after_streamed_open s k))
+next_in AtCloseCr s used b = only_byte (byte "\r") b (Go (at s AtCloseLf))
+next_in AtCloseLf s used b = only_byte (byte "\n") b (Give Close (at_boundary (record s { frames = without_first s.frames })))
 next_in (Dead c) s used b = Refuse c
 
 -- what one byte more does, the last of so many of the piece

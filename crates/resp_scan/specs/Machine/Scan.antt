@@ -2,7 +2,7 @@
 use Rattle.std.specs.Prelude.{ℕ, ◌+◌, List, [], ◌∷◌}
 use Rattle.resp_value.specs.declared.cause.Cause.{Cause}
 use Rattle.resp_scan.specs.declared.frame.Frame.{Frame}
-use Rattle.resp_scan.specs.Machine.Tokens.{Token, Place, Happening, Move, Go, Byte, Give, Refuse, at, after_end, TextEnd, Close, Digit, AtStart, AtEnd, AtBigDigit, InBig, AtTextEnd, Dead}
+use Rattle.resp_scan.specs.Machine.Tokens.{Token, Place, Happening, Move, Go, Byte, Give, Refuse, at, at_boundary, TextEnd, Close, Digit, AtStart, AtEnd, AtBigDigit, InBig, AtTextEnd, Dead}
 use Rattle.resp_scan.specs.Machine.Moves.{next}
 
 -- the bytes of the piece that are used, and what stands behind them
@@ -41,11 +41,11 @@ scan i s (b ∷ bs) = answer (next s (i + 1) b) i s (λ t. scan (i + 1) t bs) (�
 -- what is owed where a value has ended: its parent's close, or that it is whole
 abbrev pub out_at_end : Place → List Frame → Out
 out_at_end s [] = Whole (record s { token = AtStart; taken = 0 })
-out_at_end s (f ∷ fs) = Gave 0 Close (after_end (record s { frames = fs }))
+out_at_end s (f ∷ fs) = Gave 0 Close (at_boundary (record s { frames = fs }))
 
 abbrev pub out_from_token : Token → Place → List ℕ → Out
 out_from_token AtEnd s p = out_at_end s s.frames
-out_from_token AtTextEnd s p = Gave 0 TextEnd (after_end s)
+out_from_token AtTextEnd s p = Gave 0 TextEnd (at_boundary s)
 out_from_token (AtBigDigit d room) s p = Gave 0 (Digit d) (at s (InBig room))
 out_from_token (Dead c) s p = Bad 0 c s
 out_from_token _ s p = scan 0 s p

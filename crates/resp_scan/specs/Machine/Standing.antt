@@ -1,6 +1,6 @@
 -- What a scanner has taken and given since a value began: the heads of the open aggregates, each with its whole
 -- members, and then the bytes begun since, within every rule but total.
-use Rattle.std.specs.Prelude.{◌≡◌, ℕ, ◌+◌, ◌-◌, ◌<◌, List, [], ◌∷◌, ◌++◌, length}
+use Rattle.std.specs.Prelude.{codes, ◌≡◌, ℕ, ◌+◌, ◌-◌, ◌<◌, List, [], ◌∷◌, ◌++◌, length}
 use Rattle.resp_value.specs.Trees.{Tree, IsTree, close, text, count}
 use Rattle.resp_value.specs.Rules.{Rules, WithinItems}
 use Rattle.resp_value.specs.LocalRules.{LeafKeeps, NodeKeeps, HoldsFrom}
@@ -118,8 +118,8 @@ HasEnded r (f ∷ fs) front es = IsClosing r f.kind fs [] [] front es
 abbrev pub StandsAfterAt : Rules → Token → List Frame → List ℕ → List Event → Type 0
 StandsAfterAt r AtStart fs front es = AwaitsMember r fs front es
 StandsAfterAt r AtEnd fs front es = HasEnded r fs front es
-StandsAfterAt r AtCloseCr fs front es = IsClosingIn r fs (46 ∷ []) (13 ∷ 10 ∷ []) front es
-StandsAfterAt r AtCloseLf fs front es = IsClosingIn r fs (46 ∷ 13 ∷ []) (10 ∷ []) front es
+StandsAfterAt r AtCloseCr fs front es = IsClosingIn r fs (codes ".") (codes "\r\n") front es
+StandsAfterAt r AtCloseLf fs front es = IsClosingIn r fs (codes ".\r") (codes "\n") front es
 StandsAfterAt r token fs front es = IsInside r (b.TokenHas r token) fs front es
 
 abbrev pub StandsAfter : Place → List ℕ → List Event → Type 0

@@ -106,9 +106,9 @@ token_in_shape (Left n) = cond (eqb n 0) AtEnd AtStart
 token_in_shape (Begun n) = AtStart
 
 -- where a value has ended, or an aggregate has opened, within these frames
-abbrev pub token_within : List Frame → Token
-token_within [] = AtEnd
-token_within (f ∷ fs) = token_in_shape f.shape
+abbrev pub token_at_boundary : List Frame → Token
+token_at_boundary [] = AtEnd
+token_at_boundary (f ∷ fs) = token_in_shape f.shape
 
-abbrev pub after_end : Place → Place
-after_end s = record s { token = token_within s.frames }
+abbrev pub at_boundary : Place → Place
+at_boundary s = record s { token = token_at_boundary s.frames }

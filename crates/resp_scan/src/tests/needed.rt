@@ -1,6 +1,6 @@
 //! What is needed before the first byte of a text and behind each of its bytes.
 //!
-//! Each number is worked out by hand, from the table of least completions in docs/grammar.md.
+//! Each number is worked out by hand, from the table of least completions in docs/protocol.md.
 
 use crate::event::{Event, Fault};
 use crate::scanner::Scanner;

@@ -1,7 +1,9 @@
+use Rattle.resp_value.specs.Rules.{rules_under}
 use Rattle.resp_value.specs.Values.{datum_of}
-use Rattle.resp_encode.proofs.Texts.{spells_if_fits}
+use Rattle.resp_encode.proofs.Verdicts.{verdict_of_fitting}
 use Rattle.resp_encode.proofs.values.encode.Goals as goal
 
-pub returns-then-attempt-clause-spelling : goal.returns-then-attempt-clause-spelling
-returns-then-attempt-clause-spelling c = spells_if_fits (record { version = c.args.version; limits = c.args.limits.now }) (datum_of c.args.value.now)
+pub returns-then-attempt-clause-verdict : goal.returns-then-attempt-clause-verdict
+returns-then-attempt-clause-verdict c = verdict_of_fitting (rules_under c.args.version c.args.limits.now)
+    (datum_of c.args.value.now) tt
     c.if-attempt.ensures.is_value c.if-attempt.ensures.fits

@@ -5,8 +5,10 @@ use Rattle.resp_scan.specs.Kinds.{rules_of}
 use Rattle.resp_scan.proofs.CallClauses.LeastNeeded.{least_is_needed}
 use Rattle.resp_scan.proofs.scanner.Scanner.needed.Goals as goal
 
-pub returns-clause-least : goal.returns-clause-least
-returns-clause-least c =
+pub returns : goal.returns
+returns c =
     let s = place_of c.self.inside.machine in
-    rw (← c.self.view_is) (λ front es w. subst (IsLeast (rules_of s) front) (omega (arith, c.token_needed.ensures))
-    (least_is_needed s 0 front es c.self.invariant w.lies))
+    record {
+      least_completion = rw (← c.self.view_is) (λ front es w. subst (IsLeast (rules_of s) front) (omega (arith, c.needed.ensures))
+          (least_is_needed s 0 front es c.self.invariant w.stands));
+    }

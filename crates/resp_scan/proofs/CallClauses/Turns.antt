@@ -1,0 +1,240 @@
+-- One turn of the loop over a piece.
+use Rattle.std.specs.Prelude.{Bool, true, false, take, drop, None, Some, get_or, MatchBool}
+use Rattle.std.proofs.Common.{◌≡◌, ℕ, ◌+◌, ◌-◌, ◌<◌, ◌≤◌, List, [], ◌∷◌, ◌++◌, length, refl, sym, ap, subst, ◌∙◌, arith, append_assoc, append-nil, length-append}
+use Rattle.resp_value.specs.Bytes.{IsText}
+use Rattle.resp_value.specs.Rules.{Rules, WithinTotal}
+use Rattle.resp_value.specs.Spellings.{IsViable}
+use Rattle.resp_fronts.specs.Events as e
+use Rattle.resp_scan.specs.declared.event.Event.TheVariants as event
+use Rattle.resp_scan.specs.declared.event.Fault.{Fault}
+use Rattle.resp_scan.specs.declared.machine.EventTag.{EventTag}
+use Rattle.resp_scan.specs.declared.machine.EventTag.TheVariants as tag
+use Rattle.resp_scan.specs.declared.machine.Machine.{Machine}
+use Rattle.resp_scan.specs.declared.machine.Taken.{Taken}
+use Rattle.resp_scan.specs.declared.listen.Turn.TheVariants as turn
+use Rattle.resp_scan.specs.declared.listen.Turned.{Turned}
+use Rattle.resp_scan.specs.Kinds.{content_events, event_of, rules_of}
+use Rattle.resp_scan.specs.Reading.{BeginDue, Events, HasRead}
+use Rattle.resp_scan.specs.Listening.{Hears, MayBeGiven, StopsWithin}
+use Rattle.resp_scan.specs.Machine.Tokens.{Happening, Place, Dead}
+use Rattle.resp_scan.specs.Machine.Fields.{out_by, out_of, place_of}
+use Rattle.resp_scan.specs.Machine.Owed.{events_owed}
+use Rattle.resp_scan.specs.Machine.Scan.{Out, More, Gave, Part, Whole, Bad, out_from}
+use Rattle.resp_scan.specs.Machine.Sound.{IsSound}
+use Rattle.resp_scan.specs.Machine.StepOutcomes.{after_bytes, after_step}
+use Rattle.resp_scan.specs.Machine.Turns.{IsTurn, OutcomeOfTurn, turn_of}
+use Rattle.resp_scan.proofs.CallClauses.Answered.{answered}
+use Rattle.resp_scan.proofs.CallClauses.Calls.{begin_due}
+use Rattle.resp_scan.proofs.CallClauses.LeastNeeded.{followed_is_viable}
+use Rattle.resp_scan.proofs.CallClauses.Nearer.{IsNearer, is_nearer}
+use Rattle.resp_scan.proofs.CallClauses.Steps.{Shown, shown, follows, heard_is, refused_is, value_is}
+use Rattle.resp_scan.proofs.Soundness.Counted.{IsCounted, counted_out}
+use Rattle.resp_scan.proofs.Soundness.Kept.{IsOut, is_advanced}
+use Rattle.resp_scan.proofs.Soundness.Pieces.{done_none, failed_is, used_within}
+
+-- What a sound place has read is viable.
+pub read_is_viable : (s : Place) (front : List ℕ) (given : Events) → IsSound s → HasRead s front given → IsViable (rules_of s) WithinTotal front
+read_is_viable s front given sound w = followed_is_viable s 0 front given sound (omega (arith, w.taken)) w.stands
+
+-- What it has given may be given.
+pub may_be : (s : Place) (front : List ℕ) (given : Events) → IsSound s → HasRead s front given → MayBeGiven given
+may_be s front given sound w = record {
+  rules = rules_of s;
+  front = front;
+  limits_in_range = sound.bounds;
+  viable = read_is_viable s front given sound w;
+  first_due = begin_due s front given sound w;
+}
+
+-- the first events of those that are the first due
+begin_fewer : (front : List ℕ) (given more : Events) → BeginDue front (given ++ more) → BeginDue front given
+begin_fewer front given more due rest whole spells = let d = due rest whole spells in (more ++ d.0, d.1 ∙ append_assoc given more d.0)
+
+-- A listener that was told more events goes on, or stops where it may.
+pub turn_told : (s t : Place) (HasHeard MayStop : Events → Type 0) (front : List ℕ) (given : Events) (p : List ℕ) (n : ℕ) (more : Events) (goes_on : Bool) →
+    IsSound t → rules_of t ≡ rules_of s → HasRead t (front ++ take n p) (given ++ more) →
+    (MayBeGiven (given ++ more) → MatchBool goes_on (HasHeard (given ++ more)) (StopsWithin MayStop given more)) →
+    OutcomeOfTurn s t HasHeard MayStop front given p n (turn_of goes_on)
+turn_told s t HasHeard MayStop front given p n more goes_on sound rules w hears =
+    by_answer goes_on (hears (may_be t (front ++ take n p) (given ++ more) sound w))
+  where
+    by_answer : (x : Bool) → MatchBool x (HasHeard (given ++ more)) (StopsWithin MayStop given more) →
+        OutcomeOfTurn s t HasHeard MayStop front given p n (turn_of x)
+    by_answer true h = record { told = more; reads = w; heard = h }
+    by_answer false h = record {
+      told = given ++ h.told;
+      may_stop = h.may_stop;
+      first_due = begin_fewer (front ++ take n p) (given ++ h.told) h.later
+          (subst (BeginDue (front ++ take n p)) (ap (λ z. given ++ z) h.parts ∙ sym (append_assoc given h.told h.later))
+              (begin_due t (front ++ take n p) (given ++ more) sound w));
+      viable = subst (λ r. IsViable r WithinTotal (front ++ take n p)) rules (read_is_viable t (front ++ take n p) (given ++ more) sound w);
+      taken = w.taken;
+    }
+
+-- what an answer tells of the piece
+abbrev pub events_told : List ℕ → Out → Events
+events_told p (Gave n x t) = event_of x ∷ []
+events_told p (Part k n t) = content_events (drop k (take n p))
+events_told p _ = []
+
+-- The answer's bytes counted, what was read is more by what it tells.
+abbrev ReadsOn : Place → List ℕ → Events → List ℕ → Out → Type 0
+ReadsOn s front given p (Gave n x t) = HasRead (after_bytes n t) (front ++ take n p) (given ++ event_of x ∷ [])
+ReadsOn s front given p (Part k n t) = HasRead (after_bytes n t) (front ++ take n p) (given ++ content_events (drop k (take n p)))
+ReadsOn s front given p _ = Unit {0}
+
+reads_on : (s : Place) (front : List ℕ) (given : Events) (p : List ℕ) (o : Out) → s.taken ≡ length front → Shown s front given p (after_step o) →
+    ReadsOn s front given p o
+reads_on s front given p (Gave n x t) taken h = follows s (after_bytes n t) front (given ++ event_of x ∷ []) p n taken h.0 h.1 h.2
+reads_on s front given p (Part k n t) taken h =
+    follows s (after_bytes n t) front (given ++ content_events (drop k (take n p))) p n taken h.1 h.2 h.3
+reads_on s front given p (More n t) taken h = tt
+reads_on s front given p (Whole t) taken h = tt
+reads_on s front given p (Bad n c t) taken h = tt
+
+-- what the machine answers, in words of what was read
+pub shows : (s : Place) (front : List ℕ) (given : Events) (p : List ℕ) (o : Out) → IsText p → IsSound s → o ≡ out_from s p → HasRead s front given →
+    Shown s front given p (after_step o)
+shows s front given p o text sound is w = subst (λ x. Shown s front given p (after_step x)) (sym is)
+    (shown s front given p (out_from s p) (is_advanced s p sound) (answered s front given p text sound w.taken w.stands))
+
+pub reads_more : (s : Place) (front : List ℕ) (given : Events) (p : List ℕ) (o : Out) → IsText p → IsSound s → o ≡ out_from s p → HasRead s front given →
+    ReadsOn s front given p o
+reads_more s front given p o text sound is w = reads_on s front given p o w.taken (shows s front given p o text sound is w)
+
+-- Where an answer leads, by its tag.
+
+-- the tags of events that a listener is told
+abbrev pub IsTelling : EventTag → Type 0
+IsTelling tag.More = ⊥
+IsTelling tag.Failed = ⊥
+IsTelling tag.Done = ⊥
+IsTelling _ = Unit {0}
+
+sound_told : (w : EventTag) (n : ℕ) (m : Machine) → IsCounted (after_step (out_by w n m)) → IsSound (after_bytes n (place_of m))
+sound_told tag.Done n m h = h.0
+sound_told w n m h = h
+
+rules_told : (w : EventTag) (n : ℕ) (m : Machine) (s : Place) → IsOut s (out_by w n m) → rules_of (place_of m) ≡ rules_of s
+rules_told tag.Done n m s h = h.2
+rules_told tag.More n m s h = h.rules
+rules_told tag.Part n m s h = h.rules
+rules_told tag.ChunkPart n m s h = h.rules
+rules_told w n m s h = h.0.rules
+
+nearer_told : (w : EventTag) (n : ℕ) (m : Machine) (s : Place) (x : Bool) → IsNearer s (out_by w n m) → IsTelling w → n ≡ 0 →
+    length (events_owed (after_bytes n (place_of m))) < length (events_owed s)
+nearer_told tag.Done n m s x h telling none = absurd telling
+nearer_told tag.More n m s x h telling none = absurd telling
+nearer_told tag.Failed n m s x h telling none = absurd telling
+nearer_told tag.Part n m s x h telling none = absurd (omega (arith, h, none))
+nearer_told tag.ChunkPart n m s x h telling none = absurd (omega (arith, h, none))
+nearer_told w n m s x h telling none = h none
+
+outcome_told : (w : EventTag) (n : ℕ) (m : Machine) (s : Place) (p : List ℕ) (HasHeard MayStop : Events → Type 0) (goes_on : Bool) → IsTelling w →
+    IsSound (after_bytes n (place_of m)) → rules_of (place_of m) ≡ rules_of s → (front : List ℕ) (given : Events) → ReadsOn s front given p (out_by w n m) →
+    (MayBeGiven (given ++ events_told p (out_by w n m)) →
+        MatchBool goes_on (HasHeard (given ++ events_told p (out_by w n m))) (StopsWithin MayStop given (events_told p (out_by w n m)))) →
+    OutcomeOfTurn s (after_bytes n (place_of m)) HasHeard MayStop front given p n (turn_of goes_on)
+outcome_told tag.More n m s p HasHeard MayStop goes_on telling sound rules front given reads hears = absurd telling
+outcome_told tag.Failed n m s p HasHeard MayStop goes_on telling sound rules front given reads hears = absurd telling
+outcome_told tag.Done n m s p HasHeard MayStop goes_on telling sound rules front given reads hears = absurd telling
+outcome_told w n m s p HasHeard MayStop goes_on telling sound rules front given reads hears =
+    turn_told s (after_bytes n (place_of m)) HasHeard MayStop front given p n (events_told p (out_by w n m)) goes_on sound rules reads hears
+
+-- The listener was told what the answer tells.
+pub is_told : (w : EventTag) (taken : Taken) (m : Machine) (s : Place) (p : List ℕ) (HadHeard HasHeard MayStop : Events → Type 0) (goes_on : Bool) →
+    IsTelling w → IsText p → taken.tag ≡ w → IsSound s → out_of taken m ≡ out_from s p →
+    Hears HadHeard HasHeard MayStop (events_told p (out_by w taken.used m)) goes_on →
+    IsTurn s (after_bytes taken.used (place_of m)) HadHeard HasHeard MayStop p (record { used = taken.used; turn = turn_of goes_on })
+is_told w taken m s p HadHeard HasHeard MayStop goes_on telling text is sound out hears =
+    let n = taken.used in
+    let here : out_by w n m ≡ out_from s p = ap (λ x. out_by x n m) (sym is) ∙ out in
+    let kept : IsOut s (out_by w n m) = subst (IsOut s) (sym here) (is_advanced s p sound) in
+    let there : IsSound (after_bytes n (place_of m)) = sound_told w n m (counted_out s (out_by w n m) kept) in
+    let rules = rules_told w n m s kept in
+    record {
+      sound = there;
+      rules = rules;
+      within = (used_within taken m s p sound out).0;
+      nearer = λ on none. nearer_told w n m s goes_on (subst (IsNearer s) (sym here) (is_nearer s p sound)) telling none;
+      outcome = λ front given w had. outcome front given w had;
+    }
+  where
+    outcome : (front : List ℕ) (given : Events) → HasRead s front given → HadHeard given →
+        OutcomeOfTurn s (after_bytes taken.used (place_of m)) HasHeard MayStop front given p taken.used (turn_of goes_on)
+    outcome front given had_read had =
+        let here : out_by w taken.used m ≡ out_from s p = ap (λ x. out_by x taken.used m) (sym is) ∙ out in
+        let kept : IsOut s (out_by w taken.used m) = subst (IsOut s) (sym here) (is_advanced s p sound) in
+        outcome_told w taken.used m s p HasHeard MayStop goes_on telling (sound_told w taken.used m (counted_out s (out_by w taken.used m) kept))
+            (rules_told w taken.used m s kept) front given (reads_more s front given p (out_by w taken.used m) text sound here had_read) (hears given had)
+
+-- Nothing more stands in the piece.
+pub is_more : (taken : Taken) (m : Machine) (s : Place) (p : List ℕ) (HasHeard MayStop : Events → Type 0) → IsText p → taken.tag ≡ tag.More → IsSound s →
+    out_of taken m ≡ out_from s p →
+    IsTurn s (after_bytes taken.used (place_of m)) HasHeard HasHeard MayStop p (record { used = taken.used; turn = turn.More })
+is_more taken m s p HasHeard MayStop text is sound out =
+    let n = taken.used in
+    let here : out_by tag.More n m ≡ out_from s p = ap (λ x. out_by x n m) (sym is) ∙ out in
+    let kept : IsOut s (out_by tag.More n m) = subst (IsOut s) (sym here) (is_advanced s p sound) in
+    record {
+      sound = sound_told tag.More n m (counted_out s (out_by tag.More n m) kept);
+      rules = kept.rules;
+      within = (used_within taken m s p sound out).0;
+      nearer = λ on none. absurd (cc);
+      outcome = λ front given w had. (
+        heard_is s (after_bytes n (place_of m)) front given p n None w.taken (omega (arith, w.taken, sound.total)) tt
+            (shows s front given p (out_by tag.More n m) text sound here w),
+        had,
+      );
+    }
+
+-- A value has ended.
+pub is_done : (taken : Taken) (m : Machine) (s : Place) (p : List ℕ) (HasHeard MayStop : Events → Type 0) → IsText p → taken.tag ≡ tag.Done → IsSound s →
+    out_of taken m ≡ out_from s p →
+    IsTurn s (after_bytes taken.used (place_of m)) HasHeard HasHeard MayStop p (record { used = taken.used; turn = turn.Done })
+is_done taken m s p HasHeard MayStop text is sound out =
+    let n = taken.used in
+    let here : out_by tag.Done n m ≡ out_from s p = ap (λ x. out_by x n m) (sym is) ∙ out in
+    let kept : IsOut s (out_by tag.Done n m) = subst (IsOut s) (sym here) (is_advanced s p sound) in
+    record {
+      sound = kept.0;
+      rules = kept.2;
+      within = (used_within taken m s p sound out).0;
+      nearer = λ on none. absurd (cc);
+      outcome = λ front given w had. (
+        (let h = shows s front given p (out_by tag.Done n m) text sound here w in record {
+          no_byte = (done_none taken m s p sound out is).1;
+          is_value = value_is s front given (omega (arith, w.taken, sound.total)) h.1;
+          reads = record { stands = h.2; taken = omega (arith, h.0) };
+        }),
+        had,
+      );
+    }
+
+-- A byte was refused.
+pub is_failed : (taken : Taken) (m : Machine) (s : Place) (p : List ℕ) (HasHeard MayStop : Events → Type 0) → IsText p → taken.tag ≡ tag.Failed → IsSound s →
+    out_of taken m ≡ out_from s p →
+    IsTurn s (after_bytes taken.used (place_of m)) HasHeard HasHeard MayStop p (record { used = taken.used; turn = turn.Failed })
+is_failed taken m s p HasHeard MayStop text is sound out =
+    let n = taken.used in
+    let here : out_by tag.Failed n m ≡ out_from s p = ap (λ x. out_by x n m) (sym is) ∙ out in
+    let kept : IsOut s (out_by tag.Failed n m) = subst (IsOut s) (sym here) (is_advanced s p sound) in
+    let fault : Fault = record { cause = m.cause; at = m.taken + n } in
+    let size : fault.at - s.taken ≡ n = omega (arith, (failed_is taken m s p sound out is).1) in
+    record {
+      sound = sound_told tag.Failed n m (counted_out s (out_by tag.Failed n m) kept);
+      rules = kept.0.rules;
+      within = (used_within taken m s p sound out).0;
+      nearer = λ on none. absurd (cc);
+      outcome = λ front given w had. (
+        record {
+          fault = fault;
+          kept = (kept.1, refl);
+          refused = refused_is s (after_bytes n (place_of m)) front given p fault w.taken refl
+              (subst (λ k. Shown s front given p (Bad k m.cause (after_bytes n (place_of m)))) (sym size)
+                  (shows s front given p (out_by tag.Failed n m) text sound here w));
+        },
+        had,
+      );
+    }

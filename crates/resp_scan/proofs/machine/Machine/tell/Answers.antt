@@ -1,0 +1,210 @@
+use mir.Syntax.{w64}
+use mir.Val.{of_z, to_z}
+use Rattle.std.proofs.Common.{rules, [], ◌∷◌, ◌≡◌, refl, sym, subst, arith, length, ap}
+use Rattle.std.proofs.lemmas.List.{length-take-le}
+use Rattle.resp_scan.specs.declared.machine.EventTag.TheVariants as tag
+use Rattle.resp_fronts.specs.Events as e
+use Rattle.resp_scan.specs.Kinds.{content_events}
+use Rattle.resp_scan.specs.Listening.{Hears}
+use Rattle.resp_scan.proofs.CallClauses.Told.{run_length}
+use Rattle.resp_scan.specs.Machine.Turns.{IsTurn, turn_of}
+use Rattle.resp_scan.proofs.CallClauses.Calls.{is_text}
+use Rattle.resp_scan.proofs.CallClauses.Turns.{is_done, is_failed, is_more, is_told}
+use Rattle.resp_scan.proofs.Soundness.Counted.{place_counted}
+use Rattle.resp_scan.proofs.Soundness.Pieces.{used_within, few_taken, part_some, chunk_part_some, digit_owed}
+use Rattle.resp_scan.proofs.machine.Machine.tell.Goals as goal
+
+pub overflow_add-self : goal.overflow_add-self
+overflow_add-self g c = omega (arith, few_taken c.args.taken c.args.self.now c.requires.0 c.args.rest.now c.requires.1 c.requires.2)
+
+pub slice_bounds-part-end : goal.slice_bounds-part-end
+slice_bounds-part-end g c = sym (length-take-le _ _ (used_within c.args.taken c.args.self.now c.requires.0 c.args.rest.now c.requires.1 c.requires.2).0)
+
+pub run-requires-clause-start : goal.run-requires-clause-start
+run-requires-clause-start g c = omega (arith,
+    chunk_part_some c.args.taken c.args.self.now c.requires.0 c.args.rest.now c.requires.1 c.requires.2 c.in-ChunkPart.is)
+
+pub run-requires-clause-within : goal.run-requires-clause-within
+run-requires-clause-within g c = (used_within c.args.taken c.args.self.now c.requires.0 c.args.rest.now c.requires.1 c.requires.2).0
+
+pub digit_text-requires : goal.digit_text-requires
+digit_text-requires g c = (digit_owed c.args.taken c.args.self.now c.requires.0 c.args.rest.now c.requires.1 c.requires.2 c.in-Digit.is).1
+
+pub returns-in-More : goal.returns-in-More
+returns-in-More g c s sound out =
+    let H = g.L.Listener.has_heard c.args.listener.now in
+    subst (λ x. IsTurn s x H H g.L.Listener.may_stop c.args.rest.now c.ends.result) (sym (place_counted c.args.self.now c.args.taken.used))
+        (subst (IsTurn s _ H H g.L.Listener.may_stop c.args.rest.now) (sym c.ends.ensures)
+            (is_more c.args.taken c.args.self.now s c.args.rest.now H g.L.Listener.may_stop (is_text c.args.rest.now (λ i. (c.type_inv.rest i).fits)) c.in-More.is sound out))
+
+pub returns-in-Failed : goal.returns-in-Failed
+returns-in-Failed g c s sound out =
+    let H = g.L.Listener.has_heard c.args.listener.now in
+    subst (λ x. IsTurn s x H H g.L.Listener.may_stop c.args.rest.now c.ends-in-Failed.result) (sym (place_counted c.args.self.now c.args.taken.used))
+        (subst (IsTurn s _ H H g.L.Listener.may_stop c.args.rest.now) (sym c.ends-in-Failed.ensures)
+            (is_failed c.args.taken c.args.self.now s c.args.rest.now H g.L.Listener.may_stop (is_text c.args.rest.now (λ i. (c.type_inv.rest i).fits)) c.in-Failed.is sound out))
+
+pub returns-in-Done : goal.returns-in-Done
+returns-in-Done g c s sound out =
+    let H = g.L.Listener.has_heard c.args.listener.now in
+    subst (λ x. IsTurn s x H H g.L.Listener.may_stop c.args.rest.now c.ends-in-Done.result) (sym (place_counted c.args.self.now c.args.taken.used))
+        (subst (IsTurn s _ H H g.L.Listener.may_stop c.args.rest.now) (sym c.ends-in-Done.ensures)
+            (is_done c.args.taken c.args.self.now s c.args.rest.now H g.L.Listener.may_stop (is_text c.args.rest.now (λ i. (c.type_inv.rest i).fits)) c.in-Done.is sound out))
+
+pub returns-in-Null : goal.returns-in-Null
+returns-in-Null g c s sound out =
+    let H = g.L.Listener.has_heard c.args.listener.now in
+    let K = g.L.Listener.has_heard c.null.new.self in
+    subst (λ x. IsTurn s x H K g.L.Listener.may_stop c.args.rest.now c.told.result) (sym (place_counted c.args.self.now c.args.taken.used))
+        (subst (IsTurn s _ H K g.L.Listener.may_stop c.args.rest.now) (sym c.told.ensures)
+            (is_told tag.Null c.args.taken c.args.self.now s c.args.rest.now H K g.L.Listener.may_stop c.null.result tt
+                (is_text c.args.rest.now (λ i. (c.type_inv.rest i).fits)) c.in-Null.is sound out c.null.ensures))
+
+pub returns-in-Bool : goal.returns-in-Bool
+returns-in-Bool g c s sound out =
+    let H = g.L.Listener.has_heard c.args.listener.now in
+    let K = g.L.Listener.has_heard c.truth.new.self in
+    subst (λ x. IsTurn s x H K g.L.Listener.may_stop c.args.rest.now c.told-in-Bool.result) (sym (place_counted c.args.self.now c.args.taken.used))
+        (subst (IsTurn s _ H K g.L.Listener.may_stop c.args.rest.now) (sym c.told-in-Bool.ensures)
+            (is_told tag.Bool c.args.taken c.args.self.now s c.args.rest.now H K g.L.Listener.may_stop c.truth.result tt
+                (is_text c.args.rest.now (λ i. (c.type_inv.rest i).fits)) c.in-Bool.is sound out c.truth.ensures))
+
+pub returns-in-Int : goal.returns-in-Int
+returns-in-Int g c s sound out =
+    let H = g.L.Listener.has_heard c.args.listener.now in
+    let K = g.L.Listener.has_heard c.int.new.self in
+    let number : to_z w64 (of_z w64 c.args.self.now.value) ≡ c.args.self.now.value = search rules in
+    subst (λ x. IsTurn s x H K g.L.Listener.may_stop c.args.rest.now c.told-in-Int.result) (sym (place_counted c.args.self.now c.args.taken.used))
+        (subst (IsTurn s _ H K g.L.Listener.may_stop c.args.rest.now) (sym c.told-in-Int.ensures)
+            (is_told tag.Int c.args.taken c.args.self.now s c.args.rest.now H K g.L.Listener.may_stop c.int.result tt
+                (is_text c.args.rest.now (λ i. (c.type_inv.rest i).fits)) c.in-Int.is sound out
+                (subst (λ z. Hears H K g.L.Listener.may_stop (e.Int z ∷ []) c.int.result) number c.int.ensures)))
+
+pub returns-in-Simple : goal.returns-in-Simple
+returns-in-Simple g c s sound out =
+    let H = g.L.Listener.has_heard c.args.listener.now in
+    let K = g.L.Listener.has_heard c.text.new.self in
+    subst (λ x. IsTurn s x H K g.L.Listener.may_stop c.args.rest.now c.told-in-Simple.result) (sym (place_counted c.args.self.now c.args.taken.used))
+        (subst (IsTurn s _ H K g.L.Listener.may_stop c.args.rest.now) (sym c.told-in-Simple.ensures)
+            (is_told tag.Simple c.args.taken c.args.self.now s c.args.rest.now H K g.L.Listener.may_stop c.text.result tt
+                (is_text c.args.rest.now (λ i. (c.type_inv.rest i).fits)) c.in-Simple.is sound out c.text.ensures))
+
+pub returns-in-Error : goal.returns-in-Error
+returns-in-Error g c s sound out =
+    let H = g.L.Listener.has_heard c.args.listener.now in
+    let K = g.L.Listener.has_heard c.text-in-Error.new.self in
+    subst (λ x. IsTurn s x H K g.L.Listener.may_stop c.args.rest.now c.told-in-Error.result) (sym (place_counted c.args.self.now c.args.taken.used))
+        (subst (IsTurn s _ H K g.L.Listener.may_stop c.args.rest.now) (sym c.told-in-Error.ensures)
+            (is_told tag.Error c.args.taken c.args.self.now s c.args.rest.now H K g.L.Listener.may_stop c.text-in-Error.result tt
+                (is_text c.args.rest.now (λ i. (c.type_inv.rest i).fits)) c.in-Error.is sound out c.text-in-Error.ensures))
+
+pub returns-in-Bulk : goal.returns-in-Bulk
+returns-in-Bulk g c s sound out =
+    let H = g.L.Listener.has_heard c.args.listener.now in
+    let K = g.L.Listener.has_heard c.text-in-Bulk.new.self in
+    subst (λ x. IsTurn s x H K g.L.Listener.may_stop c.args.rest.now c.told-in-Bulk.result) (sym (place_counted c.args.self.now c.args.taken.used))
+        (subst (IsTurn s _ H K g.L.Listener.may_stop c.args.rest.now) (sym c.told-in-Bulk.ensures)
+            (is_told tag.Bulk c.args.taken c.args.self.now s c.args.rest.now H K g.L.Listener.may_stop c.text-in-Bulk.result tt
+                (is_text c.args.rest.now (λ i. (c.type_inv.rest i).fits)) c.in-Bulk.is sound out c.text-in-Bulk.ensures))
+
+pub returns-in-BulkError : goal.returns-in-BulkError
+returns-in-BulkError g c s sound out =
+    let H = g.L.Listener.has_heard c.args.listener.now in
+    let K = g.L.Listener.has_heard c.text-in-BulkError.new.self in
+    subst (λ x. IsTurn s x H K g.L.Listener.may_stop c.args.rest.now c.told-in-BulkError.result) (sym (place_counted c.args.self.now c.args.taken.used))
+        (subst (IsTurn s _ H K g.L.Listener.may_stop c.args.rest.now) (sym c.told-in-BulkError.ensures)
+            (is_told tag.BulkError c.args.taken c.args.self.now s c.args.rest.now H K g.L.Listener.may_stop c.text-in-BulkError.result tt
+                (is_text c.args.rest.now (λ i. (c.type_inv.rest i).fits)) c.in-BulkError.is sound out c.text-in-BulkError.ensures))
+
+pub returns-in-Verbatim : goal.returns-in-Verbatim
+returns-in-Verbatim g c s sound out =
+    let H = g.L.Listener.has_heard c.args.listener.now in
+    let K = g.L.Listener.has_heard c.text-in-Verbatim.new.self in
+    subst (λ x. IsTurn s x H K g.L.Listener.may_stop c.args.rest.now c.told-in-Verbatim.result) (sym (place_counted c.args.self.now c.args.taken.used))
+        (subst (IsTurn s _ H K g.L.Listener.may_stop c.args.rest.now) (sym c.told-in-Verbatim.ensures)
+            (is_told tag.Verbatim c.args.taken c.args.self.now s c.args.rest.now H K g.L.Listener.may_stop c.text-in-Verbatim.result tt
+                (is_text c.args.rest.now (λ i. (c.type_inv.rest i).fits)) c.in-Verbatim.is sound out c.text-in-Verbatim.ensures))
+
+pub returns-in-Big : goal.returns-in-Big
+returns-in-Big g c s sound out =
+    let H = g.L.Listener.has_heard c.args.listener.now in
+    let K = g.L.Listener.has_heard c.text-in-Big.new.self in
+    subst (λ x. IsTurn s x H K g.L.Listener.may_stop c.args.rest.now c.told-in-Big.result) (sym (place_counted c.args.self.now c.args.taken.used))
+        (subst (IsTurn s _ H K g.L.Listener.may_stop c.args.rest.now) (sym c.told-in-Big.ensures)
+            (is_told tag.Big c.args.taken c.args.self.now s c.args.rest.now H K g.L.Listener.may_stop c.text-in-Big.result tt
+                (is_text c.args.rest.now (λ i. (c.type_inv.rest i).fits)) c.in-Big.is sound out c.text-in-Big.ensures))
+
+pub returns-in-Part : goal.returns-in-Part
+returns-in-Part g c s sound out =
+    let H = g.L.Listener.has_heard c.args.listener.now in
+    let K = g.L.Listener.has_heard c.part.new.self in
+    subst (λ x. IsTurn s x H K g.L.Listener.may_stop c.args.rest.now c.told-in-Part.result) (sym (place_counted c.args.self.now c.args.taken.used))
+        (subst (IsTurn s _ H K g.L.Listener.may_stop c.args.rest.now) (sym c.told-in-Part.ensures)
+            (is_told tag.Part c.args.taken c.args.self.now s c.args.rest.now H K g.L.Listener.may_stop c.part.result tt
+                (is_text c.args.rest.now (λ i. (c.type_inv.rest i).fits)) c.in-Part.is sound out c.part.ensures))
+
+pub returns-in-ChunkPart : goal.returns-in-ChunkPart
+returns-in-ChunkPart g c s sound out =
+    let H = g.L.Listener.has_heard c.args.listener.now in
+    let K = g.L.Listener.has_heard c.part-in-ChunkPart.new.self in
+    subst (λ x. IsTurn s x H K g.L.Listener.may_stop c.args.rest.now c.told-in-ChunkPart.result) (sym (place_counted c.args.self.now c.args.taken.used))
+        (subst (IsTurn s _ H K g.L.Listener.may_stop c.args.rest.now) (sym c.told-in-ChunkPart.ensures)
+            (is_told tag.ChunkPart c.args.taken c.args.self.now s c.args.rest.now H K g.L.Listener.may_stop c.part-in-ChunkPart.result tt
+                (is_text c.args.rest.now (λ i. (c.type_inv.rest i).fits)) c.in-ChunkPart.is sound out (subst (λ xs. Hears H K g.L.Listener.may_stop (content_events xs) c.part-in-ChunkPart.result) c.run.ensures c.part-in-ChunkPart.ensures)))
+
+pub returns-in-Digit : goal.returns-in-Digit
+returns-in-Digit g c s sound out =
+    let H = g.L.Listener.has_heard c.args.listener.now in
+    let K = g.L.Listener.has_heard c.part-in-Digit.new.self in
+    subst (λ x. IsTurn s x H K g.L.Listener.may_stop c.args.rest.now c.told-in-Digit.result) (sym (place_counted c.args.self.now c.args.taken.used))
+        (subst (IsTurn s _ H K g.L.Listener.may_stop c.args.rest.now) (sym c.told-in-Digit.ensures)
+            (is_told tag.Digit c.args.taken c.args.self.now s c.args.rest.now H K g.L.Listener.may_stop c.part-in-Digit.result tt
+                (is_text c.args.rest.now (λ i. (c.type_inv.rest i).fits)) c.in-Digit.is sound out (subst (λ xs. Hears H K g.L.Listener.may_stop (content_events xs) c.part-in-Digit.result) c.digit_text.ensures c.part-in-Digit.ensures)))
+
+pub returns-in-TextEnd : goal.returns-in-TextEnd
+returns-in-TextEnd g c s sound out =
+    let H = g.L.Listener.has_heard c.args.listener.now in
+    let K = g.L.Listener.has_heard c.text_end.new.self in
+    subst (λ x. IsTurn s x H K g.L.Listener.may_stop c.args.rest.now c.told-in-TextEnd.result) (sym (place_counted c.args.self.now c.args.taken.used))
+        (subst (IsTurn s _ H K g.L.Listener.may_stop c.args.rest.now) (sym c.told-in-TextEnd.ensures)
+            (is_told tag.TextEnd c.args.taken c.args.self.now s c.args.rest.now H K g.L.Listener.may_stop c.text_end.result tt
+                (is_text c.args.rest.now (λ i. (c.type_inv.rest i).fits)) c.in-TextEnd.is sound out c.text_end.ensures))
+
+pub returns-in-Open : goal.returns-in-Open
+returns-in-Open g c s sound out =
+    let H = g.L.Listener.has_heard c.args.listener.now in
+    let K = g.L.Listener.has_heard c.open.new.self in
+    subst (λ x. IsTurn s x H K g.L.Listener.may_stop c.args.rest.now c.told-in-Open.result) (sym (place_counted c.args.self.now c.args.taken.used))
+        (subst (IsTurn s _ H K g.L.Listener.may_stop c.args.rest.now) (sym c.told-in-Open.ensures)
+            (is_told tag.Open c.args.taken c.args.self.now s c.args.rest.now H K g.L.Listener.may_stop c.open.result tt
+                (is_text c.args.rest.now (λ i. (c.type_inv.rest i).fits)) c.in-Open.is sound out c.open.ensures))
+
+pub returns-in-OpenStreamed : goal.returns-in-OpenStreamed
+returns-in-OpenStreamed g c s sound out =
+    let H = g.L.Listener.has_heard c.args.listener.now in
+    let K = g.L.Listener.has_heard c.open-in-OpenStreamed.new.self in
+    subst (λ x. IsTurn s x H K g.L.Listener.may_stop c.args.rest.now c.told-in-OpenStreamed.result) (sym (place_counted c.args.self.now c.args.taken.used))
+        (subst (IsTurn s _ H K g.L.Listener.may_stop c.args.rest.now) (sym c.told-in-OpenStreamed.ensures)
+            (is_told tag.OpenStreamed c.args.taken c.args.self.now s c.args.rest.now H K g.L.Listener.may_stop c.open-in-OpenStreamed.result tt
+                (is_text c.args.rest.now (λ i. (c.type_inv.rest i).fits)) c.in-OpenStreamed.is sound out c.open-in-OpenStreamed.ensures))
+
+pub returns-in-Close : goal.returns-in-Close
+returns-in-Close g c s sound out =
+    let H = g.L.Listener.has_heard c.args.listener.now in
+    let K = g.L.Listener.has_heard c.close.new.self in
+    subst (λ x. IsTurn s x H K g.L.Listener.may_stop c.args.rest.now c.told-in-Close.result) (sym (place_counted c.args.self.now c.args.taken.used))
+        (subst (IsTurn s _ H K g.L.Listener.may_stop c.args.rest.now) (sym c.told-in-Close.ensures)
+            (is_told tag.Close c.args.taken c.args.self.now s c.args.rest.now H K g.L.Listener.may_stop c.close.result tt
+                (is_text c.args.rest.now (λ i. (c.type_inv.rest i).fits)) c.in-Close.is sound out c.close.ensures))
+
+pub part-requires : goal.part-requires
+part-requires g c =
+    let u = used_within c.args.taken c.args.self.now c.requires.0 c.args.rest.now c.requires.1 c.requires.2 in
+    let some = part_some c.args.taken c.args.self.now c.requires.0 c.args.rest.now c.requires.1 c.requires.2 c.in-Part.is in
+    omega (arith, some, length-take-le c.args.taken.used c.args.rest.now u.0)
+
+pub part-requires-in-ChunkPart : goal.part-requires-in-ChunkPart
+part-requires-in-ChunkPart g c =
+    let u = used_within c.args.taken c.args.self.now c.requires.0 c.args.rest.now c.requires.1 c.requires.2 in
+    let some = chunk_part_some c.args.taken c.args.self.now c.requires.0 c.args.rest.now c.requires.1 c.requires.2 c.in-ChunkPart.is in
+    omega (arith, ap length c.run.ensures, some, run_length c.args.taken.used c.args.self.now.part_start c.args.rest.now some u.0)

@@ -1,0 +1,71 @@
+-- What one turn of the loop comes to, for every front that was read and all events that the listener has heard.
+use Rattle.std.specs.Str.{byte}
+use Rattle.std.specs.Prelude.{◌≡◌, ◌+◌, get_or, Bool, true, false, ℕ, ◌<◌, ◌≤◌, List, [], ◌++◌, length, take}
+use Rattle.resp_value.specs.Rules.{Rules, WithinTotal}
+use Rattle.resp_value.specs.Spellings.{IsViable}
+use Rattle.resp_scan.specs.declared.event.Fault.{Fault}
+use Rattle.resp_scan.specs.declared.listen.Turn.{Turn}
+use Rattle.resp_scan.specs.declared.listen.Turned.{Turned}
+use Rattle.resp_scan.specs.declared.listen.Turn.TheVariants.{On, More, Done, Failed, Stopped}
+use Rattle.resp_scan.specs.declared.machine.EventTag.{EventTag}
+use Rattle.resp_scan.specs.declared.machine.EventTag.TheVariants as tag
+use Rattle.resp_scan.specs.declared.event.TextKind.{TextKind}
+use Rattle.resp_scan.specs.declared.event.TextKind.TheVariants as text
+use Rattle.resp_scan.specs.Kinds.{rules_of}
+use Rattle.resp_scan.specs.Machine.Tokens.{Place}
+use Rattle.resp_scan.specs.Machine.Owed.{events_owed}
+use Rattle.resp_scan.specs.Machine.Sound.{IsSound}
+use Rattle.resp_scan.specs.Reading.{BeginDue, EndsValue, Events, HasRead, IsFaulted, IsRefused, UsesUp}
+
+-- the bytes used were read, and the listener was told more events and has heard these too
+pub record GoesOn (t : Place) (HasHeard : Events → Type 0) (front : List ℕ) (given : Events) (piece : List ℕ) (used : ℕ) : Type 0 where
+  pub told : Events
+  pub reads : HasRead t (front ++ take used piece) (given ++ told)
+  pub heard : HasHeard (given ++ told)
+
+-- a byte was refused, and the fault stands
+pub record Refuses (r : Rules) (t : Place) (front : List ℕ) (given : Events) (piece : List ℕ) : Type 0 where
+  pub fault : Fault
+  pub kept : IsFaulted t fault
+  pub refused : IsRefused r front given piece fault
+
+-- the listener stopped, told events that are the first of those due of the bytes taken
+pub record Stops (r : Rules) (t : Place) (MayStop : Events → Type 0) (front piece : List ℕ) (used : ℕ) : Type 0 where
+  pub told : Events
+  pub may_stop : MayStop told
+  pub first_due : BeginDue (front ++ take used piece) told
+  pub viable : IsViable r WithinTotal (front ++ take used piece)
+  pub taken : t.taken ≡ length (front ++ take used piece)
+
+abbrev pub OutcomeOfTurn : Place → Place → (Events → Type 0) → (Events → Type 0) → List ℕ → Events → List ℕ → ℕ → Turn → Type 0
+OutcomeOfTurn s t HasHeard MayStop front given piece used On = GoesOn t HasHeard front given piece used
+OutcomeOfTurn s t HasHeard MayStop front given piece used More = UsesUp t front given piece used × HasHeard given
+OutcomeOfTurn s t HasHeard MayStop front given piece used Done = EndsValue (rules_of s) t front given used × HasHeard given
+OutcomeOfTurn s t HasHeard MayStop front given piece used Failed = Refuses (rules_of s) t front given piece × HasHeard given
+OutcomeOfTurn s t HasHeard MayStop front given piece used Stopped = Stops (rules_of s) t MayStop front piece used
+
+-- A turn leads from one sound place to another. One that uses no byte gives an event of those owed, so that turns end.
+pub record IsTurn (s t : Place) (HadHeard HasHeard MayStop : Events → Type 0) (piece : List ℕ) (turned : Turned) : Type 0 where
+  pub sound : IsSound t
+  pub rules : rules_of t ≡ rules_of s
+  pub within : turned.used ≤ length piece
+  pub nearer : turned.turn ≡ On → turned.used ≡ 0 → length (events_owed t) < length (events_owed s)
+  pub outcome : (front : List ℕ) (given : Events) → HasRead s front given → HadHeard given →
+      OutcomeOfTurn s t HasHeard MayStop front given piece turned.used turned.turn
+
+-- what comes of a listener's answer
+abbrev pub turn_of : Bool → Turn
+turn_of true = On
+turn_of false = Stopped
+
+-- the tags of lines of text
+abbrev pub IsLineTag : EventTag → TextKind → Type 0
+IsLineTag tag.Simple kind = kind ≡ text.Simple
+IsLineTag tag.Error kind = kind ≡ text.Error
+IsLineTag _ kind = ⊥
+
+-- CR LF stand at this index of the piece
+pub record EndsAt (piece : List ℕ) (at : ℕ) : Type 0 where
+  pub within : at + 2 ≤ length piece
+  pub cr : get_or piece at 0 ≡ byte "\r"
+  pub lf : get_or piece (at + 1) 0 ≡ byte "\n"

@@ -1,0 +1,274 @@
+//! The loop over a piece: what stands in it is told to a listener, up to the end of a value.
+
+ghost use Rattle.std.specs.Prelude.{◌≡◌, ◌≤◌, ◌<◌, ◌+◌, ◌-◌, ◌^◌, Bool, length, IfSome, min, take, drop};
+ghost use Rattle.resp_scan.specs.Machine.Runs.{plain_run};
+ghost use Rattle.resp_scan.specs.Machine.Turns.{EndsAt, turn_of};
+
+use crate::event::{Fault, ScanError, Scanned, TextKind};
+use crate::lines::line_run;
+use crate::listener::Listener;
+use crate::machine::{EventTag, Machine, State, Taken};
+use crate::step::{digit_text, run};
+use resp_value::cause::Cause;
+
+/// What came of one turn of the loop.
+#[derive(Clone, Copy)]
+pub enum Turn {
+    /// The listener goes on.
+    On,
+    /// The piece has ended.
+    More,
+    /// The value has ended.
+    Done,
+    /// A byte was refused.
+    Failed,
+    /// The listener stopped.
+    Stopped,
+}
+
+/// The bytes that one turn used, and what came of it.
+#[derive(Clone, Copy)]
+pub struct Turned {
+    pub used: usize,
+    pub turn: Turn,
+}
+
+impl Machine {
+    ghost use Rattle.resp_scan.specs.Kinds.{rules_of};
+    ghost use Rattle.resp_scan.specs.Machine.Fields.{place_of, out_of};
+    ghost use Rattle.resp_scan.specs.Machine.Room.{total_room};
+    ghost use Rattle.resp_scan.specs.Machine.Scan.{out_from};
+    ghost use Rattle.resp_scan.specs.Machine.Sound.{IsSound};
+    ghost use Rattle.resp_scan.specs.Machine.Tokens.{Place};
+    ghost use Rattle.resp_scan.specs.Listening.{Hears, IsTextOf, whole_text_events};
+    ghost use Rattle.resp_scan.specs.Machine.Heads.{content_at};
+    ghost use Rattle.resp_scan.specs.Machine.Turns.{IsLineTag, IsTurn};
+
+    /// Tells the listener what stands in the piece, up to the end of a value.
+    #[inline(always)]
+    pub fn scan<L: Listener>(
+        &mut self,
+        piece: &[u8],
+        listener: &mut L,
+    ) -> Result<Scanned, ScanError>
+        requires { IsSound (place_of self.old) }
+    {
+        let mut used = 0;
+        loop {
+            let turned = self.turn(&piece[used..], listener);
+            used += turned.used;
+            match turned.turn {
+                Turn::On => {}
+                Turn::More => {
+                    return Ok(Scanned {
+                        used,
+                        is_whole: false,
+                    });
+                }
+                Turn::Done => {
+                    return Ok(Scanned {
+                        used,
+                        is_whole: true,
+                    });
+                }
+                Turn::Failed => {
+                    return Err(ScanError::Fault(Fault {
+                        cause: self.cause,
+                        at: self.taken,
+                    }));
+                }
+                Turn::Stopped => {
+                    self.stop();
+                    return Err(ScanError::Stopped { taken: self.taken });
+                }
+            }
+        }
+    }
+
+    /// No byte is read any more.
+    #[cold]
+    #[inline(never)]
+    fn stop(&mut self)
+        ensures { self.new ≡ record self.old { state = State.Failed; cause = Cause.OutOfMemory } }
+    {
+        self.state = State::Failed;
+        self.cause = Cause::OutOfMemory;
+    }
+
+    /// Goes on from the token in which the rest begins, and tells what it comes to.
+    #[inline(always)]
+    fn turn<L: Listener>(&mut self, rest: &[u8], listener: &mut L) -> Turned
+        requires { IsSound (place_of self.old) }
+        ensures { IsTurn (place_of self.old) (place_of self.new) (L.has_heard listener.old)
+            (L.has_heard listener.new) L.may_stop rest.now result }
+    {
+        let taken = match self.state {
+            State::Start => self.start(rest),
+            State::Boundary => self.after_value(rest),
+            _ => self.resume(rest),
+        };
+        match taken.tag {
+            EventTag::Simple => self.tell_line(rest, taken, TextKind::Simple, listener),
+            EventTag::Error => self.tell_line(rest, taken, TextKind::Error, listener),
+            EventTag::Bulk => self.tell_content(rest, taken, listener),
+            _ => self.tell(rest, taken, listener),
+        }
+    }
+
+    /// Tells a line of text: whole where it ends in this rest, and else that it begins.
+    #[inline(always)]
+    fn tell_line<L: Listener>(
+        &mut self,
+        rest: &[u8],
+        taken: Taken,
+        kind: TextKind,
+        listener: &mut L,
+    ) -> Turned
+        requires whole { (s : Place) × IsSound s × (out_of taken self.old ≡ out_from s rest.now) }
+        requires tag { IsLineTag taken.tag kind }
+        ensures { (s : Place) → IsSound s → out_of taken self.old ≡ out_from s rest.now →
+            IsTurn s (place_of self.new) (L.has_heard listener.old) (L.has_heard listener.new)
+            L.may_stop rest.now result }
+    {
+        let behind = &rest[taken.used..];
+        match self.whole_line(behind) {
+            Some(run) => self.tell_whole(rest, taken.used, kind, run, listener),
+            None => self.tell(rest, taken, listener),
+        }
+    }
+
+    /// Tells a counted string: whole where it ends in this rest, and else that it begins.
+    #[inline(always)]
+    fn tell_content<L: Listener>(&mut self, rest: &[u8], taken: Taken, listener: &mut L) -> Turned {
+        let behind = &rest[taken.used..];
+        match self.whole_content(behind) {
+            Some(run) => self.tell_whole(rest, taken.used, TextKind::Bulk, run, listener),
+            None => self.tell(rest, taken, listener),
+        }
+    }
+
+    /// Tells a text of so many bytes behind the head, with its CR LF.
+    #[inline(always)]
+    fn tell_whole<L: Listener>(
+        &mut self,
+        rest: &[u8],
+        head: usize,
+        kind: TextKind,
+        run: usize,
+        listener: &mut L,
+    ) -> Turned
+        requires within { head + run + 2 ≤ length rest.now }
+        requires few { self.old.taken + head + run + 2 < 2 ^ 64 }
+        requires is_text { IsTextOf kind (take run (drop head rest.now)) }
+        ensures used { result.used ≡ head + run + 2 }
+        ensures turn { (goes_on : Bool) × (result.turn ≡ turn_of goes_on) ×
+            Hears (L.has_heard listener.old) (L.has_heard listener.new) L.may_stop
+            (whole_text_events kind (take run (drop head rest.now))) goes_on }
+        ensures machine { self.new ≡ record self.old
+            { taken = self.old.taken + (head + run + 2); state = State.Boundary } }
+    {
+        let used = head + run + 2;
+        self.taken += used as u64;
+        self.state = State::Boundary;
+        told(used, listener.whole_text(kind, &rest[head..head + run]))
+    }
+
+    /// How many bytes of a line stand before its CR LF, where these stand in this piece.
+    #[inline(always)]
+    fn whole_line(&self, piece: &[u8]) -> Option<usize>
+        ensures { IfSome result (λ run. (self.now.state ≡ State.Line) × EndsAt piece.now run ×
+            (run ≡ plain_run (take (min (min self.now.room (total_room (place_of self.now) - 2))
+            (length piece.now)) piece.now))) }
+    {
+        let State::Line = self.state else {
+            return None;
+        };
+        let most = self.text_room().min(piece.len() as u64) as usize;
+        let run = line_run(&piece[..most]);
+        ends_at(piece, run)
+    }
+
+    /// How many bytes of counted content stand before its CR LF, where these stand in this piece.
+    #[inline(always)]
+    fn whole_content(&self, piece: &[u8]) -> Option<usize>
+        ensures { IfSome result (λ run. EndsAt piece.now run ×
+            ((place_of self.now).token ≡ (content_at run (place_of self.now)).token)) }
+    {
+        let count = match self.state {
+            State::Content => self.count,
+            State::ContentCr => 0,
+            _ => return None,
+        };
+        if count > piece.len() as u64 {
+            return None;
+        }
+        ends_at(piece, count as usize)
+    }
+
+    /// Tells the event that an answer of a token stands for.
+    #[inline(always)]
+    fn tell<L: Listener>(&mut self, rest: &[u8], taken: Taken, listener: &mut L) -> Turned
+        requires { (s : Place) × IsSound s × (out_of taken self.old ≡ out_from s rest.now) }
+        ensures { (s : Place) → IsSound s → out_of taken self.old ≡ out_from s rest.now →
+            IsTurn s (place_of self.new) (L.has_heard listener.old) (L.has_heard listener.new)
+            L.may_stop rest.now result }
+    {
+        let used = taken.used;
+        self.taken += used as u64;
+        match taken.tag {
+            EventTag::More => ends(used, Turn::More),
+            EventTag::Failed => ends(used, Turn::Failed),
+            EventTag::Done => ends(used, Turn::Done),
+            EventTag::Null => told(used, listener.null()),
+            EventTag::Bool => told(used, listener.truth(self.truth)),
+            EventTag::Int => told(used, listener.int(self.value)),
+            EventTag::Simple => told(used, listener.text(TextKind::Simple)),
+            EventTag::Error => told(used, listener.text(TextKind::Error)),
+            EventTag::Bulk => told(used, listener.text(TextKind::Bulk)),
+            EventTag::BulkError => told(used, listener.text(TextKind::BulkError)),
+            EventTag::Verbatim => told(used, listener.text(TextKind::Verbatim(self.format))),
+            EventTag::Big => {
+                let negative = self.big_negative;
+                told(used, listener.text(TextKind::Big { negative }))
+            }
+            EventTag::Part => told(used, listener.part(&rest[..used])),
+            EventTag::ChunkPart => told(used, listener.part(run(rest, self.part_start, used))),
+            EventTag::Digit => told(used, listener.part(digit_text(self.digit))),
+            EventTag::TextEnd => told(used, listener.text_end()),
+            EventTag::Open => told(used, listener.open(self.kind, Some(self.count))),
+            EventTag::OpenStreamed => told(used, listener.open(self.kind, None)),
+            EventTag::Close => told(used, listener.close()),
+        }
+    }
+}
+
+/// A turn that told the listener nothing.
+#[inline]
+fn ends(used: usize, turn: Turn) -> Turned
+    ensures { result ≡ record { used = used; turn = turn } }
+{
+    Turned { used, turn }
+}
+
+/// A turn that told the listener an event, which answered whether to go on.
+#[inline]
+fn told(used: usize, goes_on: bool) -> Turned
+    ensures { result ≡ record { used = used; turn = turn_of goes_on } }
+{
+    let turn = if goes_on { Turn::On } else { Turn::Stopped };
+    Turned { used, turn }
+}
+
+/// This index, where CR LF stand there.
+#[inline]
+fn ends_at(piece: &[u8], run: usize) -> Option<usize>
+    ensures { IfSome result (λ at. (at ≡ run) × EndsAt piece.now run) }
+{
+    if piece.len() < 2 || run > piece.len() - 2 {
+        return None;
+    }
+    if piece[run] != b'\r' || piece[run + 1] != b'\n' {
+        return None;
+    }
+    Some(run)
+}
