@@ -1,10 +1,10 @@
 -- The first rule that refuses a byte where a value may begin: the grammar, `,`, the version, `>` below the top, and
 -- depth, but not for `*`. A full frame and total come after these.
 use Rattle.std.specs.Prelude.{ℕ, zero, suc, Option, None, Some, List, [], ◌∷◌, cond, eqb, leb}
+use Rattle.std.specs.Str.{byte}
 use Rattle.resp_value.specs.Rules.{Rules, Rule, Grammar, NoDouble, InVersion, PushAtTop, WithinDepth}
 use Rattle.resp_value.specs.declared.version.Version.{Version}
 use Rattle.resp_value.specs.declared.version.Version.TheVariants.{Two, Three}
-use Rattle.std.specs.Str.{byte}
 
 -- the answer beside a byte, and `other` for a byte that has none beside it
 abbrev pub answer_beside : {A : Type 0} → List (ℕ × A) → A → ℕ → A

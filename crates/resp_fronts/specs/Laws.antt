@@ -1,5 +1,6 @@
 -- What has come and what may follow, for the rules up to one before total.
 use Rattle.std.specs.Prelude.{◌≡◌, ◌↔◌, ℕ, ◌+◌, ◌<◌, ◌≤◌, None, Some, List, [], ◌∷◌, ◌++◌, length}
+use Rattle.std.specs.Str.{byte}
 use Rattle.resp_value.specs.Bounds.{AreBounds}
 use Rattle.resp_value.specs.Trees.{Tree, Spells, text, IsTree}
 use Rattle.resp_value.specs.Rules.{Rules, Rule, WithinItems, WithinTotal, rank}
@@ -25,10 +26,10 @@ WhatContinuesMayFollow = (r : Rules) (rule : Rule) (frames : List Frame) (begun 
 
 -- the least completion of a front is the begun value's, and then what the frames around it need
 abbrev pub LeastCompletionSplits : Type 0
-LeastCompletionSplits = (r : Rules) (rule : Rule) (frames : List Frame) (byte : ℕ) (begun : List ℕ) (n : ℕ) →
-    rank rule < rank WithinTotal → CanAllEnd (LeafKeeps r rule) (NodeKeeps r rule) frames → (byte ≡ 46 → ⊥) → 0 < n →
-    HasLeast (CompletesValue (LeafKeeps r rule) (NodeKeeps r rule) (length frames) (byte ∷ begun)) n →
-    HasLeast (Continues r rule (text_around frames (byte ∷ begun))) (n + frames_needed frames)
+LeastCompletionSplits = (r : Rules) (rule : Rule) (frames : List Frame) (first : ℕ) (begun : List ℕ) (n : ℕ) →
+    rank rule < rank WithinTotal → CanAllEnd (LeafKeeps r rule) (NodeKeeps r rule) frames → (first ≡ byte "." → ⊥) →
+    0 < n → HasLeast (CompletesValue (LeafKeeps r rule) (NodeKeeps r rule) (length frames) (first ∷ begun)) n →
+    HasLeast (Continues r rule (text_around frames (first ∷ begun))) (n + frames_needed frames)
 
 -- a front is viable under all rules exactly where it and its least completion are within total
 abbrev pub ViableWhereLeastFits : Type 0
@@ -37,15 +38,15 @@ ViableWhereLeastFits = (r : Rules) (front : List ℕ) (n : ℕ) → IsLeast r fr
 
 -- a first byte has the cause that the function of first bytes names, and is viable where it names none
 abbrev pub AFirstByteHasItsCause : Type 0
-AFirstByteHasItsCause = (r : Rules) (byte : ℕ) → AreBounds r.limits →
-    ((rule : Rule) → first_byte_refusal r 0 byte ≡ Some rule → IsCause r (byte ∷ []) rule) ×
-    (first_byte_refusal r 0 byte ≡ None → IsViable r WithinItems (byte ∷ []))
+AFirstByteHasItsCause = (r : Rules) (first : ℕ) → AreBounds r.limits →
+    ((rule : Rule) → first_byte_refusal r 0 first ≡ Some rule → IsCause r (first ∷ []) rule) ×
+    (first_byte_refusal r 0 first ≡ None → IsViable r WithinItems (first ∷ []))
 
 -- a spelled tree that a front begins has a value where the frames leave off, and while this value is unfinished the
 -- events due are those of what the frames have taken, and those due of the value
 abbrev pub EventsDueSplit : Type 0
 EventsDueSplit = (frames : List Frame) (begun rest : List ℕ) (whole : Tree) → AreOpen frames →
-    ((behind : List ℕ) → begun ++ rest ≡ 46 ∷ behind → ⊥) → Spells whole (text_around frames begun ++ rest) →
+    ((behind : List ℕ) → begun ++ rest ≡ byte "." ∷ behind → ⊥) → Spells whole (text_around frames begun ++ rest) →
     (value : Tree) × (behind : List ℕ) × IsTree value × (text value ++ behind ≡ begun ++ rest) ×
     (length begun < length (text value) → events_due (length (text_around frames begun)) (events 0 whole) ≡
     without_places (events_around frames) ++ events_due (length (text_around frames begun))

@@ -2,7 +2,7 @@
 -- it, each within the rules on its level.
 use Rattle.std.specs.Prelude.{◌≡◌, ℕ, suc, ◌+◌, ◌-◌, ◌*◌, ◌%◌, ◌<◌, List, [], ◌∷◌, ◌++◌, length}
 use Rattle.resp_value.specs.Numbers.{number}
-use Rattle.resp_value.specs.Data.{Kind, Array, Set, Map, Attr, Push, members_of}
+use Rattle.resp_value.specs.Data.{Kind, Map, members_of}
 use Rattle.resp_value.specs.Trees.{Tree, Trees, Form, Counted, Streamed, text, texts, close, count, IsTree, AreTrees, HasMembers}
 use Rattle.resp_value.specs.LocalRules.{LeafRule, NodeRule, HoldsFrom, HoldsFromEach}
 use Rattle.resp_fronts.specs.Frames.{Frame}
@@ -74,11 +74,8 @@ AreOpen (frame ∷ frames) = (n : ℕ) × HasMembers frame.kind frame.form n × 
 -- the fewest members that must still come in an aggregate that has n
 abbrev pub members_missing : Kind → Form → ℕ → ℕ
 members_missing k (Counted digits) n = members_of k (number digits) - n
-members_missing Array Streamed n = 0
-members_missing Set Streamed n = 0
 members_missing Map Streamed n = n % 2
-members_missing Attr Streamed n = 0
-members_missing Push Streamed n = 0
+members_missing _ Streamed n = 0
 
 -- an aggregate that has n members can end at all
 abbrev pub CanEnd : NodeRule → ℕ → Kind → Form → ℕ → Type 0

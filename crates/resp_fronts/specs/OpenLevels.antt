@@ -26,9 +26,8 @@ HasShape k (so_far m) f n = (f ≡ Streamed) × (m ≡ n)
 -- the levels count these frames
 abbrev pub AreLevelsOf : List Level → List Frame → Type 0
 AreLevelsOf [] [] = Unit {0}
-AreLevelsOf [] (f ∷ fs) = ⊥
-AreLevelsOf (v ∷ vs) [] = ⊥
 AreLevelsOf (v ∷ vs) (f ∷ fs) = (v.kind ≡ f.kind) × HasShape f.kind v.shape f.form (count f.done) × AreLevelsOf vs fs
+AreLevelsOf _ _ = ⊥
 
 -- what a scanner that waits for a member stands behind
 abbrev pub AreReady : LeafRule → NodeRule → List Frame → Type 0

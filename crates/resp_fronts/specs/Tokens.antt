@@ -1,18 +1,18 @@
 -- The bytes of a value so far, token by token, on a level and within the rules.
-use Rattle.std.specs.Prelude.{◌≡◌, ℕ, zero, suc, ◌≤◌, false, List, [], ◌∷◌, ◌++◌, length}
+use Rattle.std.specs.Prelude.{◌≡◌, ℕ, zero, suc, ◌≤◌, false, List, [], ◌∷◌, ◌++◌, length, codes}
+use Rattle.std.specs.Str.{byte}
 use Rattle.resp_value.specs.Bytes.{IsLine, IsText, crlf}
 use Rattle.resp_value.specs.Data.{Kind, members_of}
 use Rattle.resp_value.specs.LocalRules.{LeafKeeps, NodeKeeps}
-use Rattle.resp_value.specs.Numbers.{IsDigits, Sign, Unsigned, Plus, Minus, kept_digits, number, sign_text}
+use Rattle.resp_value.specs.Numbers.{IsDigits, Sign, Minus, kept_digits, number, sign_text}
 use Rattle.resp_value.specs.Rules.{Rules, WithinItems}
-use Rattle.resp_value.specs.Trees.{Big, Bulk, BulkError, Counted, Double, Error, HasFormat, Int, IsLeaf, Leaf, LineKind, NumberKind, Simple, StringKind, Verbatim, kind_byte, leaf_line, leaf_rest, line_byte, number_byte, payload, string_byte}
+use Rattle.resp_value.specs.Trees.{Big, Bulk, Counted, Double, HasFormat, Int, IsLeaf, Leaf, LineKind, NumberKind, StringKind, kind_byte, leaf_line, leaf_rest, line_byte, number_byte, payload, string_byte}
 use Rattle.resp_value.specs.declared.version.Version.TheVariants.{Two}
 
 -- a simple string or an error
 abbrev pub IsTextLine : LineKind → Type 0
-IsTextLine Simple = Unit {0}
-IsTextLine Error = Unit {0}
 IsTextLine Double = ⊥
+IsTextLine _ = Unit {0}
 
 -- the bytes are the line of a leaf that has nothing behind its line
 pub record IsLineOf (r : Rules) (l : Leaf) (level : ℕ) (bytes : List ℕ) : Type 0 where
@@ -25,7 +25,7 @@ pub record IsLineOf (r : Rules) (l : Leaf) (level : ℕ) (bytes : List ℕ) : Ty
 pub record IsReturned (r : Rules) (l : Leaf) (level : ℕ) (bytes : List ℕ) : Type 0 where
   pub begun : List ℕ
   pub line_of : IsLineOf r l level begun
-  pub returned : bytes ≡ begun ++ 13 ∷ []
+  pub returned : bytes ≡ begun ++ codes "\r"
 
 -- the line of a simple string or of an error, with so many bytes of text
 pub record IsTextToken (r : Rules) (k : LineKind) (n : ℕ) (level : ℕ) (bytes : List ℕ) : Type 0 where
@@ -39,9 +39,8 @@ pub record IsTextToken (r : Rules) (k : LineKind) (n : ℕ) (level : ℕ) (bytes
 
 -- the greatest digits of a sign
 abbrev pub greatest : Sign → ℕ
-greatest Unsigned = 9223372036854775807
-greatest Plus = 9223372036854775807
 greatest Minus = 9223372036854775808
+greatest _ = 9223372036854775807
 
 -- what numbers of this kind may be: integers of 64 bits, and in version 3 big numbers up to the limit of length
 abbrev pub MayBe : Rules → NumberKind → Sign → List ℕ → Type 0
@@ -50,7 +49,7 @@ MayBe r Big sign digits = (r.version ≡ Two → ⊥) × (length (kept_digits di
 
 -- the type byte of a number, and a sign or none
 abbrev pub IsNumberBegun : Rules → NumberKind → Sign → ℕ → List ℕ → Type 0
-IsNumberBegun r k sign level bytes = MayBe r k sign (48 ∷ []) × (bytes ≡ number_byte k ∷ (sign_text sign ++ []))
+IsNumberBegun r k sign level bytes = MayBe r k sign (codes "0") × (bytes ≡ number_byte k ∷ (sign_text sign ++ []))
 
 -- with digits
 pub record IsNumberToken (r : Rules) (k : NumberKind) (sign : Sign) (digits : List ℕ) (level : ℕ)
@@ -70,13 +69,12 @@ pub record IsCountReturned (r : Rules) (k : Kind) (first : ℕ) (digits : List �
   where
     pub begun : List ℕ
     pub count : IsCountToken r k first digits level begun
-    pub returned : bytes ≡ begun ++ 13 ∷ []
+    pub returned : bytes ≡ begun ++ codes "\r"
 
 -- whether a version has strings of this kind
 abbrev pub HasString : Rules → StringKind → Type 0
 HasString r Bulk = Unit {0}
-HasString r BulkError = r.version ≡ Two → ⊥
-HasString r (Verbatim format) = r.version ≡ Two → ⊥
+HasString r _ = r.version ≡ Two → ⊥
 
 -- a string's type byte and the digits of its length
 pub record IsLengthToken (r : Rules) (k : StringKind) (first : ℕ) (digits : List ℕ) (level : ℕ) (bytes : List ℕ) : Type
@@ -109,4 +107,4 @@ HasStreamed r = (r.version ≡ Two → ⊥) × (r.limits.streamed ≡ false → 
 -- so many zeros
 abbrev pub zeros : ℕ → List ℕ
 zeros zero = []
-zeros (suc n) = 48 ∷ zeros n
+zeros (suc n) = byte "0" ∷ zeros n

@@ -1,41 +1,46 @@
-//! Laws of what may follow a front, each the contract of a function with an empty body.
+//! Laws of fronts: what may follow them, the least that completes them, and the events due of them.
+//! Each is the contract of a function with an empty body.
 
 ghost use Rattle.resp_fronts.specs.EventExamples.{AnArray, AnAttribute, AStreamedArray, AVerbatimString, ABigNumber, ABigZero, AStreamedString};
 ghost use Rattle.resp_fronts.specs.Laws.{WhatMayFollowContinues, WhatContinuesMayFollow, LeastCompletionSplits, ViableWhereLeastFits, AFirstByteHasItsCause, EventsDueSplit};
 
-/// What has come, and what may follow it, spell a tree within the rules.
+/// A front, with anything that may follow it, spells a tree within the rules.
 pub fn compose()
     ensures { WhatMayFollowContinues }
 {}
 
-/// What continues a front may follow it, so nothing else may: no other tree begins so.
+/// What continues a front to the text of a tree within the rules may follow it, since no other tree
+/// begins so.
 pub fn determine()
     ensures { WhatContinuesMayFollow }
 {}
 
-/// The least completion of a front is the begun value's, and then what the frames around it need.
+/// The least completion of a front is as long as that of the begun value and what the frames around
+/// it still need, together.
 pub fn follow_least()
     ensures { LeastCompletionSplits }
 {}
 
-/// A front is viable under all rules exactly where it and its least completion are within total.
+/// A front is viable under every rule exactly where it and its least completion together are within
+/// the limit of total.
 pub fn viable_in_all()
     ensures { ViableWhereLeastFits }
 {}
 
-/// A first byte has the cause that the function of first bytes names, and is viable where it names
-/// none.
+/// A first byte that `first_byte_refusal` refuses has the rule that it names as its cause, and one
+/// that it does not refuse is viable within every rule but total.
 pub fn first_byte()
     ensures { AFirstByteHasItsCause }
 {}
 
-/// The events due of a front are those of what its frames have taken, and those due of the value
-/// that it begins.
+/// While a front's innermost value is unfinished, the events due are those of what the frames have
+/// taken, and then those due of this value.
 pub fn events_due()
     ensures { EventsDueSplit }
 {}
 
-/// Trees and their events, each with the index of the byte at which it comes.
+/// Seven trees with their events, worked out by hand, each with the index of the byte at which it
+/// comes.
 pub fn trees_and_their_events()
     ensures array { AnArray }
     ensures attribute { AnAttribute }

@@ -1,5 +1,4 @@
 -- What one byte makes of each head.
-pub mod ArrayHeads
 pub mod OpensLead
 pub mod CountsLead
 pub mod HeadsLead

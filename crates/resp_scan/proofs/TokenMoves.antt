@@ -17,4 +17,3 @@ pub mod ChunksBegun
 pub mod StreamsLead
 pub mod ChunkContentLead
 pub mod EachLeads
-pub mod TokenLaws

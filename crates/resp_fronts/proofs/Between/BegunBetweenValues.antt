@@ -9,6 +9,7 @@ use Rattle.resp_value.specs.Spellings.{IsCause}
 use Rattle.resp_value.specs.declared.version.Version.{Version}
 use Rattle.resp_value.specs.declared.version.Version.TheVariants.{Two, Three}
 use Rattle.resp_value.proofs.FirstBytes.{begins, first_byte_is}
+use Rattle.resp_value.proofs.Choices.{if_within}
 use Rattle.resp_fronts.specs.Frames.{text_around}
 use Rattle.resp_fronts.specs.MayFollow.{IsWholeText, MayFollowFrames}
 use Rattle.resp_fronts.specs.FirstByteRefusals.{refusal_in_three, aggregate_refusal, push_refusal, first_byte_answers, first_byte_refusal}
@@ -18,9 +19,8 @@ use Rattle.resp_fronts.proofs.FirstLines.CountRows.{CompletesUnder}
 use Rattle.resp_fronts.proofs.Between.BetweenValues.{IsBetween, room, ready_open}
 use Rattle.resp_fronts.proofs.Between.RefusedBetweenValues.{refuse_first, refuse_member}
 use Rattle.resp_fronts.proofs.Refusals.FirstRuleBroken.{refused_cause, grammar_cause}
-use Rattle.resp_fronts.proofs.Refusals.FirstByteCauses.{GoesOn, IsAnswered, goes_on_before, at_answer, first_byte_answered}
+use Rattle.resp_fronts.proofs.Refusals.FirstByteCauses.{GoesOn, IsAnswered, goes_on_before, at_answer, first_byte_answered, and_rows}
 use Rattle.resp_fronts.specs.OpenLevels.{Level, so_far}
-use Rattle.resp_value.proofs.Choices.{if_within}
 
 -- a first byte that no value has
 pub begin_broken : (r : Rules) (levels : List Level) (front : List ℕ) (byte : ℕ) → (byte ≡ 46 → ⊥) → (w : IsBetween r levels front) →
@@ -61,34 +61,22 @@ refusal_early : (r : Rules) (level byte : ℕ) → IsEarly (first_byte_refusal r
 refusal_early r level byte =
     let leaf = in_three_early r.version None tt in
     let kind = in_three_early r.version (aggregate_refusal r level) (aggregate_early r level) in
-    at_answer (λ x answer. IsEarly answer) (first_byte_answers r level) (Some Grammar) byte (
-      omega arith,
-      (
-        tt,
-        (
-          tt,
-          (
-            tt,
-            (
-              tt,
-              (
-                tt,
-                (
-                  leaf,
-                  (
-                    leaf,
-                    (
-                      leaf,
-                      (leaf, (leaf, (kind, (kind, (kind, (in_three_early r.version (push_refusal r level) (push_early r level), tt)))))),
-                    ),
-                  ),
-                ),
-              ),
-            ),
-          ),
-        ),
-      ),
-    ) (λ apart. omega arith)
+    at_answer (λ x answer. IsEarly answer) (first_byte_answers r level) (Some Grammar) byte
+    (and_rows (omega arith)
+    (and_rows tt
+    (and_rows tt
+    (and_rows tt
+    (and_rows tt
+    (and_rows tt
+    (and_rows leaf
+    (and_rows leaf
+    (and_rows leaf
+    (and_rows leaf
+    (and_rows leaf
+    (and_rows kind
+    (and_rows kind
+    (and_rows kind
+    (and_rows (in_three_early r.version (push_refusal r level) (push_early r level)) tt))))))))))))))) (λ apart. omega arith)
 
 -- a refusal of a first byte is the front's cause
 refused_begin : (r : Rules) (levels : List Level) (front : List ℕ) (byte : ℕ) (rule before : Rule) → (byte ≡ 46 → ⊥) → (w : IsBetween r levels front) →

@@ -5,6 +5,7 @@ use Rattle.resp_value.specs.LocalRules.{LeafKeeps, LeafRule, NodeKeeps, NodeRule
 use Rattle.resp_value.specs.Numbers.{number}
 use Rattle.resp_value.specs.Rules.{InVersion, NotStreamed, PushAtTop, Rule, Rules, WithinDepth, WithinItems}
 use Rattle.resp_value.specs.Trees.{CanStream, Counted, Form, HasMembers, Streamed, count, text}
+use Rattle.resp_value.proofs.DefaultLimits.{text_at_least}
 use Rattle.resp_fronts.specs.Frames.{Frame, text_around}
 use Rattle.resp_fronts.specs.LeastCompletions.{HasLeast}
 use Rattle.resp_fronts.specs.MayFollow.{AreKept, AreOpen, CanAllEnd, CanEnd, IsWholeText, MayFollowFrames, MayFollowValue, frames_needed, members_needed, members_missing}
@@ -15,7 +16,6 @@ use Rattle.resp_fronts.proofs.FrameLaws.OpenFrames.{shortest_tree}
 use Rattle.resp_fronts.proofs.Refusals.RefusedFronts.{CompletesFront}
 use Rattle.resp_fronts.proofs.FrameLaws.KeptNodes.{shortest_keeps}
 use Rattle.resp_fronts.specs.OpenLevels.{AreLevelsOf, AreReady, HasShape, Level, Shape, to_come, so_far}
-use Rattle.resp_value.proofs.DefaultLimits.{text_at_least}
 
 -- a value or a close may come next
 abbrev pub IsBetween : Rules → List Level → List ℕ → Type 0

@@ -5,11 +5,11 @@ use Rattle.resp_value.specs.Bytes.{crlf}
 use Rattle.resp_value.specs.Numbers.{sign_text, significant_digits, is_below_zero}
 use Rattle.resp_value.specs.Trees as t
 use Rattle.resp_value.specs.Trees.{Tree, Trees, leaf, node, none, more, Leaf, line, numeral, null, truth, string, chunked, Form, Chunk, chunks_text, text, texts, close, kind_byte, form_line, leaf_text, leaf_rest, leaf_line, payload, number_byte, null_line, truth_line}
+use Rattle.resp_value.proofs.DigitLemmas.{length-significant_digits}
+use Rattle.resp_value.proofs.DefaultLimits.{text_at_least}
 use Rattle.resp_fronts.specs.Frames.{Frame, text_around}
 use Rattle.resp_fronts.specs.Events.{TextKind, Simple, Error, Bulk, BulkError, Verbatim, Big, Timed, bytes_from, text_events, last_of, big_events, chunk_events, leaf_events, events, events_each, frame_events, events_around}
 use Rattle.resp_fronts.proofs.EventLaws.EventsAround.{next_member_at}
-use Rattle.resp_value.proofs.DigitLemmas.{length-significant_digits}
-use Rattle.resp_value.proofs.DefaultLimits.{text_at_least}
 
 -- each event comes at one of the bytes from here to there
 abbrev pub AreWithin : ℕ → ℕ → List Timed → Type 0

@@ -6,6 +6,7 @@ use Rattle.resp_value.specs.Trees.{Tree, Trees, leaf, node, none, more, text, te
 use Rattle.resp_value.specs.LocalRules.{LeafRule, NodeRule, HoldsFrom, HoldsFromEach}
 use Rattle.resp_value.proofs.FirstBytes.{byte_at_start}
 use Rattle.resp_value.proofs.Unique.{unique}
+use Rattle.resp_value.proofs.DefaultLimits.{text_at_least}
 use Rattle.resp_fronts.specs.Frames.{Frame, open_text, text_around}
 use Rattle.resp_fronts.specs.MayFollow.{MembersThen, MayFollowValue, ValueThen, AreKept, AreOpen}
 use Rattle.resp_fronts.specs.Events.{Timed, events, events_each, close_event, events_around, events_due, without_places}
@@ -13,7 +14,6 @@ use Rattle.resp_fronts.proofs.FrameLaws.OpenFrames.{joined_trees}
 use Rattle.resp_fronts.proofs.FrameLaws.Composition.{around-append, text-node, frame_value, compose_member, determine, first_member}
 use Rattle.resp_fronts.proofs.EventLaws.EventsAround.{events-node, length-around}
 use Rattle.resp_fronts.proofs.EventLaws.EventPlaces.{AreWithin, within_wider, each_within, around_within}
-use Rattle.resp_value.proofs.DefaultLimits.{text_at_least}
 
 -- each event comes at this byte or behind it
 abbrev pub AreFrom : ℕ → List Timed → Type 0
@@ -34,7 +34,7 @@ pub due_all : (from n : ℕ) (es : List Timed) → AreWithin from n es → event
 due_all from n [] p = refl
 due_all from n (e ∷ es) p = rw (lt-ltb e.at n p.0.1) (ap (λ z. e.event ∷ z) (due_all from n es p.1))
 
--- and those that come behind it aren't
+-- events that come behind the first so many bytes are not due
 pub due_none : (n : ℕ) (es : List Timed) → AreFrom n es → events_due n es ≡ []
 due_none n [] p = refl
 due_none n (e ∷ es) p = rw (le-ltb e.at n p.0) (due_none n es p.1)

@@ -8,14 +8,14 @@ use Rattle.resp_value.specs.Rules.{Grammar, InRange, InVersion, NoDouble, NotStr
 use Rattle.resp_value.specs.Trees.{ArrayNull, Big, Bulk, BulkError, BulkNull, Counted, Double, Error, Int, IsTree, PlainNull, Simple, Streamed, Tree, Trees, Verbatim, chunked, count, kind_byte, leaf, line, node, none, null, numeral, string, texts, truth}
 use Rattle.resp_value.proofs.FirstBytes.{byte_at_start}
 use Rattle.resp_value.proofs.FirstLines.{after_line, first_is_line, first_line, sort, sort_of, sort_of-line}
+use Rattle.resp_value.proofs.DigitLemmas.{number-more}
+use Rattle.resp_value.proofs.DefaultLimits.{texts_at_least}
 use Rattle.resp_fronts.specs.LeastCompletions.{HasLeast}
 use Rattle.resp_fronts.specs.MayFollow.{CompletesValue}
 use Rattle.resp_fronts.proofs.FirstLines.BegunLines.{completes_line, counted_is, line_least, members-more}
 use Rattle.resp_fronts.proofs.FrameLaws.LeastAround.{length-shortest_trees, shortest_trees_hold}
 use Rattle.resp_fronts.proofs.FrameLaws.OpenFrames.{are_shortest_trees, count-shortest_trees, shortest_trees}
 use Rattle.resp_fronts.proofs.FrameLaws.KeptNodes.{shortest_keeps}
-use Rattle.resp_value.proofs.DigitLemmas.{number-more}
-use Rattle.resp_value.proofs.DefaultLimits.{texts_at_least}
 
 -- completes b under the rules up to g
 abbrev pub CompletesUnder : Rules → Rule → ℕ → List ℕ → List ℕ → Type 0

@@ -1,6 +1,7 @@
 -- Least completions of begun first lines: numbers, `_`, `#`, `$` and the lengths of strings.
 use Rattle.std.proofs.Common.{◌++◌, ◌+◌, ◌<◌, ◌∙◌, ◌∷◌, ◌≡◌, ◌≤◌, Bool, List, [], ap, append-nil, append_assoc, arith, false, length, length-append, refl, subst, suc, sym, true, zero, ℕ}
 use Rattle.std.specs.List.{AllByRecursion}
+use Rattle.std.proofs.lemmas.Bool.{ne_eqb}
 use Rattle.resp_value.specs.Bytes.{IsLine, IsText, crlf}
 use Rattle.resp_value.specs.Data.{Array, Attr, Map, Push, Set}
 use Rattle.resp_value.specs.LocalRules.{HoldsFrom, LeafRule, NodeRule}
@@ -9,11 +10,11 @@ use Rattle.resp_value.specs.Trees.{Chunk, ArrayNull, Big, Bulk, BulkError, BulkN
 use Rattle.resp_value.proofs.FirstBytes.{byte_at_start}
 use Rattle.resp_value.proofs.FirstLines.{after_line, chunked_sort, first_line, leaf_of, no_sort, numeral_sort, sort, sort_behind_dollar, sort_of, string_sort, sort_of-line}
 use Rattle.resp_value.proofs.Splitting.{digit_is_no, digit_is_no_mark, line_from_each}
+use Rattle.resp_value.proofs.DigitLemmas.{number-more}
 use Rattle.resp_fronts.specs.LeastCompletions.{HasLeast}
 use Rattle.resp_fronts.specs.MayFollow.{CompletesValue}
 use Rattle.resp_fronts.proofs.FirstLines.BegunLines.{completes_line, text_first}
 use Rattle.resp_fronts.specs.Tokens.{zeros}
-use Rattle.resp_value.proofs.DigitLemmas.{number-more}
 
 -- a line that can go on by l0
 pub line_row : (L : LeafRule) (N : NodeRule) (k : ℕ) (b l0 : List ℕ) (t : Tree) (m : ℕ) → IsLine b → IsTree t → HoldsFrom L N k t → first_line t ≡ b ++ l0 →
@@ -119,12 +120,12 @@ truth_row L N k false h = line_row L N k (35 ∷ 102 ∷ []) [] (leaf (truth fal
   ((λ e. omega arith, λ e. omega arith), tt),
 ) tt h refl refl (λ u l i j e. omega arith)
 
--- so many they are
+-- as many zeros as were asked for
 pub length-zeros : (n : ℕ) → length (zeros n) ≡ n
 length-zeros zero = refl
 length-zeros (suc n) = omega (arith, length-zeros n)
 
--- and bytes
+-- zeros are bytes
 pub are_zeros : (n : ℕ) → IsText (zeros n)
 are_zeros zero = tt
 are_zeros (suc n) = (omega arith, are_zeros n)
@@ -202,3 +203,20 @@ chunked_row L N k h = line_row L N k (36 ∷ 63 ∷ []) [] (leaf (chunked [] (48
       length-append c.digits (crlf (c.content ++ crlf (chunks_text cs ((59 ∷ z) ++ crlf [])))),
       length-append c.content (crlf (chunks_text cs ((59 ∷ z) ++ crlf []))),
     )
+
+-- a number's type byte, its sign and what follows say so
+pub sort_of_signed : (K : NumberKind) (g : Sign) (first : ℕ) (behind : List ℕ) → (g ≡ Unsigned → (first ≡ 43 → ⊥) × (first ≡ 45 → ⊥)) →
+    sort (number_byte K ∷ (sign_text g ++ first ∷ behind)) ≡ leaf_of (numeral_sort K g (first ∷ behind))
+sort_of_signed Int Unsigned first behind h = let other = h refl in rw (ne_eqb first 43 other.0, ne_eqb first 45 other.1)
+sort_of_signed Big Unsigned first behind h = let other = h refl in rw (ne_eqb first 43 other.0, ne_eqb first 45 other.1)
+sort_of_signed _ _ first behind h = refl
+
+-- a digit is no sign
+pub digit_no_sign : (g : Sign) (digit : ℕ) → IsDigit digit → g ≡ Unsigned → (digit ≡ 43 → ⊥) × (digit ≡ 45 → ⊥)
+digit_no_sign g digit p e = (λ h. omega arith, λ h. omega arith)
+
+-- the sort of a number's first line behind a digit
+pub sort_of_digits : (K : NumberKind) (g : Sign) (digit : ℕ) (digits behind : List ℕ) → IsDigit digit →
+    sort (number_byte K ∷ ((sign_text g ++ digit ∷ digits) ++ behind)) ≡ leaf_of (numeral_sort K g (digit ∷ digits ++ behind))
+sort_of_digits K g digit digits behind p = ap (λ z. sort (number_byte K ∷ z)) (append_assoc (sign_text g) (digit ∷ digits) behind) ∙
+    sort_of_signed K g digit (digits ++ behind) (digit_no_sign g digit p)

@@ -9,6 +9,8 @@ use Rattle.resp_value.specs.LocalRules.{LeafRule, NodeRule}
 use Rattle.resp_value.specs.Numbers.{IsDigit, IsDigits, number}
 use Rattle.resp_value.specs.Trees.{BulkError, BulkNull, CanStream, Counted, Form, HasFormat, IsTree, Simple, Streamed, StringKind, Tree, Verbatim, count, kind_byte, leaf, line, more, node, none, null, payload, string, string_byte, texts}
 use Rattle.resp_value.proofs.FirstLines.{after_line, first_line, form_of, leaf_of, node_of, sort, sort_of, string_sort, sort_of-line}
+use Rattle.resp_value.proofs.DigitLemmas.{number-digit}
+use Rattle.resp_value.proofs.DefaultLimits.{texts_at_least}
 use Rattle.resp_fronts.specs.LeastCompletions.{HasLeast}
 use Rattle.resp_fronts.specs.MayFollow.{CompletesValue}
 use Rattle.resp_fronts.proofs.FirstLines.BegunLines.{completes_line, tree_of_node}
@@ -17,8 +19,6 @@ use Rattle.resp_fronts.proofs.FirstLines.FirstLineRows.{are_zeros, dollar_more, 
 use Rattle.resp_fronts.proofs.FrameLaws.OpenFrames.{shortest_trees}
 use Rattle.resp_fronts.proofs.FirstLines.CountRows.{byte_line, line_after}
 use Rattle.resp_fronts.specs.Tokens.{zeros}
-use Rattle.resp_value.proofs.DigitLemmas.{number-digit}
-use Rattle.resp_value.proofs.DefaultLimits.{texts_at_least}
 
 -- `$`: 4
 pub dollar_row : (L : LeafRule) (N : NodeRule) (k : ℕ) → L k (null BulkNull) → HasLeast (CompletesValue L N k (36 ∷ [])) 4

@@ -8,6 +8,7 @@ use Rattle.resp_value.specs.LocalRules.{LeafRule, NodeRule}
 use Rattle.resp_value.proofs.Splitting.{plain_above}
 use Rattle.resp_value.proofs.FirstLines.{sort, sort_of, first_line, after_line, null_is_line}
 use Rattle.resp_value.proofs.Unique.{chunk_line}
+use Rattle.resp_value.proofs.DigitLemmas.{number-digit}
 use Rattle.resp_fronts.specs.LeastCompletions.{HasLeast}
 use Rattle.resp_fronts.specs.MayFollow.{CompletesValue}
 use Rattle.resp_fronts.proofs.FirstLines.BegunLines.{line_begins, completes_line, completes_return, text_first}
@@ -16,7 +17,6 @@ use Rattle.resp_fronts.proofs.FirstLines.MoreFirstLineRows.{string_size, verbati
 use Rattle.resp_fronts.proofs.Tokens.StreamedStrings.{with_chunks, last, completes_chunks, chunks_complete}
 use Rattle.resp_fronts.proofs.Refusals.BrokenLines.{null_short}
 use Rattle.resp_fronts.specs.Tokens.{zeros}
-use Rattle.resp_value.proofs.DigitLemmas.{number-digit}
 
 -- a byte on the shortest way lowers what a value needs by one
 pub next_row : (L : LeafRule) (N : NodeRule) (level : ℕ) (begun : List ℕ) (byte n : ℕ) (rest : List ℕ) → HasLeast (CompletesValue L N level begun) (suc n) →
@@ -60,7 +60,7 @@ before_newline_row L N level line n is_line h = record {
       omega (arith, ap length u.whole, h.least (after_line u.tree) behind));
 }
 
--- and so does the first byte of what the least completion is
+-- the first byte of the least completion leaves one byte fewer to come
 pub first_of_least : (L : LeafRule) (N : NodeRule) (level : ℕ) (begun : List ℕ) (byte n : ℕ) (rest : List ℕ) →
     (h : HasLeast (CompletesValue L N level begun) (suc n)) → h.some ≡ byte ∷ rest → HasLeast (CompletesValue L N level (begun ++ byte ∷ [])) n
 first_of_least L N level begun byte n rest h e = next_row L N level begun byte n rest h (subst (CompletesValue L N level begun) e h.holds)

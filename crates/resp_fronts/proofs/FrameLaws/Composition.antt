@@ -147,7 +147,7 @@ first_member L N (f ∷ fs) x o h m =
     m.after in
     record { tree = t; rest = r; is_tree = p; keep = q; whole = e; after = a }
 
--- and the other way
+-- a value and what may follow it may come within the frames
 pub member_rest : (L : LeafRule) (N : NodeRule) (fs : List Frame) (x : List ℕ) → ValueThen L N fs x → MayFollowFrames L N fs x
 member_rest L N [] x m = record {
   tree = m.tree;
@@ -171,12 +171,13 @@ member_rest L N (f ∷ fs) x m =
       after = a.after;
     }
 
-enough : (k : Kind) (f : Form) (d n c : ℕ) → HasMembers k f n → d < n → HasMembers k f c → (es : List ℕ) → f ≡ Counted es → d ≤ c
-enough k (Counted ds) d n c i l j es e =
+-- a counted aggregate has one number of members
+pub one_count : (k : Kind) (f : Form) (n c : ℕ) → HasMembers k f n → HasMembers k f c → (digits : List ℕ) → f ≡ Counted digits → n ≡ c
+one_count k (Counted ds) n c i j digits e =
     let u : members_of k (number ds) ≡ n = i.1 in
     let v : members_of k (number ds) ≡ c = j.1 in
     omega arith
-enough k Streamed d n c i l j es e = absurd (cc)
+one_count k Streamed n c i j digits e = absurd (cc)
 
 -- what the open aggregates' texts leave is what may come within the innermost
 pub within_frame : (L : LeafRule) (N : NodeRule) (f : Frame) (fs : List Frame) (x : List ℕ) (n : ℕ) → HasMembers f.kind f.form n → count f.done < n →
@@ -186,7 +187,7 @@ within_frame L N f fs x n i l p m =
     (m.whole ∙ append_assoc (kind_byte f.kind ∷ form_line f.form) (crlf (texts f.done)) x) in
     let q : IsTree (node f.kind f.form ts) = subst IsTree e m.is_tree in
     let r : HoldsFrom L N (length fs) (node f.kind f.form ts) = subst (HoldsFrom L N (length fs)) e m.keep in
-    let (us, h, v) = parted f.form f.done ts m.rest x p q.1 (enough f.kind f.form (count f.done) n (count ts) i l q.0) w in
+    let (us, h, v) = parted f.form f.done ts m.rest x p q.1 (λ digits e. omega (arith, l, one_count f.kind f.form n (count ts) i q.0 digits e)) w in
     let h0 : ts ≡ joined_trees f.done us = h in
     let c : count ts ≡ count f.done + count us = ap count h0 ∙ count-joined_trees f.done us in
     record {

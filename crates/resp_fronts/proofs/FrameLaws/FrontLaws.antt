@@ -23,7 +23,7 @@ continues r rule front rest before_total w = record {
       (keeps_locally r rule w.tree before_total).1 w.keep;
 }
 
--- and the other way
+-- what continues a front spells a whole text with it
 pub whole_text : (r : Rules) (rule : Rule) (front rest : List ℕ) → rank rule < rank WithinTotal → Continues r rule front rest →
     IsWholeText (LeafKeeps r rule) (NodeKeeps r rule) (front ++ rest)
 whole_text r rule front rest before_total w = record {

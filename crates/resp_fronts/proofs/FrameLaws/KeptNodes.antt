@@ -27,7 +27,7 @@ pub leaf_meets : (r : Rules) (level : ℕ) (l : Leaf) → IsNoDouble l → (r.ve
 leaf_meets r level l no_double in_version in_range counted within_length =
     at_each_rule (λ rule. LeafMeets r rule level l) tt no_double in_version tt in_range counted tt within_length tt tt
 
--- and so within the rules up to one
+-- a leaf that breaks no rule by itself keeps the rules up to any one
 pub leaf_keeps : (r : Rules) (rule : Rule) (level : ℕ) (l : Leaf) → IsNoDouble l → (r.version ≡ Two → IsLeafInTwo l) → IsInRange l →
     (r.limits.streamed ≡ false → IsCountedLeaf l) → content_length (leaf_value l) ≤ r.limits.length → LeafKeeps r rule level l
 leaf_keeps r rule level l no_double in_version in_range counted within_length earlier e =

@@ -6,12 +6,12 @@ use Rattle.resp_value.specs.Numbers.{number}
 use Rattle.resp_value.specs.Trees.{ArrayNull, BulkNull, Counted, Form, HasMembers, IsTree, Leaf, PlainNull, Simple, Streamed, Tree, chunked, close, count, leaf, leaf_line, line, node, null, numeral, string, text, texts, truth}
 use Rattle.resp_value.proofs.FirstLines.{first_line}
 use Rattle.resp_value.proofs.Unique.{unique}
+use Rattle.resp_value.proofs.DefaultLimits.{texts_at_least}
 use Rattle.resp_fronts.specs.Frames.{Frame, text_around}
 use Rattle.resp_fronts.specs.LeastCompletions.{HasLeast}
 use Rattle.resp_fronts.specs.MayFollow.{AreKept, AreOpen, CanAllEnd, CanEnd, CompletesValue, IsWholeText, MayFollow, MayFollowValue, MembersThen, ValueThen, frames_needed, members_needed, members_missing}
 use Rattle.resp_fronts.proofs.FrameLaws.Composition.{around-append, compose, determine, first_member, member_rest}
 use Rattle.resp_fronts.proofs.FrameLaws.OpenFrames.{are_shortest_trees, count-shortest_trees, shortest_trees}
-use Rattle.resp_value.proofs.DefaultLimits.{texts_at_least}
 
 -- a begins with b, and what follows b is the rest of a, and what follows a
 abbrev pub BeginsBy : List ℕ → List ℕ → List ℕ → List ℕ → Type 0
@@ -63,7 +63,7 @@ member_parts L N fs b c g m = cases (one_begins (text m.tree) b m.rest c m.whole
         let s : 0 < length g.more = g.some in
         absurd (omega (arith, length-append w.0 g.more))
 
--- and the parts together
+-- the parts make a value that begins with the begun bytes
 pub parts_member : (L : LeafRule) (N : NodeRule) (fs : List Frame) (b c : List ℕ) → ValueParts L N fs b c → ValueThen L N fs (b ++ c)
 parts_member L N fs b c p = record {
   tree = p.tail.tree;
@@ -157,7 +157,7 @@ pub are_open : (L : LeafRule) (N : NodeRule) (fs : List Frame) → CanAllEnd L N
 are_open L N [] h = tt
 are_open L N (f ∷ fs) h = (_, h.0.0, omega arith, h.1, are_open L N fs h.3)
 
--- and their members are within the rules
+-- the members of frames that can all end are within the rules
 pub are_kept : (L : LeafRule) (N : NodeRule) (fs : List Frame) → CanAllEnd L N fs → AreKept L N fs
 are_kept L N [] h = tt
 are_kept L N (f ∷ fs) h = (h.1, h.2, are_kept L N fs h.3)
@@ -167,7 +167,7 @@ pub follow_parts : (L : LeafRule) (N : NodeRule) (fs : List Frame) (x : ℕ) (b 
     MayFollow L N fs (x ∷ b) c → ValueParts L N fs (x ∷ b) c
 follow_parts L N fs x b c o n g m = member_parts L N fs (x ∷ b) c g (first_member L N fs ((x ∷ b) ++ c) o n m)
 
--- and the parts together
+-- the parts make what may follow the begun bytes
 pub parts_follow : (L : LeafRule) (N : NodeRule) (fs : List Frame) (b c : List ℕ) → ValueParts L N fs b c → MayFollow L N fs b c
 parts_follow L N fs b c p = member_rest L N fs (b ++ c) (parts_member L N fs b c p)
 

@@ -72,7 +72,7 @@ open-with f t =
     ap (λ z. h ++ crlf z) (texts-joined_trees f.done (more t none) ∙ ap (λ z. texts f.done ++ z) (append-nil (text t))) ∙
     sym (append_assoc h (crlf (texts f.done)) (text t))
 
--- and of the frames around it
+-- a whole member's text within the innermost frame is that of the frame with the member
 pub around-with : (f : Frame) (fs : List Frame) (t : Tree) → text_around (f ∷ fs) (text t) ≡ text_around (with_member f t ∷ fs) []
 around-with f fs t = ap (text_around fs) (sym (open-with f t) ∙ sym (append-nil (open_text (with_member f t))))
 
@@ -84,7 +84,7 @@ around-full f fs t ds e =
     ap (text_around fs) (sym (open-with f t) ∙ ap (λ z. h ++ crlf z) (sym (append-nil (texts (joined_trees f.done (more t none)))) ∙
     ap (λ z. texts (joined_trees f.done (more t none)) ++ close z) (sym e)))
 
--- and a streamed one with its close
+-- a streamed frame and its close are a whole value within the frames around it
 pub around-close : (f : Frame) (fs : List Frame) → f.form ≡ Streamed → text_around (f ∷ fs) (46 ∷ crlf []) ≡ text_around fs (text (node f.kind f.form f.done))
 around-close f fs e =
     let h = kind_byte f.kind ∷ form_line f.form in

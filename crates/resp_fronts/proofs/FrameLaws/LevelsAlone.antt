@@ -9,7 +9,7 @@ use Rattle.resp_fronts.specs.Frames.{Frame}
 use Rattle.resp_fronts.specs.MayFollow.{CanAllEnd, CanEnd, MayFollowValue, members_missing}
 use Rattle.resp_fronts.specs.OpenLevels.{AreLevelsOf, HasShape, Level, Shape, to_come, so_far}
 
--- so many members may come behind the open one
+-- that so many members may come behind the open one
 abbrev pub MayCount : NodeRule → ℕ → Kind → Shape → ℕ → Type 0
 MayCount N l k (to_come m) c = suc c ≡ m
 MayCount N l k (so_far m) c = CanStream k (suc m + c) × N l k Streamed (suc m + c)
@@ -86,7 +86,7 @@ count_may N l k (so_far m) (Counted ds) n c h o w = let e : Counted ds ≡ Strea
 count_may N l k (so_far m) Streamed n c h o w = let e : suc m + c ≡ suc n + c = omega (arith, h.1) in
     (subst (CanStream k) e w.0, subst (N l k Streamed) e w.1, refl)
 
--- and back
+-- what may follow the levels may follow their frames
 pub levels_after : (L : LeafRule) (N : NodeRule) (vs : List Level) (fs : List Frame) (x : List ℕ) → AreLevelsOf vs fs → CanAllEnd L N fs →
     MayFollowLevels L N vs x → MayFollowValue L N fs x
 levels_after L N [] [] x h o a = a

@@ -30,17 +30,17 @@ are_joined (more t ts) us p q = (p.0, are_joined ts us p.1 q)
 abbrev pub shortest_tree : Tree
 shortest_tree = leaf (line Simple [])
 
--- so many shortest values
+-- as many shortest values as asked for
 abbrev pub shortest_trees : ℕ → Trees
 shortest_trees zero = none
 shortest_trees (suc n) = more shortest_tree (shortest_trees n)
 
--- so many they are
+-- the shortest values are as many as asked for
 pub count-shortest_trees : (n : ℕ) → count (shortest_trees n) ≡ n
 count-shortest_trees zero = refl
 count-shortest_trees (suc n) = omega (arith, count-shortest_trees n)
 
--- and trees of the grammar
+-- the shortest values are trees of the grammar
 pub are_shortest_trees : (n : ℕ) → AreTrees (shortest_trees n)
 are_shortest_trees zero = tt
 are_shortest_trees (suc n) = ((tt, tt), are_shortest_trees n)

@@ -5,6 +5,7 @@ use Rattle.resp_value.specs.LocalRules.{HoldsFrom, LeafRule, NodeRule}
 use Rattle.resp_value.specs.Trees.{Counted, Form, HasMembers, IsTree, Simple, Streamed, Tree, close, count, form_line, kind_byte, line, node, text, texts}
 use Rattle.resp_value.proofs.FirstBytes.{byte_at_start}
 use Rattle.resp_value.proofs.Unique.{not_close, unique}
+use Rattle.resp_value.proofs.DefaultLimits.{text_at_least}
 use Rattle.resp_fronts.specs.Frames.{Frame, text_around}
 use Rattle.resp_fronts.specs.LeastCompletions.{HasLeast}
 use Rattle.resp_fronts.specs.MayFollow.{CanAllEnd, IsWholeText, MayFollowFrames, MayFollowValue, frames_needed, members_missing}
@@ -12,7 +13,6 @@ use Rattle.resp_fronts.proofs.Between.BetweenValues.{ready_open}
 use Rattle.resp_fronts.proofs.FrameLaws.Composition.{around-append, compose, determine, first_member, member_rest}
 use Rattle.resp_fronts.proofs.FrameLaws.LeastAround.{after_least, are_kept, are_open}
 use Rattle.resp_fronts.specs.OpenLevels.{AreLevelsOf, AreReady, Level, so_far}
-use Rattle.resp_value.proofs.DefaultLimits.{text_at_least}
 
 -- a text's first byte is no `.`
 text_no_stop : (t : Tree) (c : List ℕ) → byte_at_start (text t ++ c) ≡ 46 → ⊥

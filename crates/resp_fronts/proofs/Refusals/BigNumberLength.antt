@@ -1,14 +1,13 @@
 -- Big numbers past the limit of length: their kept digits count.
-use Rattle.std.proofs.Common.{◌++◌, ◌<◌, ◌∙◌, ◌∷◌, ◌≡◌, ◌≤◌, Bool, List, [], arith, cond, eqb, false, length, length-append, refl, subst, true, ℕ}
+use Rattle.std.proofs.Common.{◌++◌, ◌<◌, ◌∙◌, ◌∷◌, ◌≤◌, Bool, List, [], arith, cond, eqb, false, length, length-append, refl, subst, true, ℕ}
 use Rattle.resp_value.specs.Bytes.{crlf}
 use Rattle.resp_value.specs.LocalRules.{HoldsFrom, LeafKeeps, NodeKeeps}
-use Rattle.resp_value.specs.Numbers.{IsDigit, IsDigits, Minus, Plus, Sign, Unsigned, kept_digits, sign_text, significant_digits, zero_if_none}
+use Rattle.resp_value.specs.Numbers.{IsDigits, Sign, kept_digits, sign_text, significant_digits, zero_if_none}
 use Rattle.resp_value.specs.Rules.{Rules, WithinDepth, WithinLength}
 use Rattle.resp_value.specs.Trees.{Big, leaf, numeral}
-use Rattle.resp_value.proofs.FirstLines.{first_line, leaf_of, numeral_sort, sort, sort_of-line}
-use Rattle.resp_value.proofs.Splitting.{digit_is_no}
+use Rattle.resp_value.proofs.FirstLines.{first_line, sort_of-line}
 use Rattle.resp_fronts.proofs.FirstLines.BegunLines.{completes_line}
-use Rattle.resp_fronts.proofs.FirstLines.FirstLineRows.{number_line, tree_of_numeral}
+use Rattle.resp_fronts.proofs.FirstLines.FirstLineRows.{number_line, tree_of_numeral, sort_of_digits}
 use Rattle.resp_fronts.proofs.FirstLines.CountRows.{IsRefusedHere}
 
 some_kept : (s : List ℕ) → 1 ≤ length (zero_if_none s)
@@ -25,11 +24,6 @@ kept-more (c ∷ ds) l = cases (eqb c 48) (kept-more ds l)
     cases true h = h
     cases false h = omega (arith, length-append ds l)
 
-big_sort : (g : Sign) (d : ℕ) (ds l : List ℕ) → IsDigit d → sort (40 ∷ ((sign_text g ++ d ∷ ds) ++ l)) ≡ leaf_of (numeral_sort Big g (d ∷ ds ++ l))
-big_sort Plus d ds l p = refl
-big_sort Minus d ds l p = refl
-big_sort Unsigned d ds l p = rw (digit_is_no d 43 p (omega arith), digit_is_no d 45 p (omega arith))
-
 -- a digit of a big number past the limit of length
 pub big_too_long : (r : Rules) (k : ℕ) (g : Sign) (d : ℕ) (ds : List ℕ) → IsDigits (d ∷ ds) → LeafKeeps r WithinDepth k (numeral Big g (d ∷ ds)) →
     r.limits.length < length (kept_digits (d ∷ ds)) → IsRefusedHere r WithinLength WithinDepth k (40 ∷ (sign_text g ++ d ∷ ds))
@@ -37,7 +31,7 @@ unfolding first_line
 big_too_long r k g d ds p h n = record {
   dead = λ c t. (let u = completes_line (LeafKeeps r WithinLength) (NodeKeeps r WithinLength) k (40 ∷ (sign_text g ++ d ∷ ds)) c
       (number_line Big g (d ∷ ds) p.1) t in
-      let e = tree_of_numeral u.tree Big g (d ∷ ds ++ u.line) (sort_of-line u.tree u.is_tree u.begins ∙ big_sort g d ds u.line p.1.0) in
+      let e = tree_of_numeral u.tree Big g (d ∷ ds ++ u.line) (sort_of-line u.tree u.is_tree u.begins ∙ sort_of_digits Big g d ds u.line p.1.0) in
       let a : HoldsFrom (LeafKeeps r WithinLength) (NodeKeeps r WithinLength) k (leaf (numeral Big g (d ∷ ds ++ u.line))) =
       subst (HoldsFrom (LeafKeeps r WithinLength) (NodeKeeps r WithinLength) k) e u.keep in
       let m : length (kept_digits (d ∷ ds ++ u.line)) ≤ r.limits.length = a WithinLength (omega arith) in

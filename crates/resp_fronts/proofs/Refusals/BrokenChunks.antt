@@ -21,7 +21,7 @@ pub stream_mark_broken : (r : Rules) (level : ℕ) (rest : List ℕ) (byte : ℕ
 stream_mark_broken r level rest byte no_return c = byte_broken (LeafKeeps r Grammar) (NodeKeeps r Grammar) level (36 ∷ 63 ∷ []) rest byte mark_line no_return
     (chunked_broken byte) c
 
--- and behind that LF
+-- behind the CR of a streamed string's line comes an LF alone
 pub stream_returned_broken : (r : Rules) (level : ℕ) (rest : List ℕ) (byte : ℕ) → (byte ≡ 10 → ⊥) →
     CompletesUnder r Grammar level (36 ∷ 63 ∷ 13 ∷ []) (byte ∷ rest) → ⊥
 stream_returned_broken r level rest byte no_newline c = behind_return_broken (LeafKeeps r Grammar) (NodeKeeps r Grammar) level (36 ∷ 63 ∷ []) rest byte
@@ -117,7 +117,7 @@ chunk_content_broken r level chunks digits part rest byte p are_digits some size
     let e : 13 ∷ 10 ∷ s.0 ≡ byte ∷ rest = s.1 in
     no_return (cc)
 
--- and behind that LF
+-- behind the CR of a chunk's content comes an LF alone
 pub chunk_returned_broken : (r : Rules) (level : ℕ) (chunks : List Chunk) (digits part rest : List ℕ) (byte : ℕ) → AllByRecursion IsChunk chunks →
     IsDigits digits → 0 < number digits → number digits ≡ length part → (byte ≡ 10 → ⊥) →
     CompletesUnder r Grammar level (streamed_text chunks ((59 ∷ digits) ++ crlf (part ++ 13 ∷ []))) (byte ∷ rest) → ⊥

@@ -3,29 +3,19 @@ use Rattle.std.proofs.Common.{◌≡◌, ℕ, ◌<◌, List, [], ◌∷◌, ◌+
 use Rattle.std.proofs.lemmas.Bool.{ne_eqb}
 use Rattle.resp_value.specs.Numbers.{IsDigit, IsDigits, Sign, Unsigned, sign_text, number}
 use Rattle.resp_value.specs.Data.{Kind, Array, Set, Map, Attr, Push}
-use Rattle.resp_value.specs.Trees.{Tree, leaf, node, string, NumberKind, Int, Big, StringKind, Bulk, BulkError, Verbatim, Counted, Streamed, number_byte, string_byte, kind_byte, count, CanStream, IsTree}
+use Rattle.resp_value.specs.Trees.{Tree, leaf, node, string, NumberKind, StringKind, Bulk, BulkError, Verbatim, Counted, Streamed, number_byte, string_byte, kind_byte, count, CanStream, IsTree}
 use Rattle.resp_value.proofs.FirstLines.{numeral_sort, string_sort, leaf_of, node_of, sort, first_line, sort_of-line}
+use Rattle.resp_value.proofs.Choices.{if_equal}
 use Rattle.resp_fronts.proofs.FirstLines.BegunLines.{counted_is, tree_of_node}
-use Rattle.resp_fronts.proofs.FirstLines.FirstLineRows.{tree_of_numeral, no_other, number_more_digits, is_string}
+use Rattle.resp_fronts.proofs.FirstLines.FirstLineRows.{tree_of_numeral, no_other, number_more_digits, is_string, sort_of_signed, digit_no_sign}
 use Rattle.resp_fronts.proofs.FirstLines.MoreFirstLineRows.{string_size, verbatim_least, sort_mark}
 use Rattle.resp_fronts.proofs.FirstLines.CountRows.{line_after}
 use Rattle.resp_fronts.proofs.Refusals.RefusedBytes.{digits_hold}
 use Rattle.resp_fronts.proofs.Refusals.BrokenLines.{NoLineGoesOn, NoLineEnds}
-use Rattle.resp_value.proofs.Choices.{if_equal}
 
 digits_of_number : (t : Tree) (K : NumberKind) (g : Sign) (a digits : List ℕ) → IsTree t → first_line t ≡ a → sort a ≡ leaf_of (numeral_sort K g digits) →
     IsDigits digits
 digits_of_number t K g a digits p e s = subst IsTree (tree_of_numeral t K g digits (sort_of-line t p e ∙ s)) p
-
--- a number's type byte, its sign and what follows say so
-pub sort_of_signed : (K : NumberKind) (g : Sign) (first : ℕ) (behind : List ℕ) → (g ≡ Unsigned → (first ≡ 43 → ⊥) × (first ≡ 45 → ⊥)) →
-    sort (number_byte K ∷ (sign_text g ++ first ∷ behind)) ≡ leaf_of (numeral_sort K g (first ∷ behind))
-sort_of_signed Int Unsigned first behind h = let other = h refl in rw (ne_eqb first 43 other.0, ne_eqb first 45 other.1)
-sort_of_signed Big Unsigned first behind h = let other = h refl in rw (ne_eqb first 43 other.0, ne_eqb first 45 other.1)
-sort_of_signed _ _ first behind h = refl
-
-digit_no_sign : (g : Sign) (digit : ℕ) → IsDigit digit → g ≡ Unsigned → (digit ≡ 43 → ⊥) × (digit ≡ 45 → ⊥)
-digit_no_sign g digit p e = (λ h. omega arith, λ h. omega arith)
 
 -- behind the type byte of a number come a sign and digits alone, and digits alone behind a sign
 pub number_begun_broken : (K : NumberKind) (g : Sign) (byte : ℕ) → (g ≡ Unsigned → (byte ≡ 43 → ⊥) × (byte ≡ 45 → ⊥)) → (IsDigit byte → ⊥) →
@@ -34,7 +24,7 @@ number_begun_broken K g byte no_sign no_digit t behind p e =
     let h : first_line t ≡ number_byte K ∷ (sign_text g ++ byte ∷ behind) = e ∙ ap (λ z. number_byte K ∷ z) (append_assoc (sign_text g) [] (byte ∷ behind)) in
     no_digit ((digits_of_number t K g (number_byte K ∷ (sign_text g ++ byte ∷ behind)) (byte ∷ behind) p h (sort_of_signed K g byte behind no_sign)).1.0)
 
--- and digits alone behind digits
+-- behind a number's digits come digits alone
 pub number_broken : (K : NumberKind) (g : Sign) (digit : ℕ) (digits : List ℕ) (byte : ℕ) → IsDigit digit → (IsDigit byte → ⊥) →
     NoLineGoesOn (number_byte K ∷ (sign_text g ++ digit ∷ digits)) byte
 number_broken K g digit digits byte is_digit no_digit t behind p e =
@@ -67,7 +57,7 @@ length_begun_broken Bulk byte other t behind p e = other.2 (digit_of_length t 36
 length_begun_broken BulkError byte other t behind p e = other (digit_of_length t 33 byte (33 ∷ byte ∷ behind) behind p e refl)
 length_begun_broken (Verbatim format) byte other t behind p e = other (digit_of_length t 61 byte (61 ∷ byte ∷ behind) behind p e refl)
 
--- and digits alone behind digits
+-- behind a length's digits come digits alone
 pub length_broken : (K : StringKind) (digit : ℕ) (digits : List ℕ) (byte : ℕ) → IsDigit digit → (IsDigit byte → ⊥) →
     NoLineGoesOn (string_byte K ∷ digit ∷ digits) byte
 length_broken K digit digits byte is_digit no_digit t behind p e =
@@ -122,7 +112,7 @@ count_begun_broken Push byte other t behind p e =
     if_equal byte 63 (λ x. ⊥) (λ mark. no_mark Push (λ n s. s) t behind p (e ∙ ap (λ z. 62 ∷ z ∷ behind) mark))
     (λ no_mark. other (digit_of_count t Push byte (62 ∷ byte ∷ behind) behind p e (rw (ne_eqb byte 63 no_mark))))
 
--- and digits alone behind digits
+-- behind a count's digits come digits alone
 pub count_broken : (k : Kind) (digit : ℕ) (digits : List ℕ) (byte : ℕ) → IsDigit digit → (IsDigit byte → ⊥) → NoLineGoesOn (kind_byte k ∷ digit ∷ digits) byte
 count_broken k digit digits byte is_digit no_digit t behind p e =
     let w = counted_is t k digit (digits ++ byte ∷ behind) p is_digit e in

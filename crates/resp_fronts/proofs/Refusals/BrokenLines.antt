@@ -135,7 +135,7 @@ truth_begun_broken byte no_true no_false t behind p e = cases (eqb byte 116) (fi
     cases true h = no_true (ap (λ z. get_or z 1 0) h)
     cases false h = no_false (ap (λ z. get_or z 1 0) h)
 
--- and nothing behind its letter
+-- behind the letter of a boolean comes nothing more
 pub truth_broken : (b : Bool) (byte : ℕ) → NoLineGoesOn (truth_line b) byte
 truth_broken true byte t behind p e = omega (arith, ap length (first_of_truth t true (35 ∷ 116 ∷ byte ∷ behind) p e refl))
 truth_broken false byte t behind p e = omega (arith, ap length (first_of_truth t false (35 ∷ 102 ∷ byte ∷ behind) p e refl))

@@ -11,13 +11,13 @@ use Rattle.resp_value.specs.Trees.{Chunk, Bulk, BulkError, Chunk, HasFormat, IsC
 use Rattle.resp_value.proofs.FirstLines.{sort_of-line}
 use Rattle.resp_value.proofs.Splitting.{line_split}
 use Rattle.resp_value.proofs.Unique.{chunk_line}
+use Rattle.resp_value.proofs.DigitLemmas.{number-more}
 use Rattle.resp_fronts.specs.LeastCompletions.{HasLeast}
 use Rattle.resp_fronts.specs.MayFollow.{CompletesValue}
 use Rattle.resp_fronts.proofs.FirstLines.BegunLines.{completes_line, line_begins}
 use Rattle.resp_fronts.proofs.FirstLines.FirstLineRows.{is_string, string_line, string_row}
 use Rattle.resp_fronts.proofs.FirstLines.CountRows.{CompletesUnder, IsRefusedHere}
 use Rattle.resp_fronts.proofs.Tokens.StreamedStrings.{chunks_complete, chunks_least, completes_chunks, last, with_chunks}
-use Rattle.resp_value.proofs.DigitLemmas.{number-more}
 
 string_content : (K : StringKind) (ds s : List ℕ) → HasFormat K → content_length (leaf_value (string K ds s)) ≡ length (payload K s)
 string_content Bulk ds s p = refl

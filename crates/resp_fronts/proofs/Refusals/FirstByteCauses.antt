@@ -15,6 +15,7 @@ use Rattle.resp_value.specs.declared.version.Version.{Version}
 use Rattle.resp_value.specs.declared.version.Version.TheVariants.{Two, Three}
 use Rattle.resp_value.proofs.ByTests.{apart_by_test}
 use Rattle.resp_value.proofs.FirstBytes.{first_byte, first_byte_is, at_first_byte, at_first_byte_of_two}
+use Rattle.resp_value.proofs.Choices.{if_equal, if_within}
 use Rattle.resp_fronts.specs.FirstByteRefusals.{answer_beside, refusal_in_three, aggregate_refusal, push_refusal, first_byte_answers, first_byte_refusal}
 use Rattle.resp_fronts.proofs.FrameLaws.KeptNodes.{at_each_rule, leaf_keeps, node_keeps}
 use Rattle.resp_fronts.proofs.FirstLines.FirstLineRows.{are_zeros, zero_digits}
@@ -23,7 +24,6 @@ use Rattle.resp_fronts.proofs.Refusals.RefusedFronts.{fewer_rules}
 use Rattle.resp_fronts.proofs.Refusals.RefusedBytes.{IsOther, kind_too_deep, push_below, double_refused}
 use Rattle.resp_fronts.proofs.FirstLines.CountRows.{CompletesUnder, IsRefusedHere, count_ends}
 use Rattle.resp_fronts.specs.Tokens.{zeros}
-use Rattle.resp_value.proofs.Choices.{if_equal, if_within}
 
 -- a value can go on behind these bytes, within the rules up to this one
 pub record GoesOn (r : Rules) (rule : Rule) (level : ℕ) (bytes : List ℕ) : Type 0 where
@@ -152,6 +152,10 @@ push_answered r level = later_answered r level 62 (push_refusal r level) (apart_
     cases (suc level) no_two = answered_by r PushAtTop InVersion (suc level) (62 ∷ []) refl
         (push_below r (suc level) (omega arith) (before_push (suc level) no_two))
 
+-- what holds of a row, and of those behind it
+pub and_rows : {A B : Type 0} → A → B → A × B
+and_rows here behind = (here, behind)
+
 -- what holds beside each byte, and of every other byte, holds of the answer
 pub at_answer : {A : Type 0} (P : ℕ → A → Type 0) (rows : List (ℕ × A)) (other : A) (byte : ℕ) → AllByRecursion (λ row. P row.0 row.1) rows →
     (AllByRecursion (λ row. byte ≡ row.0 → ⊥) rows → P byte other) → P byte (answer_beside rows other byte)
@@ -171,55 +175,24 @@ other_answered r level byte apart = (
 -- the first rule that refuses a first byte is this one, and none refuses it where there is none
 pub first_byte_answered : (r : Rules) (level byte : ℕ) → AreBounds r.limits → IsAnswered r level (byte ∷ []) (first_byte_refusal r level byte)
 first_byte_answered r level byte b =
-    at_answer (λ x answer. IsAnswered r level (x ∷ []) answer) (first_byte_answers r level) (Some Grammar) byte (
-      answered_by r NoDouble Grammar level (44 ∷ []) refl (double_refused r level),
-      (
-        later_leaf_in_two r level 43 (line Simple []) (crlf []) (tt, tt) tt tt tt tt (omega arith) refl (omega arith),
-        (
-          later_leaf_in_two r level 45 (line Error []) (crlf []) (tt, tt) tt tt tt tt (omega arith) refl (omega arith),
-          (
-            later_leaf_in_two r level 58 (numeral Int Unsigned (48 ∷ [])) (48 ∷ crlf []) zero_digits tt tt (range_in Unsigned (48 ∷ []) (omega arith)) tt
-                (omega arith) refl (omega arith),
-            (
-              later_leaf_in_two r level 36 (null BulkNull) (45 ∷ 49 ∷ crlf []) tt tt tt tt tt (omega arith) refl (omega arith),
-              (
-                later_leaf_in_two r level 42 (null ArrayNull) (45 ∷ 49 ∷ crlf []) tt tt tt tt tt (omega arith) refl (omega arith),
-                (
-                  later_leaf r level 95 (null PlainNull) (crlf []) (apart_by_test 95 type_bytes refl) tt tt tt tt (omega arith) refl (omega arith),
-                  (
-                    later_leaf r level 35 (truth true) (116 ∷ crlf []) (apart_by_test 35 type_bytes refl) tt tt tt tt (omega arith) refl (omega arith),
-                    (
-                      later_leaf r level 40 (numeral Big Unsigned (48 ∷ [])) (48 ∷ crlf []) (apart_by_test 40 type_bytes refl) zero_digits tt tt tt
-                          (omega (arith, b.length_in_range.0)) refl (omega arith),
-                      (
-                        later_leaf r level 33 (string BulkError (48 ∷ []) []) (48 ∷ crlf (crlf [])) (apart_by_test 33 type_bytes refl) (
-                          (zero_digits, refl),
-                          tt,
-                          tt,
-                        ) tt tt tt (omega arith) refl (omega arith),
-                        (
-                          later_leaf r level 61 (string (Verbatim (zeros 3)) (52 ∷ []) []) (52 ∷ crlf (zeros 3 ++ 58 ∷ crlf []))
-                              (apart_by_test 61 type_bytes refl) (((omega arith, ((omega arith, omega arith), tt)), refl), (refl, are_zeros 3), tt) tt tt tt
-                              (omega (arith, b.length_in_range.0)) refl (omega arith),
-                          (
-                            later_kind r level Set (apart_by_test 126 type_bytes refl) tt tt,
-                            (
-                              later_kind r level Map (apart_by_test 37 type_bytes refl) tt tt,
-                              (
-                                later_kind r level Attr (apart_by_test 124 type_bytes refl) tt tt,
-                                (push_answered r level, tt),
-                              ),
-                            ),
-                          ),
-                        ),
-                      ),
-                    ),
-                  ),
-                ),
-              ),
-            ),
-          ),
-        ),
-      ),
-    )
+    at_answer (λ x answer. IsAnswered r level (x ∷ []) answer) (first_byte_answers r level) (Some Grammar) byte
+    (and_rows (answered_by r NoDouble Grammar level (44 ∷ []) refl (double_refused r level))
+    (and_rows (later_leaf_in_two r level 43 (line Simple []) (crlf []) (tt, tt) tt tt tt tt (omega arith) refl (omega arith))
+    (and_rows (later_leaf_in_two r level 45 (line Error []) (crlf []) (tt, tt) tt tt tt tt (omega arith) refl (omega arith))
+    (and_rows (later_leaf_in_two r level 58 (numeral Int Unsigned (48 ∷ [])) (48 ∷ crlf []) zero_digits tt tt (range_in Unsigned (48 ∷ []) (omega arith)) tt
+    (omega arith) refl (omega arith))
+    (and_rows (later_leaf_in_two r level 36 (null BulkNull) (45 ∷ 49 ∷ crlf []) tt tt tt tt tt (omega arith) refl (omega arith))
+    (and_rows (later_leaf_in_two r level 42 (null ArrayNull) (45 ∷ 49 ∷ crlf []) tt tt tt tt tt (omega arith) refl (omega arith))
+    (and_rows (later_leaf r level 95 (null PlainNull) (crlf []) (apart_by_test 95 type_bytes refl) tt tt tt tt (omega arith) refl (omega arith))
+    (and_rows (later_leaf r level 35 (truth true) (116 ∷ crlf []) (apart_by_test 35 type_bytes refl) tt tt tt tt (omega arith) refl (omega arith))
+    (and_rows (later_leaf r level 40 (numeral Big Unsigned (48 ∷ [])) (48 ∷ crlf []) (apart_by_test 40 type_bytes refl) zero_digits tt tt tt
+    (omega (arith, b.length_in_range.0)) refl (omega arith))
+    (and_rows (later_leaf r level 33 (string BulkError (48 ∷ []) []) (48 ∷ crlf (crlf [])) (apart_by_test 33 type_bytes refl) ((zero_digits, refl), tt, tt)
+    tt tt tt (omega arith) refl (omega arith))
+    (and_rows (later_leaf r level 61 (string (Verbatim (zeros 3)) (52 ∷ []) []) (52 ∷ crlf (zeros 3 ++ 58 ∷ crlf [])) (apart_by_test 61 type_bytes refl)
+    (((omega arith, ((omega arith, omega arith), tt)), refl), (refl, are_zeros 3), tt) tt tt tt (omega (arith, b.length_in_range.0)) refl (omega arith))
+    (and_rows (later_kind r level Set (apart_by_test 126 type_bytes refl) tt tt)
+    (and_rows (later_kind r level Map (apart_by_test 37 type_bytes refl) tt tt)
+    (and_rows (later_kind r level Attr (apart_by_test 124 type_bytes refl) tt tt)
+    (and_rows (push_answered r level) tt)))))))))))))))
     (λ apart. other_answered r level byte apart)

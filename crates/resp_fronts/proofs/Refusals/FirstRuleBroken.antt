@@ -13,7 +13,7 @@ viable r rule front rest before_total w =
     let c = continues r rule front rest before_total w in
     record { rest = rest; tree = c.tree; spells = c.spells; keeps = c.keeps }
 
--- and the other way
+-- a viable front is completed by some rest
 pub viable_completes : (r : Rules) (rule : Rule) (front : List ℕ) → rank rule < rank WithinTotal → (v : IsViable r rule front) →
     CompletesFront r rule front v.rest
 viable_completes r rule front before_total v = whole_text r rule front v.rest before_total (record { tree = v.tree; spells = v.spells; keeps = v.keeps })

@@ -1,6 +1,6 @@
 -- A front that ends in a begun value, of whose bytes T holds: what one byte more makes of it. Each token of a
 -- scanner is such a T, and owes facts about its own bytes alone.
-use Rattle.std.proofs.Common.{◌≡◌, ℕ, suc, ◌+◌, ◌<◌, List, [], ◌∷◌, ◌++◌, length, sym, ap, subst, ◌∙◌, arith, append-nil}
+use Rattle.std.proofs.Common.{◌≡◌, ℕ, suc, ◌+◌, ◌<◌, List, [], ◌∷◌, ◌++◌, length, sym, ap, subst, ◌∙◌, arith, append-nil, refl}
 use Rattle.resp_value.specs.Bytes.{crlf}
 use Rattle.resp_value.specs.Data.{Kind}
 use Rattle.resp_value.specs.Trees.{Tree, Form, text, kind_byte, form_line}
@@ -30,6 +30,11 @@ pub record IsBegunBy (r : Rules) (level : ℕ) (bytes : List ℕ) (n : ℕ) : Ty
   pub parts : bytes ≡ head ∷ tail
   pub some : 0 < n
   pub least : HasLeast (CompletesUnder r WithinItems level bytes) n
+
+-- bytes that begin a value, by their least completion
+pub begun_by : {r : Rules} {level n : ℕ} (head : ℕ) (tail : List ℕ) → 0 < n → HasLeast (CompletesUnder r WithinItems level (head ∷ tail)) n →
+    IsBegunBy r level (head ∷ tail) n
+begun_by head tail some least = record { head = head; tail = tail; parts = refl; some = some; least = least }
 
 -- the front is the open frames, and then begun bytes of which T holds
 pub record FollowsBy (r : Rules) (T : ℕ → List ℕ → Type 0) (levels : List Level) (front : List ℕ) : Type 0 where
@@ -90,7 +95,7 @@ pub record Opens (r : Rules) (level : ℕ) (k : Kind) (shape : Shape) (bytes : L
   pub shaped : HasShape k shape form 0
   pub can_end : CanEnd (NodeKeeps r WithinItems) level k form 0
 
--- and so a frame more is open
+-- behind the line of a head a frame more is open
 pub head_opens : (r : Rules) (T : ℕ → List ℕ → Type 0) (levels : List Level) (front more : List ℕ) (k : Kind) (shape : Shape) → FollowsBy r T levels front →
     ((level : ℕ) (bytes : List ℕ) → level ≡ length levels → T level bytes → Opens r level k shape (bytes ++ more)) →
     IsEnded (LeafKeeps r WithinItems) (NodeKeeps r WithinItems) (within_frames (record { kind = k; shape = shape } ∷ levels)) (front ++ more)

@@ -14,71 +14,48 @@ use Rattle.resp_fronts.proofs.Refusals.ContentLength.{string_too_long}
 use Rattle.resp_fronts.proofs.Tokens.StringTokens.{HasRoom, of_size}
 use Rattle.resp_fronts.proofs.Refusals.BigNumberLength.{big_too_long}
 use Rattle.resp_fronts.proofs.Tokens.HeadTokens.{string_keeps, more_digits}
-use Rattle.resp_fronts.proofs.Tokens.BegunFronts.{IsBegunBy}
+use Rattle.resp_fronts.proofs.Tokens.BegunFronts.{IsBegunBy, begun_by}
 use Rattle.resp_fronts.specs.Tokens.{HasString, IsLengthToken, IsNumberToken, zeros}
 
 -- `$`: 4
 pub dollar_begun : (r : Rules) (level : ℕ) → IsBegunBy r level (36 ∷ []) 4
-dollar_begun r level = record {
-  head = 36;
-  tail = [];
-  parts = refl;
-  some = omega arith;
-  least =
-      dollar_row (LeafKeeps r WithinItems) (NodeKeeps r WithinItems) level
-      (leaf_keeps r WithinItems level (null BulkNull) tt (λ is_two. tt) tt (λ off. tt) (omega arith));
-}
+dollar_begun r level =
+    begun_by 36 [] (omega arith)
+    (dollar_row (LeafKeeps r WithinItems) (NodeKeeps r WithinItems) level
+    (leaf_keeps r WithinItems level (null BulkNull) tt (λ is_two. tt) tt (λ off. tt) (omega arith)))
 
 -- `!`: 5
 pub bulk_error_begun : (r : Rules) (level : ℕ) → (r.version ≡ Two → ⊥) → IsBegunBy r level (33 ∷ []) 5
-bulk_error_begun r level no_two = record {
-  head = 33;
-  tail = [];
-  parts = refl;
-  some = omega arith;
-  least =
-      bulk_error_row (LeafKeeps r WithinItems) (NodeKeeps r WithinItems) level (string_keeps r WithinItems level BulkError (48 ∷ []) [] no_two tt (omega arith));
-}
+bulk_error_begun r level no_two =
+    begun_by 33 [] (omega arith)
+    (bulk_error_row (LeafKeeps r WithinItems) (NodeKeeps r WithinItems) level (string_keeps r WithinItems level BulkError (48 ∷ []) [] no_two tt (omega arith)))
 
 -- `=`: 9
 pub verbatim_begun : (r : Rules) (level : ℕ) → (r.version ≡ Two → ⊥) → 4 ≤ r.limits.length → IsBegunBy r level (61 ∷ []) 9
-verbatim_begun r level no_two roomy = record {
-  head = 61;
-  tail = [];
-  parts = refl;
-  some = omega arith;
-  least =
-      verbatim_row (LeafKeeps r WithinItems) (NodeKeeps r WithinItems) level
-      (string_keeps r WithinItems level (Verbatim (zeros 3)) (52 ∷ []) [] no_two (refl, are_zeros 3) (omega arith));
-}
+verbatim_begun r level no_two roomy =
+    begun_by 61 [] (omega arith)
+    (verbatim_row (LeafKeeps r WithinItems) (NodeKeeps r WithinItems) level
+    (string_keeps r WithinItems level (Verbatim (zeros 3)) (52 ∷ []) [] no_two (refl, are_zeros 3) (omega arith)))
 
 -- `*` at full depth: 4
 pub star_deep_begun : (r : Rules) (level : ℕ) → r.limits.depth ≤ level → IsBegunBy r level (42 ∷ []) 4
-star_deep_begun r level deep = record { head = 42; tail = []; parts = refl; some = omega arith; least = star_row_deep r level deep }
+star_deep_begun r level deep =
+    begun_by 42 [] (omega arith)
+    (star_row_deep r level deep)
 
 -- `*` below full depth: 3
 pub star_begun : (r : Rules) (level : ℕ) → level < r.limits.depth → IsBegunBy r level (42 ∷ []) 3
-star_begun r level below = record {
-  head = 42;
-  tail = [];
-  parts = refl;
-  some = omega arith;
-  least =
-      star_row r level Array (node_keeps r WithinItems level Array (Counted (48 ∷ [])) 0 (λ is_two. tt) tt (λ off. tt) below (omega arith)) refl;
-}
+star_begun r level below =
+    begun_by 42 [] (omega arith)
+    (star_row r level Array (node_keeps r WithinItems level Array (Counted (48 ∷ [])) 0 (λ is_two. tt) tt (λ off. tt) below (omega arith)) refl)
 
 -- `~`, `%` and `>`: 3
 pub aggregate_begun : (r : Rules) (k : Kind) (level : ℕ) → (r.version ≡ Two → ⊥) → IsNoPushBelow level k → level < r.limits.depth → members_of k 0 ≡ 0 →
     IsBegunBy r level (kind_byte k ∷ []) 3
-aggregate_begun r k level no_two no_push below none = record {
-  head = kind_byte k;
-  tail = [];
-  parts = refl;
-  some = omega arith;
-  least =
-      star_row r level k (node_keeps r WithinItems level k (Counted (48 ∷ [])) 0 (λ is_two. absurd (no_two is_two)) no_push (λ off. tt) below
-      (omega (arith, no_items k))) none;
-}
+aggregate_begun r k level no_two no_push below none =
+    begun_by (kind_byte k) [] (omega arith)
+    (star_row r level k (node_keeps r WithinItems level k (Counted (48 ∷ [])) 0 (λ is_two. absurd (no_two is_two)) no_push (λ off. tt) below
+    (omega (arith, no_items k))) none)
   where
     no_items : (k : Kind) → items_of k 0 ≡ 0
     no_items Array = refl
@@ -86,16 +63,11 @@ aggregate_begun r k level no_two no_push below none = record {
 
 -- `|`: 6
 pub attribute_begun : (r : Rules) (level : ℕ) → (r.version ≡ Two → ⊥) → level < r.limits.depth → IsBegunBy r level (124 ∷ []) 6
-attribute_begun r level no_two below = record {
-  head = 124;
-  tail = [];
-  parts = refl;
-  some = omega arith;
-  least =
-      attr_row (LeafKeeps r WithinItems) (NodeKeeps r WithinItems) level
-      (node_keeps r WithinItems level Attr (Counted (48 ∷ [])) 1 (λ is_two. absurd (no_two is_two)) tt (λ off. tt) below (omega arith))
-      (shortest_keeps r WithinItems (suc level));
-}
+attribute_begun r level no_two below =
+    begun_by 124 [] (omega arith)
+    (attr_row (LeafKeeps r WithinItems) (NodeKeeps r WithinItems) level
+    (node_keeps r WithinItems level Attr (Counted (48 ∷ [])) 1 (λ is_two. absurd (no_two is_two)) tt (λ off. tt) below (omega arith))
+    (shortest_keeps r WithinItems (suc level)))
 
 -- a leaf within the rules before that of length
 leaf_before_length : (r : Rules) (level : ℕ) (l : Leaf) → IsNoDouble l → (r.version ≡ Two → IsLeafInTwo l) → IsInRange l → IsCountedLeaf l →

@@ -15,7 +15,7 @@ use Rattle.resp_fronts.proofs.Tokens.StreamedStrings.{chunk_row, chunks_complete
 use Rattle.resp_fronts.proofs.FirstLines.ShortRows.{before_newline_row, chunk_begun_row, chunk_zero_row, next_row}
 use Rattle.resp_fronts.proofs.Refusals.ContentLength.{chunk_content_row, chunk_too_long, joined-with}
 use Rattle.resp_fronts.proofs.Tokens.StreamedHeads.{mark_line}
-use Rattle.resp_fronts.proofs.Tokens.BegunFronts.{IsBegunBy}
+use Rattle.resp_fronts.proofs.Tokens.BegunFronts.{IsBegunBy, begun_by}
 use Rattle.resp_fronts.specs.Tokens.{HasStreamed, zeros}
 
 -- a streamed string's line, whole chunks, and these bytes behind them
@@ -44,13 +44,14 @@ more_keeps : (r : Rules) (level : ℕ) (chunks more : List Chunk) (zeros : List 
 more_keeps r level chunks more zeros w fits = chunked_keeps r WithinItems level (with_chunks chunks more) zeros w.has_streamed
     (omega (arith, joined-with chunks more))
 
-begun_by : (r : Rules) (level : ℕ) (chunks : List Chunk) (begun : List ℕ) (n : ℕ) → 0 < n →
+streamed_by : (r : Rules) (level : ℕ) (chunks : List Chunk) (begun : List ℕ) (n : ℕ) → 0 < n →
     HasLeast (CompletesUnder r WithinItems level (streamed_text chunks begun)) n → IsBegunBy r level (streamed_text chunks begun) n
-begun_by r level chunks begun n some least = record { head = 36; tail = 63 ∷ crlf (chunks_text chunks begun); parts = refl; some = some; least = least }
+streamed_by r level chunks begun n some least = begun_by 36 (63 ∷ crlf (chunks_text chunks begun)) some least
 
 -- between chunks: 4
 pub chunks_begun : (r : Rules) (level : ℕ) (chunks : List Chunk) → AreWhole r chunks → IsBegunBy r level (streamed_text chunks []) 4
-chunks_begun r level chunks w = begun_by r level chunks [] 4 (omega arith)
+chunks_begun r level chunks w =
+    streamed_by r level chunks [] 4 (omega arith)
     (chunks_row (LeafKeeps r WithinItems) (NodeKeeps r WithinItems) level chunks w.are_chunks
     (more_keeps r level chunks [] (48 ∷ []) w (omega (arith, w.fits))))
 
@@ -67,14 +68,16 @@ stream_returned_begun r level h = record {
 
 -- the `;` of a chunk: 3
 pub chunk_mark_begun : (r : Rules) (level : ℕ) (chunks : List Chunk) → AreWhole r chunks → IsBegunBy r level (streamed_text chunks (59 ∷ [])) 3
-chunk_mark_begun r level chunks w = begun_by r level chunks (59 ∷ []) 3 (omega arith)
+chunk_mark_begun r level chunks w =
+    streamed_by r level chunks (59 ∷ []) 3 (omega arith)
     (chunk_begun_row (LeafKeeps r WithinItems) (NodeKeeps r WithinItems) level chunks w.are_chunks
     (more_keeps r level chunks [] (48 ∷ []) w (omega (arith, w.fits))))
 
 -- zeros: 2
 pub chunk_zero_begun : (r : Rules) (level : ℕ) (chunks : List Chunk) (digits : List ℕ) → AreWhole r chunks → IsDigits digits → number digits ≡ 0 →
     IsBegunBy r level (streamed_text chunks (59 ∷ digits)) 2
-chunk_zero_begun r level chunks digits w are_digits is_zero = begun_by r level chunks (59 ∷ digits) 2 (omega arith)
+chunk_zero_begun r level chunks digits w are_digits is_zero =
+    streamed_by r level chunks (59 ∷ digits) 2 (omega arith)
     (chunk_zero_row (LeafKeeps r WithinItems) (NodeKeeps r WithinItems) level chunks digits w.are_chunks (are_digits, is_zero)
     (more_keeps r level chunks [] digits w (omega (arith, w.fits))))
 
@@ -86,7 +89,7 @@ zeros_fit r chunks digits fits = omega (arith, fits, length-append (zeros (numbe
 pub chunk_length_begun : (r : Rules) (level : ℕ) (chunks : List Chunk) (digits : List ℕ) → AreWhole r chunks → IsDigits digits → 0 < number digits →
     length (joined_content chunks) + number digits ≤ r.limits.length → IsBegunBy r level (streamed_text chunks (59 ∷ digits)) (number digits + 8)
 chunk_length_begun r level chunks digits w are_digits some fits =
-    begun_by r level chunks (59 ∷ digits) (number digits + 8) (omega arith)
+    streamed_by r level chunks (59 ∷ digits) (number digits + 8) (omega arith)
     (chunk_row (LeafKeeps r WithinItems) (NodeKeeps r WithinItems) level chunks digits w.are_chunks are_digits some
     (more_keeps r level chunks (record { digits = digits; content = zeros (number digits) } ∷ []) (48 ∷ []) w (zeros_fit r chunks digits fits)))
 
@@ -170,10 +173,10 @@ chunk_content_begun r level chunks digits part left w are_digits is_text some si
     let keeps = more_keeps r level chunks (record { digits = digits; content = whole } ∷ []) (48 ∷ []) w
     (omega (arith, fits, length_whole, length-append whole [])) in
     let row = chunk_content_row (LeafKeeps r WithinItems) (NodeKeeps r WithinItems) level chunks digits part q w.are_chunks is_chunk some keeps in
-    begun_by r level chunks ((59 ∷ digits) ++ crlf part) (left + 6) (omega arith)
+    streamed_by r level chunks ((59 ∷ digits) ++ crlf part) (left + 6) (omega arith)
     (subst (HasLeast (CompletesUnder r WithinItems level (streamed_text chunks ((59 ∷ digits) ++ crlf part)))) (omega (arith, length-zeros left)) row)
 
--- and behind the CR of a whole chunk: 5
+-- behind the CR of a whole chunk: 5
 pub chunk_returned_begun : (r : Rules) (level : ℕ) (chunks : List Chunk) (digits part : List ℕ) → AreWhole r chunks → IsDigits digits → IsText part →
     0 < number digits → number digits ≡ length part → length (joined_content chunks) + number digits ≤ r.limits.length →
     IsBegunBy r level (streamed_text chunks ((59 ∷ digits) ++ crlf part) ++ 13 ∷ []) 5

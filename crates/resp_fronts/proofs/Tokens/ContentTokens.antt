@@ -58,7 +58,7 @@ content_returned_begun r k first digits begun level bytes w =
           (content_ends r k first digits begun level bytes w) refl;
     }
 
--- and no other byte than CR goes on
+-- no other byte than CR goes on behind the content
 pub content_broken : (r : Rules) (k : StringKind) (first : ℕ) (digits begun : List ℕ) (level : ℕ) (bytes rest : List ℕ) (byte : ℕ) → (byte ≡ 13 → ⊥) →
     IsContentToken r k first digits begun 0 level bytes → CompletesUnder r Grammar level bytes (byte ∷ rest) → ⊥
 content_broken r k first digits begun level bytes rest byte no_return w c =

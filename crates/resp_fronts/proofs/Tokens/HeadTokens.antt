@@ -48,7 +48,7 @@ count_token_more r k first digits level digit bytes p fits w = record {
   are = ap (λ z. z ++ digit ∷ []) w.are;
 }
 
--- and one that makes too many
+-- a digit that makes too many members is refused
 pub count_token_over : (r : Rules) (k : Kind) (first : ℕ) (digits : List ℕ) (level digit : ℕ) (bytes : List ℕ) → IsDigit digit →
     r.limits.items < items_of k (members_of k (number (first ∷ (digits ++ digit ∷ [])))) → IsCountToken r k first digits level bytes →
     (bytes ++ digit ∷ [] ≡ kind_byte k ∷ first ∷ (digits ++ digit ∷ [])) ×
@@ -101,7 +101,7 @@ count_opens r k first digits level bytes some w =
       can_end = ((w.count.are_digits, omega arith), subst (NodeKeeps r WithinItems level k (Counted (first ∷ digits))) (sym all) w.count.keeps);
     }
 
--- and ends one that has none
+-- the LF of a head ends an aggregate without members
 pub count_ends_empty : (r : Rules) (k : Kind) (first : ℕ) (digits : List ℕ) (level : ℕ) (bytes : List ℕ) → members_of k (number (first ∷ digits)) ≡ 0 →
     IsCountReturned r k first digits level bytes → CompletesUnder r WithinItems level bytes (10 ∷ [])
 count_ends_empty r k first digits level bytes empty w = record {
@@ -139,27 +139,17 @@ length_least r k first digits level n bytes w some least = record {
       subst (λ z. HasLeast (CompletesUnder r WithinItems level z) n) (sym w.are) least;
 }
 
--- a length, and 4
-pub bulk_length_begun : (r : Rules) (first : ℕ) (digits : List ℕ) (level : ℕ) (bytes : List ℕ) → IsLengthToken r Bulk first digits level bytes →
-    IsBegunBy r level bytes (number (first ∷ digits) + 2 + 2)
-bulk_length_begun r first digits level bytes w =
+-- the length of a bulk string or a bulk error, which needs as many bytes and two line ends
+pub plain_length_begun : (r : Rules) (k : StringKind) (first : ℕ) (digits : List ℕ) (level : ℕ) (bytes : List ℕ) → HasFormat k →
+    ((content : List ℕ) → payload k content ≡ content) → IsLengthToken r k first digits level bytes → IsBegunBy r level bytes (number (first ∷ digits) + 2 + 2)
+plain_length_begun r k first digits level bytes has_format plain w =
     let n = number (first ∷ digits) in
-    let size = length-zeros n in
-    length_least r Bulk first digits level (n + 2 + 2) bytes w (omega arith)
-    (string_row (LeafKeeps r WithinItems) (NodeKeeps r WithinItems) level Bulk first digits (zeros n) w.are_digits tt (are_zeros n) (sym size)
-    (string_keeps r WithinItems level Bulk (first ∷ digits) (zeros n) tt tt (omega (arith, w.fits))))
+    let size : n ≡ length (payload k (zeros n)) = sym (length-zeros n) ∙ ap length (sym (plain (zeros n))) in
+    length_least r k first digits level (n + 2 + 2) bytes w (omega arith)
+    (string_row (LeafKeeps r WithinItems) (NodeKeeps r WithinItems) level k first digits (zeros n) w.are_digits has_format (are_zeros n) size
+    (string_keeps r WithinItems level k (first ∷ digits) (zeros n) w.has_string has_format (omega (arith, size, w.fits))))
 
--- so also of a bulk error
-pub error_length_begun : (r : Rules) (first : ℕ) (digits : List ℕ) (level : ℕ) (bytes : List ℕ) → IsLengthToken r BulkError first digits level bytes →
-    IsBegunBy r level bytes (number (first ∷ digits) + 2 + 2)
-error_length_begun r first digits level bytes w =
-    let n = number (first ∷ digits) in
-    let size = length-zeros n in
-    length_least r BulkError first digits level (n + 2 + 2) bytes w (omega arith)
-    (string_row (LeafKeeps r WithinItems) (NodeKeeps r WithinItems) level BulkError first digits (zeros n) w.are_digits tt (are_zeros n) (sym size)
-    (string_keeps r WithinItems level BulkError (first ∷ digits) (zeros n) w.has_string tt (omega (arith, w.fits))))
-
--- that of a verbatim string so from 4 on
+-- the length of a verbatim string from 4 on, which needs as many bytes and two line ends
 pub verbatim_length_begun : (r : Rules) (first : ℕ) (digits : List ℕ) (level : ℕ) (bytes : List ℕ) → 4 ≤ number (first ∷ digits) →
     IsLengthToken r (Verbatim (zeros 3)) first digits level bytes → IsBegunBy r level bytes (number (first ∷ digits) + 2 + 2)
 verbatim_length_begun r first digits level bytes long w =

@@ -10,7 +10,7 @@ use Rattle.resp_fronts.specs.LeastCompletions.{HasLeast}
 use Rattle.resp_fronts.proofs.FirstLines.CountRows.{CompletesUnder, IsRefusedHere}
 use Rattle.resp_fronts.proofs.FirstLines.FirstLineRows.{line_row}
 use Rattle.resp_fronts.proofs.FirstLines.ShortRows.{next_row}
-use Rattle.resp_fronts.proofs.Refusals.BrokenLines.{behind_return_broken, newline_broken}
+use Rattle.resp_fronts.proofs.Refusals.BrokenLines.{behind_return_broken, newline_broken, byte_broken, NoLineGoesOn}
 use Rattle.resp_fronts.proofs.FirstLines.TextLines.{text_line_keeps, text_line_too_long}
 use Rattle.resp_fronts.proofs.Tokens.BegunFronts.{IsBegunBy}
 use Rattle.resp_fronts.specs.Tokens.{IsLineOf, IsReturned, IsTextLine, IsTextToken}
@@ -65,12 +65,20 @@ returned_ends r l level bytes w = record {
   whole = returned_whole r l level bytes w;
 }
 
--- and no other byte goes on
+-- no other byte than LF goes on behind a line's CR
 pub returned_broken : (r : Rules) (l : Leaf) (level : ℕ) (bytes rest : List ℕ) (byte : ℕ) → (byte ≡ 10 → ⊥) → IsReturned r l level bytes →
     CompletesUnder r Grammar level bytes (byte ∷ rest) → ⊥
 returned_broken r l level bytes rest byte no_newline w c =
     behind_return_broken (LeafKeeps r Grammar) (NodeKeeps r Grammar) level w.begun rest byte (no_break_in_line r l level w.begun w.line_of) no_newline
     (subst (λ z. CompletesUnder r Grammar level z (byte ∷ rest)) w.returned c)
+
+-- no byte but CR goes on behind a leaf's line with which no line goes on
+pub line_of_broken : (r : Rules) (l : Leaf) (level : ℕ) (bytes rest : List ℕ) (byte : ℕ) → (byte ≡ 13 → ⊥) → NoLineGoesOn (leaf_line l) byte →
+    IsLineOf r l level bytes → CompletesUnder r Grammar level bytes (byte ∷ rest) → ⊥
+line_of_broken r l level bytes rest byte no_return no_line w c =
+    byte_broken (LeafKeeps r Grammar) (NodeKeeps r Grammar) level (leaf_line l) rest byte (subst IsLine w.is_line (no_break_in_line r l level bytes w))
+    no_return
+    no_line (subst (λ z. CompletesUnder r Grammar level z (byte ∷ rest)) w.is_line c)
 
 -- a line has no LF in it
 pub line_broken_by_newline : (r : Rules) (l : Leaf) (level : ℕ) (bytes rest : List ℕ) → IsLineOf r l level bytes →

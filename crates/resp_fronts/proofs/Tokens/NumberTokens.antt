@@ -12,7 +12,7 @@ use Rattle.resp_fronts.proofs.Refusals.IntegerRange.{range_in, int_too_far}
 use Rattle.resp_fronts.proofs.FirstLines.FirstLineRows.{number_begin_row, truth_begin_row}
 use Rattle.resp_fronts.proofs.FirstLines.ShortRows.{null_begun_row}
 use Rattle.resp_fronts.proofs.FirstLines.CountRows.{CompletesUnder, IsRefusedHere}
-use Rattle.resp_fronts.proofs.Tokens.BegunFronts.{IsBegunBy}
+use Rattle.resp_fronts.proofs.Tokens.BegunFronts.{IsBegunBy, begun_by}
 use Rattle.resp_fronts.specs.Tokens.{IsLineOf, IsNumberBegun, IsNumberToken, MayBe, greatest}
 
 -- such a number is within every rule
@@ -54,7 +54,7 @@ number_token_begins r k sign level digit bytes p fits w = record {
       ap (λ z. z ++ digit ∷ []) w.1 ∙ ap (λ z. number_byte k ∷ z) (append_assoc (sign_text sign) [] (digit ∷ []));
 }
 
--- and a digit more
+-- a digit more goes on behind a number's digits
 pub number_token_more : (r : Rules) (k : NumberKind) (sign : Sign) (digits : List ℕ) (level digit : ℕ) (bytes : List ℕ) → IsDigit digit →
     MayBe r k sign (digits ++ digit ∷ []) → IsNumberToken r k sign digits level bytes →
     IsNumberToken r k sign (digits ++ digit ∷ []) level (bytes ++ digit ∷ [])
@@ -76,51 +76,18 @@ int_token_over r sign first digits level digit bytes p past w = (
 
 -- the line of a null
 pub null_token_line : (r : Rules) (f : NullForm) (level : ℕ) → (r.version ≡ Two → f ≡ PlainNull → ⊥) → IsLineOf r (null f) level (null_line f)
-null_token_line r BulkNull level p = record {
-  is_leaf = tt;
-  keeps =
-      leaf_keeps r WithinItems level (null BulkNull) tt (λ is_two. tt) tt (λ off. tt) (omega arith);
-  is_line = refl;
-  no_rest = refl;
-}
-null_token_line r ArrayNull level p = record {
-  is_leaf = tt;
-  keeps =
-      leaf_keeps r WithinItems level (null ArrayNull) tt (λ is_two. tt) tt (λ off. tt) (omega arith);
-  is_line = refl;
-  no_rest = refl;
-}
-null_token_line r PlainNull level p = record {
-  is_leaf = tt;
-  keeps =
-      leaf_keeps r WithinItems level (null PlainNull) tt (λ is_two. absurd (p is_two refl)) tt (λ off. tt) (omega arith);
-  is_line = refl;
-  no_rest = refl;
-}
+null_token_line r form level p = record { is_leaf = tt; keeps = keeps form p; is_line = refl; no_rest = refl }
+  where
+    keeps : (f : NullForm) → (r.version ≡ Two → f ≡ PlainNull → ⊥) → LeafKeeps r WithinItems level (null f)
+    keeps PlainNull p = leaf_keeps r WithinItems level (null PlainNull) tt (λ is_two. absurd (p is_two refl)) tt (λ off. tt) (omega arith)
+    keeps BulkNull p = leaf_keeps r WithinItems level (null BulkNull) tt (λ is_two. tt) tt (λ off. tt) (omega arith)
+    keeps ArrayNull p = leaf_keeps r WithinItems level (null ArrayNull) tt (λ is_two. tt) tt (λ off. tt) (omega arith)
 
 -- `$-` and `*-`: 3
-pub dollar_null_begun : (r : Rules) (level : ℕ) → IsBegunBy r level (36 ∷ 45 ∷ []) 3
-dollar_null_begun r level = record {
-  head = 36;
-  tail = 45 ∷ [];
-  parts = refl;
-  some = omega arith;
-  least =
-      null_begun_row (LeafKeeps r WithinItems) (NodeKeeps r WithinItems) level BulkNull 36 refl (omega arith)
-      (null_token_line r BulkNull level (λ is_two e. absurd (cc))).keeps;
-}
-
--- 3
-pub star_null_begun : (r : Rules) (level : ℕ) → IsBegunBy r level (42 ∷ 45 ∷ []) 3
-star_null_begun r level = record {
-  head = 42;
-  tail = 45 ∷ [];
-  parts = refl;
-  some = omega arith;
-  least =
-      null_begun_row (LeafKeeps r WithinItems) (NodeKeeps r WithinItems) level ArrayNull 42 refl (omega arith)
-      (null_token_line r ArrayNull level (λ is_two e. absurd (cc))).keeps;
-}
+pub null_begun : (r : Rules) (form : NullForm) (level first : ℕ) → null_line form ≡ first ∷ 45 ∷ 49 ∷ [] → 13 < first →
+    (r.version ≡ Two → form ≡ PlainNull → ⊥) → IsBegunBy r level (first ∷ 45 ∷ []) 3
+null_begun r form level first is above in_version = begun_by first (45 ∷ []) (omega arith)
+    (null_begun_row (LeafKeeps r WithinItems) (NodeKeeps r WithinItems) level form first is above (null_token_line r form level in_version).keeps)
 
 -- the line of a truth value, in version 3
 pub truth_token_line : (r : Rules) (b : Bool) (level : ℕ) → (r.version ≡ Two → ⊥) → IsLineOf r (truth b) level (truth_line b)
@@ -134,11 +101,6 @@ truth_token_line r b level no_two = record {
 
 -- `#`: 3
 pub truth_begun : (r : Rules) (level : ℕ) → (r.version ≡ Two → ⊥) → IsBegunBy r level (35 ∷ []) 3
-truth_begun r level no_two = record {
-  head = 35;
-  tail = [];
-  parts = refl;
-  some = omega arith;
-  least =
-      truth_begin_row (LeafKeeps r WithinItems) (NodeKeeps r WithinItems) level (truth_token_line r true level no_two).keeps;
-}
+truth_begun r level no_two =
+    begun_by 35 [] (omega arith)
+    (truth_begin_row (LeafKeeps r WithinItems) (NodeKeeps r WithinItems) level (truth_token_line r true level no_two).keeps)

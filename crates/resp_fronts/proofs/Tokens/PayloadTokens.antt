@@ -75,7 +75,7 @@ behind : (a b : List ℕ) (byte : ℕ) (rest : List ℕ) → (a ++ crlf b) ++ by
 behind a b byte rest = append_assoc a (crlf b) (byte ∷ rest) ∙ ap (λ z. a ++ crlf z) (sym (append_assoc b (byte ∷ []) rest)) ∙
     sym (append_assoc a (crlf (b ++ byte ∷ [])) rest)
 
--- and no other byte goes on
+-- no other byte than `:` goes on behind a format
 pub format_broken : (r : Rules) (format : List ℕ) (first : ℕ) (digits : List ℕ) (left level : ℕ) (bytes rest : List ℕ) (byte : ℕ) → (byte ≡ 58 → ⊥) →
     IsContentToken r (Verbatim format) first digits format left level bytes → CompletesUnder r Grammar level bytes (byte ∷ rest) → ⊥
 format_broken r format first digits left level bytes rest byte no_colon w c =

@@ -14,21 +14,16 @@ use Rattle.resp_fronts.proofs.FirstLines.BegunLines.{completes_line, tree_of_nod
 use Rattle.resp_fronts.proofs.FirstLines.CountRows.{IsRefusedHere, byte_line}
 use Rattle.resp_fronts.proofs.FirstLines.FirstLineRows.{tree_of_chunked, chunked_row, zero_digits}
 use Rattle.resp_fronts.proofs.FirstLines.MoreFirstLineRows.{sort_mark, mark_row}
-use Rattle.resp_fronts.proofs.Tokens.BegunFronts.{IsBegunBy, Opens}
+use Rattle.resp_fronts.proofs.Tokens.BegunFronts.{IsBegunBy, Opens, begun_by}
 use Rattle.resp_fronts.specs.OpenLevels.{so_far}
 use Rattle.resp_fronts.specs.Tokens.{HasStreamed}
 
 -- `$?`: 6
 pub streamed_string_begun : (r : Rules) (level : ℕ) → HasStreamed r → IsBegunBy r level (36 ∷ 63 ∷ []) 6
-streamed_string_begun r level h = record {
-  head = 36;
-  tail = 63 ∷ [];
-  parts = refl;
-  some = omega arith;
-  least =
-      chunked_row (LeafKeeps r WithinItems) (NodeKeeps r WithinItems) level
-      (leaf_keeps r WithinItems level (chunked [] (48 ∷ [])) tt (λ is_two. absurd (h.0 is_two)) tt (λ off. absurd (h.1 off)) (omega arith));
-}
+streamed_string_begun r level h =
+    begun_by 36 (63 ∷ []) (omega arith)
+    (chunked_row (LeafKeeps r WithinItems) (NodeKeeps r WithinItems) level
+    (leaf_keeps r WithinItems level (chunked [] (48 ∷ [])) tt (λ is_two. absurd (h.0 is_two)) tt (λ off. absurd (h.1 off)) (omega arith)))
 
 -- its line has no break in it
 pub mark_line : IsLine (36 ∷ 63 ∷ [])
@@ -55,7 +50,7 @@ streamed_string_in_two r level is_two = streamed_string_refused r InVersion NoDo
     (λ earlier. at_each_rule (λ a. rank a ≤ 1 → LeafMeets r a level (chunked [] (48 ∷ []))) (λ e. tt) (λ e. tt) (λ e. absurd (omega arith)) (λ e. tt) (λ e. tt)
     (λ e. absurd (omega arith)) (λ e. tt) (λ e. omega arith) (λ e. tt) (λ e. tt) earlier)
 
--- and in version 3 where streamed forms are off
+-- `$?` in version 3 where streamed forms are off
 pub streamed_string_off : (r : Rules) (level : ℕ) → (r.version ≡ Two → ⊥) → r.limits.streamed ≡ false → IsRefusedHere r NotStreamed InRange level (36 ∷ 63 ∷ [])
 streamed_string_off r level no_two off = streamed_string_refused r NotStreamed InRange level (λ chunks zeros h. h off)
     (λ earlier. at_each_rule (λ a. rank a ≤ 4 → LeafMeets r a level (chunked [] (48 ∷ []))) (λ e. tt) (λ e. tt) (λ e. λ is_two. absurd (no_two is_two))
@@ -64,15 +59,11 @@ streamed_string_off r level no_two off = streamed_string_refused r NotStreamed I
 -- `?` behind an aggregate's type byte: 5
 pub streamed_begun : (r : Rules) (k : Kind) (level : ℕ) → HasStreamed r → CanStream k 0 → IsNoPushBelow level k → level < r.limits.depth →
     IsBegunBy r level (kind_byte k ∷ 63 ∷ []) 5
-streamed_begun r k level h can no_push within_depth = record {
-  head = kind_byte k;
-  tail = 63 ∷ [];
-  parts = refl;
-  some = omega arith;
-  least =
-      mark_row (LeafKeeps r WithinItems) (NodeKeeps r WithinItems) level k can
-      (node_keeps r WithinItems level k Streamed 0 (λ is_two. absurd (h.0 is_two)) no_push (λ off. absurd (h.1 off)) within_depth (omega (arith, no_items k)));
-}
+streamed_begun r k level h can no_push within_depth =
+    begun_by (kind_byte k) (63 ∷ []) (omega arith)
+    (mark_row (LeafKeeps r WithinItems) (NodeKeeps r WithinItems) level k can
+    (node_keeps r WithinItems level k Streamed 0 (λ is_two. absurd (h.0 is_two)) no_push (λ off. absurd (h.1 off)) within_depth
+    (omega (arith, no_items k))))
   where
     no_items : (k : Kind) → items_of k 0 ≡ 0
     no_items Array = refl
@@ -109,7 +100,7 @@ streamed_off r k level no_two off can no_push = streamed_refused r NotStreamed I
     (λ earlier. at_each_rule (λ a. rank a ≤ 4 → NodeMeets r a level k Streamed 0) (λ e. tt) (λ e. tt) (λ e. λ is_two. absurd (no_two is_two)) (λ e. no_push)
     (λ e. tt) (λ e. absurd (omega arith)) (λ e. absurd (omega arith)) (λ e. tt) (λ e. absurd (omega arith)) (λ e. tt) earlier)
 
--- and at full depth
+-- a streamed aggregate's head at full depth
 pub streamed_too_deep : (r : Rules) (k : Kind) (level : ℕ) → HasStreamed r → r.limits.depth ≤ level → CanStream k 0 → IsNoPushBelow level k →
     IsRefusedHere r WithinDepth NotStreamed level (kind_byte k ∷ 63 ∷ [])
 streamed_too_deep r k level h deep can no_push = streamed_refused r WithinDepth NotStreamed k level can (λ n (within : level < r.limits.depth). omega arith)

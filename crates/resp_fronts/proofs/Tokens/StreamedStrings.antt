@@ -8,13 +8,13 @@ use Rattle.resp_value.specs.Trees.{Chunk, IsChunk, IsTree, chunked, chunks_text,
 use Rattle.resp_value.proofs.FirstLines.{after_line, first_is_line, first_line, sort_of-line}
 use Rattle.resp_value.proofs.Splitting.{length_split, line_split}
 use Rattle.resp_value.proofs.Unique.{chunk_line, chunks_text-append}
+use Rattle.resp_value.proofs.DigitLemmas.{number-more}
 use Rattle.resp_fronts.specs.LeastCompletions.{HasLeast}
 use Rattle.resp_fronts.specs.MayFollow.{CompletesValue}
 use Rattle.resp_fronts.proofs.FirstLines.BegunLines.{line_begins, text_first}
 use Rattle.resp_fronts.proofs.FirstLines.FirstLineRows.{are_zeros, length-zeros, tree_of_chunked}
 use Rattle.resp_fronts.proofs.FirstLines.FirstLineRows.{zero_digits}
 use Rattle.resp_fronts.specs.Tokens.{zeros}
-use Rattle.resp_value.proofs.DigitLemmas.{number-more}
 
 -- the line that ends a streamed string
 abbrev pub last : List ℕ → List ℕ
@@ -88,7 +88,7 @@ completes_chunks L N k ds w c p t =
     let x0 : u.0 ≡ with_chunks ds es = x in
     record { more = es; zeros = u.1; are_chunks = y; digits = i.1.0; zero = i.1.1; keep = subst (λ v. L k (chunked v u.1)) x0 a; whole = f }
 
--- and the other way
+-- what completes the chunks completes the streamed string
 pub chunks_complete : (L : LeafRule) (N : NodeRule) (k : ℕ) (ds : List Chunk) (w c : List ℕ) → AllByRecursion IsChunk ds → CompletesChunks L k ds w c →
     CompletesValue L N k (36 ∷ 63 ∷ crlf (chunks_text ds w)) c
 chunks_complete L N k ds w c p t = record {

@@ -48,7 +48,7 @@ length_token_broken r k first digits level bytes rest byte no_return no_digit w 
     byte_broken (LeafKeeps r Grammar) (NodeKeeps r Grammar) level (string_byte k ∷ first ∷ digits) rest byte (string_line k (first ∷ digits) w.are_digits.1)
     no_return (length_broken k first digits byte w.are_digits.1.0 no_digit) (subst (λ z. CompletesUnder r Grammar level z (byte ∷ rest)) w.are c)
 
--- and no CR behind one of a verbatim string that has no room for a format
+-- nothing but a digit goes on behind the length of a verbatim string that has no room for a format
 pub short_token_broken : (r : Rules) (format : List ℕ) (first : ℕ) (digits : List ℕ) (level : ℕ) (bytes rest : List ℕ) (byte : ℕ) →
     number (first ∷ digits) < 4 → (IsDigit byte → ⊥) → IsLengthToken r (Verbatim format) first digits level bytes →
     CompletesUnder r Grammar level bytes (byte ∷ rest) → ⊥
@@ -106,7 +106,7 @@ length_returned_begun r k first digits level bytes f room w =
           (subst (HasLeast (CompletesUnder r WithinItems level (line ++ 13 ∷ []))) (omega arith) least);
     }
 
--- and no byte but LF goes on
+-- no byte but LF goes on behind a length's CR
 pub length_returned_broken : (r : Rules) (k : StringKind) (first : ℕ) (digits : List ℕ) (level : ℕ) (bytes rest : List ℕ) (byte : ℕ) → (byte ≡ 10 → ⊥) →
     IsLengthToken r k first digits level bytes → CompletesUnder r Grammar level (bytes ++ 13 ∷ []) (byte ∷ rest) → ⊥
 length_returned_broken r k first digits level bytes rest byte no_newline w c =

@@ -67,6 +67,7 @@ scanned : (s : Place) (front : List ℕ) (es : List e.Event) (p : List ℕ) → 
 scanned s front es p text sound taken w looked = from_start (rules_of s) front es p (scan 0 s p)
     (came_scan (rules_of s) 0 s front es p text refl (record { sound = sound; taken = omega (arith, taken) }) looked w)
 
+-- no byte is asked for at a token inside a value
 pub inside : (t : Token) → is_outside t ≡ false → IsLookedAt t 0
 inside t e h = absurd (false≢true (sym e ∙ h))
 

@@ -5,18 +5,20 @@ use Rattle.std.proofs.lemmas.Bool.Decides.{nat_tests}
 use Rattle.std.proofs.Common.{◌≡◌, ◌⊎◌, inl, inr, ℕ, suc, ◌<◌, ◌≤◌, List, [], ◌∷◌, ◌++◌, length, refl, sym, ap, subst, ◌∙◌, arith, append-nil}
 use Rattle.resp_value.specs.Bytes.{IsText}
 use Rattle.resp_value.specs.declared.version.Version.{Version}
-use Rattle.resp_scan.specs.declared.event.Busy.{Busy}
 use Rattle.resp_value.specs.Rules.{Rules}
 use Rattle.resp_value.specs.Trees.{Spells, leaf, text}
 use Rattle.resp_value.specs.declared.cause.Cause.{Cause}
 use Rattle.resp_value.specs.declared.cause.Cause.TheVariants as cause
 use Rattle.resp_value.proofs.Unique.{unique}
+use Rattle.resp_value.proofs.DefaultLimits.{text_at_least}
 use Rattle.resp_fronts.specs.Events as e
 use Rattle.resp_fronts.specs.Frames as opened
 use Rattle.resp_fronts.specs.Frames.{text_around}
 use Rattle.resp_fronts.proofs.Tokens.BegunFronts.{IsBegunBy}
 use Rattle.resp_fronts.proofs.EventLaws.EventsAround.{length-around, next_member_at}
 use Rattle.resp_fronts.proofs.FrameLaws.FrontLaws.{all_rules}
+use Rattle.resp_fronts.specs.OpenLevels.{AreLevelsOf}
+use Rattle.resp_scan.specs.declared.event.Busy.{Busy}
 use Rattle.resp_scan.specs.declared.event.Event.{Event}
 use Rattle.resp_scan.specs.declared.event.Event.TheVariants as event
 use Rattle.resp_scan.specs.declared.event.Step.{Step}
@@ -40,8 +42,6 @@ use Rattle.resp_scan.proofs.Soundness.Kept.{IsOut, is_advanced}
 use Rattle.resp_scan.proofs.CallClauses.LeastNeeded.{least_is_needed}
 use Rattle.resp_scan.proofs.TokenMoves.Moves.{at_level}
 use Rattle.resp_scan.proofs.CallClauses.Rows.{tokens_need}
-use Rattle.resp_fronts.specs.OpenLevels.{AreLevelsOf}
-use Rattle.resp_value.proofs.DefaultLimits.{text_at_least}
 
 -- A front that isn't empty.
 
@@ -127,7 +127,7 @@ between_values s front es c w = (λ h. none_taken s.token s.frames h.0 h.1 w.sta
     case e (inl h) = h
     case e (inr h) = absurd (omega (arith, h, ap length e))
 
--- and in another version, then
+-- a place that waits for a value at the top has read nothing
 pub follows_none : (s : Place) → s.token ≡ AtStart → s.frames ≡ [] → s.taken ≡ 0 → HasRead s [] []
 follows_none s e d z = record {
   stands = subst (λ x. StandsAfterAt (rules_of s) x s.frames [] []) (sym e)
@@ -241,11 +241,13 @@ result_rules : (u : ℕ) (result : Result Step Fault) (r : Rules) (t : Place) �
 result_rules u (Ok step) r t h = event_rules step.used step.event r t h
 result_rules u (Err fault) r t h = h
 
+-- a step leaves the rules as they were
 pub rules_stay : (result : Result Step Fault) (s t : Place) (p : List ℕ) → IsSound s → out_of_step s.taken result t ≡ after_step (out_from s p) →
     rules_of t ≡ rules_of s
 rules_stay result s t p sound h = result_rules s.taken result (rules_of s) t
     (subst (AreRules (rules_of s)) (sym h) (kept_rules s (out_from s p) (is_advanced s p sound)))
 
+-- an error is the fault of the place that the call leaves
 pub is_faulted : (result : Result Step Fault) (t : Place) → IfErr result (λ fault. (fault.at ≡ t.taken) × (t.token ≡ Dead fault.cause)) →
     IfErr result (IsFaulted t)
 is_faulted (Ok step) t h = tt
@@ -258,6 +260,7 @@ pub is_text : (p : List ℕ) → ((i : ℕ) → get_or p i 0 < 256) → IsText p
 is_text [] h = tt
 is_text (b ∷ bs) h = (h 0, is_text bs (λ i. h (suc i)))
 
+-- the input may end exactly where the front is no begun value
 pub finishes : (result : Result (Unit {0}) Fault) (s : Place) (front : List ℕ) (es : List e.Event) → IsSound s → OnOk result (end_cause s ≡ None) →
     IfErr result (λ fault. (end_cause s ≡ Some fault.cause) × (fault.at ≡ s.taken)) → HasRead s front es → IsOk result ↔ MayEnd (rules_of s) front
 finishes (Ok x) s front es sound ok err w = (λ h. (end_told s front es sound w).1 ok, λ m. refl)
@@ -266,12 +269,14 @@ finishes (Err fault) s front es sound ok err w = (
   λ m. absurd (let z : None ≡ Some fault.cause = sym ((end_told s front es sound w).0 m) ∙ err.0 in cc),
 )
 
+-- the end of the input is refused as a truncation, behind the last byte
 pub truncated_at : (result : Result (Unit {0}) Fault) (s : Place) (front : List ℕ) (es : List e.Event) → IsSound s →
     IfErr result (λ fault. (end_cause s ≡ Some fault.cause) × (fault.at ≡ s.taken)) → HasRead s front es →
     IfErr result (λ fault. (fault.cause ≡ cause.Truncated) × (fault.at ≡ length front))
 truncated_at (Ok x) s front es sound err w = tt
 truncated_at (Err fault) s front es sound err w = ((end_told s front es sound w).2 fault.cause err.0, err.1 ∙ w.taken)
 
+-- the version may change exactly where nothing of a value has come
 pub may_change : (result : Result (Unit {0}) Busy) (s : Place) (front : List ℕ) (es : List e.Event) → IsSound s →
     (IsOk result ↔ ((s.token ≡ AtStart) × (s.frames ≡ []))) → HasRead s front es → IsOk result ↔ (front ≡ [])
 may_change result s front es sound between w = (
@@ -279,6 +284,7 @@ may_change result s front es sound between w = (
   λ e. between.1 ((between_values s front es sound w).1 e),
 )
 
+-- a scanner whose version has changed has read nothing
 pub changed : (result : Result (Unit {0}) Busy) (s t : Place) (version : Version) (front : List ℕ) (es : List e.Event) → IsSound s →
     (IsOk result ↔ ((s.token ≡ AtStart) × (s.frames ≡ []))) → OnOk result (t ≡ record s { version = version }) → HasRead s front es →
     OnOk result (HasRead t [] [])

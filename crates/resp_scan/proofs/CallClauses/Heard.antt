@@ -187,6 +187,7 @@ came_move (Refuse x) r i s front es b bs q c w at_front m l f g =
           })),
     )
 
+-- what comes of a scan, from a place that stands after its front
 pub came_scan : (r : Rules) (i : ℕ) (s : Place) (front : List ℕ) (es : List Event) (p : List ℕ) → IsText p → rules_of s ≡ r → HasCountsOf s i front →
     IsLookedAt s.token i → StandsAfter s front es → Came r i front es p (scan i s p)
 came_scan r i s front es [] text q c at_front w = (omega arith, at_front, subst (λ z. StandsAfter s z es) (sym (append-nil front)) w)

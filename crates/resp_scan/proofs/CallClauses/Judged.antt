@@ -2,6 +2,7 @@
 use Rattle.std.specs.Prelude.{false, cond, eqb}
 use Rattle.std.proofs.lemmas.Bool.Decides.{nat_tests}
 use Rattle.std.proofs.Common.{◌≡◌, ◌⊎◌, inl, inr, ℕ, zero, suc, ◌<◌, List, [], ◌∷◌, ◌++◌, length, refl, sym, ap, subst, ◌∙◌, arith, append_assoc, append-nil, length-append}
+use Rattle.std.proofs.lemmas.Bool.{false≢true}
 use Rattle.resp_value.specs.Bytes.{IsText}
 use Rattle.resp_value.specs.Rules.{Rules, Rule, Grammar, WithinTotal}
 use Rattle.resp_value.specs.Spellings.{FaultOf, IsCause, IsViable}
@@ -22,7 +23,6 @@ use Rattle.resp_scan.specs.Laws.{EveryTextIsJudged, HasOneFault}
 use Rattle.resp_scan.specs.Machine.Sound.{IsSound, IsSoundBy}
 use Rattle.resp_scan.specs.Machine.Standing as f
 use Rattle.resp_scan.specs.Machine.Standing.{HasCountsOf, Leads, StandsAfter, StandsAfterAt}
-use Rattle.std.proofs.lemmas.Bool.{false≢true}
 use Rattle.resp_scan.proofs.TokenMoves.BigNumbersLead.{big_digit_is_owed, text_end_is_owed}
 use Rattle.resp_scan.proofs.TokenMoves.ClosesLead.{close_is_owed}
 use Rattle.resp_scan.proofs.Soundness.Kept.{IsOut, is_advanced, sound_new}
@@ -199,6 +199,7 @@ judge r s front (b ∷ bs) bytes w =
     let z = settle_at s.token r s front w in
     judge_byte r z.place front b bs bytes.0 z.stands z.open_or_whole (λ t x. judge r t (front ++ b ∷ []) bs bytes.1 x)
 
+-- every text is viable or has one fault
 pub every_text_is_judged : EveryTextIsJudged
 every_text_is_judged r whole bounds bytes = one (judge r (record {
   token = AtStart;

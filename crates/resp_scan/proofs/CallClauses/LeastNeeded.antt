@@ -3,6 +3,8 @@ use Rattle.std.proofs.Common.{◌≡◌, ℕ, ◌+◌, List, [], ◌∷◌, leng
 use Rattle.resp_value.specs.LocalRules.{LeafKeeps, NodeKeeps}
 use Rattle.resp_value.specs.Rules.{Rules, WithinItems, WithinTotal}
 use Rattle.resp_value.specs.Trees.{leaf, text}
+use Rattle.resp_value.specs.declared.kind.OpenKind.{OpenKind}
+use Rattle.resp_value.specs.Spellings.{IsViable}
 use Rattle.resp_fronts.specs.Events.{Event}
 use Rattle.resp_fronts.specs.Frames.{text_around}
 use Rattle.resp_fronts.specs.LeastCompletions.{HasLeast, IsLeast}
@@ -14,7 +16,7 @@ use Rattle.resp_fronts.proofs.FrameLaws.Levels.{levels_needed_is}
 use Rattle.resp_fronts.proofs.Refusals.RefusedFronts.{CompletesFront}
 use Rattle.resp_fronts.proofs.FrameLaws.WholeValues.{closing_least, whole_least}
 use Rattle.resp_fronts.specs.Frames as opened
-use Rattle.resp_value.specs.declared.kind.OpenKind.{OpenKind}
+use Rattle.resp_fronts.specs.OpenLevels.{AreLevelsOf}
 use Rattle.resp_scan.specs.declared.frame.Frame.{Frame}
 use Rattle.resp_scan.specs.Machine.Tokens.{Token, Place, AtStart, AtEnd, AtTextEnd, AtCloseCr, AtCloseLf, at}
 use Rattle.resp_scan.specs.Kinds.{rules_of}
@@ -25,8 +27,6 @@ use Rattle.resp_scan.specs.Machine.Sound.{IsClosed, IsSoundBy, need_of_frame, ne
 use Rattle.resp_scan.proofs.TokenMoves.Begins.{is_between}
 use Rattle.resp_scan.proofs.TokenMoves.RefusedMoves.{frames_needed_is, inside_least, waiting_needed}
 use Rattle.resp_scan.proofs.CallClauses.Rows.{tokens_need}
-use Rattle.resp_fronts.specs.OpenLevels.{AreLevelsOf}
-use Rattle.resp_value.specs.Spellings.{IsViable}
 
 -- what completes a front by texts continues it
 least_by_texts : (r : Rules) (front others : List ℕ) (m n : ℕ) → front ≡ others → m ≡ n → HasLeast (CompletesFront r WithinItems others) m → IsLeast r front n
@@ -99,11 +99,13 @@ least_at s token used front es c w = inside_least (rules_of s) (b.TokenHas (rule
     (λ level bytes shown i t. tokens_need (at s token) used level bytes shown c (λ e. cc) i t)
 
 -- where a place stands, it needs the least that completes the front
-pub least_is_needed : (s : Place) (used : ℕ) (front : List ℕ) (es : List Event) → IsSoundBy used s → StandsAfter s front es → IsLeast (rules_of s) front (needed s)
+pub least_is_needed : (s : Place) (used : ℕ) (front : List ℕ) (es : List Event) → IsSoundBy used s → StandsAfter s front es →
+    IsLeast (rules_of s) front (needed s)
 least_is_needed s used front es c w = subst (λ n. IsLeast (rules_of s) front (token_needed s.token s.bounds.depth s.frames + n)) (sym c.frames_need)
     (least_at s s.token used front es c w)
 
 -- the front of a place begins a spelling within every rule
-pub followed_is_viable : (s : Place) (used : ℕ) (front : List ℕ) (es : List Event) → IsSoundBy used s → length front ≡ s.taken + used → StandsAfter s front es → IsViable (rules_of s) WithinTotal front
+pub followed_is_viable : (s : Place) (used : ℕ) (front : List ℕ) (es : List Event) → IsSoundBy used s → length front ≡ s.taken + used → StandsAfter s front es →
+    IsViable (rules_of s) WithinTotal front
 followed_is_viable s used front es c taken w = (viable_in_all (rules_of s) front (needed s) (least_is_needed s used front es c w)).1
     (omega (arith, c.total, taken))

@@ -8,6 +8,7 @@ use Rattle.resp_value.specs.Numbers.{Unsigned}
 use Rattle.resp_value.specs.Rules.{Rules}
 use Rattle.resp_value.specs.Trees as t
 use Rattle.resp_value.specs.Trees.{StringKind, null, numeral, payload, truth}
+use Rattle.resp_value.specs.Kinds.{kind_of}
 use Rattle.resp_fronts.specs.Events.{Event}
 use Rattle.resp_fronts.proofs.Tokens.BegunFronts.{IsBegunBy}
 use Rattle.resp_fronts.proofs.Tokens.ChunkTokens.{chunk_mark_begun, chunks_begun, stream_returned_begun}
@@ -15,11 +16,11 @@ use Rattle.resp_fronts.proofs.Tokens.ContentTokens.{content_begun, content_retur
 use Rattle.resp_fronts.proofs.Tokens.LineTokens.{line_begun, returned_begun}
 use Rattle.resp_fronts.proofs.Tokens.NumberTokens.{number_begun, truth_begun}
 use Rattle.resp_fronts.proofs.Tokens.StreamedHeads.{streamed_string_begun}
+use Rattle.resp_fronts.specs.Tokens.{zeros}
 use Rattle.resp_scan.specs.declared.machine.Head.{Head}
 use Rattle.resp_scan.specs.declared.machine.Head.TheVariants as head
 use Rattle.resp_scan.specs.Machine.Tokens.{Token, Place, InLine, AtLineLf, AtIntSign, AtIntFirst, InInt, AtIntLf, AtBigSign, AtBigFirst, InBigZeros, AtBigZeroLf, AtBigDigit, InBig, AtTextEnd, AtNullOne, AtNullCr, AtNullLf, AtBool, AtBoolCr, AtBoolLf, AtBulkHead, AtArrayHead, AtHead, InHead, AtHeadLf, AtFormat, AtFormatSecond, AtFormatThird, AtFormatColon, InContent, AtContentCr, AtContentLf, AtStreamCr, AtStreamLf, AtChunk, InChunk, AtChunkCr, AtChunkLf, AtOpenCr, AtOpenLf}
 use Rattle.resp_scan.specs.Machine.Heads.{first_needed, head_needed}
-use Rattle.resp_value.specs.Kinds.{kind_of}
 use Rattle.resp_scan.specs.Kinds.{rules_of}
 use Rattle.resp_scan.specs.Machine.Beginnings.{TokenHas, ContentBegun, FormatBegun, HeadBegun, HeadCounts, HeadReturned}
 use Rattle.resp_scan.specs.Machine.Sound.{IsTokenSound, token_needed, IsSoundBy}
@@ -37,7 +38,6 @@ use Rattle.resp_scan.proofs.HeadMoves.OpensLead as opens
 use Rattle.resp_scan.proofs.TokenMoves.StartLeads.{star_row}
 use Rattle.resp_scan.proofs.HeadMoves.StringHeads.{bulk, bulk_error, verbatim}
 use Rattle.resp_scan.proofs.TokenMoves.StringLengthEndsLead as string
-use Rattle.resp_fronts.specs.Tokens.{zeros}
 
 -- as many bytes under another name
 by_sum : {r : Rules} {level m n : ℕ} {bytes : List ℕ} → m ≡ n → IsBegunBy r level bytes m → IsBegunBy r level bytes n
@@ -157,5 +157,6 @@ token_row s (AtOpenLf k) level bytes shown c f more i w = end_row (rules_of s) (
 token_row s _ level bytes shown c f more i w = absurd w
 
 -- inside a value the token needs the least that completes its bytes, but at a text's end, where they are whole
-pub tokens_need : (s : Place) (used level : ℕ) (bytes : List ℕ) (shown : List Event) → IsSoundBy used s → (s.token ≡ AtTextEnd → ⊥) → level ≡ length s.frames → TokenHas (rules_of s) s.token level bytes shown → IsBegunBy (rules_of s) level bytes (token_needed s.token s.bounds.depth s.frames)
+pub tokens_need : (s : Place) (used level : ℕ) (bytes : List ℕ) (shown : List Event) → IsSoundBy used s → (s.token ≡ AtTextEnd → ⊥) → level ≡ length s.frames →
+    TokenHas (rules_of s) s.token level bytes shown → IsBegunBy (rules_of s) level bytes (token_needed s.token s.bounds.depth s.frames)
 tokens_need s used level bytes shown c more i w = token_row s s.token level bytes shown c.bounds c.token more i w

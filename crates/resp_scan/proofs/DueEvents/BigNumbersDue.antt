@@ -10,18 +10,17 @@ use Rattle.resp_value.specs.Trees as t
 use Rattle.resp_value.specs.Trees.{Tree, IsTree, leaf, node, line, numeral, null, truth, string, chunked, leaf_text, text}
 use Rattle.resp_value.proofs.FirstBytes.{first_byte, first_byte_is}
 use Rattle.resp_value.proofs.FirstLines.{after_line, first_line, sort_of-line}
+use Rattle.resp_value.proofs.DigitLemmas.{number-more, length-significant_digits}
 use Rattle.resp_fronts.specs.Events as e
 use Rattle.resp_fronts.specs.Events.{Event, big_events, events_due, events, last_of, leaf_events}
 use Rattle.resp_fronts.proofs.FirstLines.BegunLines.{line_begins, text_first}
-use Rattle.resp_fronts.proofs.Refusals.BrokenHeads.{sort_of_signed}
 use Rattle.resp_fronts.proofs.EventLaws.EventsDue.{AreFrom, due_none}
-use Rattle.resp_fronts.proofs.FirstLines.FirstLineRows.{number_line, tree_of_numeral}
+use Rattle.resp_fronts.proofs.FirstLines.FirstLineRows.{number_line, tree_of_numeral, sort_of_signed}
+use Rattle.resp_fronts.specs.Tokens.{IsNumberBegun}
 use Rattle.resp_scan.specs.Machine.Beginnings.{BigBegun, BigShown, ZeroReturned}
 use Rattle.resp_scan.proofs.DueEvents.InsideDue.{AreDueWithin}
 use Rattle.resp_scan.proofs.DueEvents.LinesDue.{returned_is, returned_last}
 use Rattle.resp_scan.proofs.DueEvents.TextsDue.{bytes_later, due_text, text_later}
-use Rattle.resp_fronts.specs.Tokens.{IsNumberBegun}
-use Rattle.resp_value.proofs.DigitLemmas.{number-more, length-significant_digits}
 
 length_of : (sign : Sign) (digits : List ℕ) → length (leaf_text (numeral t.Big sign digits)) ≡ length (sign_text sign) + length digits + 3
 length_of sign digits = omega (arith, length-append (40 ∷ (sign_text sign ++ digits)) (crlf []), length-append (sign_text sign) digits)

@@ -153,7 +153,7 @@ length_in_line digits are others after behind same =
     let (l, h, rest) = line_begins (59 ∷ others) (59 ∷ digits) after behind (chunk_line digits are) (same ∙ ap (λ z. z ++ behind) (append-nil (59 ∷ digits))) in
     omega (arith, ap length h, length-append (59 ∷ digits) l, length-append (59 ∷ digits) [])
 
--- and their CR
+-- a chunk's line and its CR are within a line
 pub returned_in_line : (digits : List ℕ) → IsDigits digits → IsInLine ((59 ∷ digits) ++ 13 ∷ [])
 returned_in_line digits are others after behind same =
     let (l, h, rest) = line_begins (59 ∷ others) (59 ∷ digits) after (13 ∷ behind) (chunk_line digits are)

@@ -1,14 +1,17 @@
 -- What was given where a place lies, and what it owes, are the events due by then of every tree that goes on so.
 use Rattle.std.proofs.Common.{◌≡◌, ℕ, ◌-◌, List, [], ◌∷◌, ◌++◌, refl, sym, ◌∙◌, arith, append-nil}
+use Rattle.std.specs.Prelude.{length}
 use Rattle.resp_value.specs.Rules.{Rules}
 use Rattle.resp_value.specs.Trees as t
 use Rattle.resp_value.specs.Numbers.{Unsigned}
+use Rattle.resp_value.specs.Kinds.{kind_of}
+use Rattle.resp_value.specs.Trees.{Tree, Spells}
 use Rattle.resp_fronts.specs.Events as e
 use Rattle.resp_fronts.specs.Events.{Event, all_events, events_due}
+use Rattle.resp_fronts.specs.Tokens.{zeros}
 use Rattle.resp_scan.specs.declared.machine.Head.{Head}
 use Rattle.resp_scan.specs.declared.machine.Head.TheVariants as head
 use Rattle.resp_scan.specs.Machine.Tokens.{Token, Place, AtStart, AtEnd, InLine, AtLineLf, AtIntSign, AtIntFirst, InInt, AtIntLf, AtBigSign, AtBigFirst, InBigZeros, AtBigZeroLf, AtBigDigit, InBig, AtTextEnd, AtNullOne, AtNullCr, AtNullLf, AtBool, AtBoolCr, AtBoolLf, AtBulkHead, AtArrayHead, AtHead, InHead, AtHeadLf, AtFormat, AtFormatSecond, AtFormatThird, AtFormatColon, InContent, AtContentCr, AtContentLf, AtStreamCr, AtStreamLf, AtChunk, InChunk, AtChunkCr, AtChunkLf, AtOpenCr, AtOpenLf, AtCloseCr, AtCloseLf, at}
-use Rattle.resp_value.specs.Kinds.{kind_of}
 use Rattle.resp_scan.specs.Kinds.{rules_of}
 use Rattle.resp_scan.specs.Machine.Beginnings as b
 use Rattle.resp_scan.specs.Machine.Standing.{IsInside, StandsAfterAt, StandsAfter}
@@ -24,9 +27,6 @@ use Rattle.resp_scan.proofs.DueEvents.OutsideDue.{AreDue, at_end_due, between_du
 use Rattle.resp_scan.proofs.DueEvents.QuietLines.{line_of_quiet, returned_quiet}
 use Rattle.resp_scan.proofs.DueEvents.QuietTokens.{bool_quiet, digits_quiet, dollar_quiet, head_quiet, head_returned_quiet, int_begun_quiet, int_digits_quiet, int_returned_quiet, null_begun_quiet, null_line_quiet, null_returned_quiet, star_quiet, stream_quiet, stream_returned_quiet, streamed_string_quiet, streamed_string_returned_quiet, truth_quiet}
 use Rattle.resp_scan.proofs.CallClauses.Rows.{tokens_need}
-use Rattle.resp_fronts.specs.Tokens.{zeros}
-use Rattle.resp_value.specs.Trees.{Tree, Spells}
-use Rattle.std.specs.Prelude.{length}
 
 -- Heads.
 
@@ -127,5 +127,6 @@ due_at s (AtBigDigit digit room) used front es c w =
 due_at s token used front es c w = no_more front es (inside_token s token used front es c (λ i. cc, λ x y i. cc) w)
 
 -- of every tree that the front begins, the events due by then are those given and those owed
-pub events_are_due : (s : Place) (used : ℕ) (front : List ℕ) (es : List Event) → IsSoundBy used s → StandsAfter s front es → (rest : List ℕ) (whole : Tree) → Spells whole (front ++ rest) → events_due (length front) (all_events whole) ≡ es ++ events_owed s
+pub events_are_due : (s : Place) (used : ℕ) (front : List ℕ) (es : List Event) → IsSoundBy used s → StandsAfter s front es → (rest : List ℕ) (whole : Tree) →
+    Spells whole (front ++ rest) → events_due (length front) (all_events whole) ≡ es ++ events_owed s
 events_are_due s used front es c w rest whole spells = due_at s s.token used front es c w rest whole spells.is_tree spells.spelled

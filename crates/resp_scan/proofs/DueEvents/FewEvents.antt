@@ -4,6 +4,8 @@ use Rattle.resp_value.specs.Bytes.{crlf}
 use Rattle.resp_value.specs.Numbers.{is_below_zero, sign_text, significant_digits}
 use Rattle.resp_value.specs.Trees as t
 use Rattle.resp_value.specs.Trees.{Chunk, Tree, Trees, Leaf, StringKind, leaf, node, line, numeral, null, truth, string, chunked, chunks_text, close, form_line, joined_content, kind_byte, leaf_text, payload, string_byte, text, texts}
+use Rattle.resp_value.proofs.DigitLemmas.{length-significant_digits}
+use Rattle.resp_value.proofs.DefaultLimits.{text_at_least}
 use Rattle.resp_fronts.specs.Frames.{Frame, text_around}
 use Rattle.resp_fronts.specs.Events as e
 use Rattle.resp_fronts.specs.Events.{Event, big_events, close_event, events, events_around, events_each, frame_events, without_places, last_of, leaf_events}
@@ -11,8 +13,6 @@ use Rattle.resp_fronts.proofs.EventLaws.EventsAround.{next_member_at}
 use Rattle.resp_scan.specs.Kinds.{content_events}
 use Rattle.resp_scan.proofs.TokenMoves.LeafEvents.{given-big, given-chunked, given-line, given-string}
 use Rattle.resp_scan.proofs.TokenMoves.Moves.{given-append}
-use Rattle.resp_value.proofs.DigitLemmas.{length-significant_digits}
-use Rattle.resp_value.proofs.DefaultLimits.{text_at_least}
 
 -- one event for each byte of content
 pub length-content : (s : List ℕ) → length (content_events s) ≡ length s
@@ -49,7 +49,11 @@ leaf_few from (numeral t.Int sign digits) = omega (arith, text_at_least (leaf (n
 leaf_few from (numeral t.Big sign digits) =
     let whole : length (leaf_text (numeral t.Big sign digits)) ≡ length (sign_text sign) + length digits + 3 =
     omega (arith, length-append (40 ∷ (sign_text sign ++ digits)) (crlf []), length-append (sign_text sign) digits) in
-    omega (arith, case (is_below_zero sign digits) (significant_digits digits) (last_of from (leaf_text (numeral t.Big sign digits))), length-significant_digits digits)
+    omega (
+      arith,
+      case (is_below_zero sign digits) (significant_digits digits) (last_of from (leaf_text (numeral t.Big sign digits))),
+      length-significant_digits digits,
+    )
   where
     case : (negative : Bool) (kept : List ℕ) (last : ℕ) → length (without_places (big_events negative kept last)) ≡ length kept + 2
     case negative [] last = refl

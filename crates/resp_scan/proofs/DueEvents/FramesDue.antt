@@ -1,23 +1,21 @@
 -- The events due of a front: those of its open frames, and of the begun value those at its begun bytes.
 use Rattle.std.proofs.Common.{◌≡◌, ◌⊎◌, inl, inr, ℕ, ◌+◌, ◌<◌, ◌≤◌, List, [], ◌∷◌, ◌++◌, length, refl, sym, ap, subst, ◌∙◌, arith, append_assoc, append-nil, length-append}
 use Rattle.resp_value.specs.Bytes.{crlf}
-use Rattle.resp_value.specs.Data.{Kind, members_of}
-use Rattle.resp_value.specs.Numbers.{number}
 use Rattle.resp_value.specs.Trees as t
 use Rattle.resp_value.specs.Trees.{Tree, Trees, Form, Counted, Streamed, HasMembers, IsTree, close, count, form_line, kind_byte, node, text, texts}
 use Rattle.resp_value.proofs.Unique.{not_close}
+use Rattle.resp_value.proofs.DefaultLimits.{text_at_least}
 use Rattle.resp_fronts.specs.Frames as opened
 use Rattle.resp_fronts.specs.Frames.{text_around, open_text}
 use Rattle.resp_fronts.specs.MayFollow.{AreOpen}
 use Rattle.resp_fronts.specs.Events as e
 use Rattle.resp_fronts.specs.Events.{Timed, all_events, close_event, events_due, events, events_around, events_each, frame_events, without_places, last_of, open_event}
-use Rattle.resp_fronts.proofs.FrameLaws.Composition.{parted, text-node, kind_no_stop}
+use Rattle.resp_fronts.proofs.FrameLaws.Composition.{parted, text-node, kind_no_stop, one_count}
 use Rattle.resp_fronts.proofs.EventLaws.EventPlaces.{AreWithin, each_within, within_wider}
 use Rattle.resp_fronts.proofs.EventLaws.EventsAround.{events_each-joined, length-around, length-open_text}
 use Rattle.resp_fronts.proofs.EventLaws.EventsDue.{AreFrom, BegunIn, due-append, due_all, due_around, due_none, front_events}
 use Rattle.resp_fronts.proofs.FrameLaws.OpenFrames.{count-joined_trees, is_node, joined_trees}
 use Rattle.resp_scan.proofs.TokenMoves.Moves.{given-append}
-use Rattle.resp_value.proofs.DefaultLimits.{text_at_least}
 
 -- Done comes at the last byte
 pub done_later : (n : ℕ) (whole : Tree) → n < length (text whole) → events_due n (all_events whole) ≡ events_due n (events 0 whole)
@@ -63,15 +61,6 @@ due_in gs begun rest whole b unfinished spelled =
 -- nothing, or the begin of a close
 abbrev pub IsStop : List ℕ → Type 0
 IsStop last = (last ≡ []) ⊎ ((x : List ℕ) × (last ≡ 46 ∷ x))
-
--- an aggregate of which n members can be has no fewer than its frame
-enough : (k : Kind) (form : Form) (taken n c : ℕ) → HasMembers k form n → taken < n → HasMembers k form c → (digits : List ℕ) → form ≡ Counted digits →
-    taken < c
-enough k (Counted ds) taken n c h l i digits same =
-    let u : members_of k (number ds) ≡ n = h.1 in
-    let v : members_of k (number ds) ≡ c = i.1 in
-    omega arith
-enough k Streamed taken n c h l i digits same = absurd (cc)
 
 -- members behind those taken, or the close, don't come before a begun close
 later_members : (n at : ℕ) (last : List ℕ) (us : Trees) (form : Form) (behind rest : List ℕ) → n ≡ at + length last → IsStop last →
@@ -131,10 +120,10 @@ frames_due g gs last rest whole o short stop is_tree spelled =
     let (ts, same, after) = is_node b.value g.kind g.form o.0 b.behind (texts g.done ++ (last ++ rest)) b.is_tree o.1 parts in
     let q : IsTree (node g.kind g.form ts) = subst IsTree same b.is_tree in
     let (us, joined, left) = parted g.form g.done ts b.behind (last ++ rest) o.3 q.1
-    (λ ds i. omega (arith, enough g.kind g.form (count g.done) o.0 (count ts) o.1 o.2 q.0 ds i)) after in
+    (λ ds i. omega (arith, o.2, one_count g.kind g.form o.0 (count ts) o.1 q.0 ds i)) after in
     let n : count ts ≡ count g.done + count us = ap count joined ∙ count-joined_trees g.done us in
     let some : (ds : List ℕ) → g.form ≡ Counted ds → 0 < count us =
-    λ ds i. omega (arith, n, enough g.kind g.form (count g.done) o.0 (count ts) o.1 o.2 q.0 ds i) in
+    λ ds i. omega (arith, n, o.2, one_count g.kind g.form o.0 (count ts) o.1 q.0 ds i) in
     let v = node g.kind g.form (joined_trees g.done us) in
     let value : b.value ≡ v = same ∙ ap (node g.kind g.form) joined in
     let size : length (text v) ≡ length (open_text g ++ (texts us ++ close g.form)) = sym (ap length (append-nil (text v))) ∙ ap length (text-node g us []) ∙

@@ -7,20 +7,20 @@ use Rattle.resp_value.specs.Trees as t
 use Rattle.resp_value.specs.Trees.{Tree, Leaf, LineKind, IsTree, leaf, line, numeral, null, truth, string, chunked, leaf_rest, leaf_text, line_byte, payload, text}
 use Rattle.resp_value.proofs.FirstLines.{after_line, first_is_line, first_line, sort_of-line}
 use Rattle.resp_value.proofs.Unique.{unique}
+use Rattle.resp_value.proofs.DigitLemmas.{length-significant_digits}
+use Rattle.resp_value.proofs.Splitting.{return_split}
 use Rattle.resp_fronts.specs.Events as e
 use Rattle.resp_fronts.specs.Events.{Event, TextKind, big_events, events_due, events, without_places, last_of, leaf_events, text_events}
 use Rattle.resp_fronts.proofs.FirstLines.BegunLines.{line_begins, text_first, tree_of_line}
 use Rattle.resp_fronts.proofs.Tokens.LineTokens.{no_break_in_line, returned_whole, text_token_line}
+use Rattle.resp_fronts.specs.Tokens.{IsReturned, IsTextLine}
+use Rattle.resp_fronts.proofs.FirstLines.TextLines.{sort_of_text}
 use Rattle.resp_scan.specs.Kinds.{content_events}
 use Rattle.resp_scan.specs.Machine.Beginnings.{LineBegun, TextReturned, line_text_kind}
 use Rattle.resp_scan.proofs.DueEvents.FewEvents.{content_in_chunks}
 use Rattle.resp_scan.proofs.DueEvents.InsideDue.{AreDueWithin}
 use Rattle.resp_scan.proofs.TokenMoves.LeafEvents.{given-big, given-line, leaf_told}
 use Rattle.resp_scan.proofs.DueEvents.TextsDue.{bytes_later, due_text}
-use Rattle.resp_fronts.specs.Tokens.{IsReturned, IsTextLine}
-use Rattle.resp_value.proofs.DigitLemmas.{length-significant_digits}
-use Rattle.resp_value.proofs.Splitting.{return_split}
-use Rattle.resp_fronts.proofs.FirstLines.TextLines.{sort_of_text}
 
 line_due : (from : ℕ) (k : LineKind) (a b : List ℕ) → IsTextLine k → events_due (from + suc (length a)) (leaf_events from (line k (a ++ b))) ≡
     e.Text (line_text_kind k) ∷ content_events a

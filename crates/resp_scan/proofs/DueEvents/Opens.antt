@@ -12,7 +12,7 @@ use Rattle.resp_scan.specs.Kinds.{content_events}
 use Rattle.resp_scan.proofs.TokenMoves.LeafEvents.{given-big, given-chunked, given-line, given-string}
 use Rattle.resp_scan.proofs.TokenMoves.Moves.{given-append}
 
--- so many more open than close
+-- that so many more aggregates open than close
 abbrev pub LeaveOpen : ℕ → List Event → Type 0
 LeaveOpen n es = open_count es ≡ n + close_count es
 
@@ -21,7 +21,7 @@ pub opens-append : (a b : List Event) → open_count (a ++ b) ≡ open_count a +
 opens-append [] b = omega arith
 opens-append (x ∷ a) b = omega (arith, opens-append a b)
 
--- and the closes
+-- the closes of two runs of events
 pub closes-append : (a b : List Event) → close_count (a ++ b) ≡ close_count a + close_count b
 closes-append [] b = omega arith
 closes-append (x ∷ a) b = omega (arith, closes-append a b)

@@ -7,6 +7,7 @@ use Rattle.resp_value.specs.Rules.{Rules, WithinItems}
 use Rattle.resp_value.specs.LocalRules.{LeafKeeps, NodeKeeps}
 use Rattle.resp_value.specs.Trees.{Tree, IsTree, count, text}
 use Rattle.resp_value.proofs.Unique.{unique}
+use Rattle.resp_value.proofs.DefaultLimits.{text_at_least}
 use Rattle.resp_fronts.specs.Frames as opened
 use Rattle.resp_fronts.specs.Frames.{text_around}
 use Rattle.resp_fronts.specs.Events as e
@@ -14,6 +15,7 @@ use Rattle.resp_fronts.specs.Events.{Event, Timed, all_events, events_due, event
 use Rattle.resp_fronts.proofs.Between.BetweenValues.{ready_open}
 use Rattle.resp_fronts.proofs.EventLaws.EventPlaces.{events_within, within_wider}
 use Rattle.resp_fronts.proofs.EventLaws.EventsDue.{AreFrom, due-append, due_all, due_none}
+use Rattle.resp_fronts.specs.OpenLevels.{AreLevelsOf, AreReady, Level, so_far}
 use Rattle.resp_scan.specs.declared.frame.Frame.{Frame}
 use Rattle.resp_scan.specs.declared.frame.Shape.{Shape}
 use Rattle.resp_scan.specs.declared.frame.Shape.TheVariants.{Left, Begun}
@@ -25,8 +27,6 @@ use Rattle.resp_scan.specs.Machine.Sound.{IsClosed}
 use Rattle.resp_scan.proofs.TokenMoves.ClosesLead.{close_is_owed, is_streamed}
 use Rattle.resp_scan.proofs.TokenMoves.BigNumbersLead.{text_end_is_owed}
 use Rattle.resp_scan.proofs.DueEvents.FramesDue.{IsStop, frames_due}
-use Rattle.resp_fronts.specs.OpenLevels.{AreLevelsOf, AreReady, Level, so_far}
-use Rattle.resp_value.proofs.DefaultLimits.{text_at_least}
 
 -- in every tree that the front begins these are the events due by then
 abbrev pub AreDue : List ℕ → List Event → Type 0
@@ -104,7 +104,7 @@ ended_due s [] front es w rest whole is_tree spelled =
     ∙ ap (λ z. z ++ e.Done ∷ []) (ap (λ z. without_places (events 0 z)) (sym same) ∙ sym w.told)
 ended_due s (f ∷ fs) front es w rest whole is_tree spelled = ended_in s f f.shape fs front es (λ es. ended_due s fs front es) w rest whole is_tree spelled
 
--- the same where the token says so
+-- the events due where a value has ended, as its token says
 pub at_end_due : (s : Place) (fs : List Frame) (front : List ℕ) (es : List Event) → IsClosed fs → StandsAfterAt (rules_of s) AtEnd fs front es →
     AreDue front (es ++ events_owed_at_end fs)
 at_end_due s [] front es closed w rest whole is_tree spelled = ended_due s [] front es w rest whole is_tree spelled
@@ -112,7 +112,7 @@ at_end_due s (f ∷ fs) front es closed w rest whole is_tree spelled =
     ended_due s (f ∷ fs) front es (subst (λ shape. StandsAfterAt (rules_of s) (token_in_shape shape) (f ∷ fs) front es) (sym closed) w) rest whole is_tree
     spelled
 
--- and where the end of its text comes first
+-- the events due where the end of a text is owed
 pub text_end_due : (s : Place) (front : List ℕ) (es : List Event) → StandsAfterAt (rules_of s) AtTextEnd s.frames front es →
     AreDue front (es ++ e.TextEnd ∷ events_owed_at_end s.frames)
 text_end_due s front es w rest whole is_tree spelled =

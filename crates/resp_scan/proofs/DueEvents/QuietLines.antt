@@ -6,17 +6,17 @@ use Rattle.resp_value.specs.Trees.{Tree, Leaf, leaf, node, line, numeral, null, 
 use Rattle.resp_value.specs.Rules.{Rules}
 use Rattle.resp_value.proofs.FirstBytes.{leaf_begins, first_byte, first_byte_is, leaf_byte}
 use Rattle.resp_value.proofs.FirstLines.{after_line, first_is_line, first_line}
+use Rattle.resp_value.proofs.Splitting.{return_split}
 use Rattle.resp_fronts.specs.Events as e
 use Rattle.resp_fronts.specs.Events.{Event, chunk_events, events, events_each, last_of, leaf_events}
 use Rattle.resp_fronts.proofs.FirstLines.BegunLines.{line_begins, text_first}
 use Rattle.resp_fronts.proofs.EventLaws.EventPlaces.{each_within}
 use Rattle.resp_fronts.proofs.EventLaws.EventsDue.{AreFrom, due_none}
 use Rattle.resp_fronts.proofs.Tokens.LineTokens.{no_break_in_line}
+use Rattle.resp_fronts.specs.Tokens.{IsLineOf, IsReturned}
 use Rattle.resp_scan.proofs.DueEvents.FramesDue.{from-append, from_later, from_within}
 use Rattle.resp_scan.proofs.DueEvents.InsideDue.{AreDueWithin}
 use Rattle.resp_scan.proofs.DueEvents.TextsDue.{chunks_later, text_later}
-use Rattle.resp_fronts.specs.Tokens.{IsLineOf, IsReturned}
-use Rattle.resp_value.proofs.Splitting.{return_split}
 
 -- the byte begins neither a simple string, nor an error, nor a big number
 abbrev pub IsQuiet : ℕ → Type 0
@@ -62,7 +62,7 @@ line_quiet from (node k form ts) q =
           (omega (arith, length-append (kind_byte k ∷ form_line form) (crlf (texts ts ++ close form))), tt),
     )
 
--- so nothing is due of a line that may go on
+-- nothing is due of a line that may go on
 pub quiet_line : (bytes : List ℕ) (shown : List Event) (head : ℕ) (tail : List ℕ) → bytes ≡ head ∷ tail → shown ≡ [] → IsQuiet head → IsLine (head ∷ tail) →
     AreDueWithin bytes shown
 quiet_line bytes shown head tail are told q is_line from value behind is_tree e =
@@ -95,7 +95,7 @@ line_of_quiet r l level bytes shown w told q =
     let are : bytes ≡ leaf_byte l ∷ cs = w.is_line ∙ begins in
     quiet_line bytes shown (leaf_byte l) cs are told q (subst IsLine are (no_break_in_line r l level bytes w))
 
--- and with its CR
+-- nothing is due of a leaf's line and its CR
 pub returned_quiet : (r : Rules) (l : Leaf) (level : ℕ) (bytes : List ℕ) (shown : List Event) → IsReturned r l level bytes → shown ≡ [] →
     IsQuiet (leaf_byte l) → AreDueWithin bytes shown
 returned_quiet r l level bytes shown w told q =

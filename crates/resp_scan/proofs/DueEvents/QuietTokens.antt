@@ -11,13 +11,13 @@ use Rattle.resp_value.proofs.Splitting.{plain_above}
 use Rattle.resp_fronts.specs.Events.{Event}
 use Rattle.resp_fronts.proofs.FirstLines.CountRows.{byte_line, kind_line}
 use Rattle.resp_fronts.proofs.FirstLines.FirstLineRows.{number_line, string_line}
+use Rattle.resp_fronts.specs.Tokens.{IsNumberBegun, zeros}
+use Rattle.resp_fronts.proofs.Tokens.StreamedHeads.{streamed_line}
 use Rattle.resp_scan.specs.declared.machine.Head.{Head}
 use Rattle.resp_scan.specs.declared.machine.Head.TheVariants as head
 use Rattle.resp_scan.specs.Machine.Beginnings.{AggregateBegun, CountBegun, CountReturned, HeadBegun, HeadCounts, HeadReturned, IntBegun, IntReturned, IsNullBegun, LengthBegun, LengthReturned, NullLine, NullReturned, StreamBegun}
 use Rattle.resp_scan.proofs.DueEvents.InsideDue.{AreDueWithin}
 use Rattle.resp_scan.proofs.DueEvents.QuietLines.{IsQuiet, line_of_quiet, quiet_line, quiet_returned, returned_quiet}
-use Rattle.resp_fronts.specs.Tokens.{IsNumberBegun, zeros}
-use Rattle.resp_fronts.proofs.Tokens.StreamedHeads.{streamed_line}
 
 kind_quiet : (k : Kind) → IsQuiet (kind_byte k)
 kind_quiet d.Array = (λ i. omega arith, λ i. omega arith, λ i. omega arith)
@@ -75,7 +75,7 @@ null_begun_quiet bytes shown (inr are) told = bytes_quiet 42 45 bytes shown are 
 pub null_line_quiet : (r : Rules) (level : ℕ) (bytes : List ℕ) (shown : List Event) → NullLine r level bytes shown → AreDueWithin bytes shown
 null_line_quiet r level bytes shown w = line_of_quiet r (null w.form) level bytes shown w.token w.told (null_quiet w.form)
 
--- and its CR
+-- nothing is due of a null's line and its CR
 pub null_returned_quiet : (r : Rules) (level : ℕ) (bytes : List ℕ) (shown : List Event) → NullReturned r level bytes shown → AreDueWithin bytes shown
 null_returned_quiet r level bytes shown w = returned_quiet r (null w.form) level bytes shown w.returned w.told (null_quiet w.form)
 
@@ -156,7 +156,7 @@ count_returned_quiet r k n level bytes shown w =
     quiet_returned bytes shown (kind_byte k) (w.first ∷ w.digits) (w.returned.returned ∙ ap (λ z. z ++ 13 ∷ []) c.are) w.told (kind_quiet k)
     (kind_line k (w.first ∷ w.digits) c.are_digits)
 
--- and the CR of a head
+-- nothing is due of a head's line and its CR
 pub head_returned_quiet : (r : Rules) (h : Head) (n level : ℕ) (bytes : List ℕ) (shown : List Event) → IsNoChunk h → HeadReturned r h n level bytes shown →
     AreDueWithin bytes shown
 head_returned_quiet r head.Bulk n level bytes shown p w = length_returned_quiet r t.Bulk n level bytes shown w
@@ -176,7 +176,7 @@ pub stream_quiet : (r : Rules) (k : Kind) (level : ℕ) (bytes : List ℕ) (show
 stream_quiet r k level bytes shown w = quiet_line bytes shown (kind_byte k) (63 ∷ []) (w.are ∙ append-nil (kind_byte k ∷ 63 ∷ [])) w.told (kind_quiet k)
     (streamed_line k)
 
--- and its CR
+-- nothing is due of a streamed aggregate's line and its CR
 pub stream_returned_quiet : (r : Rules) (k : Kind) (level : ℕ) (bytes : List ℕ) (shown : List Event) → StreamBegun r k (13 ∷ []) level bytes shown →
     AreDueWithin bytes shown
 stream_returned_quiet r k level bytes shown w = quiet_returned bytes shown (kind_byte k) (63 ∷ []) w.are w.told (kind_quiet k) (streamed_line k)
@@ -185,7 +185,7 @@ stream_returned_quiet r k level bytes shown w = quiet_returned bytes shown (kind
 pub streamed_string_quiet : (bytes : List ℕ) (shown : List Event) → bytes ≡ 36 ∷ 63 ∷ [] → shown ≡ [] → AreDueWithin bytes shown
 streamed_string_quiet bytes shown are told = bytes_quiet 36 63 bytes shown are told (string_quiet t.Bulk) (omega arith) (omega arith)
 
--- and its CR
+-- nothing is due of a streamed string's line and its CR
 pub streamed_string_returned_quiet : (bytes : List ℕ) (shown : List Event) → bytes ≡ 36 ∷ 63 ∷ 13 ∷ [] → shown ≡ [] → AreDueWithin bytes shown
 streamed_string_returned_quiet bytes shown are told = quiet_returned bytes shown 36 (63 ∷ []) are told (string_quiet t.Bulk) (
   plain_above 36 (omega arith),

@@ -4,6 +4,7 @@ use Rattle.resp_value.specs.Bytes.{crlf}
 use Rattle.resp_value.specs.Numbers.{number, sign_text}
 use Rattle.resp_value.specs.Trees.{Leaf, joined_content, leaf_text, payload, string_byte}
 use Rattle.resp_value.specs.Rules.{Rules}
+use Rattle.resp_value.proofs.DigitLemmas.{length-significant_digits}
 use Rattle.resp_fronts.specs.Events as e
 use Rattle.resp_fronts.specs.Events.{Event, without_places, leaf_events}
 use Rattle.resp_fronts.proofs.Tokens.LineTokens.{returned_whole}
@@ -17,7 +18,6 @@ use Rattle.resp_scan.proofs.DueEvents.FewEvents.{content_in_chunks, content_in_p
 use Rattle.resp_scan.specs.Reading.{HasNoDone}
 use Rattle.resp_scan.proofs.DueEvents.NoDone.{content_no_done, leaf_no_done, no_done-append, no_done_before}
 use Rattle.resp_scan.proofs.DueEvents.Opens.{LeaveOpen, closes-append, content_opens, leaf_opens, open-append, opens-append}
-use Rattle.resp_value.proofs.DigitLemmas.{length-significant_digits}
 
 -- as many opens as closes, no Done, and no more events than bytes
 pub record IsShown (bytes : List ℕ) (shown : List Event) : Type 0 where
@@ -53,7 +53,14 @@ leaf_shown bytes l shown told fits = record {
 big_shown : (r : Rules) (negative : Bool) (kept : List ℕ) (level : ℕ) (bytes : List ℕ) (shown : List Event) → BigBegun r negative kept level bytes →
     (s : List ℕ) → length s ≤ length kept → shown ≡ e.Text (e.Big negative) ∷ content_events s → IsShown bytes shown
 big_shown r negative kept level bytes shown w s fits told = text_shown bytes (e.Big negative) s shown told
-    (omega (arith, fits, ap length w.left, length-significant_digits (w.first ∷ w.digits), ap length w.token.are, length-append (sign_text w.sign) (w.first ∷ w.digits)))
+    (omega (
+      arith,
+      fits,
+      ap length w.left,
+      length-significant_digits (w.first ∷ w.digits),
+      ap length w.token.are,
+      length-append (sign_text w.sign) (w.first ∷ w.digits),
+    ))
 
 content_shown : (r : Rules) (n level : ℕ) (bytes : List ℕ) (shown : List Event) → ContentBegun r n level bytes shown → IsShown bytes shown
 content_shown r n level bytes shown w = text_shown bytes _ w.part shown w.told

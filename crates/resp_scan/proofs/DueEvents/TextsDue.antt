@@ -13,12 +13,12 @@ pub bytes_later : (n from : ℕ) (s : List ℕ) → n ≤ from → AreFrom n (by
 bytes_later n from [] l = tt
 bytes_later n from (b ∷ s) l = (l, bytes_later n (from + 1) s (omega (arith, l)))
 
--- so a text
+-- the events of a text come no earlier than its first
 pub text_later : (n : ℕ) (k : TextKind) (begins from : ℕ) (s : List ℕ) (ends : ℕ) → n ≤ begins → n ≤ from → n ≤ ends →
     AreFrom n (text_events k begins from s ends)
 text_later n k begins from s ends a b c = (a, from-append n (bytes_from from s) (record { at = ends; event = e.TextEnd } ∷ []) (bytes_later n from s b) (c, tt))
 
--- so chunks
+-- the events of chunks come no earlier than the first chunk
 pub chunks_later : (n at : ℕ) (cs : List Chunk) → n ≤ at → AreFrom n (chunk_events at cs)
 chunks_later n at [] l = tt
 chunks_later n at (c ∷ cs) l =

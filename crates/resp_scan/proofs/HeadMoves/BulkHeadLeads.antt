@@ -9,6 +9,7 @@ use Rattle.resp_value.specs.declared.cause.Cause.TheVariants as cause
 use Rattle.resp_fronts.specs.Events.{Event}
 use Rattle.resp_fronts.proofs.Tokens.BegunFronts.{IsBegunBy}
 use Rattle.resp_fronts.proofs.Tokens.StreamedHeads.{streamed_string_begun, streamed_string_in_two, streamed_string_off}
+use Rattle.resp_fronts.specs.Tokens.{HasStreamed}
 use Rattle.resp_scan.specs.declared.machine.Head.TheVariants as head
 use Rattle.resp_scan.specs.Machine.Tokens.{Place, Go, AtBulkHead, AtNullOne, AtStreamCr, at}
 use Rattle.resp_scan.specs.Machine.Heads.{cause_in_three, string_cause}
@@ -20,10 +21,8 @@ use Rattle.resp_scan.specs.Machine.Standing.{HasCountsOf, Leads, StandsAfter}
 use Rattle.resp_scan.proofs.TokenMoves.ByteTests.{by_byte}
 use Rattle.resp_scan.proofs.HeadMoves.StringHeadsLead.{string_head_leads}
 use Rattle.resp_scan.proofs.HeadMoves.StringHeads.{bulk}
-use Rattle.resp_scan.proofs.TokenMoves.Moves.{goes, retold}
+use Rattle.resp_scan.proofs.TokenMoves.Moves.{goes, retold, ALead}
 use Rattle.resp_scan.proofs.TokenMoves.RefusedMoves.{fits_or_total, refused, unless_over}
-use Rattle.resp_fronts.specs.Tokens.{HasStreamed}
-use Rattle.resp_scan.proofs.TokenMoves.TokenLaws.{ALead}
 
 -- `$` alone
 abbrev IsDollar : ℕ → List ℕ → List Event → Type 0

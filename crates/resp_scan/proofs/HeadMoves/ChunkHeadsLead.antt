@@ -10,6 +10,7 @@ use Rattle.resp_value.specs.Rules.{Rules, Grammar, WithinDepth, WithinItems, Wit
 use Rattle.resp_value.specs.declared.cause.Cause.TheVariants as cause
 use Rattle.resp_value.proofs.Unique.{chunks_text-append}
 use Rattle.resp_value.proofs.FirstBytes.{all_append}
+use Rattle.resp_value.proofs.DigitLemmas.{number-digit}
 use Rattle.resp_fronts.specs.Events.{Event}
 use Rattle.resp_fronts.specs.Events as e
 use Rattle.resp_fronts.proofs.FirstLines.CountRows.{CompletesUnder, IsRefusedHere}
@@ -23,14 +24,12 @@ use Rattle.resp_scan.specs.Machine.Moves.{head_digit}
 use Rattle.resp_scan.specs.Kinds.{IsRefusedFor, rules_of}
 use Rattle.resp_scan.specs.Machine.Beginnings.{ChunkBegun, ChunkLength, ChunksBegun}
 use Rattle.resp_scan.specs.Machine.Standing.{HasCountsOf, IsInside, Leads, StandsAfter}
-use Rattle.resp_scan.proofs.TokenMoves.TokenLaws.{ALead}
 use Rattle.resp_scan.proofs.TokenMoves.ByteTests.{by_byte, by_digit, by_test, wanted}
 use Rattle.resp_scan.proofs.TokenMoves.ChunksBegun.{are_whole, chunks_more, text_more}
 use Rattle.resp_scan.proofs.HeadMoves.HeadDigits.{head_digit_leads}
 use Rattle.resp_scan.proofs.TokenMoves.LeafEvents.{given-chunked, leaf_told}
-use Rattle.resp_scan.proofs.TokenMoves.Moves.{Ends, goes, retold, value_ends}
+use Rattle.resp_scan.proofs.TokenMoves.Moves.{Ends, goes, retold, value_ends, ALead}
 use Rattle.resp_scan.proofs.TokenMoves.RefusedMoves.{broken, refused}
-use Rattle.resp_value.proofs.DigitLemmas.{number-digit}
 use Rattle.resp_scan.specs.declared.machine.Head.TheVariants.{Chunk}
 
 -- Lengths.

@@ -6,6 +6,8 @@ use Rattle.resp_value.specs.Data as d
 use Rattle.resp_value.specs.Numbers.{IsDigit, number}
 use Rattle.resp_value.specs.Rules.{Rules, WithinItems, WithinLength}
 use Rattle.resp_value.specs.declared.cause.Cause.TheVariants as cause
+use Rattle.resp_value.proofs.DigitLemmas.{number-digit}
+use Rattle.resp_value.proofs.Choices.{if_below}
 use Rattle.resp_fronts.specs.Events.{Event}
 use Rattle.resp_fronts.proofs.FirstLines.CountRows.{IsRefusedHere}
 use Rattle.resp_fronts.proofs.Tokens.BegunFronts.{IsBegunBy}
@@ -18,13 +20,11 @@ use Rattle.resp_scan.specs.Machine.Moves.{is_digit, move_unless, only_byte}
 use Rattle.resp_scan.specs.Kinds.{rules_of}
 use Rattle.resp_scan.specs.Machine.Beginnings.{CountBegun, CountReturned}
 use Rattle.resp_scan.specs.Machine.Standing.{HasCountsOf, IsInside, Leads, StandsAfter}
-use Rattle.resp_scan.proofs.TokenMoves.Moves.{goes}
+use Rattle.resp_scan.proofs.TokenMoves.Moves.{goes, ALead, IsOfAggregate}
 use Rattle.resp_scan.proofs.TokenMoves.RefusedMoves.{fits_or_total, refused, unless_over}
 use Rattle.resp_scan.proofs.TokenMoves.ByteTests.{by_digit, wants_leads}
-use Rattle.resp_value.proofs.DigitLemmas.{number-digit}
-use Rattle.resp_value.proofs.Choices.{if_below}
-use Rattle.resp_scan.proofs.TokenMoves.TokenLaws.{ALead, IsOfAggregate}
 
+-- the items of the members that a count asks for
 pub items_of-members_of : (k : Kind) (n : ℕ) → items_of k (members_of k n) ≡ n
 items_of-members_of d.Map n = omega arith
 items_of-members_of d.Attr n = omega arith

@@ -11,6 +11,10 @@ use Rattle.resp_value.specs.LocalRules.{IsNoPushBelow, LeafKeeps, NodeKeeps, Nod
 use Rattle.resp_value.specs.declared.cause.Cause.TheVariants as cause
 use Rattle.resp_value.specs.declared.version.Version.{Version}
 use Rattle.resp_value.specs.declared.version.Version.TheVariants as version
+use Rattle.resp_value.specs.declared.kind.OpenKind.{OpenKind}
+use Rattle.resp_value.specs.declared.kind.OpenKind.TheVariants as kind
+use Rattle.resp_value.specs.Kinds.{kind_of}
+use Rattle.resp_value.proofs.Choices.{if_equal, if_within, if_below}
 use Rattle.resp_fronts.specs.Events.{Event}
 use Rattle.resp_fronts.specs.Events as e
 use Rattle.resp_fronts.specs.LeastCompletions.{HasLeast}
@@ -24,8 +28,6 @@ use Rattle.resp_fronts.proofs.FrameLaws.KeptNodes.{at_each_rule, node_keeps}
 use Rattle.resp_fronts.proofs.Refusals.RefusedBytes.{array_too_deep}
 use Rattle.resp_fronts.proofs.FirstLines.ShortRows.{next_row}
 use Rattle.resp_fronts.proofs.Tokens.StreamedHeads.{streamed_array_in_two, streamed_begun, streamed_off, streamed_too_deep, streamed_line}
-use Rattle.resp_value.specs.declared.kind.OpenKind.{OpenKind}
-use Rattle.resp_value.specs.declared.kind.OpenKind.TheVariants as kind
 use Rattle.resp_scan.specs.declared.frame.Shape.TheVariants.{Begun}
 use Rattle.resp_scan.specs.declared.machine.Head.TheVariants as head
 use Rattle.resp_scan.specs.Machine.Tokens as k
@@ -35,19 +37,16 @@ use Rattle.resp_scan.specs.Machine.Heads as h
 use Rattle.resp_scan.specs.Machine.Heads.{aggregate_cause, cause_in_three}
 use Rattle.resp_scan.specs.Machine.Room.{is_full, over_total}
 use Rattle.resp_scan.specs.Machine.Moves.{full_cause, full_streamed, head_first, is_digit, move_unless}
-use Rattle.resp_value.specs.Kinds.{kind_of}
 use Rattle.resp_scan.specs.Kinds.{rules_of}
 use Rattle.resp_scan.specs.Machine.Beginnings as b
 use Rattle.resp_scan.specs.Machine.Beginnings.{AggregateBegun, CountBegun, StreamBegun}
 use Rattle.resp_scan.specs.Machine.Standing.{HasCountsOf, IsInside, Leads, StandsAfter}
-use Rattle.resp_scan.proofs.TokenMoves.TokenLaws.{ALead, IsOfAggregate}
 use Rattle.resp_scan.proofs.HeadMoves.CountsLead.{count_digit, count_row, items_of-members_of}
-use Rattle.resp_scan.proofs.TokenMoves.Moves.{at_level, goes}
+use Rattle.resp_scan.proofs.TokenMoves.Moves.{at_level, goes, ALead, IsOfAggregate}
 use Rattle.resp_scan.proofs.TokenMoves.LiteralsLead.{null_first_row}
 use Rattle.resp_scan.proofs.HeadMoves.OpensLead.{Opened, opens_lie}
 use Rattle.resp_scan.proofs.TokenMoves.RefusedMoves.{broken, fits_or_total, refused, unless_over}
 use Rattle.resp_scan.proofs.TokenMoves.ByteTests.{by_byte, by_digit, wants_leads, if_digit}
-use Rattle.resp_value.proofs.Choices.{if_equal, if_within, if_below}
 
 -- an aggregate's type byte, where the depth leaves room for one
 record MayCount (r : Rules) (k : Kind) (level : ℕ) (bytes : List ℕ) (shown : List Event) : Type 0 where

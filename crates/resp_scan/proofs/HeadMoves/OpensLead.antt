@@ -8,6 +8,9 @@ use Rattle.resp_value.specs.Numbers.{IsDigits, number}
 use Rattle.resp_value.specs.Trees.{Counted, Form, Streamed, close, form_line, kind_byte, none}
 use Rattle.resp_value.specs.Rules.{Rules, WithinItems}
 use Rattle.resp_value.specs.LocalRules.{NodeKeeps}
+use Rattle.resp_value.specs.declared.kind.OpenKind.{OpenKind}
+use Rattle.resp_value.specs.declared.kind.OpenKind.TheVariants as kind
+use Rattle.resp_value.specs.Kinds.{kind_of}
 use Rattle.resp_fronts.specs.Frames.{text_around}
 use Rattle.resp_fronts.specs.MayFollow.{CanEnd, members_missing}
 use Rattle.resp_fronts.specs.Events.{Event, declared_count, events_around, without_places}
@@ -15,8 +18,6 @@ use Rattle.resp_fronts.specs.Events as e
 use Rattle.resp_fronts.proofs.Tokens.BegunFronts.{IsBegunBy}
 use Rattle.resp_fronts.proofs.Tokens.HeadTokens.{count_returned_begun, count_returned_broken}
 use Rattle.resp_fronts.proofs.FrameLaws.Levels.{around-open}
-use Rattle.resp_value.specs.declared.kind.OpenKind.{OpenKind}
-use Rattle.resp_value.specs.declared.kind.OpenKind.TheVariants as kind
 use Rattle.resp_scan.specs.declared.frame.Frame.{Frame}
 use Rattle.resp_scan.specs.declared.frame.Shape.{Shape}
 use Rattle.resp_scan.specs.declared.frame.Shape.TheVariants.{Left, Begun}
@@ -26,14 +27,12 @@ use Rattle.resp_scan.specs.Machine.Tokens.{Move, Give, Place, Refuse, AtEnd, AtH
 use Rattle.resp_scan.specs.Machine.Heads as h
 use Rattle.resp_scan.specs.Machine.Heads.{head_move}
 use Rattle.resp_scan.specs.Machine.Moves.{only_byte}
-use Rattle.resp_value.specs.Kinds.{kind_of}
 use Rattle.resp_scan.specs.Kinds.{rules_of}
 use Rattle.resp_scan.specs.Machine.Beginnings.{CountReturned}
 use Rattle.resp_scan.specs.Machine.Standing.{IsInside, Leads, StandsAfter, StandsAfterAt}
-use Rattle.resp_scan.proofs.TokenMoves.Moves.{at_level, given-append, longer}
+use Rattle.resp_scan.proofs.TokenMoves.Moves.{at_level, given-append, longer, ALead, IsOfAggregate}
 use Rattle.resp_scan.proofs.TokenMoves.ByteTests.{wants_leads}
 use Rattle.resp_scan.specs.declared.machine.Head.{Head}
-use Rattle.resp_scan.proofs.TokenMoves.TokenLaws.{ALead, IsOfAggregate}
 
 -- a form in which so many members haven't begun, or have
 abbrev Shaped : Kind → Shape → Form → Type 0
@@ -87,6 +86,7 @@ opens_as r T fs front es k (Begun n) w form (is, none_yet) c p told e t = record
   told = t;
 }
 
+-- behind a head's LF a place stands within the aggregate
 pub opens_lie : (r : Rules) (T : ℕ → List ℕ → List Event → Type 0) (fs : List Frame) (front bytes_more : List ℕ) (es new : List Event) (k : OpenKind)
     (shape : Shape) → IsInside r T fs front es → ((level : ℕ) (bytes : List ℕ) (shown : List Event) → level ≡ length fs → T level bytes shown →
     Opened r k shape level (bytes ++ bytes_more) (shown ++ new)) →

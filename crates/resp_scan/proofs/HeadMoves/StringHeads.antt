@@ -12,14 +12,14 @@ use Rattle.resp_fronts.proofs.FirstLines.CountRows.{CompletesUnder}
 use Rattle.resp_fronts.proofs.FirstLines.FirstLineRows.{are_zeros}
 use Rattle.resp_fronts.proofs.Tokens.BegunFronts.{IsBegunBy}
 use Rattle.resp_fronts.proofs.Tokens.BegunTypeBytes.{dollar_begun, bulk_error_begun, verbatim_begun}
-use Rattle.resp_fronts.proofs.Tokens.HeadTokens.{bulk_length_begun, error_length_begun, verbatim_length_begun, short_length_begun, zero_length_begun}
+use Rattle.resp_fronts.proofs.Tokens.HeadTokens.{plain_length_begun, verbatim_length_begun, short_length_begun, zero_length_begun}
 use Rattle.resp_fronts.proofs.Tokens.StringTokens.{HasRoom, IsStringBegun, short_token_broken}
+use Rattle.resp_fronts.specs.Tokens.{zeros}
 use Rattle.resp_scan.specs.declared.machine.Head.{Head}
 use Rattle.resp_scan.specs.declared.machine.Head.TheVariants as head
 use Rattle.resp_scan.specs.Machine.Tokens.{Place}
 use Rattle.resp_scan.specs.Machine.Heads.{number_cause, first_needed, head_needed, may_end, greatest_number, streamed_kind}
 use Rattle.resp_scan.specs.Machine.Beginnings.{HeadCounts, HeadReturned, LengthBegun, LengthReturned}
-use Rattle.resp_fronts.specs.Tokens.{zeros}
 
 -- a head that is one of a counted string of this kind, and what is said of it in the words of strings
 pub record IsStringHead (h : Head) (kind : StringKind) : Type 0 where
@@ -66,7 +66,8 @@ bulk = record {
   most = λ s. refl;
   cause = refl;
   first_row = λ r level bytes roomy w. subst (λ z. IsBegunBy r level z 4) (sym w.1) (dollar_begun r level);
-  row = λ r n level bytes shown roomy w. subst (IsBegunBy r level bytes) (omega (arith, w.valued)) (bulk_length_begun r w.first w.digits level bytes w.token);
+  row = λ r n level bytes shown roomy w. subst (IsBegunBy r level bytes) (omega (arith, w.valued))
+      (plain_length_begun r t.Bulk w.first w.digits level bytes tt (λ s. refl) w.token);
   counts = λ r n level bytes shown w. w;
   length = λ r n level bytes shown w. w;
   ends = λ r n level bytes shown e w. w;
@@ -82,7 +83,8 @@ bulk_error = record {
   most = λ s. refl;
   cause = refl;
   first_row = λ r level bytes roomy w. subst (λ z. IsBegunBy r level z 5) (sym w.1) (bulk_error_begun r level w.0);
-  row = λ r n level bytes shown roomy w. subst (IsBegunBy r level bytes) (omega (arith, w.valued)) (error_length_begun r w.first w.digits level bytes w.token);
+  row = λ r n level bytes shown roomy w. subst (IsBegunBy r level bytes) (omega (arith, w.valued))
+      (plain_length_begun r t.BulkError w.first w.digits level bytes tt (λ s. refl) w.token);
   counts = λ r n level bytes shown w. w;
   length = λ r n level bytes shown w. w;
   ends = λ r n level bytes shown e w. w;

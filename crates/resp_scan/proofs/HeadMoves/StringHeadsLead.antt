@@ -6,11 +6,13 @@ use Rattle.resp_value.specs.Trees as t
 use Rattle.resp_value.specs.Trees.{StringKind}
 use Rattle.resp_value.specs.Rules.{Rules, WithinDepth, WithinLength}
 use Rattle.resp_value.specs.declared.cause.Cause.TheVariants as cause
+use Rattle.resp_value.proofs.DigitLemmas.{number-digit}
 use Rattle.resp_fronts.specs.Events.{Event}
 use Rattle.resp_fronts.proofs.Refusals.BrokenHeads.{IsNoLength}
 use Rattle.resp_fronts.proofs.Tokens.BegunTypeBytes.{length_token_over}
 use Rattle.resp_fronts.proofs.Tokens.HeadTokens.{length_token_more}
 use Rattle.resp_fronts.proofs.Tokens.StringTokens.{IsStringBegun, length_token_begins, length_token_broken, string_begun_broken}
+use Rattle.resp_fronts.specs.Tokens.{zeros}
 use Rattle.resp_scan.specs.declared.machine.Head.{Head}
 use Rattle.resp_scan.specs.declared.machine.Head.TheVariants as head
 use Rattle.resp_scan.specs.Machine.Tokens.{Place, Go, Refuse, AtHead, InHead, AtHeadLf, at}
@@ -19,14 +21,11 @@ use Rattle.resp_scan.specs.Machine.Moves.{head_digit, head_first, is_digit, stre
 use Rattle.resp_scan.specs.Kinds.{IsRefusedFor, rules_of}
 use Rattle.resp_scan.specs.Machine.Beginnings.{HeadCounts, HeadReturned, LengthBegun}
 use Rattle.resp_scan.specs.Machine.Standing.{HasCountsOf, IsInside, Leads, StandsAfter}
-use Rattle.resp_scan.proofs.TokenMoves.TokenLaws.{ALead, IsOfString}
 use Rattle.resp_scan.proofs.TokenMoves.ByteTests.{by_byte, by_digit, by_test, wanted}
 use Rattle.resp_scan.proofs.HeadMoves.HeadDigits.{head_digit_leads}
-use Rattle.resp_scan.proofs.TokenMoves.Moves.{goes, retold}
+use Rattle.resp_scan.proofs.TokenMoves.Moves.{goes, retold, ALead, IsOfString}
 use Rattle.resp_scan.proofs.TokenMoves.RefusedMoves.{broken, refused}
 use Rattle.resp_scan.proofs.HeadMoves.StringHeads.{IsStringHead, bulk, bulk_error, verbatim}
-use Rattle.resp_fronts.specs.Tokens.{zeros}
-use Rattle.resp_value.proofs.DigitLemmas.{number-digit}
 
 -- a string's type byte
 abbrev pub TypeByte : Rules → StringKind → ℕ → List ℕ → List Event → Type 0

@@ -18,6 +18,7 @@ token_counted : (x : State) (m : Machine) (n : ℕ) → token_at x (record m { t
 token_counted state.Start m n = refl
 token_counted x m n = refl
 
+-- the place of a machine that counts more bytes
 pub place_counted : (m : Machine) (n : ℕ) → place_of (record m { taken = m.taken + n }) ≡ after_bytes n (place_of m)
 place_counted m n = ap (λ t. record (after_bytes n (place_of m)) { token = t }) (token_counted m.state m (m.taken + n))
 
@@ -41,6 +42,7 @@ IsCounted (Part k n t) = IsSound t
 IsCounted (Whole t) = IsSound t × (t.taken ≡ 0)
 IsCounted (Bad n c t) = IsSound t
 
+-- an outcome is as sound once its bytes are counted
 pub counted_out : (s : Place) (o : Out) → IsOut s o → IsCounted (after_step o)
 counted_out s (More n t) h = sound_counted t n h.sound
 counted_out s (Gave n e t) h = sound_counted t n h.0.sound
@@ -63,6 +65,7 @@ whole_sound n t h e = record {
   token = h.token;
 }
 
+-- the place that a step leaves is sound
 pub sound_heard : (u : ℕ) (r : Result Step Fault) (t : Place) → IsCounted (out_of_step u r t) → IsSound t
 sound_heard u (Ok a) t h = go a.event h
   where

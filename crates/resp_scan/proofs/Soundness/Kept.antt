@@ -87,6 +87,7 @@ scan_by : (i : ℕ) (s : Place) (p : List ℕ) → IsSoundBy i s → (is_outside
 scan_by i s [] h g = same i s h
 scan_by i s (b ∷ bs) h g = scan_next (next s (i + 1) b) i s bs h (is_move s.token s i b h g) (λ t k e. scan_by (i + 1) t bs k (no_outside (i + 1) 0 t.token e))
 
+-- a scan keeps the numbers of a place
 pub is_scan : (s : Place) (p : List ℕ) → IsSound s → IsOut s (scan 0 s p)
 is_scan s p h = scan_by 0 s p h (λ e. refl)
 
@@ -142,6 +143,7 @@ is_in (AtBigDigit d room) s p e h = (
 is_in (Dead c) s p e h = (same 0 s h, e)
 is_in _ s p e h = is_scan s p h
 
+-- what comes of a piece keeps the numbers of a place
 pub is_advanced : (s : Place) (p : List ℕ) → IsSound s → IsOut s (out_from s p)
 is_advanced s p h = is_in s.token s p refl h
 

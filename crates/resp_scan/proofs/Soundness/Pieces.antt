@@ -43,6 +43,7 @@ takes_by : (i : ℕ) (s : Place) (p : List ℕ) → Takes (i + length p) (scan i
 takes_by i s [] = omega arith
 takes_by i s (b ∷ bs) = takes_move (next s (i + 1) b) i s b bs (λ t. takes_by (i + 1) t bs)
 
+-- a scan takes no more than the piece
 pub takes_scan : (s : Place) (p : List ℕ) → Takes (length p) (scan 0 s p)
 takes_scan s p = let e : 0 + length p ≡ length p = omega arith in subst (λ l. Takes l (scan 0 s p)) e (takes_by 0 s p)
 
@@ -57,11 +58,13 @@ takes_in (AtBigDigit d room) s p = omega arith
 takes_in (Dead c) s p = omega arith
 takes_in _ s p = takes_scan s p
 
+-- what comes of a piece takes no more than the piece
 pub takes_advanced : (s : Place) (p : List ℕ) → Takes (length p) (out_from s p)
 takes_advanced s p = takes_in s.token s p
 
 -- What a method's answer says.
 
+-- what the machine took keeps the numbers of its place
 pub said_kept : (g : Taken) (m : Machine) (s : Place) (p : List ℕ) → IsSound s → out_of g m ≡ out_from s p →
     IsOut s (out_of g m) × Takes (length p) (out_of g m)
 said_kept g m s p h e = (subst (IsOut s) (sym e) (is_advanced s p h), subst (Takes (length p)) (sym e) (takes_advanced s p))
@@ -87,25 +90,31 @@ few_by tag.ChunkPart n m s h = few_at n (place_of m) h.sound
 few_by tag.Done n m s h = omega (arith, h.1)
 few_by w n m s h = few_at n (place_of m) h.0.sound
 
+-- the bytes taken are at most 2 ^ 40
 pub few_taken : (g : Taken) (m : Machine) (s : Place) (p : List ℕ) → IsSound s → out_of g m ≡ out_from s p → m.taken + g.used ≤ 2 ^ 40
 few_taken g m s p h e = few_by g.tag g.used m s (said_kept g m s p h e).0
 
 part_by : (w : EventTag) (n l : ℕ) (m : Machine) → w ≡ tag.Part → Takes l (out_by w n m) → 0 < n
 part_by w n l m e k = (subst (λ v. Takes l (out_by v n m)) e k).0
 
+-- a part has a byte
 pub part_some : (g : Taken) (m : Machine) (s : Place) (p : List ℕ) → IsSound s → out_of g m ≡ out_from s p → g.tag ≡ tag.Part → 0 < g.used
 part_some g m s p h e w = part_by g.tag g.used (length p) m w (said_kept g m s p h e).1
 
+-- a part of a chunk has a byte
 pub chunk_part_some : (g : Taken) (m : Machine) (s : Place) (p : List ℕ) → IsSound s → out_of g m ≡ out_from s p → g.tag ≡ tag.ChunkPart → m.part_start < g.used
 chunk_part_some g m s p h e w = (subst (λ v. Takes (length p) (out_by v g.used m)) w (said_kept g m s p h e).1).0
 
+-- a digit that is owed takes no byte
 pub digit_owed : (g : Taken) (m : Machine) (s : Place) (p : List ℕ) → IsSound s → out_of g m ≡ out_from s p → g.tag ≡ tag.Digit →
     (g.used ≡ 0) × (is_digit m.digit ≡ true)
 digit_owed g m s p h e w = (subst (λ v. IsOut s (out_by v g.used m)) w (said_kept g m s p h e).0).1
 
+-- at the end of a value no byte is taken, and none is counted
 pub done_none : (g : Taken) (m : Machine) (s : Place) (p : List ℕ) → IsSound s → out_of g m ≡ out_from s p → g.tag ≡ tag.Done → (m.taken ≡ 0) × (g.used ≡ 0)
 done_none g m s p h e w = let z = (subst (λ v. IsOut s (out_by v g.used m)) w (said_kept g m s p h e).0).1 in (omega (arith, z), omega (arith, z))
 
+-- a machine that failed has met a byte that is refused
 pub failed_is : (g : Taken) (m : Machine) (s : Place) (p : List ℕ) → IsSound s → out_of g m ≡ out_from s p → g.tag ≡ tag.Failed →
     (out_from s p ≡ Bad g.used m.cause (place_of m)) × (m.taken ≡ s.taken)
 failed_is g m s p h e w =

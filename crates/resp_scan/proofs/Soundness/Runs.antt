@@ -11,10 +11,12 @@ use Rattle.resp_scan.specs.Machine.Moves.{next, content_byte, is_digit, only_byt
 use Rattle.resp_scan.specs.Machine.Scan.{content, and_more, answer, scan, Part}
 use Rattle.resp_scan.specs.Machine.Runs.{run_to, plain_run, digit_run}
 
+-- a run of plain bytes is no longer than the piece
 pub plain_run_le : (p : List ℕ) → plain_run p ≤ length p
 plain_run_le [] = omega arith
 plain_run_le (b ∷ bs) = grind (arith, nat_tests, plain_run_le bs)
 
+-- a run of digits is no longer than the piece
 pub digit_run_le : (p : List ℕ) → digit_run p ≤ length p
 digit_run_le [] = omega arith
 digit_run_le (b ∷ bs) =
@@ -32,6 +34,7 @@ plain_run-run_to (b ∷ bs) =
       | false ↦ λ e. simp (e, add-one, plain_run-run_to bs)
     ] refl
 
+-- the run to the first such byte
 pub run_to_is : (c : ℕ) (p : List ℕ) (k : ℕ) → k ≤ length p → ((j : ℕ) → j < k → get_or p j 0 ≢ c) → (k < length p → get_or p k 0 ≡ c) → run_to c p ≡ k
 run_to_is c [] k h f g = omega arith
 run_to_is c (b ∷ bs) zero h f g = let e : b ≡ c = g (omega arith) in grind (arith, nat_tests)
@@ -75,6 +78,7 @@ byte_goes s i room m t f e =
 abbrev line_move : Place → ℕ → ℕ → Bool → Bool → Move
 line_move s i room x y = cond x (Go (at s AtLineLf)) (cond y (Refuse cause.Syntax) (content_byte (at s (InLine room)) (i + 1) room InLine))
 
+-- content of a line, as far as room and the piece allow
 pub content_line : (s : Place) (i room m : ℕ) (p : List ℕ) → min room (total_room s - (i + 2)) ≡ m →
     content i (at s (InLine room)) p ≡ (i + plain_run (take m p), at s (InLine (room - plain_run (take m p))))
 content_line s i room zero [] e = simp (add-zero, sub_zero)
@@ -101,6 +105,7 @@ big_move s i room b x = cond x (content_byte (at s (InBig room)) (i + 1) room In
 wants_stops : (x b : ℕ) (t : Place) (stop : ℕ × Place) (more : Place → ℕ × Place) → and_more (only_byte x b (Go t)) stop more ≡ stop
 wants_stops x b t stop more = elim (eqb b x) as (λ v. and_more (cond v (Go t) (Refuse cause.Syntax)) stop more ≡ stop) [ true ↦ refl | false ↦ refl ]
 
+-- digits of a big number, as far as room and the piece allow
 pub content_big : (s : Place) (i room m : ℕ) (p : List ℕ) → min room (total_room s - (i + 2)) ≡ m →
     content i (at s (InBig room)) p ≡ (i + digit_run (take m p), at s (InBig (room - digit_run (take m p))))
 content_big s i room zero [] e = simp (add-zero, sub_zero)
@@ -131,6 +136,7 @@ scan_move (Byte u) i n s t bs h e = ap (λ o. Part i o.0 o.1) e
 scan_move (Give x u) i n s t bs h e = absurd (let z : i ≡ n = ap (λ o. o.0) e in omega arith)
 scan_move (Refuse c) i n s t bs h e = absurd (let z : i ≡ n = ap (λ o. o.0) e in omega arith)
 
+-- a scan of content gives a part
 pub scan_part : (i n : ℕ) (s t : Place) (p : List ℕ) → i < n → content i s p ≡ (n, t) → scan i s p ≡ Part i n t
 scan_part i n s t [] h e = absurd (let z : i ≡ n = ap (λ o. o.0) e in omega arith)
 scan_part i n s t (b ∷ bs) h e = scan_move (next s (i + 1) b) i n s t bs h e
@@ -138,6 +144,7 @@ scan_part i n s t (b ∷ bs) h e = scan_move (next s (i + 1) b) i n s t bs h e
 take_min : (r : ℕ) (p : List ℕ) → take (min r (length p)) p ≡ take r p
 take_min r p = grind (arith, common_steps)
 
+-- a scan within a line gives a part
 pub line_part : (s : Place) (room k : ℕ) (p : List ℕ) → k ≡ plain_run (take (min (min room (total_room s - 2)) (length p)) p) → 0 < k →
     scan 0 (at s (InLine room)) p ≡ Part 0 k (at s (InLine (room - k)))
 line_part s room k p e h =
@@ -146,6 +153,7 @@ line_part s room k p e h =
     scan_part 0 k (at s (InLine room)) (at s (InLine (room - k))) p h (content_line s 0 room m p refl ∙
     ap (λ j. (j, at s (InLine (room - plain_run (take m p))))) (zero-add (plain_run (take m p))) ∙ ap (λ j. (j, at s (InLine (room - j)))) (sym q))
 
+-- a scan within a big number's digits gives a part
 pub big_part : (s : Place) (room k : ℕ) (p : List ℕ) → k ≡ digit_run (take (min (min room (total_room s - 2)) (length p)) p) → 0 < k →
     scan 0 (at s (InBig room)) p ≡ Part 0 k (at s (InBig (room - k)))
 big_part s room k p e h =
@@ -170,6 +178,7 @@ content_some s i (suc k) m (b ∷ bs) h f =
     content_some s (i + 1) k m bs (omega arith) (λ l. let e : suc k ≡ suc (length bs) = f l in omega arith) ∙
     ap (λ n. (n, content_at m s)) (let e : (i + 1) + k ≡ i + suc k = omega arith in e)
 
+-- a scan within a string's content gives a part
 pub content_part : (s : Place) (i n k : ℕ) (p : List ℕ) → 0 < n → 0 < length p → k ≡ min (length p) n →
     scan i (at s (InContent n)) p ≡ Part i (i + k) (content_at (n - k) s)
 content_part s i n k p h l e =
@@ -193,6 +202,7 @@ chunk_some s room i (suc k) m (b ∷ bs) h f =
     chunk_some s room (i + 1) k m bs (omega arith) (λ l. let e : suc k ≡ suc (length bs) = f l in omega arith) ∙
     ap (λ n. (n, chunk_at room m s)) (let e : (i + 1) + k ≡ i + suc k = omega arith in e)
 
+-- a scan within a chunk's content gives a part
 pub chunk_part : (s : Place) (room i n k : ℕ) (p : List ℕ) → 0 < n → 0 < length p → k ≡ min (length p) n →
     scan i (at s (InChunk room n)) p ≡ Part i (i + k) (chunk_at room (n - k) s)
 chunk_part s room i n k p h l e =

@@ -69,14 +69,15 @@ is_array_head s i b h =
     (λ c. within_total s AtArrayHead AtNullOne i 3 h (total_room s (i + 1) 3 c (omega arith)) (omega arith) tt refl)) (λ e.
     cond_if (IsMove (i + 1) s) (is_full s) _ _ (λ e. tt) (λ e. is_head_first s AtArrayHead i head.Array b h (λ o. not_full s e)))
 
--- so many bytes of content to come
-pub is_content_at : (s : Place) (t : Token) (i n : ℕ) → IsSoundBy i (at s t) → n + 3 ≤ token_needed t s.bounds.depth s.frames → IsInside (i + 1) s (content_at n s)
+-- a place with so many bytes of content to come keeps its numbers
+pub is_content_at : (s : Place) (t : Token) (i n : ℕ) → IsSoundBy i (at s t) → n + 3 ≤ token_needed t s.bounds.depth s.frames →
+    IsInside (i + 1) s (content_at n s)
 is_content_at s t i n h q =
     cond_if (λ u. IsInside (i + 1) s (at s u)) (eqb n 0) AtContentCr (InContent n)
     (λ e. less s t AtContentCr i h (omega (arith, q)) tt refl)
     (λ e. less s t (InContent n) i h (omega (arith, q)) (let w : 0 < n = grind (arith, nat_tests) in w) refl)
 
--- so many bytes of a chunk's content to come
+-- a place with so many bytes of a chunk's content to come keeps its numbers
 pub is_chunk_at : (s : Place) (t : Token) (i room n : ℕ) → IsSoundBy i (at s t) → n + 7 ≤ token_needed t s.bounds.depth s.frames →
     IsInside (i + 1) s (chunk_at room n s)
 is_chunk_at s t i room n h q =

@@ -1,9 +1,12 @@
 -- The first byte of a value keeps the numbers of a place.
 use Rattle.std.proofs.Common.{◌≡◌, ℕ, ◌<◌, ◌≤◌, false, cond, nat_le, List, [], ◌∷◌, refl, sym, subst, arith}
 use Rattle.std.proofs.lemmas.Bool.{false≢true}
+use Rattle.std.specs.List.{AllByRecursion}
+use Rattle.std.specs.Str.{byte}
 use Rattle.resp_value.specs.declared.cause.Cause.TheVariants as cause
 use Rattle.resp_value.specs.declared.version.Version.{Version}
 use Rattle.resp_value.specs.declared.version.Version.TheVariants as version
+use Rattle.resp_fronts.proofs.Refusals.FirstByteCauses.{at_answer, and_rows}
 use Rattle.resp_scan.specs.declared.frame.Frame.{Frame}
 use Rattle.resp_scan.specs.declared.machine.Head.{Head}
 use Rattle.resp_scan.specs.declared.machine.Head.TheVariants as head
@@ -14,9 +17,6 @@ use Rattle.resp_scan.specs.Machine.Moves.{begin_move, line_move, aggregate_move,
 use Rattle.resp_scan.specs.Machine.Sound.{token_needed, IsTokenSound, IsSoundBy}
 use Rattle.resp_scan.proofs.Soundness.SoundMoves.{cond_if, is_outside, IsPlain, IsMove, unless_is, not_full}
 use Rattle.resp_scan.proofs.Soundness.SoundFrames.{begun_length, begun_taken, begun_rules, sound_begun, sound_closing}
-use Rattle.std.specs.List.{AllByRecursion}
-use Rattle.std.specs.Str.{byte}
-use Rattle.resp_fronts.proofs.Refusals.FirstByteCauses.{at_answer}
 use Rattle.resp_scan.specs.declared.event.TextKind.TheVariants as text
 
 is_begun : (s : Place) (n : ℕ) (u : Token) → IsSoundBy 0 (at s AtStart) → 0 < n → token_needed u s.bounds.depth (after_begin s).frames ≤ n →
@@ -90,52 +90,23 @@ array_needed s = subst (λ n. cond (nat_le s.bounds.depth n) 4 3 ≤ cond (is_fu
 
 -- each of these bytes keeps the numbers of a place
 are_first : (s : Place) → IsSoundBy 0 (at s AtStart) → AllByRecursion (λ row. IsMove 1 s row.1) (start_rows s)
-are_first s h = (
-  is_line s _ tt h,
-  (
-    is_line s _ tt h,
-    (
-      is_begun s 3 AtIntSign h (omega arith) (omega arith) tt refl,
-      (
-        is_begun s 4 AtBulkHead h (omega arith) (omega arith) tt refl,
-        (
-          is_begun s (cond (is_full s) 4 3) AtArrayHead h (array_some s) (array_needed s) tt refl,
-          (
-            is_closing s h,
-            (
-              tt,
-              (
-                is_three 1 s s.version _ (is_begun s 2 AtNullCr h (omega arith) (omega arith) tt refl),
-                (
-                  is_three 1 s s.version _ (is_begun s 3 AtBool h (omega arith) (omega arith) tt refl),
-                  (
-                    is_three 1 s s.version _ (is_begun s 3 AtBigSign h (omega arith) (omega arith) tt refl),
-                    (
-                      is_three 1 s s.version _ (is_begun s 5 (AtHead head.BulkError) h (omega arith) (omega arith) (λ o. absurd (false≢true o)) refl),
-                      (
-                        is_three 1 s s.version _ (is_begun s 9 (AtHead head.Verbatim) h (omega arith) (omega arith) (λ o. absurd (false≢true o)) refl),
-                        (
-                          is_three 1 s s.version _ (is_aggregate s head.Set h (omega arith)),
-                          (
-                            is_three 1 s s.version _ (is_aggregate s head.Map h (omega arith)),
-                            (
-                              is_three 1 s s.version _ (is_aggregate s head.Attr h (omega arith)),
-                              (is_three 1 s s.version _ (is_push s s.frames h), tt),
-                            ),
-                          ),
-                        ),
-                      ),
-                    ),
-                  ),
-                ),
-              ),
-            ),
-          ),
-        ),
-      ),
-    ),
-  ),
-)
+are_first s h =
+    and_rows (is_line s _ tt h)
+    (and_rows (is_line s _ tt h)
+    (and_rows (is_begun s 3 AtIntSign h (omega arith) (omega arith) tt refl)
+    (and_rows (is_begun s 4 AtBulkHead h (omega arith) (omega arith) tt refl)
+    (and_rows (is_begun s (cond (is_full s) 4 3) AtArrayHead h (array_some s) (array_needed s) tt refl)
+    (and_rows (is_closing s h)
+    (and_rows tt
+    (and_rows (is_three 1 s s.version _ (is_begun s 2 AtNullCr h (omega arith) (omega arith) tt refl))
+    (and_rows (is_three 1 s s.version _ (is_begun s 3 AtBool h (omega arith) (omega arith) tt refl))
+    (and_rows (is_three 1 s s.version _ (is_begun s 3 AtBigSign h (omega arith) (omega arith) tt refl))
+    (and_rows (is_three 1 s s.version _ (is_begun s 5 (AtHead head.BulkError) h (omega arith) (omega arith) (λ o. absurd (false≢true o)) refl))
+    (and_rows (is_three 1 s s.version _ (is_begun s 9 (AtHead head.Verbatim) h (omega arith) (omega arith) (λ o. absurd (false≢true o)) refl))
+    (and_rows (is_three 1 s s.version _ (is_aggregate s head.Set h (omega arith)))
+    (and_rows (is_three 1 s s.version _ (is_aggregate s head.Map h (omega arith)))
+    (and_rows (is_three 1 s s.version _ (is_aggregate s head.Attr h (omega arith)))
+    (and_rows (is_three 1 s s.version _ (is_push s s.frames h)) tt)))))))))))))))
 
 -- every byte where a value may begin keeps the numbers of a place
 pub is_first : (s : Place) (b : ℕ) → IsSoundBy 0 (at s AtStart) → IsMove 1 s (start_next s b)

@@ -8,6 +8,10 @@ use Rattle.resp_value.specs.Trees.{Form, HasMembers, Streamed, count}
 use Rattle.resp_value.specs.Rules.{Rules, WithinItems}
 use Rattle.resp_value.specs.LocalRules.{LeafKeeps, NodeKeeps}
 use Rattle.resp_value.specs.declared.cause.Cause.TheVariants as cause
+use Rattle.resp_value.specs.declared.kind.OpenKind.{OpenKind}
+use Rattle.resp_value.specs.declared.kind.OpenKind.TheVariants as kind
+use Rattle.resp_value.specs.Kinds.{kind_of}
+use Rattle.resp_value.proofs.Choices.{if_equal, positive}
 use Rattle.resp_fronts.specs.Frames as opened
 use Rattle.resp_fronts.specs.Frames.{text_around}
 use Rattle.resp_fronts.specs.FirstByteRefusals.{first_byte_refusal}
@@ -18,23 +22,20 @@ use Rattle.resp_fronts.proofs.Tokens.BegunFronts.{IsBegunBy}
 use Rattle.resp_fronts.proofs.Between.BetweenValues.{HasRoom, IsBetween, begun_can_end, room}
 use Rattle.resp_fronts.proofs.FrameLaws.Composition.{around-append}
 use Rattle.resp_fronts.proofs.FrameLaws.LevelsAlone.{same_length}
-use Rattle.resp_value.specs.declared.kind.OpenKind.{OpenKind}
-use Rattle.resp_value.specs.declared.kind.OpenKind.TheVariants as kind
+use Rattle.resp_fronts.specs.OpenLevels.{AreLevelsOf, AreReady, HasShape, Level, to_come, so_far}
 use Rattle.resp_scan.specs.declared.frame.Frame.{Frame}
 use Rattle.resp_scan.specs.declared.frame.Shape.{Shape}
 use Rattle.resp_scan.specs.declared.frame.Shape.TheVariants.{Left, Begun}
 use Rattle.resp_scan.specs.Machine.Tokens.{Byte, Give, Go, Move, Place, Refuse}
 use Rattle.resp_scan.specs.Machine.Room.{begin_cause, after_begin, after_begin_in, has_all, has_all_of, over_total, need_after_begin, shape_after_begin}
 use Rattle.resp_scan.specs.Machine.Moves.{move_unless}
-use Rattle.resp_value.specs.Kinds.{kind_of}
 use Rattle.resp_scan.specs.Kinds.{IsRefusedFor, rules_of}
 use Rattle.resp_scan.specs.Machine.Standing.{AwaitsMember, HasCountsOf, HasBegun, IsInside, Leads, busy_shape, busy_levels, waiting_shape, waiting_levels}
 use Rattle.resp_scan.specs.Machine.Sound.{need_of_frame, need_of_frames}
 use Rattle.resp_scan.proofs.TokenMoves.Moves.{length-busy}
 use Rattle.resp_scan.proofs.TokenMoves.RefusedMoves.{fits_or_past, unless_over}
-use Rattle.resp_fronts.specs.OpenLevels.{AreLevelsOf, AreReady, HasShape, Level, to_come, so_far}
-use Rattle.resp_value.proofs.Choices.{if_equal, positive}
 
+-- as many levels wait as frames are open
 pub length-waiting : (fs : List Frame) → length (waiting_levels fs) ≡ length fs
 length-waiting [] = refl
 length-waiting (f ∷ fs) = ap suc (length-busy fs)
@@ -226,6 +227,7 @@ from_move s front es byte v h = case s.frames v h
     case (f ∷ fs) (Give e t) h = h
     case (f ∷ fs) (Refuse c) h = h
 
+-- a first byte that begins a value leads on where its move does
 pub begins_leads : (s : Place) (T : ℕ → List ℕ → List Event → Type 0) (front : List ℕ) (es new : List Event) (byte needed : ℕ) (v : Move) →
     HasCountsOf s 0 front → (byte ≡ 46 → ⊥) → first_byte_refusal (rules_of s) (length s.frames) byte ≡ None → AwaitsMember (rules_of s) s.frames front es →
     ((level : ℕ) → level ≡ length s.frames → T level (byte ∷ []) new) →

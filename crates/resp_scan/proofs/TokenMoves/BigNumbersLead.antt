@@ -7,13 +7,15 @@ use Rattle.resp_value.specs.Rules.{Rules, WithinDepth, WithinLength}
 use Rattle.resp_value.specs.Trees.{leaf, numeral, Big, leaf_text}
 use Rattle.resp_value.specs.declared.cause.Cause.TheVariants as cause
 use Rattle.resp_value.proofs.KeptDigits.{number-stripped}
+use Rattle.resp_value.proofs.DigitLemmas.{number-digit}
+use Rattle.resp_value.proofs.Choices.{if_equal, positive}
 use Rattle.resp_fronts.specs.Events.{Event, big_events, without_places, last_of, leaf_events}
 use Rattle.resp_fronts.specs.Events as e
 use Rattle.resp_fronts.proofs.FirstLines.CountRows.{IsRefusedHere}
 use Rattle.resp_fronts.proofs.Tokens.BegunFronts.{IsBegunBy}
 use Rattle.resp_fronts.proofs.Tokens.BegunTypeBytes.{big_token_over}
 use Rattle.resp_fronts.proofs.Tokens.LineTokens.{returned_begun, returned_broken, returned_whole}
-use Rattle.resp_fronts.proofs.Tokens.NumberTokens.{number_begun, number_token_begins, number_token_line, number_token_more}
+use Rattle.resp_fronts.proofs.Tokens.NumberTokens.{number_token_begins, number_token_line, number_token_more}
 use Rattle.resp_scan.specs.declared.event.TextKind.TheVariants as text
 use Rattle.resp_scan.specs.Machine.Tokens as k
 use Rattle.resp_scan.specs.Machine.Tokens.{Go, Byte, Give, Refuse, Place, AtBigDigit, AtBigFirst, AtBigSign, AtBigZeroLf, AtLineLf, AtTextEnd, InBig, InBigZeros, at, at_boundary}
@@ -23,14 +25,11 @@ use Rattle.resp_scan.specs.Kinds.{content_events, rules_of}
 use Rattle.resp_scan.specs.Machine.Beginnings as b
 use Rattle.resp_scan.specs.Machine.Beginnings.{BigBegun, BigDigitOwed, BigShown, IsSigned, SignBegun, TextReturned, TextWhole, ZeroReturned}
 use Rattle.resp_scan.specs.Machine.Standing.{HasCountsOf, IsInside, Leads, StandsAfter}
-use Rattle.resp_scan.proofs.TokenMoves.TokenLaws.{ALead}
 use Rattle.resp_scan.proofs.TokenMoves.LeafEvents.{content_events-append, given-big, leaf_told}
-use Rattle.resp_scan.proofs.TokenMoves.Moves.{Ends, goes, tells, value_ends}
-use Rattle.resp_scan.proofs.TokenMoves.NumbersLead.{AnySign, begun_dead, digits_dead, digits_row, signed_any, signs_lead, unsigned_any}
-use Rattle.resp_scan.proofs.TokenMoves.RefusedMoves.{broken, fits_or_total, refused}
-use Rattle.resp_scan.proofs.TokenMoves.ByteTests.{by_byte, by_digit, wants_leads}
-use Rattle.resp_value.proofs.DigitLemmas.{number-digit}
-use Rattle.resp_value.proofs.Choices.{if_equal, positive}
+use Rattle.resp_scan.proofs.TokenMoves.Moves.{Ends, goes, tells, value_ends, ALead}
+use Rattle.resp_scan.proofs.TokenMoves.NumbersLead.{AnySign, digits_dead, digits_row, signed_any, signs_lead, unsigned_any, first_digit_leads}
+use Rattle.resp_scan.proofs.TokenMoves.RefusedMoves.{fits_or_total, refused}
+use Rattle.resp_scan.proofs.TokenMoves.ByteTests.{by_digit, wants_leads}
 
 -- Digits without leading zeros.
 
@@ -67,74 +66,44 @@ row_of r negative kept_digits level bytes w = digits_row r Big w.sign (w.first �
 
 -- The first digits.
 
--- zeros so far, and a zero more
-zeros_more : (r : Rules) (negative : Bool) (level byte : ℕ) (bytes : List ℕ) → 64 ≤ r.limits.length → byte ≡ 48 → BigBegun r negative [] level bytes →
-    BigBegun r negative [] level (bytes ++ byte ∷ [])
-zeros_more r negative level byte bytes roomy is w =
-    let none : significant_digits ((w.first ∷ w.digits) ++ byte ∷ []) ≡ [] = stripped-first (w.first ∷ w.digits) byte w.left ∙
-    ap (λ z. cond (eqb z 48) [] (z ∷ [])) is in
-    record {
-      sign = w.sign;
-      first = w.first;
-      digits = w.digits ++ byte ∷ [];
-      is_signed = w.is_signed;
-      token = number_token_more r Big w.sign (w.first ∷ w.digits) level byte bytes (omega arith, omega arith)
-          (w.token.may_be.0, omega (arith, roomy, ap (λ z. length (zero_if_none z)) none)) w.token;
-      left = none;
-      zero = λ z. refl;
-    }
+-- what is left of a digit without leading zeros
+abbrev kept_of : ℕ → List ℕ
+kept_of digit = cond (eqb digit 48) [] (digit ∷ [])
 
--- zeros so far, and a digit that isn't zero
-digit_more : (r : Rules) (negative : Bool) (level byte : ℕ) (bytes : List ℕ) → 64 ≤ r.limits.length → IsDigit byte → (byte ≡ 48 → ⊥) →
-    BigBegun r negative [] level bytes → BigBegun r negative (byte ∷ []) level (bytes ++ byte ∷ [])
-digit_more r negative level byte bytes roomy d other w =
-    let z : eqb byte 48 ≡ false = grind (arith, nat_tests) in
-    let one : significant_digits ((w.first ∷ w.digits) ++ byte ∷ []) ≡ byte ∷ [] = stripped-first (w.first ∷ w.digits) byte w.left ∙
-    ap (λ x. cond x [] (byte ∷ [])) z in
+length-kept_of : (digit : ℕ) → length (zero_if_none (kept_of digit)) ≤ 1
+length-kept_of digit = if_equal digit 48 (λ x. length (zero_if_none (cond x [] (digit ∷ []))) ≤ 1) (λ is. omega arith) (λ other. omega arith)
+
+kept_of-zero : (digit : ℕ) → IsDigit digit → digit - 48 ≡ 0 → kept_of digit ≡ []
+kept_of-zero digit d zero = if_equal digit 48 (λ x. cond x [] (digit ∷ []) ≡ []) (λ is. refl) (λ other. absurd (other (omega (arith, d.0, zero))))
+
+-- zeros so far, and a digit more
+digit_more : (r : Rules) (negative : Bool) (level byte : ℕ) (bytes : List ℕ) → 64 ≤ r.limits.length → IsDigit byte → BigBegun r negative [] level bytes →
+    BigBegun r negative (kept_of byte) level (bytes ++ byte ∷ [])
+digit_more r negative level byte bytes roomy d w =
+    let left : significant_digits ((w.first ∷ w.digits) ++ byte ∷ []) ≡ kept_of byte = stripped-first (w.first ∷ w.digits) byte w.left in
     record {
       sign = w.sign;
       first = w.first;
       digits = w.digits ++ byte ∷ [];
       is_signed = w.is_signed;
       token = number_token_more r Big w.sign (w.first ∷ w.digits) level byte bytes d
-          (w.token.may_be.0, omega (arith, roomy, ap (λ z. length (zero_if_none z)) one)) w.token;
-      left = one;
-      zero = λ n. absurd (above byte d other (omega (arith, number-digit (w.first ∷ w.digits) byte, n)));
+          (w.token.may_be.0, omega (arith, roomy, length-kept_of byte, ap (λ z. length (zero_if_none z)) left)) w.token;
+      left = left;
+      zero = λ n. kept_of-zero byte d (omega (arith, number-digit (w.first ∷ w.digits) byte, n));
     }
-  where
-    above : (byte : ℕ) → IsDigit byte → (byte ≡ 48 → ⊥) → byte - 48 ≡ 0 → ⊥
-    above byte d other n = other (omega (arith, d.0))
 
 -- a first digit, behind the type byte or a sign
-zero_begins : (r : Rules) (negative : Bool) (byte level : ℕ) (bytes : List ℕ) (shown : List Event) → byte ≡ 48 → AnySign r Big negative byte level bytes shown →
-    BigBegun r negative [] level (bytes ++ byte ∷ [])
-zero_begins r negative byte level bytes shown is w =
-    let none : significant_digits (byte ∷ []) ≡ [] = ap (λ z. significant_digits (z ∷ [])) is in
-    record {
-      sign = w.sign;
-      first = byte;
-      digits = [];
-      is_signed = w.is_signed;
-      token = number_token_begins r Big w.sign level byte bytes (omega arith, omega arith)
-          (w.token.0.0, omega (arith, w.token.0.1, ap (λ z. length (zero_if_none z)) none)) w.token;
-      left = none;
-      zero = λ z. refl;
-    }
-
-digit_begins : (r : Rules) (negative : Bool) (byte level : ℕ) (bytes : List ℕ) (shown : List Event) → IsDigit byte → (byte ≡ 48 → ⊥) →
-    AnySign r Big negative byte level bytes shown → BigBegun r negative (byte ∷ []) level (bytes ++ byte ∷ [])
-digit_begins r negative byte level bytes shown d other w =
-    let z : eqb byte 48 ≡ false = grind (arith, nat_tests) in
-    let one : significant_digits (byte ∷ []) ≡ byte ∷ [] = ap (λ x. cond x [] (byte ∷ [])) z in
-    record {
-      sign = w.sign;
-      first = byte;
-      digits = [];
-      is_signed = w.is_signed;
-      token = number_token_begins r Big w.sign level byte bytes d (w.token.0.0, omega (arith, w.token.0.1, ap (λ z. length (zero_if_none z)) one)) w.token;
-      left = one;
-      zero = λ n. absurd (other (omega (arith, d.0, n)));
-    }
+digit_begins : (r : Rules) (negative : Bool) (byte level : ℕ) (bytes : List ℕ) (shown : List Event) → IsDigit byte →
+    AnySign r Big negative byte level bytes shown → BigBegun r negative (kept_of byte) level (bytes ++ byte ∷ [])
+digit_begins r negative byte level bytes shown d w = record {
+  sign = w.sign;
+  first = byte;
+  digits = [];
+  is_signed = w.is_signed;
+  token = number_token_begins r Big w.sign level byte bytes d (w.token.0.0, omega (arith, w.token.0.1, length-kept_of byte)) w.token;
+  left = refl;
+  zero = λ n. kept_of-zero byte d (omega (arith, n));
+}
 
 -- the text begins by the digit, which is owed
 owes : (r : Rules) (negative : Bool) (level byte : ℕ) (bytes : List ℕ) (shown : List Event) → 64 ≤ r.limits.length → shown ≡ [] →
@@ -149,29 +118,25 @@ owes r negative level byte bytes shown roomy none w = record {
 
 -- a digit where none or zeros alone stand
 big_digit_leads : (s : Place) (T : ℕ → List ℕ → List Event → Type 0) (negative : Bool) (byte : ℕ) (front : List ℕ) (es : List Event) → 64 ≤ s.bounds.length →
-    IsDigit byte → IsInside (rules_of s) T s.frames front es → ((level : ℕ) (bytes : List ℕ) (shown : List Event) → T level bytes shown → shown ≡ []) →
-    (byte ≡ 48 → (level : ℕ) (bytes : List ℕ) (shown : List Event) → T level bytes shown → BigBegun (rules_of s) negative [] level (bytes ++ byte ∷ [])) →
-    ((byte ≡ 48 → ⊥) → (level : ℕ) (bytes : List ℕ) (shown : List Event) → T level bytes shown →
-    BigBegun (rules_of s) negative (byte ∷ []) level (bytes ++ byte ∷ [])) → Leads s front es byte (big_digit s negative byte)
-big_digit_leads s T negative byte front es roomy d w none zero digit =
+    IsInside (rules_of s) T s.frames front es → ((level : ℕ) (bytes : List ℕ) (shown : List Event) → T level bytes shown → shown ≡ []) →
+    ((level : ℕ) (bytes : List ℕ) (shown : List Event) → T level bytes shown → BigBegun (rules_of s) negative (kept_of byte) level (bytes ++ byte ∷ [])) →
+    Leads s front es byte (big_digit s negative byte)
+big_digit_leads s T negative byte front es roomy w none =
     let r = rules_of s in
-    by_byte s front es 48 byte _ _
-    (λ is. goes r T (b.TokenHas r (InBigZeros negative)) s.frames front (byte ∷ []) es w
-    (λ level bytes shown i t. (zero is level bytes shown t, none level bytes shown t)))
-    (λ other. tells r T (BigDigitOwed r byte (s.bounds.length - 1)) s.frames front (byte ∷ []) es (e.Text (e.Big negative) ∷ []) w
-    (λ level bytes shown i t. owes r negative level byte (bytes ++ byte ∷ []) shown roomy (none level bytes shown t) (digit other level bytes shown t)))
+    if_equal byte 48 (λ x. ((level : ℕ) (bytes : List ℕ) (shown : List Event) → T level bytes shown →
+    BigBegun r negative (cond x [] (byte ∷ [])) level (bytes ++ byte ∷ [])) → Leads s front es byte (cond x (Go (at s (InBigZeros negative)))
+    (Give (k.Text (text.Big negative)) (at s (AtBigDigit byte (s.bounds.length - 1))))))
+    (λ is begun. goes r T (b.TokenHas r (InBigZeros negative)) s.frames front (byte ∷ []) es w
+    (λ level bytes shown i t. (begun level bytes shown t, none level bytes shown t)))
+    (λ other begun. tells r T (BigDigitOwed r byte (s.bounds.length - 1)) s.frames front (byte ∷ []) es (e.Text (e.Big negative) ∷ []) w
+    (λ level bytes shown i t. owes r negative level byte (bytes ++ byte ∷ []) shown roomy (none level bytes shown t) (begun level bytes shown t)))
 
 first_leads : (s : Place) (T : ℕ → List ℕ → List Event → Type 0) (negative : Bool) (byte : ℕ) (front : List ℕ) (es : List Event) → 64 ≤ s.bounds.length →
     IsInside (rules_of s) T s.frames front es → ((level : ℕ) (bytes : List ℕ) (shown : List Event) → T level bytes shown →
     AnySign (rules_of s) Big negative byte level bytes shown) → Leads s front es byte (big_first s negative byte)
-first_leads s T negative byte front es roomy w any =
-    let r = rules_of s in
-    by_digit s front es byte _ _
-    (λ d. big_digit_leads s T negative byte front es roomy d w (λ level bytes shown t. (any level bytes shown t).told)
-    (λ is level bytes shown t. zero_begins r negative byte level bytes shown is (any level bytes shown t))
-    (λ other level bytes shown t. digit_begins r negative byte level bytes shown d other (any level bytes shown t)))
-    (λ d. broken r T s.frames front es 3 byte w (λ level bytes shown i t. let a = any level bytes shown t in number_begun r Big a.sign level bytes a.token)
-    (λ level bytes rest shown t c. let a = any level bytes shown t in begun_dead r Big a.sign level byte bytes rest a.no_sign d a.token c))
+first_leads s T negative byte front es roomy w any = first_digit_leads s T Big negative byte _ front es w any
+    (λ d. big_digit_leads s T negative byte front es roomy w (λ level bytes shown t. (any level bytes shown t).told)
+    (λ level bytes shown t. digit_begins (rules_of s) negative byte level bytes shown d (any level bytes shown t)))
 
 -- every byte behind `(`
 pub big_sign_leads : (s : Place) → ALead (at s AtBigSign)
@@ -204,21 +169,15 @@ zeros_digit_leads : (s : Place) (negative : Bool) (used byte : ℕ) (front : Lis
     (big_digit (at s (InBigZeros negative)) negative byte) (Refuse cause.Total))
 zeros_digit_leads s negative used byte front es d c w =
     let r = rules_of s in
+    let q = at s (InBigZeros negative) in
     let T = b.TokenHas r (InBigZeros negative) in
     let roomy : 64 ≤ s.bounds.length = c.sound.bounds.length_in_range.0 in
-    let zero : byte ≡ 48 → (level : ℕ) (bytes : List ℕ) (shown : List Event) → T level bytes shown → BigBegun r negative [] level (bytes ++ byte ∷ []) =
-    λ is level bytes shown t. zeros_more r negative level byte bytes roomy is t.0 in
-    let digit : (byte ≡ 48 → ⊥) → (level : ℕ) (bytes : List ℕ) (shown : List Event) → T level bytes shown →
-    BigBegun r negative (byte ∷ []) level (bytes ++ byte ∷ []) = λ other level bytes shown t. digit_more r negative level byte bytes roomy d other t.0 in
-    let leads = big_digit_leads (at s (InBigZeros negative)) T negative byte front es roomy d w (λ level bytes shown t. t.1) zero digit in
-    if_equal byte 48 (λ x. Leads (at s (InBigZeros negative)) front es byte
-    (cond (has_total_room (at s (InBigZeros negative)) (used + 1) 2) (big_digit (at s (InBigZeros negative)) negative byte) (Refuse cause.Total)))
-    (λ is. fits_or_total (at s (InBigZeros negative)) (λ level bytes shown. BigBegun r negative [] level bytes) front es es used byte 2
-    (big_digit (at s (InBigZeros negative)) negative byte) c (goes r T _ s.frames front (byte ∷ []) es w
-    (λ level bytes shown i t. zero is level bytes shown t)) (λ level bytes shown i t. row_of r negative [] level bytes t) leads)
-    (λ other. fits_or_total (at s (InBigZeros negative)) (λ level bytes shown. BigBegun r negative (byte ∷ []) level bytes) front es es used byte 2
-    (big_digit (at s (InBigZeros negative)) negative byte) c (goes r T _ s.frames front (byte ∷ []) es w
-    (λ level bytes shown i t. digit other level bytes shown t)) (λ level bytes shown i t. row_of r negative (byte ∷ []) level bytes t) leads)
+    let more : (level : ℕ) (bytes : List ℕ) (shown : List Event) → T level bytes shown → BigBegun r negative (kept_of byte) level (bytes ++ byte ∷ []) =
+    λ level bytes shown t. digit_more r negative level byte bytes roomy d t.0 in
+    fits_or_total q (λ level bytes shown. BigBegun r negative (kept_of byte) level bytes) front es es used byte 2 (big_digit q negative byte) c
+    (goes r T _ s.frames front (byte ∷ []) es w (λ level bytes shown i t. more level bytes shown t))
+    (λ level bytes shown i t. row_of r negative (kept_of byte) level bytes t)
+    (big_digit_leads q T negative byte front es roomy w (λ level bytes shown t. t.1) more)
 
 -- every byte behind a big number's zeros
 pub big_zeros_lead : (s : Place) (negative : Bool) → ALead (at s (InBigZeros negative))
@@ -278,7 +237,8 @@ digit_shown r digit room level bytes shown w = record {
 }
 
 -- the digit that is owed is given without a byte
-pub big_digit_is_owed : (s : Place) (digit room : ℕ) (front : List ℕ) (es : List Event) → StandsAfter (at s (AtBigDigit digit room)) front es → StandsAfter (at s (InBig room)) front (es ++ e.Byte digit ∷ [])
+pub big_digit_is_owed : (s : Place) (digit room : ℕ) (front : List ℕ) (es : List Event) → StandsAfter (at s (AtBigDigit digit room)) front es →
+    StandsAfter (at s (InBig room)) front (es ++ e.Byte digit ∷ [])
 big_digit_is_owed s digit room front es w =
     let r = rules_of s in
     subst (λ z. StandsAfter (at s (InBig room)) z (es ++ e.Byte digit ∷ [])) (append-nil front)
@@ -296,7 +256,8 @@ text_ends r level bytes shown w = record {
 }
 
 -- the end of a text that is owed is given without a byte
-pub text_end_is_owed : (s : Place) (front : List ℕ) (es : List Event) → StandsAfter (at s AtTextEnd) front es → StandsAfter (at_boundary s) front (es ++ e.TextEnd ∷ [])
+pub text_end_is_owed : (s : Place) (front : List ℕ) (es : List Event) → StandsAfter (at s AtTextEnd) front es →
+    StandsAfter (at_boundary s) front (es ++ e.TextEnd ∷ [])
 text_end_is_owed s front es w =
     let r = rules_of s in
     subst (λ z. StandsAfter (at_boundary s) z (es ++ e.TextEnd ∷ [])) (append-nil front)
@@ -328,7 +289,7 @@ digits_more r room byte level bytes shown d some w =
       told = ap (λ z. z ++ e.Byte byte ∷ []) w.told ∙ ap (λ z. e.Text (e.Big w.negative) ∷ z) (sym (content_events-append (w.digit ∷ w.digits) (byte ∷ [])));
     }
 
--- and those of which some were given
+-- digits of a big number of which some were given: 2
 pub shown_row : (r : Rules) (room level : ℕ) (bytes : List ℕ) (shown : List Event) → BigShown r room level bytes shown → IsBegunBy r level bytes 2
 shown_row r room level bytes shown w = row_of r w.negative (w.digit ∷ w.digits) level bytes w.token
 

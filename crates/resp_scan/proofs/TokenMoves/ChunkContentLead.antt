@@ -21,11 +21,10 @@ use Rattle.resp_scan.specs.Machine.Heads.{chunk_at}
 use Rattle.resp_scan.specs.Kinds.{content_events, rules_of}
 use Rattle.resp_scan.specs.Machine.Beginnings.{ChunkBegun, ChunksBegun}
 use Rattle.resp_scan.specs.Machine.Standing.{IsInside, Leads, StandsAfter}
-use Rattle.resp_scan.proofs.TokenMoves.TokenLaws.{ALead}
 use Rattle.resp_scan.proofs.TokenMoves.ByteTests.{wanted}
 use Rattle.resp_scan.proofs.TokenMoves.ChunksBegun.{are_whole, chunks_more, text_more}
 use Rattle.resp_scan.proofs.TokenMoves.LeafEvents.{content_events-append}
-use Rattle.resp_scan.proofs.TokenMoves.Moves.{goes, retold, tells}
+use Rattle.resp_scan.proofs.TokenMoves.Moves.{goes, retold, tells, ALead}
 use Rattle.resp_scan.proofs.TokenMoves.RefusedMoves.{broken}
 
 -- a chunk's line, and what is begun of its content

@@ -7,6 +7,8 @@ use Rattle.resp_value.specs.Rules.{Rules, Grammar, WithinItems}
 use Rattle.resp_value.specs.LocalRules.{LeafKeeps, LeafRule, NodeKeeps, NodeRule}
 use Rattle.resp_value.specs.declared.cause.Cause.TheVariants as cause
 use Rattle.resp_value.proofs.Unique.{not_close}
+use Rattle.resp_value.specs.declared.kind.OpenKind.{OpenKind}
+use Rattle.resp_value.proofs.Choices.{if_equal}
 use Rattle.resp_fronts.specs.Frames as opened
 use Rattle.resp_fronts.specs.Frames.{text_around, open_text}
 use Rattle.resp_fronts.specs.MayFollow.{IsWholeText, MayFollowFrames, members_missing}
@@ -19,16 +21,13 @@ use Rattle.resp_fronts.proofs.Refusals.FirstRuleBroken.{grammar_cause}
 use Rattle.resp_fronts.specs.OpenLevels as level
 use Rattle.resp_fronts.proofs.Refusals.RefusedFronts.{CompletesFront}
 use Rattle.resp_fronts.proofs.FrameLaws.WholeValues.{closed_text}
-use Rattle.resp_value.specs.declared.kind.OpenKind.{OpenKind}
 use Rattle.resp_scan.specs.declared.frame.Frame.{Frame}
 use Rattle.resp_scan.specs.Machine.Tokens as k
 use Rattle.resp_scan.specs.Machine.Tokens.{Give, Go, Move, Place, Refuse, AtCloseCr, AtCloseLf, AtEnd, at, at_boundary, token_at_boundary}
 use Rattle.resp_scan.specs.Machine.Moves.{only_byte, without_first}
 use Rattle.resp_scan.specs.Kinds.{IsRefusedFor, rules_of}
 use Rattle.resp_scan.specs.Machine.Standing.{IsClosing, IsClosingIn, Leads, StandsAfterAt, busy_levels, StandsAfter}
-use Rattle.resp_scan.proofs.TokenMoves.TokenLaws.{ALead}
-use Rattle.resp_scan.proofs.TokenMoves.Moves.{given-append, longer, value_lies}
-use Rattle.resp_value.proofs.Choices.{if_equal}
+use Rattle.resp_scan.proofs.TokenMoves.Moves.{given-append, longer, value_lies, ALead}
 
 -- the rest of the close ends the aggregate
 closing_ends : (r : Rules) (k : OpenKind) (fs : List Frame) (last rest front : List ℕ) (es : List Event) → IsClosing r k fs last rest front es →
@@ -46,7 +45,8 @@ closing_ends r k fs last rest front es w =
     ap without_places (events-closed f w.outer) ∙ given-append (events_around w.outer) (events from tree))
 
 -- the close that is owed is given without a byte
-pub close_is_owed : (s : Place) (f : Frame) (fs : List Frame) (front : List ℕ) (es : List Event) → StandsAfter (record s { token = AtEnd; frames = f ∷ fs }) front es → StandsAfter (at_boundary (record s { frames = fs })) front (es ++ e.Close ∷ [])
+pub close_is_owed : (s : Place) (f : Frame) (fs : List Frame) (front : List ℕ) (es : List Event) →
+    StandsAfter (record s { token = AtEnd; frames = f ∷ fs }) front es → StandsAfter (at_boundary (record s { frames = fs })) front (es ++ e.Close ∷ [])
 close_is_owed s f fs front es w =
     subst (λ z. StandsAfterAt (rules_of s) (token_at_boundary fs) fs z (es ++ e.Close ∷ [])) (append-nil front)
     (closing_ends (rules_of s) f.kind fs [] [] front es w)

@@ -15,10 +15,9 @@ use Rattle.resp_scan.specs.Machine.Heads.{content_at}
 use Rattle.resp_scan.specs.Kinds.{rules_of}
 use Rattle.resp_scan.specs.Machine.Beginnings.{ContentBegun, ContentReturned, string_text_kind}
 use Rattle.resp_scan.specs.Machine.Standing.{IsInside, StandsAfter}
-use Rattle.resp_scan.proofs.TokenMoves.TokenLaws.{ALead}
 use Rattle.resp_scan.proofs.TokenMoves.ByteTests.{wanted}
 use Rattle.resp_scan.proofs.TokenMoves.LeafEvents.{content_events-append, given-string, leaf_told}
-use Rattle.resp_scan.proofs.TokenMoves.Moves.{Ends, goes, retold, tells, value_ends}
+use Rattle.resp_scan.proofs.TokenMoves.Moves.{Ends, goes, retold, tells, value_ends, ALead}
 use Rattle.resp_scan.proofs.TokenMoves.RefusedMoves.{broken}
 
 -- content, whether bytes of it are left or none

@@ -7,7 +7,6 @@ use Rattle.resp_scan.specs.declared.machine.Head.TheVariants as head
 use Rattle.resp_scan.specs.Machine.Tokens.{Place, Token, at, AtStart, AtEnd, InLine, AtLineLf, AtIntSign, AtIntFirst, InInt, AtIntLf, AtBigSign, AtBigFirst, InBigZeros, AtBigZeroLf, AtBigDigit, InBig, AtTextEnd, AtNullOne, AtNullCr, AtNullLf, AtBool, AtBoolCr, AtBoolLf, AtBulkHead, AtArrayHead, AtHead, InHead, AtHeadLf, AtFormat, AtFormatSecond, AtFormatThird, AtFormatColon, InContent, AtContentCr, AtContentLf, AtStreamCr, AtStreamLf, AtChunk, InChunk, AtChunkCr, AtChunkLf, AtOpenCr, AtOpenLf, AtCloseCr, AtCloseLf, Dead}
 use Rattle.resp_scan.specs.Machine.Moves.{next}
 use Rattle.resp_scan.specs.Machine.Standing.{HasCountsOf, Leads, StandsAfter}
-use Rattle.resp_scan.proofs.TokenMoves.TokenLaws.{ALead}
 use Rattle.resp_scan.proofs.TokenMoves.BigNumbersLead.{big_first_leads, big_leads, big_sign_leads, big_zero_end_leads, big_zeros_lead}
 use Rattle.resp_scan.proofs.HeadMoves.BulkHeadLeads.{bulk_head_leads}
 use Rattle.resp_scan.proofs.TokenMoves.ChunkContentLead.{chunk_content_leads, chunk_ends_lead, chunk_returns_lead}
@@ -26,6 +25,7 @@ use Rattle.resp_scan.proofs.TokenMoves.StreamsLead.{chunks_lead, stream_ends_lea
 use Rattle.resp_scan.proofs.HeadMoves.StringHeadsLead.{string_heads_lead, string_lengths_lead}
 use Rattle.resp_scan.proofs.TokenMoves.StringLengthEndsLead.{string_length_ends_lead}
 use Rattle.resp_scan.proofs.Soundness.SoundMoves.{is_outside}
+use Rattle.resp_scan.proofs.TokenMoves.Moves.{ALead}
 
 -- a token at which no byte is looked at has none
 abbrev pub IsLookedAt : Token → ℕ → Type 0

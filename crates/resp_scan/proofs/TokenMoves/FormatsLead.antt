@@ -6,18 +6,17 @@ use Rattle.resp_fronts.specs.Events.{Event}
 use Rattle.resp_fronts.specs.Events as e
 use Rattle.resp_fronts.proofs.Tokens.ContentTokens.{content_begun}
 use Rattle.resp_fronts.proofs.Tokens.PayloadTokens.{format_broken, format_ends, format_more}
+use Rattle.resp_fronts.specs.Tokens.{IsContentToken, zeros}
 use Rattle.resp_scan.specs.declared.event.TextKind.TheVariants as text
 use Rattle.resp_scan.specs.Machine.Tokens.{Place, Give, Text, AtFormatColon, at, AtFormat, AtFormatSecond, AtFormatThird}
 use Rattle.resp_scan.specs.Machine.Heads.{content_at}
 use Rattle.resp_scan.specs.Kinds.{rules_of}
 use Rattle.resp_scan.specs.Machine.Beginnings.{ContentBegun, FormatBegun}
 use Rattle.resp_scan.specs.Machine.Standing.{IsInside, Leads}
-use Rattle.resp_scan.proofs.TokenMoves.TokenLaws.{ALead}
 use Rattle.resp_scan.proofs.TokenMoves.ByteTests.{wanted}
 use Rattle.resp_scan.proofs.TokenMoves.ContentLead.{content_lies}
-use Rattle.resp_scan.proofs.TokenMoves.Moves.{goes, tells}
+use Rattle.resp_scan.proofs.TokenMoves.Moves.{goes, tells, ALead}
 use Rattle.resp_scan.proofs.TokenMoves.RefusedMoves.{broken}
-use Rattle.resp_fronts.specs.Tokens.{IsContentToken, zeros}
 
 -- the next byte of a format, of which so many are to come behind it; any byte is one
 format_byte_goes : (s : Place) (before : List ℕ) (behind left next byte : ℕ) (front : List ℕ) (es : List Event) → byte < 256 → left - 1 ≡ next →

@@ -5,14 +5,16 @@ use Rattle.resp_value.specs.Trees as t
 use Rattle.resp_value.specs.Trees.{Leaf, LineKind, StringKind, Chunk, line, numeral, null, truth, string, chunked, joined_content, leaf_text}
 use Rattle.resp_fronts.specs.Events.{Event, Timed, TextKind, bytes_from, big_events, chunk_events, without_places, leaf_events, text_events}
 use Rattle.resp_fronts.specs.Events as e
+use Rattle.resp_fronts.specs.Tokens.{IsTextLine}
 use Rattle.resp_scan.specs.Kinds.{content_events}
 use Rattle.resp_scan.specs.Machine.Beginnings.{line_text_kind, string_text_kind}
-use Rattle.resp_fronts.specs.Tokens.{IsTextLine}
 
+-- the events of content and of more content
 pub content_events-append : (a b : List ℕ) → content_events (a ++ b) ≡ content_events a ++ content_events b
 content_events-append [] b = refl
 content_events-append (x ∷ a) b = ap (λ z. e.Byte x ∷ z) (content_events-append a b)
 
+-- the events of bytes, without their places
 pub given-bytes : (from : ℕ) (s : List ℕ) (es : List Timed) → without_places (bytes_from from s ++ es) ≡ content_events s ++ without_places es
 given-bytes from [] es = refl
 given-bytes from (b ∷ s) es = ap (λ z. e.Byte b ∷ z) (given-bytes (from + 1) s es)
@@ -22,12 +24,14 @@ pub given-text : (k : TextKind) (begins from : ℕ) (s : List ℕ) (ends : ℕ) 
     e.TextEnd ∷ []
 given-text k begins from s ends = ap (λ z. e.Text k ∷ z) (given-bytes from s (record { at = ends; event = e.TextEnd } ∷ []))
 
+-- the events of a simple line, without their places
 pub given-line : (from : ℕ) (k : LineKind) (s : List ℕ) → IsTextLine k → without_places (leaf_events from (line k s)) ≡
     (e.Text (line_text_kind k) ∷ content_events s) ++ e.TextEnd ∷ []
 given-line from t.Simple s p = given-text e.Simple from (from + 1) s (e.last_of from (leaf_text (line t.Simple s)))
 given-line from t.Error s p = given-text e.Error from (from + 1) s (e.last_of from (leaf_text (line t.Error s)))
 given-line from t.Double s p = absurd p
 
+-- the events of a string, without their places
 pub given-string : (from : ℕ) (k : StringKind) (digits s : List ℕ) → without_places (leaf_events from (string k digits s)) ≡
     (e.Text (string_text_kind k) ∷ content_events s) ++ e.TextEnd ∷ []
 given-string from t.Bulk digits s = given-text e.Bulk (from + length digits + 2) (from + length digits + 3) s
@@ -52,6 +56,7 @@ given-chunks at (c ∷ cs) es =
     ∙ sym (append_assoc (content_events c.content) (content_events (joined_content cs)) (without_places es))
     ∙ ap (λ z. z ++ without_places es) (sym (content_events-append c.content (joined_content cs)))
 
+-- the events of a streamed string, without their places
 pub given-chunked : (from : ℕ) (cs : List Chunk) (zeros : List ℕ) → without_places (leaf_events from (chunked cs zeros)) ≡
     (e.Text e.Bulk ∷ content_events (joined_content cs)) ++ e.TextEnd ∷ []
 given-chunked from cs zeros = ap (λ z. e.Text e.Bulk ∷ z) (given-chunks (from + 4) cs
@@ -74,5 +79,6 @@ given_anywhere from (truth b) = refl
 given_anywhere from (string k digits s) = given-string from k digits s ∙ sym (given-string 0 k digits s)
 given_anywhere from (chunked cs zeros) = given-chunked from cs zeros ∙ sym (given-chunked 0 cs zeros)
 
+-- the events of a leaf are the same wherever it begins
 pub leaf_told : (l : Leaf) (shown : List Event) → without_places (leaf_events 0 l) ≡ shown → (from : ℕ) → without_places (leaf_events from l) ≡ shown
 leaf_told l shown e from = given_anywhere from l ∙ e

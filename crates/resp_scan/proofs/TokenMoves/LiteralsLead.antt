@@ -10,27 +10,27 @@ use Rattle.resp_fronts.specs.Events.{Event}
 use Rattle.resp_fronts.specs.Events as e
 use Rattle.resp_fronts.proofs.FirstLines.CountRows.{CompletesUnder}
 use Rattle.resp_fronts.proofs.Tokens.BegunFronts.{IsBegunBy}
-use Rattle.resp_fronts.proofs.Refusals.BrokenLines.{byte_broken, return_broken, null_begun_broken, null_broken, null_short, truth_begun_broken, truth_broken, truth_short}
-use Rattle.resp_fronts.proofs.Tokens.LineTokens.{line_begun, no_break_in_line, returned_begun, returned_broken, returned_whole}
-use Rattle.resp_fronts.proofs.Tokens.NumberTokens.{dollar_null_begun, null_token_line, star_null_begun, truth_begun, truth_token_line}
+use Rattle.resp_fronts.proofs.Refusals.BrokenLines.{null_begun_broken, null_broken, null_short, truth_begun_broken, truth_broken, truth_short, line_broken}
+use Rattle.resp_fronts.proofs.Tokens.LineTokens.{line_begun, returned_begun, returned_broken, returned_whole, line_of_broken}
+use Rattle.resp_fronts.proofs.Tokens.NumberTokens.{null_begun, null_token_line, truth_begun, truth_token_line}
+use Rattle.resp_fronts.specs.Tokens.{IsLineOf, IsReturned}
 use Rattle.resp_scan.specs.Machine.Tokens as k
 use Rattle.resp_scan.specs.Machine.Tokens.{Go, Give, Refuse, Place, AtBool, AtBoolCr, AtBoolLf, AtNullCr, AtNullLf, AtNullOne, at, at_boundary}
 use Rattle.resp_scan.specs.Kinds.{rules_of}
 use Rattle.resp_scan.specs.Machine.Beginnings as b
 use Rattle.resp_scan.specs.Machine.Beginnings.{IsNullBegun, NullLine, NullReturned}
 use Rattle.resp_scan.specs.Machine.Standing.{Leads, StandsAfter}
-use Rattle.resp_scan.proofs.TokenMoves.TokenLaws.{ALead}
-use Rattle.resp_scan.proofs.TokenMoves.Moves.{Ends, goes, value_ends}
+use Rattle.resp_scan.proofs.TokenMoves.Moves.{Ends, goes, value_ends, ALead}
 use Rattle.resp_scan.proofs.TokenMoves.ByteTests.{by_byte, wants_leads}
-use Rattle.resp_fronts.specs.Tokens.{IsLineOf, IsReturned}
-use Rattle.resp_value.proofs.Choices.{if_equal}
 
 -- Nulls.
 
 -- a null's first two bytes
 pub null_first_row : (r : Rules) (level : ℕ) (bytes : List ℕ) → IsNullBegun bytes → IsBegunBy r level bytes 3
-null_first_row r level bytes (inl is) = subst (λ z. IsBegunBy r level z 3) (sym is) (dollar_null_begun r level)
-null_first_row r level bytes (inr is) = subst (λ z. IsBegunBy r level z 3) (sym is) (star_null_begun r level)
+null_first_row r level bytes (inl is) = subst (λ z. IsBegunBy r level z 3) (sym is)
+    (null_begun r BulkNull level 36 refl (omega arith) (λ is_two e. absurd (cc)))
+null_first_row r level bytes (inr is) = subst (λ z. IsBegunBy r level z 3) (sym is)
+    (null_begun r ArrayNull level 42 refl (omega arith) (λ is_two e. absurd (cc)))
 
 mark_line : (first : ℕ) → (first ≡ 13 → ⊥) → (first ≡ 10 → ⊥) → IsLine (first ∷ 45 ∷ [])
 mark_line first p q = ((p, q), ((λ z. omega arith, λ z. omega arith), tt))
@@ -38,13 +38,8 @@ mark_line first p q = ((p, q), ((λ z. omega arith, λ z. omega arith), tt))
 begun_dead : (r : Rules) (level first byte : ℕ) (bytes rest : List ℕ) (form : NullForm) → null_line form ≡ first ∷ 45 ∷ 49 ∷ [] → 13 < first → (byte ≡ 49 → ⊥) →
     bytes ≡ first ∷ 45 ∷ [] → CompletesUnder r Grammar level bytes (byte ∷ rest) → ⊥
 begun_dead r level first byte bytes rest form is above other e c =
-    let line = mark_line first (λ z. omega arith) (λ z. omega arith) in
-    let d : CompletesUnder r Grammar level (first ∷ 45 ∷ []) (byte ∷ rest) = subst (λ z. CompletesUnder r Grammar level z (byte ∷ rest)) e c in
-    if_equal byte 13 (λ z. ⊥)
-    (λ cr. return_broken (LeafKeeps r Grammar) (NodeKeeps r Grammar) level (first ∷ 45 ∷ []) rest line (null_short form first is)
-    (subst (λ z. CompletesUnder r Grammar level (first ∷ 45 ∷ []) (z ∷ rest)) cr d))
-    (λ no_return. byte_broken (LeafKeeps r Grammar) (NodeKeeps r Grammar) level (first ∷ 45 ∷ []) rest byte line no_return
-    (null_begun_broken form first byte is other) d)
+    line_broken (LeafKeeps r Grammar) (NodeKeeps r Grammar) level (first ∷ 45 ∷ []) rest byte (mark_line first (λ z. omega arith) (λ z. omega arith))
+    (null_short form first is) (null_begun_broken form first byte is other) (subst (λ z. CompletesUnder r Grammar level z (byte ∷ rest)) e c)
 
 null_first_dead : (r : Rules) (level byte : ℕ) (bytes rest : List ℕ) → (byte ≡ 49 → ⊥) → IsNullBegun bytes →
     CompletesUnder r Grammar level bytes (byte ∷ rest) → ⊥
@@ -78,20 +73,13 @@ null_one_leads s used byte front es is_byte c w =
 null_returns : (r : Rules) (level : ℕ) (bytes : List ℕ) (shown : List Event) → NullLine r level bytes shown → NullReturned r level (bytes ++ 13 ∷ []) shown
 null_returns r level bytes shown w = record { form = w.form; returned = record { begun = bytes; line_of = w.token; returned = refl }; told = w.told }
 
-null_dead : (r : Rules) (form : NullForm) (level byte : ℕ) (bytes rest : List ℕ) → (byte ≡ 13 → ⊥) → IsLineOf r (null form) level bytes →
-    CompletesUnder r Grammar level bytes (byte ∷ rest) → ⊥
-null_dead r form level byte bytes rest other w c =
-    byte_broken (LeafKeeps r Grammar) (NodeKeeps r Grammar) level (null_line form) rest byte
-    (subst IsLine w.is_line (no_break_in_line r (null form) level bytes w)) other (null_broken form byte)
-    (subst (λ z. CompletesUnder r Grammar level z (byte ∷ rest)) w.is_line c)
-
 -- every byte behind the line of a null
 pub null_cr_leads : (s : Place) → ALead (at s AtNullCr)
 null_cr_leads s used byte front es is_byte c w =
     let r = rules_of s in
     wants_leads (at s AtNullCr) (NullLine r) front es 2 byte 13 (Go (at s AtNullLf)) w
     (λ level bytes shown i t. line_begun r (null t.form) level bytes t.token)
-    (λ other level bytes rest shown t dead. null_dead r t.form level byte bytes rest other t.token dead)
+    (λ other level bytes rest shown t dead. line_of_broken r (null t.form) level bytes rest byte other (null_broken t.form byte) t.token dead)
     (λ is. subst (λ z. StandsAfter (at s AtNullLf) (front ++ z ∷ []) es) (sym is)
     (goes r (NullLine r) (NullReturned r) s.frames front (13 ∷ []) es w (λ level bytes shown i t. null_returns r level bytes shown t)))
 
@@ -121,12 +109,8 @@ null_end_leads s used byte front es is_byte c w =
 hash_dead : (r : Rules) (level byte : ℕ) (bytes rest : List ℕ) → (byte ≡ 116 → ⊥) → (byte ≡ 102 → ⊥) → bytes ≡ 35 ∷ [] →
     CompletesUnder r Grammar level bytes (byte ∷ rest) → ⊥
 hash_dead r level byte bytes rest no_t no_f is c =
-    let line : IsLine (35 ∷ []) = ((λ z. omega arith, λ z. omega arith), tt) in
-    let d : CompletesUnder r Grammar level (35 ∷ []) (byte ∷ rest) = subst (λ z. CompletesUnder r Grammar level z (byte ∷ rest)) is c in
-    if_equal byte 13 (λ z. ⊥)
-    (λ cr. return_broken (LeafKeeps r Grammar) (NodeKeeps r Grammar) level (35 ∷ []) rest line truth_short
-    (subst (λ z. CompletesUnder r Grammar level (35 ∷ []) (z ∷ rest)) cr d))
-    (λ no_return. byte_broken (LeafKeeps r Grammar) (NodeKeeps r Grammar) level (35 ∷ []) rest byte line no_return (truth_begun_broken byte no_t no_f) d)
+    line_broken (LeafKeeps r Grammar) (NodeKeeps r Grammar) level (35 ∷ []) rest byte ((λ z. omega arith, λ z. omega arith), tt) truth_short
+    (truth_begun_broken byte no_t no_f) (subst (λ z. CompletesUnder r Grammar level z (byte ∷ rest)) is c)
 
 truth_is : (r : Rules) (x : Bool) (level byte : ℕ) (bytes : List ℕ) → (r.version ≡ Two → ⊥) → truth_line x ≡ 35 ∷ byte ∷ [] → bytes ≡ 35 ∷ [] →
     IsLineOf r (truth x) level (bytes ++ byte ∷ [])
@@ -148,19 +132,13 @@ bool_leads s used byte front es is_byte c w =
     (λ no_f level bytes rest shown t dead. hash_dead r level byte bytes rest no_t no_f t.1 dead)
     (λ is. goes_true s false byte front es (ap (λ z. 35 ∷ z ∷ []) (sym is)) w))
 
-truth_dead : (r : Rules) (x : Bool) (level byte : ℕ) (bytes rest : List ℕ) → (byte ≡ 13 → ⊥) → IsLineOf r (truth x) level bytes →
-    CompletesUnder r Grammar level bytes (byte ∷ rest) → ⊥
-truth_dead r x level byte bytes rest other w c =
-    byte_broken (LeafKeeps r Grammar) (NodeKeeps r Grammar) level (truth_line x) rest byte (subst IsLine w.is_line (no_break_in_line r (truth x) level bytes w))
-    other (truth_broken x byte) (subst (λ z. CompletesUnder r Grammar level z (byte ∷ rest)) w.is_line c)
-
 -- every byte behind the letter of a boolean
 pub bool_cr_leads : (s : Place) (truth : Bool) → ALead (at s (AtBoolCr truth))
 bool_cr_leads s x used byte front es is_byte c w =
     let r = rules_of s in
     wants_leads (at s (AtBoolCr x)) (b.TokenHas r (AtBoolCr x)) front es 2 byte 13 (Go (at s (AtBoolLf x))) w
     (λ level bytes shown i t. line_begun r (truth x) level bytes t.0)
-    (λ other level bytes rest shown t dead. truth_dead r x level byte bytes rest other t.0 dead)
+    (λ other level bytes rest shown t dead. line_of_broken r (truth x) level bytes rest byte other (truth_broken x byte) t.0 dead)
     (λ is. subst (λ z. StandsAfter (at s (AtBoolLf x)) (front ++ z ∷ []) es) (sym is)
     (goes r (b.TokenHas r (AtBoolCr x)) (b.TokenHas r (AtBoolLf x)) s.frames front (13 ∷ []) es w
     (λ level bytes shown i t. (record { begun = bytes; line_of = t.0; returned = refl }, t.1))))

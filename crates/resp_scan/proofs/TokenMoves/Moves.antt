@@ -1,5 +1,5 @@
 -- What bytes make of what has come: inside a value, at its end, and where one begins.
-use Rattle.std.specs.Prelude.{false, cond, eqb}
+use Rattle.std.specs.Prelude.{false, cond, eqb, ℕ, ◌+◌, ◌<◌, List}
 use Rattle.std.proofs.lemmas.Bool.Decides.{nat_tests}
 use Rattle.std.proofs.Common.{◌≡◌, ℕ, zero, suc, ◌+◌, ◌-◌, List, [], ◌∷◌, ◌++◌, length, refl, sym, ap, subst, ◌∙◌, arith, append_assoc}
 use Rattle.resp_value.specs.Data.{members_of}
@@ -8,6 +8,7 @@ use Rattle.resp_value.specs.Trees as t
 use Rattle.resp_value.specs.Trees.{Tree, Trees, Form, Counted, Streamed, IsTree, close, count, form_line, kind_byte, none, text}
 use Rattle.resp_value.specs.Rules.{Rules, WithinItems}
 use Rattle.resp_value.specs.LocalRules.{LeafKeeps, NodeKeeps, HoldsFrom}
+use Rattle.resp_value.specs.Kinds.{kind_of}
 use Rattle.resp_fronts.specs.Frames as opened
 use Rattle.resp_fronts.specs.Frames.{text_around}
 use Rattle.resp_fronts.specs.MayFollow.{CanAllEnd, CanEnd, members_missing}
@@ -18,22 +19,46 @@ use Rattle.resp_fronts.proofs.FrameLaws.Levels.{around-with, with_member}
 use Rattle.resp_fronts.proofs.FrameLaws.LevelsAlone.{same_length}
 use Rattle.resp_fronts.proofs.EventLaws.EventsAround.{events-member}
 use Rattle.resp_fronts.proofs.Tokens.BegunFronts.{FollowsBy}
+use Rattle.resp_fronts.specs.OpenLevels.{AreLevelsOf, AreReady, HasShape}
 use Rattle.resp_scan.specs.declared.frame.Frame.{Frame}
 use Rattle.resp_scan.specs.declared.frame.Shape.{Shape}
 use Rattle.resp_scan.specs.declared.frame.Shape.TheVariants.{Left, Begun}
-use Rattle.resp_scan.specs.Machine.Tokens.{AtStart, AtEnd, token_at_boundary, token_in_shape}
-use Rattle.resp_value.specs.Kinds.{kind_of}
-use Rattle.resp_scan.specs.Machine.Standing.{HasBegun, HaveBegun, IsInside, StandsAfterAt, busy_shape, busy_levels}
-use Rattle.resp_fronts.specs.OpenLevels.{AreLevelsOf, AreReady, HasShape}
+use Rattle.resp_scan.specs.Machine.Tokens.{AtStart, AtEnd, token_at_boundary, token_in_shape, Place}
+use Rattle.resp_scan.specs.Machine.Standing.{HasBegun, HaveBegun, IsInside, StandsAfterAt, busy_shape, busy_levels, StandsAfter, Leads, HasCountsOf}
+use Rattle.resp_scan.specs.declared.machine.Head.{Head}
+use Rattle.resp_scan.specs.declared.machine.Head.TheVariants.{Bulk, BulkError, Verbatim, Chunk}
+use Rattle.resp_scan.specs.Machine.Moves.{next}
+
+-- the place that a byte leads to lies at the longer front, and a byte that is refused has its cause
+abbrev pub ALead : Place → Type 0
+ALead s = (used byte : ℕ) (front : List ℕ) (es : List Event) → byte < 256 → HasCountsOf s used front → StandsAfter s front es →
+    Leads s front es byte (next s (used + 1) byte)
+
+-- the head of an aggregate
+abbrev pub IsOfAggregate : Head → Type 0
+IsOfAggregate Bulk = ⊥
+IsOfAggregate BulkError = ⊥
+IsOfAggregate Verbatim = ⊥
+IsOfAggregate (Chunk room) = ⊥
+IsOfAggregate _ = Unit {0}
+
+-- the head of a string that isn't streamed
+abbrev pub IsOfString : Head → Type 0
+IsOfString Bulk = Unit {0}
+IsOfString BulkError = Unit {0}
+IsOfString Verbatim = Unit {0}
+IsOfString _ = ⊥
 
 -- Lists of events.
 
+-- events and more events, without their places
 pub given-append : (a b : List Timed) → without_places (a ++ b) ≡ without_places a ++ without_places b
 given-append [] b = refl
 given-append (e ∷ es) b = ap (λ z. e.event ∷ z) (given-append es b)
 
 -- Levels.
 
+-- as many levels are busy as frames are open
 pub length-busy : (fs : List Frame) → length (busy_levels fs) ≡ length fs
 length-busy [] = refl
 length-busy (f ∷ fs) = ap suc (length-busy fs)
@@ -60,6 +85,7 @@ follows_by r T fs front es w = record {
       w.whole;
 }
 
+-- a longer front has more bytes within the same frames
 pub longer : (frames : List opened.Frame) (front bytes more : List ℕ) → front ≡ text_around frames bytes → front ++ more ≡ text_around frames (bytes ++ more)
 longer frames front bytes more e = ap (λ q. q ++ more) e ∙ around-append frames bytes more
 
@@ -79,7 +105,7 @@ tells r T U fs front more es new w step = record {
   told = ap (λ z. z ++ new) w.told ∙ append_assoc (without_places (events_around w.frames)) w.shown new;
 }
 
--- and none
+-- more bytes without an event lead within the same value
 pub goes : (r : Rules) (T U : ℕ → List ℕ → List Event → Type 0) (fs : List Frame) (front more : List ℕ) (es : List Event) → IsInside r T fs front es →
     ((level : ℕ) (bytes : List ℕ) (shown : List Event) → level ≡ length fs → T level bytes shown → U level (bytes ++ more) shown) →
     IsInside r U fs (front ++ more) es
@@ -95,7 +121,7 @@ goes r T U fs front more es w step = record {
   told = w.told;
 }
 
--- the same bytes, told in other words
+-- bytes within a value, as another token tells them
 pub retold : (r : Rules) (T U : ℕ → List ℕ → List Event → Type 0) (fs : List Frame) (front : List ℕ) (es : List Event) → IsInside r T fs front es →
     ((level : ℕ) (bytes : List ℕ) (shown : List Event) → T level bytes shown → U level bytes shown) → IsInside r U fs front es
 retold r T U fs front es w words = record {

@@ -7,14 +7,17 @@ use Rattle.resp_value.specs.Rules.{Rules, Grammar, InRange, PushAtTop}
 use Rattle.resp_value.specs.LocalRules.{LeafKeeps, NodeKeeps}
 use Rattle.resp_value.specs.Trees.{leaf, numeral, NumberKind, Int, Big, number_byte}
 use Rattle.resp_value.specs.declared.cause.Cause.TheVariants as cause
+use Rattle.resp_value.proofs.DigitLemmas.{number-digit}
+use Rattle.resp_value.proofs.Choices.{if_within}
 use Rattle.resp_fronts.specs.Events.{Event}
 use Rattle.resp_fronts.specs.Events as e
 use Rattle.resp_fronts.proofs.FirstLines.CountRows.{CompletesUnder, IsRefusedHere}
 use Rattle.resp_fronts.proofs.Tokens.BegunFronts.{IsBegunBy}
-use Rattle.resp_fronts.proofs.Refusals.BrokenLines.{byte_broken, return_broken}
+use Rattle.resp_fronts.proofs.Refusals.BrokenLines.{line_broken}
 use Rattle.resp_fronts.proofs.Refusals.BrokenHeads.{number_begun_broken, number_broken, number_short}
-use Rattle.resp_fronts.proofs.Tokens.LineTokens.{line_begun, no_break_in_line, returned_begun, returned_broken, returned_whole}
+use Rattle.resp_fronts.proofs.Tokens.LineTokens.{line_begun, returned_begun, returned_broken, returned_whole, line_of_broken}
 use Rattle.resp_fronts.proofs.Tokens.NumberTokens.{int_token_over, number_begun, number_token_begins, number_token_line, number_token_more}
+use Rattle.resp_fronts.specs.Tokens.{IsNumberBegun, IsNumberToken, MayBe, greatest}
 use Rattle.resp_scan.specs.Machine.Magnitudes.{greatest_magnitude}
 use Rattle.resp_scan.specs.Machine.Tokens as k
 use Rattle.resp_scan.specs.Machine.Tokens.{Go, Give, Move, Refuse, Place, Token, AtIntFirst, AtIntLf, AtIntSign, InInt, at, at_boundary}
@@ -25,13 +28,9 @@ use Rattle.resp_scan.specs.Kinds.{rules_of}
 use Rattle.resp_scan.specs.Machine.Beginnings as b
 use Rattle.resp_scan.specs.Machine.Beginnings.{IntBegun, IntReturned, IsSigned, SignBegun}
 use Rattle.resp_scan.specs.Machine.Standing.{HasCountsOf, IsInside, Leads, StandsAfter}
-use Rattle.resp_scan.proofs.TokenMoves.TokenLaws.{ALead}
-use Rattle.resp_scan.proofs.TokenMoves.Moves.{Ends, goes, value_ends}
+use Rattle.resp_scan.proofs.TokenMoves.Moves.{Ends, goes, value_ends, ALead}
 use Rattle.resp_scan.proofs.TokenMoves.RefusedMoves.{broken, fits_or_total, refused, unless_over}
 use Rattle.resp_scan.proofs.TokenMoves.ByteTests.{by_byte, by_digit, wants_leads}
-use Rattle.resp_fronts.specs.Tokens.{IsNumberBegun, IsNumberToken, MayBe, greatest}
-use Rattle.resp_value.proofs.DigitLemmas.{number-digit}
-use Rattle.resp_value.proofs.Choices.{if_equal, if_within}
 
 -- a byte of a number's beginning that no spelling has there
 pub begun_line : (k : NumberKind) (sign : Sign) → IsLine (number_byte k ∷ (sign_text sign ++ []))
@@ -39,23 +38,19 @@ begun_line Int Unsigned = ((λ z. omega arith, λ z. omega arith), tt)
 begun_line Big Unsigned = ((λ z. omega arith, λ z. omega arith), tt)
 begun_line _ _ = ((λ z. omega arith, λ z. omega arith), ((λ z. omega arith, λ z. omega arith), tt))
 
+-- no byte but a sign or a digit goes on behind a number's type byte, and none but a digit behind its sign
 pub begun_dead : (r : Rules) (k : NumberKind) (sign : Sign) (level byte : ℕ) (bytes rest : List ℕ) → (sign ≡ Unsigned → (byte ≡ 43 → ⊥) × (byte ≡ 45 → ⊥)) →
     (IsDigit byte → ⊥) → IsNumberBegun r k sign level bytes → CompletesUnder r Grammar level bytes (byte ∷ rest) → ⊥
 begun_dead r k sign level byte bytes rest no_sign no_digit w c =
-    if_equal byte 13 (λ z. ⊥)
-    (λ is. return_broken (LeafKeeps r Grammar) (NodeKeeps r Grammar) level (number_byte k ∷ (sign_text sign ++ [])) rest (begun_line k sign)
-    (number_short k sign) (subst (λ z. CompletesUnder r Grammar level z (13 ∷ rest)) w.1
-    (subst (λ z. CompletesUnder r Grammar level bytes (z ∷ rest)) is c)))
-    (λ other. byte_broken (LeafKeeps r Grammar) (NodeKeeps r Grammar) level (number_byte k ∷ (sign_text sign ++ [])) rest byte (begun_line k sign) other
-    (number_begun_broken k sign byte no_sign no_digit) (subst (λ z. CompletesUnder r Grammar level z (byte ∷ rest)) w.1 c))
+    line_broken (LeafKeeps r Grammar) (NodeKeeps r Grammar) level (number_byte k ∷ (sign_text sign ++ [])) rest byte (begun_line k sign) (number_short k sign)
+    (number_begun_broken k sign byte no_sign no_digit) (subst (λ z. CompletesUnder r Grammar level z (byte ∷ rest)) w.1 c)
 
--- and one of its digits
+-- no byte but a digit or CR goes on behind a number's digits
 pub digits_dead : (r : Rules) (k : NumberKind) (sign : Sign) (first level byte : ℕ) (digits bytes rest : List ℕ) → (byte ≡ 13 → ⊥) → (IsDigit byte → ⊥) →
     IsNumberToken r k sign (first ∷ digits) level bytes → CompletesUnder r Grammar level bytes (byte ∷ rest) → ⊥
-digits_dead r k sign first level byte digits bytes rest no_return no_digit w c =
-    byte_broken (LeafKeeps r Grammar) (NodeKeeps r Grammar) level (number_byte k ∷ (sign_text sign ++ first ∷ digits)) rest byte
-    (subst IsLine w.are (no_break_in_line r (numeral k sign (first ∷ digits)) level bytes (number_token_line r k sign (first ∷ digits) level bytes w)))
-    no_return (number_broken k sign first digits byte w.are_digits.1.0 no_digit) (subst (λ z. CompletesUnder r Grammar level z (byte ∷ rest)) w.are c)
+digits_dead r k sign first level byte digits bytes rest no_return no_digit w =
+    line_of_broken r (numeral k sign (first ∷ digits)) level bytes rest byte no_return (number_broken k sign first digits byte w.are_digits.1.0 no_digit)
+    (number_token_line r k sign (first ∷ digits) level bytes w)
 
 -- a number without a digit needs one, and its line's end
 pub begun_row : (r : Rules) (k : NumberKind) (negative : Bool) (level : ℕ) (bytes : List ℕ) (shown : List Event) → SignBegun r k negative level bytes shown →
@@ -84,6 +79,7 @@ pub record AnySign (r : Rules) (k : NumberKind) (negative : Bool) (byte level : 
   pub told : shown ≡ []
   pub no_sign : sign ≡ Unsigned → (byte ≡ 43 → ⊥) × (byte ≡ 45 → ⊥)
 
+-- the sign of a number, as its token has it
 pub signed_any : (r : Rules) (k : NumberKind) (negative : Bool) (byte level : ℕ) (bytes : List ℕ) (shown : List Event) →
     SignBegun r k negative level bytes shown → AnySign r k negative byte level bytes shown
 signed_any r k negative byte level bytes shown w = record {
@@ -105,6 +101,7 @@ signed_any r k negative byte level bytes shown w = record {
     no_unsigned Plus negative p e = cc
     no_unsigned Minus negative p e = cc
 
+-- a number without a sign, as its token has it
 pub unsigned_any : (r : Rules) (k : NumberKind) (byte level : ℕ) (bytes : List ℕ) (shown : List Event) → (byte ≡ 43 → ⊥) → (byte ≡ 45 → ⊥) →
     IsNumberBegun r k Unsigned level bytes × (shown ≡ []) → AnySign r k false byte level bytes shown
 unsigned_any r k byte level bytes shown no_plus no_minus w = record {
@@ -136,16 +133,23 @@ int_begins r negative byte level bytes shown d w = record {
   told = w.told;
 }
 
+-- a first digit, behind the type byte or a sign: any other byte is refused
+pub first_digit_leads : (s : Place) (T : ℕ → List ℕ → List Event → Type 0) (k : NumberKind) (negative : Bool) (byte : ℕ) (v : Move) (front : List ℕ)
+    (es : List Event) → IsInside (rules_of s) T s.frames front es → ((level : ℕ) (bytes : List ℕ) (shown : List Event) → T level bytes shown →
+    AnySign (rules_of s) k negative byte level bytes shown) → (IsDigit byte → Leads s front es byte v) →
+    Leads s front es byte (cond (is_digit byte) v (Refuse cause.Syntax))
+first_digit_leads s T k negative byte v front es w any digit =
+    let r = rules_of s in
+    by_digit s front es byte _ _ digit
+    (λ d. broken r T s.frames front es 3 byte w (λ level bytes shown i t. let a = any level bytes shown t in number_begun r k a.sign level bytes a.token)
+    (λ level bytes rest shown t c. let a = any level bytes shown t in begun_dead r k a.sign level byte bytes rest a.no_sign d a.token c))
+
 first_leads : (s : Place) (T : ℕ → List ℕ → List Event → Type 0) (negative : Bool) (byte : ℕ) (front : List ℕ) (es : List Event) →
     IsInside (rules_of s) T s.frames front es → ((level : ℕ) (bytes : List ℕ) (shown : List Event) → T level bytes shown →
     AnySign (rules_of s) Int negative byte level bytes shown) → Leads s front es byte (int_first s negative byte)
-first_leads s T negative byte front es w any =
-    let r = rules_of s in
-    by_digit s front es byte _ _
-    (λ d. goes r T (IntBegun r negative (byte - 48)) s.frames front (byte ∷ []) es w
-    (λ level bytes shown i t. int_begins r negative byte level bytes shown d (any level bytes shown t)))
-    (λ d. broken r T s.frames front es 3 byte w (λ level bytes shown i t. let a = any level bytes shown t in number_begun r Int a.sign level bytes a.token)
-    (λ level bytes rest shown t c. let a = any level bytes shown t in begun_dead r Int a.sign level byte bytes rest a.no_sign d a.token c))
+first_leads s T negative byte front es w any = first_digit_leads s T Int negative byte _ front es w any
+    (λ d. goes (rules_of s) T (IntBegun (rules_of s) negative (byte - 48)) s.frames front (byte ∷ []) es w
+    (λ level bytes shown i t. int_begins (rules_of s) negative byte level bytes shown d (any level bytes shown t)))
 
 -- behind the type byte a sign that total lets stand, or what stands there without one
 pub signs_lead : (s : Place) (k : NumberKind) (first : Bool → Token) (used byte : ℕ) (unsigned : Move) (front : List ℕ) (es : List Event) →

@@ -6,6 +6,9 @@ use Rattle.resp_value.specs.Rules.{Rules, Rule, Grammar, WithinItems, WithinTota
 use Rattle.resp_value.specs.Spellings.{IsViable}
 use Rattle.resp_value.specs.Causes.{cause_of}
 use Rattle.resp_value.specs.declared.cause.Cause.TheVariants as cause
+use Rattle.resp_value.specs.declared.kind.OpenKind.{OpenKind}
+use Rattle.resp_value.specs.declared.kind.OpenKind.TheVariants as kind
+use Rattle.resp_value.specs.Kinds.{kind_of}
 use Rattle.resp_fronts.specs.Events.{Event}
 use Rattle.resp_fronts.specs.LeastCompletions.{Continues, IsLeast}
 use Rattle.resp_fronts.proofs.FirstLines.CountRows.{CompletesUnder, IsRefusedHere}
@@ -14,15 +17,12 @@ use Rattle.resp_fronts.proofs.FrameLaws.Levels as l
 use Rattle.resp_fronts.specs.OpenLevels as o
 use Rattle.resp_fronts.proofs.Tokens.BegunFronts as b
 use Rattle.resp_fronts.proofs.Tokens.BegunFronts.{IsBegunBy}
-use Rattle.resp_value.specs.declared.kind.OpenKind.{OpenKind}
-use Rattle.resp_value.specs.declared.kind.OpenKind.TheVariants as kind
 use Rattle.resp_scan.specs.declared.frame.Frame.{Frame}
 use Rattle.resp_scan.specs.declared.frame.Shape.{Shape}
 use Rattle.resp_scan.specs.declared.frame.Shape.TheVariants.{Left, Begun}
 use Rattle.resp_scan.specs.Machine.Tokens.{Move, Place, Refuse}
 use Rattle.resp_scan.specs.Machine.Room.{has_total_room, over_total}
 use Rattle.resp_scan.specs.Machine.Moves.{move_unless}
-use Rattle.resp_value.specs.Kinds.{kind_of}
 use Rattle.resp_scan.specs.Kinds.{IsRefusedFor, rules_of}
 use Rattle.resp_scan.specs.Machine.Standing.{HasCountsOf, HasBegun, HaveBegun, IsInside, Leads, busy_shape, busy_levels, waiting_shape}
 use Rattle.resp_scan.specs.Machine.Sound.{need_of_frame, need_of_frames}
@@ -123,14 +123,14 @@ fits_or_past s T front es told used byte n v frames_need taken w row leads =
           (omega (arith, frames_need, taken, length-append front (byte ∷ [])))
     ] refl
 
--- the same, where the numbers of a place are
+-- a byte leads on or is over total, by the numbers of a place
 pub fits_or_total : (s : Place) (T : ℕ → List ℕ → List Event → Type 0) (front : List ℕ) (es told : List Event) (used byte n : ℕ) (v : Move) →
     HasCountsOf s used front → IsInside (rules_of s) T s.frames (front ++ byte ∷ []) told →
     ((level : ℕ) (bytes : List ℕ) (shown : List Event) → level ≡ length s.frames → T level bytes shown → IsBegunBy (rules_of s) level bytes n) →
     Leads s front es byte v → Leads s front es byte (cond (has_total_room s (used + 1) n) v (Refuse cause.Total))
 fits_or_total s T front es told used byte n v c w row leads = fits_or_past s T front es told used byte n v c.sound.frames_need c.taken w row leads
 
--- the same, as a cause that refuses
+-- a byte leads on unless it is over total
 pub unless_over : (s : Place) (front : List ℕ) (es : List Event) (used byte n : ℕ) (v : Move) →
     Leads s front es byte (cond (has_total_room s (used + 1) n) v (Refuse cause.Total)) → Leads s front es byte (move_unless (over_total s (used + 1) n) v)
 unless_over s front es used byte n v = case (has_total_room s (used + 1) n)

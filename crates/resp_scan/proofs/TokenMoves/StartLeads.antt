@@ -3,6 +3,8 @@ use Rattle.std.specs.Prelude.{true, false, cond, None, Some, Option}
 use Rattle.std.proofs.lemmas.Bool.{ne_eqb}
 use Rattle.std.proofs.lemmas.Bool.Decides.{nat_tests}
 use Rattle.std.proofs.Common.{◌≡◌, ℕ, suc, ◌-◌, ◌%◌, ◌<◌, ◌≤◌, List, [], ◌∷◌, ◌++◌, length, refl, sym, ap, subst, ◌∙◌, arith, append-nil}
+use Rattle.std.specs.Str.{byte}
+use Rattle.std.specs.List.{AllByRecursion}
 use Rattle.resp_value.specs.Data.{Kind}
 use Rattle.resp_value.specs.Data as d
 use Rattle.resp_value.specs.Numbers.{Unsigned}
@@ -15,6 +17,10 @@ use Rattle.resp_value.specs.declared.cause.Cause.{Cause}
 use Rattle.resp_value.specs.declared.cause.Cause.TheVariants as cause
 use Rattle.resp_value.specs.declared.version.Version.{Version}
 use Rattle.resp_value.specs.declared.version.Version.TheVariants as version
+use Rattle.resp_value.specs.declared.kind.OpenKind.{OpenKind}
+use Rattle.resp_value.specs.declared.kind.OpenKind.TheVariants as kind
+use Rattle.resp_value.specs.Kinds.{kind_of}
+use Rattle.resp_value.proofs.Choices.{if_within}
 use Rattle.resp_fronts.specs.Frames as opened
 use Rattle.resp_fronts.specs.Frames.{text_around}
 use Rattle.resp_fronts.specs.Events.{Event, events_around, without_places}
@@ -29,8 +35,9 @@ use Rattle.resp_fronts.proofs.Refusals.FirstRuleBroken.{grammar_cause}
 use Rattle.resp_fronts.proofs.Tokens.LineTokens.{line_begun, text_token_begins}
 use Rattle.resp_fronts.proofs.Tokens.NumberTokens.{null_token_line, number_begun, truth_begun}
 use Rattle.resp_fronts.proofs.Between.RefusedBetweenValues.{GoesOn, refuse_stop}
-use Rattle.resp_value.specs.declared.kind.OpenKind.{OpenKind}
-use Rattle.resp_value.specs.declared.kind.OpenKind.TheVariants as kind
+use Rattle.resp_fronts.specs.OpenLevels.{AreLevelsOf, AreReady, HasShape, Level, so_far}
+use Rattle.resp_fronts.specs.Tokens.{IsTextLine}
+use Rattle.resp_fronts.proofs.Refusals.FirstByteCauses.{at_answer, and_rows}
 use Rattle.resp_scan.specs.declared.event.TextKind.TheVariants as text
 use Rattle.resp_scan.specs.declared.frame.Frame.{Frame}
 use Rattle.resp_scan.specs.declared.frame.Shape.{Shape}
@@ -43,7 +50,6 @@ use Rattle.resp_scan.specs.Machine.Heads.{first_needed}
 use Rattle.resp_scan.specs.Machine.Room.{after_begin, is_full}
 use Rattle.resp_scan.specs.Machine.Moves as machine
 use Rattle.resp_scan.specs.Machine.Moves.{aggregate_move, begin_move, close_move, line_move, may_close, may_close_of, push_move, start_next, start_three, move_unless, next}
-use Rattle.resp_value.specs.Kinds.{kind_of}
 use Rattle.resp_scan.specs.Kinds.{IsRefusedFor, event_of, rules_of}
 use Rattle.resp_scan.specs.Machine.Beginnings as b
 use Rattle.resp_scan.specs.Machine.Beginnings.{AggregateBegun, LineBegun, NullLine}
@@ -51,12 +57,6 @@ use Rattle.resp_scan.specs.Machine.Standing.{AwaitsMember, IsClosing, HasCountsO
 use Rattle.resp_scan.proofs.TokenMoves.Begins.{begins_leads, is_between, length-waiting}
 use Rattle.resp_scan.proofs.HeadMoves.HeadsLead.{aggregate_row, no_two_in_three, attribute_row}
 use Rattle.resp_scan.proofs.TokenMoves.LinesLead.{line_row}
-use Rattle.resp_fronts.specs.OpenLevels.{AreLevelsOf, AreReady, HasShape, Level, so_far}
-use Rattle.resp_fronts.specs.Tokens.{IsTextLine}
-use Rattle.resp_value.proofs.Choices.{if_within}
-use Rattle.std.specs.Str.{byte}
-use Rattle.std.specs.List.{AllByRecursion}
-use Rattle.resp_fronts.proofs.Refusals.FirstByteCauses.{at_answer}
 use Rattle.resp_scan.proofs.Soundness.SoundStarts.{start_rows}
 use Rattle.resp_scan.proofs.Soundness.SoundFrames.{begun_rules}
 
@@ -161,7 +161,12 @@ push_leads s front es c w no_two answer = case s.frames answer c w
         HasCountsOf (record s { token = AtStart; frames = fs }) 0 front → AwaitsMember (rules_of s) fs front es →
         Leads (record s { token = AtStart; frames = fs }) front es 62 (push_move (record s { token = AtStart; frames = fs }) fs)
     case [] answer c w = aggregate_leads (record s { frames = [] }) d.Push head.Push front es (λ level i. i)
-        (λ took. record { took = took; row = λ level bytes shown i u. aggregate_row (rules_of s) d.Push level bytes shown refl u; lies = λ fs x y inside. inside })
+        (λ took. record {
+          took = took;
+          row = λ level bytes shown i u. aggregate_row (rules_of s) d.Push level bytes shown refl u;
+          lies =
+              λ fs x y inside. inside;
+        })
         (λ z. omega arith) c w no_two answer
     case (f ∷ fs) answer c w = answer_named (record s { token = AtStart; frames = f ∷ fs }) front es 62 PushAtTop cause.NestedPush c (λ z. omega arith) w
         answer refl
@@ -302,62 +307,39 @@ verbatim_begins s roomy no_two = record {
 -- each of these bytes leads where its row says
 start_rows_lead : (s : Place) (front : List ℕ) (es : List Event) → HasCountsOf (at s AtStart) 0 front → StandsAfter (at s AtStart) front es →
     AllByRecursion (λ row. Leads (at s AtStart) front es row.0 row.1) (start_rows (at s AtStart))
-start_rows_lead s front es c w = (
-  line_leads s t.Simple (k.Text text.Simple) front es tt refl (λ z. omega arith) refl c w,
-  (
-    line_leads s t.Error (k.Text text.Error) front es tt refl (λ z. omega arith) refl c w,
-    (
-      token_leads s AtIntSign 58 3 front es (int_begins s) (λ z. omega arith) c w refl,
-      (
-        token_leads s AtBulkHead 36 4 front es (bulk_begins s) (λ z. omega arith) c w refl,
-        (
-          token_leads s AtArrayHead 42 (cond (is_full (at s AtStart)) 4 3) front es (array_begins s) (λ z. omega arith) c w refl,
-          (
-            close_leads s front es w,
-            (
-              answer_named (at s AtStart) front es 44 NoDouble cause.Double c (λ z. omega arith) w refl refl,
-              (
-                later AtNullCr 95 2 (null_begins s) (λ z. omega arith) refl,
-                (
-                  later AtBool 35 3 (truth_begins s) (λ z. omega arith) refl,
-                  (
-                    later AtBigSign 40 3 (big_begins s roomy) (λ z. omega arith) refl,
-                    (
-                      later (AtHead head.BulkError) 33 5 (bulk_error_begins s) (λ z. omega arith) refl,
-                      (
-                        later (AtHead head.Verbatim) 61 9 (verbatim_begins s roomy) (λ z. omega arith) refl,
-                        (
-                          later_aggregate d.Set head.Set (λ level i. tt)
-                              (λ took. record { took = took; row = λ level bytes shown i u. aggregate_row (rules_of s) d.Set level bytes shown refl u; lies = λ fs x y inside. inside })
-                              (λ z. omega arith) refl,
-                          (
-                            later_aggregate d.Map head.Map (λ level i. tt)
-                                (λ took. record { took = took; row = λ level bytes shown i u. aggregate_row (rules_of s) d.Map level bytes shown refl u; lies = λ fs x y inside. inside })
-                                (λ z. omega arith) refl,
-                            (
-                              later_aggregate d.Attr head.Attr (λ level i. tt)
-                                  (λ took. record { took = took; row = λ level bytes shown i u. attribute_row (rules_of s) level bytes shown u; lies = λ fs x y inside. inside })
-                                  (λ z. omega arith) refl,
-                              (
-                                three_leads s 62 front es (push_refusal (rules_of s) (length s.frames)) (push_move (at s AtStart) s.frames) (λ z. omega arith) refl c w
-                                    (push_leads s front es c w),
-                                tt,
-                              ),
-                            ),
-                          ),
-                        ),
-                      ),
-                    ),
-                  ),
-                ),
-              ),
-            ),
-          ),
-        ),
-      ),
-    ),
-  ),
-)
+start_rows_lead s front es c w =
+    and_rows (line_leads s t.Simple (k.Text text.Simple) front es tt refl (λ z. omega arith) refl c w)
+    (and_rows (line_leads s t.Error (k.Text text.Error) front es tt refl (λ z. omega arith) refl c w)
+    (and_rows (token_leads s AtIntSign 58 3 front es (int_begins s) (λ z. omega arith) c w refl)
+    (and_rows (token_leads s AtBulkHead 36 4 front es (bulk_begins s) (λ z. omega arith) c w refl)
+    (and_rows (token_leads s AtArrayHead 42 (cond (is_full (at s AtStart)) 4 3) front es (array_begins s) (λ z. omega arith) c w refl)
+    (and_rows (close_leads s front es w)
+    (and_rows (answer_named (at s AtStart) front es 44 NoDouble cause.Double c (λ z. omega arith) w refl refl)
+    (and_rows (later AtNullCr 95 2 (null_begins s) (λ z. omega arith) refl)
+    (and_rows (later AtBool 35 3 (truth_begins s) (λ z. omega arith) refl)
+    (and_rows (later AtBigSign 40 3 (big_begins s roomy) (λ z. omega arith) refl)
+    (and_rows (later (AtHead head.BulkError) 33 5 (bulk_error_begins s) (λ z. omega arith) refl)
+    (and_rows (later (AtHead head.Verbatim) 61 9 (verbatim_begins s roomy) (λ z. omega arith) refl)
+    (and_rows (later_aggregate d.Set head.Set (λ level i. tt) (λ took. record {
+      took = took;
+      row =
+          λ level bytes shown i u. aggregate_row (rules_of s) d.Set level bytes shown refl u;
+      lies = λ fs x y inside. inside;
+    }) (λ z. omega arith) refl)
+    (and_rows (later_aggregate d.Map head.Map (λ level i. tt) (λ took. record {
+      took = took;
+      row =
+          λ level bytes shown i u. aggregate_row (rules_of s) d.Map level bytes shown refl u;
+      lies = λ fs x y inside. inside;
+    }) (λ z. omega arith) refl)
+    (and_rows (later_aggregate d.Attr head.Attr (λ level i. tt) (λ took. record {
+      took = took;
+      row =
+          λ level bytes shown i u. attribute_row (rules_of s) level bytes shown u;
+      lies = λ fs x y inside. inside;
+    }) (λ z. omega arith) refl)
+    (and_rows (three_leads s 62 front es (push_refusal (rules_of s) (length s.frames)) (push_move (at s AtStart) s.frames) (λ z. omega arith) refl c w
+    (push_leads s front es c w)) tt)))))))))))))))
   where
     roomy : 64 ≤ s.bounds.length
     roomy = c.sound.bounds.length_in_range.0
@@ -385,9 +367,11 @@ other_answer [] other byte apart = refl
 other_answer (row ∷ rows) other byte apart = rw (ne_eqb byte row.0 apart.0) (other_answer rows other byte apart.1)
 
 -- every byte where a value may begin
-pub start_leads : (s : Place) (byte : ℕ) (front : List ℕ) (es : List Event) → byte < 256 → HasCountsOf (at s AtStart) 0 front → StandsAfter (at s AtStart) front es → Leads (at s AtStart) front es byte (next (at s AtStart) 1 byte)
+pub start_leads : (s : Place) (byte : ℕ) (front : List ℕ) (es : List Event) → byte < 256 → HasCountsOf (at s AtStart) 0 front →
+    StandsAfter (at s AtStart) front es → Leads (at s AtStart) front es byte (next (at s AtStart) 1 byte)
 start_leads s byte front es is_byte c w =
     let q = at s AtStart in
     at_answer (λ x v. Leads q front es x v) (start_rows q) (Refuse cause.Syntax) byte (start_rows_lead s front es c w)
-    (λ apart. answer_named q front es byte Grammar cause.Syntax c apart.1.1.1.1.1.0 w (other_answer (first_byte_answers (rules_of s) (length s.frames)) (Some Grammar) byte
+    (λ apart. answer_named q front es byte Grammar cause.Syntax c apart.1.1.1.1.1.0 w
+    (other_answer (first_byte_answers (rules_of s) (length s.frames)) (Some Grammar) byte
     (apart.1.1.1.1.1.1.0, (apart.0, (apart.1.0, (apart.1.1.0, (apart.1.1.1.0, (apart.1.1.1.1.0, apart.1.1.1.1.1.1.1))))))) refl)

@@ -8,18 +8,17 @@ use Rattle.resp_fronts.proofs.Tokens.BegunFronts.{IsBegunBy}
 use Rattle.resp_fronts.proofs.Tokens.StreamedHeads.{streamed_string_begun}
 use Rattle.resp_fronts.proofs.Tokens.ChunkTokens.{chunks_begun, stream_returned_begun}
 use Rattle.resp_fronts.proofs.Refusals.BrokenChunks.{chunks_broken, stream_mark_broken, stream_returned_broken}
+use Rattle.resp_fronts.specs.Tokens.{HasStreamed}
 use Rattle.resp_scan.specs.declared.event.TextKind.TheVariants as text
 use Rattle.resp_scan.specs.declared.machine.Head.TheVariants as head
 use Rattle.resp_scan.specs.Machine.Tokens.{Go, Give, Text, AtStreamCr, AtStreamLf, AtChunk, AtHead, at, Place}
 use Rattle.resp_scan.specs.Kinds.{rules_of}
 use Rattle.resp_scan.specs.Machine.Beginnings.{ChunksBegun}
 use Rattle.resp_scan.specs.Machine.Standing.{Leads, StandsAfter}
-use Rattle.resp_scan.proofs.TokenMoves.TokenLaws.{ALead}
 use Rattle.resp_scan.proofs.TokenMoves.ByteTests.{wanted}
 use Rattle.resp_scan.proofs.TokenMoves.ChunksBegun.{are_whole, chunks_more}
-use Rattle.resp_scan.proofs.TokenMoves.Moves.{goes, tells}
+use Rattle.resp_scan.proofs.TokenMoves.Moves.{goes, tells, ALead}
 use Rattle.resp_scan.proofs.TokenMoves.RefusedMoves.{broken}
-use Rattle.resp_fronts.specs.Tokens.{HasStreamed}
 
 -- these bytes of a streamed string's line
 abbrev IsStream : Rules → List ℕ → ℕ → List ℕ → List Event → Type 0

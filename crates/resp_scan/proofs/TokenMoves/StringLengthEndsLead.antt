@@ -9,6 +9,7 @@ use Rattle.resp_fronts.specs.Events as e
 use Rattle.resp_fronts.proofs.FirstLines.CountRows.{CompletesUnder}
 use Rattle.resp_fronts.proofs.Tokens.BegunFronts.{IsBegunBy}
 use Rattle.resp_fronts.proofs.Tokens.StringTokens.{HasRoom, length_returned_begun, length_returned_broken, payload_begins}
+use Rattle.resp_fronts.specs.Tokens.{IsContentToken, zeros}
 use Rattle.resp_scan.specs.declared.machine.Head.{Head}
 use Rattle.resp_scan.specs.declared.machine.Head.TheVariants as head
 use Rattle.resp_scan.specs.Machine.Tokens.{Move, Place, AtHeadLf, at}
@@ -19,11 +20,9 @@ use Rattle.resp_scan.specs.Machine.Beginnings.{ContentBegun, FormatBegun, HeadRe
 use Rattle.resp_scan.specs.Machine.Standing.{IsInside, Leads, StandsAfter}
 use Rattle.resp_scan.proofs.TokenMoves.ByteTests.{wanted}
 use Rattle.resp_scan.proofs.TokenMoves.ContentLead.{content_lies}
-use Rattle.resp_scan.proofs.TokenMoves.Moves.{goes, retold, tells}
+use Rattle.resp_scan.proofs.TokenMoves.Moves.{goes, retold, tells, ALead, IsOfString}
 use Rattle.resp_scan.proofs.TokenMoves.RefusedMoves.{broken}
 use Rattle.resp_scan.proofs.HeadMoves.StringHeads.{IsStringHead, bulk, bulk_error, verbatim}
-use Rattle.resp_fronts.specs.Tokens.{IsContentToken, zeros}
-use Rattle.resp_scan.proofs.TokenMoves.TokenLaws.{ALead, IsOfString}
 
 -- a length that is whole, with its CR
 abbrev Returned : Rules → StringKind → ℕ → ℕ → List ℕ → List Event → Type 0

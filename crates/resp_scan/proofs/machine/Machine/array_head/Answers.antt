@@ -2,8 +2,8 @@ use Rattle.std.proofs.Common.{◌≡◌, ◌≢◌, ◌-◌, ◌<◌, false, len
 use Rattle.std.proofs.lemmas.Grind.{common_steps}
 use Rattle.resp_scan.specs.Machine.Fields.{place_of}
 use Rattle.resp_scan.specs.Machine.Room.{is_full}
-use Rattle.resp_scan.proofs.HeadMoves.ArrayHeads.{array_scan}
 use Rattle.resp_scan.proofs.machine.Machine.array_head.Goals as goal
+use Rattle.resp_scan.proofs.Soundness.Starts.{array_scan}
 
 pub returns : goal.returns
 returns c =
