@@ -26,16 +26,19 @@ IsNumber n text = IsDigits text × (number text ≡ n)
 abbrev pub decimal : ℕ → List ℕ
 decimal n = map (λ digit. digit + byte "0") (cond (eqb n 0) (0 ∷ []) (digits_of 10 n))
 
+-- a sign as it is spelled, or none
 pub data Sign : Type 0 where
   Unsigned : Sign
   Plus : Sign
   Minus : Sign
 
+-- a sign as it is spelled
 abbrev pub sign_text : Sign → List ℕ
 sign_text Unsigned = []
 sign_text Plus = codes "+"
 sign_text Minus = codes "-"
 
+-- whether the sign is a minus
 abbrev pub is_minus : Sign → Bool
 is_minus Minus = true
 is_minus _ = false

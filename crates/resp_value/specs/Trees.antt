@@ -7,11 +7,13 @@ use Rattle.resp_value.specs.Bytes.{IsText, IsLine, IsFull, crlf}
 use Rattle.resp_value.specs.Numbers.{IsDigits, IsNumber, number, Sign, sign_text}
 use Rattle.resp_value.specs.Data.{Kind, Array, Set, Map, Attr, Push, members_of}
 
+-- what stands on one line as it is: a simple string, an error or a double
 pub data LineKind : Type 0 where
   Simple : LineKind
   Error : LineKind
   Double : LineKind
 
+-- an integer, or a big number
 pub data NumberKind : Type 0 where
   Int : NumberKind
   Big : NumberKind
@@ -33,6 +35,7 @@ pub record Chunk : Type 0 where
   pub digits : List ℕ
   pub content : List ℕ
 
+-- a value without members, as it is spelled
 pub data Leaf : Type 0 where
   line : LineKind → List ℕ → Leaf
   numeral : NumberKind → Sign → List ℕ → Leaf
@@ -48,6 +51,7 @@ pub data Form : Type 0 where
   Counted : List ℕ → Form
   Streamed : Form
 
+-- a leaf, or an aggregate of a kind and a form over its members
 mutual
   pub data Tree : Type 0 where
     leaf : Leaf → Tree
@@ -57,24 +61,29 @@ mutual
     none : Trees
     more : Tree → Trees → Trees
 
+-- the type byte of a line
 abbrev pub line_byte : LineKind → ℕ
 line_byte Simple = byte "+"
 line_byte Error = byte "-"
 line_byte Double = byte ","
 
+-- the type byte of a number
 abbrev pub number_byte : NumberKind → ℕ
 number_byte Int = byte ":"
 number_byte Big = byte "("
 
+-- the line of a null
 abbrev pub null_line : NullForm → List ℕ
 null_line BulkNull = codes "$-1"
 null_line ArrayNull = codes "*-1"
 null_line PlainNull = codes "_"
 
+-- the line of a truth value
 abbrev pub truth_line : Bool → List ℕ
 truth_line true = codes "#t"
 truth_line false = codes "#f"
 
+-- the type byte of a string
 abbrev pub string_byte : StringKind → ℕ
 string_byte Bulk = byte "$"
 string_byte BulkError = byte "!"
@@ -82,10 +91,10 @@ string_byte (Verbatim format) = byte "="
 
 -- the bytes that a string's length counts
 abbrev pub payload : StringKind → List ℕ → List ℕ
-payload Bulk s = s
-payload BulkError s = s
 payload (Verbatim format) s = format ++ (byte ":" ∷ s)
+payload _ s = s
 
+-- the type byte of an aggregate
 abbrev pub kind_byte : Kind → ℕ
 kind_byte Array = byte "*"
 kind_byte Set = byte "~"
@@ -114,13 +123,11 @@ chunks_text (c ∷ cs) rest = (byte ";" ∷ c.digits) ++ crlf (c.content ++ crlf
 
 -- what follows the first line
 abbrev pub leaf_rest : Leaf → List ℕ
-leaf_rest (line k s) = []
-leaf_rest (numeral k sign digits) = []
-leaf_rest (null form) = []
-leaf_rest (truth b) = []
 leaf_rest (string k digits s) = payload k s ++ crlf []
 leaf_rest (chunked chunks zeros) = chunks_text chunks ((byte ";" ∷ zeros) ++ crlf [])
+leaf_rest _ = []
 
+-- the text of a leaf
 abbrev pub leaf_text : Leaf → List ℕ
 leaf_text l = leaf_line l ++ crlf (leaf_rest l)
 
@@ -139,6 +146,7 @@ abbrev mutual
   texts none = []
   texts (more t ts) = text t ++ texts ts
 
+-- how many trees stand side by side
 abbrev pub count : Trees → ℕ
 count none = 0
 count (more t ts) = count ts + 1
@@ -154,31 +162,30 @@ IsChunk c = IsNumber (length c.content) c.digits × IsFull c.content × IsText c
 
 -- a format is any three bytes
 abbrev pub HasFormat : StringKind → Type 0
-HasFormat Bulk = Unit {0}
-HasFormat BulkError = Unit {0}
 HasFormat (Verbatim format) = (length format ≡ 3) × IsText format
+HasFormat _ = Unit {0}
 
+-- the leaf is one of the grammar's
 abbrev pub IsLeaf : Leaf → Type 0
 IsLeaf (line k s) = IsLine s × IsText s
 IsLeaf (numeral k sign digits) = IsDigits digits
-IsLeaf (null form) = Unit {0}
-IsLeaf (truth b) = Unit {0}
 IsLeaf (string k digits s) = IsNumber (length (payload k s)) digits × HasFormat k × IsText s
 IsLeaf (chunked chunks zeros) = AllByRecursion IsChunk chunks × IsNumber 0 zeros
+IsLeaf _ = Unit {0}
 
 -- attributes and pushes aren't streamed, and a map is streamed by whole pairs
 abbrev pub CanStream : Kind → ℕ → Type 0
-CanStream Array n = Unit {0}
-CanStream Set n = Unit {0}
 CanStream Map n = (pairs : ℕ) × (pairs + pairs ≡ n)
 CanStream Attr n = ⊥
 CanStream Push n = ⊥
+CanStream _ n = Unit {0}
 
 -- an aggregate of this form may have so many members
 abbrev pub HasMembers : Kind → Form → ℕ → Type 0
 HasMembers k (Counted digits) n = IsDigits digits × (members_of k (number digits) ≡ n)
 HasMembers k Streamed n = CanStream k n
 
+-- the tree is one of the grammar's
 abbrev mutual
   pub IsTree : Tree → Type 0
   IsTree (leaf l) = IsLeaf l
