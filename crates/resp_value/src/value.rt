@@ -141,7 +141,8 @@ impl Value {
 
 #[cycle(copy)]
 fn copy_members(members: &Members, alloc: Global) -> Result<Members, AllocError>
-    ensures { IfOk result (λ copy. map datum_of (list_of copy) ≡ map datum_of (list_of members.now)) }
+    ensures { IfOk result (λ copy. map datum_of (list_of copy) ≡
+        map datum_of (list_of members.now)) }
 {
     let mut items = Vec::new(alloc);
     for member in members.list() {
