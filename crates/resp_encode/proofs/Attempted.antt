@@ -117,7 +117,7 @@ have_types_with : (version : Version) (xs : Data) (x : Datum) → HaveTypes vers
 have_types_with Two xs x p q = in_two_with xs x p q
 have_types_with Three xs x p q = tt
 
--- and one more
+-- members and one more suit where each of them does
 pub suit_with : (version : Version) (bounds : Bounds) (deeper : ℕ) (xs : Data) (x : Datum) →
     SuitEach version bounds deeper xs → Suits version bounds deeper x →
     HasNoPush x → SuitEach version bounds deeper (extended xs x)

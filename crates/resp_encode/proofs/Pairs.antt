@@ -7,7 +7,7 @@ use Rattle.resp_encode.specs.declared.digits.TheConstants.{PAIRS}
 abbrev stand_at : ℕ → Bool
 stand_at n = eqb (get_or PAIRS (n * 2) 0) (48 + n / 10) && eqb (get_or PAIRS (n * 2 + 1) 0) (48 + n % 10)
 
--- those of each number below this one
+-- the digits of each number below this one stand at their places
 abbrev stand_below : ℕ → Bool
 stand_below zero = true
 stand_below (suc n) = stand_at n && stand_below n

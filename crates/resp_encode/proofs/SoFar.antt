@@ -71,7 +71,7 @@ text_room version f xs i d h = omega (
   ap (λ ys. length (texts (canonical_trees version (data_of_list ys)))) (map-split f (i + 1) xs),
 )
 
--- the same of a pair
+-- the text of the next pair stands within the text of all pairs
 pub pair_room : {A : Type 0} (version : Version) (f : A → Datum × Datum) (xs : List A) (i : ℕ) (d : A) → i < length xs →
     length (texts (canonical_trees version (data_of_list (in_turn (map f (take i xs)))))) + length
     (canonical_text version (f (get_or xs i d)).0) + length

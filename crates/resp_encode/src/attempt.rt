@@ -31,6 +31,7 @@ use scalars::{
 
 mod scalars;
 
+/// Whether the version has the kind.
 #[inline]
 fn has_kind(version: Version, kind: OpenKind) -> bool
     ensures { OnTrue result (HasKind version (kind_of kind)) }
@@ -78,7 +79,8 @@ fn attempt_value(
     deeper: u64,
     out: &mut BytesMut,
 ) -> bool
-    ensures attempt { Attempt version limits.now deeper (datum_of value.now) out.old out.new result }
+    ensures attempt { Attempt version limits.now deeper (datum_of value.now)
+        out.old out.new result }
     ensures no_push { OnTrue result (HasNoPush (datum_of value.now)) }
 {
     match value {
@@ -129,7 +131,8 @@ fn attempt_group(
 ) -> bool
     requires { (n : ℕ) → items_of (kind_of kind) n ≡ n }
     ensures { Attempt version limits.now deeper
-        (aggregate (kind_of kind) (data_of_list (map datum_of members.now))) out.old out.new result }
+        (aggregate (kind_of kind) (data_of_list (map datum_of members.now)))
+        out.old out.new result }
 {
     if !attempt_head(members.len() as u64, kind, version, limits, deeper, out) {
         return false;
@@ -148,7 +151,8 @@ fn attempt_map(
     out: &mut BytesMut,
 ) -> bool
     ensures { Attempt version limits.now deeper
-        (aggregate d.Map (data_of_list (in_turn (map pair_data pairs.now)))) out.old out.new result }
+        (aggregate d.Map (data_of_list (in_turn (map pair_data pairs.now))))
+        out.old out.new result }
 {
     if !attempt_head(
         pairs.len() as u64,
@@ -199,7 +203,8 @@ fn attempt_annotated(
     deeper: u64,
     out: &mut BytesMut,
 ) -> bool
-    ensures attempt { Attempt version limits.now deeper (datum_of value.now) out.old out.new result }
+    ensures attempt { Attempt version limits.now deeper (datum_of value.now)
+        out.old out.new result }
     ensures no_push { OnTrue result (HasNoPush (datum_of value.now)) }
 {
     attempt_value(value, version, limits, deeper, out)

@@ -3,8 +3,8 @@
 use resp_value::cause::Limit;
 use thiserror::Error;
 
-/// Why a value was not appended. Where a value has several faults, the first in this order is
-/// named.
+/// Why a value was not appended, and the buffer left as it was. Where a value has several faults,
+/// the first in this order is named.
 #[derive(Clone, Copy, Debug, PartialEq, Eq, Error)]
 pub enum EncodeError {
     /// The value holds a type that the version hasn't.
@@ -13,7 +13,7 @@ pub enum EncodeError {
     /// A push stands below the top of the value.
     #[error("a push stands below the top")]
     NestedPush,
-    /// The value breaks this limit, and none before it.
+    /// The value breaks this limit, and none that is tested before it.
     #[error("the value is over a limit")]
     OverLimits(Limit),
     /// A growth of the buffer was refused.

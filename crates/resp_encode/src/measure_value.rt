@@ -140,7 +140,8 @@ pub(crate) fn measure_value(value: &Value, version: Version) -> Measure
 fn measure_map(pairs: &[(Value, Value)], version: Version) -> Measure
     ensures found { Describes version (aggregate d.Map
         (data_of_list (in_turn (map pair_data pairs.now)))) result }
-    ensures is_value { IsValue (aggregate d.Map (data_of_list (in_turn (map pair_data pairs.now)))) }
+    ensures is_value { IsValue (aggregate d.Map
+        (data_of_list (in_turn (map pair_data pairs.now)))) }
 {
     measure_pairs(pairs, version).inside(OpenKind::Map, pairs.len() as u64)
 }
@@ -195,7 +196,8 @@ fn measure_members(members: &[Value], version: Version) -> Measure
 /// The measure of keys and values in turn.
 #[cycle(measure)]
 fn measure_pairs(pairs: &[(Value, Value)], version: Version) -> Measure
-    ensures found { DescribesEach version (data_of_list (in_turn (map pair_data pairs.now))) result }
+    ensures found { DescribesEach version
+        (data_of_list (in_turn (map pair_data pairs.now))) result }
     ensures are_values { AreValues (data_of_list (in_turn (map pair_data pairs.now))) }
 {
     let mut found = Measure::nothing();

@@ -57,7 +57,7 @@ fn check_encode(
     check_into(rt, roomy, version, limits, value, want)
 }
 
-/// The same at one buffer, and that a refused call leaves the buffer.
+/// Encodes into one buffer, which a refused call has to leave as it is.
 fn check_into(
     rt: &impl Abort,
     mut out: BytesMut,

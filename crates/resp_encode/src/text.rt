@@ -121,6 +121,7 @@ fn write_end(out: &mut BytesMut)
     out.extend_reserved(&end);
 }
 
+/// Appends Null as the version writes it.
 #[inline]
 pub(crate) fn write_null(out: &mut BytesMut, version: Version)
     requires { length (canonical_text version (scalar d.Null)) ≤ out.old.spare }
@@ -132,6 +133,7 @@ pub(crate) fn write_null(out: &mut BytesMut, version: Version)
     }
 }
 
+/// Appends a truth value.
 #[inline]
 pub(crate) fn write_bool(out: &mut BytesMut, truth: bool)
     requires { 4 ≤ out.old.spare }
@@ -144,6 +146,7 @@ pub(crate) fn write_bool(out: &mut BytesMut, truth: bool)
     }
 }
 
+/// Appends an integer.
 #[inline(always)]
 pub(crate) fn write_int(out: &mut BytesMut, number: &i64)
     requires { length (canonical_text Three (scalar (d.Int number.now))) ≤ out.old.spare }
@@ -186,7 +189,8 @@ pub(crate) fn write_string(out: &mut BytesMut, byte: u8, bytes: &[u8])
 pub(crate) fn write_verbatim(out: &mut BytesMut, format: &[u8; 3], text: &[u8])
     requires { length (canonical_text Three (scalar (d.Verbatim format.now text.now))) ≤
         out.old.spare }
-    ensures { Fills out.old out.new (canonical_text Three (scalar (d.Verbatim format.now text.now))) }
+    ensures { Fills out.old out.new
+        (canonical_text Three (scalar (d.Verbatim format.now text.now))) }
 {
     write_head(out, b'=', text.len() as u64 + 4);
     out.extend_reserved(format);
@@ -195,6 +199,7 @@ pub(crate) fn write_verbatim(out: &mut BytesMut, format: &[u8; 3], text: &[u8])
     write_end(out);
 }
 
+/// Appends a big number.
 #[inline]
 pub(crate) fn write_big(out: &mut BytesMut, negative: bool, digits: &[u8])
     requires { length (canonical_text Three (scalar (d.Big negative digits.now))) ≤ out.old.spare }
@@ -242,6 +247,7 @@ pub(crate) fn write_value(value: &Value, version: Version, out: &mut BytesMut)
     }
 }
 
+/// Appends the text of the value that an attribute annotates.
 #[cycle(write)]
 #[inline(never)]
 fn write_annotated(value: &Value, version: Version, out: &mut BytesMut)
@@ -256,7 +262,8 @@ fn write_annotated(value: &Value, version: Version, out: &mut BytesMut)
 #[inline(never)]
 pub(crate) fn write_group(members: &[Value], version: Version, byte: u8, out: &mut BytesMut)
     requires { length (decimal (length members.now)) + 3 + length
-        (texts (canonical_trees version (data_of_list (map datum_of members.now)))) ≤ out.old.spare }
+        (texts (canonical_trees version (data_of_list (map datum_of members.now)))) ≤
+        out.old.spare }
     ensures { Fills out.old out.new (byte ∷ decimal (length members.now) ++
         crlf (texts (canonical_trees version (data_of_list (map datum_of members.now))))) }
 {

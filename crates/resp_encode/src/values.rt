@@ -50,7 +50,7 @@ pub fn encode(
     Ok(())
 }
 
-/// The length of the text of a value, or its first fault.
+/// The bytes of the text of a value, or its first fault.
 #[cold]
 #[inline(never)]
 fn checked_value_size(
@@ -77,7 +77,7 @@ fn write_whole(value: &Value, version: Version, out: &mut BytesMut)
     write_value(value, version, out);
 }
 
-/// The length of the text of a push of these values, or its first fault.
+/// The bytes of the text of a push of these values, or its first fault.
 fn checked_push_size(limits: &Limits, items: &[Value]) -> Result<usize, EncodeError>
     ensures verdict { IsVerdict (rules_under Three limits.now) (push_of items.now) result }
     ensures size { IfOk result (λ size. size ≡ length (canonical_text Three (push_of items.now))) }
@@ -95,8 +95,10 @@ fn write_push(items: &[Value], out: &mut BytesMut)
     write_group(items, Version::Three, b'>', out);
 }
 
-/// Appends the canonical text of a push of these values, as `encode` does of the value in version
-/// 3.
+/// Appends the canonical text of a push of these values in version 3 (Redis serialization protocol
+/// specification, "Pushes"), whole or not at all.
+///
+/// Refuses as `encode` does for that push, and then the buffer holds what it held.
 pub fn encode_push(limits: &Limits, items: &[Value], out: &mut BytesMut) -> Result<(), EncodeError>
     ensures verdict { IsVerdict (rules_under Three limits.now) (push_of items.now) result }
     ensures whole_or_nothing { AppendsWhole out.old out.new
@@ -108,8 +110,10 @@ pub fn encode_push(limits: &Limits, items: &[Value], out: &mut BytesMut) -> Resu
     Ok(())
 }
 
-/// The length of the canonical text of a value in bytes. `None` exactly where the version lacks a
-/// type of the value, where a push stands below its top, and where a `u64` doesn't hold the length.
+/// The length of the canonical text of a value in bytes, under no limits. Takes no memory.
+///
+/// `None` exactly where the version lacks a type of the value, where a push stands below its top,
+/// and where a `u64` doesn't hold the length.
 pub fn size(version: Version, value: &Value) -> Option<u64>
     ensures length { IfSome result (λ n. n ≡ length (canonical_text version (datum_of value.now))) }
     ensures some { IsSome result ↔ (HasText version (datum_of value.now) ×

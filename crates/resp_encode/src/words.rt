@@ -23,6 +23,7 @@ use resp_value::kind::OpenKind;
 use resp_value::limits::Limits;
 use resp_value::version::Version;
 
+/// The measure of words as bulk strings side by side.
 fn measure_words(words: &[Vec<u8>]) -> Measure
     ensures found { DescribesEach Two (data_of_list (map word_datum (texts_of words.now))) result }
     ensures are_values { AreValues (data_of_list (map word_datum (texts_of words.now))) }
@@ -34,6 +35,7 @@ fn measure_words(words: &[Vec<u8>]) -> Measure
     found
 }
 
+/// Appends each word as a bulk string into room that is there.
 fn write_each(words: &[Vec<u8>], out: &mut BytesMut)
     requires { length (texts (canonical_trees Two
         (data_of_list (map word_datum (texts_of words.now))))) ≤ out.old.spare }
@@ -54,7 +56,7 @@ fn write_words(words: &[Vec<u8>], out: &mut BytesMut)
     write_each(words, out);
 }
 
-/// The length of a command's text, or the first limit that it breaks.
+/// The bytes of a command's text, or the first limit that it breaks.
 fn checked_words_size(limits: &Limits, words: &[Vec<u8>]) -> Result<usize, EncodeError>
     ensures verdict { IsVerdict (rules_under Two limits.now) (command_of (texts_of words.now))
         result }
@@ -66,8 +68,8 @@ fn checked_words_size(limits: &Limits, words: &[Vec<u8>]) -> Result<usize, Encod
     checked_size(&found, Version::Two, limits)
 }
 
-/// Whether `encode_words` takes these words, memory aside: the same answer but for want of memory.
-/// Takes none.
+/// Whether `encode_words` takes these words: it answers as that does, but never want of memory.
+/// Takes no memory.
 pub fn check_words(limits: &Limits, words: &[Vec<u8>]) -> Result<(), EncodeError>
     ensures verdict { IsVerdict (rules_under Two limits.now) (command_of (texts_of words.now))
         result }
@@ -77,8 +79,11 @@ pub fn check_words(limits: &Limits, words: &[Vec<u8>]) -> Result<(), EncodeError
     Ok(())
 }
 
-/// Appends the canonical text of a command, as `encode` does of the array of these words as bulk
-/// strings in version 2.
+/// Appends the canonical text of a command, whole or not at all: the array of these words as bulk
+/// strings in version 2 (Redis serialization protocol specification, "Sending commands to a Redis
+/// server").
+///
+/// Refuses as `encode` does for that array, and then the buffer holds what it held.
 pub fn encode_words(
     limits: &Limits,
     words: &[Vec<u8>],

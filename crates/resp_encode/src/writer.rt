@@ -20,9 +20,9 @@ use std::alloc::Global;
 /// Writes the canonical text of a value by one write after another, and answers its length in
 /// bytes.
 ///
-/// The text is made in memory first. The refusals of `encode` come before anything is written.
-/// Where a write fails or takes no byte, the bytes written so far are a beginning of the text, of
-/// the length that the refusal tells.
+/// The text is made in memory first, so the refusals of `encode` come before anything is written.
+/// Where a write fails or takes no byte, the bytes that were written are a beginning of the text,
+/// as many as the refusal tells. No further write is made then.
 pub fn encode_to<W: Sink>(
     alloc: Global,
     version: Version,

@@ -192,7 +192,7 @@ mutual
   gather_each r rule level none h = tt
   gather_each r rule level (more t ts) h = (gather r rule level t (λ earlier e. (h earlier e).0), gather_each r rule level ts (λ earlier e. (h earlier e).1))
 
--- of the rules together at each node, one at each node
+-- where the rules hold together at each node, each one of them holds at each node
 pub one_rule : (r : Rules) (rule earlier : Rule) (level : ℕ) (t : Tree) → rank earlier ≤ rank rule → HoldsFrom (LeafKeeps r rule) (NodeKeeps r rule) level t →
     HoldsFrom (LeafMeets r earlier) (NodeMeets r earlier) level t
 one_rule r rule earlier level t e h = weaker (LeafKeeps r rule) (LeafMeets r earlier) (NodeKeeps r rule) (NodeMeets r earlier) level t (λ i l p. p earlier e)

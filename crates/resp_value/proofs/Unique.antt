@@ -169,7 +169,7 @@ mutual
       let z1 : crlf x ≡ crlf y = z.1 in
       (cc, cc)
 
-  -- so many members are of one text
+  -- equally many members with equal texts are equal, and so is what follows them
   pub counted_unique : (ts us : Trees) (x y : List ℕ) → AreTrees ts → AreTrees us → count ts ≡ count us → texts ts ++ x ≡ texts us ++ y → (ts ≡ us) × (x ≡ y)
   counted_unique none none x y p q n e = (refl, e)
   counted_unique none (more u us) x y p q n e = absurd (omega arith)

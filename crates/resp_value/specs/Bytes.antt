@@ -1,10 +1,11 @@
 -- Bytes, and lines of them.
-use Rattle.std.specs.Prelude.{◌≡◌, ℕ, ◌<◌, List, ◌∷◌, length}
+use Rattle.std.specs.Prelude.{◌≡◌, ℕ, ◌<◌, List, ◌++◌, length, codes}
 use Rattle.std.specs.List.{AllByRecursion}
+use Rattle.std.specs.Str.{byte}
 
 -- a whole number from 0 to 255
 abbrev pub IsByte : ℕ → Type 0
-IsByte byte = byte < 256
+IsByte b = b < 256
 
 -- a list of bytes
 abbrev pub IsText : List ℕ → Type 0
@@ -12,7 +13,7 @@ IsText text = AllByRecursion IsByte text
 
 -- neither CR nor LF
 abbrev pub IsPlain : ℕ → Type 0
-IsPlain byte = (byte ≡ 13 → ⊥) × (byte ≡ 10 → ⊥)
+IsPlain b = (b ≡ byte "\r" → ⊥) × (b ≡ byte "\n" → ⊥)
 
 -- none of these is CR or LF
 abbrev pub IsLine : List ℕ → Type 0
@@ -24,4 +25,4 @@ IsFull text = 0 < length text
 
 -- CR LF, and then more
 abbrev pub crlf : List ℕ → List ℕ
-crlf more = 13 ∷ 10 ∷ more
+crlf more = codes "\r\n" ++ more

@@ -10,22 +10,27 @@ use Rattle.resp_value.specs.Rules.{Rules}
 use Rattle.resp_value.specs.declared.version.Version.{Version}
 use Rattle.resp_value.specs.declared.version.Version.TheVariants.{Two, Three}
 
+-- how a version writes Null
 abbrev pub null_form : Version → NullForm
 null_form Two = BulkNull
 null_form Three = PlainNull
 
+-- the sign that an integer is written with
 abbrev pub int_sign : ℤ → Sign
 int_sign (pos n) = Unsigned
 int_sign (negsuc n) = Minus
 
+-- an integer without its sign
 abbrev pub int_size : ℤ → ℕ
 int_size (pos n) = n
 int_size (negsuc n) = n + 1
 
+-- the sign that a big number is written with
 abbrev pub sign_of : Bool → Sign
 sign_of true = Minus
 sign_of false = Unsigned
 
+-- the canonical spelling of a value without members
 abbrev pub canonical_leaf : Version → Scalar → Leaf
 canonical_leaf w d.Null = null (null_form w)
 canonical_leaf w (d.Bool b) = truth b
@@ -38,6 +43,7 @@ canonical_leaf w (d.BulkError s) = string BulkError (decimal (length s)) s
 canonical_leaf w (d.Verbatim format s) = string (Verbatim format) (decimal (length s + 4)) s
 canonical_leaf w (d.Big negative digits) = numeral Big (sign_of negative) digits
 
+-- the canonical spelling of a value
 abbrev mutual
   pub canonical_tree : Version → Datum → Tree
   canonical_tree w (scalar s) = leaf (canonical_leaf w s)
@@ -114,6 +120,7 @@ abbrev pub IsKindBelow : Kind → Type 0
 IsKindBelow Push = ⊥
 IsKindBelow _ = Unit {0}
 
+-- no push stands there, also not at the top
 abbrev mutual
   pub HasNoPush : Datum → Type 0
   HasNoPush (scalar s) = Unit {0}

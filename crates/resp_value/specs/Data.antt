@@ -37,6 +37,7 @@ mutual
     none : Data
     more : Datum → Data → Data
 
+-- the data of a list
 abbrev pub data_of_list : List Datum → Data
 data_of_list [] = none
 data_of_list (x ∷ xs) = more x (data_of_list xs)
@@ -46,6 +47,7 @@ abbrev pub in_turn : List (Datum × Datum) → List Datum
 in_turn [] = []
 in_turn (pair ∷ pairs) = pair.0 ∷ pair.1 ∷ in_turn pairs
 
+-- how many data stand side by side
 abbrev pub count : Data → ℕ
 count none = 0
 count (more x xs) = count xs + 1
@@ -102,6 +104,7 @@ abbrev mutual
   most_items_among none = 0
   most_items_among (more x xs) = max (most_items x) (most_items_among xs)
 
+-- the value is a push
 abbrev pub IsPush : Datum → Type 0
 IsPush (aggregate Push xs) = Unit {0}
 IsPush _ = ⊥

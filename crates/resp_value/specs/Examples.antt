@@ -47,7 +47,7 @@ SpellsNothingSwitchedOff text = (r : Rules) (x : Datum) → r.limits.streamed �
 abbrev pub HasCause : List ℕ → Rule → Type 0
 HasCause text rule = (r : Rules) → AreBounds r.limits → IsCause r text rule
 
--- the same in version 3
+-- under all limits, the text is refused in version 3 for this rule first
 abbrev pub HasCauseInThree : List ℕ → Rule → Type 0
 HasCauseInThree text rule = (r : Rules) → AreBounds r.limits → r.version ≡ Three → IsCause r text rule
 

@@ -1,6 +1,7 @@
 -- What must be true of the definitions of the grammar, if they are the right ones.
 use Rattle.std.specs.Prelude.{◌≡◌, ◌↔◌, ℕ, ◌<◌, ◌≤◌, List, [], ◌∷◌, ◌++◌, true, codes}
 use Rattle.std.specs.List.{AllByRecursion}
+use Rattle.std.specs.Str.{byte}
 use Rattle.resp_value.specs.Bounds.{AreBounds}
 use Rattle.resp_value.specs.TreeValues.{value}
 use Rattle.resp_value.specs.Data.{Datum, IsPush}
@@ -29,7 +30,7 @@ NoSpellingIsEmpty = (r : Rules) (x : Datum) → IsSpelling r x [] → ⊥
 -- a spelling begins with `>` exactly where its value is a push
 abbrev pub APushBeginsWithItsByte : Type 0
 APushBeginsWithItsByte = (r : Rules) (x : Datum) (text : List ℕ) → IsSpelling r x text →
-    IsPush x ↔ ((rest : List ℕ) × (text ≡ 62 ∷ rest))
+    IsPush x ↔ ((rest : List ℕ) × (text ≡ byte ">" ∷ rest))
 
 -- a text is cut into values and a rest in one way
 abbrev pub ATextHasOneCut : Type 0

@@ -6,11 +6,11 @@ use Rattle.resp_value.specs.TreeValues.{leaf_value}
 use Rattle.resp_value.specs.Rules.{Rules, Rule, NoDouble, InVersion, PushAtTop, InRange, NotStreamed, WithinDepth, WithinLength, WithinItems, rank, IsNoDouble, IsLeafInTwo, IsNodeInTwo, IsInRange, IsCountedLeaf, IsCountedNode}
 use Rattle.resp_value.specs.declared.version.Version.TheVariants.{Two}
 
--- of a leaf on a level
+-- a rule that speaks of a leaf and its level
 abbrev pub LeafRule : Type 1
 LeafRule = ℕ → Leaf → Type 0
 
--- of a node on a level, and its number of members
+-- a rule that speaks of a node, its level and its number of members
 abbrev pub NodeRule : Type 1
 NodeRule = ℕ → Kind → Form → ℕ → Type 0
 

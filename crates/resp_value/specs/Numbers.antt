@@ -1,13 +1,14 @@
 -- Numbers as text: decimal digits, with a sign or without.
-use Rattle.std.specs.Prelude.{◌≡◌, ℕ, ◌+◌, ◌-◌, ◌≤◌, Bool, true, false, ℤ, pos, List, [], ◌∷◌, ◌++◌, map, cond, eqb}
+use Rattle.std.specs.Prelude.{◌≡◌, ℕ, ◌+◌, ◌-◌, ◌≤◌, Bool, true, false, ℤ, pos, List, [], ◌∷◌, ◌++◌, map, cond, eqb, codes}
 use Rattle.std.proofs.Common.{neg_ℤ}
 use Rattle.std.specs.List.{AllByRecursion}
+use Rattle.std.specs.Str.{byte}
 use Rattle.std.specs.Int.Digits.{number_from_digits, digits_of}
 use Rattle.resp_value.specs.Bytes.{IsFull}
 
 -- one of the bytes `0` to `9`
 abbrev pub IsDigit : ℕ → Type 0
-IsDigit byte = (48 ≤ byte) × (byte ≤ 57)
+IsDigit b = (byte "0" ≤ b) × (b ≤ byte "9")
 
 -- one or more decimal digits
 abbrev pub IsDigits : List ℕ → Type 0
@@ -15,7 +16,7 @@ IsDigits text = IsFull text × AllByRecursion IsDigit text
 
 -- the value of decimal digits
 abbrev pub number : List ℕ → ℕ
-number digits = number_from_digits 10 (map (λ digit. digit - 48) digits)
+number digits = number_from_digits 10 (map (λ digit. digit - byte "0") digits)
 
 -- the text is one or more decimal digits of this value
 abbrev pub IsNumber : ℕ → List ℕ → Type 0
@@ -23,28 +24,29 @@ IsNumber n text = IsDigits text × (number text ≡ n)
 
 -- the digits of a number, without a leading zero
 abbrev pub decimal : ℕ → List ℕ
-decimal n = map (λ digit. digit + 48) (cond (eqb n 0) (0 ∷ []) (digits_of 10 n))
+decimal n = map (λ digit. digit + byte "0") (cond (eqb n 0) (0 ∷ []) (digits_of 10 n))
 
+-- a sign as it is spelled, or none
 pub data Sign : Type 0 where
   Unsigned : Sign
   Plus : Sign
   Minus : Sign
 
+-- a sign as it is spelled
 abbrev pub sign_text : Sign → List ℕ
 sign_text Unsigned = []
-sign_text Plus = 43 ∷ []
-sign_text Minus = 45 ∷ []
+sign_text Plus = codes "+"
+sign_text Minus = codes "-"
 
+-- whether the sign is a minus
 abbrev pub is_minus : Sign → Bool
-is_minus Unsigned = false
-is_minus Plus = false
 is_minus Minus = true
+is_minus _ = false
 
 -- the value of digits behind a sign
 abbrev pub signed_value : Sign → List ℕ → ℤ
-signed_value Unsigned digits = pos (number digits)
-signed_value Plus digits = pos (number digits)
 signed_value Minus digits = neg_ℤ (pos (number digits))
+signed_value _ digits = pos (number digits)
 
 -- an optional sign, and one or more digits
 abbrev pub IsSignedDigits : List ℕ → Type 0
@@ -53,11 +55,11 @@ IsSignedDigits text = (sign : Sign) × (digits : List ℕ) × IsDigits digits ×
 -- digits without leading zeros: none where all of them are zeros
 abbrev pub significant_digits : List ℕ → List ℕ
 significant_digits [] = []
-significant_digits (digit ∷ digits) = cond (eqb digit 48) (significant_digits digits) (digit ∷ digits)
+significant_digits (digit ∷ digits) = cond (eqb digit (byte "0")) (significant_digits digits) (digit ∷ digits)
 
 -- a lone zero in the place of no digit
 abbrev pub zero_if_none : List ℕ → List ℕ
-zero_if_none [] = 48 ∷ []
+zero_if_none [] = codes "0"
 zero_if_none (digit ∷ digits) = digit ∷ digits
 
 -- the digits that a big number keeps: without leading zeros, and `0` for zero

@@ -18,6 +18,7 @@ pub record Rules : Type 0 where
 abbrev pub rules_under : Version → Bounds → Rules
 rules_under version limits = record { version = version; limits = limits }
 
+-- the rules that a tree has to meet, each with its place in `rank`
 pub data Rule : Type 0 where
   Grammar : Rule
   NoDouble : Rule
@@ -53,12 +54,15 @@ abbrev mutual
   EveryOf L N none = Unit {0}
   EveryOf L N (more t ts) = Every L N t × EveryOf L N ts
 
+-- each leaf is so
 abbrev pub IsAnyLeaf : Leaf → Type 0
 IsAnyLeaf l = Unit {0}
 
+-- each node is so
 abbrev pub IsAnyNode : Kind → Form → Type 0
 IsAnyNode k form = Unit {0}
 
+-- the leaf is no double
 abbrev pub IsNoDouble : Leaf → Type 0
 IsNoDouble (line Double s) = ⊥
 IsNoDouble _ = Unit {0}
@@ -78,10 +82,12 @@ abbrev pub IsNodeInTwo : Kind → Form → Type 0
 IsNodeInTwo Array (Counted digits) = Unit {0}
 IsNodeInTwo _ _ = ⊥
 
+-- the version has each leaf and each aggregate of the tree
 abbrev pub HasVersion : Version → Tree → Type 0
 HasVersion Two t = Every IsLeafInTwo IsNodeInTwo t
 HasVersion Three t = Unit {0}
 
+-- the kind is no push
 abbrev pub IsNoPush : Kind → Form → Type 0
 IsNoPush Push form = ⊥
 IsNoPush _ form = Unit {0}
@@ -97,10 +103,12 @@ IsInRange (numeral Int sign digits) = (neg_ℤ (pos (2 ^ 63)) ≤ℤ signed_valu
     (signed_value sign digits <ℤ pos (2 ^ 63))
 IsInRange _ = Unit {0}
 
+-- the leaf is not streamed
 abbrev pub IsCountedLeaf : Leaf → Type 0
 IsCountedLeaf (chunked chunks zeros) = ⊥
 IsCountedLeaf _ = Unit {0}
 
+-- the aggregate is not streamed
 abbrev pub IsCountedNode : Kind → Form → Type 0
 IsCountedNode k (Counted digits) = Unit {0}
 IsCountedNode k Streamed = ⊥

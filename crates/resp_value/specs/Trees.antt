@@ -1,16 +1,19 @@
 -- Trees of spelled texts. A tree keeps what a spelling may choose: the form of a null, signs, leading zeros,
 -- chunks, and whether an aggregate is counted or streamed. So its text is a function of it.
-use Rattle.std.specs.Prelude.{◌≡◌, ℕ, ◌+◌, Bool, true, false, List, [], ◌∷◌, ◌++◌, length}
+use Rattle.std.specs.Prelude.{◌≡◌, ℕ, ◌+◌, Bool, true, false, List, [], ◌∷◌, ◌++◌, length, codes}
 use Rattle.std.specs.List.{AllByRecursion}
+use Rattle.std.specs.Str.{byte}
 use Rattle.resp_value.specs.Bytes.{IsText, IsLine, IsFull, crlf}
 use Rattle.resp_value.specs.Numbers.{IsDigits, IsNumber, number, Sign, sign_text}
 use Rattle.resp_value.specs.Data.{Kind, Array, Set, Map, Attr, Push, members_of}
 
+-- what stands on one line as it is: a simple string, an error or a double
 pub data LineKind : Type 0 where
   Simple : LineKind
   Error : LineKind
   Double : LineKind
 
+-- an integer, or a big number
 pub data NumberKind : Type 0 where
   Int : NumberKind
   Big : NumberKind
@@ -32,6 +35,7 @@ pub record Chunk : Type 0 where
   pub digits : List ℕ
   pub content : List ℕ
 
+-- a value without members, as it is spelled
 pub data Leaf : Type 0 where
   line : LineKind → List ℕ → Leaf
   numeral : NumberKind → Sign → List ℕ → Leaf
@@ -47,6 +51,7 @@ pub data Form : Type 0 where
   Counted : List ℕ → Form
   Streamed : Form
 
+-- a leaf, or an aggregate of a kind and a form over its members
 mutual
   pub data Tree : Type 0 where
     leaf : Leaf → Tree
@@ -56,46 +61,51 @@ mutual
     none : Trees
     more : Tree → Trees → Trees
 
+-- the type byte of a line
 abbrev pub line_byte : LineKind → ℕ
-line_byte Simple = 43
-line_byte Error = 45
-line_byte Double = 44
+line_byte Simple = byte "+"
+line_byte Error = byte "-"
+line_byte Double = byte ","
 
+-- the type byte of a number
 abbrev pub number_byte : NumberKind → ℕ
-number_byte Int = 58
-number_byte Big = 40
+number_byte Int = byte ":"
+number_byte Big = byte "("
 
+-- the line of a null
 abbrev pub null_line : NullForm → List ℕ
-null_line BulkNull = 36 ∷ 45 ∷ 49 ∷ []
-null_line ArrayNull = 42 ∷ 45 ∷ 49 ∷ []
-null_line PlainNull = 95 ∷ []
+null_line BulkNull = codes "$-1"
+null_line ArrayNull = codes "*-1"
+null_line PlainNull = codes "_"
 
+-- the line of a truth value
 abbrev pub truth_line : Bool → List ℕ
-truth_line true = 35 ∷ 116 ∷ []
-truth_line false = 35 ∷ 102 ∷ []
+truth_line true = codes "#t"
+truth_line false = codes "#f"
 
+-- the type byte of a string
 abbrev pub string_byte : StringKind → ℕ
-string_byte Bulk = 36
-string_byte BulkError = 33
-string_byte (Verbatim format) = 61
+string_byte Bulk = byte "$"
+string_byte BulkError = byte "!"
+string_byte (Verbatim format) = byte "="
 
 -- the bytes that a string's length counts
 abbrev pub payload : StringKind → List ℕ → List ℕ
-payload Bulk s = s
-payload BulkError s = s
-payload (Verbatim format) s = format ++ (58 ∷ s)
+payload (Verbatim format) s = format ++ (byte ":" ∷ s)
+payload _ s = s
 
+-- the type byte of an aggregate
 abbrev pub kind_byte : Kind → ℕ
-kind_byte Array = 42
-kind_byte Set = 126
-kind_byte Map = 37
-kind_byte Attr = 124
-kind_byte Push = 62
+kind_byte Array = byte "*"
+kind_byte Set = byte "~"
+kind_byte Map = byte "%"
+kind_byte Attr = byte "|"
+kind_byte Push = byte ">"
 
 -- what follows the type byte in the head of an aggregate
 abbrev pub form_line : Form → List ℕ
 form_line (Counted digits) = digits
-form_line Streamed = 63 ∷ []
+form_line Streamed = codes "?"
 
 -- the first line, without its CR LF
 abbrev pub leaf_line : Leaf → List ℕ
@@ -104,29 +114,27 @@ leaf_line (numeral k sign digits) = number_byte k ∷ (sign_text sign ++ digits)
 leaf_line (null form) = null_line form
 leaf_line (truth b) = truth_line b
 leaf_line (string k digits s) = string_byte k ∷ digits
-leaf_line (chunked chunks zeros) = 36 ∷ 63 ∷ []
+leaf_line (chunked chunks zeros) = codes "$?"
 
 -- chunks, and then more
 abbrev pub chunks_text : List Chunk → List ℕ → List ℕ
 chunks_text [] rest = rest
-chunks_text (c ∷ cs) rest = (59 ∷ c.digits) ++ crlf (c.content ++ crlf (chunks_text cs rest))
+chunks_text (c ∷ cs) rest = (byte ";" ∷ c.digits) ++ crlf (c.content ++ crlf (chunks_text cs rest))
 
 -- what follows the first line
 abbrev pub leaf_rest : Leaf → List ℕ
-leaf_rest (line k s) = []
-leaf_rest (numeral k sign digits) = []
-leaf_rest (null form) = []
-leaf_rest (truth b) = []
 leaf_rest (string k digits s) = payload k s ++ crlf []
-leaf_rest (chunked chunks zeros) = chunks_text chunks ((59 ∷ zeros) ++ crlf [])
+leaf_rest (chunked chunks zeros) = chunks_text chunks ((byte ";" ∷ zeros) ++ crlf [])
+leaf_rest _ = []
 
+-- the text of a leaf
 abbrev pub leaf_text : Leaf → List ℕ
 leaf_text l = leaf_line l ++ crlf (leaf_rest l)
 
 -- what closes an aggregate that is streamed
 abbrev pub close : Form → List ℕ
 close (Counted digits) = []
-close Streamed = 46 ∷ crlf []
+close Streamed = byte "." ∷ crlf []
 
 abbrev mutual
   -- the text of a tree
@@ -138,6 +146,7 @@ abbrev mutual
   texts none = []
   texts (more t ts) = text t ++ texts ts
 
+-- how many trees stand side by side
 abbrev pub count : Trees → ℕ
 count none = 0
 count (more t ts) = count ts + 1
@@ -153,31 +162,30 @@ IsChunk c = IsNumber (length c.content) c.digits × IsFull c.content × IsText c
 
 -- a format is any three bytes
 abbrev pub HasFormat : StringKind → Type 0
-HasFormat Bulk = Unit {0}
-HasFormat BulkError = Unit {0}
 HasFormat (Verbatim format) = (length format ≡ 3) × IsText format
+HasFormat _ = Unit {0}
 
+-- the leaf is one of the grammar's
 abbrev pub IsLeaf : Leaf → Type 0
 IsLeaf (line k s) = IsLine s × IsText s
 IsLeaf (numeral k sign digits) = IsDigits digits
-IsLeaf (null form) = Unit {0}
-IsLeaf (truth b) = Unit {0}
 IsLeaf (string k digits s) = IsNumber (length (payload k s)) digits × HasFormat k × IsText s
 IsLeaf (chunked chunks zeros) = AllByRecursion IsChunk chunks × IsNumber 0 zeros
+IsLeaf _ = Unit {0}
 
 -- attributes and pushes aren't streamed, and a map is streamed by whole pairs
 abbrev pub CanStream : Kind → ℕ → Type 0
-CanStream Array n = Unit {0}
-CanStream Set n = Unit {0}
 CanStream Map n = (pairs : ℕ) × (pairs + pairs ≡ n)
 CanStream Attr n = ⊥
 CanStream Push n = ⊥
+CanStream _ n = Unit {0}
 
 -- an aggregate of this form may have so many members
 abbrev pub HasMembers : Kind → Form → ℕ → Type 0
 HasMembers k (Counted digits) n = IsDigits digits × (members_of k (number digits) ≡ n)
 HasMembers k Streamed n = CanStream k n
 
+-- the tree is one of the grammar's
 abbrev mutual
   pub IsTree : Tree → Type 0
   IsTree (leaf l) = IsLeaf l

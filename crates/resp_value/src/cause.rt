@@ -2,35 +2,35 @@
 
 ghost use Rattle.std.specs.Prelude.{◌≡◌};
 
-/// The first limit that a value to be encoded breaks, in this order.
+/// The first limit that a value to be encoded breaks. They are tested in this order.
 #[derive(Clone, Copy, Debug, PartialEq, Eq)]
 pub enum Limit {
-    /// It has more aggregates inside one another.
+    /// It has more aggregates inside one another than the limit of depth allows.
     Depth,
-    /// It has a longer content.
+    /// It has a content of more bytes than the limit of length allows.
     Length,
-    /// It has an aggregate of more members or pairs.
+    /// It has an aggregate of more members or pairs than the limit of items allows.
     Items,
-    /// Its canonical text is longer.
+    /// Its canonical text has more bytes than the limit of total allows.
     Total,
 }
 
 /// Why something was refused.
 #[derive(Clone, Copy, Debug, PartialEq, Eq)]
 pub enum Cause {
-    /// No value of any version goes on so.
+    /// The bytes begin no value of any version.
     Syntax,
-    /// The type byte of a double, which no version reads here.
+    /// The type byte of a double came, which is read in no version here.
     Double,
-    /// A form of version 3 while version 2 is read.
+    /// A form of version 3 came while version 2 is read.
     Version,
-    /// A push below the top level.
+    /// A push came below the top level.
     NestedPush,
-    /// An integer outside signed 64 bits.
+    /// An integer is outside the range of signed 64 bits.
     Range,
-    /// Over the limit of depth.
+    /// The value is over the limit of depth.
     Depth,
-    /// Over the limit of length.
+    /// A content is over the limit of length.
     Length,
     /// The value can't end within the limit of total.
     Total,
@@ -38,15 +38,15 @@ pub enum Cause {
     Truncated,
     /// A growth was refused.
     OutOfMemory,
-    /// A streamed form where these are switched off.
+    /// A streamed form came while these are switched off.
     Streamed,
-    /// Over the limit of items.
+    /// An aggregate is over the limit of items.
     Items,
     /// A value that is no push came while no command waits.
     Unasked,
-    /// A command outside the client's limits.
+    /// A command is outside the client's limits.
     TooLarge,
-    /// No word, or a name that the client doesn't send.
+    /// A command has no word, or a name that the client doesn't send.
     BadCommand,
     /// The client's number of commands is used up.
     TooMany,
@@ -72,11 +72,11 @@ pub enum Cause {
     Ended,
     /// A CR or LF stands in a line's text.
     BadLine,
-    /// Not an optional sign and one or more digits.
+    /// A text isn't an optional sign and one or more digits.
     BadDigits,
-    /// A version change in the middle of a value.
+    /// The version was to change in the middle of a value.
     Busy,
-    /// A limit outside its range.
+    /// A limit is outside its range.
     BadLimits,
 }
 

@@ -27,14 +27,14 @@ impl Content {
         Content { bytes }
     }
 
-    /// The bytes, lent.
+    /// Lends the bytes.
     pub fn list(&self) -> &[u8]
         ensures { result.now ≡ content_bytes self.now }
     {
         self.bytes.as_slice()
     }
 
-    /// The bytes, given back. Takes no memory.
+    /// Gives the bytes back. Takes no memory.
     pub fn into_vec(self) -> Vec<u8>
         ensures { result.items ≡ content_bytes self }
     {
@@ -42,7 +42,7 @@ impl Content {
         bytes
     }
 
-    /// An equal content, or want of memory.
+    /// A content of the same bytes in memory of its own. Refuses only where there is none.
     pub fn try_clone(&self, alloc: Global) -> Result<Content, AllocError>
         ensures { IfOk result (λ copy. content_bytes copy ≡ content_bytes self.now) }
     {

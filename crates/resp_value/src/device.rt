@@ -14,12 +14,12 @@ pub use memory_sink::MemorySink;
 pub use memory_source::MemorySource;
 pub use wrapped::Device;
 
-/// A read or a write failed.
+/// The refusal of a read or a write: it failed, and moved no byte.
 #[derive(Clone, Copy, Debug, PartialEq, Eq, Error)]
 #[error("the device failed")]
 pub struct DeviceFault;
 
-/// What bytes are read from.
+/// A device that bytes are read from.
 pub trait Source {
     /// The bytes that are left, or `None` where the device claims nothing of them.
     ghost remaining: { Self → Option (List ℕ) };
@@ -40,7 +40,7 @@ pub trait Source {
             failures_after (read_fails result) (failures self.old) };
 }
 
-/// What bytes are written to.
+/// A device that bytes are written to.
 pub trait Sink {
     /// The bytes that it holds, or `None` where the device claims nothing of them.
     ghost written: { Self → Option (List ℕ) };
@@ -61,16 +61,16 @@ pub trait Sink {
             failures_after (write_fails result) (failures self.old) };
 }
 
-/// A write of several bytes failed.
+/// The refusal of a write of several bytes: one of its writes failed, or took no byte.
 #[derive(Clone, Copy, Debug, PartialEq, Eq, Error)]
 #[error("the device failed after {written} bytes")]
 pub struct WriteFault {
-    /// How many of the bytes were written before.
+    /// How many of the bytes were written before that.
     pub written: usize,
 }
 
-/// Writes all of `bytes`, by one write after another until a write fails or takes no byte. At a
-/// refusal the first bytes were written, as many as it says.
+/// Writes all of `bytes`, by one write after another. Refuses where a write fails or takes no byte:
+/// then the first bytes were written, as many as the refusal says.
 pub fn write_all<W: Sink>(sink: &mut W, bytes: &[u8]) -> Result<(), WriteFault>
     ensures ok { OnOk result (Appends (W.written sink.old) (W.written sink.new) bytes.now) }
     ensures none_failed { OnOk result (W.failures sink.new ≡ W.failures sink.old) }

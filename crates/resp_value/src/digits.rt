@@ -23,7 +23,7 @@ pub enum DigitsError {
     /// It isn't an optional `+` or `-` and one or more decimal digits.
     #[error("not an optional sign and one or more digits")]
     BadDigits,
-    /// A growth was refused.
+    /// No memory was found for the digits.
     #[error("out of memory")]
     OutOfMemory,
 }
@@ -89,7 +89,7 @@ impl Digits {
         }
     }
 
-    /// Whether the number is below zero. Never for `0`.
+    /// Whether the number is below zero, which `0` never is.
     pub fn is_negative(&self) -> bool
         ensures { result ≡ is_negative self.now }
     {
@@ -104,7 +104,7 @@ impl Digits {
         self.digits.as_slice()
     }
 
-    /// Equal digits with the same sign, or want of memory.
+    /// The same sign and digits in memory of their own. Refuses only where there is none.
     pub fn try_clone(&self, alloc: Global) -> Result<Digits, AllocError>
         ensures sign { IfOk result (λ copy. is_negative copy ≡ is_negative self.now) }
         ensures digits { IfOk result (λ copy. digits_text copy ≡ digits_text self.now) }

@@ -23,7 +23,7 @@ pub enum OpenKind {
 impl OpenKind {
     ghost use Rattle.resp_value.specs.Kinds.{kind_of};
 
-    /// The type byte.
+    /// The type byte that begins an aggregate of the kind on the wire.
     pub fn byte(self) -> u8
         ensures { result ≡ kind_byte (kind_of self) }
     {

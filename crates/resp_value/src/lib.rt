@@ -1,5 +1,6 @@
-//! Values of RESP2 and RESP3, the limits and causes of refusals, byte devices, and the grammar as
-//! definitions.
+//! Values of RESP2 and RESP3 (Redis serialization protocol specification), the limits and causes of
+//! refusals, and byte devices. The grammar stands in `specs/`, as definitions that the contracts of
+//! all crates cite, and its laws in `laws`.
 #![tactic(auto)]
 
 pub mod cause;

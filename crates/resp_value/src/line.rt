@@ -56,7 +56,7 @@ impl Line {
         self.text.as_slice()
     }
 
-    /// An equal line, or want of memory.
+    /// A line of the same bytes in memory of its own. Refuses only where there is none.
     pub fn try_clone(&self, alloc: Global) -> Result<Line, AllocError>
         ensures { IfOk result (λ copy. line_text copy ≡ line_text self.now) }
     {

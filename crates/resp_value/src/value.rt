@@ -31,7 +31,7 @@ pub struct PairList {
 #[derive(Debug, PartialEq, Eq, Drop)]
 #[cycle(value)]
 pub enum Value {
-    /// No value ("Nulls").
+    /// Null, the absence of a value ("Nulls").
     Null,
     /// A truth value ("Booleans").
     Bool(bool),
@@ -70,14 +70,14 @@ impl Members {
         Members { items }
     }
 
-    /// The members, lent.
+    /// Lends the members, in their order.
     pub fn list(&self) -> &[Value]
         ensures { result.now ≡ list_of self.now }
     {
         self.items.as_slice()
     }
 
-    /// The members, given back. Takes no memory.
+    /// Gives the members back, in their order. Takes no memory.
     pub fn into_vec(self) -> Vec<Value>
         ensures { result.items ≡ list_of self }
     {
@@ -94,14 +94,14 @@ impl PairList {
         PairList { pairs }
     }
 
-    /// The pairs, lent.
+    /// Lends the pairs, in their order.
     pub fn list(&self) -> &[(Value, Value)]
         ensures { result.now ≡ pairs_of self.now }
     {
         self.pairs.as_slice()
     }
 
-    /// The pairs, given back. Takes no memory.
+    /// Gives the pairs back, in their order. Takes no memory.
     pub fn into_vec(self) -> Vec<(Value, Value)>
         ensures { result.items ≡ pairs_of self }
     {
@@ -111,7 +111,7 @@ impl PairList {
 }
 
 impl Value {
-    /// An equal value, or want of memory.
+    /// An equal value in memory of its own. Refuses only where there is none.
     #[cycle(copy)]
     pub fn try_clone(&self, alloc: Global) -> Result<Value, AllocError>
         ensures { IfOk result (λ copy. datum_of copy ≡ datum_of self.now) }
@@ -141,7 +141,8 @@ impl Value {
 
 #[cycle(copy)]
 fn copy_members(members: &Members, alloc: Global) -> Result<Members, AllocError>
-    ensures { IfOk result (λ copy. map datum_of (list_of copy) ≡ map datum_of (list_of members.now)) }
+    ensures { IfOk result (λ copy. map datum_of (list_of copy) ≡
+        map datum_of (list_of members.now)) }
 {
     let mut items = Vec::new(alloc);
     for member in members.list() {

@@ -1,6 +1,7 @@
 -- What a walk that writes as it goes has found, and what it has written.
 use Rattle.std.specs.Prelude.{ℕ, ◌-◌, ◌<◌, ◌≤◌, Bool, List, ◌∷◌, ◌++◌, length}
 use Rattle.std.specs.Bool.{OnTrue}
+use Rattle.std.specs.Str.{byte}
 use Rattle.bytes.specs.Filled.{Filled}
 use Rattle.resp_value.specs.Bounds.{Bounds}
 use Rattle.resp_value.specs.Bytes.{crlf}
@@ -58,7 +59,7 @@ pub record AttemptEach (version : Version) (bounds : Bounds) (deeper : ℕ) (xs 
 -- turn
 pub record AttemptAttributePairs (version : Version) (bounds : Bounds) (deeper items : ℕ) (xs : Data) (old new : Filled)
     (done : Bool) : Type 0 where
-  pub whole : OnTrue done (Fills old new (124 ∷ decimal items ++ crlf (texts (canonical_trees version xs))))
+  pub whole : OnTrue done (Fills old new (byte "|" ∷ decimal items ++ crlf (texts (canonical_trees version xs))))
   pub has_kind : OnTrue done (HasKind version Attr)
   pub within_items : OnTrue done (items ≤ bounds.items)
   pub within_depth : OnTrue done (0 < deeper)

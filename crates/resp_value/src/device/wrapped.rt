@@ -38,7 +38,7 @@ impl<T> Device<T> {
         }
     }
 
-    /// What it is over.
+    /// Gives back the reader or the writer that it is over.
     pub fn into_inner(self) -> T
         ensures { result ≡ self.inner }
     {

@@ -20,7 +20,7 @@ map_data : {ps qs : List (Value × Value)} → ps ≡ qs → aggregate d.Map (da
     aggregate d.Map (data_of_list (in_turn (map pair_data qs)))
 map_data same = ap (λ ps. aggregate d.Map (data_of_list (in_turn (map pair_data ps)))) same
 
--- those of an attribute, at equal parts
+-- the data of an attribute, at equal parts
 attr_data : {ps qs : List (Value × Value)} {x y : Value} → ps ≡ qs → x ≡ y →
     aggregate d.Attr (data_of_list (in_turn (map pair_data ps) ++ datum_of x ∷ [])) ≡
     aggregate d.Attr (data_of_list (in_turn (map pair_data qs) ++ datum_of y ∷ []))
