@@ -2,8 +2,7 @@
 #![tactic(auto)]
 
 use anyhow::Result;
-use resp_scan::event::Event;
-use resp_scan::scanner::Scanner;
+use resp_scan::{Event, Scanner};
 use resp_value::limits::Limits;
 use resp_value::version::Version;
 use std::io::Read;
