@@ -15,8 +15,8 @@ use Rattle.resp_value.specs.declared.version.Version.TheVariants.{Two, Three}
 use Rattle.resp_value.specs.declared.kind.OpenKind as e
 use Rattle.resp_value.specs.declared.kind.OpenKind.TheVariants as v
 use Rattle.resp_value.specs.Kinds.{kind_of}
-use Rattle.resp_encode.specs.Attempts.{HasKind, HaveTypes, Suits, SuitEach, Attempt, AttemptEach, AttemptNotes, FitsSpare}
-use Rattle.resp_encode.specs.Writings.{Fills}
+use Rattle.resp_encode.specs.Walks.Attempts.{HasKind, HaveTypes, Suits, SuitEach, Attempt, AttemptEach, AttemptAttributePairs, FitsSpare}
+use Rattle.resp_encode.specs.Walks.Writings.{Fills}
 use Rattle.resp_encode.proofs.Extended.{in_two_with, no_push_with, values_with, greatest_depth-extended, longest_among-extended, most_items_among-extended, texts-extended}
 use Rattle.resp_encode.proofs.Texts.{Writes-none, Writes-append, aggregate_text, head_split}
 
@@ -28,24 +28,29 @@ pub on_false : {done : Bool} {P : Type 0} → done ≡ false → OnFalse done P 
 on_false {P = P} e p = subst (λ b. OnFalse b P) e p
 
 -- nothing was written
-pub left : {version : Version} {bounds : Bounds} {deeper : ℕ} {x : Datum} (a : Filled) → Attempt version bounds deeper x a a false
+pub left : {version : Version} {bounds : Bounds} {deeper : ℕ} {x : Datum} (a : Filled) →
+    Attempt version bounds deeper x a a false
 left a = record { whole = tt; suits = tt; part = ([], Writes-none a) }
 
 -- the walk stopped behind a part
-pub stopped : {version : Version} {bounds : Bounds} {deeper : ℕ} {x : Datum} {a b : Filled} → (text : List ℕ) × Fills a b text →
+pub stopped : {version : Version} {bounds : Bounds} {deeper : ℕ} {x : Datum} {a b : Filled} →
+    (text : List ℕ) × Fills a b text →
     Attempt version bounds deeper x a b false
 stopped part = record { whole = tt; suits = tt; part = part }
 
-pub stopped_each : {version : Version} {bounds : Bounds} {deeper : ℕ} {xs : Data} {a b : Filled} → (text : List ℕ) × Fills a b text →
+pub stopped_each : {version : Version} {bounds : Bounds} {deeper : ℕ} {xs : Data} {a b : Filled} →
+    (text : List ℕ) × Fills a b text →
     AttemptEach version bounds deeper xs a b false
 stopped_each part = record { whole = tt; suits = tt; part = part }
 
 -- a part behind a text
-pub part_behind : {a b c : Filled} {x : List ℕ} → Fills a b x → (text : List ℕ) × Fills b c text → (text : List ℕ) × Fills a c text
+pub part_behind : {a b c : Filled} {x : List ℕ} → Fills a b x → (text : List ℕ) × Fills b c text →
+    (text : List ℕ) × Fills a c text
 part_behind {x = x} first rest = (x ++ rest.0, Writes-append first rest.1)
 
 -- a value without members was written
-pub scalar_done : {version : Version} {bounds : Bounds} {spare : ℕ} {s : Scalar} {a b : Filled} → FitsSpare version bounds spare (scalar s) → IsScalarValue s →
+pub scalar_done : {version : Version} {bounds : Bounds} {spare : ℕ} {s : Scalar} {a b : Filled} →
+    FitsSpare version bounds spare (scalar s) → IsScalarValue s →
     Fills a b (canonical_text version (scalar s)) → (deeper : ℕ) → Attempt version bounds deeper (scalar s) a b true
 scalar_done fits value writes deeper = record {
   whole = writes;
@@ -66,14 +71,25 @@ in_each Two x p = p
 in_each Three x p = tt
 
 -- a scalar of version 2 within the limits, and room for it
-pub room_for : (version : Version) (bounds : Bounds) {spare : ℕ} (s : Scalar) → IsInTwo (scalar s) → longest (scalar s) ≤ bounds.length →
+pub room_for : (version : Version) (bounds : Bounds) {spare : ℕ} (s : Scalar) → IsInTwo (scalar s) →
+    longest (scalar s) ≤ bounds.length →
     length (canonical_text version (scalar s)) ≤ spare → FitsSpare version bounds spare (scalar s)
-room_for version bounds s two long room = record { has_types = in_each version (scalar s) two; within_length = long; room = room }
+room_for version bounds s two long room = record {
+  has_types = in_each version (scalar s) two;
+  within_length =
+      long;
+  room = room;
+}
 
 -- an integer's text is no longer than its digits and four more
-pub int_length : (version : Version) (i : ℤ) → length (canonical_text version (scalar (Int i))) ≤ length (decimal (nat_abs i)) + 4
+pub int_length : (version : Version) (i : ℤ) → length (canonical_text version (scalar (Int i))) ≤ length
+    (decimal (nat_abs i)) + 4
 int_length version (pos n) = omega (arith, length-append (decimal n) (crlf []))
-int_length version (negsuc n) = omega (arith, ap (λ m. length (decimal m)) (add-one n), length-append (decimal (n + 1)) (crlf []))
+int_length version (negsuc n) = omega (
+  arith,
+  ap (λ m. length (decimal m)) (add-one n),
+  length-append (decimal (n + 1)) (crlf []),
+)
 
 -- members, so far
 pub suit_none : (version : Version) (bounds : Bounds) (deeper : ℕ) → SuitEach version bounds deeper none
@@ -96,12 +112,14 @@ suit_none Three bounds deeper = record {
   are_values = tt;
 }
 
-have_types_with : (version : Version) (xs : Data) (x : Datum) → HaveTypes version xs → HasTypes version x → HaveTypes version (extended xs x)
+have_types_with : (version : Version) (xs : Data) (x : Datum) → HaveTypes version xs → HasTypes version x →
+    HaveTypes version (extended xs x)
 have_types_with Two xs x p q = in_two_with xs x p q
 have_types_with Three xs x p q = tt
 
 -- and one more
-pub suit_with : (version : Version) (bounds : Bounds) (deeper : ℕ) (xs : Data) (x : Datum) → SuitEach version bounds deeper xs → Suits version bounds deeper x →
+pub suit_with : (version : Version) (bounds : Bounds) (deeper : ℕ) (xs : Data) (x : Datum) →
+    SuitEach version bounds deeper xs → Suits version bounds deeper x →
     HasNoPush x → SuitEach version bounds deeper (extended xs x)
 suit_with version bounds deeper xs x each one below = record {
   have_types = have_types_with version xs x each.have_types one.has_types;
@@ -112,13 +130,16 @@ suit_with version bounds deeper xs x each one below = record {
   are_values = values_with xs x each.are_values one.is_value;
 }
 
-has_types_inside : (version : Version) (k : Kind) (xs : Data) → HasKind version k → HaveTypes version xs → HasTypes version (aggregate k xs)
+has_types_inside : (version : Version) (k : Kind) (xs : Data) → HasKind version k → HaveTypes version xs →
+    HasTypes version (aggregate k xs)
 has_types_inside Two k xs p q = (p, q)
 has_types_inside Three k xs p q = tt
 
 -- an aggregate of members that suit
-pub suits_inside : (version : Version) (bounds : Bounds) (deeper : ℕ) (k : Kind) (xs : Data) (items : ℕ) → HasKind version k → 0 < deeper →
-    items ≤ bounds.items → items_of k (count xs) ≡ items → IsWhole k (count xs) → SuitEach version bounds (deeper - 1) xs →
+pub suits_inside : (version : Version) (bounds : Bounds) (deeper : ℕ) (k : Kind) (xs : Data) (items : ℕ) →
+    HasKind version k → 0 < deeper →
+    items ≤ bounds.items → items_of k (count xs) ≡ items → IsWhole k (count xs) →
+    SuitEach version bounds (deeper - 1) xs →
     Suits version bounds deeper (aggregate k xs)
 suits_inside version bounds deeper k xs items kind deep few same whole each = record {
   has_types = has_types_inside version k xs kind each.have_types;
@@ -130,12 +151,17 @@ suits_inside version bounds deeper k xs items kind deep few same whole each = re
 }
 
 -- a head was written, and then the members were tried
-pub inside_tried : (version : Version) (bounds : Bounds) (deeper : ℕ) (k : Kind) (xs : Data) (items : ℕ) (done : Bool) {a b c : Filled} →
-    Fills a b (kind_byte k ∷ decimal items ++ crlf []) → HasKind version k → 0 < deeper → items ≤ bounds.items → items_of k (count xs) ≡ items →
-    IsWhole k (count xs) → AttemptEach version bounds (deeper - 1) xs b c done → Attempt version bounds deeper (aggregate k xs) a c done
-inside_tried version bounds deeper k xs items false {a = a} {c = c} head kind deep few same whole each = stopped (part_behind head each.part)
+pub inside_tried : (version : Version) (bounds : Bounds) (deeper : ℕ) (k : Kind) (xs : Data) (items : ℕ) (done : Bool)
+    {a b c : Filled} →
+    Fills a b (kind_byte k ∷ decimal items ++ crlf []) → HasKind version k → 0 < deeper → items ≤ bounds.items →
+    items_of k (count xs) ≡ items →
+    IsWhole k (count xs) → AttemptEach version bounds (deeper - 1) xs b c done →
+    Attempt version bounds deeper (aggregate k xs) a c done
+inside_tried version bounds deeper k xs items false {a = a} {c = c} head kind deep few same whole each =
+    stopped (part_behind head each.part)
 inside_tried version bounds deeper k xs items true {a = a} {c = c} head kind deep few same whole each =
-    let text = subst (Fills a c) (head_split (kind_byte k) items (texts (canonical_trees version xs)) ∙ sym (aggregate_text version k xs items same))
+    let text = subst (Fills a c) (head_split (kind_byte k) items (texts (canonical_trees version xs)) ∙
+    sym (aggregate_text version k xs items same))
     (Writes-append head each.whole) in
     record {
       whole = text;
@@ -144,8 +170,10 @@ inside_tried version bounds deeper k xs items true {a = a} {c = c} head kind dee
     }
 
 -- members were written, and then one more was tried
-pub one_more_tried : (version : Version) (bounds : Bounds) (deeper : ℕ) (xs : Data) (x : Datum) (done : Bool) {a b c : Filled} →
-    Fills a b (texts (canonical_trees version xs)) → SuitEach version bounds deeper xs → Attempt version bounds deeper x b c done → OnTrue done (HasNoPush x) →
+pub one_more_tried : (version : Version) (bounds : Bounds) (deeper : ℕ) (xs : Data) (x : Datum) (done : Bool)
+    {a b c : Filled} →
+    Fills a b (texts (canonical_trees version xs)) → SuitEach version bounds deeper xs →
+    Attempt version bounds deeper x b c done → OnTrue done (HasNoPush x) →
     AttemptEach version bounds deeper (extended xs x) a c done
 one_more_tried version bounds deeper xs x false front each one below = stopped_each (part_behind front one.part)
 one_more_tried version bounds deeper xs x true {a = a} {c = c} front each one below =
@@ -165,29 +193,53 @@ fits_within rules x suits total = record {
 }
 
 -- the head and the pairs of an attribute were tried
-pub notes_tried : (version : Version) (bounds : Bounds) (deeper : ℕ) (xs : Data) (items : ℕ) (done : Bool) {a b c : Filled} →
+pub attribute_pairs_tried : (version : Version) (bounds : Bounds) (deeper : ℕ) (xs : Data) (items : ℕ) (done : Bool)
+    {a b c : Filled} →
     Fills a b (124 ∷ decimal items ++ crlf []) → HasKind version Attr → 0 < deeper → items ≤ bounds.items →
-    AttemptEach version bounds (deeper - 1) xs b c done → AttemptNotes version bounds deeper items xs a c done
-notes_tried version bounds deeper xs items false head kind deep few each =
-    record { whole = tt; has_kind = tt; within_items = tt; within_depth = tt; suits = tt; part = part_behind head each.part }
-notes_tried version bounds deeper xs items true {a = a} {c = c} head kind deep few each =
-    let text = subst (Fills a c) (head_split 124 items (texts (canonical_trees version xs))) (Writes-append head each.whole) in
-    record { whole = text; has_kind = kind; within_items = few; within_depth = deep; suits = each.suits; part = (_, text) }
+    AttemptEach version bounds (deeper - 1) xs b c done → AttemptAttributePairs version bounds deeper items xs a c done
+attribute_pairs_tried version bounds deeper xs items false head kind deep few each =
+    record {
+      whole = tt;
+      has_kind = tt;
+      within_items = tt;
+      within_depth = tt;
+      suits = tt;
+      part =
+          part_behind head each.part;
+    }
+attribute_pairs_tried version bounds deeper xs items true {a = a} {c = c} head kind deep few each =
+    let text = subst (Fills a c) (head_split 124 items (texts (canonical_trees version xs)))
+    (Writes-append head each.whole) in
+    record {
+      whole = text;
+      has_kind = kind;
+      within_items = few;
+      within_depth = deep;
+      suits = each.suits;
+      part =
+          (_, text);
+    }
 
 -- they were written, and then the value that they annotate was tried
-pub annotated_tried : (version : Version) (bounds : Bounds) (deeper : ℕ) (xs : Data) (x : Datum) (items : ℕ) (done : Bool) {a b c : Filled} →
-    AttemptNotes version bounds deeper items xs a b true → items_of Attr (count (extended xs x)) ≡ items → IsWhole Attr (count (extended xs x)) →
-    Attempt version bounds (deeper - 1) x b c done → OnTrue done (HasNoPush x) → Attempt version bounds deeper (aggregate Attr (extended xs x)) a c done
-annotated_tried version bounds deeper xs x items false notes same whole one below = stopped (part_behind notes.whole one.part)
+pub annotated_tried : (version : Version) (bounds : Bounds) (deeper : ℕ) (xs : Data) (x : Datum) (items : ℕ)
+    (done : Bool) {a b c : Filled} →
+    AttemptAttributePairs version bounds deeper items xs a b true → items_of Attr (count (extended xs x)) ≡ items →
+    IsWhole Attr (count (extended xs x)) →
+    Attempt version bounds (deeper - 1) x b c done → OnTrue done (HasNoPush x) →
+    Attempt version bounds deeper (aggregate Attr (extended xs x)) a c done
+annotated_tried version bounds deeper xs x items false notes same whole one below =
+    stopped (part_behind notes.whole one.part)
 annotated_tried version bounds deeper xs x items true {a = a} {c = c} notes same whole one below =
     let front = texts (canonical_trees version xs) in
     let under = canonical_text version x in
     let same_text = ap (λ rest. 124 ∷ rest) (append_assoc (decimal items) (crlf front) under) ∙
-    ap (λ rest. 124 ∷ decimal items ++ crlf rest) (sym (texts-extended version xs x)) ∙ sym (aggregate_text version Attr (extended xs x) items same) in
+    ap (λ rest. 124 ∷ decimal items ++ crlf rest) (sym (texts-extended version xs x)) ∙
+    sym (aggregate_text version Attr (extended xs x) items same) in
     let text = subst (Fills a c) same_text (Writes-append notes.whole one.whole) in
     record {
       whole = text;
-      suits = suits_inside version bounds deeper Attr (extended xs x) items notes.has_kind notes.within_depth notes.within_items same whole
+      suits = suits_inside version bounds deeper Attr (extended xs x) items notes.has_kind notes.within_depth
+          notes.within_items same whole
           (suit_with version bounds (deeper - 1) xs x notes.suits one.suits below);
       part = (_, text);
     }

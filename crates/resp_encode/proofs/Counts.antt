@@ -9,10 +9,12 @@ use Rattle.resp_encode.specs.Words.{word_datum, texts_of}
 pub count-map : {A : Type 0} (f : A → Datum) (xs : List A) → count (data_of_list (map f xs)) ≡ length xs
 count-map f xs = count-data_of_list (map f xs) ∙ length-map xs f
 
-pub count-in_turn : {A : Type 0} (f : A → Datum × Datum) (xs : List A) → count (data_of_list (in_turn (map f xs))) / 2 ≡ length xs
+pub count-in_turn : {A : Type 0} (f : A → Datum × Datum) (xs : List A) → count (data_of_list (in_turn (map f xs))) / 2 ≡
+    length xs
 count-in_turn f xs = omega (arith, count-data_of_list (in_turn (map f xs)), length-in_turn (map f xs), length-map xs f)
 
-pub count-annotated : {A : Type 0} (f : A → Datum × Datum) (xs : List A) (x : Datum) → count (data_of_list (in_turn (map f xs) ++ x ∷ [])) / 2 ≡ length xs
+pub count-annotated : {A : Type 0} (f : A → Datum × Datum) (xs : List A) (x : Datum) →
+    count (data_of_list (in_turn (map f xs) ++ x ∷ [])) / 2 ≡ length xs
 count-annotated f xs x = omega (
   arith,
   count-data_of_list (in_turn (map f xs) ++ x ∷ []),

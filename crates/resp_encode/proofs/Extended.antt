@@ -30,24 +30,30 @@ pub values_with : (xs : Data) (x : Datum) → AreValues xs → IsValue x → Are
 values_with none x p q = (q, tt)
 values_with (more y ys) x p q = (p.0, values_with ys x p.1 q)
 
-pub greatest_depth-extended : (xs : Data) (x : Datum) → greatest_depth (extended xs x) ≡ max (greatest_depth xs) (depth x)
+pub greatest_depth-extended : (xs : Data) (x : Datum) →
+    greatest_depth (extended xs x) ≡ max (greatest_depth xs) (depth x)
 greatest_depth-extended none x = omega arith
 greatest_depth-extended (more y ys) x = omega (arith, greatest_depth-extended ys x)
 
-pub longest_among-extended : (xs : Data) (x : Datum) → longest_among (extended xs x) ≡ max (longest_among xs) (longest x)
+pub longest_among-extended : (xs : Data) (x : Datum) →
+    longest_among (extended xs x) ≡ max (longest_among xs) (longest x)
 longest_among-extended none x = omega arith
 longest_among-extended (more y ys) x = omega (arith, longest_among-extended ys x)
 
-pub most_items_among-extended : (xs : Data) (x : Datum) → most_items_among (extended xs x) ≡ max (most_items_among xs) (most_items x)
+pub most_items_among-extended : (xs : Data) (x : Datum) → most_items_among (extended xs x) ≡
+    max (most_items_among xs) (most_items x)
 most_items_among-extended none x = omega arith
 most_items_among-extended (more y ys) x = omega (arith, most_items_among-extended ys x)
 
-pub texts-extended : (version : Version) (xs : Data) (x : Datum) → texts (canonical_trees version (extended xs x)) ≡ texts (canonical_trees version xs) ++
+pub texts-extended : (version : Version) (xs : Data) (x : Datum) → texts (canonical_trees version (extended xs x)) ≡
+    texts (canonical_trees version xs) ++
     canonical_text version x
 texts-extended version none x = append-nil (canonical_text version x)
 texts-extended version (more y ys) x = ap (λ rest. canonical_text version y ++ rest) (texts-extended version ys x) ∙
     sym (append_assoc (canonical_text version y) (texts (canonical_trees version ys)) (canonical_text version x))
 
-pub length-texts-extended : (version : Version) (xs : Data) (x : Datum) → length (texts (canonical_trees version (extended xs x))) ≡
+pub length-texts-extended : (version : Version) (xs : Data) (x : Datum) →
+    length (texts (canonical_trees version (extended xs x))) ≡
     length (texts (canonical_trees version xs)) + length (canonical_text version x)
-length-texts-extended version xs x = ap length (texts-extended version xs x) ∙ length-append (texts (canonical_trees version xs)) (canonical_text version x)
+length-texts-extended version xs x = ap length (texts-extended version xs x) ∙
+    length-append (texts (canonical_trees version xs)) (canonical_text version x)

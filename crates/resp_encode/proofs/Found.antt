@@ -1,4 +1,4 @@
--- What is found of members with one more, and of an aggregate.
+-- The measure of members with one more, and of an aggregate.
 use Rattle.std.proofs.Common.{◌≡◌, ℕ, ◌+◌, ◌-◌, ◌^◌, ◌↔◌, Bool, true, false, ◌&&◌, min, max, length, refl, sym, ap, arith, Option, Some, subst}
 use Rattle.std.specs.Bool.{IsTrue}
 use Rattle.resp_value.specs.Numbers.{decimal}
@@ -7,21 +7,24 @@ use Rattle.resp_value.specs.Trees.{texts}
 use Rattle.resp_value.specs.Canonical.{IsKindInTwo, IsKindBelow, canonical_text, canonical_trees}
 use Rattle.resp_value.specs.Values.{extended}
 use Rattle.resp_value.specs.declared.version.Version.{Version}
-use Rattle.resp_encode.specs.declared.findings.Findings.{Findings}
-use Rattle.resp_encode.specs.Sizes.{IsSize}
-use Rattle.resp_encode.specs.Surveys.{Describes, DescribesEach}
+use Rattle.resp_encode.specs.declared.measure.Measure.{Measure}
+use Rattle.resp_encode.specs.Walks.Sizes.{IsSize}
+use Rattle.resp_encode.specs.Walks.Measures.{Describes, DescribesEach}
 use Rattle.resp_encode.proofs.Texts.{aggregate_text, length-head}
 use Rattle.resp_encode.proofs.Extended.{in_two_of, in_two_with, no_push_of, no_push_with, greatest_depth-extended, longest_among-extended, most_items_among-extended, length-texts-extended}
 
 -- two tests tell of two facts together
-both_tell : (a b : Bool) {P Q R : Type 0} → (IsTrue a ↔ P) → (IsTrue b ↔ Q) → (R → P × Q) → (P → Q → R) → IsTrue (a && b) ↔ R
+both_tell : (a b : Bool) {P Q R : Type 0} → (IsTrue a ↔ P) → (IsTrue b ↔ Q) → (R → P × Q) → (P → Q → R) →
+    IsTrue (a && b) ↔ R
 both_tell true true p q split join = (λ t. join (p.0 refl) (q.0 refl), λ r. refl)
 both_tell true false p q split join = (λ t. absurd (cc), λ r. q.1 (split r).1)
 both_tell false b p q split join = (λ t. absurd (cc), λ r. p.1 (split r).0)
 
-pub describes_with : (version : Version) (xs : Data) (x : Datum) (a b : Findings) (most_depth most_length most : ℕ) (size : Option ℕ) →
+pub describes_with : (version : Version) (xs : Data) (x : Datum) (a b : Measure) (most_depth most_length most : ℕ)
+    (size : Option ℕ) →
     most_depth ≡ max a.depth b.depth → most_length ≡ max a.longest b.longest → most ≡ max a.most_items b.most_items →
-    ((m n : ℕ) → IsSize a.size m → IsSize b.size n → IsSize size (m + n)) → DescribesEach version xs a → Describes version x b →
+    ((m n : ℕ) → IsSize a.size m → IsSize b.size n → IsSize size (m + n)) → DescribesEach version xs a →
+    Describes version x b →
     DescribesEach version (extended xs x) (record {
       in_two = a.in_two && b.in_two;
       no_push = a.no_push && b.no_push;
@@ -38,12 +41,16 @@ describes_with version xs x a b most_depth most_length most size d l i s each on
   depth_found = omega (arith, d, each.depth_found, one.depth_found, greatest_depth-extended xs x);
   longest_found = omega (arith, l, each.longest_found, one.longest_found, longest_among-extended xs x);
   most_items_found = omega (arith, i, each.most_items_found, one.most_items_found, most_items_among-extended xs x);
-  size_found = rw length-texts-extended (s (length (texts (canonical_trees version xs))) (length (canonical_text version x)) each.size_found one.size_found);
+  size_found = rw length-texts-extended (s (length (texts (canonical_trees version xs)))
+      (length (canonical_text version x)) each.size_found one.size_found);
 }
 
-pub describes_inside : (version : Version) (k : Kind) (xs : Data) (a : Findings) (in_two below : Bool) (items deeper most head : ℕ) (size : Option ℕ) →
-    (IsTrue in_two ↔ IsKindInTwo k) → (IsTrue below ↔ IsKindBelow k) → items ≡ items_of k (count xs) → deeper ≡ min (a.depth + 1) (2 ^ 64 - 1) →
-    most ≡ max a.most_items items → head ≡ length (decimal items) + 3 → ((m n : ℕ) → IsSize (Some head) m → IsSize a.size n → IsSize size (m + n)) →
+pub describes_inside : (version : Version) (k : Kind) (xs : Data) (a : Measure) (in_two below : Bool)
+    (items deeper most head : ℕ) (size : Option ℕ) →
+    (IsTrue in_two ↔ IsKindInTwo k) → (IsTrue below ↔ IsKindBelow k) → items ≡ items_of k (count xs) →
+    deeper ≡ min (a.depth + 1) (2 ^ 64 - 1) →
+    most ≡ max a.most_items items → head ≡ length (decimal items) + 3 →
+    ((m n : ℕ) → IsSize (Some head) m → IsSize a.size n → IsSize size (m + n)) →
     DescribesEach version xs a → Describes version (aggregate k xs)
     (record {
       in_two = a.in_two && in_two;
@@ -66,4 +73,9 @@ describes_inside version k xs a in_two below items deeper most head size t b e d
 }
   where
     whole : head + length (texts (canonical_trees version xs)) ≡ length (canonical_text version (aggregate k xs))
-    whole = omega (arith, h, ap length (aggregate_text version k xs items (sym e)), length-head 0 items (texts (canonical_trees version xs)))
+    whole = omega (
+      arith,
+      h,
+      ap length (aggregate_text version k xs items (sym e)),
+      length-head 0 items (texts (canonical_trees version xs)),
+    )

@@ -24,7 +24,8 @@ in_turn-append [] qs = refl
 in_turn-append (p ∷ ps) qs = ap (λ rest. p.0 ∷ p.1 ∷ rest) (in_turn-append ps qs)
 
 -- one more pair
-pub pairs-take_more : {A : Type 0} (f : A → Datum × Datum) (xs : List A) (i : ℕ) (d : A) → i < length xs → data_of_list (in_turn (map f (take (i + 1) xs))) ≡
+pub pairs-take_more : {A : Type 0} (f : A → Datum × Datum) (xs : List A) (i : ℕ) (d : A) → i < length xs →
+    data_of_list (in_turn (map f (take (i + 1) xs))) ≡
     extended (extended (data_of_list (in_turn (map f (take i xs)))) (f (get_or xs i d)).0) (f (get_or xs i d)).1
 pairs-take_more f xs i d h =
     let pair = f (get_or xs i d) in
@@ -41,10 +42,12 @@ texts-append : (version : Version) (xs ys : List Datum) → texts (canonical_tre
 texts-append version [] ys = refl
 texts-append version (x ∷ xs) ys =
     ap (λ rest. canonical_text version x ++ rest) (texts-append version xs ys)
-    ∙ sym (append_assoc (canonical_text version x) (texts (canonical_trees version (data_of_list xs))) (texts (canonical_trees version (data_of_list ys))))
+    ∙ sym (append_assoc (canonical_text version x) (texts (canonical_trees version (data_of_list xs)))
+    (texts (canonical_trees version (data_of_list ys))))
 
 -- the first texts are no longer than all
-length-texts-front : (version : Version) (xs ys : List Datum) → length (texts (canonical_trees version (data_of_list xs))) ≤ length
+length-texts-front : (version : Version) (xs ys : List Datum) →
+    length (texts (canonical_trees version (data_of_list xs))) ≤ length
     (texts (canonical_trees version (data_of_list (xs ++ ys))))
 length-texts-front version xs ys = omega (
   arith,
@@ -57,7 +60,8 @@ map-split f n xs = ap (map f) (sym (take-append-drop n xs)) ∙ map-append f (ta
 
 -- behind the texts up to a place there is room for one more
 pub text_room : {A : Type 0} (version : Version) (f : A → Datum) (xs : List A) (i : ℕ) (d : A) → i < length xs →
-    length (texts (canonical_trees version (data_of_list (map f (take i xs))))) + length (canonical_text version (f (get_or xs i d))) ≤ length
+    length (texts (canonical_trees version (data_of_list (map f (take i xs))))) + length
+    (canonical_text version (f (get_or xs i d))) ≤ length
     (texts (canonical_trees version (data_of_list (map f xs))))
 text_room version f xs i d h = omega (
   arith,
@@ -69,8 +73,10 @@ text_room version f xs i d h = omega (
 
 -- the same of a pair
 pub pair_room : {A : Type 0} (version : Version) (f : A → Datum × Datum) (xs : List A) (i : ℕ) (d : A) → i < length xs →
-    length (texts (canonical_trees version (data_of_list (in_turn (map f (take i xs)))))) + length (canonical_text version (f (get_or xs i d)).0) + length
-    (canonical_text version (f (get_or xs i d)).1) ≤ length (texts (canonical_trees version (data_of_list (in_turn (map f xs)))))
+    length (texts (canonical_trees version (data_of_list (in_turn (map f (take i xs)))))) + length
+    (canonical_text version (f (get_or xs i d)).0) + length
+    (canonical_text version (f (get_or xs i d)).1) ≤ length
+    (texts (canonical_trees version (data_of_list (in_turn (map f xs)))))
 pair_room version f xs i d h =
     let pair = f (get_or xs i d) in
     let front = data_of_list (in_turn (map f (take i xs))) in
@@ -84,29 +90,36 @@ pair_room version f xs i d h =
           in_turn-append (map f (take (i + 1) xs)) (map f (drop (i + 1) xs))),
     )
 
-map-map : (words : List (Vec ℕ Global)) → map word_datum (map (λ word. word.items) words) ≡ map (λ word. word_datum word.items) words
+map-map : (words : List (Vec ℕ Global)) → map word_datum (map (λ word. word.items) words) ≡
+    map (λ word. word_datum word.items) words
 map-map [] = refl
 map-map (word ∷ words) = ap (λ rest. word_datum word.items ∷ rest) (map-map words)
 
 -- one more word
-pub word_take_more : (words : List (Vec ℕ Global)) (i : ℕ) (d : Vec ℕ Global) {text : List ℕ} → i < length words → text ≡ (get_or words i d).items →
-    data_of_list (map word_datum (take (i + 1) (texts_of words))) ≡ extended (data_of_list (map word_datum (take i (texts_of words)))) (word_datum text)
+pub word_take_more : (words : List (Vec ℕ Global)) (i : ℕ) (d : Vec ℕ Global) {text : List ℕ} → i < length words →
+    text ≡ (get_or words i d).items →
+    data_of_list (map word_datum (take (i + 1) (texts_of words))) ≡
+    extended (data_of_list (map word_datum (take i (texts_of words)))) (word_datum text)
 word_take_more words i d {text = text} h e =
     ap (λ ws. data_of_list (map word_datum ws)) (take-map (λ word. word.items) (i + 1) words)
     ∙ ap data_of_list (map-map (take (i + 1) words))
     ∙ data-take_more (λ word. word_datum word.items) words i d h
     ∙ ap (λ x. extended (data_of_list (map (λ word. word_datum word.items) (take i words))) (word_datum x)) (sym e)
-    ∙ ap (λ ws. extended (data_of_list ws) (word_datum text)) (sym (map-map (take i words)) ∙ ap (map word_datum) (sym (take-map (λ word. word.items) i words)))
+    ∙ ap (λ ws. extended (data_of_list ws) (word_datum text)) (sym (map-map (take i words)) ∙
+    ap (map word_datum) (sym (take-map (λ word. word.items) i words)))
 
 -- behind the words up to a place there is room for one more
-pub word_room : (words : List (Vec ℕ Global)) (i : ℕ) (d : Vec ℕ Global) {text : List ℕ} → i < length words → text ≡ (get_or words i d).items →
-    length (texts (canonical_trees Two (data_of_list (map word_datum (take i (texts_of words)))))) + length (canonical_text Two (word_datum text)) ≤ length
+pub word_room : (words : List (Vec ℕ Global)) (i : ℕ) (d : Vec ℕ Global) {text : List ℕ} → i < length words →
+    text ≡ (get_or words i d).items →
+    length (texts (canonical_trees Two (data_of_list (map word_datum (take i (texts_of words)))))) + length
+    (canonical_text Two (word_datum text)) ≤ length
     (texts (canonical_trees Two (data_of_list (map word_datum (texts_of words)))))
 word_room words i d {text = text} h e = omega (
   arith,
   text_room Two (λ word. word_datum word.items) words i d h,
   ap (λ ws. length (texts (canonical_trees Two (data_of_list ws)))) (map-map (take i words)),
-  ap (λ ws. length (texts (canonical_trees Two (data_of_list (map word_datum ws))))) (take-map (λ word. word.items) i words),
+  ap (λ ws. length (texts (canonical_trees Two (data_of_list (map word_datum ws)))))
+      (take-map (λ word. word.items) i words),
   ap (λ ws. length (texts (canonical_trees Two (data_of_list ws)))) (map-map words),
   ap (λ t. length (canonical_text Two (word_datum t))) e,
 )

@@ -14,7 +14,7 @@ use Rattle.resp_value.specs.Spellings.{IsSpelling}
 use Rattle.resp_value.proofs.SpellingLaws.{canonical_text_spells_what_fits}
 use Rattle.resp_value.specs.declared.version.Version.{Version}
 use Rattle.resp_value.specs.declared.version.Version.TheVariants.{Three}
-use Rattle.resp_encode.specs.Writings.{Fills}
+use Rattle.resp_encode.specs.Walks.Writings.{Fills}
 
 -- nothing was appended
 pub Writes-none : (a : Filled) → Fills a a []
@@ -31,41 +31,50 @@ Writes-append {a = a} {x = x} {y = y} first second = record {
 pub head_split : (byte n : ℕ) (rest : List ℕ) → (byte ∷ decimal n ++ crlf []) ++ rest ≡ byte ∷ decimal n ++ crlf rest
 head_split byte n rest = ap (λ xs. byte ∷ xs) (append_assoc (decimal n) (crlf []) rest)
 
-pub length-head : (byte n : ℕ) (rest : List ℕ) → length (byte ∷ decimal n ++ crlf rest) ≡ length (decimal n) + 3 + length rest
+pub length-head : (byte n : ℕ) (rest : List ℕ) → length (byte ∷ decimal n ++ crlf rest) ≡
+    length (decimal n) + 3 + length rest
 length-head byte n rest = omega (arith, length-append (decimal n) (crlf rest))
 
 -- the text of an aggregate is its head and the texts of its members
-pub aggregate_text : (version : Version) (k : Kind) (xs : Data) (n : ℕ) → items_of k (count xs) ≡ n → canonical_text version (aggregate k xs) ≡ kind_byte k ∷
+pub aggregate_text : (version : Version) (k : Kind) (xs : Data) (n : ℕ) → items_of k (count xs) ≡ n →
+    canonical_text version (aggregate k xs) ≡ kind_byte k ∷
     decimal n ++ crlf (texts (canonical_trees version xs))
 aggregate_text version k xs n e =
     ap (λ m. (kind_byte k ∷ decimal m) ++ crlf (texts (canonical_trees version xs) ++ [])) e
     ∙ ap (λ rest. (kind_byte k ∷ decimal n) ++ crlf rest) (append-nil (texts (canonical_trees version xs)))
 
 -- the end of a line of 24 bytes, with one byte put before it
-pub line_with : (line : List ℕ) (start byte : ℕ) (end : List ℕ) → length line ≡ 24 → 0 < start → start ≤ 24 → drop start line ≡ end →
+pub line_with : (line : List ℕ) (start byte : ℕ) (end : List ℕ) → length line ≡ 24 → 0 < start → start ≤ 24 →
+    drop start line ≡ end →
     take (24 - (start - 1)) (drop (start - 1) (set line (start - 1) byte)) ≡ byte ∷ end
 line_with line start byte end n full within e =
     let at : start - 1 < length line = omega arith in
     let behind : start - 1 + 1 ≡ start = omega arith in
-    let whole : drop (start - 1) (set line (start - 1) byte) ≡ byte ∷ end = drop-set line (start - 1) byte at ∙ ap (λ i. byte ∷ drop i line) behind ∙
+    let whole : drop (start - 1) (set line (start - 1) byte) ≡ byte ∷ end = drop-set line (start - 1) byte at ∙
+    ap (λ i. byte ∷ drop i line) behind ∙
     ap (λ xs. byte ∷ xs) e in
-    ap (take (24 - (start - 1))) whole ∙ take_all (24 - (start - 1)) (byte ∷ end) (omega (arith, ap length e, length-drop start line))
+    ap (take (24 - (start - 1))) whole ∙ take_all (24 - (start - 1)) (byte ∷ end)
+    (omega (arith, ap length e, length-drop start line))
 
 -- the text of an integer below zero, and of another
-pub int_text_below : (i : ℤ) → i <ℤ pos 0 → canonical_text Three (scalar (d.Int i)) ≡ (58 ∷ []) ++ (45 ∷ decimal (nat_abs i) ++ crlf [])
+pub int_text_below : (i : ℤ) → i <ℤ pos 0 → canonical_text Three (scalar (d.Int i)) ≡ (58 ∷ []) ++
+    (45 ∷ decimal (nat_abs i) ++ crlf [])
 int_text_below (pos n) below = absurd (omega (arith, ints))
 int_text_below (negsuc n) below = ap (λ m. 58 ∷ 45 ∷ decimal m ++ crlf []) (add-one n)
 
-pub int_text_from_zero : (i : ℤ) → pos 0 ≤ℤ i → canonical_text Three (scalar (d.Int i)) ≡ 58 ∷ decimal (nat_abs i) ++ crlf []
+pub int_text_from_zero : (i : ℤ) → pos 0 ≤ℤ i → canonical_text Three (scalar (d.Int i)) ≡ 58 ∷ decimal (nat_abs i) ++
+    crlf []
 int_text_from_zero (pos n) above = refl
 int_text_from_zero (negsuc n) above = absurd (omega (arith, ints))
 
 -- the text of a value that fits is a spelling of it
-pub spells_if_fits : (rules : Rules) (x : Datum) → IsValue x → Fits rules x → IsSpelling rules x (canonical_text rules.version x)
+pub spells_if_fits : (rules : Rules) (x : Datum) → IsValue x → Fits rules x →
+    IsSpelling rules x (canonical_text rules.version x)
 spells_if_fits rules x value fits = (canonical_text_spells_what_fits rules x value).1 fits
 
 -- one append writes its bytes
-pub Writes-bytes : {a b : Filled} {written text : List ℕ} → b.items ≡ a.items ++ written → b.spare + length written ≡ a.spare → written ≡ text → Fills a b text
+pub Writes-bytes : {a b : Filled} {written text : List ℕ} → b.items ≡ a.items ++ written →
+    b.spare + length written ≡ a.spare → written ≡ text → Fills a b text
 Writes-bytes {a = a} {b = b} items spare same = record {
   items = items ∙ ap (λ xs. a.items ++ xs) same;
   spare =

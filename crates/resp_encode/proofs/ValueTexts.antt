@@ -20,9 +20,11 @@ use Rattle.resp_encode.proofs.Texts.{aggregate_text}
 
 -- a head with this byte, and the texts of the members
 abbrev pub group_text : Version → ℕ → List Value → List ℕ
-group_text version byte members = byte ∷ decimal (length members) ++ crlf (texts (canonical_trees version (data_of_list (map datum_of members))))
+group_text version byte members = byte ∷ decimal (length members) ++
+    crlf (texts (canonical_trees version (data_of_list (map datum_of members))))
 
-pub text_of-Array : (version : Version) (value : Value) (members : Members) (xs : List Value) → xs ≡ list_of members → value ≡ Array members →
+pub text_of-Array : (version : Version) (value : Value) (members : Members) (xs : List Value) → xs ≡ list_of members →
+    value ≡ Array members →
     canonical_text version (datum_of value) ≡ group_text version 42 xs
 text_of-Array version value members xs e is =
     ap (λ x. canonical_text version (datum_of x)) is
@@ -30,7 +32,8 @@ text_of-Array version value members xs e is =
     ∙ ap (λ ys. canonical_text version (d.aggregate d.Array (data_of_list (map datum_of ys)))) (sym e)
     ∙ aggregate_text version d.Array (data_of_list (map datum_of xs)) (length xs) (count-map datum_of xs)
 
-pub text_of-Set : (version : Version) (value : Value) (members : Members) (xs : List Value) → xs ≡ list_of members → value ≡ Set members →
+pub text_of-Set : (version : Version) (value : Value) (members : Members) (xs : List Value) → xs ≡ list_of members →
+    value ≡ Set members →
     canonical_text version (datum_of value) ≡ group_text version 126 xs
 text_of-Set version value members xs e is =
     ap (λ x. canonical_text version (datum_of x)) is
@@ -38,7 +41,8 @@ text_of-Set version value members xs e is =
     ∙ ap (λ ys. canonical_text version (d.aggregate d.Set (data_of_list (map datum_of ys)))) (sym e)
     ∙ aggregate_text version d.Set (data_of_list (map datum_of xs)) (length xs) (count-map datum_of xs)
 
-pub text_of-Push : (version : Version) (value : Value) (members : Members) (xs : List Value) → xs ≡ list_of members → value ≡ Push members →
+pub text_of-Push : (version : Version) (value : Value) (members : Members) (xs : List Value) → xs ≡ list_of members →
+    value ≡ Push members →
     canonical_text version (datum_of value) ≡ group_text version 62 xs
 text_of-Push version value members xs e is =
     ap (λ x. canonical_text version (datum_of x)) is
@@ -50,7 +54,8 @@ text_of-Push version value members xs e is =
 abbrev pub pair_texts : Version → List (Value × Value) → List ℕ
 pair_texts version pairs = texts (canonical_trees version (data_of_list (in_turn (map pair_data pairs))))
 
-pub text_of-Map : (version : Version) (value : Value) (pairs : PairList) (ps : List (Value × Value)) → ps ≡ pairs_of pairs → value ≡ Map pairs →
+pub text_of-Map : (version : Version) (value : Value) (pairs : PairList) (ps : List (Value × Value)) →
+    ps ≡ pairs_of pairs → value ≡ Map pairs →
     canonical_text version (datum_of value) ≡ 37 ∷ decimal (length ps) ++ crlf (pair_texts version ps)
 text_of-Map version value pairs ps e is =
     ap (λ x. canonical_text version (datum_of x)) is
@@ -58,15 +63,21 @@ text_of-Map version value pairs ps e is =
     ∙ ap (λ qs. canonical_text version (d.aggregate d.Map (data_of_list (in_turn (map pair_data qs))))) (sym e)
     ∙ aggregate_text version d.Map (data_of_list (in_turn (map pair_data ps))) (length ps) (count-in_turn pair_data ps)
 
-pub text_of-Attr : (version : Version) (value : Value) (pairs : PairList) (annotated : Box Value Global) (ps : List (Value × Value)) (under : Value) →
-    ps ≡ pairs_of pairs → under ≡ annotated.value → value ≡ Attr pairs annotated → canonical_text version (datum_of value) ≡ 124 ∷ decimal (length ps) ++
+pub text_of-Attr : (version : Version) (value : Value) (pairs : PairList) (annotated : Box Value Global)
+    (ps : List (Value × Value)) (under : Value) →
+    ps ≡ pairs_of pairs → under ≡ annotated.value → value ≡ Attr pairs annotated →
+    canonical_text version (datum_of value) ≡ 124 ∷ decimal (length ps) ++
     crlf (pair_texts version ps ++ canonical_text version (datum_of under))
 text_of-Attr version value pairs annotated ps under e f is =
     ap (λ x. canonical_text version (datum_of x)) is
     ∙ ap (canonical_text version) (datum_of-Attr pairs annotated)
-    ∙ ap (λ qs. canonical_text version (d.aggregate d.Attr (data_of_list (in_turn (map pair_data qs) ++ datum_of annotated.value ∷ [])))) (sym e)
-    ∙ ap (λ x. canonical_text version (d.aggregate d.Attr (data_of_list (in_turn (map pair_data ps) ++ datum_of x ∷ [])))) (sym f)
+    ∙ ap (λ qs. canonical_text version (d.aggregate d.Attr
+    (data_of_list (in_turn (map pair_data qs) ++ datum_of annotated.value ∷ [])))) (sym e)
+    ∙ ap (λ x. canonical_text version (d.aggregate d.Attr
+    (data_of_list (in_turn (map pair_data ps) ++ datum_of x ∷ [])))) (sym f)
     ∙ aggregate_text version d.Attr (data_of_list (in_turn (map pair_data ps) ++ datum_of under ∷ [])) (length ps)
     (count-annotated pair_data ps (datum_of under))
-    ∙ ap (λ xs. 124 ∷ decimal (length ps) ++ crlf (texts (canonical_trees version xs))) (data_of_list-push (in_turn (map pair_data ps)) (datum_of under))
-    ∙ ap (λ xs. 124 ∷ decimal (length ps) ++ crlf xs) (texts-extended version (data_of_list (in_turn (map pair_data ps))) (datum_of under))
+    ∙ ap (λ xs. 124 ∷ decimal (length ps) ++ crlf (texts (canonical_trees version xs)))
+    (data_of_list-push (in_turn (map pair_data ps)) (datum_of under))
+    ∙ ap (λ xs. 124 ∷ decimal (length ps) ++ crlf xs)
+    (texts-extended version (data_of_list (in_turn (map pair_data ps))) (datum_of under))

@@ -11,7 +11,8 @@ use Rattle.resp_encode.specs.declared.error.EncodeError.TheVariants.{NotInVersio
 use Rattle.resp_encode.proofs.Texts.{spells_if_fits}
 
 -- a value that fits has no fault
-no_fault_of_fitting : (rules : Rules) (x : Datum) (error : EncodeError) → Fits rules x → error ≢ OutOfMemory → IsFirstFault rules x error → ⊥
+no_fault_of_fitting : (rules : Rules) (x : Datum) (error : EncodeError) → Fits rules x → error ≢ OutOfMemory →
+    IsFirstFault rules x error → ⊥
 no_fault_of_fitting rules x NotInVersion fits other fault = fault fits.has_types
 no_fault_of_fitting rules x NestedPush fits other fault = fault.1 fits.push_at_top
 no_fault_of_fitting rules x (OverLimits Depth) fits other fault = omega (arith, fits.within_depth, fault.1)
@@ -21,7 +22,8 @@ no_fault_of_fitting rules x (OverLimits Total) fits other fault = omega (arith, 
 no_fault_of_fitting rules x OutOfMemory fits other fault = other refl
 
 -- a value that fits is rightly taken
-pub verdict_of_fitting : {T : Type 0} (rules : Rules) (x : Datum) (answer : T) → IsValue x → Fits rules x → IsVerdict {T = T} rules x (Ok answer)
+pub verdict_of_fitting : {T : Type 0} (rules : Rules) (x : Datum) (answer : T) → IsValue x → Fits rules x →
+    IsVerdict {T = T} rules x (Ok answer)
 verdict_of_fitting rules x answer value fits = record {
   fits = fits;
   spelling = spells_if_fits rules x value fits;

@@ -36,14 +36,14 @@ pub record AppendsWhole (old new : Filled) (text : List ℕ) (result : Result (U
 
 -- a text was written whole to a device that held and counted what is given here, and this is its length
 pub record WritesWhole (held held' : Option (List ℕ)) (failures failures' : ℕ) (text : List ℕ) (written : ℕ) : Type 0
-    where
-  pub full_length : written ≡ length text
-  pub appended : Appends held held' text
-  pub none_failed : failures' ≡ failures
+  where
+    pub full_length : written ≡ length text
+    pub appended : Appends held held' text
+    pub none_failed : failures' ≡ failures
 
 -- a write failed when this many bytes were written, which are a beginning of the text and not the whole
 pub record WritesPart (held held' : Option (List ℕ)) (failures failures' : ℕ) (text : List ℕ) (written : ℕ) : Type 0
-    where
-  pub not_whole : written < length text
-  pub appended : Appends held held' (take written text)
-  pub failure_counted : HasRisen failures failures'
+  where
+    pub not_whole : written < length text
+    pub appended : Appends held held' (take written text)
+    pub failure_counted : HasRisen failures failures'

@@ -1,7 +1,6 @@
-pub mod Attempts
+-- What a caller reads of the encoder.
 pub mod Encodings
 pub mod Refusals
-pub mod Sizes
-pub mod Surveys
 pub mod Words
-pub mod Writings
+-- What the walks over a value promise one another, which no public clause names.
+pub mod Walks

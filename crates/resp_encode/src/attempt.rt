@@ -13,12 +13,11 @@ ghost use Rattle.resp_value.specs.Data as d;
 ghost use Rattle.resp_value.specs.Trees.{kind_byte};
 ghost use Rattle.resp_value.specs.Canonical.{IsValue, HasNoPush, canonical_text, Fits};
 ghost use Rattle.resp_value.specs.Values.{datum_of, pair_data};
-ghost use Rattle.resp_encode.specs.Attempts.{HasKind, Attempt, AttemptEach, AttemptNotes};
+ghost use Rattle.resp_encode.specs.Walks.Attempts.{HasKind, Attempt, AttemptEach, AttemptAttributePairs};
 ghost use Rattle.resp_value.specs.Kinds.{kind_of};
-ghost use Rattle.resp_encode.specs.Writings.{Fills};
+ghost use Rattle.resp_encode.specs.Walks.Writings.{Fills};
 
-use crate::findings::head_size;
-use crate::room::room;
+use crate::room::{has_room_for_head, room};
 use crate::text::write_head;
 use bytes::BytesMut;
 use resp_value::kind::OpenKind;
@@ -62,7 +61,7 @@ fn attempt_head(
     if !has_kind(version, kind) || deeper == 0 {
         return false;
     }
-    if items > limits.items() || head_size(items) > room(out) {
+    if items > limits.items() || !has_room_for_head(out, items, 0) {
         return false;
     }
     write_head(out, kind.byte(), items);
@@ -79,8 +78,7 @@ fn attempt_value(
     deeper: u64,
     out: &mut BytesMut,
 ) -> bool
-    ensures attempt { Attempt version limits.now deeper (datum_of value.now) out.old out.new result
-        }
+    ensures attempt { Attempt version limits.now deeper (datum_of value.now) out.old out.new result }
     ensures no_push { OnTrue result (HasNoPush (datum_of value.now)) }
 {
     match value {
@@ -108,7 +106,7 @@ fn attempt_value(
         }
         Value::Map(pairs) => attempt_map(pairs.list(), version, limits, deeper, out),
         Value::Attr(pairs, annotated) => {
-            if !attempt_notes(pairs.list(), version, limits, deeper, out) {
+            if !attempt_attribute_pairs(pairs.list(), version, limits, deeper, out) {
                 return false;
             }
             attempt_annotated(annotated, version, limits, deeper - 1, out)
@@ -117,7 +115,8 @@ fn attempt_value(
     }
 }
 
-/// The same of an aggregate that counts its members one by one.
+/// Appends the text of an aggregate that counts its members one by one, as far as nothing is in the
+/// way.
 #[cycle(attempt)]
 #[inline(never)]
 fn attempt_group(
@@ -130,8 +129,7 @@ fn attempt_group(
 ) -> bool
     requires { (n : ℕ) → items_of (kind_of kind) n ≡ n }
     ensures { Attempt version limits.now deeper
-        (aggregate (kind_of kind) (data_of_list (map datum_of members.now))) out.old out.new result
-            }
+        (aggregate (kind_of kind) (data_of_list (map datum_of members.now))) out.old out.new result }
 {
     if !attempt_head(members.len() as u64, kind, version, limits, deeper, out) {
         return false;
@@ -139,7 +137,7 @@ fn attempt_group(
     attempt_members(members, version, limits, deeper - 1, out)
 }
 
-/// The same of a map of these pairs.
+/// Appends the text of a map of these pairs, as far as nothing is in the way.
 #[cycle(attempt)]
 #[inline(never)]
 fn attempt_map(
@@ -150,8 +148,7 @@ fn attempt_map(
     out: &mut BytesMut,
 ) -> bool
     ensures { Attempt version limits.now deeper
-        (aggregate d.Map (data_of_list (in_turn (map pair_data pairs.now)))) out.old out.new result
-            }
+        (aggregate d.Map (data_of_list (in_turn (map pair_data pairs.now)))) out.old out.new result }
 {
     if !attempt_head(
         pairs.len() as u64,
@@ -166,17 +163,17 @@ fn attempt_map(
     attempt_pairs(pairs, version, limits, deeper - 1, out)
 }
 
-/// The same of the head and the pairs of an attribute.
+/// Appends the head and the pairs of an attribute, as far as nothing is in the way.
 #[cycle(attempt)]
 #[inline(never)]
-fn attempt_notes(
+fn attempt_attribute_pairs(
     pairs: &[(Value, Value)],
     version: Version,
     limits: &Limits,
     deeper: u64,
     out: &mut BytesMut,
 ) -> bool
-    ensures { AttemptNotes version limits.now deeper (length pairs.now)
+    ensures { AttemptAttributePairs version limits.now deeper (length pairs.now)
         (data_of_list (in_turn (map pair_data pairs.now))) out.old out.new result }
 {
     if !attempt_head(
@@ -192,7 +189,7 @@ fn attempt_notes(
     attempt_pairs(pairs, version, limits, deeper - 1, out)
 }
 
-/// The same of the value that an attribute annotates.
+/// Appends the text of the value that an attribute annotates, as far as nothing is in the way.
 #[cycle(attempt)]
 #[inline(never)]
 fn attempt_annotated(
@@ -202,14 +199,13 @@ fn attempt_annotated(
     deeper: u64,
     out: &mut BytesMut,
 ) -> bool
-    ensures attempt { Attempt version limits.now deeper (datum_of value.now) out.old out.new result
-        }
+    ensures attempt { Attempt version limits.now deeper (datum_of value.now) out.old out.new result }
     ensures no_push { OnTrue result (HasNoPush (datum_of value.now)) }
 {
     attempt_value(value, version, limits, deeper, out)
 }
 
-/// The same of values that stand side by side.
+/// Appends the texts of values that stand side by side, as far as nothing is in the way.
 #[cycle(attempt)]
 #[inline(never)]
 fn attempt_members(
@@ -230,7 +226,7 @@ fn attempt_members(
     true
 }
 
-/// The same of keys and values in turn.
+/// Appends the texts of keys and values in turn, as far as nothing is in the way.
 #[cycle(attempt)]
 #[inline(never)]
 fn attempt_pairs(
@@ -254,7 +250,7 @@ fn attempt_pairs(
     true
 }
 
-/// The same of a value that may be a push.
+/// Appends the text of a value that may be a push, as far as nothing is in the way.
 #[inline(always)]
 fn attempt_top(value: &Value, version: Version, limits: &Limits, out: &mut BytesMut) -> bool
     ensures { Attempt version limits.now limits.now.depth (datum_of value.now) out.old out.new

@@ -9,10 +9,10 @@
 mod attempt;
 mod digits;
 mod error;
-mod findings;
-mod judge;
+mod first_fault;
+mod measure;
+mod measure_value;
 mod room;
-mod survey;
 #[cfg(test)]
 mod tests;
 mod text;

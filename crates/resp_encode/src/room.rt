@@ -1,10 +1,17 @@
 //! Room for a text.
 
-ghost use Rattle.std.specs.Prelude.{◌≡◌, IfErr};
+ghost use Rattle.std.specs.Prelude.{◌≡◌, ◌+◌, ◌≤◌, ◌^◌, length, IfErr};
+ghost use Rattle.std.specs.Bool.{OnTrue};
 ghost use Rattle.bytes.specs.Filled.{MakesSpare};
+ghost use Rattle.resp_value.specs.Numbers.{decimal};
 
 use crate::error::EncodeError;
+use crate::measure::head_size;
 use bytes::BytesMut;
+
+/// The bytes of the longest head: the type byte, the twenty digits of the greatest `u64`, CR and
+/// LF.
+const LONGEST_HEAD: u64 = 23;
 
 /// Makes room for so many more bytes, and leaves the bytes that are there.
 #[inline]
@@ -25,4 +32,15 @@ pub(crate) fn room(out: &BytesMut) -> u64
     ensures { result ≡ out.now.spare }
 {
     (out.capacity() - out.len()) as u64
+}
+
+/// Whether there is surely room for a head with this number and so many bytes behind it. The digits
+/// are counted only where there is little room.
+#[inline(always)]
+pub(crate) fn has_room_for_head(out: &BytesMut, number: u64, behind: u64) -> bool
+    requires { behind ≤ 2 ^ 63 + 6 }
+    ensures { OnTrue result (length (decimal number) + 3 + behind ≤ out.now.spare) }
+{
+    let room = room(out);
+    behind + LONGEST_HEAD <= room || head_size(number) + behind <= room
 }

@@ -9,7 +9,7 @@ ghost use Rattle.resp_value.specs.Trees.{texts};
 ghost use Rattle.resp_value.specs.Canonical.{canonical_text, canonical_trees};
 ghost use Rattle.resp_value.specs.Values.{datum_of, pair_data};
 ghost use Rattle.resp_value.specs.declared.version.Version.TheVariants.{Three};
-ghost use Rattle.resp_encode.specs.Writings.{Fills};
+ghost use Rattle.resp_encode.specs.Walks.Writings.{Fills};
 
 use crate::digits::{four_digits, two_digits};
 use bytes::BytesMut;
@@ -33,8 +33,8 @@ pub(crate) fn write_head(out: &mut BytesMut, byte: u8, number: u64)
     }
 }
 
-/// The same of a number of three digits and more. Each byte is stored where it stays: bytes put
-/// together elsewhere and copied in one piece would have to be waited for.
+/// Appends a head with a number of three digits and more. Each byte is stored where it stays: bytes
+/// put together elsewhere and copied in one piece would have to be waited for.
 #[inline(never)]
 fn write_long_head(out: &mut BytesMut, byte: u8, number: u64)
     requires long { 100 ≤ number }
@@ -52,7 +52,7 @@ fn write_long_head(out: &mut BytesMut, byte: u8, number: u64)
     }
 }
 
-/// The same of a number of five digits and more.
+/// Appends a head with a number of five digits and more.
 #[inline(never)]
 fn write_longer_head(out: &mut BytesMut, byte: u8, number: u64)
     requires long { 10000 ≤ number }
@@ -92,7 +92,7 @@ fn write_number(out: &mut BytesMut, byte: u8, number: u64)
     }
 }
 
-/// The same of a number of one digit to four.
+/// Appends the byte and a number of one digit to four.
 #[inline]
 fn write_short_number(out: &mut BytesMut, byte: u8, number: u64)
     requires short { number ≤ 9999 }
@@ -186,8 +186,7 @@ pub(crate) fn write_string(out: &mut BytesMut, byte: u8, bytes: &[u8])
 pub(crate) fn write_verbatim(out: &mut BytesMut, format: &[u8; 3], text: &[u8])
     requires { length (canonical_text Three (scalar (d.Verbatim format.now text.now))) ≤
         out.old.spare }
-    ensures { Fills out.old out.new (canonical_text Three (scalar (d.Verbatim format.now text.now)))
-        }
+    ensures { Fills out.old out.new (canonical_text Three (scalar (d.Verbatim format.now text.now))) }
 {
     write_head(out, b'=', text.len() as u64 + 4);
     out.extend_reserved(format);
@@ -257,8 +256,7 @@ fn write_annotated(value: &Value, version: Version, out: &mut BytesMut)
 #[inline(never)]
 pub(crate) fn write_group(members: &[Value], version: Version, byte: u8, out: &mut BytesMut)
     requires { length (decimal (length members.now)) + 3 + length
-        (texts (canonical_trees version (data_of_list (map datum_of members.now)))) ≤ out.old.spare
-            }
+        (texts (canonical_trees version (data_of_list (map datum_of members.now)))) ≤ out.old.spare }
     ensures { Fills out.old out.new (byte ∷ decimal (length members.now) ++
         crlf (texts (canonical_trees version (data_of_list (map datum_of members.now))))) }
 {

@@ -7,15 +7,15 @@ ghost use Rattle.resp_value.specs.Canonical.{canonical_text};
 ghost use Rattle.resp_value.specs.Values.{datum_of};
 ghost use Rattle.resp_encode.specs.Refusals.{HasText};
 ghost use Rattle.resp_encode.specs.Words.{push_of};
-ghost use Rattle.resp_encode.specs.Writings.{Fills};
+ghost use Rattle.resp_encode.specs.Walks.Writings.{Fills};
 ghost use Rattle.resp_encode.specs.declared.error.EncodeError.{EncodeError};
 ghost use Rattle.resp_value.specs.declared.version.Version.TheVariants.{Three};
 
 use crate::attempt::attempt;
 use crate::error::EncodeError;
-use crate::judge::{has_types, judge};
+use crate::first_fault::{checked_size, has_types};
+use crate::measure_value::{measure_group, measure_value};
 use crate::room::reserve;
-use crate::survey::{survey, survey_group};
 use crate::text::{write_group, write_value};
 use bytes::BytesMut;
 use resp_value::kind::OpenKind;
@@ -44,7 +44,7 @@ pub fn encode(
     if attempt(value, version, limits, out) {
         return Ok(());
     }
-    let size = judge_value(value, version, limits)?;
+    let size = checked_value_size(value, version, limits)?;
     reserve(out, size)?;
     write_whole(value, version, out);
     Ok(())
@@ -53,14 +53,18 @@ pub fn encode(
 /// The length of the text of a value, or its first fault.
 #[cold]
 #[inline(never)]
-fn judge_value(value: &Value, version: Version, limits: &Limits) -> Result<usize, EncodeError>
+fn checked_value_size(
+    value: &Value,
+    version: Version,
+    limits: &Limits,
+) -> Result<usize, EncodeError>
     ensures verdict { IsVerdict (rules_under version limits.now) (datum_of value.now) result }
     ensures size { IfOk result (λ size. size ≡
         length (canonical_text version (datum_of value.now))) }
     ensures not_memory { IsErrOf result EncodeError.OutOfMemory → ⊥ }
 {
-    let found = survey(value, version);
-    judge(&found, version, limits)
+    let found = measure_value(value, version);
+    checked_size(&found, version, limits)
 }
 
 /// Appends the text of a value into room that is there.
@@ -74,13 +78,13 @@ fn write_whole(value: &Value, version: Version, out: &mut BytesMut)
 }
 
 /// The length of the text of a push of these values, or its first fault.
-fn judge_push(limits: &Limits, items: &[Value]) -> Result<usize, EncodeError>
+fn checked_push_size(limits: &Limits, items: &[Value]) -> Result<usize, EncodeError>
     ensures verdict { IsVerdict (rules_under Three limits.now) (push_of items.now) result }
     ensures size { IfOk result (λ size. size ≡ length (canonical_text Three (push_of items.now))) }
     ensures not_memory { IsErrOf result EncodeError.OutOfMemory → ⊥ }
 {
-    let found = survey_group(items, Version::Three, OpenKind::Push);
-    judge(&found, Version::Three, limits)
+    let found = measure_group(items, Version::Three, OpenKind::Push);
+    checked_size(&found, Version::Three, limits)
 }
 
 /// Appends the text of a push of these values into room that is there.
@@ -98,7 +102,7 @@ pub fn encode_push(limits: &Limits, items: &[Value], out: &mut BytesMut) -> Resu
     ensures whole_or_nothing { AppendsWhole out.old out.new
         (canonical_text Three (push_of items.now)) result }
 {
-    let size = judge_push(limits, items)?;
+    let size = checked_push_size(limits, items)?;
     reserve(out, size)?;
     write_push(items, out);
     Ok(())
@@ -111,7 +115,7 @@ pub fn size(version: Version, value: &Value) -> Option<u64>
     ensures some { IsSome result ↔ (HasText version (datum_of value.now) ×
         (length (canonical_text version (datum_of value.now)) < 2 ^ 64)) }
 {
-    let found = survey(value, version);
+    let found = measure_value(value, version);
     if has_types(&found, version) && found.push_at_top {
         found.size
     } else {

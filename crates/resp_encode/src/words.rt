@@ -6,30 +6,30 @@ ghost use Rattle.std.specs.Prelude.{◌≡◌, ◌<◌, ◌≤◌, length, map, 
 ghost use Rattle.resp_value.specs.Data.{data_of_list};
 ghost use Rattle.resp_value.specs.Trees.{texts};
 ghost use Rattle.resp_value.specs.Canonical.{AreValues, canonical_text, canonical_trees};
-ghost use Rattle.resp_encode.specs.Surveys.{DescribesEach};
+ghost use Rattle.resp_encode.specs.Walks.Measures.{DescribesEach};
 ghost use Rattle.resp_encode.specs.Words.{texts_of, word_datum, command_of};
-ghost use Rattle.resp_encode.specs.Writings.{Fills};
+ghost use Rattle.resp_encode.specs.Walks.Writings.{Fills};
 ghost use Rattle.resp_encode.specs.declared.error.EncodeError.{EncodeError};
 ghost use Rattle.resp_value.specs.declared.version.Version.TheVariants.{Two};
 
 use crate::error::EncodeError;
-use crate::findings::Findings;
-use crate::judge::judge;
+use crate::first_fault::checked_size;
+use crate::measure::Measure;
+use crate::measure_value::measure_bulk;
 use crate::room::reserve;
-use crate::survey::of_bulk;
 use crate::text::{write_head, write_string};
 use bytes::BytesMut;
 use resp_value::kind::OpenKind;
 use resp_value::limits::Limits;
 use resp_value::version::Version;
 
-fn survey_words(words: &[Vec<u8>]) -> Findings
+fn measure_words(words: &[Vec<u8>]) -> Measure
     ensures found { DescribesEach Two (data_of_list (map word_datum (texts_of words.now))) result }
     ensures are_values { AreValues (data_of_list (map word_datum (texts_of words.now))) }
 {
-    let mut found = Findings::nothing();
+    let mut found = Measure::nothing();
     for word in words {
-        found = found.with(&of_bulk(word.as_slice()));
+        found = found.with(&measure_bulk(word.as_slice()));
     }
     found
 }
@@ -55,15 +55,15 @@ fn write_words(words: &[Vec<u8>], out: &mut BytesMut)
 }
 
 /// The length of a command's text, or the first limit that it breaks.
-fn judge_words(limits: &Limits, words: &[Vec<u8>]) -> Result<usize, EncodeError>
+fn checked_words_size(limits: &Limits, words: &[Vec<u8>]) -> Result<usize, EncodeError>
     ensures verdict { IsVerdict (rules_under Two limits.now) (command_of (texts_of words.now))
         result }
     ensures size { IfOk result (λ size. size ≡
         length (canonical_text Two (command_of (texts_of words.now)))) }
     ensures not_memory { IsErrOf result EncodeError.OutOfMemory → ⊥ }
 {
-    let found = survey_words(words).inside(OpenKind::Array, words.len() as u64);
-    judge(&found, Version::Two, limits)
+    let found = measure_words(words).inside(OpenKind::Array, words.len() as u64);
+    checked_size(&found, Version::Two, limits)
 }
 
 /// Whether `encode_words` takes these words, memory aside: the same answer but for want of memory.
@@ -73,7 +73,7 @@ pub fn check_words(limits: &Limits, words: &[Vec<u8>]) -> Result<(), EncodeError
         result }
     ensures not_memory { IsErrOf result EncodeError.OutOfMemory → ⊥ }
 {
-    judge_words(limits, words)?;
+    checked_words_size(limits, words)?;
     Ok(())
 }
 
@@ -89,7 +89,7 @@ pub fn encode_words(
     ensures whole_or_nothing { AppendsWhole out.old out.new
         (canonical_text Two (command_of (texts_of words.now))) result }
 {
-    let size = judge_words(limits, words)?;
+    let size = checked_words_size(limits, words)?;
     reserve(out, size)?;
     write_words(words, out);
     Ok(())

@@ -4,11 +4,12 @@ use Rattle.std.specs.Prelude.{ℕ, zero, suc, Option, None, Some, List, [], ◌�
 use Rattle.resp_value.specs.Rules.{Rules, Rule, Grammar, NoDouble, InVersion, PushAtTop, WithinDepth}
 use Rattle.resp_value.specs.declared.version.Version.{Version}
 use Rattle.resp_value.specs.declared.version.Version.TheVariants.{Two, Three}
+use Rattle.std.specs.Str.{byte}
 
--- the answer beside a byte, and for every other byte the grammar's refusal
-abbrev pub answer_beside : List (ℕ × Option Rule) → ℕ → Option Rule
-answer_beside [] byte = Some Grammar
-answer_beside (row ∷ rows) byte = cond (eqb byte row.0) row.1 (answer_beside rows byte)
+-- the answer beside a byte, and `other` for a byte that has none beside it
+abbrev pub answer_beside : {A : Type 0} → List (ℕ × A) → A → ℕ → A
+answer_beside [] other b = other
+answer_beside (row ∷ rows) other b = cond (eqb b row.0) row.1 (answer_beside rows other b)
 
 -- what version 3 alone has
 abbrev pub refusal_in_three : Version → Option Rule → Option Rule
@@ -27,19 +28,19 @@ push_refusal r (suc level) = Some PushAtTop
 -- each type byte with its answer, and `,`
 abbrev pub first_byte_answers : Rules → ℕ → List (ℕ × Option Rule)
 first_byte_answers r level =
-    (44, Some NoDouble)
-    ∷ (43, None) ∷ (45, None) ∷ (58, None) ∷ (36, None) ∷ (42, None)
-    ∷ (95, refusal_in_three r.version None)
-    ∷ (35, refusal_in_three r.version None)
-    ∷ (40, refusal_in_three r.version None)
-    ∷ (33, refusal_in_three r.version None)
-    ∷ (61, refusal_in_three r.version None)
-    ∷ (126, refusal_in_three r.version (aggregate_refusal r level))
-    ∷ (37, refusal_in_three r.version (aggregate_refusal r level))
-    ∷ (124, refusal_in_three r.version (aggregate_refusal r level))
-    ∷ (62, refusal_in_three r.version (push_refusal r level))
+    (byte ",", Some NoDouble)
+    ∷ (byte "+", None) ∷ (byte "-", None) ∷ (byte ":", None) ∷ (byte "$", None) ∷ (byte "*", None)
+    ∷ (byte "_", refusal_in_three r.version None)
+    ∷ (byte "#", refusal_in_three r.version None)
+    ∷ (byte "(", refusal_in_three r.version None)
+    ∷ (byte "!", refusal_in_three r.version None)
+    ∷ (byte "=", refusal_in_three r.version None)
+    ∷ (byte "~", refusal_in_three r.version (aggregate_refusal r level))
+    ∷ (byte "%", refusal_in_three r.version (aggregate_refusal r level))
+    ∷ (byte "|", refusal_in_three r.version (aggregate_refusal r level))
+    ∷ (byte ">", refusal_in_three r.version (push_refusal r level))
     ∷ []
 
 -- the rule that refuses this byte as the first one of a value on this level, if one before items does
 abbrev pub first_byte_refusal : Rules → ℕ → ℕ → Option Rule
-first_byte_refusal r level byte = answer_beside (first_byte_answers r level) byte
+first_byte_refusal r level b = answer_beside (first_byte_answers r level) (Some Grammar) b

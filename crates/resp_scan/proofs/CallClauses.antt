@@ -2,6 +2,8 @@
 pub mod Told
 pub mod Faults
 pub mod Heard
+pub mod Answered
+pub mod Hearing
 pub mod NoValue
 pub mod Steps
 pub mod Rows

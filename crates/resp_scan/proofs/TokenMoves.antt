@@ -3,7 +3,6 @@ pub mod Moves
 pub mod RefusedMoves
 pub mod LeafEvents
 pub mod LinesLead
-pub mod Choices
 pub mod NumbersLead
 pub mod BigNumbersLead
 pub mod LiteralsLead

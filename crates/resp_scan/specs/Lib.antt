@@ -1,5 +1,6 @@
 -- What a caller reads of the scanner.
 pub mod Reading
+pub mod Listening
 pub mod Parts
 pub mod Counts
 pub mod Kinds

@@ -16,6 +16,7 @@ mod heads;
 mod integers;
 pub mod laws;
 mod lines;
+pub mod listener;
 mod literals;
 mod machine;
 mod needed;

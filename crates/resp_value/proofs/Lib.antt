@@ -12,6 +12,7 @@ pub mod ViabilityLaws
 pub mod LocalRuleLemmas
 pub mod ByteLemmas
 pub mod DigitLemmas
+pub mod Choices
 pub mod DefaultLimits
 pub mod SmallTrees
 pub mod TypeBytes

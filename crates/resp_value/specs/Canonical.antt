@@ -3,7 +3,7 @@ use Rattle.std.specs.Prelude.{◌≡◌, ℕ, ◌+◌, ◌/◌, ◌^◌, ◌≤�
 use Rattle.std.proofs.Common.{neg_ℤ}
 use Rattle.resp_value.specs.Bytes.{IsLine, IsText}
 use Rattle.resp_value.specs.Numbers.{Sign, Unsigned, Minus, decimal, IsKept}
-use Rattle.resp_value.specs.Data.{Kind, Array, Set, Map, Attr, Push, Scalar, Datum, Data, scalar, aggregate, items_of, depth, longest, most_items}
+use Rattle.resp_value.specs.Data.{Kind, Array, Map, Attr, Push, Scalar, Datum, Data, scalar, aggregate, items_of, depth, longest, most_items}
 use Rattle.resp_value.specs.Data as d
 use Rattle.resp_value.specs.Trees.{Tree, Trees, leaf, node, none, more, Leaf, line, numeral, null, truth, string, Simple, Error, Double, Int, Big, NullForm, BulkNull, PlainNull, Bulk, BulkError, Verbatim, Counted, text}
 use Rattle.resp_value.specs.Rules.{Rules}
@@ -66,11 +66,9 @@ IsScalarValue (d.Big negative digits) = IsKept negative digits
 
 -- a map's members are whole pairs, and an attribute's whole pairs and one value
 abbrev pub IsWhole : Kind → ℕ → Type 0
-IsWhole Array n = Unit {0}
-IsWhole Set n = Unit {0}
 IsWhole Map n = n / 2 + n / 2 ≡ n
 IsWhole Attr n = n / 2 + n / 2 + 1 ≡ n
-IsWhole Push n = Unit {0}
+IsWhole _ n = Unit {0}
 
 -- what a value of the program may be
 abbrev mutual
@@ -82,24 +80,19 @@ abbrev mutual
   AreValues d.none = Unit {0}
   AreValues (d.more x xs) = IsValue x × AreValues xs
 
+-- version 2 has the type of the scalar
 abbrev pub IsScalarInTwo : Scalar → Type 0
 IsScalarInTwo d.Null = Unit {0}
-IsScalarInTwo (d.Bool b) = ⊥
 IsScalarInTwo (d.Int i) = Unit {0}
 IsScalarInTwo (d.Simple s) = Unit {0}
 IsScalarInTwo (d.Error s) = Unit {0}
-IsScalarInTwo (d.Double s) = ⊥
 IsScalarInTwo (d.Bulk s) = Unit {0}
-IsScalarInTwo (d.BulkError s) = ⊥
-IsScalarInTwo (d.Verbatim format s) = ⊥
-IsScalarInTwo (d.Big negative digits) = ⊥
+IsScalarInTwo _ = ⊥
 
+-- version 2 has the kind
 abbrev pub IsKindInTwo : Kind → Type 0
 IsKindInTwo Array = Unit {0}
-IsKindInTwo Set = ⊥
-IsKindInTwo Map = ⊥
-IsKindInTwo Attr = ⊥
-IsKindInTwo Push = ⊥
+IsKindInTwo _ = ⊥
 
 -- version 2 has each type of the value
 abbrev mutual
@@ -116,12 +109,10 @@ abbrev pub HasTypes : Version → Datum → Type 0
 HasTypes Two x = IsInTwo x
 HasTypes Three x = Unit {0}
 
+-- the kind may stand below the top
 abbrev pub IsKindBelow : Kind → Type 0
-IsKindBelow Array = Unit {0}
-IsKindBelow Set = Unit {0}
-IsKindBelow Map = Unit {0}
-IsKindBelow Attr = Unit {0}
 IsKindBelow Push = ⊥
+IsKindBelow _ = Unit {0}
 
 abbrev mutual
   pub HasNoPush : Datum → Type 0

@@ -41,10 +41,6 @@ abbrev pub data_of_list : List Datum → Data
 data_of_list [] = none
 data_of_list (x ∷ xs) = more x (data_of_list xs)
 
-abbrev pub list_of_data : Data → List Datum
-list_of_data none = []
-list_of_data (more x xs) = x ∷ list_of_data xs
-
 -- keys and values in turn
 abbrev pub in_turn : List (Datum × Datum) → List Datum
 in_turn [] = []
@@ -56,31 +52,25 @@ count (more x xs) = count xs + 1
 
 -- how many members a head with this number has: a map's number counts pairs, and so does an attribute's
 abbrev pub members_of : Kind → ℕ → ℕ
-members_of Array n = n
-members_of Set n = n
 members_of Map n = n + n
 members_of Attr n = n + n + 1
-members_of Push n = n
+members_of _ n = n
 
 -- the number in the head of an aggregate with so many members
 abbrev pub items_of : Kind → ℕ → ℕ
-items_of Array n = n
-items_of Set n = n
 items_of Map n = n / 2
 items_of Attr n = n / 2
-items_of Push n = n
+items_of _ n = n
 
+-- the bytes of a scalar's content, which only strings, lines and big numbers have
 abbrev pub content_length : Scalar → ℕ
-content_length Null = 0
-content_length (Bool b) = 0
-content_length (Int i) = 0
 content_length (Simple s) = length s
 content_length (Error s) = length s
-content_length (Double s) = 0
 content_length (Bulk s) = length s
 content_length (BulkError s) = length s
 content_length (Verbatim format s) = length s + 4
 content_length (Big negative digits) = length digits
+content_length _ = 0
 
 -- how many aggregates stand inside one another
 abbrev mutual
@@ -113,9 +103,5 @@ abbrev mutual
   most_items_among (more x xs) = max (most_items x) (most_items_among xs)
 
 abbrev pub IsPush : Datum → Type 0
-IsPush (scalar s) = ⊥
-IsPush (aggregate Array xs) = ⊥
-IsPush (aggregate Set xs) = ⊥
-IsPush (aggregate Map xs) = ⊥
-IsPush (aggregate Attr xs) = ⊥
 IsPush (aggregate Push xs) = Unit {0}
+IsPush _ = ⊥

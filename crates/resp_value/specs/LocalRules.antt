@@ -1,9 +1,9 @@
 -- Each rule but the one of total, as it speaks of one node and of its level below the root.
 use Rattle.std.specs.Prelude.{◌≡◌, ℕ, suc, ◌<◌, ◌≤◌, false}
-use Rattle.resp_value.specs.Data.{Kind, Array, Set, Map, Attr, Push, content_length, items_of}
+use Rattle.resp_value.specs.Data.{Kind, Push, content_length, items_of}
 use Rattle.resp_value.specs.Trees.{Tree, Trees, leaf, node, none, more, Leaf, Form, count}
 use Rattle.resp_value.specs.TreeValues.{leaf_value}
-use Rattle.resp_value.specs.Rules.{Rules, Rule, Grammar, NoDouble, InVersion, PushAtTop, InRange, NotStreamed, WithinDepth, WithinLength, WithinItems, WithinTotal, rank, IsNoDouble, IsLeafInTwo, IsNodeInTwo, IsInRange, IsCountedLeaf, IsCountedNode}
+use Rattle.resp_value.specs.Rules.{Rules, Rule, NoDouble, InVersion, PushAtTop, InRange, NotStreamed, WithinDepth, WithinLength, WithinItems, rank, IsNoDouble, IsLeafInTwo, IsNodeInTwo, IsInRange, IsCountedLeaf, IsCountedNode}
 use Rattle.resp_value.specs.declared.version.Version.TheVariants.{Two}
 
 -- of a leaf on a level
@@ -25,37 +25,26 @@ abbrev mutual
   HoldsFromEach L N level (more t ts) = HoldsFrom L N level t × HoldsFromEach L N level ts
 
 abbrev pub IsNoPushBelow : ℕ → Kind → Type 0
-IsNoPushBelow level Array = Unit {0}
-IsNoPushBelow level Set = Unit {0}
-IsNoPushBelow level Map = Unit {0}
-IsNoPushBelow level Attr = Unit {0}
 IsNoPushBelow level Push = level ≡ 0
+IsNoPushBelow level _ = Unit {0}
 
 -- what each rule says of a leaf
 abbrev pub LeafMeets : Rules → Rule → LeafRule
-LeafMeets r Grammar level l = Unit {0}
 LeafMeets r NoDouble level l = IsNoDouble l
 LeafMeets r InVersion level l = r.version ≡ Two → IsLeafInTwo l
-LeafMeets r PushAtTop level l = Unit {0}
 LeafMeets r InRange level l = IsInRange l
 LeafMeets r NotStreamed level l = r.limits.streamed ≡ false → IsCountedLeaf l
-LeafMeets r WithinDepth level l = Unit {0}
 LeafMeets r WithinLength level l = content_length (leaf_value l) ≤ r.limits.length
-LeafMeets r WithinItems level l = Unit {0}
-LeafMeets r WithinTotal level l = Unit {0}
+LeafMeets r _ level l = Unit {0}
 
 -- what each rule says of a node
 abbrev pub NodeMeets : Rules → Rule → NodeRule
-NodeMeets r Grammar level k form n = Unit {0}
-NodeMeets r NoDouble level k form n = Unit {0}
 NodeMeets r InVersion level k form n = r.version ≡ Two → IsNodeInTwo k form
 NodeMeets r PushAtTop level k form n = IsNoPushBelow level k
-NodeMeets r InRange level k form n = Unit {0}
 NodeMeets r NotStreamed level k form n = r.limits.streamed ≡ false → IsCountedNode k form
 NodeMeets r WithinDepth level k form n = level < r.limits.depth
-NodeMeets r WithinLength level k form n = Unit {0}
 NodeMeets r WithinItems level k form n = items_of k n ≤ r.limits.items
-NodeMeets r WithinTotal level k form n = Unit {0}
+NodeMeets r _ level k form n = Unit {0}
 
 -- one rule, at each node of the tree
 abbrev pub MeetsLocally : Rules → Rule → Tree → Type 0

@@ -2,8 +2,8 @@
 use Rattle.std.specs.Prelude.{◌≡◌, ℕ, ◌^◌, ◌≤◌, false, pos, ◌≤ℤ◌, ◌<ℤ◌, length}
 use Rattle.std.proofs.Common.{neg_ℤ}
 use Rattle.resp_value.specs.Numbers.{signed_value}
-use Rattle.resp_value.specs.Data.{Kind, Array, Set, Map, Attr, Push, depth, longest, most_items}
-use Rattle.resp_value.specs.Trees.{Tree, Trees, leaf, node, none, more, Leaf, line, numeral, null, truth, string, chunked, Simple, Error, Double, Int, Big, BulkNull, ArrayNull, PlainNull, Bulk, BulkError, Verbatim, Form, Counted, Streamed, text}
+use Rattle.resp_value.specs.Data.{Kind, Array, Push, depth, longest, most_items}
+use Rattle.resp_value.specs.Trees.{Tree, Trees, leaf, node, none, more, Leaf, line, numeral, null, string, chunked, Simple, Error, Double, Int, BulkNull, ArrayNull, Bulk, Form, Counted, Streamed, text}
 use Rattle.resp_value.specs.TreeValues.{value}
 use Rattle.resp_value.specs.Bounds.{Bounds}
 use Rattle.resp_value.specs.declared.version.Version.{Version}
@@ -61,49 +61,30 @@ IsAnyNode k form = Unit {0}
 
 abbrev pub IsNoDouble : Leaf → Type 0
 IsNoDouble (line Double s) = ⊥
-IsNoDouble (line Simple s) = Unit {0}
-IsNoDouble (line Error s) = Unit {0}
-IsNoDouble (numeral k sign digits) = Unit {0}
-IsNoDouble (null form) = Unit {0}
-IsNoDouble (truth b) = Unit {0}
-IsNoDouble (string k digits s) = Unit {0}
-IsNoDouble (chunked chunks zeros) = Unit {0}
+IsNoDouble _ = Unit {0}
 
 -- the leaves of version 2
 abbrev pub IsLeafInTwo : Leaf → Type 0
 IsLeafInTwo (line Simple s) = Unit {0}
 IsLeafInTwo (line Error s) = Unit {0}
-IsLeafInTwo (line Double s) = ⊥
 IsLeafInTwo (numeral Int sign digits) = Unit {0}
-IsLeafInTwo (numeral Big sign digits) = ⊥
 IsLeafInTwo (null BulkNull) = Unit {0}
 IsLeafInTwo (null ArrayNull) = Unit {0}
-IsLeafInTwo (null PlainNull) = ⊥
-IsLeafInTwo (truth b) = ⊥
 IsLeafInTwo (string Bulk digits s) = Unit {0}
-IsLeafInTwo (string BulkError digits s) = ⊥
-IsLeafInTwo (string (Verbatim format) digits s) = ⊥
-IsLeafInTwo (chunked chunks zeros) = ⊥
+IsLeafInTwo _ = ⊥
 
 -- the aggregates of version 2
 abbrev pub IsNodeInTwo : Kind → Form → Type 0
 IsNodeInTwo Array (Counted digits) = Unit {0}
-IsNodeInTwo Array Streamed = ⊥
-IsNodeInTwo Set form = ⊥
-IsNodeInTwo Map form = ⊥
-IsNodeInTwo Attr form = ⊥
-IsNodeInTwo Push form = ⊥
+IsNodeInTwo _ _ = ⊥
 
 abbrev pub HasVersion : Version → Tree → Type 0
 HasVersion Two t = Every IsLeafInTwo IsNodeInTwo t
 HasVersion Three t = Unit {0}
 
 abbrev pub IsNoPush : Kind → Form → Type 0
-IsNoPush Array form = Unit {0}
-IsNoPush Set form = Unit {0}
-IsNoPush Map form = Unit {0}
-IsNoPush Attr form = Unit {0}
 IsNoPush Push form = ⊥
+IsNoPush _ form = Unit {0}
 
 -- no push stands below the root
 abbrev pub HasPushAtRoot : Tree → Type 0
@@ -112,22 +93,13 @@ HasPushAtRoot (node k form ts) = EveryOf IsAnyLeaf IsNoPush ts
 
 -- an integer has 64 bits
 abbrev pub IsInRange : Leaf → Type 0
-IsInRange (line k s) = Unit {0}
 IsInRange (numeral Int sign digits) = (neg_ℤ (pos (2 ^ 63)) ≤ℤ signed_value sign digits) ×
     (signed_value sign digits <ℤ pos (2 ^ 63))
-IsInRange (numeral Big sign digits) = Unit {0}
-IsInRange (null form) = Unit {0}
-IsInRange (truth b) = Unit {0}
-IsInRange (string k digits s) = Unit {0}
-IsInRange (chunked chunks zeros) = Unit {0}
+IsInRange _ = Unit {0}
 
 abbrev pub IsCountedLeaf : Leaf → Type 0
-IsCountedLeaf (line k s) = Unit {0}
-IsCountedLeaf (numeral k sign digits) = Unit {0}
-IsCountedLeaf (null form) = Unit {0}
-IsCountedLeaf (truth b) = Unit {0}
-IsCountedLeaf (string k digits s) = Unit {0}
 IsCountedLeaf (chunked chunks zeros) = ⊥
+IsCountedLeaf _ = Unit {0}
 
 abbrev pub IsCountedNode : Kind → Form → Type 0
 IsCountedNode k (Counted digits) = Unit {0}

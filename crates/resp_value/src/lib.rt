@@ -12,3 +12,15 @@ pub mod limits;
 pub mod line;
 pub mod value;
 pub mod version;
+
+pub use cause::{Cause, Limit};
+pub use content::Content;
+pub use device::{
+    Device, DeviceFault, MemorySink, MemorySource, Sink, Source, WriteFault, write_all,
+};
+pub use digits::{Digits, DigitsError};
+pub use kind::OpenKind;
+pub use limits::{BadLimits, Limits};
+pub use line::{BadLine, Line};
+pub use value::{Members, PairList, Value};
+pub use version::Version;

@@ -1,23 +1,23 @@
 //! Values without members: each is written where it has no fault and there is room, and else the
 //! buffer is left.
 
-ghost use Rattle.std.specs.Prelude.{◌+◌, ◌≤◌, ◌^◌, ℕ, length};
+ghost use Rattle.std.specs.Prelude.{◌+◌, ℕ};
 ghost use Rattle.std.specs.Bool.{OnTrue};
 ghost use Rattle.resp_value.specs.Bounds.{Bounds};
-ghost use Rattle.resp_value.specs.Numbers.{decimal};
-ghost use Rattle.resp_value.specs.Canonical.{IsScalarValue, canonical_text};
 ghost use Rattle.resp_value.specs.Data.{Datum, scalar};
 ghost use Rattle.resp_value.specs.Data as d;
 ghost use Rattle.resp_value.specs.declared.version.Version.{Version};
 ghost use Rattle.resp_value.specs.Values.{line_text, content_bytes, is_negative, digits_text};
-ghost use Rattle.resp_encode.specs.Attempts.{Attempt, FitsSpare};
-ghost use Rattle.resp_encode.specs.Surveys.{Describes};
+ghost use Rattle.resp_encode.specs.Walks.Attempts.{Attempt, FitsSpare};
+ghost use Rattle.resp_encode.specs.Walks.Measures.{Describes};
 
-use crate::digits::digit_count;
-use crate::findings::Findings;
-use crate::judge::has_types;
-use crate::room::room;
-use crate::survey::{of_big, of_bool, of_bulk_error, of_line, of_null, of_verbatim, string_size};
+use crate::first_fault::has_types;
+use crate::measure::Measure;
+use crate::measure_value::{
+    measure_big, measure_bool, measure_bulk_error, measure_line, measure_null, measure_verbatim,
+    string_size,
+};
+use crate::room::{has_room_for_head, room};
 use crate::text::{
     write_big, write_bool, write_int, write_line, write_null, write_string, write_verbatim,
 };
@@ -31,7 +31,7 @@ use resp_value::version::Version;
 /// Whether a value without members has no fault but perhaps its total, and there is room for its
 /// text.
 #[inline(always)]
-fn has_room(found: &Findings, version: Version, limits: &Limits, out: &BytesMut) -> bool
+fn suits(found: &Measure, version: Version, limits: &Limits, out: &BytesMut) -> bool
     ensures { (x : Datum) → Describes version x found.now →
         OnTrue result (FitsSpare version limits.now out.now.spare x) }
 {
@@ -44,36 +44,13 @@ fn has_room(found: &Findings, version: Version, limits: &Limits, out: &BytesMut)
     }
 }
 
-/// Whether there is surely room for an integer. Its digits are counted only where there is little.
-#[inline(always)]
-fn has_room_for_int(number: &i64, out: &BytesMut) -> bool
-    ensures room { (version : Version) → OnTrue result
-        (length (canonical_text version (scalar (d.Int number.now))) ≤ out.now.spare) }
-    ensures is_value { IsScalarValue (d.Int number.now) }
-{
-    let magnitude = number.unsigned_abs();
-    let room = room(out);
-    room >= 24 || digit_count(magnitude) + 4 <= room
-}
-
-/// Whether there is room for a string whose head says so many bytes. The digits are counted only
-/// where there is little.
-#[inline(always)]
-fn has_room_for_string(counted: u64, out: &BytesMut) -> bool
-    requires { counted ≤ 2 ^ 63 + 4 }
-    ensures { OnTrue result (length (decimal counted) + counted + 5 ≤ out.now.spare) }
-{
-    let room = room(out);
-    counted + 25 <= room || string_size(counted) <= room
-}
-
 #[inline(always)]
 pub(super) fn attempt_null(version: Version, limits: &Limits, out: &mut BytesMut) -> bool
     ensures { (deeper : ℕ) → Attempt version limits.now deeper (scalar d.Null) out.old out.new
         result }
 {
-    let found = of_null(version);
-    if !has_room(&found, version, limits, out) {
+    let found = measure_null(version);
+    if !suits(&found, version, limits, out) {
         return false;
     }
     write_null(out, version);
@@ -90,8 +67,8 @@ pub(super) fn attempt_bool(
     ensures { (deeper : ℕ) → Attempt version limits.now deeper (scalar (d.Bool truth)) out.old
         out.new result }
 {
-    let found = of_bool(truth);
-    if !has_room(&found, version, limits, out) {
+    let found = measure_bool(truth);
+    if !suits(&found, version, limits, out) {
         return false;
     }
     write_bool(out, truth);
@@ -103,7 +80,7 @@ pub(super) fn attempt_int(number: &i64, out: &mut BytesMut) -> bool
     ensures { (version : Version) (bounds : Bounds) (deeper : ℕ) →
         Attempt version bounds deeper (scalar (d.Int number.now)) out.old out.new result }
 {
-    if !has_room_for_int(number, out) {
+    if !has_room_for_head(out, number.unsigned_abs(), 1) {
         return false;
     }
     write_int(out, number);
@@ -121,8 +98,8 @@ pub(super) fn attempt_simple(
         (scalar (d.Simple (line_text line.now))) out.old out.new result }
 {
     let text = line.text();
-    let found = of_line(text);
-    if !has_room(&found, version, limits, out) {
+    let found = measure_line(text);
+    if !suits(&found, version, limits, out) {
         return false;
     }
     write_line(out, b'+', text);
@@ -140,8 +117,8 @@ pub(super) fn attempt_error(
         (scalar (d.Error (line_text line.now))) out.old out.new result }
 {
     let text = line.text();
-    let found = of_line(text);
-    if !has_room(&found, version, limits, out) {
+    let found = measure_line(text);
+    if !suits(&found, version, limits, out) {
         return false;
     }
     write_line(out, b'-', text);
@@ -156,7 +133,7 @@ pub(super) fn attempt_bulk(content: &Content, limits: &Limits, out: &mut BytesMu
 {
     let bytes = content.list();
     let counted = bytes.len() as u64;
-    if counted > limits.length() || !has_room_for_string(counted, out) {
+    if counted > limits.length() || !has_room_for_head(out, counted, counted + 2) {
         return false;
     }
     write_string(out, b'$', bytes);
@@ -174,8 +151,8 @@ pub(super) fn attempt_bulk_error(
         (scalar (d.BulkError (content_bytes content.now))) out.old out.new result }
 {
     let bytes = content.list();
-    let found = of_bulk_error(bytes);
-    if !has_room(&found, version, limits, out) {
+    let found = measure_bulk_error(bytes);
+    if !suits(&found, version, limits, out) {
         return false;
     }
     write_string(out, b'!', bytes);
@@ -194,8 +171,8 @@ pub(super) fn attempt_verbatim(
         (scalar (d.Verbatim format.now (content_bytes text.now))) out.old out.new result }
 {
     let bytes = text.list();
-    let found = of_verbatim(format, bytes);
-    if !has_room(&found, version, limits, out) {
+    let found = measure_verbatim(format, bytes);
+    if !suits(&found, version, limits, out) {
         return false;
     }
     write_verbatim(out, format, bytes);
@@ -213,8 +190,8 @@ pub(super) fn attempt_big(
         (scalar (d.Big (is_negative digits.now) (digits_text digits.now))) out.old out.new result }
 {
     let (negative, text) = (digits.is_negative(), digits.digits());
-    let found = of_big(negative, text);
-    if !has_room(&found, version, limits, out) {
+    let found = measure_big(negative, text);
+    if !suits(&found, version, limits, out) {
         return false;
     }
     write_big(out, negative, text);

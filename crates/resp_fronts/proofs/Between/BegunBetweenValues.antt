@@ -1,10 +1,8 @@
 -- The first byte behind a front that is between values: its cause, or that a value goes on behind it.
-use Rattle.std.proofs.Common.{◌≡◌, ◌⊎◌, inl, inr, ℕ, zero, suc, ◌<◌, ◌≤◌, true, false, Option, None, Some, List, [], ◌∷◌, ◌++◌, length, refl, sym, ap, subst, ◌∙◌, arith, append_assoc}
-use Rattle.std.proofs.lemmas.Bool.Decides.{leb_tells}
-use Rattle.std.specs.Prelude.{leb}
+use Rattle.std.proofs.Common.{◌≡◌, ℕ, zero, suc, ◌<◌, ◌≤◌, Option, None, Some, List, [], ◌∷◌, ◌++◌, length, refl, sym, ap, subst, ◌∙◌, arith, append_assoc, cond}
 use Rattle.resp_value.specs.Data.{items_of}
 use Rattle.resp_value.specs.Trees.{Tree, text}
-use Rattle.resp_value.specs.Rules.{Rules, Rule, Grammar, NoDouble, InVersion, PushAtTop, InRange, NotStreamed, WithinDepth, WithinLength, WithinItems, WithinTotal, rank}
+use Rattle.resp_value.specs.Rules.{Rules, Rule, Grammar, NoDouble, InVersion, PushAtTop, InRange, NotStreamed, WithinDepth, WithinLength, WithinItems, rank}
 use Rattle.resp_value.specs.LocalRules.{LeafKeeps, NodeKeeps}
 use Rattle.resp_value.specs.Bounds.{AreBounds}
 use Rattle.resp_value.specs.Spellings.{IsCause}
@@ -22,6 +20,7 @@ use Rattle.resp_fronts.proofs.Between.RefusedBetweenValues.{refuse_first, refuse
 use Rattle.resp_fronts.proofs.Refusals.FirstRuleBroken.{refused_cause, grammar_cause}
 use Rattle.resp_fronts.proofs.Refusals.FirstByteCauses.{GoesOn, IsAnswered, goes_on_before, at_answer, first_byte_answered}
 use Rattle.resp_fronts.specs.OpenLevels.{Level, so_far}
+use Rattle.resp_value.proofs.Choices.{if_within}
 
 -- a first byte that no value has
 pub begin_broken : (r : Rules) (levels : List Level) (front : List ℕ) (byte : ℕ) → (byte ≡ 46 → ⊥) → (w : IsBetween r levels front) →
@@ -52,12 +51,7 @@ in_three_early Two answer p = omega arith
 in_three_early Three answer p = p
 
 aggregate_early : (r : Rules) (level : ℕ) → IsEarly (aggregate_refusal r level)
-aggregate_early r level = cases (leb_tells r.limits.depth level)
-  where
-    cases : ((leb r.limits.depth level ≡ true) × (r.limits.depth ≤ level)) ⊎ ((leb r.limits.depth level ≡ false) × (level < r.limits.depth)) →
-        IsEarly (aggregate_refusal r level)
-    cases (inl h) = rw h.0 (omega arith)
-    cases (inr h) = rw h.0 tt
+aggregate_early r level = if_within r.limits.depth level (λ x. IsEarly (cond x (Some WithinDepth) None)) (λ deep. omega arith) (λ below. tt)
 
 push_early : (r : Rules) (level : ℕ) → IsEarly (push_refusal r level)
 push_early r zero = aggregate_early r 0
@@ -67,7 +61,7 @@ refusal_early : (r : Rules) (level byte : ℕ) → IsEarly (first_byte_refusal r
 refusal_early r level byte =
     let leaf = in_three_early r.version None tt in
     let kind = in_three_early r.version (aggregate_refusal r level) (aggregate_early r level) in
-    at_answer (λ x answer. IsEarly answer) (first_byte_answers r level) byte (
+    at_answer (λ x answer. IsEarly answer) (first_byte_answers r level) (Some Grammar) byte (
       omega arith,
       (
         tt,
@@ -119,9 +113,7 @@ front_answered r levels front byte (Some PushAtTop) no_stop w e early a = refuse
 front_answered r levels front byte (Some InRange) no_stop w e early a = refused_begin r levels front byte InRange PushAtTop no_stop w refl early a
 front_answered r levels front byte (Some NotStreamed) no_stop w e early a = refused_begin r levels front byte NotStreamed InRange no_stop w refl early a
 front_answered r levels front byte (Some WithinDepth) no_stop w e early a = refused_begin r levels front byte WithinDepth NotStreamed no_stop w refl early a
-front_answered r levels front byte (Some WithinLength) no_stop w e early a = absurd (omega arith)
-front_answered r levels front byte (Some WithinItems) no_stop w e early a = absurd (omega arith)
-front_answered r levels front byte (Some WithinTotal) no_stop w e early a = absurd (omega arith)
+front_answered r levels front byte _ no_stop w e early a = absurd (omega arith)
 
 -- between values, the first rule that refuses a byte is its cause
 pub first_byte_cause : (r : Rules) (levels : List Level) (front : List ℕ) (byte : ℕ) → AreBounds r.limits → (byte ≡ 46 → ⊥) → IsBetween r levels front →

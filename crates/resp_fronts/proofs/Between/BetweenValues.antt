@@ -3,7 +3,7 @@ use Rattle.std.proofs.Common.{◌%◌, ◌+◌, ◌/◌, ◌<◌, ◌∙◌, ◌
 use Rattle.resp_value.specs.Data.{Array, Attr, Kind, Map, Push, Set, items_of, members_of}
 use Rattle.resp_value.specs.LocalRules.{LeafKeeps, LeafRule, NodeKeeps, NodeRule}
 use Rattle.resp_value.specs.Numbers.{number}
-use Rattle.resp_value.specs.Rules.{Grammar, InRange, InVersion, NoDouble, NotStreamed, PushAtTop, Rule, Rules, WithinDepth, WithinItems, WithinTotal, WithinLength}
+use Rattle.resp_value.specs.Rules.{InVersion, NotStreamed, PushAtTop, Rule, Rules, WithinDepth, WithinItems}
 use Rattle.resp_value.specs.Trees.{CanStream, Counted, Form, HasMembers, Streamed, count, text}
 use Rattle.resp_fronts.specs.Frames.{Frame, text_around}
 use Rattle.resp_fronts.specs.LeastCompletions.{HasLeast}
@@ -91,11 +91,8 @@ between_least r vs p w =
 
 -- a streamed aggregate has room for a member more, and a map for the value of its key
 abbrev pub room : Kind → ℕ → ℕ
-room Array m = m + 1
-room Set m = m + 1
 room Map m = m + 1 + (m + 1) % 2
-room Attr m = m + 1
-room Push m = m + 1
+room _ m = m + 1
 
 -- room for a member more, where the frame is streamed
 abbrev pub HasRoom : Rules → Level → Type 0
@@ -103,14 +100,11 @@ HasRoom r v = (m : ℕ) → v.shape ≡ so_far m → items_of v.kind (room v.kin
 
 -- what a streamed frame with one member more has at least
 pub room_is : (k : Kind) (n : ℕ) → suc n + members_missing k Streamed (suc n) ≡ room k n
-room_is Array n = omega arith
-room_is Set n = omega arith
 room_is Map n = omega (arith, ap (λ z. z % 2) (omega_one n))
   where
     omega_one : (n : ℕ) → suc n ≡ n + 1
     omega_one n = omega arith
-room_is Attr n = omega arith
-room_is Push n = omega arith
+room_is _ n = omega arith
 
 can_room : (k : Kind) (n m : ℕ) → CanStream k m → CanStream k (room k n)
 can_room Array n m p = tt
@@ -122,16 +116,12 @@ can_room Push n m p = p
 -- the rules of an aggregate but that of items don't look at its size
 pub node_resizes : (r : Rules) (g : Rule) (k : ℕ) (j : Kind) (f : Form) (m n : ℕ) → NodeKeeps r g k j f m → items_of j n ≤ r.limits.items →
     NodeKeeps r g k j f n
-node_resizes r g k j f m n p l Grammar e = tt
-node_resizes r g k j f m n p l NoDouble e = tt
 node_resizes r g k j f m n p l InVersion e = p InVersion e
 node_resizes r g k j f m n p l PushAtTop e = p PushAtTop e
-node_resizes r g k j f m n p l InRange e = tt
 node_resizes r g k j f m n p l NotStreamed e = p NotStreamed e
 node_resizes r g k j f m n p l WithinDepth e = p WithinDepth e
-node_resizes r g k j f m n p l WithinLength e = tt
 node_resizes r g k j f m n p l WithinItems e = l
-node_resizes r g k j f m n p l WithinTotal e = tt
+node_resizes r g k j f m n p l _ e = tt
 
 -- a frame that can end can end with one member more, where it has room
 pub can_end_with_more : (r : Rules) (g : Rule) (k : ℕ) (j : Kind) (s : Shape) (f : Form) (n : ℕ) → HasShape j s f n →

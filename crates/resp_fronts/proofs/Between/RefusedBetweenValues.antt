@@ -4,7 +4,7 @@ use Rattle.resp_value.specs.Bytes.{crlf}
 use Rattle.resp_value.specs.Data.{Array, Attr, Kind, Map, Push, Set, items_of, members_of}
 use Rattle.resp_value.specs.LocalRules.{LeafKeeps, NodeKeeps}
 use Rattle.resp_value.specs.Numbers.{number}
-use Rattle.resp_value.specs.Rules.{Grammar, InRange, InVersion, NoDouble, NotStreamed, PushAtTop, Rule, Rules, WithinDepth, WithinItems, WithinTotal, WithinLength, rank}
+use Rattle.resp_value.specs.Rules.{InVersion, NotStreamed, PushAtTop, Rule, Rules, WithinDepth, WithinItems, WithinLength, rank}
 use Rattle.resp_value.specs.Trees.{CanStream, Counted, Form, HasMembers, Streamed, close, count}
 use Rattle.resp_value.proofs.LocalRuleLemmas.{weaker_each}
 use Rattle.resp_fronts.specs.Frames.{Frame, text_around}
@@ -34,16 +34,12 @@ lower_front r g p x m c l w e =
     }
 
 resizes_before : (r : Rules) (g : Rule) (k : ℕ) (j : Kind) (f : Form) (m n : ℕ) → rank g ≤ 7 → NodeKeeps r WithinItems k j f m → NodeKeeps r g k j f n
-resizes_before r g k j f m n z p Grammar e = tt
-resizes_before r g k j f m n z p NoDouble e = tt
 resizes_before r g k j f m n z p InVersion e = p InVersion (omega arith)
 resizes_before r g k j f m n z p PushAtTop e = p PushAtTop (omega arith)
-resizes_before r g k j f m n z p InRange e = tt
 resizes_before r g k j f m n z p NotStreamed e = p NotStreamed (omega arith)
 resizes_before r g k j f m n z p WithinDepth e = p WithinDepth (omega arith)
-resizes_before r g k j f m n z p WithinLength e = tt
 resizes_before r g k j f m n z p WithinItems e = absurd (omega arith)
-resizes_before r g k j f m n z p WithinTotal e = tt
+resizes_before r g k j f m n z p _ e = tt
 
 -- aggregates with a member begun can be completed within the rules before that of items
 pub can_end_before : (r : Rules) (g : Rule) (vs : List Level) (fs : List Frame) → rank g ≤ 7 → AreLevelsOf vs fs →
@@ -65,16 +61,12 @@ can_end_before r g (v ∷ vs) (f ∷ fs) z a o = (
 )
   where
     resizes_before_again : (r : Rules) (g : Rule) (k : ℕ) (j : Kind) (f : Form) (m n : ℕ) → rank g ≤ 7 → NodeKeeps r g k j f m → NodeKeeps r g k j f n
-    resizes_before_again r g k j f m n z p Grammar e = tt
-    resizes_before_again r g k j f m n z p NoDouble e = tt
     resizes_before_again r g k j f m n z p InVersion e = p InVersion e
     resizes_before_again r g k j f m n z p PushAtTop e = p PushAtTop e
-    resizes_before_again r g k j f m n z p InRange e = tt
     resizes_before_again r g k j f m n z p NotStreamed e = p NotStreamed e
     resizes_before_again r g k j f m n z p WithinDepth e = p WithinDepth e
-    resizes_before_again r g k j f m n z p WithinLength e = tt
     resizes_before_again r g k j f m n z p WithinItems e = absurd (omega arith)
-    resizes_before_again r g k j f m n z p WithinTotal e = tt
+    resizes_before_again r g k j f m n z p _ e = tt
 
 -- a first byte is refused by a rule before that of items
 pub refuse_first : (r : Rules) (g h : Rule) (vs : List Level) (p : List ℕ) (x : ℕ) (w : IsBetween r vs p) → rank h ≤ 7 → (x ≡ 46 → ⊥) →

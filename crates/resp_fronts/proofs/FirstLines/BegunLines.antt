@@ -1,10 +1,10 @@
 -- First lines: what completes a begun first line.
 use Rattle.std.proofs.Common.{◌++◌, ◌+◌, ◌∙◌, ◌∷◌, ◌≡◌, ◌≤◌, List, [], ap, append-nil, append_assoc, arith, length, length-append, refl, sym, ℕ}
 use Rattle.resp_value.specs.Bytes.{IsLine, crlf}
-use Rattle.resp_value.specs.Data.{Array, Attr, Kind, Map, Push, Set, members_of}
+use Rattle.resp_value.specs.Data.{Array, Attr, Kind, Map, members_of}
 use Rattle.resp_value.specs.LocalRules.{HoldsFrom, LeafRule, NodeRule}
 use Rattle.resp_value.specs.Numbers.{IsDigit}
-use Rattle.resp_value.specs.Trees.{Counted, Form, IsTree, LineKind, Tree, Trees, chunked, kind_byte, leaf, line, node, null, numeral, string, text, truth}
+use Rattle.resp_value.specs.Trees.{Counted, Form, IsTree, LineKind, Tree, Trees, kind_byte, leaf, line, node, text}
 use Rattle.resp_value.proofs.FirstLines.{after_line, first_is_line, first_line, leaf_of, line_sort, node_of, sort, sort_of, text_is, sort_of-line}
 use Rattle.resp_value.proofs.Splitting.{digit_is_no, digit_is_no_mark, return_split}
 use Rattle.resp_fronts.specs.LeastCompletions.{HasLeast}
@@ -70,12 +70,7 @@ line_least L N k t m p q e f = record {
 -- trees by their sort
 pub tree_of_line : (t : Tree) (k : LineKind) (s : List ℕ) → sort_of t ≡ leaf_of (line_sort k s) → t ≡ leaf (line k s)
 tree_of_line (leaf (line j r)) k s e = cc
-tree_of_line (leaf (numeral j g r)) k s e = absurd (cc)
-tree_of_line (leaf (null f)) k s e = absurd (cc)
-tree_of_line (leaf (truth b)) k s e = absurd (cc)
-tree_of_line (leaf (string j ds r)) k s e = absurd (cc)
-tree_of_line (leaf (chunked cs z)) k s e = absurd (cc)
-tree_of_line (node j f ts) k s e = absurd (cc)
+tree_of_line _ k s e = absurd (cc)
 
 -- a tree of this sort is such a node
 pub tree_of_node : (t : Tree) (k : Kind) (f : Form) → sort_of t ≡ node_of k f → (ts : Trees) × (t ≡ node k f ts)
@@ -85,10 +80,7 @@ tree_of_node (node j g ts) k f e = let j0 : j ≡ k = cc in let g0 : g ≡ f = c
 -- an aggregate's type byte and a digit say that it is counted
 pub sort_counted : (k : Kind) (d : ℕ) (cs : List ℕ) → IsDigit d → sort (kind_byte k ∷ d ∷ cs) ≡ node_of k (Counted (d ∷ cs))
 sort_counted Array d cs p = rw (digit_is_no d 45 p (omega arith), digit_is_no_mark d p)
-sort_counted Set d cs p = rw (digit_is_no_mark d p)
-sort_counted Map d cs p = rw (digit_is_no_mark d p)
-sort_counted Attr d cs p = rw (digit_is_no_mark d p)
-sort_counted Push d cs p = rw (digit_is_no_mark d p)
+sort_counted _ d cs p = rw (digit_is_no_mark d p)
 
 -- a count that begins so
 pub counted_is : (t : Tree) (k : Kind) (d : ℕ) (cs : List ℕ) → IsTree t → IsDigit d → first_line t ≡ kind_byte k ∷ d ∷ cs →
@@ -97,8 +89,6 @@ counted_is t k d cs p q e = tree_of_node t k (Counted (d ∷ cs)) (sort_of-line 
 
 -- a greater number in a head is no fewer members
 pub members-more : (k : Kind) (m n : ℕ) → m ≤ n → members_of k m ≤ members_of k n
-members-more Array m n h = h
-members-more Set m n h = h
 members-more Map m n h = omega arith
 members-more Attr m n h = omega arith
-members-more Push m n h = h
+members-more _ m n h = h

@@ -84,20 +84,16 @@ count_ends r g k j d ds p q =
 -- the rules of a node before items do not look at its number
 pub node_counts : (r : Rules) (k : ℕ) (j : Kind) (ds es : List ℕ) (m n : ℕ) → NodeKeeps r WithinItems k j (Counted ds) m → (h : Rule) → rank h ≤ 7 →
     NodeMeets r h k j (Counted es) n
-node_counts r k j ds es m n p Grammar e = tt
-node_counts r k j ds es m n p NoDouble e = tt
 node_counts r k Array ds es m n p InVersion e = λ v. tt
 node_counts r k Set ds es m n p InVersion e = λ v. p InVersion (omega arith) v
 node_counts r k Map ds es m n p InVersion e = λ v. p InVersion (omega arith) v
 node_counts r k Attr ds es m n p InVersion e = λ v. p InVersion (omega arith) v
 node_counts r k Push ds es m n p InVersion e = λ v. p InVersion (omega arith) v
 node_counts r k j ds es m n p PushAtTop e = p PushAtTop (omega arith)
-node_counts r k j ds es m n p InRange e = tt
 node_counts r k j ds es m n p NotStreamed e = λ v. tt
 node_counts r k j ds es m n p WithinDepth e = p WithinDepth (omega arith)
-node_counts r k j ds es m n p WithinLength e = tt
 node_counts r k j ds es m n p WithinItems e = absurd (omega arith)
-node_counts r k j ds es m n p WithinTotal e = tt
+node_counts r k j ds es m n p _ e = tt
 
 -- the rules of an aggregate but that of items don't look at its number
 pub node_recounts : (r : Rules) (k : ℕ) (j : Kind) (ds es : List ℕ) (m n : ℕ) → NodeKeeps r WithinItems k j (Counted ds) m → items_of j n ≤ r.limits.items →
@@ -114,11 +110,9 @@ node_recounts r k j ds es m n p l WithinItems = l
 node_recounts r k j ds es m n p l WithinTotal = tt
 
 items-more : (k : Kind) (m n : ℕ) → m ≤ n → items_of k m ≤ items_of k n
-items-more Array m n h = h
-items-more Set m n h = h
 items-more Map m n h = omega arith
 items-more Attr m n h = omega arith
-items-more Push m n h = h
+items-more _ m n h = h
 
 -- too many items
 pub count_too_many : (r : Rules) (k : ℕ) (j : Kind) (d : ℕ) (ds : List ℕ) → IsDigits (d ∷ ds) →
@@ -162,16 +156,10 @@ star_deep r k (leaf (chunked cs z)) l d a b = omega (arith, ap byte_at_start b)
 
 -- the null of `*` is within every rule
 pub null_keeps : (r : Rules) (k : ℕ) (h : Rule) → LeafMeets r h k (null ArrayNull)
-null_keeps r k Grammar = tt
-null_keeps r k NoDouble = tt
 null_keeps r k InVersion = λ v. tt
-null_keeps r k PushAtTop = tt
-null_keeps r k InRange = tt
 null_keeps r k NotStreamed = λ v. tt
-null_keeps r k WithinDepth = tt
 null_keeps r k WithinLength = omega arith
-null_keeps r k WithinItems = tt
-null_keeps r k WithinTotal = tt
+null_keeps r k _ = tt
 
 -- `*` at full depth: 4
 pub star_row_deep : (r : Rules) (k : ℕ) → r.limits.depth ≤ k → HasLeast (CompletesUnder r WithinItems k (42 ∷ [])) 4

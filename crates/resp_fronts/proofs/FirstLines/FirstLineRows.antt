@@ -34,33 +34,18 @@ line_row L N k b l0 t m z p q e h f = record {
 -- a tree of this sort is such a number
 pub tree_of_numeral : (t : Tree) (k : NumberKind) (g : Sign) (ds : List ℕ) → sort_of t ≡ leaf_of (numeral_sort k g ds) → t ≡ leaf (numeral k g ds)
 tree_of_numeral (leaf (numeral j h r)) k g ds e = cc
-tree_of_numeral (leaf (line j r)) k g ds e = absurd (cc)
-tree_of_numeral (leaf (null f)) k g ds e = absurd (cc)
-tree_of_numeral (leaf (truth b)) k g ds e = absurd (cc)
-tree_of_numeral (leaf (string j es r)) k g ds e = absurd (cc)
-tree_of_numeral (leaf (chunked cs z)) k g ds e = absurd (cc)
-tree_of_numeral (node j f ts) k g ds e = absurd (cc)
+tree_of_numeral _ k g ds e = absurd (cc)
 
 -- a tree of this sort is such a string
 pub tree_of_string : (t : Tree) (b : ℕ) (ds : List ℕ) → sort_of t ≡ leaf_of (string_sort b ds) → (k : StringKind) × (s : List ℕ) × (string_byte k ≡ b) ×
     (t ≡ leaf (string k ds s))
 tree_of_string (leaf (string j es r)) b ds e = let h : es ≡ ds = cc in (j, r, cc, cc)
-tree_of_string (leaf (line j r)) b ds e = absurd (cc)
-tree_of_string (leaf (numeral j g r)) b ds e = absurd (cc)
-tree_of_string (leaf (null f)) b ds e = absurd (cc)
-tree_of_string (leaf (truth c)) b ds e = absurd (cc)
-tree_of_string (leaf (chunked cs z)) b ds e = absurd (cc)
-tree_of_string (node j f ts) b ds e = absurd (cc)
+tree_of_string _ b ds e = absurd (cc)
 
 -- a tree of this sort is a streamed string
 pub tree_of_chunked : (t : Tree) → sort_of t ≡ leaf_of chunked_sort → (cs : List Chunk) × (z : List ℕ) × (t ≡ leaf (chunked cs z))
 tree_of_chunked (leaf (chunked cs z)) e = (cs, z, refl)
-tree_of_chunked (leaf (string j es r)) e = absurd (cc)
-tree_of_chunked (leaf (line j r)) e = absurd (cc)
-tree_of_chunked (leaf (numeral j g r)) e = absurd (cc)
-tree_of_chunked (leaf (null f)) e = absurd (cc)
-tree_of_chunked (leaf (truth c)) e = absurd (cc)
-tree_of_chunked (node j f ts) e = absurd (cc)
+tree_of_chunked _ e = absurd (cc)
 
 -- a tree has a sort
 pub no_other : (t : Tree) → sort_of t ≡ no_sort → ⊥
@@ -70,11 +55,8 @@ no_other (node j f ts) e = cc
 -- a number's line has no break in it
 pub number_line : (K : NumberKind) (g : Sign) (ds : List ℕ) → AllByRecursion IsDigit ds → IsLine (number_byte K ∷ (sign_text g ++ ds))
 number_line Int Unsigned ds p = ((λ e. omega arith, λ e. omega arith), line_from_each ds p)
-number_line Int Plus ds p = ((λ e. omega arith, λ e. omega arith), ((λ e. omega arith, λ e. omega arith), line_from_each ds p))
-number_line Int Minus ds p = ((λ e. omega arith, λ e. omega arith), ((λ e. omega arith, λ e. omega arith), line_from_each ds p))
 number_line Big Unsigned ds p = ((λ e. omega arith, λ e. omega arith), line_from_each ds p)
-number_line Big Plus ds p = ((λ e. omega arith, λ e. omega arith), ((λ e. omega arith, λ e. omega arith), line_from_each ds p))
-number_line Big Minus ds p = ((λ e. omega arith, λ e. omega arith), ((λ e. omega arith, λ e. omega arith), line_from_each ds p))
+number_line _ _ ds p = ((λ e. omega arith, λ e. omega arith), ((λ e. omega arith, λ e. omega arith), line_from_each ds p))
 
 -- a zero is digits
 pub zero_digits : IsDigits (48 ∷ [])
@@ -175,8 +157,7 @@ dollar_more (node Push f ts) l p e b = omega (arith, ap byte_at_start b)
 -- a string's first line has no break in it
 pub string_line : (K : StringKind) (ds : List ℕ) → AllByRecursion IsDigit ds → IsLine (string_byte K ∷ ds)
 string_line Bulk ds p = ((λ e. omega arith, λ e. omega arith), line_from_each ds p)
-string_line BulkError ds p = ((λ e. omega arith, λ e. omega arith), line_from_each ds p)
-string_line (Verbatim f) ds p = ((λ e. omega arith, λ e. omega arith), line_from_each ds p)
+string_line _ ds p = ((λ e. omega arith, λ e. omega arith), line_from_each ds p)
 
 sort_string : (K : StringKind) (d : ℕ) (cs : List ℕ) → IsDigit d → sort (string_byte K ∷ d ∷ cs) ≡ leaf_of (string_sort (string_byte K) (d ∷ cs))
 sort_string Bulk d cs p = rw (digit_is_no d 45 p (omega arith), digit_is_no_mark d p)

@@ -4,7 +4,7 @@ use Rattle.std.proofs.lemmas.Int.Digits.{number_after_append, number_after_ge}
 use Rattle.std.proofs.lemmas.List.{map-append}
 use Rattle.std.specs.Int.Digits.{number_from_digits, number_from_digits_after}
 use Rattle.resp_value.specs.Bytes.{crlf}
-use Rattle.resp_value.specs.Data.{Array, Attr, Kind, Map, Push, Set, members_of}
+use Rattle.resp_value.specs.Data.{Array, Attr, Kind, members_of}
 use Rattle.resp_value.specs.LocalRules.{LeafRule, NodeRule}
 use Rattle.resp_value.specs.Numbers.{IsDigit, IsDigits, number}
 use Rattle.resp_value.specs.Trees.{BulkError, BulkNull, CanStream, Counted, Form, HasFormat, IsTree, Simple, Streamed, StringKind, Tree, Verbatim, count, kind_byte, leaf, line, more, node, none, null, payload, string, string_byte, texts}
@@ -118,10 +118,7 @@ mark_size (node k Streamed ts) j i e = omega (arith, length-append (texts ts) (4
 -- `?` behind an aggregate's type byte says that it is streamed
 pub sort_mark : (j : Kind) (l : List ℕ) → sort (kind_byte j ∷ 63 ∷ l) ≡ node_of j Streamed
 sort_mark Array l = refl
-sort_mark Set l = refl
-sort_mark Map l = refl
-sort_mark Attr l = refl
-sort_mark Push l = refl
+sort_mark _ l = refl
 
 -- `*?`, `~?`, `%?`: 5
 pub mark_row : (L : LeafRule) (N : NodeRule) (k : ℕ) (j : Kind) → CanStream j 0 → N k j Streamed 0 → HasLeast (CompletesValue L N k (kind_byte j ∷ 63 ∷ [])) 5

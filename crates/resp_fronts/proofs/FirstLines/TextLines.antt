@@ -38,8 +38,7 @@ line_has_no_break Double s p = (plain_above 44 (omega arith), p)
 -- the sort of a simple line
 pub sort_of_text : (k : LineKind) (s : List ℕ) → sort (line_byte k ∷ s) ≡ leaf_of (line_sort k s)
 sort_of_text Simple s = refl
-sort_of_text Error s = refl
-sort_of_text Double s = refl
+sort_of_text _ s = refl
 
 -- `+` or `-` and any text: 2
 pub text_line_row : (r : Rules) (rule : Rule) (level : ℕ) (k : LineKind) (s : List ℕ) → IsTextLine k → IsLine s → IsText s → length s ≤ r.limits.length →

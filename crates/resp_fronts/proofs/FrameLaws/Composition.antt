@@ -1,7 +1,7 @@
 -- What has come and what may follow make a spelling, and only that may follow.
 use Rattle.std.proofs.Common.{◌++◌, ◌+◌, ◌<◌, ◌∙◌, ◌∷◌, ◌≡◌, ◌≤◌, List, [], ap, append-nil, append_assoc, arith, length, refl, subst, suc, sym, ℕ}
 use Rattle.resp_value.specs.Bytes.{crlf}
-use Rattle.resp_value.specs.Data.{Array, Attr, Kind, Map, Push, Set, members_of}
+use Rattle.resp_value.specs.Data.{Array, Kind, members_of}
 use Rattle.resp_value.specs.LocalRules.{HoldsFrom, HoldsFromEach, LeafRule, NodeRule}
 use Rattle.resp_value.specs.Numbers.{number}
 use Rattle.resp_value.specs.Trees.{AreTrees, Counted, Form, HasMembers, IsTree, Streamed, Tree, Trees, close, count, form_line, kind_byte, more, node, none, text, texts}
@@ -203,10 +203,7 @@ within_frame L N f fs x n i l p m =
 -- no aggregate begins with the `.` of a close
 pub kind_no_stop : (k : Kind) (x : List ℕ) → byte_at_start (kind_byte k ∷ x) ≡ 46 → ⊥
 kind_no_stop Array x e = omega arith
-kind_no_stop Set x e = omega arith
-kind_no_stop Map x e = omega arith
-kind_no_stop Attr x e = omega arith
-kind_no_stop Push x e = omega arith
+kind_no_stop _ x e = omega arith
 
 -- determinism
 pub determine : (L : LeafRule) (N : NodeRule) (fs : List Frame) (x : List ℕ) → AreOpen fs → IsWholeText L N (text_around fs x) → MayFollowFrames L N fs x

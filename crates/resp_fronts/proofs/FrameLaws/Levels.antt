@@ -1,7 +1,7 @@
 -- How open aggregates change: a head opens one, a whole value ends in one, and a close ends one.
 use Rattle.std.proofs.Common.{◌%◌, ◌*◌, ◌++◌, ◌+◌, ◌-◌, ◌∙◌, ◌∷◌, ◌≡◌, List, [], ap, append-nil, append_assoc, arith, length, refl, subst, suc, sym, zero, ℕ}
 use Rattle.resp_value.specs.Bytes.{crlf}
-use Rattle.resp_value.specs.Data.{Array, Attr, Kind, Map, Push, Set, members_of}
+use Rattle.resp_value.specs.Data.{Kind, Map, members_of}
 use Rattle.resp_value.specs.LocalRules.{HoldsFrom, LeafRule, NodeRule}
 use Rattle.resp_value.specs.Numbers.{number}
 use Rattle.resp_value.specs.Trees.{Counted, Form, HasMembers, IsTree, Streamed, Tree, Trees, close, count, form_line, kind_byte, more, node, none, text, texts}
@@ -14,11 +14,8 @@ use Rattle.resp_fronts.specs.OpenLevels.{Shape, to_come, so_far, Level, HasShape
 -- the members and the close that must still come, where the next member hasn't begun
 abbrev pub shape_needed : Kind → Shape → ℕ
 shape_needed k (to_come m) = 3 * m
-shape_needed Array (so_far m) = 3
-shape_needed Set (so_far m) = 3
 shape_needed Map (so_far m) = 3 * (m % 2) + 3
-shape_needed Attr (so_far m) = 3
-shape_needed Push (so_far m) = 3
+shape_needed _ _ = 3
 
 -- the shape once its open member is whole
 abbrev pub shape_after : Shape → Shape
@@ -40,11 +37,8 @@ shape_needed_is k (to_come m) (Counted ds) n h =
     omega arith
 shape_needed_is k (to_come m) Streamed n h = let e : Streamed ≡ Counted h.0 = h.1 in absurd (cc)
 shape_needed_is k (so_far m) (Counted ds) n h = let e : Counted ds ≡ Streamed = h.0 in absurd (cc)
-shape_needed_is Array (so_far m) Streamed n h = refl
-shape_needed_is Set (so_far m) Streamed n h = refl
 shape_needed_is Map (so_far m) Streamed n h = let e : m ≡ n = h.1 in omega (arith, ap (λ z. z % 2) e)
-shape_needed_is Attr (so_far m) Streamed n h = refl
-shape_needed_is Push (so_far m) Streamed n h = refl
+shape_needed_is _ _ _ n h = refl
 
 shape_later : (k : Kind) (s : Shape) (f : Form) (n : ℕ) → HasShape k s f n → shape_needed k (shape_after s) ≡ 3 * members_missing k f (suc n) + length (close f)
 shape_later k (to_come m) (Counted ds) n h =

@@ -1,8 +1,7 @@
 -- Bytes that no number, length or count has behind its type byte, its sign and its digits.
-use Rattle.std.proofs.Common.{◌≡◌, ◌≢◌, ◌⊎◌, inl, inr, true, ℕ, ◌<◌, Bool, false, eqb, List, [], ◌∷◌, ◌++◌, refl, sym, ap, subst, ◌∙◌, arith, append_assoc, append-nil}
+use Rattle.std.proofs.Common.{◌≡◌, ℕ, ◌<◌, List, [], ◌∷◌, ◌++◌, refl, sym, ap, subst, ◌∙◌, arith, append_assoc, append-nil}
 use Rattle.std.proofs.lemmas.Bool.{ne_eqb}
-use Rattle.std.proofs.lemmas.Bool.Decides.{eqb_tells}
-use Rattle.resp_value.specs.Numbers.{IsDigit, IsDigits, Sign, Unsigned, Plus, Minus, sign_text, number}
+use Rattle.resp_value.specs.Numbers.{IsDigit, IsDigits, Sign, Unsigned, sign_text, number}
 use Rattle.resp_value.specs.Data.{Kind, Array, Set, Map, Attr, Push}
 use Rattle.resp_value.specs.Trees.{Tree, leaf, node, string, NumberKind, Int, Big, StringKind, Bulk, BulkError, Verbatim, Counted, Streamed, number_byte, string_byte, kind_byte, count, CanStream, IsTree}
 use Rattle.resp_value.proofs.FirstLines.{numeral_sort, string_sort, leaf_of, node_of, sort, first_line, sort_of-line}
@@ -12,9 +11,7 @@ use Rattle.resp_fronts.proofs.FirstLines.MoreFirstLineRows.{string_size, verbati
 use Rattle.resp_fronts.proofs.FirstLines.CountRows.{line_after}
 use Rattle.resp_fronts.proofs.Refusals.RefusedBytes.{digits_hold}
 use Rattle.resp_fronts.proofs.Refusals.BrokenLines.{NoLineGoesOn, NoLineEnds}
-
-abbrev Tells : Bool → Type 0 → Type 0 → Type 0
-Tells b A B = ((b ≡ true) × A) ⊎ ((b ≡ false) × B)
+use Rattle.resp_value.proofs.Choices.{if_equal}
 
 digits_of_number : (t : Tree) (K : NumberKind) (g : Sign) (a digits : List ℕ) → IsTree t → first_line t ≡ a → sort a ≡ leaf_of (numeral_sort K g digits) →
     IsDigits digits
@@ -23,12 +20,9 @@ digits_of_number t K g a digits p e s = subst IsTree (tree_of_numeral t K g digi
 -- a number's type byte, its sign and what follows say so
 pub sort_of_signed : (K : NumberKind) (g : Sign) (first : ℕ) (behind : List ℕ) → (g ≡ Unsigned → (first ≡ 43 → ⊥) × (first ≡ 45 → ⊥)) →
     sort (number_byte K ∷ (sign_text g ++ first ∷ behind)) ≡ leaf_of (numeral_sort K g (first ∷ behind))
-sort_of_signed Int Plus first behind h = refl
-sort_of_signed Int Minus first behind h = refl
 sort_of_signed Int Unsigned first behind h = let other = h refl in rw (ne_eqb first 43 other.0, ne_eqb first 45 other.1)
-sort_of_signed Big Plus first behind h = refl
-sort_of_signed Big Minus first behind h = refl
 sort_of_signed Big Unsigned first behind h = let other = h refl in rw (ne_eqb first 43 other.0, ne_eqb first 45 other.1)
+sort_of_signed _ _ first behind h = refl
 
 digit_no_sign : (g : Sign) (digit : ℕ) → IsDigit digit → g ≡ Unsigned → (digit ≡ 43 → ⊥) × (digit ≡ 45 → ⊥)
 digit_no_sign g digit p e = (λ h. omega arith, λ h. omega arith)
@@ -121,16 +115,12 @@ count_begun_broken Array byte other t behind p e = other.2 (digit_of_count t Arr
     (rw (ne_eqb byte 45 other.0, ne_eqb byte 63 other.1)))
 count_begun_broken Set byte other t behind p e = other.1 (digit_of_count t Set byte (126 ∷ byte ∷ behind) behind p e (rw (ne_eqb byte 63 other.0)))
 count_begun_broken Map byte other t behind p e = other.1 (digit_of_count t Map byte (37 ∷ byte ∷ behind) behind p e (rw (ne_eqb byte 63 other.0)))
-count_begun_broken Attr byte other t behind p e = cases (eqb_tells byte 63)
-  where
-    cases : Tells (eqb byte 63) (byte ≡ 63) (byte ≢ 63) → ⊥
-    cases (inl h) = no_mark Attr (λ n s. s) t behind p (e ∙ ap (λ z. 124 ∷ z ∷ behind) h.1)
-    cases (inr h) = other (digit_of_count t Attr byte (124 ∷ byte ∷ behind) behind p e (rw h.0))
-count_begun_broken Push byte other t behind p e = cases (eqb_tells byte 63)
-  where
-    cases : Tells (eqb byte 63) (byte ≡ 63) (byte ≢ 63) → ⊥
-    cases (inl h) = no_mark Push (λ n s. s) t behind p (e ∙ ap (λ z. 62 ∷ z ∷ behind) h.1)
-    cases (inr h) = other (digit_of_count t Push byte (62 ∷ byte ∷ behind) behind p e (rw h.0))
+count_begun_broken Attr byte other t behind p e =
+    if_equal byte 63 (λ x. ⊥) (λ mark. no_mark Attr (λ n s. s) t behind p (e ∙ ap (λ z. 124 ∷ z ∷ behind) mark))
+    (λ no_mark. other (digit_of_count t Attr byte (124 ∷ byte ∷ behind) behind p e (rw (ne_eqb byte 63 no_mark))))
+count_begun_broken Push byte other t behind p e =
+    if_equal byte 63 (λ x. ⊥) (λ mark. no_mark Push (λ n s. s) t behind p (e ∙ ap (λ z. 62 ∷ z ∷ behind) mark))
+    (λ no_mark. other (digit_of_count t Push byte (62 ∷ byte ∷ behind) behind p e (rw (ne_eqb byte 63 no_mark))))
 
 -- and digits alone behind digits
 pub count_broken : (k : Kind) (digit : ℕ) (digits : List ℕ) (byte : ℕ) → IsDigit digit → (IsDigit byte → ⊥) → NoLineGoesOn (kind_byte k ∷ digit ∷ digits) byte

@@ -3,7 +3,7 @@ use Rattle.std.proofs.lemmas.Bool.Decides.{nat_tests}
 use Rattle.std.proofs.Common.{◌≡◌, ℕ, Bool, true, false, eqb, List, [], ◌∷◌, ◌++◌, length, get_or, refl, sym, ap, subst, ◌∙◌, arith, append-nil}
 use Rattle.resp_value.specs.Bytes.{IsLine, crlf}
 use Rattle.resp_value.specs.Data.{Kind}
-use Rattle.resp_value.specs.Trees.{Tree, leaf, node, line, numeral, null, truth, string, chunked, NullForm, BulkNull, ArrayNull, PlainNull, Streamed, kind_byte, null_line, truth_line, IsTree}
+use Rattle.resp_value.specs.Trees.{Tree, leaf, null, truth, NullForm, BulkNull, ArrayNull, PlainNull, Streamed, kind_byte, null_line, truth_line, IsTree}
 use Rattle.resp_value.specs.LocalRules.{LeafRule, NodeRule}
 use Rattle.resp_value.proofs.FirstLines.{null_sort, truth_sort, chunked_sort, leaf_of, node_of, sort, sort_of, first_line, first_is_line, after_line, sort_of-line}
 use Rattle.resp_fronts.specs.MayFollow.{CompletesValue}
@@ -75,21 +75,11 @@ behind_return_broken L N level begun rest byte is_line no_newline w =
 
 tree_of_null : (t : Tree) (f : NullForm) → sort_of t ≡ leaf_of (null_sort f) → t ≡ leaf (null f)
 tree_of_null (leaf (null g)) f e = cc
-tree_of_null (leaf (line k s)) f e = absurd (cc)
-tree_of_null (leaf (numeral k g s)) f e = absurd (cc)
-tree_of_null (leaf (truth b)) f e = absurd (cc)
-tree_of_null (leaf (string k s r)) f e = absurd (cc)
-tree_of_null (leaf (chunked cs z)) f e = absurd (cc)
-tree_of_null (node k g ts) f e = absurd (cc)
+tree_of_null _ f e = absurd (cc)
 
 tree_of_truth : (t : Tree) (b : Bool) → sort_of t ≡ leaf_of (truth_sort b) → t ≡ leaf (truth b)
 tree_of_truth (leaf (truth c)) b e = cc
-tree_of_truth (leaf (null g)) b e = absurd (cc)
-tree_of_truth (leaf (line k s)) b e = absurd (cc)
-tree_of_truth (leaf (numeral k g s)) b e = absurd (cc)
-tree_of_truth (leaf (string k s r)) b e = absurd (cc)
-tree_of_truth (leaf (chunked cs z)) b e = absurd (cc)
-tree_of_truth (node k g ts) b e = absurd (cc)
+tree_of_truth _ b e = absurd (cc)
 
 first_of_null : (t : Tree) (f : NullForm) (a : List ℕ) → IsTree t → first_line t ≡ a → sort a ≡ leaf_of (null_sort f) → a ≡ null_line f
 unfolding first_line

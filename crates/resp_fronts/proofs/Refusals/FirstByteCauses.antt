@@ -1,8 +1,7 @@
 -- Why a first byte is refused on a level, or how a value goes on behind it.
-use Rattle.std.proofs.Common.{◌≡◌, ◌≢◌, ◌⊎◌, inl, inr, ℕ, zero, suc, ◌<◌, ◌≤◌, Bool, true, false, eqb, Option, None, Some, List, [], ◌∷◌, ◌++◌, length, refl, sym, subst, ◌∙◌, arith, append-nil}
-use Rattle.std.specs.Prelude.{leb, codes}
+use Rattle.std.proofs.Common.{◌≡◌, ℕ, zero, suc, ◌<◌, ◌≤◌, true, Option, None, Some, List, [], ◌∷◌, ◌++◌, length, refl, sym, subst, ◌∙◌, arith, append-nil, cond}
+use Rattle.std.specs.Prelude.{codes}
 use Rattle.std.specs.List.{AllByRecursion}
-use Rattle.std.proofs.lemmas.Bool.Decides.{eqb_tells, leb_tells}
 use Rattle.resp_value.specs.Bytes.{crlf}
 use Rattle.resp_value.specs.Numbers.{Unsigned}
 use Rattle.resp_value.specs.Data.{Kind, Array, Set, Map, Attr, Push, content_length, members_of, items_of}
@@ -24,9 +23,7 @@ use Rattle.resp_fronts.proofs.Refusals.RefusedFronts.{fewer_rules}
 use Rattle.resp_fronts.proofs.Refusals.RefusedBytes.{IsOther, kind_too_deep, push_below, double_refused}
 use Rattle.resp_fronts.proofs.FirstLines.CountRows.{CompletesUnder, IsRefusedHere, count_ends}
 use Rattle.resp_fronts.specs.Tokens.{zeros}
-
-abbrev Tells : Bool → Type 0 → Type 0 → Type 0
-Tells b A B = ((b ≡ true) × A) ⊎ ((b ≡ false) × B)
+use Rattle.resp_value.proofs.Choices.{if_equal, if_within}
 
 -- a value can go on behind these bytes, within the rules up to this one
 pub record GoesOn (r : Rules) (rule : Rule) (level : ℕ) (bytes : List ℕ) : Type 0 where
@@ -119,26 +116,21 @@ kind_goes_on r rule level k keeps =
 
 no_items : (k : Kind) → items_of k (members_of k 0) ≡ 0
 no_items Array = refl
-no_items Set = refl
-no_items Map = refl
-no_items Attr = refl
-no_items Push = refl
+no_items _ = refl
 
 -- an aggregate on a level
 aggregate_answered : (r : Rules) (level : ℕ) (k : Kind) → IsOther k → (r.version ≡ Two → ⊥) → IsNoPushBelow level k →
     IsAnswered r level (kind_byte k ∷ []) (aggregate_refusal r level)
-aggregate_answered r level k other no_two no_push = cases (leb_tells r.limits.depth level)
+aggregate_answered r level k other no_two no_push =
+    if_within r.limits.depth level (λ x. IsAnswered r level (kind_byte k ∷ []) (cond x (Some WithinDepth) None))
+    (λ deep. answered_by r WithinDepth NotStreamed level (kind_byte k ∷ []) refl (kind_too_deep r level k other deep before_depth))
+    (λ below. kind_goes_on r WithinItems level k (node_keeps r WithinItems level k (Counted (48 ∷ [])) (members_of k 0) (λ is_two. absurd (no_two is_two))
+    no_push (λ off. tt) below (omega (arith, no_items k))))
   where
     before_depth : NodeKeeps r NotStreamed level k (Counted (48 ∷ [])) (members_of k 0)
     before_depth earlier = at_each_rule (λ a. rank a ≤ 5 → NodeMeets r a level k (Counted (48 ∷ [])) (members_of k 0)) (λ e. tt) (λ e. tt)
         (λ e. λ is_two. absurd (no_two is_two)) (λ e. no_push) (λ e. tt) (λ e. λ off. tt) (λ e. absurd (omega arith)) (λ e. tt) (λ e. absurd (omega arith))
         (λ e. tt) earlier
-
-    cases : Tells (leb r.limits.depth level) (r.limits.depth ≤ level) (level < r.limits.depth) →
-        IsAnswered r level (kind_byte k ∷ []) (aggregate_refusal r level)
-    cases (inl h) = rw h.0 (answered_by r WithinDepth NotStreamed level (kind_byte k ∷ []) refl (kind_too_deep r level k other h.1 before_depth))
-    cases (inr h) = rw h.0 (kind_goes_on r WithinItems level k (node_keeps r WithinItems level k (Counted (48 ∷ [])) (members_of k 0)
-        (λ is_two. absurd (no_two is_two)) no_push (λ off. tt) h.1 (omega (arith, no_items k))))
 
 later_kind : (r : Rules) (level : ℕ) (k : Kind) → AllByRecursion (λ b. b ≡ kind_byte k → ⊥) type_bytes → IsOther k → IsNoPushBelow level k →
     IsAnswered r level (kind_byte k ∷ []) (refusal_in_three r.version (aggregate_refusal r level))
@@ -161,14 +153,12 @@ push_answered r level = later_answered r level 62 (push_refusal r level) (apart_
         (push_below r (suc level) (omega arith) (before_push (suc level) no_two))
 
 -- what holds beside each byte, and of every other byte, holds of the answer
-pub at_answer : (P : ℕ → Option Rule → Type 0) (rows : List (ℕ × Option Rule)) (byte : ℕ) → AllByRecursion (λ row. P row.0 row.1) rows →
-    (AllByRecursion (λ row. byte ≡ row.0 → ⊥) rows → P byte (Some Grammar)) → P byte (answer_beside rows byte)
-at_answer P [] byte each other = other tt
-at_answer P (row ∷ rows) byte each other = cases (eqb_tells byte row.0) (λ apart. at_answer P rows byte each.1 (λ behind. other (apart, behind)))
-  where
-    cases : Tells (eqb byte row.0) (byte ≡ row.0) (byte ≢ row.0) → (byte ≢ row.0 → P byte (answer_beside rows byte)) → P byte (answer_beside (row ∷ rows) byte)
-    cases (inl h) behind = rw h.0 (subst (λ b. P b row.1) (sym h.1) each.0)
-    cases (inr h) behind = rw h.0 (behind h.1)
+pub at_answer : {A : Type 0} (P : ℕ → A → Type 0) (rows : List (ℕ × A)) (other : A) (byte : ℕ) → AllByRecursion (λ row. P row.0 row.1) rows →
+    (AllByRecursion (λ row. byte ≡ row.0 → ⊥) rows → P byte other) → P byte (answer_beside rows other byte)
+at_answer P [] other byte each beyond = beyond tt
+at_answer P (row ∷ rows) other byte each beyond =
+    if_equal byte row.0 (λ x. P byte (cond x row.1 (answer_beside rows other byte))) (λ e. subst (λ b. P b row.1) (sym e) each.0)
+    (λ apart. at_answer P rows other byte each.1 (λ behind. beyond (apart, behind)))
 
 -- no value begins with a byte that is no type byte
 other_answered : (r : Rules) (level byte : ℕ) → AllByRecursion (λ b. byte ≡ b → ⊥) (codes "," ++ type_bytes_of Three) →
@@ -181,7 +171,7 @@ other_answered r level byte apart = (
 -- the first rule that refuses a first byte is this one, and none refuses it where there is none
 pub first_byte_answered : (r : Rules) (level byte : ℕ) → AreBounds r.limits → IsAnswered r level (byte ∷ []) (first_byte_refusal r level byte)
 first_byte_answered r level byte b =
-    at_answer (λ x answer. IsAnswered r level (x ∷ []) answer) (first_byte_answers r level) byte (
+    at_answer (λ x answer. IsAnswered r level (x ∷ []) answer) (first_byte_answers r level) (Some Grammar) byte (
       answered_by r NoDouble Grammar level (44 ∷ []) refl (double_refused r level),
       (
         later_leaf_in_two r level 43 (line Simple []) (crlf []) (tt, tt) tt tt tt tt (omega arith) refl (omega arith),

@@ -4,7 +4,7 @@ use Rattle.std.proofs.lemmas.Int.{ints}
 use Rattle.resp_value.specs.Bytes.{crlf}
 use Rattle.resp_value.specs.LocalRules.{HoldsFrom, LeafKeeps, LeafMeets, NodeKeeps}
 use Rattle.resp_value.specs.Numbers.{IsDigit, IsDigits, Minus, Plus, Sign, Unsigned, number, sign_text}
-use Rattle.resp_value.specs.Rules.{Grammar, InRange, InVersion, IsInRange, NoDouble, NotStreamed, PushAtTop, Rule, Rules, WithinDepth, WithinItems, WithinTotal, WithinLength, rank}
+use Rattle.resp_value.specs.Rules.{Grammar, InRange, InVersion, IsInRange, NoDouble, PushAtTop, Rule, Rules, WithinTotal, rank}
 use Rattle.resp_value.specs.Trees.{Int, leaf, numeral}
 use Rattle.resp_value.proofs.FirstLines.{first_line, leaf_of, numeral_sort, sort, sort_of-line}
 use Rattle.resp_value.proofs.Splitting.{digit_is_no}
@@ -16,26 +16,20 @@ use Rattle.resp_value.proofs.DigitLemmas.{number-more}
 
 in_range : (g : Sign) (ds : List ℕ) → IsInRange (numeral Int g ds) → number ds ≤ greatest g
 in_range Unsigned ds p = omega (arith, ints, p.0, p.1)
-in_range Plus ds p = omega (arith, ints, p.0, p.1)
-in_range Minus ds p = omega (arith, ints, p.0, p.1)
+in_range _ ds p = omega (arith, ints, p.0, p.1)
 
 -- digits up to the greatest are within range
 pub range_in : (g : Sign) (ds : List ℕ) → number ds ≤ greatest g → IsInRange (numeral Int g ds)
 range_in Unsigned ds p = (omega (arith, ints), omega (arith, ints))
-range_in Plus ds p = (omega (arith, ints), omega (arith, ints))
-range_in Minus ds p = (omega (arith, ints), omega (arith, ints))
+range_in _ ds p = (omega (arith, ints), omega (arith, ints))
 
 numeral_before : (r : Rules) (k : ℕ) (g : Sign) (ds : List ℕ) (h : Rule) → rank h ≤ 3 → LeafMeets r h k (numeral Int g ds)
 numeral_before r k g ds Grammar e = tt
 numeral_before r k g ds NoDouble e = tt
 numeral_before r k g ds InVersion e = λ v. tt
 numeral_before r k g ds PushAtTop e = tt
-numeral_before r k g ds InRange e = absurd (omega arith)
-numeral_before r k g ds NotStreamed e = absurd (omega arith)
-numeral_before r k g ds WithinDepth e = absurd (omega arith)
-numeral_before r k g ds WithinLength e = absurd (omega arith)
-numeral_before r k g ds WithinItems e = absurd (omega arith)
 numeral_before r k g ds WithinTotal e = tt
+numeral_before r k g ds _ e = absurd (omega arith)
 
 more_sort : (g : Sign) (d : ℕ) (ds l : List ℕ) → IsDigit d → sort (58 ∷ ((sign_text g ++ d ∷ ds) ++ l)) ≡ leaf_of (numeral_sort Int g (d ∷ ds ++ l))
 more_sort Plus d ds l p = refl

@@ -2,10 +2,10 @@
 use Rattle.std.proofs.Common.{◌++◌, ◌<◌, ◌∙◌, ◌∷◌, ◌≡◌, ◌≤◌, List, [], arith, refl, subst, ℕ}
 use Rattle.std.specs.List.{AllByRecursion}
 use Rattle.resp_value.specs.Bytes.{crlf}
-use Rattle.resp_value.specs.Data.{Array, Attr, Kind, Map, Push, Set, members_of}
+use Rattle.resp_value.specs.Data.{Array, Kind, Push, members_of}
 use Rattle.resp_value.specs.LocalRules.{HoldsFrom, LeafKeeps, LeafMeets, NodeKeeps, NodeMeets}
 use Rattle.resp_value.specs.Numbers.{IsDigit, IsDigits, number}
-use Rattle.resp_value.specs.Rules.{Grammar, InRange, InVersion, NoDouble, NotStreamed, PushAtTop, Rule, Rules, WithinDepth, WithinItems, WithinTotal, WithinLength, rank}
+use Rattle.resp_value.specs.Rules.{Grammar, InVersion, NoDouble, NotStreamed, PushAtTop, Rule, Rules, WithinDepth, WithinTotal, rank}
 use Rattle.resp_value.specs.Trees.{Counted, Double, Form, count, kind_byte, leaf, line, node, texts}
 use Rattle.resp_value.proofs.FirstLines.{form_of, node_of, sort, sort_of-line}
 use Rattle.resp_fronts.proofs.FirstLines.BegunLines.{completes_line, counted_is, tree_of_line, tree_of_node}
@@ -21,17 +21,11 @@ digits_hold (c ∷ a) l x p = digits_hold a l x p.1
 -- an aggregate but an array
 abbrev pub IsOther : Kind → Type 0
 IsOther Array = ⊥
-IsOther Set = Unit {0}
-IsOther Map = Unit {0}
-IsOther Attr = Unit {0}
-IsOther Push = Unit {0}
+IsOther _ = Unit {0}
 
 sort_other : (j : Kind) (l : List ℕ) → IsOther j → sort (kind_byte j ∷ l) ≡ node_of j (form_of l)
 sort_other Array l o = absurd o
-sort_other Set l o = refl
-sort_other Map l o = refl
-sort_other Attr l o = refl
-sort_other Push l o = refl
+sort_other _ l o = refl
 
 -- an aggregate's type byte that a rule refuses: NestedPush, Version or Depth
 pub kind_refused : (r : Rules) (g h : Rule) (k : ℕ) (j : Kind) → IsOther j → ((f : Form) (n : ℕ) → NodeMeets r g k j f n → ⊥) →
@@ -90,12 +84,5 @@ double_refused r k = record {
   where
     only : (h : Rule) → rank h ≤ 0 → LeafMeets r h k (line Double [])
     only Grammar e = tt
-    only NoDouble e = absurd (omega arith)
-    only InVersion e = absurd (omega arith)
-    only PushAtTop e = absurd (omega arith)
-    only InRange e = absurd (omega arith)
-    only NotStreamed e = absurd (omega arith)
-    only WithinDepth e = absurd (omega arith)
-    only WithinLength e = absurd (omega arith)
-    only WithinItems e = absurd (omega arith)
     only WithinTotal e = tt
+    only _ e = absurd (omega arith)

@@ -1,7 +1,7 @@
 -- Least completions of the type bytes of heads, and digits of lengths and big numbers past the limit.
 use Rattle.std.proofs.Common.{◌≡◌, ℕ, suc, ◌<◌, ◌≤◌, List, [], ◌∷◌, ◌++◌, length, refl, ap, ◌∙◌, arith, append_assoc}
 use Rattle.resp_value.specs.Numbers.{IsDigit, Sign, sign_text, number, kept_digits}
-use Rattle.resp_value.specs.Data.{Kind, Array, Set, Map, Attr, Push, members_of, items_of}
+use Rattle.resp_value.specs.Data.{Kind, Array, Attr, members_of, items_of}
 use Rattle.resp_value.specs.Trees.{Leaf, numeral, null, string, Big, BulkNull, StringKind, Bulk, BulkError, Verbatim, Counted, kind_byte, string_byte, HasFormat}
 use Rattle.resp_value.specs.Rules.{Rules, WithinDepth, WithinLength, WithinItems, rank, IsNoDouble, IsLeafInTwo, IsInRange, IsCountedLeaf}
 use Rattle.resp_value.specs.LocalRules.{LeafKeeps, NodeKeeps, LeafMeets, IsNoPushBelow}
@@ -82,10 +82,7 @@ aggregate_begun r k level no_two no_push below none = record {
   where
     no_items : (k : Kind) → items_of k 0 ≡ 0
     no_items Array = refl
-    no_items Set = refl
-    no_items Map = refl
-    no_items Attr = refl
-    no_items Push = refl
+    no_items _ = refl
 
 -- `|`: 6
 pub attribute_begun : (r : Rules) (level : ℕ) → (r.version ≡ Two → ⊥) → level < r.limits.depth → IsBegunBy r level (124 ∷ []) 6

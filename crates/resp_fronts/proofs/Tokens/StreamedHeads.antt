@@ -1,7 +1,7 @@
 -- The `?` of streamed forms: what refuses it, its least completion, and how it opens an aggregate.
 use Rattle.std.proofs.Common.{◌≡◌, ℕ, ◌+◌, ◌<◌, ◌≤◌, false, List, [], ◌∷◌, ◌++◌, refl, subst, ◌∙◌, arith}
 use Rattle.resp_value.specs.Bytes.{IsLine, crlf}
-use Rattle.resp_value.specs.Data.{Kind, Array, Set, Map, Attr, Push, items_of}
+use Rattle.resp_value.specs.Data.{Kind, Array, items_of}
 use Rattle.resp_value.specs.Trees.{leaf, node, none, Chunk, chunked, Streamed, kind_byte, count, CanStream}
 use Rattle.resp_value.specs.Rules.{Rules, Rule, NoDouble, InVersion, InRange, NotStreamed, WithinDepth, WithinItems, rank}
 use Rattle.resp_value.specs.LocalRules.{HoldsFrom, LeafKeeps, NodeKeeps, LeafMeets, NodeMeets, IsNoPushBelow}
@@ -76,10 +76,7 @@ streamed_begun r k level h can no_push within_depth = record {
   where
     no_items : (k : Kind) → items_of k 0 ≡ 0
     no_items Array = refl
-    no_items Set = refl
-    no_items Map = refl
-    no_items Attr = refl
-    no_items Push = refl
+    no_items _ = refl
 
 -- the type byte of an aggregate and a `?` are a line
 pub streamed_line : (k : Kind) → IsLine (kind_byte k ∷ 63 ∷ [])
@@ -139,14 +136,8 @@ streamed_opens r k level h can no_push within_depth =
   where
     no_missing : (k : Kind) → members_missing k Streamed 0 ≡ 0
     no_missing Array = refl
-    no_missing Set = refl
-    no_missing Map = refl
-    no_missing Attr = refl
-    no_missing Push = refl
+    no_missing _ = refl
 
     no_items : (k : Kind) → items_of k 0 ≡ 0
     no_items Array = refl
-    no_items Set = refl
-    no_items Map = refl
-    no_items Attr = refl
-    no_items Push = refl
+    no_items _ = refl

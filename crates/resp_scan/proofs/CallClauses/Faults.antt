@@ -4,7 +4,7 @@ use Rattle.resp_value.specs.declared.cause.Cause.{Cause}
 use Rattle.resp_scan.specs.declared.event.Step.{Step}
 use Rattle.resp_scan.specs.declared.event.Fault.{Fault}
 use Rattle.resp_scan.specs.Machine.Tokens.{Place, Dead}
-use Rattle.resp_scan.specs.Machine.Scan.{Out, More, Gave, Part, Whole, Bad, out_from}
+use Rattle.resp_scan.specs.Machine.Scan.{Out, More, Bad, out_from}
 use Rattle.resp_scan.specs.Machine.Sound.{IsSound}
 use Rattle.resp_scan.specs.Machine.StepOutcomes.{after_bytes, after_step, out_of_step, out_of_event}
 use Rattle.resp_scan.proofs.Soundness.Kept.{IsOut, is_advanced}
@@ -12,10 +12,7 @@ use Rattle.resp_scan.proofs.Soundness.Pieces.{Takes, takes_advanced}
 
 more_all : (n l : ℕ) (t : Place) (o : Out) → Takes l o → More n t ≡ after_step o → n ≡ l
 more_all n l t (More k s) h e = let q : n ≡ k = cc in q ∙ h
-more_all n l t (Gave k x s) h e = absurd (cc)
-more_all n l t (Part j k s) h e = absurd (cc)
-more_all n l t (Whole s) h e = absurd (cc)
-more_all n l t (Bad k c s) h e = absurd (cc)
+more_all n l t _ h e = absurd (cc)
 
 -- a step without an event uses the whole piece
 pub none_all : (u : ℕ) (r : Result Step Fault) (s t : Place) (p : List ℕ) → out_of_step u r t ≡ after_step (out_from s p) →
@@ -24,11 +21,8 @@ none_all u (Ok r) s t p e = λ n. more_all r.used (length p) t (out_from s p) (t
 none_all u (Err f) s t p e = tt
 
 bad_dead : (n : ℕ) (c : Cause) (s t : Place) (o : Out) → IsOut s o → Bad n c t ≡ after_step o → t.token ≡ Dead c
-bad_dead n c s t (More k u) h e = absurd (cc)
-bad_dead n c s t (Gave k x u) h e = absurd (cc)
-bad_dead n c s t (Part j k u) h e = absurd (cc)
-bad_dead n c s t (Whole u) h e = absurd (cc)
 bad_dead n c s t (Bad k d u) h e = let q : t ≡ after_bytes k u = cc in let z : c ≡ d = cc in ap (λ v. v.token) q ∙ h.1 ∙ ap Dead (sym z)
+bad_dead n c s t _ h e = absurd (cc)
 
 -- a fault stands from then on
 pub fault_stands : (u : ℕ) (r : Result Step Fault) (s t : Place) (p : List ℕ) → IsSound s → out_of_step u r t ≡ after_step (out_from s p) →

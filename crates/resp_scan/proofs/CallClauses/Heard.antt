@@ -15,7 +15,8 @@ use Rattle.resp_scan.specs.Machine.Sound.{IsSoundBy}
 use Rattle.resp_scan.specs.Machine.Standing.{HasCountsOf, Leads, StandsAfter}
 use Rattle.resp_scan.proofs.CallClauses.Fronts.{take-none}
 use Rattle.resp_scan.proofs.TokenMoves.EachLeads.{IsLookedAt, each_leads}
-use Rattle.resp_scan.proofs.Soundness.Sound.{IsMove, is_move, is_outside}
+use Rattle.resp_scan.proofs.Soundness.Sound.{is_move}
+use Rattle.resp_scan.proofs.Soundness.SoundMoves.{IsMove, is_outside}
 
 -- before a refused byte the front was followed, and with it nothing can follow
 pub record RefusedAt (r : Rules) (front : List ℕ) (es : List Event) (byte used : ℕ) (c : Cause) : Type 0 where
@@ -123,10 +124,8 @@ ran_move : (v : Move) (i : ℕ) (s : Place) (front : List ℕ) (es : List Event)
     IsMove (i + 1) s v → Leads s front es b v → ((t : Place) → HasCountsOf t (i + 1) (front ++ b ∷ []) → is_outside t.token ≡ false →
     StandsAfter t (front ++ b ∷ []) (es ++ e.Byte b ∷ []) → Ran (i + 1) (front ++ b ∷ []) (es ++ e.Byte b ∷ []) bs (content (i + 1) t bs)) →
     Ran i front es (b ∷ bs) (and_more v (i, s) (λ t. content (i + 1) t bs))
-ran_move (Go t) i s front es b bs c w m l f = none_taken i s front es (b ∷ bs) w
 ran_move (Byte t) i s front es b bs c w m l f = one_more i front es b bs (content (i + 1) t bs) (f t (counts_more i s t front b c m.taken m.sound) m.inside l)
-ran_move (Give x t) i s front es b bs c w m l f = none_taken i s front es (b ∷ bs) w
-ran_move (Refuse x) i s front es b bs c w m l f = none_taken i s front es (b ∷ bs) w
+ran_move _ i s front es b bs c w m l f = none_taken i s front es (b ∷ bs) w
 
 came_content : (i : ℕ) (s : Place) (front : List ℕ) (es : List Event) (p : List ℕ) → IsText p → HasCountsOf s i front → is_outside s.token ≡ false →
     StandsAfter s front es → Ran i front es p (content i s p)

@@ -28,7 +28,8 @@ use Rattle.resp_scan.proofs.TokenMoves.ClosesLead.{close_is_owed}
 use Rattle.resp_scan.proofs.Soundness.Kept.{IsOut, is_advanced, sound_new}
 use Rattle.resp_scan.proofs.CallClauses.LeastNeeded.{followed_is_viable}
 use Rattle.resp_scan.proofs.TokenMoves.EachLeads.{IsLookedAt, each_leads}
-use Rattle.resp_scan.proofs.Soundness.Sound.{IsMove, is_move, is_outside}
+use Rattle.resp_scan.proofs.Soundness.Sound.{is_move}
+use Rattle.resp_scan.proofs.Soundness.SoundMoves.{IsMove, is_outside}
 
 -- between two steps: what has come of the text
 record Stands (r : Rules) (s : Place) (front : List ℕ) : Type 0 where

@@ -1,7 +1,7 @@
 -- What a place needs is the least that completes what has come, and so what has come is viable.
 use Rattle.std.proofs.Common.{◌≡◌, ℕ, ◌+◌, List, [], ◌∷◌, length, refl, sym, ap, subst, ◌∙◌, arith}
 use Rattle.resp_value.specs.LocalRules.{LeafKeeps, NodeKeeps}
-use Rattle.resp_value.specs.Rules.{Rules, WithinItems}
+use Rattle.resp_value.specs.Rules.{Rules, WithinItems, WithinTotal}
 use Rattle.resp_value.specs.Trees.{leaf, text}
 use Rattle.resp_fronts.specs.Events.{Event}
 use Rattle.resp_fronts.specs.Frames.{text_around}
@@ -20,13 +20,13 @@ use Rattle.resp_scan.specs.Machine.Tokens.{Token, Place, AtStart, AtEnd, AtTextE
 use Rattle.resp_scan.specs.Kinds.{rules_of}
 use Rattle.resp_scan.specs.Machine.Beginnings as b
 use Rattle.resp_scan.specs.Machine.Beginnings.{TextWhole}
-use Rattle.resp_scan.specs.Machine.Standing.{AwaitsMember, IsClosing, IsClosingIn, HasEnded, HaveBegun, IsInside, StandsAfterAt, IsWholeValue, busy_levels, waiting_levels}
+use Rattle.resp_scan.specs.Machine.Standing.{AwaitsMember, IsClosing, IsClosingIn, HasEnded, HaveBegun, IsInside, StandsAfterAt, IsWholeValue, busy_levels, waiting_levels, StandsAfter}
 use Rattle.resp_scan.specs.Machine.Sound.{IsClosed, IsSoundBy, need_of_frame, need_of_frames, needed, start_needed, token_needed}
-use Rattle.resp_scan.proofs.TokenMoves.TokenLaws.{LeastIsNeeded, FollowedIsViable}
 use Rattle.resp_scan.proofs.TokenMoves.Begins.{is_between}
 use Rattle.resp_scan.proofs.TokenMoves.RefusedMoves.{frames_needed_is, inside_least, waiting_needed}
 use Rattle.resp_scan.proofs.CallClauses.Rows.{tokens_need}
 use Rattle.resp_fronts.specs.OpenLevels.{AreLevelsOf}
+use Rattle.resp_value.specs.Spellings.{IsViable}
 
 -- what completes a front by texts continues it
 least_by_texts : (r : Rules) (front others : List ℕ) (m n : ℕ) → front ≡ others → m ≡ n → HasLeast (CompletesFront r WithinItems others) m → IsLeast r front n
@@ -98,10 +98,12 @@ least_at s AtCloseLf used front es c w = closing_in_is_least (rules_of s) s.fram
 least_at s token used front es c w = inside_least (rules_of s) (b.TokenHas (rules_of s) token) s.frames front es (token_needed token s.bounds.depth s.frames) w
     (λ level bytes shown i t. tokens_need (at s token) used level bytes shown c (λ e. cc) i t)
 
-pub least_is_needed : LeastIsNeeded
+-- where a place stands, it needs the least that completes the front
+pub least_is_needed : (s : Place) (used : ℕ) (front : List ℕ) (es : List Event) → IsSoundBy used s → StandsAfter s front es → IsLeast (rules_of s) front (needed s)
 least_is_needed s used front es c w = subst (λ n. IsLeast (rules_of s) front (token_needed s.token s.bounds.depth s.frames + n)) (sym c.frames_need)
     (least_at s s.token used front es c w)
 
-pub followed_is_viable : FollowedIsViable
+-- the front of a place begins a spelling within every rule
+pub followed_is_viable : (s : Place) (used : ℕ) (front : List ℕ) (es : List Event) → IsSoundBy used s → length front ≡ s.taken + used → StandsAfter s front es → IsViable (rules_of s) WithinTotal front
 followed_is_viable s used front es c taken w = (viable_in_all (rules_of s) front (needed s) (least_is_needed s used front es c w)).1
     (omega (arith, c.total, taken))

@@ -15,7 +15,7 @@ use Rattle.resp_fronts.proofs.EventLaws.EventsDue.{due-append}
 use Rattle.resp_value.proofs.DefaultLimits.{text_at_least}
 use Rattle.resp_scan.specs.Reading.{AreDue, HasNoDone, HasNoSpelling, HasNoValue, IsSpelled}
 use Rattle.resp_scan.proofs.DueEvents.NoDone.{no_done_behind}
-use Rattle.resp_scan.proofs.TokenMoves.Choices.{if_below, if_within}
+use Rattle.resp_value.proofs.Choices.{if_below, if_within}
 
 -- a list, cut
 take-drop : (n : ℕ) (xs : List ℕ) → take n xs ++ drop n xs ≡ xs

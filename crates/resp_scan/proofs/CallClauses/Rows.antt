@@ -17,13 +17,12 @@ use Rattle.resp_fronts.proofs.Tokens.NumberTokens.{number_begun, truth_begun}
 use Rattle.resp_fronts.proofs.Tokens.StreamedHeads.{streamed_string_begun}
 use Rattle.resp_scan.specs.declared.machine.Head.{Head}
 use Rattle.resp_scan.specs.declared.machine.Head.TheVariants as head
-use Rattle.resp_scan.specs.Machine.Tokens.{Token, Place, AtStart, AtEnd, InLine, AtLineLf, AtIntSign, AtIntFirst, InInt, AtIntLf, AtBigSign, AtBigFirst, InBigZeros, AtBigZeroLf, AtBigDigit, InBig, AtTextEnd, AtNullOne, AtNullCr, AtNullLf, AtBool, AtBoolCr, AtBoolLf, AtBulkHead, AtArrayHead, AtHead, InHead, AtHeadLf, AtFormat, AtFormatSecond, AtFormatThird, AtFormatColon, InContent, AtContentCr, AtContentLf, AtStreamCr, AtStreamLf, AtChunk, InChunk, AtChunkCr, AtChunkLf, AtOpenCr, AtOpenLf, AtCloseCr, AtCloseLf, Dead}
+use Rattle.resp_scan.specs.Machine.Tokens.{Token, Place, InLine, AtLineLf, AtIntSign, AtIntFirst, InInt, AtIntLf, AtBigSign, AtBigFirst, InBigZeros, AtBigZeroLf, AtBigDigit, InBig, AtTextEnd, AtNullOne, AtNullCr, AtNullLf, AtBool, AtBoolCr, AtBoolLf, AtBulkHead, AtArrayHead, AtHead, InHead, AtHeadLf, AtFormat, AtFormatSecond, AtFormatThird, AtFormatColon, InContent, AtContentCr, AtContentLf, AtStreamCr, AtStreamLf, AtChunk, InChunk, AtChunkCr, AtChunkLf, AtOpenCr, AtOpenLf}
 use Rattle.resp_scan.specs.Machine.Heads.{first_needed, head_needed}
 use Rattle.resp_value.specs.Kinds.{kind_of}
 use Rattle.resp_scan.specs.Kinds.{rules_of}
 use Rattle.resp_scan.specs.Machine.Beginnings.{TokenHas, ContentBegun, FormatBegun, HeadBegun, HeadCounts, HeadReturned}
-use Rattle.resp_scan.specs.Machine.Sound.{IsTokenSound, token_needed}
-use Rattle.resp_scan.proofs.TokenMoves.TokenLaws.{TokensNeed}
+use Rattle.resp_scan.specs.Machine.Sound.{IsTokenSound, token_needed, IsSoundBy}
 use Rattle.resp_scan.proofs.TokenMoves.BigNumbersLead.{row_of, shown_row}
 use Rattle.resp_scan.proofs.TokenMoves.ChunkContentLead as chunk
 use Rattle.resp_scan.proofs.HeadMoves.ChunkHeadsLead as chunk_head
@@ -112,8 +111,6 @@ content_row r n level bytes shown w = content_begun r w.kind w.first w.digits (p
 token_row : (s : Place) (token : Token) (level : ℕ) (bytes : List ℕ) (shown : List Event) → AreBounds s.bounds → IsTokenSound token s.bounds.depth s.frames →
     (token ≡ AtTextEnd → ⊥) → level ≡ length s.frames → TokenHas (rules_of s) token level bytes shown →
     IsBegunBy (rules_of s) level bytes (token_needed token s.bounds.depth s.frames)
-token_row s AtStart level bytes shown c f more i w = absurd w
-token_row s AtEnd level bytes shown c f more i w = absurd w
 token_row s (InLine room) level bytes shown c f more i w = line_row (rules_of s) room level bytes shown w
 token_row s AtLineLf level bytes shown c f more i w = returned_begun (rules_of s) w.leaf level bytes w.returned
 token_row s AtIntSign level bytes shown c f more i w = number_begun (rules_of s) t.Int Unsigned level bytes w.0
@@ -157,9 +154,8 @@ token_row s (AtChunkCr room) level bytes shown c f more i w = chunk.content_row 
 token_row s (AtChunkLf room) level bytes shown c f more i w = chunk.returned_row (rules_of s) room level bytes shown w
 token_row s (AtOpenCr k) level bytes shown c f more i w = stream_row (rules_of s) (kind_of k) level bytes shown w
 token_row s (AtOpenLf k) level bytes shown c f more i w = end_row (rules_of s) (kind_of k) level bytes shown w
-token_row s AtCloseCr level bytes shown c f more i w = absurd w
-token_row s AtCloseLf level bytes shown c f more i w = absurd w
-token_row s (Dead cause) level bytes shown c f more i w = absurd w
+token_row s _ level bytes shown c f more i w = absurd w
 
-pub tokens_need : TokensNeed
+-- inside a value the token needs the least that completes its bytes, but at a text's end, where they are whole
+pub tokens_need : (s : Place) (used level : ℕ) (bytes : List ℕ) (shown : List Event) → IsSoundBy used s → (s.token ≡ AtTextEnd → ⊥) → level ≡ length s.frames → TokenHas (rules_of s) s.token level bytes shown → IsBegunBy (rules_of s) level bytes (token_needed s.token s.bounds.depth s.frames)
 tokens_need s used level bytes shown c more i w = token_row s s.token level bytes shown c.bounds c.token more i w

@@ -24,10 +24,7 @@ use Rattle.resp_scan.specs.Machine.Scan.{Out, More, Gave, Part, Whole, Bad, out_
 use Rattle.resp_scan.specs.Parts.{IsPartOf, IsOfPiece, IsRun}
 use Rattle.resp_scan.specs.Machine.StepOutcomes.{out_of_step, out_of_event, out_of_part, after_step}
 use Rattle.resp_scan.specs.Kinds.{IsRefusedFor, content_events, event_of, rules_of}
-use Rattle.resp_scan.specs.declared.machine.Head.{Head}
-use Rattle.resp_scan.specs.declared.machine.Head.TheVariants as head
-use Rattle.resp_scan.specs.Machine.Heads.{first_needed, head_needed}
-use Rattle.resp_scan.specs.Machine.Sound.{IsTokenSound, IsSound, IsSoundBy, needed, token_needed}
+use Rattle.resp_scan.specs.Machine.Sound.{IsSound, IsSoundBy, needed, token_needed}
 use Rattle.resp_scan.specs.Machine.Owed.{events_owed_at}
 use Rattle.resp_scan.specs.Machine.Standing as f
 use Rattle.resp_scan.specs.Machine.Standing.{AwaitsMember, HasCountsOf, HasEnded, StandsAfter, StandsAfterAt}
@@ -36,127 +33,12 @@ use Rattle.resp_scan.proofs.DueEvents.GivenCounts.{no_done_given}
 use Rattle.resp_scan.proofs.CallClauses.NoValue.{no_spelling, no_value}
 use Rattle.resp_scan.proofs.TokenMoves.EachLeads.{IsLookedAt}
 use Rattle.resp_scan.proofs.DueEvents.EventsDue.{events_are_due}
-use Rattle.resp_scan.proofs.CallClauses.Heard.{Came, RefusedAt, came_scan}
-use Rattle.resp_scan.proofs.CallClauses.Fronts.{front-append, front-one-more, length-front, take-none}
+use Rattle.resp_scan.proofs.CallClauses.Heard.{RefusedAt}
+use Rattle.resp_scan.proofs.CallClauses.Fronts.{front-append, front-one-more, length-front}
 use Rattle.resp_scan.proofs.Soundness.Kept.{IsOut, is_advanced}
-use Rattle.resp_scan.proofs.TokenMoves.BigNumbersLead.{big_digit_is_owed, text_end_is_owed}
-use Rattle.resp_scan.proofs.TokenMoves.ClosesLead.{close_is_owed}
 use Rattle.resp_scan.proofs.CallClauses.LeastNeeded.{least_is_needed, followed_is_viable}
-use Rattle.resp_scan.proofs.Soundness.Sound.{is_outside}
-use Rattle.resp_scan.proofs.TokenMoves.Choices.{if_below, if_equal, if_within}
 use Rattle.resp_scan.proofs.Soundness.Counted.{sound_counted}
-
--- What is owed, or what comes of the piece.
-
-abbrev pub Answered : Rules → List ℕ → List e.Event → List ℕ → Out → Type 0
-Answered r front es p (More n t) = (n ≡ length p) × IsLookedAt t.token n × StandsAfter t (front ++ p) es
-Answered r front es p (Gave n happening t) = (n ≤ length p) × StandsAfter t (front ++ take n p) (es ++ event_of happening ∷ [])
-Answered r front es p (Part k n t) = (k < n) × (n ≤ length p) × StandsAfter t (front ++ take n p) (es ++ content_events (drop k (take n p)))
-Answered r front es p (Whole t) = f.IsWholeValue r front es × StandsAfter t [] []
-Answered r front es p (Bad n c t) = (n < length p) × (byte : ℕ) × (rest : List ℕ) × (p ≡ take n p ++ byte ∷ rest) × RefusedAt r (front ++ take n p) es byte n c
-
-from_start : (r : Rules) (front : List ℕ) (es : List e.Event) (p : List ℕ) (o : Out) → Came r 0 front es p o → Answered r front es p o
-from_start r front es p (More n t) h = (omega (arith, h.0), h.1, h.2)
-from_start r front es p (Gave n x t) h = let z : n - 0 ≡ n = omega arith in
-    (omega (arith, h.1), subst (λ m. StandsAfter t (front ++ take m p) (es ++ event_of x ∷ [])) z h.2)
-from_start r front es p (Part k n t) h =
-    let z : n - 0 ≡ n = omega arith in
-    let y : k - 0 ≡ k = omega arith in (
-      h.1,
-      omega (arith, h.2),
-      subst (λ m. StandsAfter t (front ++ take n p) (es ++ content_events (drop m (take n p)))) y
-          (subst (λ m. StandsAfter t (front ++ take m p) (es ++ content_events (drop (k - 0) (take m p)))) z h.3),
-    )
-from_start r front es p (Whole t) h = absurd h
-from_start r front es p (Bad n c t) (j, m, byte, rest, parts, w) =
-    let z : n - 0 ≡ n = omega arith in
-    (omega (arith, m), byte, rest, subst (λ x. p ≡ take x p ++ byte ∷ rest) z parts, subst (λ x. RefusedAt r (front ++ take x p) es byte n c) z w)
-
--- an event that is owed at no byte
-gives_owed : (r : Rules) (front : List ℕ) (es : List e.Event) (p : List ℕ) (x : Happening) (t : Place) → StandsAfter t front (es ++ event_of x ∷ []) →
-    Answered r front es p (Gave 0 x t)
-gives_owed r front es p x t w =
-    (omega arith, subst (λ z. StandsAfter t z (es ++ event_of x ∷ [])) (sym (ap (λ z. front ++ z) (take-none p) ∙ append-nil front)) w)
-
-at_top : (r : Rules) → AwaitsMember r [] [] []
-at_top r = record { frames = []; begun = tt; of_levels = tt; ready = tt; whole = refl; told = refl }
-
-closed : (s : Place) (fs : List Frame) (front : List ℕ) (es : List e.Event) (p : List ℕ) → HasEnded (rules_of s) fs front es →
-    Answered (rules_of s) front es p (out_at_end (record s { token = AtEnd; frames = fs }) fs)
-closed s [] front es p w = (w, at_top (rules_of s))
-closed s (x ∷ fs) front es p w = gives_owed (rules_of s) front es p k.Close (at_boundary (record s { token = AtEnd; frames = fs }))
-    (close_is_owed s x fs front es w)
-
-scanned : (s : Place) (front : List ℕ) (es : List e.Event) (p : List ℕ) → IsText p → IsSound s → s.taken ≡ length front → StandsAfter s front es →
-    IsLookedAt s.token 0 → Answered (rules_of s) front es p (scan 0 s p)
-scanned s front es p text sound taken w looked = from_start (rules_of s) front es p (scan 0 s p)
-    (came_scan (rules_of s) 0 s front es p text refl (record { sound = sound; taken = omega (arith, taken) }) looked w)
-
-inside : (t : Token) → is_outside t ≡ false → IsLookedAt t 0
-inside t e h = absurd (false≢true (sym e ∙ h))
-
--- from every token
-answered_at : (t : Token) (s : Place) (front : List ℕ) (es : List e.Event) (p : List ℕ) → IsText p → IsSound (at s t) → s.taken ≡ length front →
-    StandsAfter (at s t) front es → Answered (rules_of s) front es p (out_from_token t (at s t) p)
-answered_at AtEnd s front es p text sound taken w = closed s s.frames front es p w
-answered_at AtTextEnd s front es p text sound taken w = gives_owed (rules_of s) front es p k.TextEnd (at_boundary s) (text_end_is_owed s front es w)
-answered_at (AtBigDigit digit room) s front es p text sound taken w =
-    gives_owed (rules_of s) front es p (k.Digit digit) (at s (InBig room)) (big_digit_is_owed s digit room front es w)
-answered_at (Dead c) s front es p text sound taken w = absurd w.took
-answered_at AtStart s front es p text sound taken w = scanned (at s AtStart) front es p text sound taken w (λ h. (refl, refl))
-answered_at (InLine room) s front es p text sound taken w = scanned (at s (InLine room)) front es p text sound taken w (inside (InLine room) refl)
-answered_at AtLineLf s front es p text sound taken w = scanned (at s AtLineLf) front es p text sound taken w (inside AtLineLf refl)
-answered_at AtIntSign s front es p text sound taken w = scanned (at s AtIntSign) front es p text sound taken w (inside AtIntSign refl)
-answered_at (AtIntFirst negative) s front es p text sound taken w =
-    scanned (at s (AtIntFirst negative)) front es p text sound taken w (inside (AtIntFirst negative) refl)
-answered_at (InInt negative n) s front es p text sound taken w = scanned (at s (InInt negative n)) front es p text sound taken w
-    (inside (InInt negative n) refl)
-answered_at (AtIntLf negative n) s front es p text sound taken w =
-    scanned (at s (AtIntLf negative n)) front es p text sound taken w (inside (AtIntLf negative n) refl)
-answered_at AtBigSign s front es p text sound taken w = scanned (at s AtBigSign) front es p text sound taken w (inside AtBigSign refl)
-answered_at (AtBigFirst negative) s front es p text sound taken w =
-    scanned (at s (AtBigFirst negative)) front es p text sound taken w (inside (AtBigFirst negative) refl)
-answered_at (InBigZeros negative) s front es p text sound taken w =
-    scanned (at s (InBigZeros negative)) front es p text sound taken w (inside (InBigZeros negative) refl)
-answered_at AtBigZeroLf s front es p text sound taken w = scanned (at s AtBigZeroLf) front es p text sound taken w (inside AtBigZeroLf refl)
-answered_at (InBig room) s front es p text sound taken w = scanned (at s (InBig room)) front es p text sound taken w (inside (InBig room) refl)
-answered_at AtNullOne s front es p text sound taken w = scanned (at s AtNullOne) front es p text sound taken w (inside AtNullOne refl)
-answered_at AtNullCr s front es p text sound taken w = scanned (at s AtNullCr) front es p text sound taken w (inside AtNullCr refl)
-answered_at AtNullLf s front es p text sound taken w = scanned (at s AtNullLf) front es p text sound taken w (inside AtNullLf refl)
-answered_at AtBool s front es p text sound taken w = scanned (at s AtBool) front es p text sound taken w (inside AtBool refl)
-answered_at (AtBoolCr x) s front es p text sound taken w = scanned (at s (AtBoolCr x)) front es p text sound taken w (inside (AtBoolCr x) refl)
-answered_at (AtBoolLf x) s front es p text sound taken w = scanned (at s (AtBoolLf x)) front es p text sound taken w (inside (AtBoolLf x) refl)
-answered_at AtBulkHead s front es p text sound taken w = scanned (at s AtBulkHead) front es p text sound taken w (inside AtBulkHead refl)
-answered_at AtArrayHead s front es p text sound taken w = scanned (at s AtArrayHead) front es p text sound taken w (inside AtArrayHead refl)
-answered_at (AtHead h) s front es p text sound taken w = scanned (at s (AtHead h)) front es p text sound taken w (inside (AtHead h) refl)
-answered_at (InHead h n) s front es p text sound taken w = scanned (at s (InHead h n)) front es p text sound taken w (inside (InHead h n) refl)
-answered_at (AtHeadLf h n) s front es p text sound taken w = scanned (at s (AtHeadLf h n)) front es p text sound taken w (inside (AtHeadLf h n) refl)
-answered_at (AtFormat n) s front es p text sound taken w = scanned (at s (AtFormat n)) front es p text sound taken w (inside (AtFormat n) refl)
-answered_at (AtFormatSecond x n) s front es p text sound taken w =
-    scanned (at s (AtFormatSecond x n)) front es p text sound taken w (inside (AtFormatSecond x n) refl)
-answered_at (AtFormatThird x y n) s front es p text sound taken w =
-    scanned (at s (AtFormatThird x y n)) front es p text sound taken w (inside (AtFormatThird x y n) refl)
-answered_at (AtFormatColon format n) s front es p text sound taken w =
-    scanned (at s (AtFormatColon format n)) front es p text sound taken w (inside (AtFormatColon format n) refl)
-answered_at (InContent n) s front es p text sound taken w = scanned (at s (InContent n)) front es p text sound taken w (inside (InContent n) refl)
-answered_at AtContentCr s front es p text sound taken w = scanned (at s AtContentCr) front es p text sound taken w (inside AtContentCr refl)
-answered_at AtContentLf s front es p text sound taken w = scanned (at s AtContentLf) front es p text sound taken w (inside AtContentLf refl)
-answered_at AtStreamCr s front es p text sound taken w = scanned (at s AtStreamCr) front es p text sound taken w (inside AtStreamCr refl)
-answered_at AtStreamLf s front es p text sound taken w = scanned (at s AtStreamLf) front es p text sound taken w (inside AtStreamLf refl)
-answered_at (AtChunk room) s front es p text sound taken w = scanned (at s (AtChunk room)) front es p text sound taken w (inside (AtChunk room) refl)
-answered_at (InChunk room n) s front es p text sound taken w = scanned (at s (InChunk room n)) front es p text sound taken w (inside (InChunk room n) refl)
-answered_at (AtChunkCr room) s front es p text sound taken w = scanned (at s (AtChunkCr room)) front es p text sound taken w (inside (AtChunkCr room) refl)
-answered_at (AtChunkLf room) s front es p text sound taken w = scanned (at s (AtChunkLf room)) front es p text sound taken w (inside (AtChunkLf room) refl)
-answered_at (AtOpenCr o) s front es p text sound taken w = scanned (at s (AtOpenCr o)) front es p text sound taken w (inside (AtOpenCr o) refl)
-answered_at (AtOpenLf o) s front es p text sound taken w = scanned (at s (AtOpenLf o)) front es p text sound taken w (inside (AtOpenLf o) refl)
-answered_at AtCloseCr s front es p text sound taken w = scanned (at s AtCloseCr) front es p text sound taken w (inside AtCloseCr refl)
-answered_at AtCloseLf s front es p text sound taken w = scanned (at s AtCloseLf) front es p text sound taken w (inside AtCloseLf refl)
-
-pub answered : (s : Place) (front : List ℕ) (es : List e.Event) (p : List ℕ) → IsText p → IsSound s → s.taken ≡ length front → StandsAfter s front es →
-    Answered (rules_of s) front es p (out_from s p)
-answered s front es p text sound taken w = answered_at s.token s front es p text sound taken w
-
--- What is heard of it.
+use Rattle.resp_scan.proofs.CallClauses.Answered.{Answered, answered}
 
 -- with the bytes that a step counts
 abbrev Shown : Place → List ℕ → List e.Event → List ℕ → Out → Type 0

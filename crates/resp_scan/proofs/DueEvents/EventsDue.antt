@@ -4,17 +4,16 @@ use Rattle.resp_value.specs.Rules.{Rules}
 use Rattle.resp_value.specs.Trees as t
 use Rattle.resp_value.specs.Numbers.{Unsigned}
 use Rattle.resp_fronts.specs.Events as e
-use Rattle.resp_fronts.specs.Events.{Event}
+use Rattle.resp_fronts.specs.Events.{Event, all_events, events_due}
 use Rattle.resp_scan.specs.declared.machine.Head.{Head}
 use Rattle.resp_scan.specs.declared.machine.Head.TheVariants as head
-use Rattle.resp_scan.specs.Machine.Tokens.{Token, Place, AtStart, AtEnd, InLine, AtLineLf, AtIntSign, AtIntFirst, InInt, AtIntLf, AtBigSign, AtBigFirst, InBigZeros, AtBigZeroLf, AtBigDigit, InBig, AtTextEnd, AtNullOne, AtNullCr, AtNullLf, AtBool, AtBoolCr, AtBoolLf, AtBulkHead, AtArrayHead, AtHead, InHead, AtHeadLf, AtFormat, AtFormatSecond, AtFormatThird, AtFormatColon, InContent, AtContentCr, AtContentLf, AtStreamCr, AtStreamLf, AtChunk, InChunk, AtChunkCr, AtChunkLf, AtOpenCr, AtOpenLf, AtCloseCr, AtCloseLf, Dead, at}
+use Rattle.resp_scan.specs.Machine.Tokens.{Token, Place, AtStart, AtEnd, InLine, AtLineLf, AtIntSign, AtIntFirst, InInt, AtIntLf, AtBigSign, AtBigFirst, InBigZeros, AtBigZeroLf, AtBigDigit, InBig, AtTextEnd, AtNullOne, AtNullCr, AtNullLf, AtBool, AtBoolCr, AtBoolLf, AtBulkHead, AtArrayHead, AtHead, InHead, AtHeadLf, AtFormat, AtFormatSecond, AtFormatThird, AtFormatColon, InContent, AtContentCr, AtContentLf, AtStreamCr, AtStreamLf, AtChunk, InChunk, AtChunkCr, AtChunkLf, AtOpenCr, AtOpenLf, AtCloseCr, AtCloseLf, at}
 use Rattle.resp_value.specs.Kinds.{kind_of}
 use Rattle.resp_scan.specs.Kinds.{rules_of}
 use Rattle.resp_scan.specs.Machine.Beginnings as b
-use Rattle.resp_scan.specs.Machine.Standing.{IsInside, StandsAfterAt}
-use Rattle.resp_scan.specs.Machine.Owed.{events_owed_at}
+use Rattle.resp_scan.specs.Machine.Standing.{IsInside, StandsAfterAt, StandsAfter}
+use Rattle.resp_scan.specs.Machine.Owed.{events_owed_at, events_owed}
 use Rattle.resp_scan.specs.Machine.Sound.{IsSoundBy, token_needed}
-use Rattle.resp_scan.proofs.TokenMoves.TokenLaws.{EventsAreDue}
 use Rattle.resp_scan.proofs.DueEvents.BigNumbersDue.{big_begun_due, big_shown_due, big_zero_returned_due, big_zeros_due}
 use Rattle.resp_scan.proofs.TokenMoves.BigNumbersLead.{big_digit_is_owed}
 use Rattle.resp_scan.proofs.DueEvents.ChunksDue.{chunk_due, chunks_due, length_in_line, mark_in_line, none_in_line, returned_in_line}
@@ -26,6 +25,8 @@ use Rattle.resp_scan.proofs.DueEvents.QuietLines.{line_of_quiet, returned_quiet}
 use Rattle.resp_scan.proofs.DueEvents.QuietTokens.{bool_quiet, digits_quiet, dollar_quiet, head_quiet, head_returned_quiet, int_begun_quiet, int_digits_quiet, int_returned_quiet, null_begun_quiet, null_line_quiet, null_returned_quiet, star_quiet, stream_quiet, stream_returned_quiet, streamed_string_quiet, streamed_string_returned_quiet, truth_quiet}
 use Rattle.resp_scan.proofs.CallClauses.Rows.{tokens_need}
 use Rattle.resp_fronts.specs.Tokens.{zeros}
+use Rattle.resp_value.specs.Trees.{Tree, Spells}
+use Rattle.std.specs.Prelude.{length}
 
 -- Heads.
 
@@ -52,8 +53,6 @@ OwesNothing token = (token ≡ AtTextEnd → ⊥) × ((digit room : ℕ) → tok
 
 token_due : (token : Token) (r : Rules) (level : ℕ) (bytes : List ℕ) (shown : List Event) → OwesNothing token → b.TokenHas r token level bytes shown →
     AreDueWithin bytes shown
-token_due AtStart r level bytes shown p w = absurd w
-token_due AtEnd r level bytes shown p w = absurd w
 token_due (InLine room) r level bytes shown p w = line_begun_due r room level bytes shown w
 token_due AtLineLf r level bytes shown p w = text_returned_due r level bytes shown w
 token_due AtIntSign r level bytes shown p w = int_begun_quiet r Unsigned level bytes shown w.0 w.1
@@ -93,9 +92,7 @@ token_due (AtChunkCr room) r level bytes shown p w = chunk_due r room 0 [] level
 token_due (AtChunkLf room) r level bytes shown p w = chunk_due r room 0 (13 ∷ []) level bytes shown (refl, refl) w
 token_due (AtOpenCr k) r level bytes shown p w = stream_quiet r (kind_of k) level bytes shown w
 token_due (AtOpenLf k) r level bytes shown p w = stream_returned_quiet r (kind_of k) level bytes shown w
-token_due AtCloseCr r level bytes shown p w = absurd w
-token_due AtCloseLf r level bytes shown p w = absurd w
-token_due (Dead c) r level bytes shown p w = absurd w
+token_due _ r level bytes shown p w = absurd w
 
 inside_token : (s : Place) (token : Token) (used : ℕ) (front : List ℕ) (es : List Event) → IsSoundBy used (at s token) → OwesNothing token →
     IsInside (rules_of s) (b.TokenHas (rules_of s) token) s.frames front es → AreDue front es
@@ -129,6 +126,6 @@ due_at s (AtBigDigit digit room) used front es c w =
     inside_token s (InBig room) used front (es ++ e.Byte digit ∷ []) d (λ i. cc, λ x y i. cc) (big_digit_is_owed s digit room front es w)
 due_at s token used front es c w = no_more front es (inside_token s token used front es c (λ i. cc, λ x y i. cc) w)
 
--- at every place
-pub events_are_due : EventsAreDue
+-- of every tree that the front begins, the events due by then are those given and those owed
+pub events_are_due : (s : Place) (used : ℕ) (front : List ℕ) (es : List Event) → IsSoundBy used s → StandsAfter s front es → (rest : List ℕ) (whole : Tree) → Spells whole (front ++ rest) → events_due (length front) (all_events whole) ≡ es ++ events_owed s
 events_are_due s used front es c w rest whole spells = due_at s s.token used front es c w rest whole spells.is_tree spells.spelled

@@ -1,5 +1,5 @@
 -- What was given where a place stands: it leaves the frames open, has no Done, and is no more than the bytes taken.
-use Rattle.std.proofs.Common.{◌≡◌, ℕ, ◌≤◌, List, [], ◌∷◌, ◌++◌, length, refl, sym, ap, subst, ◌∙◌, arith, append-nil, length-append, suc}
+use Rattle.std.proofs.Common.{◌≡◌, ℕ, ◌≤◌, List, [], ◌∷◌, ◌++◌, length, refl, sym, ap, subst, ◌∙◌, arith, append-nil, length-append, suc, ◌+◌}
 use Rattle.resp_value.specs.Rules.{Rules}
 use Rattle.resp_fronts.specs.Events.{Event, events_around, without_places}
 use Rattle.resp_fronts.specs.Frames as opened
@@ -12,13 +12,13 @@ use Rattle.resp_scan.specs.Machine.Tokens.{Place, Token, AtStart, AtEnd, AtClose
 use Rattle.resp_scan.specs.Kinds.{rules_of}
 use Rattle.resp_scan.specs.Machine.Beginnings as b
 use Rattle.resp_scan.specs.Machine.Standing.{AwaitsMember, IsClosing, IsClosingIn, HasEnded, IsInside, StandsAfter, StandsAfterAt, busy_levels, waiting_levels}
-use Rattle.resp_scan.proofs.TokenMoves.TokenLaws.{OpensAreFrames, EventsAreFew}
 use Rattle.resp_scan.proofs.DueEvents.FewEvents.{frames_few, tree_few}
 use Rattle.resp_scan.proofs.TokenMoves.Moves.{at_level, length-busy}
 use Rattle.resp_scan.proofs.DueEvents.Opens.{LeaveOpen, frames_open, open-append, tree_opens}
 use Rattle.resp_scan.proofs.DueEvents.NoDone.{frames_no_done, no_done-append, tree_no_done}
 use Rattle.resp_scan.proofs.DueEvents.Shown.{IsShown, is_shown}
 use Rattle.resp_scan.proofs.TokenMoves.Begins.{length-waiting}
+use Rattle.resp_scan.specs.Counts.{open_count, close_count}
 
 -- what was given by these frames, of these bytes
 abbrev AreGiven : List Frame → List ℕ → List Event → Type 0
@@ -81,12 +81,12 @@ are_given r AtCloseCr fs front es w = closing_in_given r fs (46 ∷ []) (13 ∷ 
 are_given r AtCloseLf fs front es w = closing_in_given r fs (46 ∷ 13 ∷ []) (10 ∷ []) front es w
 are_given r token fs front es w = inside_given r token fs front es w
 
--- the opens without a close are the frames'
-pub opens_are_frames : OpensAreFrames
+-- in what was given, each aggregate that opened has closed but for the frames
+pub opens_are_frames : (s : Place) (front : List ℕ) (es : List Event) → StandsAfter s front es → open_count es ≡ length s.frames + close_count es
 opens_are_frames s front es w = (are_given (rules_of s) s.token s.frames front es w).0
 
--- and there are no more events than bytes
-pub events_are_few : EventsAreFew
+-- no more events than bytes
+pub events_are_few : (s : Place) (front : List ℕ) (es : List Event) → StandsAfter s front es → length es ≤ length front
 events_are_few s front es w = (are_given (rules_of s) s.token s.frames front es w).1
 
 -- no Done was given

@@ -21,20 +21,15 @@ use Rattle.resp_fronts.proofs.Tokens.StreamedHeads.{streamed_line}
 
 kind_quiet : (k : Kind) → IsQuiet (kind_byte k)
 kind_quiet d.Array = (λ i. omega arith, λ i. omega arith, λ i. omega arith)
-kind_quiet d.Set = (λ i. omega arith, λ i. omega arith, λ i. omega arith)
-kind_quiet d.Map = (λ i. omega arith, λ i. omega arith, λ i. omega arith)
-kind_quiet d.Attr = (λ i. omega arith, λ i. omega arith, λ i. omega arith)
-kind_quiet d.Push = (λ i. omega arith, λ i. omega arith, λ i. omega arith)
+kind_quiet _ = (λ i. omega arith, λ i. omega arith, λ i. omega arith)
 
 string_quiet : (k : StringKind) → IsQuiet (string_byte k)
 string_quiet t.Bulk = (λ i. omega arith, λ i. omega arith, λ i. omega arith)
-string_quiet t.BulkError = (λ i. omega arith, λ i. omega arith, λ i. omega arith)
-string_quiet (t.Verbatim format) = (λ i. omega arith, λ i. omega arith, λ i. omega arith)
+string_quiet _ = (λ i. omega arith, λ i. omega arith, λ i. omega arith)
 
 null_quiet : (f : NullForm) → IsQuiet (leaf_byte (null f))
 null_quiet t.BulkNull = (λ i. omega arith, λ i. omega arith, λ i. omega arith)
-null_quiet t.ArrayNull = (λ i. omega arith, λ i. omega arith, λ i. omega arith)
-null_quiet t.PlainNull = (λ i. omega arith, λ i. omega arith, λ i. omega arith)
+null_quiet _ = (λ i. omega arith, λ i. omega arith, λ i. omega arith)
 
 -- one byte
 byte_quiet : (byte : ℕ) (bytes : List ℕ) (shown : List Event) → bytes ≡ byte ∷ [] → shown ≡ [] → IsQuiet byte → 13 < byte → AreDueWithin bytes shown

@@ -9,7 +9,7 @@ use Rattle.resp_fronts.specs.Events.{Event, without_places, leaf_events}
 use Rattle.resp_fronts.proofs.Tokens.LineTokens.{returned_whole}
 use Rattle.resp_scan.specs.declared.machine.Head.{Head}
 use Rattle.resp_scan.specs.declared.machine.Head.TheVariants as head
-use Rattle.resp_scan.specs.Machine.Tokens.{Token, AtStart, AtEnd, InLine, AtLineLf, AtIntSign, AtIntFirst, InInt, AtIntLf, AtBigSign, AtBigFirst, InBigZeros, AtBigZeroLf, AtBigDigit, InBig, AtTextEnd, AtNullOne, AtNullCr, AtNullLf, AtBool, AtBoolCr, AtBoolLf, AtBulkHead, AtArrayHead, AtHead, InHead, AtHeadLf, AtFormat, AtFormatSecond, AtFormatThird, AtFormatColon, InContent, AtContentCr, AtContentLf, AtStreamCr, AtStreamLf, AtChunk, InChunk, AtChunkCr, AtChunkLf, AtOpenCr, AtOpenLf, AtCloseCr, AtCloseLf, Dead}
+use Rattle.resp_scan.specs.Machine.Tokens.{Token, AtStart, AtEnd, InLine, AtLineLf, AtIntSign, AtBigSign, InBigZeros, AtBigDigit, InBig, AtTextEnd, AtNullOne, AtBool, AtBoolCr, AtBoolLf, AtBulkHead, AtArrayHead, AtHead, InHead, AtHeadLf, InContent, AtContentCr, AtContentLf, AtStreamCr, AtStreamLf, AtChunk, InChunk, AtChunkCr, AtChunkLf, AtCloseCr, AtCloseLf, Dead}
 use Rattle.resp_scan.specs.Kinds.{content_events}
 use Rattle.resp_scan.specs.Machine.Beginnings.{TokenHas, BigBegun, ChunkBegun, ChunksBegun, ContentBegun, HeadBegun, HeadCounts, HeadReturned}
 use Rattle.resp_scan.specs.Counts.{open_count, close_count}
@@ -101,32 +101,18 @@ head_shown r head.BulkError level bytes shown w = none_shown bytes shown w.2
 head_shown r head.Verbatim level bytes shown w = none_shown bytes shown w.2
 head_shown r (head.Chunk room) level bytes shown w = streamed_shown r room (59 ∷ []) level bytes shown w
 head_shown r head.Array level bytes shown w = absurd w
-head_shown r head.Set level bytes shown w = none_shown bytes shown w.told
-head_shown r head.Map level bytes shown w = none_shown bytes shown w.told
-head_shown r head.Attr level bytes shown w = none_shown bytes shown w.told
-head_shown r head.Push level bytes shown w = none_shown bytes shown w.told
+head_shown r _ level bytes shown w = none_shown bytes shown w.told
 
 count_shown : (r : Rules) (h : Head) (n level : ℕ) (bytes : List ℕ) (shown : List Event) → HeadCounts r h n level bytes shown → IsShown bytes shown
-count_shown r head.Bulk n level bytes shown w = none_shown bytes shown w.told
-count_shown r head.BulkError n level bytes shown w = none_shown bytes shown w.told
-count_shown r head.Verbatim n level bytes shown w = none_shown bytes shown w.told
 count_shown r (head.Chunk room) n level bytes shown w = streamed_shown r room _ level bytes shown w.chunks
-count_shown r head.Array n level bytes shown w = none_shown bytes shown w.told
-count_shown r head.Set n level bytes shown w = none_shown bytes shown w.told
-count_shown r head.Map n level bytes shown w = none_shown bytes shown w.told
-count_shown r head.Attr n level bytes shown w = none_shown bytes shown w.told
-count_shown r head.Push n level bytes shown w = none_shown bytes shown w.told
+count_shown r _ n level bytes shown w = none_shown bytes shown w.told
 
 returned_shown : (r : Rules) (h : Head) (n level : ℕ) (bytes : List ℕ) (shown : List Event) → HeadReturned r h n level bytes shown → IsShown bytes shown
 returned_shown r head.Bulk n level bytes shown w = none_shown bytes shown w.length.told
 returned_shown r head.BulkError n level bytes shown w = none_shown bytes shown w.length.told
 returned_shown r head.Verbatim n level bytes shown w = none_shown bytes shown w.1.length.told
 returned_shown r (head.Chunk room) n level bytes shown w = streamed_shown r room _ level bytes shown w.chunks
-returned_shown r head.Array n level bytes shown w = none_shown bytes shown w.told
-returned_shown r head.Set n level bytes shown w = none_shown bytes shown w.told
-returned_shown r head.Map n level bytes shown w = none_shown bytes shown w.told
-returned_shown r head.Attr n level bytes shown w = none_shown bytes shown w.told
-returned_shown r head.Push n level bytes shown w = none_shown bytes shown w.told
+returned_shown r _ n level bytes shown w = none_shown bytes shown w.told
 
 -- of each token
 pub is_shown : (token : Token) (r : Rules) (level : ℕ) (bytes : List ℕ) (shown : List Event) → TokenHas r token level bytes shown → IsShown bytes shown
@@ -136,19 +122,12 @@ is_shown (InLine room) r level bytes shown w = text_shown bytes _ w.token.conten
 is_shown AtLineLf r level bytes shown w = leaf_shown bytes w.leaf shown w.told
     (omega (arith, ap length (returned_whole r w.leaf level bytes w.returned), length-append bytes (10 ∷ [])))
 is_shown AtIntSign r level bytes shown w = none_shown bytes shown w.1
-is_shown (AtIntFirst negative) r level bytes shown w = none_shown bytes shown w.told
-is_shown (InInt negative n) r level bytes shown w = none_shown bytes shown w.told
-is_shown (AtIntLf negative n) r level bytes shown w = none_shown bytes shown w.told
 is_shown AtBigSign r level bytes shown w = none_shown bytes shown w.1
-is_shown (AtBigFirst negative) r level bytes shown w = none_shown bytes shown w.told
 is_shown (InBigZeros negative) r level bytes shown w = none_shown bytes shown w.1
-is_shown AtBigZeroLf r level bytes shown w = none_shown bytes shown w.told
 is_shown (AtBigDigit digit room) r level bytes shown w = big_shown r w.negative (digit ∷ []) level bytes shown w.token [] (omega arith) w.told
 is_shown (InBig room) r level bytes shown w = big_shown r w.negative (w.digit ∷ w.digits) level bytes shown w.token (w.digit ∷ w.digits) (omega arith) w.told
 is_shown AtTextEnd r level bytes shown w = leaf_shown bytes w.leaf shown w.told (omega (arith, ap length w.whole))
 is_shown AtNullOne r level bytes shown w = none_shown bytes shown w.1
-is_shown AtNullCr r level bytes shown w = none_shown bytes shown w.told
-is_shown AtNullLf r level bytes shown w = none_shown bytes shown w.told
 is_shown AtBool r level bytes shown w = none_shown bytes shown w.2
 is_shown (AtBoolCr b) r level bytes shown w = none_shown bytes shown w.1
 is_shown (AtBoolLf b) r level bytes shown w = none_shown bytes shown w.1
@@ -157,10 +136,6 @@ is_shown AtArrayHead r level bytes shown w = none_shown bytes shown w.1
 is_shown (AtHead h) r level bytes shown w = head_shown r h level bytes shown w
 is_shown (InHead h n) r level bytes shown w = count_shown r h n level bytes shown w
 is_shown (AtHeadLf h n) r level bytes shown w = returned_shown r h n level bytes shown w
-is_shown (AtFormat n) r level bytes shown w = none_shown bytes shown w.told
-is_shown (AtFormatSecond x n) r level bytes shown w = none_shown bytes shown w.told
-is_shown (AtFormatThird x y n) r level bytes shown w = none_shown bytes shown w.told
-is_shown (AtFormatColon format n) r level bytes shown w = none_shown bytes shown w.told
 is_shown (InContent n) r level bytes shown w = content_shown r n level bytes shown w.0
 is_shown AtContentCr r level bytes shown w = content_shown r 0 level bytes shown w
 is_shown AtContentLf r level bytes shown w =
@@ -172,8 +147,7 @@ is_shown (AtChunk room) r level bytes shown w = streamed_shown r room [] level b
 is_shown (InChunk room n) r level bytes shown w = chunk_shown r room n [] level bytes shown w.0
 is_shown (AtChunkCr room) r level bytes shown w = chunk_shown r room 0 [] level bytes shown w
 is_shown (AtChunkLf room) r level bytes shown w = chunk_shown r room 0 (13 ∷ []) level bytes shown w
-is_shown (AtOpenCr k) r level bytes shown w = none_shown bytes shown w.told
-is_shown (AtOpenLf k) r level bytes shown w = none_shown bytes shown w.told
 is_shown AtCloseCr r level bytes shown w = absurd w
 is_shown AtCloseLf r level bytes shown w = absurd w
 is_shown (Dead c) r level bytes shown w = absurd w
+is_shown _ r level bytes shown w = none_shown bytes shown w.told

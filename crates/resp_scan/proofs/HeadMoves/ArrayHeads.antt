@@ -2,7 +2,7 @@
 use Rattle.std.proofs.Common.{◌≡◌, ◌≢◌, ℕ, ◌<◌, false, eqb, List, [], ◌∷◌, length, get_or, arith, ◌+◌, refl, sym, ap, ◌∙◌}
 use Rattle.std.proofs.lemmas.Bool.Decides.{nat_tests}
 use Rattle.resp_scan.specs.declared.machine.Head.TheVariants as head
-use Rattle.resp_scan.specs.Machine.Tokens.{Place, Move, Go, Byte, Give, Refuse, at, AtHead, AtArrayHead, Dead}
+use Rattle.resp_scan.specs.Machine.Tokens.{Place, Move, Refuse, at, AtHead, AtArrayHead, Dead}
 use Rattle.resp_value.specs.declared.cause.Cause.{Cause}
 use Rattle.resp_scan.specs.Machine.Moves.{array_head, head_first}
 use Rattle.resp_scan.specs.Machine.Room.{is_full}
@@ -10,10 +10,8 @@ use Rattle.resp_scan.specs.Machine.Scan.{Out, Bad, answer, content, scan}
 
 answer_same : (v : Move) (i : ℕ) (s t : Place) (more : Place → Out) (rest : Place → ℕ × Place) → ((c : Cause) → at s (Dead c) ≡ at t (Dead c)) →
     answer v i s more rest ≡ answer v i t more rest
-answer_same (Go u) i s t more rest q = refl
-answer_same (Byte u) i s t more rest q = refl
-answer_same (Give e u) i s t more rest q = refl
 answer_same (Refuse c) i s t more rest q = ap (λ u. Bad i c u) (q c)
+answer_same _ i s t more rest q = refl
 
 array_next : (s : Place) (used b : ℕ) → is_full s ≡ false → eqb b 45 ≡ false →
     array_head (at s AtArrayHead) used b ≡ head_first (at s (AtHead head.Array)) used head.Array b

@@ -17,13 +17,13 @@ use Rattle.resp_scan.specs.Machine.Moves.{move_unless}
 use Rattle.resp_scan.specs.Kinds.{rules_of}
 use Rattle.resp_scan.specs.Machine.Beginnings.{IsNullBegun}
 use Rattle.resp_scan.specs.Machine.Standing.{HasCountsOf, Leads, StandsAfter}
-use Rattle.resp_scan.proofs.TokenMoves.TokenLaws.{BulkHeadLeads}
 use Rattle.resp_scan.proofs.TokenMoves.ByteTests.{by_byte}
 use Rattle.resp_scan.proofs.HeadMoves.StringHeadsLead.{string_head_leads}
 use Rattle.resp_scan.proofs.HeadMoves.StringHeads.{bulk}
 use Rattle.resp_scan.proofs.TokenMoves.Moves.{goes, retold}
 use Rattle.resp_scan.proofs.TokenMoves.RefusedMoves.{fits_or_total, refused, unless_over}
 use Rattle.resp_fronts.specs.Tokens.{HasStreamed}
+use Rattle.resp_scan.proofs.TokenMoves.TokenLaws.{ALead}
 
 -- `$` alone
 abbrev IsDollar : ℕ → List ℕ → List Event → Type 0
@@ -58,7 +58,8 @@ mark_leads s used front es c w = cases s.version s.bounds.streamed refl refl
           streamed_string_off (rules_of s) level (λ two. (let x : version.Three ≡ version.Two = sym e ∙ two in absurd (cc))) o,
         ))
 
-pub bulk_head_leads : BulkHeadLeads
+-- every byte behind `$`
+pub bulk_head_leads : (s : Place) → ALead (at s AtBulkHead)
 bulk_head_leads s used byte front es is_byte c w = by_byte (at s AtBulkHead) front es 45 byte _ _
     (λ is_minus. subst (λ z. StandsAfter (at s AtNullOne) (front ++ z ∷ []) es) (sym is_minus)
     (goes (rules_of s) IsDollar (λ level bytes shown. IsNullBegun bytes × (shown ≡ [])) s.frames front (45 ∷ []) es w

@@ -23,7 +23,7 @@ use Rattle.resp_scan.specs.Machine.Moves.{head_digit}
 use Rattle.resp_scan.specs.Kinds.{IsRefusedFor, rules_of}
 use Rattle.resp_scan.specs.Machine.Beginnings.{ChunkBegun, ChunkLength, ChunksBegun}
 use Rattle.resp_scan.specs.Machine.Standing.{HasCountsOf, IsInside, Leads, StandsAfter}
-use Rattle.resp_scan.proofs.TokenMoves.TokenLaws.{ChunkHeadsLead, ChunkLengthsLead, ChunkLengthEndsLead}
+use Rattle.resp_scan.proofs.TokenMoves.TokenLaws.{ALead}
 use Rattle.resp_scan.proofs.TokenMoves.ByteTests.{by_byte, by_digit, by_test, wanted}
 use Rattle.resp_scan.proofs.TokenMoves.ChunksBegun.{are_whole, chunks_more, text_more}
 use Rattle.resp_scan.proofs.HeadMoves.HeadDigits.{head_digit_leads}
@@ -31,6 +31,7 @@ use Rattle.resp_scan.proofs.TokenMoves.LeafEvents.{given-chunked, leaf_told}
 use Rattle.resp_scan.proofs.TokenMoves.Moves.{Ends, goes, retold, value_ends}
 use Rattle.resp_scan.proofs.TokenMoves.RefusedMoves.{broken, refused}
 use Rattle.resp_value.proofs.DigitLemmas.{number-digit}
+use Rattle.resp_scan.specs.declared.machine.Head.TheVariants.{Chunk}
 
 -- Lengths.
 
@@ -95,7 +96,8 @@ chunk_digit_leads s room n used byte front es digit c w =
     (λ level bytes shown i t. with_digit r room n level byte bytes shown digit within t))
     (λ level bytes shown i t. length_row r room m level bytes shown t)
 
-pub chunk_heads_lead : ChunkHeadsLead
+-- every byte behind `;`
+pub chunk_heads_lead : (s : Place) (room : ℕ) → ALead (at s (AtHead (Chunk room)))
 chunk_heads_lead s room used byte front es is_byte c w =
     let r = rules_of s in
     let here = at s (AtHead (head.Chunk room)) in
@@ -112,7 +114,8 @@ chunk_heads_lead s room used byte front es is_byte c w =
     (λ level bytes shown t. record { digits = []; are_digits = tt; valued = refl; chunks = t }))))
     dead)
 
-pub chunk_lengths_lead : ChunkLengthsLead
+-- every byte behind the digits of a chunk's length
+pub chunk_lengths_lead : (s : Place) (room n : ℕ) → ALead (at s (InHead (Chunk room) n))
 chunk_lengths_lead s room n used byte front es is_byte c w =
     let r = rules_of s in
     let here = at s (InHead (head.Chunk room) n) in
@@ -195,7 +198,8 @@ content_begins r room n level bytes shown some w =
       told = sym (append-nil shown);
     }
 
-pub chunk_length_ends_lead : ChunkLengthEndsLead
+-- every byte behind the CR of a chunk's length
+pub chunk_length_ends_lead : (s : Place) (room n : ℕ) → ALead (at s (AtHeadLf (Chunk room) n))
 chunk_length_ends_lead s room n used byte front es is_byte c w =
     let r = rules_of s in
     let here = at s (AtHeadLf (head.Chunk room) n) in

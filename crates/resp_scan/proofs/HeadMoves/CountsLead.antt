@@ -18,19 +18,17 @@ use Rattle.resp_scan.specs.Machine.Moves.{is_digit, move_unless, only_byte}
 use Rattle.resp_scan.specs.Kinds.{rules_of}
 use Rattle.resp_scan.specs.Machine.Beginnings.{CountBegun, CountReturned}
 use Rattle.resp_scan.specs.Machine.Standing.{HasCountsOf, IsInside, Leads, StandsAfter}
-use Rattle.resp_scan.proofs.TokenMoves.TokenLaws.{CountsLead}
 use Rattle.resp_scan.proofs.TokenMoves.Moves.{goes}
 use Rattle.resp_scan.proofs.TokenMoves.RefusedMoves.{fits_or_total, refused, unless_over}
-use Rattle.resp_scan.proofs.TokenMoves.ByteTests.{by_digit}
-use Rattle.resp_scan.proofs.TokenMoves.Choices.{if_below, wants_leads}
+use Rattle.resp_scan.proofs.TokenMoves.ByteTests.{by_digit, wants_leads}
 use Rattle.resp_value.proofs.DigitLemmas.{number-digit}
+use Rattle.resp_value.proofs.Choices.{if_below}
+use Rattle.resp_scan.proofs.TokenMoves.TokenLaws.{ALead, IsOfAggregate}
 
 pub items_of-members_of : (k : Kind) (n : ℕ) → items_of k (members_of k n) ≡ n
-items_of-members_of d.Array n = refl
-items_of-members_of d.Set n = refl
 items_of-members_of d.Map n = omega arith
 items_of-members_of d.Attr n = omega arith
-items_of-members_of d.Push n = refl
+items_of-members_of _ n = refl
 
 -- behind a count's digits the line's end and the members
 pub count_row : (r : Rules) (k : Kind) (n needed level : ℕ) (bytes : List ℕ) (shown : List Event) → 3 * members_of k n + 2 ≡ needed →
@@ -122,11 +120,8 @@ count_leads s h k n needed used byte front es e c w counts ends =
     (λ digit. digit_leads p k n needed used byte (InHead h m) front es e digit c w (λ x. counts m (front ++ byte ∷ []) x))
     (λ no_digit. return_leads p k n byte (AtHeadLf h n) front es no_digit w (λ x. ends (front ++ 13 ∷ []) x))
 
-pub counts_lead : CountsLead
-counts_lead s head.Bulk n h used byte front es is_byte c w = absurd h
-counts_lead s head.BulkError n h used byte front es is_byte c w = absurd h
-counts_lead s head.Verbatim n h used byte front es is_byte c w = absurd h
-counts_lead s (head.Chunk room) n h used byte front es is_byte c w = absurd h
+-- every byte behind the digits of an aggregate's head
+pub counts_lead : (s : Place) (h : Head) (n : ℕ) → IsOfAggregate h → ALead (at s (InHead h n))
 counts_lead s head.Array n h used byte front es is_byte c w = count_leads s head.Array d.Array n ((n * 10 + (byte - 48)) * 3 + 2) used byte front es
     (omega arith) c w (λ m longer x. x) (λ longer x. x)
 counts_lead s head.Set n h used byte front es is_byte c w = count_leads s head.Set d.Set n ((n * 10 + (byte - 48)) * 3 + 2) used byte front es (omega arith) c w
@@ -137,3 +132,4 @@ counts_lead s head.Attr n h used byte front es is_byte c w = count_leads s head.
     c w (λ m longer x. x) (λ longer x. x)
 counts_lead s head.Push n h used byte front es is_byte c w = count_leads s head.Push d.Push n ((n * 10 + (byte - 48)) * 3 + 2) used byte front es (omega arith)
     c w (λ m longer x. x) (λ longer x. x)
+counts_lead s _ n h used byte front es is_byte c w = absurd h

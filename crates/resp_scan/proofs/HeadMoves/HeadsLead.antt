@@ -40,14 +40,14 @@ use Rattle.resp_scan.specs.Kinds.{rules_of}
 use Rattle.resp_scan.specs.Machine.Beginnings as b
 use Rattle.resp_scan.specs.Machine.Beginnings.{AggregateBegun, CountBegun, StreamBegun}
 use Rattle.resp_scan.specs.Machine.Standing.{HasCountsOf, IsInside, Leads, StandsAfter}
-use Rattle.resp_scan.proofs.TokenMoves.TokenLaws.{ArrayHeadLeads, HeadsLead, OpenCrLeads, OpenEndLeads}
+use Rattle.resp_scan.proofs.TokenMoves.TokenLaws.{ALead, IsOfAggregate}
 use Rattle.resp_scan.proofs.HeadMoves.CountsLead.{count_digit, count_row, items_of-members_of}
 use Rattle.resp_scan.proofs.TokenMoves.Moves.{at_level, goes}
 use Rattle.resp_scan.proofs.TokenMoves.LiteralsLead.{null_first_row}
 use Rattle.resp_scan.proofs.HeadMoves.OpensLead.{Opened, opens_lie}
 use Rattle.resp_scan.proofs.TokenMoves.RefusedMoves.{broken, fits_or_total, refused, unless_over}
-use Rattle.resp_scan.proofs.TokenMoves.ByteTests.{by_byte, by_digit}
-use Rattle.resp_scan.proofs.TokenMoves.Choices.{if_below, if_digit, if_equal, if_within, wants_leads}
+use Rattle.resp_scan.proofs.TokenMoves.ByteTests.{by_byte, by_digit, wants_leads, if_digit}
+use Rattle.resp_value.proofs.Choices.{if_equal, if_within, if_below}
 
 -- an aggregate's type byte, where the depth leaves room for one
 record MayCount (r : Rules) (k : Kind) (level : ℕ) (bytes : List ℕ) (shown : List Event) : Type 0 where
@@ -219,11 +219,8 @@ pub attribute_row : (r : Rules) (level : ℕ) (bytes : List ℕ) (shown : List E
     IsBegunBy r level bytes 6
 attribute_row r level bytes shown w = subst (λ z. IsBegunBy r level z 6) (sym w.are) (attribute_begun r level w.no_two w.below)
 
-pub heads_lead : HeadsLead
-heads_lead s head.Bulk h used byte front es is_byte c w = absurd h
-heads_lead s head.BulkError h used byte front es is_byte c w = absurd h
-heads_lead s head.Verbatim h used byte front es is_byte c w = absurd h
-heads_lead s (head.Chunk room) h used byte front es is_byte c w = absurd h
+-- every byte behind the type byte of an aggregate other than an array
+pub heads_lead : (s : Place) (h : Head) → IsOfAggregate h → ALead (at s (AtHead h))
 heads_lead s head.Array h used byte front es is_byte c w = absurd w.took
 heads_lead s head.Set h used byte front es is_byte c w =
     let p = at s (AtHead head.Set) in
@@ -248,6 +245,7 @@ heads_lead s head.Push h used byte front es is_byte c w =
     head_leads p (AggregateBegun (rules_of s) d.Push) head.Push d.Push 3 ((byte - 48) * 3 + 2) used byte _ front es (omega arith) c w
     (λ level bytes shown i t. (of_three (rules_of s) d.Push level bytes shown t, row level bytes shown t)) (λ level bytes shown t. t.are)
     (no_stream_leads p d.Push 3 byte front es (λ n can. can) w row) (λ no_mark_here no_digit. no_digit) (λ x. x)
+heads_lead s _ h used byte front es is_byte c w = absurd h
 
 -- Arrays, which version 2 has too, and whose depth is tested behind `*`.
 
@@ -338,7 +336,8 @@ array_first_leads s used byte front es no_minus below c w =
     (λ is. mark_leads p T kind.Array used byte front es is tt c w (may_count s below) (λ level i two. streamed_array_in_two r level two) below)
     (λ no_mark_here no_digit. (no_minus, no_mark_here, no_digit)) (λ x. x)
 
-pub array_head_leads : ArrayHeadLeads
+-- every byte behind `*`
+pub array_head_leads : (s : Place) → ALead (at s AtArrayHead)
 array_head_leads s used byte front es is_byte c w =
     let p = at s AtArrayHead in
     by_byte p front es 45 byte _ _
@@ -350,7 +349,8 @@ array_head_leads s used byte front es is_byte c w =
 
 -- The line of a streamed head.
 
-pub open_cr_leads : OpenCrLeads
+-- every byte behind the `?` of an aggregate's head
+pub open_cr_leads : (s : Place) (kind : OpenKind) → ALead (at s (AtOpenCr kind))
 open_cr_leads s o used byte front es is_byte c w =
     let r = rules_of s in
     let T = StreamBegun r (kind_of o) [] in
@@ -371,17 +371,11 @@ open_cr_leads s o used byte front es is_byte c w =
 
 no_items : (k : Kind) → items_of k 0 ≡ 0
 no_items d.Array = refl
-no_items d.Set = refl
-no_items d.Map = refl
-no_items d.Attr = refl
-no_items d.Push = refl
+no_items _ = refl
 
 no_missing : (k : Kind) → members_missing k Streamed 0 ≡ 0
 no_missing d.Array = refl
-no_missing d.Set = refl
-no_missing d.Map = refl
-no_missing d.Attr = refl
-no_missing d.Push = refl
+no_missing _ = refl
 
 stream_keeps : (r : Rules) (k : Kind) (behind : List ℕ) (level : ℕ) (bytes : List ℕ) (shown : List Event) → StreamBegun r k behind level bytes shown →
     NodeKeeps r WithinItems level k Streamed 0
@@ -422,7 +416,8 @@ stream_opens r o level bytes shown w =
       told = ap (λ z. z ++ e.Open (kind_of o) None ∷ []) w.told;
     }
 
-pub open_end_leads : OpenEndLeads
+-- every byte behind the CR of a streamed aggregate's head
+pub open_end_leads : (s : Place) (kind : OpenKind) → ALead (at s (AtOpenLf kind))
 open_end_leads s o used byte front es is_byte c w =
     let r = rules_of s in
     let T = StreamBegun r (kind_of o) (13 ∷ []) in

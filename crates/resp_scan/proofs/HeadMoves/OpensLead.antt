@@ -30,9 +30,10 @@ use Rattle.resp_value.specs.Kinds.{kind_of}
 use Rattle.resp_scan.specs.Kinds.{rules_of}
 use Rattle.resp_scan.specs.Machine.Beginnings.{CountReturned}
 use Rattle.resp_scan.specs.Machine.Standing.{IsInside, Leads, StandsAfter, StandsAfterAt}
-use Rattle.resp_scan.proofs.TokenMoves.TokenLaws.{HeadEndsLead}
 use Rattle.resp_scan.proofs.TokenMoves.Moves.{at_level, given-append, longer}
-use Rattle.resp_scan.proofs.TokenMoves.Choices.{wants_leads}
+use Rattle.resp_scan.proofs.TokenMoves.ByteTests.{wants_leads}
+use Rattle.resp_scan.specs.declared.machine.Head.{Head}
+use Rattle.resp_scan.proofs.TokenMoves.TokenLaws.{ALead, IsOfAggregate}
 
 -- a form in which so many members haven't begun, or have
 abbrev Shaped : Kind → Shape → Form → Type 0
@@ -136,14 +137,12 @@ head_end_leads s o n m used byte front es all w =
     (opens_lie r T s.frames front (10 ∷ []) es (e.Open (kind_of o) (Some n) ∷ []) o (Left m) w
     (λ level bytes shown i t. count_opens r o n m level bytes shown all t)))
 
-pub head_ends_lead : HeadEndsLead
-head_ends_lead s head.Bulk n h used byte front es is_byte c w = absurd h
-head_ends_lead s head.BulkError n h used byte front es is_byte c w = absurd h
-head_ends_lead s head.Verbatim n h used byte front es is_byte c w = absurd h
-head_ends_lead s (head.Chunk room) n h used byte front es is_byte c w = absurd h
+-- every byte behind the CR of an aggregate's head
+pub head_ends_lead : (s : Place) (h : Head) (n : ℕ) → IsOfAggregate h → ALead (at s (AtHeadLf h n))
 head_ends_lead s head.Array n h used byte front es is_byte c w = head_end_leads (at s (AtHeadLf head.Array n)) kind.Array n n used byte front es refl w
 head_ends_lead s head.Set n h used byte front es is_byte c w = head_end_leads (at s (AtHeadLf head.Set n)) kind.Set n n used byte front es refl w
 head_ends_lead s head.Map n h used byte front es is_byte c w = head_end_leads (at s (AtHeadLf head.Map n)) kind.Map n (n * 2) used byte front es (omega arith) w
 head_ends_lead s head.Attr n h used byte front es is_byte c w = head_end_leads (at s (AtHeadLf head.Attr n)) kind.Attr n (n * 2 + 1) used byte front es
     (omega arith) w
 head_ends_lead s head.Push n h used byte front es is_byte c w = head_end_leads (at s (AtHeadLf head.Push n)) kind.Push n n used byte front es refl w
+head_ends_lead s _ n h used byte front es is_byte c w = absurd h

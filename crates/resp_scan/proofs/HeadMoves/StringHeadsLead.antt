@@ -19,7 +19,7 @@ use Rattle.resp_scan.specs.Machine.Moves.{head_digit, head_first, is_digit, stre
 use Rattle.resp_scan.specs.Kinds.{IsRefusedFor, rules_of}
 use Rattle.resp_scan.specs.Machine.Beginnings.{HeadCounts, HeadReturned, LengthBegun}
 use Rattle.resp_scan.specs.Machine.Standing.{HasCountsOf, IsInside, Leads, StandsAfter}
-use Rattle.resp_scan.proofs.TokenMoves.TokenLaws.{StringHeadsLead, StringLengthsLead}
+use Rattle.resp_scan.proofs.TokenMoves.TokenLaws.{ALead, IsOfString}
 use Rattle.resp_scan.proofs.TokenMoves.ByteTests.{by_byte, by_digit, by_test, wanted}
 use Rattle.resp_scan.proofs.HeadMoves.HeadDigits.{head_digit_leads}
 use Rattle.resp_scan.proofs.TokenMoves.Moves.{goes, retold}
@@ -67,7 +67,8 @@ string_head_leads s h kind k used byte front es c w none =
     (λ is_mark. subst (λ z. Leads s front es byte (streamed_move s (used + 1) z)) (sym k.not_streamed) (dead (λ d. omega (arith, d.1))))
     (λ no_mark. by_digit s front es byte _ _ (λ digit. first_digit_leads s h kind k used byte front es digit c w) dead)
 
-pub string_heads_lead : StringHeadsLead
+-- every byte behind the type byte of a bulk error or a verbatim string, or behind `$`
+pub string_heads_lead : (s : Place) (h : Head) → IsOfString h → ALead (at s (AtHead h))
 string_heads_lead s head.Bulk p used byte front es is_byte c w = absurd w.took
 string_heads_lead s head.BulkError p used byte front es is_byte c w =
     string_head_leads (at s (AtHead head.BulkError)) head.BulkError t.BulkError bulk_error used byte front es c
@@ -75,12 +76,7 @@ string_heads_lead s head.BulkError p used byte front es is_byte c w =
 string_heads_lead s head.Verbatim p used byte front es is_byte c w =
     string_head_leads (at s (AtHead head.Verbatim)) head.Verbatim (t.Verbatim (zeros 3)) verbatim used byte front es c
     (retold (rules_of s) _ _ s.frames front es w (λ level bytes shown t. ((t.0, t.1), t.2))) (λ other. other)
-string_heads_lead s (head.Chunk room) p used byte front es is_byte c w = absurd p
-string_heads_lead s head.Array p used byte front es is_byte c w = absurd p
-string_heads_lead s head.Set p used byte front es is_byte c w = absurd p
-string_heads_lead s head.Map p used byte front es is_byte c w = absurd p
-string_heads_lead s head.Attr p used byte front es is_byte c w = absurd p
-string_heads_lead s head.Push p used byte front es is_byte c w = absurd p
+string_heads_lead s _ p used byte front es is_byte c w = absurd p
 
 -- a digit of a length, or its CR
 string_length_leads : (s : Place) (h : Head) (kind : StringKind) (k : IsStringHead h kind) (n used byte : ℕ) (front : List ℕ) (es : List Event) →
@@ -120,7 +116,8 @@ string_length_leads s h kind k n used byte front es c w =
     (λ short. broken r (LengthBegun r kind n) s.frames front es (head_needed h n) byte w (λ level bytes shown e t. k.row r n level bytes shown (omega arith) t)
     (λ level bytes rest shown t d. k.short r n level bytes rest shown byte short other t d)))
 
-pub string_lengths_lead : StringLengthsLead
+-- every byte behind the digits of a string's length
+pub string_lengths_lead : (s : Place) (h : Head) (n : ℕ) → IsOfString h → ALead (at s (InHead h n))
 string_lengths_lead s head.Bulk n p used byte front es is_byte c w =
     string_length_leads (at s (InHead head.Bulk n)) head.Bulk t.Bulk bulk n used byte front es c w
 string_lengths_lead s head.BulkError n p used byte front es is_byte c w =
@@ -128,8 +125,4 @@ string_lengths_lead s head.BulkError n p used byte front es is_byte c w =
 string_lengths_lead s head.Verbatim n p used byte front es is_byte c w =
     string_length_leads (at s (InHead head.Verbatim n)) head.Verbatim (t.Verbatim (zeros 3)) verbatim n used byte front es c w
 string_lengths_lead s (head.Chunk room) n p used byte front es is_byte c w = absurd p
-string_lengths_lead s head.Array n p used byte front es is_byte c w = absurd p
-string_lengths_lead s head.Set n p used byte front es is_byte c w = absurd p
-string_lengths_lead s head.Map n p used byte front es is_byte c w = absurd p
-string_lengths_lead s head.Attr n p used byte front es is_byte c w = absurd p
-string_lengths_lead s head.Push n p used byte front es is_byte c w = absurd p
+string_lengths_lead s _ n p used byte front es is_byte c w = absurd p

@@ -5,33 +5,23 @@ use Rattle.resp_value.specs.Bounds.{Bounds, AreBounds}
 use Rattle.resp_value.specs.declared.cause.Cause.{Cause}
 use Rattle.resp_value.specs.declared.version.Version.{Version}
 use Rattle.resp_scan.specs.declared.frame.Frame.{Frame}
-use Rattle.resp_scan.specs.Machine.Tokens.{Token, Place, Happening, Null, Truth, Int, Text, Digit, TextEnd, Open, Close, Move, Go, Byte, Give, Refuse, at, AtStart, AtEnd, InLine, AtLineLf, AtIntSign, AtIntFirst, InInt, AtIntLf, AtBigSign, AtBigFirst, InBigZeros, AtBigZeroLf, AtBigDigit, InBig, AtTextEnd, AtNullOne, AtNullCr, AtNullLf, AtBool, AtBoolCr, AtBoolLf, AtBulkHead, AtArrayHead, AtHead, InHead, AtHeadLf, AtFormat, AtFormatSecond, AtFormatThird, AtFormatColon, InContent, AtContentCr, AtContentLf, AtStreamCr, AtStreamLf, AtChunk, InChunk, AtChunkCr, AtChunkLf, AtOpenCr, AtOpenLf, AtCloseCr, AtCloseLf, Dead}
+use Rattle.resp_scan.specs.Machine.Tokens.{Token, Place, Happening, Digit, Move, Go, Byte, Give, Refuse, at, AtStart, AtEnd, AtBigDigit, InBig, AtTextEnd, Dead}
 use Rattle.resp_scan.specs.Machine.Moves.{is_digit, next}
 use Rattle.resp_scan.specs.Machine.Scan.{Out, More, Gave, Part, Whole, Bad, and_more, content, answer, scan, out_at_end, out_from_token, out_from}
 use Rattle.resp_scan.specs.Kinds.{rules_of}
 use Rattle.resp_scan.specs.Machine.Sound.{IsTokenSound, token_needed, need_of_frames, IsClosed, IsSoundBy, IsSound}
-use Rattle.resp_scan.proofs.Soundness.Sound.{is_outside, IsPlain, IsNext, IsInside, IsMove, is_move, sound_ended, sound_closed}
+use Rattle.resp_scan.proofs.Soundness.Sound.{is_move}
+use Rattle.resp_scan.proofs.Soundness.SoundMoves.{is_outside, IsPlain, IsNext, IsInside, IsMove}
+use Rattle.resp_scan.proofs.Soundness.SoundFrames.{sound_ended, sound_closed}
 
 -- a digit stands behind no byte
 abbrev pub IsGiven : ℕ → Happening → Type 0
-IsGiven n Null = Unit {0}
-IsGiven n (Truth v) = Unit {0}
-IsGiven n (Int i) = Unit {0}
-IsGiven n (Text k) = Unit {0}
 IsGiven n (Digit d) = (n ≡ 0) × (is_digit d ≡ true)
-IsGiven n TextEnd = Unit {0}
-IsGiven n (Open k c) = Unit {0}
-IsGiven n Close = Unit {0}
+IsGiven n _ = Unit {0}
 
 given : (n : ℕ) (e : Happening) → IsPlain e → IsGiven n e
-given n Null h = tt
-given n (Truth v) h = tt
-given n (Int i) h = tt
-given n (Text k) h = tt
 given n (Digit d) h = absurd h
-given n TextEnd h = tt
-given n (Open k c) h = tt
-given n Close h = tt
+given n _ h = tt
 
 -- what an answer says keeps what stands
 abbrev pub IsOut : Place → Out → Type 0
@@ -63,10 +53,8 @@ IsRun s r = IsNext r.0 s r.1
 
 content_next : (v : Move) (i : ℕ) (s : Place) (bs : List ℕ) → IsSoundBy i s → IsMove (i + 1) s v →
     ((t : Place) → IsSoundBy (i + 1) t → is_outside t.token ≡ false → IsRun t (content (i + 1) t bs)) → IsRun s (and_more v (i, s) (λ t. content (i + 1) t bs))
-content_next (Go t) i s bs h m f = same i s h
 content_next (Byte t) i s bs h m f = joined (i + 1) (content (i + 1) t bs).0 s t (content (i + 1) t bs).1 m (f t m.sound m.inside)
-content_next (Give e t) i s bs h m f = same i s h
-content_next (Refuse c) i s bs h m f = same i s h
+content_next _ i s bs h m f = same i s h
 
 is_content : (i : ℕ) (s : Place) (p : List ℕ) → IsSoundBy i s → is_outside s.token ≡ false → IsRun s (content i s p)
 is_content i s [] h g = same i s h
@@ -152,46 +140,7 @@ is_in (AtBigDigit d room) s p e h = (
   (refl, subst (λ v. IsTokenSound v s.bounds.depth s.frames) e h.token),
 )
 is_in (Dead c) s p e h = (same 0 s h, e)
-is_in AtStart s p e h = is_scan s p h
-is_in (InLine room) s p e h = is_scan s p h
-is_in AtLineLf s p e h = is_scan s p h
-is_in AtIntSign s p e h = is_scan s p h
-is_in (AtIntFirst negative) s p e h = is_scan s p h
-is_in (InInt negative n) s p e h = is_scan s p h
-is_in (AtIntLf negative n) s p e h = is_scan s p h
-is_in AtBigSign s p e h = is_scan s p h
-is_in (AtBigFirst negative) s p e h = is_scan s p h
-is_in (InBigZeros negative) s p e h = is_scan s p h
-is_in AtBigZeroLf s p e h = is_scan s p h
-is_in (InBig room) s p e h = is_scan s p h
-is_in AtNullOne s p e h = is_scan s p h
-is_in AtNullCr s p e h = is_scan s p h
-is_in AtNullLf s p e h = is_scan s p h
-is_in AtBool s p e h = is_scan s p h
-is_in (AtBoolCr v) s p e h = is_scan s p h
-is_in (AtBoolLf v) s p e h = is_scan s p h
-is_in AtBulkHead s p e h = is_scan s p h
-is_in AtArrayHead s p e h = is_scan s p h
-is_in (AtHead x) s p e h = is_scan s p h
-is_in (InHead x n) s p e h = is_scan s p h
-is_in (AtHeadLf x n) s p e h = is_scan s p h
-is_in (AtFormat n) s p e h = is_scan s p h
-is_in (AtFormatSecond x n) s p e h = is_scan s p h
-is_in (AtFormatThird x y n) s p e h = is_scan s p h
-is_in (AtFormatColon format n) s p e h = is_scan s p h
-is_in (InContent n) s p e h = is_scan s p h
-is_in AtContentCr s p e h = is_scan s p h
-is_in AtContentLf s p e h = is_scan s p h
-is_in AtStreamCr s p e h = is_scan s p h
-is_in AtStreamLf s p e h = is_scan s p h
-is_in (AtChunk room) s p e h = is_scan s p h
-is_in (InChunk room n) s p e h = is_scan s p h
-is_in (AtChunkCr room) s p e h = is_scan s p h
-is_in (AtChunkLf room) s p e h = is_scan s p h
-is_in (AtOpenCr k) s p e h = is_scan s p h
-is_in (AtOpenLf k) s p e h = is_scan s p h
-is_in AtCloseCr s p e h = is_scan s p h
-is_in AtCloseLf s p e h = is_scan s p h
+is_in _ s p e h = is_scan s p h
 
 pub is_advanced : (s : Place) (p : List ℕ) → IsSound s → IsOut s (out_from s p)
 is_advanced s p h = is_in s.token s p refl h

@@ -5,7 +5,7 @@ use Rattle.resp_scan.specs.declared.machine.Machine.{Machine}
 use Rattle.resp_scan.specs.declared.machine.Taken.{Taken}
 use Rattle.resp_scan.specs.declared.machine.EventTag.{EventTag}
 use Rattle.resp_scan.specs.declared.machine.EventTag.TheVariants as tag
-use Rattle.resp_scan.specs.Machine.Tokens.{Token, Place, Move, Go, Byte, Give, Refuse, AtStart, AtEnd, InLine, AtLineLf, AtIntSign, AtIntFirst, InInt, AtIntLf, AtBigSign, AtBigFirst, InBigZeros, AtBigZeroLf, AtBigDigit, InBig, AtTextEnd, AtNullOne, AtNullCr, AtNullLf, AtBool, AtBoolCr, AtBoolLf, AtBulkHead, AtArrayHead, AtHead, InHead, AtHeadLf, AtFormat, AtFormatSecond, AtFormatThird, AtFormatColon, InContent, AtContentCr, AtContentLf, AtStreamCr, AtStreamLf, AtChunk, InChunk, AtChunkCr, AtChunkLf, AtOpenCr, AtOpenLf, AtCloseCr, AtCloseLf, Dead}
+use Rattle.resp_scan.specs.Machine.Tokens.{Token, Place, Move, Go, Byte, Give, Refuse, AtEnd, AtBigDigit, AtTextEnd, Dead}
 use Rattle.resp_scan.specs.Machine.Moves.{is_digit, next}
 use Rattle.resp_scan.specs.Machine.Scan.{Out, More, Gave, Part, Whole, Bad, and_more, content, answer, scan, out_at_end, out_from_token, out_from}
 use Rattle.resp_scan.specs.Machine.Fields.{place_of, out_of, out_by}
@@ -25,10 +25,8 @@ IsWithin i l r = (i ≤ r.0) × (r.0 ≤ l)
 
 content_move : (v : Move) (i : ℕ) (s : Place) (b : ℕ) (bs : List ℕ) → ((t : Place) → IsWithin (i + 1) ((i + 1) + length bs) (content (i + 1) t bs)) →
     IsWithin i (i + length (b ∷ bs)) (and_more v (i, s) (λ t. content (i + 1) t bs))
-content_move (Go t) i s b bs h = (omega arith, omega arith)
 content_move (Byte t) i s b bs h = let w = h t in (omega (arith, w.0), omega (arith, w.1))
-content_move (Give e t) i s b bs h = (omega arith, omega arith)
-content_move (Refuse c) i s b bs h = (omega arith, omega arith)
+content_move _ i s b bs h = (omega arith, omega arith)
 
 content_within : (i : ℕ) (s : Place) (p : List ℕ) → IsWithin i (i + length p) (content i s p)
 content_within i s [] = (omega arith, omega arith)
@@ -57,46 +55,7 @@ takes_in AtEnd s p = takes_closes s s.frames p
 takes_in AtTextEnd s p = omega arith
 takes_in (AtBigDigit d room) s p = omega arith
 takes_in (Dead c) s p = omega arith
-takes_in AtStart s p = takes_scan s p
-takes_in (InLine room) s p = takes_scan s p
-takes_in AtLineLf s p = takes_scan s p
-takes_in AtIntSign s p = takes_scan s p
-takes_in (AtIntFirst negative) s p = takes_scan s p
-takes_in (InInt negative n) s p = takes_scan s p
-takes_in (AtIntLf negative n) s p = takes_scan s p
-takes_in AtBigSign s p = takes_scan s p
-takes_in (AtBigFirst negative) s p = takes_scan s p
-takes_in (InBigZeros negative) s p = takes_scan s p
-takes_in AtBigZeroLf s p = takes_scan s p
-takes_in (InBig room) s p = takes_scan s p
-takes_in AtNullOne s p = takes_scan s p
-takes_in AtNullCr s p = takes_scan s p
-takes_in AtNullLf s p = takes_scan s p
-takes_in AtBool s p = takes_scan s p
-takes_in (AtBoolCr v) s p = takes_scan s p
-takes_in (AtBoolLf v) s p = takes_scan s p
-takes_in AtBulkHead s p = takes_scan s p
-takes_in AtArrayHead s p = takes_scan s p
-takes_in (AtHead x) s p = takes_scan s p
-takes_in (InHead x n) s p = takes_scan s p
-takes_in (AtHeadLf x n) s p = takes_scan s p
-takes_in (AtFormat n) s p = takes_scan s p
-takes_in (AtFormatSecond x n) s p = takes_scan s p
-takes_in (AtFormatThird x y n) s p = takes_scan s p
-takes_in (AtFormatColon format n) s p = takes_scan s p
-takes_in (InContent n) s p = takes_scan s p
-takes_in AtContentCr s p = takes_scan s p
-takes_in AtContentLf s p = takes_scan s p
-takes_in AtStreamCr s p = takes_scan s p
-takes_in AtStreamLf s p = takes_scan s p
-takes_in (AtChunk room) s p = takes_scan s p
-takes_in (InChunk room n) s p = takes_scan s p
-takes_in (AtChunkCr room) s p = takes_scan s p
-takes_in (AtChunkLf room) s p = takes_scan s p
-takes_in (AtOpenCr k) s p = takes_scan s p
-takes_in (AtOpenLf k) s p = takes_scan s p
-takes_in AtCloseCr s p = takes_scan s p
-takes_in AtCloseLf s p = takes_scan s p
+takes_in _ s p = takes_scan s p
 
 pub takes_advanced : (s : Place) (p : List ℕ) → Takes (length p) (out_from s p)
 takes_advanced s p = takes_in s.token s p

@@ -15,7 +15,9 @@ use Rattle.resp_scan.specs.Machine.Room.{begun_count, innermost}
 use Rattle.resp_scan.specs.Machine.Moves.{may_close}
 use Rattle.resp_scan.specs.Machine.Fields.{place_of, token_at}
 use Rattle.resp_scan.specs.Machine.Sound.{IsWithinRoom, IsOpen, IsOpenShape, need_of_frame, need_of_frames, IsSound, AreCounted, token_needed}
-use Rattle.resp_scan.proofs.Soundness.Sound.{cond_if, head_more, closes_three}
+use Rattle.resp_scan.proofs.Soundness.SoundMoves.{cond_if}
+use Rattle.resp_scan.proofs.Soundness.SoundHeads.{head_more}
+use Rattle.resp_scan.proofs.Soundness.SoundFrames.{closes_three}
 
 -- the place of a machine whose state is known
 there : (m : Machine) (x : State) → IsSound (place_of m) → m.state ≡ x → IsSound (at (place_of m) (token_at x m))

@@ -32,8 +32,8 @@ use Rattle.resp_scan.specs.Machine.Standing.{AwaitsMember, HasCountsOf, HasBegun
 use Rattle.resp_scan.specs.Machine.Sound.{need_of_frame, need_of_frames}
 use Rattle.resp_scan.proofs.TokenMoves.Moves.{length-busy}
 use Rattle.resp_scan.proofs.TokenMoves.RefusedMoves.{fits_or_past, unless_over}
-use Rattle.resp_scan.proofs.TokenMoves.Choices.{if_equal, positive}
 use Rattle.resp_fronts.specs.OpenLevels.{AreLevelsOf, AreReady, HasShape, Level, to_come, so_far}
+use Rattle.resp_value.proofs.Choices.{if_equal, positive}
 
 pub length-waiting : (fs : List Frame) → length (waiting_levels fs) ≡ length fs
 length-waiting [] = refl
@@ -87,15 +87,13 @@ need_is kind.Map (Begun m) frames_need others some_left e =
 -- items let one more begin in a streamed aggregate
 room_in : (r : Rules) (k : OpenKind) (m : ℕ) → items_of (kind_of k) (m + members_missing (kind_of k) Streamed m) ≤ r.limits.items →
     has_all_of k m r.limits.items ≡ false → items_of (kind_of k) (room (kind_of k) m) ≤ r.limits.items
-room_in r kind.Array m keeps e = grind (arith, nat_tests)
-room_in r kind.Set m keeps e = grind (arith, nat_tests)
-room_in r kind.Push m keeps e = grind (arith, nat_tests)
 room_in r kind.Attr m keeps e = let below : m < r.limits.items = grind (arith, nat_tests) in omega (arith, below)
 room_in r kind.Map m keeps e =
     if_equal (m % 2) 0 (λ x. (x && nat_le r.limits.items (m / 2)) ≡ false → (m + 1 + (m + 1) % 2) / 2 ≤ r.limits.items)
     (λ even z. let below : m / 2 < r.limits.items = grind (arith, nat_tests) in omega (arith, below, even))
     (λ odd z. omega (arith, keeps, positive (m % 2) odd))
     e
+room_in r _ m keeps e = grind (arith, nat_tests)
 
 -- or do not
 full_in : (r : Rules) (k : OpenKind) (m n : ℕ) → HasMembers (kind_of k) Streamed n → has_all_of k m r.limits.items ≡ true →

@@ -23,14 +23,14 @@ use Rattle.resp_scan.specs.Kinds.{content_events, rules_of}
 use Rattle.resp_scan.specs.Machine.Beginnings as b
 use Rattle.resp_scan.specs.Machine.Beginnings.{BigBegun, BigDigitOwed, BigShown, IsSigned, SignBegun, TextReturned, TextWhole, ZeroReturned}
 use Rattle.resp_scan.specs.Machine.Standing.{HasCountsOf, IsInside, Leads, StandsAfter}
-use Rattle.resp_scan.proofs.TokenMoves.TokenLaws.{BigSignLeads, BigFirstLeads, BigZerosLead, BigZeroEndLeads, BigDigitIsOwed, BigLeads, TextEndIsOwed}
+use Rattle.resp_scan.proofs.TokenMoves.TokenLaws.{ALead}
 use Rattle.resp_scan.proofs.TokenMoves.LeafEvents.{content_events-append, given-big, leaf_told}
 use Rattle.resp_scan.proofs.TokenMoves.Moves.{Ends, goes, tells, value_ends}
 use Rattle.resp_scan.proofs.TokenMoves.NumbersLead.{AnySign, begun_dead, digits_dead, digits_row, signed_any, signs_lead, unsigned_any}
 use Rattle.resp_scan.proofs.TokenMoves.RefusedMoves.{broken, fits_or_total, refused}
-use Rattle.resp_scan.proofs.TokenMoves.ByteTests.{by_byte, by_digit}
-use Rattle.resp_scan.proofs.TokenMoves.Choices.{if_equal, positive, wants_leads}
+use Rattle.resp_scan.proofs.TokenMoves.ByteTests.{by_byte, by_digit, wants_leads}
 use Rattle.resp_value.proofs.DigitLemmas.{number-digit}
+use Rattle.resp_value.proofs.Choices.{if_equal, positive}
 
 -- Digits without leading zeros.
 
@@ -173,13 +173,15 @@ first_leads s T negative byte front es roomy w any =
     (λ d. broken r T s.frames front es 3 byte w (λ level bytes shown i t. let a = any level bytes shown t in number_begun r Big a.sign level bytes a.token)
     (λ level bytes rest shown t c. let a = any level bytes shown t in begun_dead r Big a.sign level byte bytes rest a.no_sign d a.token c))
 
-pub big_sign_leads : BigSignLeads
+-- every byte behind `(`
+pub big_sign_leads : (s : Place) → ALead (at s AtBigSign)
 big_sign_leads s used byte front es is_byte c w =
     signs_lead (at s AtBigSign) Big AtBigFirst used byte _ front es c w (λ sign level bytes t. t.0) (λ negative x. x)
     (λ no_plus no_minus. first_leads (at s AtBigSign) (b.TokenHas (rules_of s) AtBigSign) false byte front es c.sound.bounds.length_in_range.0 w
     (λ level bytes shown t. unsigned_any (rules_of s) Big byte level bytes shown no_plus no_minus t))
 
-pub big_first_leads : BigFirstLeads
+-- every byte behind a big number's sign
+pub big_first_leads : (s : Place) (negative : Bool) → ALead (at s (AtBigFirst negative))
 big_first_leads s negative used byte front es is_byte c w =
     first_leads (at s (AtBigFirst negative)) (SignBegun (rules_of s) Big negative) negative byte front es c.sound.bounds.length_in_range.0 w
     (λ level bytes shown t. signed_any (rules_of s) Big negative byte level bytes shown t)
@@ -218,7 +220,8 @@ zeros_digit_leads s negative used byte front es d c w =
     (big_digit (at s (InBigZeros negative)) negative byte) c (goes r T _ s.frames front (byte ∷ []) es w
     (λ level bytes shown i t. digit other level bytes shown t)) (λ level bytes shown i t. row_of r negative (byte ∷ []) level bytes t) leads)
 
-pub big_zeros_lead : BigZerosLead
+-- every byte behind a big number's zeros
+pub big_zeros_lead : (s : Place) (negative : Bool) → ALead (at s (InBigZeros negative))
 big_zeros_lead s negative used byte front es is_byte c w =
     let r = rules_of s in
     by_digit (at s (InBigZeros negative)) front es byte _ _
@@ -249,7 +252,8 @@ zero_ends r level bytes shown w =
           ap (λ x. without_places (big_events false x last)) w.left ∙ ap (λ z. (z ++ e.Text (e.Big false) ∷ []) ++ e.TextEnd ∷ []) (sym w.told);
     }
 
-pub big_zero_end_leads : BigZeroEndLeads
+-- every byte behind the CR of a big number of zeros alone
+pub big_zero_end_leads : (s : Place) → ALead (at s AtBigZeroLf)
 big_zero_end_leads s used byte front es is_byte c w =
     let r = rules_of s in
     wants_leads (at s AtBigZeroLf) (ZeroReturned r) front es 1 byte 10 (Give (k.Text (text.Big false)) (at s AtTextEnd)) w
@@ -273,7 +277,8 @@ digit_shown r digit room level bytes shown w = record {
   told = ap (λ z. z ++ e.Byte digit ∷ []) w.told;
 }
 
-pub big_digit_is_owed : BigDigitIsOwed
+-- the digit that is owed is given without a byte
+pub big_digit_is_owed : (s : Place) (digit room : ℕ) (front : List ℕ) (es : List Event) → StandsAfter (at s (AtBigDigit digit room)) front es → StandsAfter (at s (InBig room)) front (es ++ e.Byte digit ∷ [])
 big_digit_is_owed s digit room front es w =
     let r = rules_of s in
     subst (λ z. StandsAfter (at s (InBig room)) z (es ++ e.Byte digit ∷ [])) (append-nil front)
@@ -290,7 +295,8 @@ text_ends r level bytes shown w = record {
       leaf_told w.leaf (shown ++ e.TextEnd ∷ []) w.told;
 }
 
-pub text_end_is_owed : TextEndIsOwed
+-- the end of a text that is owed is given without a byte
+pub text_end_is_owed : (s : Place) (front : List ℕ) (es : List Event) → StandsAfter (at s AtTextEnd) front es → StandsAfter (at_boundary s) front (es ++ e.TextEnd ∷ [])
 text_end_is_owed s front es w =
     let r = rules_of s in
     subst (λ z. StandsAfter (at_boundary s) z (es ++ e.TextEnd ∷ [])) (append-nil front)
@@ -371,7 +377,8 @@ big_byte_leads s room used byte front es d c w =
     fits_or_total (at s (InBig room)) (BigShown r (room - 1)) front es (es ++ e.Byte byte ∷ []) used byte 2 (Byte (at s (InBig (room - 1)))) c more
     (λ level bytes shown i t. shown_row r (room - 1) level bytes shown t) more)
 
-pub big_leads : BigLeads
+-- every byte behind a big number's digits
+pub big_leads : (s : Place) (room : ℕ) → ALead (at s (InBig room))
 big_leads s room used byte front es is_byte c w =
     let r = rules_of s in
     by_digit (at s (InBig room)) front es byte _ _

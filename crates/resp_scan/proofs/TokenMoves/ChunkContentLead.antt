@@ -21,7 +21,7 @@ use Rattle.resp_scan.specs.Machine.Heads.{chunk_at}
 use Rattle.resp_scan.specs.Kinds.{content_events, rules_of}
 use Rattle.resp_scan.specs.Machine.Beginnings.{ChunkBegun, ChunksBegun}
 use Rattle.resp_scan.specs.Machine.Standing.{IsInside, Leads, StandsAfter}
-use Rattle.resp_scan.proofs.TokenMoves.TokenLaws.{ChunkContentLeads, ChunkReturnsLead, ChunkEndsLead}
+use Rattle.resp_scan.proofs.TokenMoves.TokenLaws.{ALead}
 use Rattle.resp_scan.proofs.TokenMoves.ByteTests.{wanted}
 use Rattle.resp_scan.proofs.TokenMoves.ChunksBegun.{are_whole, chunks_more, text_more}
 use Rattle.resp_scan.proofs.TokenMoves.LeafEvents.{content_events-append}
@@ -66,7 +66,8 @@ chunk_more r room n level byte bytes shown is_byte some w =
           ap (λ z. w.before ++ z) (sym (content_events-append w.part (byte ∷ [])));
     }
 
-pub chunk_content_leads : ChunkContentLeads
+-- every byte within a chunk's content
+pub chunk_content_leads : (s : Place) (room n : ℕ) → ALead (at s (InChunk room n))
 chunk_content_leads s room n used byte front es is_byte c w =
     let r = rules_of s in
     chunk_lies s room (n - 1) (front ++ byte ∷ []) (es ++ e.Byte byte ∷ [])
@@ -104,7 +105,8 @@ content_row r room n level bytes shown w =
     (fits r room n [] level bytes shown w) in
     subst (λ z. IsBegunBy r level z (n + 6)) (ap (λ z. streamed_text w.chunks.chunks (chunk_text w.digits z)) (sym (append-nil w.part)) ∙ sym w.chunks.are) row
 
-pub chunk_returns_lead : ChunkReturnsLead
+-- every byte behind a chunk's content
+pub chunk_returns_lead : (s : Place) (room : ℕ) → ALead (at s (AtChunkCr room))
 chunk_returns_lead s room used byte front es is_byte c w =
     let r = rules_of s in
     let v = Go (at s (AtChunkLf room)) in
@@ -148,7 +150,8 @@ returned_row r room level bytes shown w =
     ap (λ z. streamed_text cs z) (text_grows w.digits w.part (13 ∷ [])) ∙ sym w.chunks.are in
     subst (λ z. IsBegunBy r level z 5) e row
 
-pub chunk_ends_lead : ChunkEndsLead
+-- every byte behind the CR of a chunk's content
+pub chunk_ends_lead : (s : Place) (room : ℕ) → ALead (at s (AtChunkLf room))
 chunk_ends_lead s room used byte front es is_byte c w =
     let r = rules_of s in
     let v = Go (at s (AtChunk room)) in

@@ -25,10 +25,10 @@ use Rattle.resp_scan.specs.Machine.Tokens as k
 use Rattle.resp_scan.specs.Machine.Tokens.{Give, Go, Move, Place, Refuse, AtCloseCr, AtCloseLf, AtEnd, at, at_boundary, token_at_boundary}
 use Rattle.resp_scan.specs.Machine.Moves.{only_byte, without_first}
 use Rattle.resp_scan.specs.Kinds.{IsRefusedFor, rules_of}
-use Rattle.resp_scan.specs.Machine.Standing.{IsClosing, IsClosingIn, Leads, StandsAfterAt, busy_levels}
-use Rattle.resp_scan.proofs.TokenMoves.TokenLaws.{CloseIsOwed, CloseCrLeads, CloseEndLeads}
+use Rattle.resp_scan.specs.Machine.Standing.{IsClosing, IsClosingIn, Leads, StandsAfterAt, busy_levels, StandsAfter}
+use Rattle.resp_scan.proofs.TokenMoves.TokenLaws.{ALead}
 use Rattle.resp_scan.proofs.TokenMoves.Moves.{given-append, longer, value_lies}
-use Rattle.resp_scan.proofs.TokenMoves.Choices.{if_equal}
+use Rattle.resp_value.proofs.Choices.{if_equal}
 
 -- the rest of the close ends the aggregate
 closing_ends : (r : Rules) (k : OpenKind) (fs : List Frame) (last rest front : List ℕ) (es : List Event) → IsClosing r k fs last rest front es →
@@ -45,7 +45,8 @@ closing_ends r k fs last rest front es w =
     (ap (λ z. z ++ e.Close ∷ []) w.told ∙ sym (given-append (events_around (f ∷ w.outer)) (close_event from (text tree) ∷ [])) ∙
     ap without_places (events-closed f w.outer) ∙ given-append (events_around w.outer) (events from tree))
 
-pub close_is_owed : CloseIsOwed
+-- the close that is owed is given without a byte
+pub close_is_owed : (s : Place) (f : Frame) (fs : List Frame) (front : List ℕ) (es : List Event) → StandsAfter (record s { token = AtEnd; frames = f ∷ fs }) front es → StandsAfter (at_boundary (record s { frames = fs })) front (es ++ e.Close ∷ [])
 close_is_owed s f fs front es w =
     subst (λ z. StandsAfterAt (rules_of s) (token_at_boundary fs) fs z (es ++ e.Close ∷ [])) (append-nil front)
     (closing_ends (rules_of s) f.kind fs [] [] front es w)
@@ -117,7 +118,8 @@ no_newline r k fs front es byte other w rest c =
     let is : 13 ∷ byte ∷ rest ≡ 13 ∷ 10 ∷ x.0 = x.1 in
     other cc
 
-pub close_cr_leads : CloseCrLeads
+-- every byte behind the `.` of a close
+pub close_cr_leads : (s : Place) → ALead (at s AtCloseCr)
 close_cr_leads s used byte front es is_byte c w = case s.frames w
   where
     case : (fs : List Frame) → IsClosingIn (rules_of s) fs (46 ∷ []) (13 ∷ 10 ∷ []) front es →
@@ -129,7 +131,8 @@ close_cr_leads s used byte front es is_byte c w = case s.frames w
         (closes_more (rules_of s) f.kind fs (46 ∷ []) (10 ∷ []) front es 13 w))
         (λ other. syntax (rules_of s) (front ++ byte ∷ []) (no_return (rules_of s) f.kind fs front es byte other w))
 
-pub close_end_leads : CloseEndLeads
+-- every byte behind a close's CR
+pub close_end_leads : (s : Place) → ALead (at s AtCloseLf)
 close_end_leads s used byte front es is_byte c w = case s.frames w
   where
     case : (fs : List Frame) → IsClosingIn (rules_of s) fs (46 ∷ 13 ∷ []) (10 ∷ []) front es →

@@ -15,7 +15,7 @@ use Rattle.resp_scan.specs.Machine.Heads.{content_at}
 use Rattle.resp_scan.specs.Kinds.{rules_of}
 use Rattle.resp_scan.specs.Machine.Beginnings.{ContentBegun, ContentReturned, string_text_kind}
 use Rattle.resp_scan.specs.Machine.Standing.{IsInside, StandsAfter}
-use Rattle.resp_scan.proofs.TokenMoves.TokenLaws.{ContentLeads, ContentReturnsLead, ContentEndsLead}
+use Rattle.resp_scan.proofs.TokenMoves.TokenLaws.{ALead}
 use Rattle.resp_scan.proofs.TokenMoves.ByteTests.{wanted}
 use Rattle.resp_scan.proofs.TokenMoves.LeafEvents.{content_events-append, given-string, leaf_told}
 use Rattle.resp_scan.proofs.TokenMoves.Moves.{Ends, goes, retold, tells, value_ends}
@@ -42,13 +42,15 @@ content_more r n level byte bytes shown is_byte some w = record {
   told = ap (λ z. z ++ e.Byte byte ∷ []) w.told ∙ ap (λ z. e.Text (string_text_kind w.kind) ∷ z) (sym (content_events-append w.part (byte ∷ [])));
 }
 
-pub content_leads : ContentLeads
+-- every byte within a string's content
+pub content_leads : (s : Place) (n : ℕ) → ALead (at s (InContent n))
 content_leads s n used byte front es is_byte c w =
     content_lies s (n - 1) (front ++ byte ∷ []) (es ++ e.Byte byte ∷ [])
     (tells (rules_of s) (λ level bytes shown. ContentBegun (rules_of s) n level bytes shown × (0 < n)) (ContentBegun (rules_of s) (n - 1)) s.frames front
     (byte ∷ []) es (e.Byte byte ∷ []) w (λ level bytes shown i t. content_more (rules_of s) n level byte bytes shown is_byte t.1 t.0))
 
-pub content_returns_lead : ContentReturnsLead
+-- every byte behind a string's content
+pub content_returns_lead : (s : Place) → ALead (at s AtContentCr)
 content_returns_lead s used byte front es is_byte c w = wanted (at s AtContentCr) front es 13 byte (Go (at s AtContentLf))
     (λ is_return. subst (λ z. StandsAfter (at s AtContentLf) (front ++ z ∷ []) es) (sym is_return)
     (goes (rules_of s) (ContentBegun (rules_of s) 0) (ContentReturned (rules_of s)) s.frames front (13 ∷ []) es w
@@ -71,7 +73,8 @@ content_ends_value r level bytes shown w =
           ap (λ z. z ++ e.TextEnd ∷ []) (sym t.told));
     }
 
-pub content_ends_lead : ContentEndsLead
+-- every byte behind the CR of a string's content
+pub content_ends_lead : (s : Place) → ALead (at s AtContentLf)
 content_ends_lead s used byte front es is_byte c w = wanted (at s AtContentLf) front es 10 byte (Give TextEnd (at_boundary s))
     (λ is_newline. subst (λ z. StandsAfter (at_boundary s) (front ++ z ∷ []) (es ++ e.TextEnd ∷ [])) (sym is_newline)
     (value_ends (rules_of s) (ContentReturned (rules_of s)) s.frames front (10 ∷ []) es (e.TextEnd ∷ []) w

@@ -8,7 +8,6 @@ use Rattle.resp_scan.specs.Machine.Tokens.{Place, Token, at, AtStart, AtEnd, InL
 use Rattle.resp_scan.specs.Machine.Moves.{next}
 use Rattle.resp_scan.specs.Machine.Standing.{HasCountsOf, Leads, StandsAfter}
 use Rattle.resp_scan.proofs.TokenMoves.TokenLaws.{ALead}
-use Rattle.resp_scan.proofs.Soundness.Sound.{is_outside}
 use Rattle.resp_scan.proofs.TokenMoves.BigNumbersLead.{big_first_leads, big_leads, big_sign_leads, big_zero_end_leads, big_zeros_lead}
 use Rattle.resp_scan.proofs.HeadMoves.BulkHeadLeads.{bulk_head_leads}
 use Rattle.resp_scan.proofs.TokenMoves.ChunkContentLead.{chunk_content_leads, chunk_ends_lead, chunk_returns_lead}
@@ -26,6 +25,7 @@ use Rattle.resp_scan.proofs.TokenMoves.StartLeads.{start_leads}
 use Rattle.resp_scan.proofs.TokenMoves.StreamsLead.{chunks_lead, stream_ends_lead, streams_lead}
 use Rattle.resp_scan.proofs.HeadMoves.StringHeadsLead.{string_heads_lead, string_lengths_lead}
 use Rattle.resp_scan.proofs.TokenMoves.StringLengthEndsLead.{string_length_ends_lead}
+use Rattle.resp_scan.proofs.Soundness.SoundMoves.{is_outside}
 
 -- a token at which no byte is looked at has none
 abbrev pub IsLookedAt : Token → ℕ → Type 0

@@ -7,12 +7,12 @@ use Rattle.resp_fronts.specs.Events as e
 use Rattle.resp_fronts.proofs.Tokens.ContentTokens.{content_begun}
 use Rattle.resp_fronts.proofs.Tokens.PayloadTokens.{format_broken, format_ends, format_more}
 use Rattle.resp_scan.specs.declared.event.TextKind.TheVariants as text
-use Rattle.resp_scan.specs.Machine.Tokens.{Place, Give, Text, AtFormatColon, at}
+use Rattle.resp_scan.specs.Machine.Tokens.{Place, Give, Text, AtFormatColon, at, AtFormat, AtFormatSecond, AtFormatThird}
 use Rattle.resp_scan.specs.Machine.Heads.{content_at}
 use Rattle.resp_scan.specs.Kinds.{rules_of}
 use Rattle.resp_scan.specs.Machine.Beginnings.{ContentBegun, FormatBegun}
 use Rattle.resp_scan.specs.Machine.Standing.{IsInside, Leads}
-use Rattle.resp_scan.proofs.TokenMoves.TokenLaws.{FormatsLead, SecondFormatBytesLead, ThirdFormatBytesLead, ColonsLead}
+use Rattle.resp_scan.proofs.TokenMoves.TokenLaws.{ALead}
 use Rattle.resp_scan.proofs.TokenMoves.ByteTests.{wanted}
 use Rattle.resp_scan.proofs.TokenMoves.ContentLead.{content_lies}
 use Rattle.resp_scan.proofs.TokenMoves.Moves.{goes, tells}
@@ -35,13 +35,16 @@ format_byte_goes s before behind left next byte front es is_byte fewer w =
       told = f.told;
     })
 
-pub formats_lead : FormatsLead
+-- every byte where a verbatim string's format begins
+pub formats_lead : (s : Place) (n : ℕ) → ALead (at s (AtFormat n))
 formats_lead s n used byte front es is_byte c w = format_byte_goes s [] 2 n (n - 1) byte front es is_byte refl w
 
-pub second_format_bytes_lead : SecondFormatBytesLead
+-- every byte behind the first byte of a format
+pub second_format_bytes_lead : (s : Place) (x n : ℕ) → ALead (at s (AtFormatSecond x n))
 second_format_bytes_lead s x n used byte front es is_byte c w = format_byte_goes s (x ∷ []) 1 (n - 1) (n - 2) byte front es is_byte (omega arith) w
 
-pub third_format_bytes_lead : ThirdFormatBytesLead
+-- every byte behind the second byte of a format
+pub third_format_bytes_lead : (s : Place) (x y n : ℕ) → ALead (at s (AtFormatThird x y n))
 third_format_bytes_lead s x y n used byte front es is_byte c w = format_byte_goes s (x ∷ y ∷ []) 0 (n - 2) (n - 3) byte front es is_byte (omega arith) w
 
 colon_begins : (r : Rules) (format : List ℕ) (n level : ℕ) (bytes : List ℕ) (shown : List Event) → FormatBegun r format format (n - 3) level bytes shown →
@@ -56,7 +59,8 @@ colon_begins r format n level bytes shown f = record {
   told = ap (λ z. z ++ e.Text (e.Verbatim format) ∷ []) f.told;
 }
 
-pub colons_lead : ColonsLead
+-- every byte behind a format
+pub colons_lead : (s : Place) (format : List ℕ) (n : ℕ) → ALead (at s (AtFormatColon format n))
 colons_lead s format n used byte front es is_byte c w =
     let r = rules_of s in
     let v = Give (Text (text.Verbatim format)) (content_at (n - 4) s) in

@@ -17,7 +17,7 @@ use Rattle.resp_scan.specs.Machine.Moves.{content_byte}
 use Rattle.resp_scan.specs.Kinds.{content_events, rules_of}
 use Rattle.resp_scan.specs.Machine.Beginnings.{LineBegun, TextReturned, line_text_kind}
 use Rattle.resp_scan.specs.Machine.Standing.{HasCountsOf, Leads, StandsAfter}
-use Rattle.resp_scan.proofs.TokenMoves.TokenLaws.{LinesLead, LineEndsLead}
+use Rattle.resp_scan.proofs.TokenMoves.TokenLaws.{ALead}
 use Rattle.resp_scan.proofs.TokenMoves.LeafEvents.{content_events-append, given-line, leaf_told}
 use Rattle.resp_scan.proofs.TokenMoves.Moves.{Ends, goes, tells, value_ends}
 use Rattle.resp_scan.proofs.TokenMoves.RefusedMoves.{broken, fits_or_total, refused}
@@ -29,8 +29,7 @@ line_row r room level bytes shown w = line_begun r (line w.kind w.token.content)
 -- it is no big number
 text_of_line : (k : LineKind) (negative : Bool) (es : List Event) → e.Text (line_text_kind k) ∷ es ≡ e.Text (e.Big negative) ∷ [] → ⊥
 text_of_line t.Simple negative es same = cc
-text_of_line t.Error negative es same = cc
-text_of_line t.Double negative es same = cc
+text_of_line _ negative es same = cc
 
 -- its CR
 line_returns : (r : Rules) (room level : ℕ) (bytes : List ℕ) (shown : List Event) → LineBegun r room level bytes shown →
@@ -75,7 +74,8 @@ line_byte_leads s room used byte front es is_byte no_return no_newline c w =
           (λ level bytes shown e t. line_row r (room - 1) level bytes shown t) more
     ] refl
 
-pub lines_lead : LinesLead
+-- every byte within a line
+pub lines_lead : (s : Place) (room : ℕ) → ALead (at s (InLine room))
 lines_lead s room used byte front es is_byte c w =
     let r = rules_of s in
     elim (eqb byte 13) as (λ x. eqb byte 13 ≡ x → Leads (at s (InLine room)) front es byte
@@ -108,7 +108,8 @@ returned_text_ends r level bytes shown w =
       told = leaf_told w.leaf (shown ++ e.TextEnd ∷ []) w.told;
     }
 
-pub line_ends_lead : LineEndsLead
+-- every byte behind a line's CR
+pub line_ends_lead : (s : Place) → ALead (at s AtLineLf)
 line_ends_lead s used byte front es is_byte c w =
     let r = rules_of s in
     elim (eqb byte 10) as (λ x. eqb byte 10 ≡ x → Leads (at s AtLineLf) front es byte (cond x (Give TextEnd (at_boundary s)) (Refuse cause.Syntax))) [

@@ -19,11 +19,11 @@ use Rattle.resp_scan.specs.Kinds.{rules_of}
 use Rattle.resp_scan.specs.Machine.Beginnings as b
 use Rattle.resp_scan.specs.Machine.Beginnings.{IsNullBegun, NullLine, NullReturned}
 use Rattle.resp_scan.specs.Machine.Standing.{Leads, StandsAfter}
-use Rattle.resp_scan.proofs.TokenMoves.TokenLaws.{NullOneLeads, NullCrLeads, NullEndLeads, BoolLeads, BoolCrLeads, BoolEndLeads}
+use Rattle.resp_scan.proofs.TokenMoves.TokenLaws.{ALead}
 use Rattle.resp_scan.proofs.TokenMoves.Moves.{Ends, goes, value_ends}
-use Rattle.resp_scan.proofs.TokenMoves.ByteTests.{by_byte}
-use Rattle.resp_scan.proofs.TokenMoves.Choices.{if_equal, wants_leads}
+use Rattle.resp_scan.proofs.TokenMoves.ByteTests.{by_byte, wants_leads}
 use Rattle.resp_fronts.specs.Tokens.{IsLineOf, IsReturned}
+use Rattle.resp_value.proofs.Choices.{if_equal}
 
 -- Nulls.
 
@@ -65,7 +65,8 @@ null_whole r level bytes shown none (inr is) = record {
   told = none;
 }
 
-pub null_one_leads : NullOneLeads
+-- every byte behind `$-` or `*-`
+pub null_one_leads : (s : Place) → ALead (at s AtNullOne)
 null_one_leads s used byte front es is_byte c w =
     let r = rules_of s in
     wants_leads (at s AtNullOne) (b.TokenHas r AtNullOne) front es 3 byte 49 (Go (at s AtNullCr)) w
@@ -84,7 +85,8 @@ null_dead r form level byte bytes rest other w c =
     (subst IsLine w.is_line (no_break_in_line r (null form) level bytes w)) other (null_broken form byte)
     (subst (λ z. CompletesUnder r Grammar level z (byte ∷ rest)) w.is_line c)
 
-pub null_cr_leads : NullCrLeads
+-- every byte behind the line of a null
+pub null_cr_leads : (s : Place) → ALead (at s AtNullCr)
 null_cr_leads s used byte front es is_byte c w =
     let r = rules_of s in
     wants_leads (at s AtNullCr) (NullLine r) front es 2 byte 13 (Go (at s AtNullLf)) w
@@ -104,7 +106,8 @@ null_ends r level bytes shown w = record {
   told = λ from. ap (λ z. z ++ e.Null ∷ []) (sym w.told);
 }
 
-pub null_end_leads : NullEndLeads
+-- every byte behind a null's CR
+pub null_end_leads : (s : Place) → ALead (at s AtNullLf)
 null_end_leads s used byte front es is_byte c w =
     let r = rules_of s in
     wants_leads (at s AtNullLf) (NullReturned r) front es 1 byte 10 (Give k.Null (at_boundary s)) w
@@ -134,7 +137,8 @@ goes_true : (s : Place) (x : Bool) (byte : ℕ) (front : List ℕ) (es : List Ev
 goes_true s x byte front es is w = goes (rules_of s) (b.TokenHas (rules_of s) AtBool) (b.TokenHas (rules_of s) (AtBoolCr x)) s.frames front (byte ∷ []) es w
     (λ level bytes shown i t. (truth_is (rules_of s) x level byte bytes t.0 is t.1, t.2))
 
-pub bool_leads : BoolLeads
+-- every byte behind `#`
+pub bool_leads : (s : Place) → ALead (at s AtBool)
 bool_leads s used byte front es is_byte c w =
     let r = rules_of s in
     by_byte (at s AtBool) front es 116 byte _ _
@@ -150,7 +154,8 @@ truth_dead r x level byte bytes rest other w c =
     byte_broken (LeafKeeps r Grammar) (NodeKeeps r Grammar) level (truth_line x) rest byte (subst IsLine w.is_line (no_break_in_line r (truth x) level bytes w))
     other (truth_broken x byte) (subst (λ z. CompletesUnder r Grammar level z (byte ∷ rest)) w.is_line c)
 
-pub bool_cr_leads : BoolCrLeads
+-- every byte behind the letter of a boolean
+pub bool_cr_leads : (s : Place) (truth : Bool) → ALead (at s (AtBoolCr truth))
 bool_cr_leads s x used byte front es is_byte c w =
     let r = rules_of s in
     wants_leads (at s (AtBoolCr x)) (b.TokenHas r (AtBoolCr x)) front es 2 byte 13 (Go (at s (AtBoolLf x))) w
@@ -171,7 +176,8 @@ truth_ends r x level bytes shown w none = record {
   told = λ from. ap (λ z. z ++ e.Bool x ∷ []) (sym none);
 }
 
-pub bool_end_leads : BoolEndLeads
+-- every byte behind a boolean's CR
+pub bool_end_leads : (s : Place) (truth : Bool) → ALead (at s (AtBoolLf truth))
 bool_end_leads s x used byte front es is_byte c w =
     let r = rules_of s in
     wants_leads (at s (AtBoolLf x)) (b.TokenHas r (AtBoolLf x)) front es 1 byte 10 (Give (k.Truth x) (at_boundary s)) w

@@ -25,22 +25,19 @@ use Rattle.resp_scan.specs.Kinds.{rules_of}
 use Rattle.resp_scan.specs.Machine.Beginnings as b
 use Rattle.resp_scan.specs.Machine.Beginnings.{IntBegun, IntReturned, IsSigned, SignBegun}
 use Rattle.resp_scan.specs.Machine.Standing.{HasCountsOf, IsInside, Leads, StandsAfter}
-use Rattle.resp_scan.proofs.TokenMoves.TokenLaws.{IntSignLeads, IntFirstLeads, IntLeads, IntEndLeads}
+use Rattle.resp_scan.proofs.TokenMoves.TokenLaws.{ALead}
 use Rattle.resp_scan.proofs.TokenMoves.Moves.{Ends, goes, value_ends}
 use Rattle.resp_scan.proofs.TokenMoves.RefusedMoves.{broken, fits_or_total, refused, unless_over}
-use Rattle.resp_scan.proofs.TokenMoves.ByteTests.{by_byte, by_digit}
-use Rattle.resp_scan.proofs.TokenMoves.Choices.{if_equal, if_within, wants_leads}
+use Rattle.resp_scan.proofs.TokenMoves.ByteTests.{by_byte, by_digit, wants_leads}
 use Rattle.resp_fronts.specs.Tokens.{IsNumberBegun, IsNumberToken, MayBe, greatest}
 use Rattle.resp_value.proofs.DigitLemmas.{number-digit}
+use Rattle.resp_value.proofs.Choices.{if_equal, if_within}
 
 -- a byte of a number's beginning that no spelling has there
 pub begun_line : (k : NumberKind) (sign : Sign) → IsLine (number_byte k ∷ (sign_text sign ++ []))
 begun_line Int Unsigned = ((λ z. omega arith, λ z. omega arith), tt)
-begun_line Int Plus = ((λ z. omega arith, λ z. omega arith), ((λ z. omega arith, λ z. omega arith), tt))
-begun_line Int Minus = ((λ z. omega arith, λ z. omega arith), ((λ z. omega arith, λ z. omega arith), tt))
 begun_line Big Unsigned = ((λ z. omega arith, λ z. omega arith), tt)
-begun_line Big Plus = ((λ z. omega arith, λ z. omega arith), ((λ z. omega arith, λ z. omega arith), tt))
-begun_line Big Minus = ((λ z. omega arith, λ z. omega arith), ((λ z. omega arith, λ z. omega arith), tt))
+begun_line _ _ = ((λ z. omega arith, λ z. omega arith), ((λ z. omega arith, λ z. omega arith), tt))
 
 pub begun_dead : (r : Rules) (k : NumberKind) (sign : Sign) (level byte : ℕ) (bytes rest : List ℕ) → (sign ≡ Unsigned → (byte ≡ 43 → ⊥) × (byte ≡ 45 → ⊥)) →
     (IsDigit byte → ⊥) → IsNumberBegun r k sign level bytes → CompletesUnder r Grammar level bytes (byte ∷ rest) → ⊥
@@ -121,13 +118,11 @@ unsigned_any r k byte level bytes shown no_plus no_minus w = record {
 
 greatest_is : (sign : Sign) → greatest sign ≡ greatest_magnitude (is_minus sign)
 greatest_is Unsigned = refl
-greatest_is Plus = refl
-greatest_is Minus = refl
+greatest_is _ = refl
 
 one_digit : (sign : Sign) (digit : ℕ) → IsDigit digit → number (digit ∷ []) ≤ greatest sign
 one_digit Unsigned digit d = omega (arith, d.1)
-one_digit Plus digit d = omega (arith, d.1)
-one_digit Minus digit d = omega (arith, d.1)
+one_digit _ digit d = omega (arith, d.1)
 
 int_begins : (r : Rules) (negative : Bool) (byte level : ℕ) (bytes : List ℕ) (shown : List Event) → IsDigit byte →
     AnySign r Int negative byte level bytes shown → IntBegun r negative (byte - 48) level (bytes ++ byte ∷ []) shown
@@ -179,13 +174,15 @@ signs_lead s k first used byte unsigned front es c w may_be lies leads =
         (fits_or_total s (SignBegun r k negative) front es es used byte 3 (Go (at s (first negative))) c more
         (λ level bytes shown i t. begun_row r k negative level bytes shown t) (lies negative more))
 
-pub int_sign_leads : IntSignLeads
+-- every byte behind `:`
+pub int_sign_leads : (s : Place) → ALead (at s AtIntSign)
 int_sign_leads s used byte front es is_byte c w =
     signs_lead (at s AtIntSign) Int AtIntFirst used byte _ front es c w (λ sign level bytes t. one_digit sign 48 (omega arith, omega arith)) (λ negative x. x)
     (λ no_plus no_minus. first_leads (at s AtIntSign) (b.TokenHas (rules_of s) AtIntSign) false byte front es w
     (λ level bytes shown t. unsigned_any (rules_of s) Int byte level bytes shown no_plus no_minus t))
 
-pub int_first_leads : IntFirstLeads
+-- every byte behind an integer's sign
+pub int_first_leads : (s : Place) (negative : Bool) → ALead (at s (AtIntFirst negative))
 int_first_leads s negative used byte front es is_byte c w =
     first_leads (at s (AtIntFirst negative)) (SignBegun (rules_of s) Int negative) negative byte front es w
     (λ level bytes shown t. signed_any (rules_of s) Int negative byte level bytes shown t)
@@ -221,8 +218,7 @@ int_past r negative n byte level bytes shown d past w =
 
 signed_is : (sign : Sign) (digits : List ℕ) → signed_value sign digits ≡ machine.with_sign (is_minus sign) (number digits)
 signed_is Unsigned digits = refl
-signed_is Plus digits = refl
-signed_is Minus digits = refl
+signed_is _ digits = refl
 
 int_returns : (r : Rules) (negative : Bool) (n level : ℕ) (bytes : List ℕ) (shown : List Event) → IntBegun r negative n level bytes shown →
     IntReturned r negative n level (bytes ++ 13 ∷ []) shown
@@ -240,7 +236,8 @@ pub int_row : (r : Rules) (negative : Bool) (n level : ℕ) (bytes : List ℕ) (
     IsBegunBy r level bytes 2
 int_row r negative n level bytes shown w = digits_row r Int w.sign (w.first ∷ w.digits) level bytes w.token
 
-pub int_leads : IntLeads
+-- every byte behind an integer's digits
+pub int_leads : (s : Place) (negative : Bool) (n : ℕ) → ALead (at s (InInt negative n))
 int_leads s negative n used byte front es is_byte c w =
     let r = rules_of s in
     let m = n * 10 + (byte - 48) in
@@ -271,7 +268,8 @@ int_ends r negative n level bytes shown w = record {
   told = λ from. ap (λ z. e.Int z ∷ []) w.valued ∙ ap (λ z. z ++ e.Int (machine.with_sign negative n) ∷ []) (sym w.told);
 }
 
-pub int_end_leads : IntEndLeads
+-- every byte behind an integer's CR
+pub int_end_leads : (s : Place) (negative : Bool) (n : ℕ) → ALead (at s (AtIntLf negative n))
 int_end_leads s negative n used byte front es is_byte c w =
     let r = rules_of s in
     wants_leads (at s (AtIntLf negative n)) (IntReturned r negative n) front es 1 byte 10 (Give (k.Int (machine.with_sign negative n)) (at_boundary s)) w

@@ -42,10 +42,7 @@ waiting_needed kind.Map (Begun n) =
       | true ↦ λ z. let even : n % 2 ≡ 0 = grind (arith, nat_tests) in omega (arith, even)
       | false ↦ λ z. let odd : 0 < n % 2 = grind (arith, nat_tests) in omega (arith, odd)
     ] refl
-waiting_needed kind.Array (Begun n) = refl
-waiting_needed kind.Set (Begun n) = refl
-waiting_needed kind.Attr (Begun n) = refl
-waiting_needed kind.Push (Begun n) = refl
+waiting_needed _ _ = refl
 
 -- once its open member is whole none is open
 after_busy : (s : Shape) → HasBegun s → l.shape_after (busy_shape s) ≡ waiting_shape s

@@ -1,5 +1,5 @@
 -- A value's first byte, or a close.
-use Rattle.std.specs.Prelude.{true, false, cond, leb, None, Some, Option}
+use Rattle.std.specs.Prelude.{true, false, cond, None, Some, Option}
 use Rattle.std.proofs.lemmas.Bool.{ne_eqb}
 use Rattle.std.proofs.lemmas.Bool.Decides.{nat_tests}
 use Rattle.std.proofs.Common.{◌≡◌, ℕ, suc, ◌-◌, ◌%◌, ◌<◌, ◌≤◌, List, [], ◌∷◌, ◌++◌, length, refl, sym, ap, subst, ◌∙◌, arith, append-nil}
@@ -19,7 +19,7 @@ use Rattle.resp_fronts.specs.Frames as opened
 use Rattle.resp_fronts.specs.Frames.{text_around}
 use Rattle.resp_fronts.specs.Events.{Event, events_around, without_places}
 use Rattle.resp_fronts.specs.Events as e
-use Rattle.resp_fronts.specs.FirstByteRefusals.{aggregate_refusal, first_byte_refusal, refusal_in_three, push_refusal}
+use Rattle.resp_fronts.specs.FirstByteRefusals.{aggregate_refusal, first_byte_refusal, refusal_in_three, push_refusal, answer_beside, first_byte_answers}
 use Rattle.resp_fronts.specs.MayFollow.{members_missing}
 use Rattle.resp_fronts.proofs.Between.BegunBetweenValues as between
 use Rattle.resp_fronts.proofs.Tokens.BegunFronts.{IsBegunBy}
@@ -40,22 +40,25 @@ use Rattle.resp_scan.specs.declared.machine.Head.TheVariants as head
 use Rattle.resp_scan.specs.Machine.Tokens as k
 use Rattle.resp_scan.specs.Machine.Tokens.{Give, Go, Move, Place, Refuse, Token, AtArrayHead, AtBigSign, AtBool, AtBulkHead, AtCloseCr, AtHead, AtIntSign, AtNullCr, AtStart, InLine, at}
 use Rattle.resp_scan.specs.Machine.Heads.{first_needed}
-use Rattle.resp_scan.specs.Machine.Room.{after_begin, after_begin_in, is_full}
+use Rattle.resp_scan.specs.Machine.Room.{after_begin, is_full}
 use Rattle.resp_scan.specs.Machine.Moves as machine
-use Rattle.resp_scan.specs.Machine.Moves.{aggregate_move, begin_move, close_move, line_move, may_close, may_close_of, push_move, start_next, start_three, move_unless}
+use Rattle.resp_scan.specs.Machine.Moves.{aggregate_move, begin_move, close_move, line_move, may_close, may_close_of, push_move, start_next, start_three, move_unless, next}
 use Rattle.resp_value.specs.Kinds.{kind_of}
 use Rattle.resp_scan.specs.Kinds.{IsRefusedFor, event_of, rules_of}
 use Rattle.resp_scan.specs.Machine.Beginnings as b
 use Rattle.resp_scan.specs.Machine.Beginnings.{AggregateBegun, LineBegun, NullLine}
 use Rattle.resp_scan.specs.Machine.Standing.{AwaitsMember, IsClosing, HasCountsOf, IsInside, Leads, StandsAfter, StandsAfterAt, busy_levels, waiting_shape, waiting_levels}
-use Rattle.resp_scan.proofs.TokenMoves.TokenLaws.{StartLeads}
 use Rattle.resp_scan.proofs.TokenMoves.Begins.{begins_leads, is_between, length-waiting}
 use Rattle.resp_scan.proofs.HeadMoves.HeadsLead.{aggregate_row, no_two_in_three, attribute_row}
 use Rattle.resp_scan.proofs.TokenMoves.LinesLead.{line_row}
-use Rattle.resp_scan.proofs.TokenMoves.ByteTests.{by_byte}
-use Rattle.resp_scan.proofs.TokenMoves.Choices.{if_within}
 use Rattle.resp_fronts.specs.OpenLevels.{AreLevelsOf, AreReady, HasShape, Level, so_far}
 use Rattle.resp_fronts.specs.Tokens.{IsTextLine}
+use Rattle.resp_value.proofs.Choices.{if_within}
+use Rattle.std.specs.Str.{byte}
+use Rattle.std.specs.List.{AllByRecursion}
+use Rattle.resp_fronts.proofs.Refusals.FirstByteCauses.{at_answer}
+use Rattle.resp_scan.proofs.Soundness.SoundStarts.{start_rows}
+use Rattle.resp_scan.proofs.Soundness.SoundFrames.{begun_rules}
 
 -- Refusals of a first byte by itself.
 
@@ -80,48 +83,47 @@ line_begun_by : (r : Rules) (kind : LineKind) (level : ℕ) → IsTextLine kind 
 unfolding text_token_begins
 line_begun_by r kind level p = record { kind = kind; size = 0; token = text_token_begins r kind level p; leaves = omega arith; told = refl }
 
--- Values of one byte so far, in version 3 or in both.
-
--- a value whose first byte is of both versions
-both_lead : (s : Place) (token : Token) (byte needed : ℕ) (front : List ℕ) (es : List Event) → HasCountsOf (at s AtStart) 0 front → (byte ≡ 46 → ⊥) →
-    first_byte_refusal (rules_of s) (length s.frames) byte ≡ None → StandsAfter (at s AtStart) front es →
-    ((level : ℕ) → level ≡ length s.frames → b.TokenHas (rules_of s) token level (byte ∷ []) []) →
-    ((level : ℕ) (bytes : List ℕ) (shown : List Event) → level ≡ length s.frames → b.TokenHas (rules_of s) token level bytes shown →
-    IsBegunBy (rules_of s) level bytes needed) → (IsInside (rules_of s) (b.TokenHas (rules_of s) token) (after_begin (at s AtStart)).frames (front ++ byte ∷ [])
-    es → StandsAfter (at (after_begin (at s AtStart)) token) (front ++ byte ∷ []) es) →
-    Leads (at s AtStart) front es byte (begin_move (at s AtStart) needed token)
-both_lead s token byte needed front es c no_stop none w took row lies =
-    begins_leads (at s AtStart) (b.TokenHas (rules_of s) token) front es [] byte needed (Go (at (after_begin (at s AtStart)) token)) c no_stop none w took row
-    (λ inside. lies (subst (IsInside (rules_of s) (b.TokenHas (rules_of s) token) (after_begin (at s AtStart)).frames (front ++ byte ∷ [])) (append-nil es)
-    inside))
-
-begun_rules : (s : Place) → rules_of (after_begin s) ≡ rules_of s
-begun_rules s = case s.frames
-  where
-    case : (fs : List Frame) → rules_of (after_begin_in s fs) ≡ rules_of s
-    case [] = refl
-    case (f ∷ fs) = refl
+-- The first byte of a value.
 
 -- the value is begun at the place that counts it
 lies_begun : (s : Place) (token : Token) (fs : List Frame) (front : List ℕ) (es : List Event) → StandsAfterAt (rules_of s) token fs front es →
     StandsAfterAt (rules_of (after_begin s)) token fs front es
-lies_begun s token fs front es h = subst (λ r. StandsAfterAt r token fs front es) (sym (begun_rules s)) h
+lies_begun s token fs front es h = subst (λ r. StandsAfterAt r token fs front es) (sym (begun_rules s s.frames)) h
 
-line_leads : (s : Place) (kind : LineKind) (byte : ℕ) (happening : k.Happening) (front : List ℕ) (es : List Event) → IsTextLine kind → byte ≡ t.line_byte kind →
-    event_of happening ≡ e.Text (b.line_text_kind kind) → (byte ≡ 46 → ⊥) → first_byte_refusal (rules_of s) (length s.frames) byte ≡ None →
-    HasCountsOf (at s AtStart) 0 front → StandsAfter (at s AtStart) front es → Leads (at s AtStart) front es byte (line_move (at s AtStart) happening)
-line_leads s kind byte happening front es p is told no_stop none c w =
+-- the byte of a simple line gives the begin of its text
+line_leads : (s : Place) (kind : LineKind) (happening : k.Happening) (front : List ℕ) (es : List Event) → IsTextLine kind →
+    event_of happening ≡ e.Text (b.line_text_kind kind) → (t.line_byte kind ≡ 46 → ⊥) →
+    first_byte_refusal (rules_of s) (length s.frames) (t.line_byte kind) ≡ None → HasCountsOf (at s AtStart) 0 front → StandsAfter (at s AtStart) front es →
+    Leads (at s AtStart) front es (t.line_byte kind) (line_move (at s AtStart) happening)
+line_leads s kind happening front es p told no_stop none c w =
     let q = at s AtStart in
     let r = rules_of s in
-    begins_leads q (LineBegun r s.bounds.length) front es (event_of happening ∷ []) byte 2 (Give happening (at (after_begin q) (InLine s.bounds.length))) c
-    no_stop none w
-    (λ level i. subst (λ x. LineBegun r s.bounds.length level (x ∷ []) (event_of happening ∷ [])) (sym is)
-    (subst (λ x. LineBegun r s.bounds.length level (t.line_byte kind ∷ []) (x ∷ [])) (sym told) (line_begun_by r kind level p)))
+    begins_leads q (LineBegun r s.bounds.length) front es (event_of happening ∷ []) (t.line_byte kind) 2
+    (Give happening (at (after_begin q) (InLine s.bounds.length))) c no_stop none w
+    (λ level i. subst (λ x. LineBegun r s.bounds.length level (t.line_byte kind ∷ []) (x ∷ [])) (sym told) (line_begun_by r kind level p))
     (λ level bytes shown i t. line_row r s.bounds.length level bytes shown t)
-    (λ inside. lies_begun q (InLine s.bounds.length) (after_begin q).frames (front ++ byte ∷ []) (es ++ event_of happening ∷ []) inside)
+    (λ inside. lies_begun q (InLine s.bounds.length) (after_begin q).frames (front ++ t.line_byte kind ∷ []) (es ++ event_of happening ∷ []) inside)
 
--- Values of version 3 alone.
+-- what a token has of a byte by itself, the least that completes it, and that the token stands inside a value
+record Begins (s : Place) (token : Token) (byte needed : ℕ) : Type 0 where
+  pub took : (level : ℕ) → level ≡ length s.frames → b.TokenHas (rules_of s) token level (byte ∷ []) []
+  pub row : (level : ℕ) (bytes : List ℕ) (shown : List Event) → level ≡ length s.frames → b.TokenHas (rules_of s) token level bytes shown →
+      IsBegunBy (rules_of s) level bytes needed
+  pub lies : (fs : List Frame) (front : List ℕ) (es : List Event) → IsInside (rules_of s) (b.TokenHas (rules_of s) token) fs front es →
+      StandsAfterAt (rules_of s) token fs front es
 
+-- a byte that begins a token leads to it, where no rule refuses the byte
+token_leads : (s : Place) (token : Token) (byte needed : ℕ) (front : List ℕ) (es : List Event) → Begins s token byte needed → (byte ≡ 46 → ⊥) →
+    HasCountsOf (at s AtStart) 0 front → StandsAfter (at s AtStart) front es → first_byte_refusal (rules_of s) (length s.frames) byte ≡ None →
+    Leads (at s AtStart) front es byte (begin_move (at s AtStart) needed token)
+token_leads s token byte needed front es begins no_stop c w none =
+    let q = at s AtStart in
+    let T = b.TokenHas (rules_of s) token in
+    begins_leads q T front es [] byte needed (Go (at (after_begin q) token)) c no_stop none w begins.took begins.row
+    (λ inside. lies_begun q token (after_begin q).frames (front ++ byte ∷ []) es (begins.lies (after_begin q).frames (front ++ byte ∷ []) es
+    (subst (IsInside (rules_of s) T (after_begin q).frames (front ++ byte ∷ [])) (append-nil es) inside)))
+
+-- a byte that version 3 alone has
 three_leads : (s : Place) (byte : ℕ) (front : List ℕ) (es : List Event) (answer : Option Rule) (v : Move) → (byte ≡ 46 → ⊥) →
     first_byte_refusal (rules_of s) (length s.frames) byte ≡ refusal_in_three s.version answer → HasCountsOf (at s AtStart) 0 front →
     StandsAfter (at s AtStart) front es → ((s.version ≡ version.Two → ⊥) → first_byte_refusal (rules_of s) (length s.frames) byte ≡ answer →
@@ -132,56 +134,43 @@ three_leads s byte front es answer v no_stop is c w leads = case s.version refl
     case version.Two two = answer_named (at s AtStart) front es byte InVersion cause.Version c no_stop w (is ∙ ap (λ x. refusal_in_three x answer) two) refl
     case version.Three three = leads (no_two_in_three s.version three) (is ∙ ap (λ x. refusal_in_three x answer) three)
 
-leb_true : (a c : ℕ) → a ≤ c → leb a c ≡ true
-leb_true a c h = grind (arith, nat_tests)
-
-leb_false : (a c : ℕ) → c < a → leb a c ≡ false
-leb_false a c h = grind (arith, nat_tests)
-
--- an aggregate, where the depth leaves room
-aggregate_leads : (s : Place) (kind : Kind) (h : Head) (byte : ℕ) (front : List ℕ) (es : List Event) → byte ≡ kind_byte kind → (byte ≡ 46 → ⊥) →
-    (s.version ≡ version.Two → ⊥) → first_byte_refusal (rules_of s) (length s.frames) byte ≡ aggregate_refusal (rules_of s) (length s.frames) →
-    ((level : ℕ) → level ≡ length s.frames → IsNoPushBelow level kind) → HasCountsOf (at s AtStart) 0 front → StandsAfter (at s AtStart) front es →
-    ((level : ℕ) (bytes : List ℕ) (shown : List Event) → AggregateBegun (rules_of s) kind level bytes shown →
-    IsBegunBy (rules_of s) level bytes (first_needed h)) → (IsInside (rules_of s) (AggregateBegun (rules_of s) kind) (after_begin (at s AtStart)).frames
-    (front ++ byte ∷ []) es → StandsAfterAt (rules_of s) (AtHead h) (after_begin (at s AtStart)).frames (front ++ byte ∷ []) es) →
-    Leads (at s AtStart) front es byte (aggregate_move (at s AtStart) h)
-aggregate_leads s kind h byte front es is no_stop no_two answer no_push c w row lies =
+-- the byte of an aggregate, where the depth leaves room
+aggregate_leads : (s : Place) (kind : Kind) (h : Head) (front : List ℕ) (es : List Event) → ((level : ℕ) → level ≡ length s.frames → IsNoPushBelow level kind) →
+    (((level : ℕ) → level ≡ length s.frames → AggregateBegun (rules_of s) kind level (kind_byte kind ∷ []) []) →
+    Begins s (AtHead h) (kind_byte kind) (first_needed h)) → (kind_byte kind ≡ 46 → ⊥) → HasCountsOf (at s AtStart) 0 front →
+    StandsAfter (at s AtStart) front es → (s.version ≡ version.Two → ⊥) →
+    first_byte_refusal (rules_of s) (length s.frames) (kind_byte kind) ≡ aggregate_refusal (rules_of s) (length s.frames) →
+    Leads (at s AtStart) front es (kind_byte kind) (aggregate_move (at s AtStart) h)
+aggregate_leads s kind h front es no_push begins no_stop c w no_two answer =
     let q = at s AtStart in
-    let r = rules_of s in
-    if_within s.bounds.depth (length s.frames) (λ x. Leads q front es byte (cond x (Refuse cause.Depth) (begin_move q (first_needed h) (AtHead h))))
-    (λ full. answer_named q front es byte WithinDepth cause.Depth c no_stop w
-    (answer ∙ ap (λ x. cond x (Some WithinDepth) None) (leb_true s.bounds.depth (length s.frames) full)) refl)
-    (λ below. begins_leads q (AggregateBegun r kind) front es [] byte (first_needed h) (Go (at (after_begin q) (AtHead h))) c no_stop
-    (answer ∙ ap (λ x. cond x (Some WithinDepth) None) (leb_false s.bounds.depth (length s.frames) below)) w
-    (λ level i. record { no_two = no_two; no_push = no_push level i; below = omega (arith, below, i); are = ap (λ z. z ∷ []) is; told = refl })
-    (λ level bytes shown i t. row level bytes shown t)
-    (λ inside. lies_begun q (AtHead h) (after_begin q).frames (front ++ byte ∷ []) es
-    (lies (subst (IsInside r (AggregateBegun r kind) (after_begin q).frames (front ++ byte ∷ [])) (append-nil es) inside))))
+    if_within s.bounds.depth (length s.frames)
+    (λ x. first_byte_refusal (rules_of s) (length s.frames) (kind_byte kind) ≡ cond x (Some WithinDepth) None →
+    Leads q front es (kind_byte kind) (cond x (Refuse cause.Depth) (begin_move q (first_needed h) (AtHead h))))
+    (λ full refused. answer_named q front es (kind_byte kind) WithinDepth cause.Depth c no_stop w refused refl)
+    (λ below none. token_leads s (AtHead h) (kind_byte kind) (first_needed h) front es
+    (begins (λ level i. record { no_two = no_two; no_push = no_push level i; below = omega (arith, below, i); are = refl; told = refl })) no_stop c w none)
+    answer
 
-push_leads : (s : Place) (byte : ℕ) (front : List ℕ) (es : List Event) → byte ≡ 62 → (s.version ≡ version.Two → ⊥) →
-    first_byte_refusal (rules_of s) (length s.frames) byte ≡ push_refusal (rules_of s) (length s.frames) → HasCountsOf (at s AtStart) 0 front →
-    StandsAfter (at s AtStart) front es → Leads (at s AtStart) front es byte (push_move (at s AtStart) s.frames)
-push_leads s byte front es is no_two answer c w = case s.frames answer c w
+-- the byte of a push, at the top alone
+push_leads : (s : Place) (front : List ℕ) (es : List Event) → HasCountsOf (at s AtStart) 0 front → StandsAfter (at s AtStart) front es →
+    (s.version ≡ version.Two → ⊥) → first_byte_refusal (rules_of s) (length s.frames) 62 ≡ push_refusal (rules_of s) (length s.frames) →
+    Leads (at s AtStart) front es 62 (push_move (at s AtStart) s.frames)
+push_leads s front es c w no_two answer = case s.frames answer c w
   where
-    no_stop : byte ≡ 46 → ⊥
-    no_stop z = omega (arith, z, is)
-
-    case : (fs : List Frame) → first_byte_refusal (rules_of s) (length fs) byte ≡ push_refusal (rules_of s) (length fs) →
+    case : (fs : List Frame) → first_byte_refusal (rules_of s) (length fs) 62 ≡ push_refusal (rules_of s) (length fs) →
         HasCountsOf (record s { token = AtStart; frames = fs }) 0 front → AwaitsMember (rules_of s) fs front es →
-        Leads (record s { token = AtStart; frames = fs }) front es byte (push_move (record s { token = AtStart; frames = fs }) fs)
-    case [] answer c w = aggregate_leads (record s { frames = [] }) d.Push head.Push byte front es is no_stop no_two answer (λ level i. i) c w
-        (λ level bytes shown t. aggregate_row (rules_of s) d.Push level bytes shown refl t) (λ x. x)
-    case (f ∷ fs) answer c w = answer_named (record s { token = AtStart; frames = f ∷ fs }) front es byte PushAtTop cause.NestedPush c no_stop w answer refl
+        Leads (record s { token = AtStart; frames = fs }) front es 62 (push_move (record s { token = AtStart; frames = fs }) fs)
+    case [] answer c w = aggregate_leads (record s { frames = [] }) d.Push head.Push front es (λ level i. i)
+        (λ took. record { took = took; row = λ level bytes shown i u. aggregate_row (rules_of s) d.Push level bytes shown refl u; lies = λ fs x y inside. inside })
+        (λ z. omega arith) c w no_two answer
+    case (f ∷ fs) answer c w = answer_named (record s { token = AtStart; frames = f ∷ fs }) front es 62 PushAtTop cause.NestedPush c (λ z. omega arith) w
+        answer refl
 
 -- A close.
 
 streamed_has_all : (k : OpenKind) (m : ℕ) → may_close_of k (Begun m) ≡ true → members_missing (kind_of k) Streamed m ≡ 0
-streamed_has_all kind.Array m can = refl
-streamed_has_all kind.Set m can = refl
-streamed_has_all kind.Attr m can = refl
-streamed_has_all kind.Push m can = refl
 streamed_has_all kind.Map m can = grind (arith, nat_tests)
+streamed_has_all _ m can = refl
 
 closes_from : (r : Rules) (f : Frame) (fs : List Frame) (front : List ℕ) (es : List Event) → (w : AwaitsMember r (f ∷ fs) front es) →
     may_close_of f.kind f.shape ≡ true → IsClosing r f.kind fs (46 ∷ []) (13 ∷ 10 ∷ []) (front ++ 46 ∷ []) es
@@ -210,11 +199,8 @@ closes_from r f fs front es w can = case w.frames f.shape w.of_levels w.ready w.
 
 goes_on_first : (k : OpenKind) (shape : Shape) → may_close_of k shape ≡ false → GoesOn (kind_of k) (waiting_shape shape)
 goes_on_first k (Left m) stays = tt
-goes_on_first kind.Array (Begun m) stays = absurd cc
-goes_on_first kind.Set (Begun m) stays = absurd cc
-goes_on_first kind.Attr (Begun m) stays = absurd cc
-goes_on_first kind.Push (Begun m) stays = absurd cc
 goes_on_first kind.Map (Begun m) stays = let odd : 0 < m % 2 = grind (arith, nat_tests) in omega (arith, odd)
+goes_on_first _ _ stays = absurd cc
 
 stop_refused : (r : Rules) (fs : List Frame) (front : List ℕ) (es : List Event) → AwaitsMember r fs front es →
     ((v : Level) (outer : List Level) → waiting_levels fs ≡ v ∷ outer → GoesOn v.kind v.shape) → IsRefusedFor r (front ++ 46 ∷ []) cause.Syntax
@@ -256,207 +242,121 @@ star_row s level i bytes are =
     (λ deep. subst (λ z. IsBegunBy (rules_of s) level z 4) (sym are) (star_deep_begun (rules_of s) level (omega (arith, deep, i))))
     (λ below. subst (λ z. IsBegunBy (rules_of s) level z 3) (sym are) (star_begun (rules_of s) level (omega (arith, below, i))))
 
-plus_leads : (s : Place) (front : List ℕ) (es : List Event) → HasCountsOf (at s AtStart) 0 front → StandsAfter (at s AtStart) front es →
-    Leads (at s AtStart) front es 43 (line_move (at s AtStart) (k.Text text.Simple))
-plus_leads s front es c w =
-    let q = at s AtStart in
-    let r = rules_of s in
-    let roomy : 64 ≤ s.bounds.length = c.sound.bounds.length_in_range.0 in
-    line_leads s t.Simple 43 (k.Text text.Simple) front es tt refl refl (λ z. omega arith) refl c w
+-- the tokens that begin in both versions, and those that begin in version 3 alone
+int_begins : (s : Place) → Begins s AtIntSign 58 3
+int_begins s = record {
+  took = λ level i. ((omega arith, refl), refl);
+  row = λ level bytes shown i u. number_begun (rules_of s) t.Int Unsigned level bytes u.0;
+  lies = λ fs x y inside. inside;
+}
 
-minus_leads : (s : Place) (front : List ℕ) (es : List Event) → HasCountsOf (at s AtStart) 0 front → StandsAfter (at s AtStart) front es →
-    Leads (at s AtStart) front es 45 (line_move (at s AtStart) (k.Text text.Error))
-minus_leads s front es c w =
-    let q = at s AtStart in
-    let r = rules_of s in
-    let roomy : 64 ≤ s.bounds.length = c.sound.bounds.length_in_range.0 in
-    line_leads s t.Error 45 (k.Text text.Error) front es tt refl refl (λ z. omega arith) refl c w
+bulk_begins : (s : Place) → Begins s AtBulkHead 36 4
+bulk_begins s = record {
+  took = λ level i. (refl, refl);
+  row = λ level bytes shown i u. subst (λ z. IsBegunBy (rules_of s) level z 4) (sym u.0) (dollar_begun (rules_of s) level);
+  lies = λ fs x y inside. inside;
+}
 
-colon_leads : (s : Place) (front : List ℕ) (es : List Event) → HasCountsOf (at s AtStart) 0 front → StandsAfter (at s AtStart) front es →
-    Leads (at s AtStart) front es 58 (begin_move (at s AtStart) 3 AtIntSign)
-colon_leads s front es c w =
-    let q = at s AtStart in
-    let r = rules_of s in
-    let roomy : 64 ≤ s.bounds.length = c.sound.bounds.length_in_range.0 in
-    both_lead s (AtIntSign) 58 (3) front es c (λ z. omega arith) refl w (λ level i. ((omega arith, refl), refl))
-    (λ level bytes shown i u. number_begun r t.Int Unsigned level bytes u.0)
-    (λ inside. lies_begun q (AtIntSign) (after_begin q).frames (front ++ 58 ∷ []) es inside)
+array_begins : (s : Place) → Begins s AtArrayHead 42 (cond (is_full (at s AtStart)) 4 3)
+array_begins s = record {
+  took = λ level i. (refl, refl);
+  row = λ level bytes shown i u. star_row s level i bytes u.0;
+  lies = λ fs x y inside. inside;
+}
 
-dollar_leads : (s : Place) (front : List ℕ) (es : List Event) → HasCountsOf (at s AtStart) 0 front → StandsAfter (at s AtStart) front es →
-    Leads (at s AtStart) front es 36 (begin_move (at s AtStart) 4 AtBulkHead)
-dollar_leads s front es c w =
-    let q = at s AtStart in
-    let r = rules_of s in
-    let roomy : 64 ≤ s.bounds.length = c.sound.bounds.length_in_range.0 in
-    both_lead s (AtBulkHead) 36 (4) front es c (λ z. omega arith) refl w (λ level i. (refl, refl))
-    (λ level bytes shown i u. subst (λ z. IsBegunBy r level z 4) (sym u.0) (dollar_begun r level))
-    (λ inside. lies_begun q (AtBulkHead) (after_begin q).frames (front ++ 36 ∷ []) es inside)
+null_begins : (s : Place) → (s.version ≡ version.Two → ⊥) → Begins s AtNullCr 95 2
+null_begins s no_two = record {
+  took = λ level i. record { form = PlainNull; token = null_token_line (rules_of s) PlainNull level (λ two p. no_two two); told = refl };
+  row = λ level bytes shown i u. line_begun (rules_of s) (t.null u.form) level bytes u.token;
+  lies = λ fs x y inside. inside;
+}
 
-star_leads : (s : Place) (front : List ℕ) (es : List Event) → HasCountsOf (at s AtStart) 0 front → StandsAfter (at s AtStart) front es →
-    Leads (at s AtStart) front es 42 (begin_move (at s AtStart) (cond (is_full (at s AtStart)) 4 3) AtArrayHead)
-star_leads s front es c w =
-    let q = at s AtStart in
-    let r = rules_of s in
-    let roomy : 64 ≤ s.bounds.length = c.sound.bounds.length_in_range.0 in
-    both_lead s (AtArrayHead) 42 (cond (is_full q) 4 3) front es c (λ z. omega arith) refl w (λ level i. (refl, refl))
-    (λ level bytes shown i u. star_row s level i bytes u.0) (λ inside. lies_begun q (AtArrayHead) (after_begin q).frames (front ++ 42 ∷ []) es inside)
+truth_begins : (s : Place) → (s.version ≡ version.Two → ⊥) → Begins s AtBool 35 3
+truth_begins s no_two = record {
+  took = λ level i. (no_two, refl, refl);
+  row = λ level bytes shown i u. subst (λ z. IsBegunBy (rules_of s) level z 3) (sym u.1) (truth_begun (rules_of s) level u.0);
+  lies = λ fs x y inside. inside;
+}
 
-stop_leads : (s : Place) (front : List ℕ) (es : List Event) → HasCountsOf (at s AtStart) 0 front → StandsAfter (at s AtStart) front es →
-    Leads (at s AtStart) front es 46 (close_move (at s AtStart))
-stop_leads s front es c w =
-    let q = at s AtStart in
-    let r = rules_of s in
-    let roomy : 64 ≤ s.bounds.length = c.sound.bounds.length_in_range.0 in
-    close_leads s front es w
+big_begins : (s : Place) → 64 ≤ s.bounds.length → (s.version ≡ version.Two → ⊥) → Begins s AtBigSign 40 3
+big_begins s roomy no_two = record {
+  took = λ level i. (((no_two, omega (arith, roomy)), refl), refl);
+  row = λ level bytes shown i u. number_begun (rules_of s) t.Big Unsigned level bytes u.0;
+  lies = λ fs x y inside. inside;
+}
 
-comma_leads : (s : Place) (front : List ℕ) (es : List Event) → HasCountsOf (at s AtStart) 0 front → StandsAfter (at s AtStart) front es →
-    Leads (at s AtStart) front es 44 (Refuse cause.Double)
-comma_leads s front es c w =
-    let q = at s AtStart in
-    let r = rules_of s in
-    let roomy : 64 ≤ s.bounds.length = c.sound.bounds.length_in_range.0 in
-    answer_named q front es 44 NoDouble cause.Double c (λ z. omega arith) w refl refl
+bulk_error_begins : (s : Place) → (s.version ≡ version.Two → ⊥) → Begins s (AtHead head.BulkError) 33 5
+bulk_error_begins s no_two = record {
+  took = λ level i. (no_two, refl, refl);
+  row = λ level bytes shown i u. subst (λ z. IsBegunBy (rules_of s) level z 5) (sym u.1) (bulk_error_begun (rules_of s) level u.0);
+  lies = λ fs x y inside. inside;
+}
 
-underscore_leads : (s : Place) (front : List ℕ) (es : List Event) → HasCountsOf (at s AtStart) 0 front → StandsAfter (at s AtStart) front es →
-    Leads (at s AtStart) front es 95 (machine.move_in_three s.version (begin_move (at s AtStart) 2 AtNullCr))
-underscore_leads s front es c w =
-    let q = at s AtStart in
-    let r = rules_of s in
-    let roomy : 64 ≤ s.bounds.length = c.sound.bounds.length_in_range.0 in
-    three_leads s 95 front es None (begin_move q 2 (AtNullCr)) (λ z. omega arith) refl c w
-    (λ no_two none. both_lead s (AtNullCr) 95 2 front es c (λ z. omega arith) none w
-    (λ level i. record { form = PlainNull; token = null_token_line r PlainNull level (λ two p. no_two two); told = refl })
-    (λ level bytes shown i u. line_begun r (t.null u.form) level bytes u.token)
-    (λ inside. lies_begun q (AtNullCr) (after_begin q).frames (front ++ 95 ∷ []) es inside))
+verbatim_begins : (s : Place) → 64 ≤ s.bounds.length → (s.version ≡ version.Two → ⊥) → Begins s (AtHead head.Verbatim) 61 9
+verbatim_begins s roomy no_two = record {
+  took = λ level i. (no_two, refl, refl);
+  row = λ level bytes shown i u. subst (λ z. IsBegunBy (rules_of s) level z 9) (sym u.1) (verbatim_begun (rules_of s) level u.0 (omega (arith, roomy)));
+  lies = λ fs x y inside. inside;
+}
 
-hash_leads : (s : Place) (front : List ℕ) (es : List Event) → HasCountsOf (at s AtStart) 0 front → StandsAfter (at s AtStart) front es →
-    Leads (at s AtStart) front es 35 (machine.move_in_three s.version (begin_move (at s AtStart) 3 AtBool))
-hash_leads s front es c w =
-    let q = at s AtStart in
-    let r = rules_of s in
-    let roomy : 64 ≤ s.bounds.length = c.sound.bounds.length_in_range.0 in
-    three_leads s 35 front es None (begin_move q 3 (AtBool)) (λ z. omega arith) refl c w
-    (λ no_two none. both_lead s (AtBool) 35 3 front es c (λ z. omega arith) none w (λ level i. (no_two, refl, refl))
-    (λ level bytes shown i u. subst (λ z. IsBegunBy r level z 3) (sym u.1) (truth_begun r level u.0))
-    (λ inside. lies_begun q (AtBool) (after_begin q).frames (front ++ 35 ∷ []) es inside))
+-- each of these bytes leads where its row says
+start_rows_lead : (s : Place) (front : List ℕ) (es : List Event) → HasCountsOf (at s AtStart) 0 front → StandsAfter (at s AtStart) front es →
+    AllByRecursion (λ row. Leads (at s AtStart) front es row.0 row.1) (start_rows (at s AtStart))
+start_rows_lead s front es c w = (
+  line_leads s t.Simple (k.Text text.Simple) front es tt refl (λ z. omega arith) refl c w,
+  (line_leads s t.Error (k.Text text.Error) front es tt refl (λ z. omega arith) refl c w,
+  (token_leads s AtIntSign 58 3 front es (int_begins s) (λ z. omega arith) c w refl,
+  (token_leads s AtBulkHead 36 4 front es (bulk_begins s) (λ z. omega arith) c w refl,
+  (token_leads s AtArrayHead 42 (cond (is_full (at s AtStart)) 4 3) front es (array_begins s) (λ z. omega arith) c w refl,
+  (close_leads s front es w,
+  (answer_named (at s AtStart) front es 44 NoDouble cause.Double c (λ z. omega arith) w refl refl,
+  (later AtNullCr 95 2 (null_begins s) (λ z. omega arith) refl,
+  (later AtBool 35 3 (truth_begins s) (λ z. omega arith) refl,
+  (later AtBigSign 40 3 (big_begins s roomy) (λ z. omega arith) refl,
+  (later (AtHead head.BulkError) 33 5 (bulk_error_begins s) (λ z. omega arith) refl,
+  (later (AtHead head.Verbatim) 61 9 (verbatim_begins s roomy) (λ z. omega arith) refl,
+  (later_aggregate d.Set head.Set (λ level i. tt)
+      (λ took. record { took = took; row = λ level bytes shown i u. aggregate_row (rules_of s) d.Set level bytes shown refl u; lies = λ fs x y inside. inside })
+      (λ z. omega arith) refl,
+  (later_aggregate d.Map head.Map (λ level i. tt)
+      (λ took. record { took = took; row = λ level bytes shown i u. aggregate_row (rules_of s) d.Map level bytes shown refl u; lies = λ fs x y inside. inside })
+      (λ z. omega arith) refl,
+  (later_aggregate d.Attr head.Attr (λ level i. tt)
+      (λ took. record { took = took; row = λ level bytes shown i u. attribute_row (rules_of s) level bytes shown u; lies = λ fs x y inside. inside })
+      (λ z. omega arith) refl,
+  (three_leads s 62 front es (push_refusal (rules_of s) (length s.frames)) (push_move (at s AtStart) s.frames) (λ z. omega arith) refl c w
+      (push_leads s front es c w), tt)))))))))))))))
+)
+  where
+    roomy : 64 ≤ s.bounds.length
+    roomy = c.sound.bounds.length_in_range.0
 
-paren_leads : (s : Place) (front : List ℕ) (es : List Event) → HasCountsOf (at s AtStart) 0 front → StandsAfter (at s AtStart) front es →
-    Leads (at s AtStart) front es 40 (machine.move_in_three s.version (begin_move (at s AtStart) 3 AtBigSign))
-paren_leads s front es c w =
-    let q = at s AtStart in
-    let r = rules_of s in
-    let roomy : 64 ≤ s.bounds.length = c.sound.bounds.length_in_range.0 in
-    three_leads s 40 front es None (begin_move q 3 (AtBigSign)) (λ z. omega arith) refl c w
-    (λ no_two none. both_lead s (AtBigSign) 40 3 front es c (λ z. omega arith) none w (λ level i. (((no_two, omega (arith, roomy)), refl), refl))
-    (λ level bytes shown i u. number_begun r t.Big Unsigned level bytes u.0)
-    (λ inside. lies_begun q (AtBigSign) (after_begin q).frames (front ++ 40 ∷ []) es inside))
+    later : (token : Token) (byte needed : ℕ) → ((s.version ≡ version.Two → ⊥) → Begins s token byte needed) → (byte ≡ 46 → ⊥) →
+        first_byte_refusal (rules_of s) (length s.frames) byte ≡ refusal_in_three s.version None →
+        Leads (at s AtStart) front es byte (machine.move_in_three s.version (begin_move (at s AtStart) needed token))
+    later token byte needed begins no_stop answer =
+        three_leads s byte front es None (begin_move (at s AtStart) needed token) no_stop answer c w
+        (λ no_two. token_leads s token byte needed front es (begins no_two) no_stop c w)
 
-bang_leads : (s : Place) (front : List ℕ) (es : List Event) → HasCountsOf (at s AtStart) 0 front → StandsAfter (at s AtStart) front es →
-    Leads (at s AtStart) front es 33 (machine.move_in_three s.version (begin_move (at s AtStart) 5 (AtHead head.BulkError)))
-bang_leads s front es c w =
-    let q = at s AtStart in
-    let r = rules_of s in
-    let roomy : 64 ≤ s.bounds.length = c.sound.bounds.length_in_range.0 in
-    three_leads s 33 front es None (begin_move q 5 (AtHead head.BulkError)) (λ z. omega arith) refl c w
-    (λ no_two none. both_lead s (AtHead head.BulkError) 33 5 front es c (λ z. omega arith) none w (λ level i. (no_two, refl, refl))
-    (λ level bytes shown i u. subst (λ z. IsBegunBy r level z 5) (sym u.1) (bulk_error_begun r level u.0))
-    (λ inside. lies_begun q (AtHead head.BulkError) (after_begin q).frames (front ++ 33 ∷ []) es inside))
+    later_aggregate : (kind : Kind) (h : Head) → ((level : ℕ) → level ≡ length s.frames → IsNoPushBelow level kind) →
+        (((level : ℕ) → level ≡ length s.frames → AggregateBegun (rules_of s) kind level (kind_byte kind ∷ []) []) →
+        Begins s (AtHead h) (kind_byte kind) (first_needed h)) → (kind_byte kind ≡ 46 → ⊥) →
+        first_byte_refusal (rules_of s) (length s.frames) (kind_byte kind) ≡ refusal_in_three s.version (aggregate_refusal (rules_of s) (length s.frames)) →
+        Leads (at s AtStart) front es (kind_byte kind) (machine.move_in_three s.version (aggregate_move (at s AtStart) h))
+    later_aggregate kind h no_push begins no_stop answer =
+        three_leads s (kind_byte kind) front es (aggregate_refusal (rules_of s) (length s.frames)) (aggregate_move (at s AtStart) h) no_stop answer c w
+        (aggregate_leads s kind h front es no_push begins no_stop c w)
 
-equals_leads : (s : Place) (front : List ℕ) (es : List Event) → HasCountsOf (at s AtStart) 0 front → StandsAfter (at s AtStart) front es →
-    Leads (at s AtStart) front es 61 (machine.move_in_three s.version (begin_move (at s AtStart) 9 (AtHead head.Verbatim)))
-equals_leads s front es c w =
-    let q = at s AtStart in
-    let r = rules_of s in
-    let roomy : 64 ≤ s.bounds.length = c.sound.bounds.length_in_range.0 in
-    three_leads s 61 front es None (begin_move q 9 (AtHead head.Verbatim)) (λ z. omega arith) refl c w
-    (λ no_two none. both_lead s (AtHead head.Verbatim) 61 9 front es c (λ z. omega arith) none w (λ level i. (no_two, refl, refl))
-    (λ level bytes shown i u. subst (λ z. IsBegunBy r level z 9) (sym u.1) (verbatim_begun r level u.0 (omega (arith, roomy))))
-    (λ inside. lies_begun q (AtHead head.Verbatim) (after_begin q).frames (front ++ 61 ∷ []) es inside))
+-- a byte that has no answer beside it
+other_answer : {A : Type 0} (rows : List (ℕ × A)) (other : A) (byte : ℕ) → AllByRecursion (λ row. byte ≡ row.0 → ⊥) rows →
+    answer_beside rows other byte ≡ other
+other_answer [] other byte apart = refl
+other_answer (row ∷ rows) other byte apart = rw (ne_eqb byte row.0 apart.0) (other_answer rows other byte apart.1)
 
-tilde_leads : (s : Place) (front : List ℕ) (es : List Event) → HasCountsOf (at s AtStart) 0 front → StandsAfter (at s AtStart) front es →
-    Leads (at s AtStart) front es 126 (machine.move_in_three s.version (aggregate_move (at s AtStart) head.Set))
-tilde_leads s front es c w =
-    let q = at s AtStart in
-    let r = rules_of s in
-    let roomy : 64 ≤ s.bounds.length = c.sound.bounds.length_in_range.0 in
-    three_leads s 126 front es (aggregate_refusal r (length s.frames)) (aggregate_move q head.Set) (λ z. omega arith) refl c w
-    (λ no_two answer. aggregate_leads s d.Set head.Set 126 front es refl (λ z. omega arith) no_two answer (λ level i. tt) c w
-    (λ level bytes shown u. aggregate_row r d.Set level bytes shown refl u) (λ inside. inside))
-
-percent_leads : (s : Place) (front : List ℕ) (es : List Event) → HasCountsOf (at s AtStart) 0 front → StandsAfter (at s AtStart) front es →
-    Leads (at s AtStart) front es 37 (machine.move_in_three s.version (aggregate_move (at s AtStart) head.Map))
-percent_leads s front es c w =
-    let q = at s AtStart in
-    let r = rules_of s in
-    let roomy : 64 ≤ s.bounds.length = c.sound.bounds.length_in_range.0 in
-    three_leads s 37 front es (aggregate_refusal r (length s.frames)) (aggregate_move q head.Map) (λ z. omega arith) refl c w
-    (λ no_two answer. aggregate_leads s d.Map head.Map 37 front es refl (λ z. omega arith) no_two answer (λ level i. tt) c w
-    (λ level bytes shown u. aggregate_row r d.Map level bytes shown refl u) (λ inside. inside))
-
-bar_leads : (s : Place) (front : List ℕ) (es : List Event) → HasCountsOf (at s AtStart) 0 front → StandsAfter (at s AtStart) front es →
-    Leads (at s AtStart) front es 124 (machine.move_in_three s.version (aggregate_move (at s AtStart) head.Attr))
-bar_leads s front es c w =
-    let q = at s AtStart in
-    let r = rules_of s in
-    let roomy : 64 ≤ s.bounds.length = c.sound.bounds.length_in_range.0 in
-    three_leads s 124 front es (aggregate_refusal r (length s.frames)) (aggregate_move q head.Attr) (λ z. omega arith) refl c w
-    (λ no_two answer. aggregate_leads s d.Attr head.Attr 124 front es refl (λ z. omega arith) no_two answer (λ level i. tt) c w
-    (λ level bytes shown u. attribute_row r level bytes shown u) (λ inside. inside))
-
-greater_leads : (s : Place) (front : List ℕ) (es : List Event) → HasCountsOf (at s AtStart) 0 front → StandsAfter (at s AtStart) front es →
-    Leads (at s AtStart) front es 62 (machine.move_in_three s.version (push_move (at s AtStart) s.frames))
-greater_leads s front es c w =
-    let q = at s AtStart in
-    let r = rules_of s in
-    let roomy : 64 ≤ s.bounds.length = c.sound.bounds.length_in_range.0 in
-    three_leads s 62 front es (push_refusal r (length s.frames)) (push_move q s.frames) (λ z. omega arith) refl c w
-    (λ no_two answer. push_leads s 62 front es refl no_two answer c w)
-
--- at the byte itself
-at_byte : (s : Place) (front : List ℕ) (es : List Event) (byte x : ℕ) (v : Move) → Leads s front es x v → byte ≡ x → Leads s front es byte v
-at_byte s front es byte x v leads is = subst (λ z. Leads s front es z v) (sym is) leads
-
--- any other byte
-other_refused : (r : Rules) (level byte : ℕ) → (byte ≡ 44 → ⊥) → (byte ≡ 43 → ⊥) → (byte ≡ 45 → ⊥) → (byte ≡ 58 → ⊥) → (byte ≡ 36 → ⊥) → (byte ≡ 42 → ⊥) →
-    (byte ≡ 95 → ⊥) → (byte ≡ 35 → ⊥) → (byte ≡ 40 → ⊥) → (byte ≡ 33 → ⊥) → (byte ≡ 61 → ⊥) → (byte ≡ 126 → ⊥) → (byte ≡ 37 → ⊥) → (byte ≡ 124 → ⊥) →
-    (byte ≡ 62 → ⊥) → first_byte_refusal r level byte ≡ Some Grammar
-other_refused r level byte n44 n43 n45 n58 n36 n42 n95 n35 n40 n33 n61 n126 n37 n124 n62 =
-    rw (
-      ne_eqb byte 44 n44,
-      ne_eqb byte 43 n43,
-      ne_eqb byte 45 n45,
-      ne_eqb byte 58 n58,
-      ne_eqb byte 36 n36,
-      ne_eqb byte 42 n42,
-      ne_eqb byte 95 n95,
-      ne_eqb byte 35 n35,
-      ne_eqb byte 40 n40,
-      ne_eqb byte 33 n33,
-      ne_eqb byte 61 n61,
-      ne_eqb byte 126 n126,
-      ne_eqb byte 37 n37,
-      ne_eqb byte 124 n124,
-      ne_eqb byte 62 n62,
-    ) refl
-
-pub start_leads : StartLeads
+-- every byte where a value may begin
+pub start_leads : (s : Place) (byte : ℕ) (front : List ℕ) (es : List Event) → byte < 256 → HasCountsOf (at s AtStart) 0 front → StandsAfter (at s AtStart) front es → Leads (at s AtStart) front es byte (next (at s AtStart) 1 byte)
 start_leads s byte front es is_byte c w =
     let q = at s AtStart in
-    by_byte q front es 43 byte _ _ (at_byte q front es byte 43 _ (plus_leads s front es c w))
-    (λ n43. by_byte q front es 45 byte _ _ (at_byte q front es byte 45 _ (minus_leads s front es c w))
-    (λ n45. by_byte q front es 58 byte _ _ (at_byte q front es byte 58 _ (colon_leads s front es c w))
-    (λ n58. by_byte q front es 36 byte _ _ (at_byte q front es byte 36 _ (dollar_leads s front es c w))
-    (λ n36. by_byte q front es 42 byte _ _ (at_byte q front es byte 42 _ (star_leads s front es c w))
-    (λ n42. by_byte q front es 46 byte _ _ (at_byte q front es byte 46 _ (stop_leads s front es c w))
-    (λ n46. by_byte q front es 44 byte _ _ (at_byte q front es byte 44 (Refuse cause.Double) (comma_leads s front es c w))
-    (λ n44. by_byte q front es 95 byte _ _ (at_byte q front es byte 95 _ (underscore_leads s front es c w))
-    (λ n95. by_byte q front es 35 byte _ _ (at_byte q front es byte 35 _ (hash_leads s front es c w))
-    (λ n35. by_byte q front es 40 byte _ _ (at_byte q front es byte 40 _ (paren_leads s front es c w))
-    (λ n40. by_byte q front es 33 byte _ _ (at_byte q front es byte 33 _ (bang_leads s front es c w))
-    (λ n33. by_byte q front es 61 byte _ _ (at_byte q front es byte 61 _ (equals_leads s front es c w))
-    (λ n61. by_byte q front es 126 byte _ _ (at_byte q front es byte 126 _ (tilde_leads s front es c w))
-    (λ n126. by_byte q front es 37 byte _ _ (at_byte q front es byte 37 _ (percent_leads s front es c w))
-    (λ n37. by_byte q front es 124 byte _ _ (at_byte q front es byte 124 _ (bar_leads s front es c w))
-    (λ n124. by_byte q front es 62 byte _ _ (at_byte q front es byte 62 _ (greater_leads s front es c w))
-    (λ n62. answer_named q front es byte Grammar cause.Syntax c n46 w
-    (other_refused (rules_of s) (length s.frames) byte n44 n43 n45 n58 n36 n42 n95 n35 n40 n33 n61 n126 n37 n124 n62) refl))))))))))))))))
+    at_answer (λ x v. Leads q front es x v) (start_rows q) (Refuse cause.Syntax) byte (start_rows_lead s front es c w)
+    (λ apart. answer_named q front es byte Grammar cause.Syntax c apart.1.1.1.1.1.0 w (other_answer (first_byte_answers (rules_of s) (length s.frames)) (Some Grammar) byte
+    (apart.1.1.1.1.1.1.0, (apart.0, (apart.1.0, (apart.1.1.0, (apart.1.1.1.0, (apart.1.1.1.1.0, apart.1.1.1.1.1.1.1))))))) refl)

@@ -10,11 +10,11 @@ use Rattle.resp_fronts.proofs.Tokens.ChunkTokens.{chunks_begun, stream_returned_
 use Rattle.resp_fronts.proofs.Refusals.BrokenChunks.{chunks_broken, stream_mark_broken, stream_returned_broken}
 use Rattle.resp_scan.specs.declared.event.TextKind.TheVariants as text
 use Rattle.resp_scan.specs.declared.machine.Head.TheVariants as head
-use Rattle.resp_scan.specs.Machine.Tokens.{Go, Give, Text, AtStreamCr, AtStreamLf, AtChunk, AtHead, at}
+use Rattle.resp_scan.specs.Machine.Tokens.{Go, Give, Text, AtStreamCr, AtStreamLf, AtChunk, AtHead, at, Place}
 use Rattle.resp_scan.specs.Kinds.{rules_of}
 use Rattle.resp_scan.specs.Machine.Beginnings.{ChunksBegun}
 use Rattle.resp_scan.specs.Machine.Standing.{Leads, StandsAfter}
-use Rattle.resp_scan.proofs.TokenMoves.TokenLaws.{StreamsLead, StreamEndsLead, ChunksLead}
+use Rattle.resp_scan.proofs.TokenMoves.TokenLaws.{ALead}
 use Rattle.resp_scan.proofs.TokenMoves.ByteTests.{wanted}
 use Rattle.resp_scan.proofs.TokenMoves.ChunksBegun.{are_whole, chunks_more}
 use Rattle.resp_scan.proofs.TokenMoves.Moves.{goes, tells}
@@ -25,7 +25,8 @@ use Rattle.resp_fronts.specs.Tokens.{HasStreamed}
 abbrev IsStream : Rules → List ℕ → ℕ → List ℕ → List Event → Type 0
 IsStream r line level bytes shown = HasStreamed r × (bytes ≡ line) × (shown ≡ [])
 
-pub streams_lead : StreamsLead
+-- every byte behind `$?`
+pub streams_lead : (s : Place) → ALead (at s AtStreamCr)
 streams_lead s used byte front es is_byte c w =
     let r = rules_of s in
     wanted (at s AtStreamCr) front es 13 byte (Go (at s AtStreamLf))
@@ -49,7 +50,8 @@ chunks_begin r level bytes shown t = record {
       ap (λ z. z ++ e.Text e.Bulk ∷ []) t.2;
 }
 
-pub stream_ends_lead : StreamEndsLead
+-- every byte behind the CR of `$?`
+pub stream_ends_lead : (s : Place) → ALead (at s AtStreamLf)
 stream_ends_lead s used byte front es is_byte c w =
     let r = rules_of s in
     let v = Give (Text text.Bulk) (at s (AtChunk s.bounds.length)) in
@@ -61,7 +63,8 @@ stream_ends_lead s used byte front es is_byte c w =
     (λ level bytes shown i t. subst (λ z. IsBegunBy r level z 5) (sym t.1) (stream_returned_begun r level t.0))
     (λ level bytes rest shown t d. stream_returned_broken r level rest byte other (subst (λ z. CompletesUnder r Grammar level z (byte ∷ rest)) t.1 d)))
 
-pub chunks_lead : ChunksLead
+-- every byte where a chunk may begin
+pub chunks_lead : (s : Place) (room : ℕ) → ALead (at s (AtChunk room))
 chunks_lead s room used byte front es is_byte c w =
     let r = rules_of s in
     let v = Go (at s (AtHead (head.Chunk room))) in

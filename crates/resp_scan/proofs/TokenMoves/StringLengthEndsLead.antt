@@ -17,13 +17,13 @@ use Rattle.resp_scan.specs.Machine.Heads.{content_at}
 use Rattle.resp_scan.specs.Kinds.{rules_of}
 use Rattle.resp_scan.specs.Machine.Beginnings.{ContentBegun, FormatBegun, HeadReturned, LengthReturned, string_text_kind}
 use Rattle.resp_scan.specs.Machine.Standing.{IsInside, Leads, StandsAfter}
-use Rattle.resp_scan.proofs.TokenMoves.TokenLaws.{StringLengthEndsLead}
 use Rattle.resp_scan.proofs.TokenMoves.ByteTests.{wanted}
 use Rattle.resp_scan.proofs.TokenMoves.ContentLead.{content_lies}
 use Rattle.resp_scan.proofs.TokenMoves.Moves.{goes, retold, tells}
 use Rattle.resp_scan.proofs.TokenMoves.RefusedMoves.{broken}
 use Rattle.resp_scan.proofs.HeadMoves.StringHeads.{IsStringHead, bulk, bulk_error, verbatim}
 use Rattle.resp_fronts.specs.Tokens.{IsContentToken, zeros}
+use Rattle.resp_scan.proofs.TokenMoves.TokenLaws.{ALead, IsOfString}
 
 -- a length that is whole, with its CR
 abbrev Returned : Rules → StringKind → ℕ → ℕ → List ℕ → List Event → Type 0
@@ -81,7 +81,8 @@ content_begins_at s kind n front es f plain w =
       told = ap (λ z. z ++ e.Text (string_text_kind kind) ∷ []) u.1.length.told;
     }))
 
-pub string_length_ends_lead : StringLengthEndsLead
+-- every byte behind the CR of a string's length
+pub string_length_ends_lead : (s : Place) (h : Head) (n : ℕ) → IsOfString h → ALead (at s (AtHeadLf h n))
 string_length_ends_lead s head.Bulk n p used byte front es is_byte c w =
     length_end_leads (at s (AtHeadLf head.Bulk n)) head.Bulk t.Bulk bulk n byte front es _ w
     (content_begins_at s t.Bulk n front es tt refl (retold (rules_of s) _ _ s.frames front es w (λ level bytes shown u. (tt, u))))
@@ -99,8 +100,4 @@ string_length_ends_lead s head.Verbatim n p used byte front es is_byte c w =
       told = u.1.length.told;
     }))
 string_length_ends_lead s (head.Chunk room) n p used byte front es is_byte c w = absurd p
-string_length_ends_lead s head.Array n p used byte front es is_byte c w = absurd p
-string_length_ends_lead s head.Set n p used byte front es is_byte c w = absurd p
-string_length_ends_lead s head.Map n p used byte front es is_byte c w = absurd p
-string_length_ends_lead s head.Attr n p used byte front es is_byte c w = absurd p
-string_length_ends_lead s head.Push n p used byte front es is_byte c w = absurd p
+string_length_ends_lead s _ n p used byte front es is_byte c w = absurd p

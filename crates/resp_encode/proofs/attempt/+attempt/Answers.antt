@@ -6,9 +6,9 @@ use Rattle.resp_value.specs.Canonical.{IsWhole, HasNoPush}
 use Rattle.resp_value.specs.Values.{datum_of, pair_data, extended}
 use Rattle.resp_value.proofs.DatumOf.{datum_of-Array, datum_of-Set, datum_of-Map, datum_of-Attr, in_turn_is_whole, annotated_is_whole}
 use Rattle.resp_value.specs.declared.value.Value.{Value}
-use Rattle.resp_encode.specs.Attempts.{Attempt, AttemptEach, AttemptNotes}
+use Rattle.resp_encode.specs.Walks.Attempts.{Attempt, AttemptEach, AttemptAttributePairs}
 use Rattle.resp_value.specs.Kinds.{kind_of}
-use Rattle.resp_encode.proofs.Attempted.{inside_tried, one_more_tried, notes_tried, annotated_tried, is_below, is_whole}
+use Rattle.resp_encode.proofs.Attempted.{inside_tried, one_more_tried, attribute_pairs_tried, annotated_tried, is_below, is_whole}
 use Rattle.resp_encode.proofs.Counts.{count-map, count-in_turn, count-annotated}
 use Rattle.resp_encode.proofs.Extended.{data_of_list-push}
 use Rattle.resp_encode.proofs.SoFar.{data-take_more, pairs-take_more}
@@ -21,97 +21,127 @@ map_data : {ps qs : List (Value × Value)} → ps ≡ qs → aggregate d.Map (da
 map_data same = ap (λ ps. aggregate d.Map (data_of_list (in_turn (map pair_data ps)))) same
 
 -- those of an attribute, at equal parts
-attr_data : {ps qs : List (Value × Value)} {x y : Value} → ps ≡ qs → x ≡ y → aggregate d.Attr (data_of_list (in_turn (map pair_data ps) ++ datum_of x ∷ [])) ≡
+attr_data : {ps qs : List (Value × Value)} {x y : Value} → ps ≡ qs → x ≡ y →
+    aggregate d.Attr (data_of_list (in_turn (map pair_data ps) ++ datum_of x ∷ [])) ≡
     aggregate d.Attr (data_of_list (in_turn (map pair_data qs) ++ datum_of y ∷ []))
-attr_data {qs = qs} {x = x} same under = ap (λ ps. aggregate d.Attr (data_of_list (in_turn (map pair_data ps) ++ datum_of x ∷ []))) same ∙
+attr_data {qs = qs} {x = x} same under = ap (λ ps. aggregate d.Attr
+    (data_of_list (in_turn (map pair_data ps) ++ datum_of x ∷ []))) same ∙
     ap (λ z. aggregate d.Attr (data_of_list (in_turn (map pair_data qs) ++ datum_of z ∷ []))) under
 
 pub attempt_value-returns-in-Null-clause-attempt : goal.attempt_value-returns-in-Null-clause-attempt
-attempt_value-returns-in-Null-clause-attempt t c = subst (λ x. Attempt c.args.version c.args.limits.now c.args.deeper x c.args.out.now c.attempt_null.new.out
+attempt_value-returns-in-Null-clause-attempt t c =
+    subst (λ x. Attempt c.args.version c.args.limits.now c.args.deeper x c.args.out.now c.attempt_null.new.out
     c.attempt_null.result) (sym (ap datum_of c.in-Null.is)) (c.attempt_null.ensures c.args.deeper)
 
 pub attempt_value-returns-in-Bool-clause-attempt : goal.attempt_value-returns-in-Bool-clause-attempt
-attempt_value-returns-in-Bool-clause-attempt t c = subst (λ x. Attempt c.args.version c.args.limits.now c.args.deeper x c.args.out.now c.attempt_bool.new.out
+attempt_value-returns-in-Bool-clause-attempt t c =
+    subst (λ x. Attempt c.args.version c.args.limits.now c.args.deeper x c.args.out.now c.attempt_bool.new.out
     c.attempt_bool.result) (sym (ap datum_of c.in-Bool.is)) (c.attempt_bool.ensures c.args.deeper)
 
 pub attempt_value-returns-in-Int-clause-attempt : goal.attempt_value-returns-in-Int-clause-attempt
-attempt_value-returns-in-Int-clause-attempt t c = subst (λ x. Attempt c.args.version c.args.limits.now c.args.deeper x c.args.out.now c.attempt_int.new.out
-    c.attempt_int.result) (sym (ap datum_of c.in-Int.is)) (c.attempt_int.ensures c.args.version c.args.limits.now c.args.deeper)
+attempt_value-returns-in-Int-clause-attempt t c =
+    subst (λ x. Attempt c.args.version c.args.limits.now c.args.deeper x c.args.out.now c.attempt_int.new.out
+    c.attempt_int.result) (sym (ap datum_of c.in-Int.is))
+    (c.attempt_int.ensures c.args.version c.args.limits.now c.args.deeper)
 
 pub attempt_value-returns-in-Simple-clause-attempt : goal.attempt_value-returns-in-Simple-clause-attempt
-attempt_value-returns-in-Simple-clause-attempt t c = subst (λ x. Attempt c.args.version c.args.limits.now c.args.deeper x c.args.out.now
-    c.attempt_simple.new.out c.attempt_simple.result) (sym (ap datum_of c.in-Simple.is)) (c.attempt_simple.ensures c.args.deeper)
+attempt_value-returns-in-Simple-clause-attempt t c =
+    subst (λ x. Attempt c.args.version c.args.limits.now c.args.deeper x c.args.out.now
+    c.attempt_simple.new.out c.attempt_simple.result) (sym (ap datum_of c.in-Simple.is))
+    (c.attempt_simple.ensures c.args.deeper)
 
 pub attempt_value-returns-in-Error-clause-attempt : goal.attempt_value-returns-in-Error-clause-attempt
-attempt_value-returns-in-Error-clause-attempt t c = subst (λ x. Attempt c.args.version c.args.limits.now c.args.deeper x c.args.out.now c.attempt_error.new.out
+attempt_value-returns-in-Error-clause-attempt t c =
+    subst (λ x. Attempt c.args.version c.args.limits.now c.args.deeper x c.args.out.now c.attempt_error.new.out
     c.attempt_error.result) (sym (ap datum_of c.in-Error.is)) (c.attempt_error.ensures c.args.deeper)
 
 pub attempt_value-returns-in-Bulk-clause-attempt : goal.attempt_value-returns-in-Bulk-clause-attempt
-attempt_value-returns-in-Bulk-clause-attempt t c = subst (λ x. Attempt c.args.version c.args.limits.now c.args.deeper x c.args.out.now c.attempt_bulk.new.out
+attempt_value-returns-in-Bulk-clause-attempt t c =
+    subst (λ x. Attempt c.args.version c.args.limits.now c.args.deeper x c.args.out.now c.attempt_bulk.new.out
     c.attempt_bulk.result) (sym (ap datum_of c.in-Bulk.is)) (c.attempt_bulk.ensures c.args.version c.args.deeper)
 
 pub attempt_value-returns-in-BulkError-clause-attempt : goal.attempt_value-returns-in-BulkError-clause-attempt
-attempt_value-returns-in-BulkError-clause-attempt t c = subst (λ x. Attempt c.args.version c.args.limits.now c.args.deeper x c.args.out.now
-    c.attempt_bulk_error.new.out c.attempt_bulk_error.result) (sym (ap datum_of c.in-BulkError.is)) (c.attempt_bulk_error.ensures c.args.deeper)
+attempt_value-returns-in-BulkError-clause-attempt t c =
+    subst (λ x. Attempt c.args.version c.args.limits.now c.args.deeper x c.args.out.now
+    c.attempt_bulk_error.new.out c.attempt_bulk_error.result) (sym (ap datum_of c.in-BulkError.is))
+    (c.attempt_bulk_error.ensures c.args.deeper)
 
 pub attempt_value-returns-in-Verbatim-clause-attempt : goal.attempt_value-returns-in-Verbatim-clause-attempt
-attempt_value-returns-in-Verbatim-clause-attempt t c = subst (λ x. Attempt c.args.version c.args.limits.now c.args.deeper x c.args.out.now
-    c.attempt_verbatim.new.out c.attempt_verbatim.result) (sym (ap datum_of c.in-Verbatim.is)) (c.attempt_verbatim.ensures c.args.deeper)
+attempt_value-returns-in-Verbatim-clause-attempt t c =
+    subst (λ x. Attempt c.args.version c.args.limits.now c.args.deeper x c.args.out.now
+    c.attempt_verbatim.new.out c.attempt_verbatim.result) (sym (ap datum_of c.in-Verbatim.is))
+    (c.attempt_verbatim.ensures c.args.deeper)
 
 pub attempt_value-returns-in-Big-clause-attempt : goal.attempt_value-returns-in-Big-clause-attempt
-attempt_value-returns-in-Big-clause-attempt t c = subst (λ x. Attempt c.args.version c.args.limits.now c.args.deeper x c.args.out.now c.attempt_big.new.out
+attempt_value-returns-in-Big-clause-attempt t c =
+    subst (λ x. Attempt c.args.version c.args.limits.now c.args.deeper x c.args.out.now c.attempt_big.new.out
     c.attempt_big.result) (sym (ap datum_of c.in-Big.is)) (c.attempt_big.ensures c.args.deeper)
 
 pub attempt_value-returns-in-Array-clause-attempt : goal.attempt_value-returns-in-Array-clause-attempt
-attempt_value-returns-in-Array-clause-attempt t c = subst (λ x. Attempt c.args.version c.args.limits.now c.args.deeper x c.args.out.now c.attempt_group.new.out
+attempt_value-returns-in-Array-clause-attempt t c =
+    subst (λ x. Attempt c.args.version c.args.limits.now c.args.deeper x c.args.out.now c.attempt_group.new.out
     c.attempt_group.result) (ap (λ xs. aggregate d.Array (data_of_list (map datum_of xs))) c.list.ensures ∙
     sym (ap datum_of c.in-Array.is ∙ datum_of-Array c.in-Array.members)) c.attempt_group.ensures
 
 pub attempt_value-returns-in-Array-clause-no_push : goal.attempt_value-returns-in-Array-clause-no_push
 attempt_value-returns-in-Array-clause-no_push t c = subst (λ x. OnTrue c.attempt_group.result (HasNoPush x))
-    (ap (λ xs. aggregate d.Array (data_of_list (map datum_of xs))) c.list.ensures ∙ sym (ap datum_of c.in-Array.is ∙ datum_of-Array c.in-Array.members))
-    (is_below c.args.version c.args.limits.now c.args.deeper d.Array _ c.attempt_group.result tt c.attempt_group.ensures.suits)
+    (ap (λ xs. aggregate d.Array (data_of_list (map datum_of xs))) c.list.ensures ∙
+    sym (ap datum_of c.in-Array.is ∙ datum_of-Array c.in-Array.members))
+    (is_below c.args.version c.args.limits.now c.args.deeper d.Array _ c.attempt_group.result tt
+    c.attempt_group.ensures.suits)
 
 pub attempt_value-returns-in-Set-clause-attempt : goal.attempt_value-returns-in-Set-clause-attempt
-attempt_value-returns-in-Set-clause-attempt t c = subst (λ x. Attempt c.args.version c.args.limits.now c.args.deeper x c.args.out.now
-    c.attempt_group-in-Set.new.out c.attempt_group-in-Set.result) (ap (λ xs. aggregate d.Set (data_of_list (map datum_of xs))) c.list-in-Set.ensures ∙
+attempt_value-returns-in-Set-clause-attempt t c =
+    subst (λ x. Attempt c.args.version c.args.limits.now c.args.deeper x c.args.out.now
+    c.attempt_group-in-Set.new.out c.attempt_group-in-Set.result)
+    (ap (λ xs. aggregate d.Set (data_of_list (map datum_of xs))) c.list-in-Set.ensures ∙
     sym (ap datum_of c.in-Set.is ∙ datum_of-Set c.in-Set.members)) c.attempt_group-in-Set.ensures
 
 pub attempt_value-returns-in-Set-clause-no_push : goal.attempt_value-returns-in-Set-clause-no_push
 attempt_value-returns-in-Set-clause-no_push t c = subst (λ x. OnTrue c.attempt_group-in-Set.result (HasNoPush x))
-    (ap (λ xs. aggregate d.Set (data_of_list (map datum_of xs))) c.list-in-Set.ensures ∙ sym (ap datum_of c.in-Set.is ∙ datum_of-Set c.in-Set.members))
-    (is_below c.args.version c.args.limits.now c.args.deeper d.Set _ c.attempt_group-in-Set.result tt c.attempt_group-in-Set.ensures.suits)
+    (ap (λ xs. aggregate d.Set (data_of_list (map datum_of xs))) c.list-in-Set.ensures ∙
+    sym (ap datum_of c.in-Set.is ∙ datum_of-Set c.in-Set.members))
+    (is_below c.args.version c.args.limits.now c.args.deeper d.Set _ c.attempt_group-in-Set.result tt
+    c.attempt_group-in-Set.ensures.suits)
 
 pub attempt_value-returns-in-Map-clause-attempt : goal.attempt_value-returns-in-Map-clause-attempt
-attempt_value-returns-in-Map-clause-attempt t c = subst (λ x. Attempt c.args.version c.args.limits.now c.args.deeper x c.args.out.now c.attempt_map.new.out
-    c.attempt_map.result) (map_data c.list-in-Map.ensures ∙ sym (ap datum_of c.in-Map.is ∙ datum_of-Map c.in-Map.pairs)) c.attempt_map.ensures
+attempt_value-returns-in-Map-clause-attempt t c =
+    subst (λ x. Attempt c.args.version c.args.limits.now c.args.deeper x c.args.out.now c.attempt_map.new.out
+    c.attempt_map.result) (map_data c.list-in-Map.ensures ∙ sym (ap datum_of c.in-Map.is ∙ datum_of-Map c.in-Map.pairs))
+    c.attempt_map.ensures
 
 pub attempt_value-returns-in-Map-clause-no_push : goal.attempt_value-returns-in-Map-clause-no_push
-attempt_value-returns-in-Map-clause-no_push t c = subst (λ x. OnTrue c.attempt_map.result (HasNoPush x)) (map_data c.list-in-Map.ensures ∙
-    sym (ap datum_of c.in-Map.is ∙ datum_of-Map c.in-Map.pairs)) (is_below c.args.version c.args.limits.now c.args.deeper d.Map _ c.attempt_map.result tt
+attempt_value-returns-in-Map-clause-no_push t c =
+    subst (λ x. OnTrue c.attempt_map.result (HasNoPush x)) (map_data c.list-in-Map.ensures ∙
+    sym (ap datum_of c.in-Map.is ∙ datum_of-Map c.in-Map.pairs))
+    (is_below c.args.version c.args.limits.now c.args.deeper d.Map _ c.attempt_map.result tt
     c.attempt_map.ensures.suits)
 
 pub attempt_group-returns : goal.attempt_group-returns
 attempt_group-returns t c =
     let xs = data_of_list (map datum_of c.args.members.now) in
     let head = c.if-not-attempt_head.ensures in
-    inside_tried c.args.version c.args.limits.now c.args.deeper (kind_of c.args.kind) xs (length c.args.members.now) c.attempt_members.result head.writes
+    inside_tried c.args.version c.args.limits.now c.args.deeper (kind_of c.args.kind) xs (length c.args.members.now)
+    c.attempt_members.result head.writes
     head.has_kind head.within_depth head.within_items
-    (c.requires (count xs) ∙ count-map datum_of c.args.members.now) (is_whole c.args.kind c.requires (count xs)) c.attempt_members.ensures
+    (c.requires (count xs) ∙ count-map datum_of c.args.members.now) (is_whole c.args.kind c.requires (count xs))
+    c.attempt_members.ensures
 
 pub attempt_map-returns : goal.attempt_map-returns
 attempt_map-returns t c =
     let pairs = c.args.pairs.now in
     let head = c.if-not-attempt_head.ensures in
-    inside_tried c.args.version c.args.limits.now c.args.deeper d.Map (data_of_list (in_turn (map pair_data pairs))) (length pairs) c.attempt_pairs.result
+    inside_tried c.args.version c.args.limits.now c.args.deeper d.Map (data_of_list (in_turn (map pair_data pairs)))
+    (length pairs) c.attempt_pairs.result
     head.writes head.has_kind head.within_depth head.within_items
     (count-in_turn pair_data pairs) (in_turn_is_whole (map pair_data pairs)) c.attempt_pairs.ensures
 
-pub attempt_notes-returns : goal.attempt_notes-returns
-attempt_notes-returns t c =
+pub attempt_attribute_pairs-returns : goal.attempt_attribute_pairs-returns
+attempt_attribute_pairs-returns t c =
     let pairs = c.args.pairs.now in
     let head = c.if-not-attempt_head.ensures in
-    notes_tried c.args.version c.args.limits.now c.args.deeper (data_of_list (in_turn (map pair_data pairs))) (length pairs) c.attempt_pairs.result head.writes
+    attribute_pairs_tried c.args.version c.args.limits.now c.args.deeper (data_of_list (in_turn (map pair_data pairs)))
+    (length pairs) c.attempt_pairs.result head.writes
     head.has_kind head.within_depth head.within_items c.attempt_pairs.ensures
 
 pub attempt_members-loop-member-preserved : goal.attempt_members-loop-member-preserved
@@ -119,39 +149,51 @@ attempt_members-loop-member-preserved t c =
     let i = c.loop-member.member-index in
     let front = data_of_list (map datum_of (take i c.args.members.now)) in
     let one_more = data-take_more datum_of c.args.members.now i c.member-item.result c.loop-member-test.true in
-    let tried = one_more_tried c.args.version c.args.limits.now c.args.deeper front (datum_of c.member-item.result) true c.loop-member.invariant.whole
+    let tried = one_more_tried c.args.version c.args.limits.now c.args.deeper front (datum_of c.member-item.result) true
+    c.loop-member.invariant.whole
     c.loop-member.invariant.suits c.if-not-attempt_value.ensures.attempt c.if-not-attempt_value.ensures.no_push in
-    let each = subst (λ xs. AttemptEach c.args.version c.args.limits.now c.args.deeper xs c.args.out.now c.attempt_value.new.out true)
+    let each = subst (λ xs. AttemptEach c.args.version c.args.limits.now c.args.deeper xs c.args.out.now
+    c.attempt_value.new.out true)
     (ap (λ x. extended front (datum_of x)) c.member-item.is ∙ sym one_more) tried in
     record { whole = each.whole; suits = each.suits }
 
 -- an attribute whose pairs were written, and whose value was tried
-noted : (t : ℕ) (c : attempt_value-After-attempt_annotated t) → c.attempt_notes.result ≡ true →
-    Attempt c.args.version c.args.limits.now c.args.deeper (datum_of c.args.value.now) c.args.out.now c.attempt_annotated.new.out c.attempt_annotated.result ×
+noted : (t : ℕ) (c : attempt_value-After-attempt_annotated t) → c.attempt_attribute_pairs.result ≡ true →
+    Attempt c.args.version c.args.limits.now c.args.deeper (datum_of c.args.value.now) c.args.out.now
+    c.attempt_annotated.new.out c.attempt_annotated.result ×
     OnTrue c.attempt_annotated.result (HasNoPush (datum_of c.args.value.now))
 noted t c e =
     let pairs = c.list-in-Attr.result.now in
     let x = datum_of c.deref.result.now in
     let front = in_turn (map pair_data pairs) in
     let whole = data_of_list-push front x in
-    let notes = subst (λ done. AttemptNotes c.args.version c.args.limits.now c.args.deeper (length pairs) (data_of_list front) c.args.out.now
-    c.attempt_notes.new.out done) e c.attempt_notes.ensures in
-    let tried = annotated_tried c.args.version c.args.limits.now c.args.deeper (data_of_list front) x (length pairs) c.attempt_annotated.result notes
+    let notes = subst (λ done. AttemptAttributePairs c.args.version c.args.limits.now c.args.deeper (length pairs)
+    (data_of_list front) c.args.out.now
+    c.attempt_attribute_pairs.new.out done) e c.attempt_attribute_pairs.ensures in
+    let tried = annotated_tried c.args.version c.args.limits.now c.args.deeper (data_of_list front) x (length pairs)
+    c.attempt_annotated.result notes
     (ap (λ xs. count xs / 2) (sym whole) ∙ count-annotated pair_data pairs x)
-    (subst (λ xs. IsWhole d.Attr (count xs)) whole (annotated_is_whole (map pair_data pairs) x)) c.attempt_annotated.ensures.attempt
+    (subst (λ xs. IsWhole d.Attr (count xs)) whole (annotated_is_whole (map pair_data pairs) x))
+    c.attempt_annotated.ensures.attempt
     c.attempt_annotated.ensures.no_push in
     let same = ap (aggregate d.Attr) (sym whole) ∙ attr_data c.list-in-Attr.ensures c.deref.ensures ∙
     sym (ap datum_of c.in-Attr.is ∙ datum_of-Attr c.in-Attr.pairs c.in-Attr.annotated) in (
-      subst (λ y. Attempt c.args.version c.args.limits.now c.args.deeper y c.args.out.now c.attempt_annotated.new.out c.attempt_annotated.result) same tried,
+      subst (λ y. Attempt c.args.version c.args.limits.now c.args.deeper y c.args.out.now c.attempt_annotated.new.out
+          c.attempt_annotated.result) same tried,
       subst (λ y. OnTrue c.attempt_annotated.result (HasNoPush y)) same
-          (is_below c.args.version c.args.limits.now c.args.deeper d.Attr (extended (data_of_list front) x) c.attempt_annotated.result tt tried.suits),
+          (is_below c.args.version c.args.limits.now c.args.deeper d.Attr (extended (data_of_list front) x)
+          c.attempt_annotated.result tt tried.suits),
     )
 
-pub attempt_value-returns-else-not-attempt_notes-clause-attempt : goal.attempt_value-returns-else-not-attempt_notes-clause-attempt
-attempt_value-returns-else-not-attempt_notes-clause-attempt t c = (noted t c c.if-not-attempt_notes.false).0
+pub attempt_value-returns-else-not-attempt_attribute_pairs-clause-attempt :
+    goal.attempt_value-returns-else-not-attempt_attribute_pairs-clause-attempt
+attempt_value-returns-else-not-attempt_attribute_pairs-clause-attempt t c =
+    (noted t c c.if-not-attempt_attribute_pairs.false).0
 
-pub attempt_value-returns-else-not-attempt_notes-clause-no_push : goal.attempt_value-returns-else-not-attempt_notes-clause-no_push
-attempt_value-returns-else-not-attempt_notes-clause-no_push t c = (noted t c c.if-not-attempt_notes.false).1
+pub attempt_value-returns-else-not-attempt_attribute_pairs-clause-no_push :
+    goal.attempt_value-returns-else-not-attempt_attribute_pairs-clause-no_push
+attempt_value-returns-else-not-attempt_attribute_pairs-clause-no_push t c =
+    (noted t c c.if-not-attempt_attribute_pairs.false).1
 
 pub attempt_pairs-loop-pair-preserved : goal.attempt_pairs-loop-pair-preserved
 attempt_pairs-loop-pair-preserved t c =
@@ -160,10 +202,13 @@ attempt_pairs-loop-pair-preserved t c =
     let key = datum_of c.pair-item.result.0 in
     let one_more = pairs-take_more pair_data c.args.pairs.now i c.pair-item.result c.loop-pair-test.true ∙
     ap (λ pair. extended (extended front (pair_data pair).0) (pair_data pair).1) (sym c.pair-item.is) in
-    let first = one_more_tried c.args.version c.args.limits.now c.args.deeper front key true c.loop-pair.invariant.whole c.loop-pair.invariant.suits
+    let first = one_more_tried c.args.version c.args.limits.now c.args.deeper front key true c.loop-pair.invariant.whole
+    c.loop-pair.invariant.suits
     c.if-not-attempt_value.ensures.attempt c.if-not-attempt_value.ensures.no_push in
-    let second = one_more_tried c.args.version c.args.limits.now c.args.deeper (extended front key) (datum_of c.pair-item.result.1) true first.whole first.suits
+    let second = one_more_tried c.args.version c.args.limits.now c.args.deeper (extended front key)
+    (datum_of c.pair-item.result.1) true first.whole first.suits
     c.if-not-attempt_value-2.ensures.attempt c.if-not-attempt_value-2.ensures.no_push in
-    let each = subst (λ xs. AttemptEach c.args.version c.args.limits.now c.args.deeper xs c.args.out.now c.attempt_value-in-loop-pair.new.out true)
+    let each = subst (λ xs. AttemptEach c.args.version c.args.limits.now c.args.deeper xs c.args.out.now
+    c.attempt_value-in-loop-pair.new.out true)
     (sym one_more) second in
     record { whole = each.whole; suits = each.suits }

@@ -9,7 +9,11 @@ pub loop-rest-preserved : goal.loop-rest-preserved
 loop-rest-preserved c =
     let large : 10000 ≤ c.loop-rest.rest = c.loop-rest-test.true in
     record {
-      counted = omega (arith, c.loop-rest.invariant.counted, length-decimal-four_more c.loop-rest.rest large (omega arith));
+      counted = omega (
+        arith,
+        c.loop-rest.invariant.counted,
+        length-decimal-four_more c.loop-rest.rest large (omega arith),
+      );
       smaller = omega arith;
     }
 

@@ -4,7 +4,7 @@ use Rattle.resp_value.specs.Data.{data_of_list, in_turn}
 use Rattle.resp_value.specs.Trees.{texts}
 use Rattle.resp_value.specs.Canonical.{canonical_text, canonical_trees}
 use Rattle.resp_value.specs.Values.{datum_of, pair_data, extended}
-use Rattle.resp_encode.specs.Writings.{Fills}
+use Rattle.resp_encode.specs.Walks.Writings.{Fills}
 use Rattle.resp_encode.proofs.Extended.{texts-extended}
 use Rattle.resp_encode.proofs.SoFar.{data-take_more, pairs-take_more, text_room, pair_room}
 use Rattle.resp_encode.proofs.Texts.{Writes-none, Writes-append, head_split, length-head}
@@ -18,8 +18,10 @@ pub write_members-write_value-requires : goal.write_members-write_value-requires
 write_members-write_value-requires t c =
     let i = c.loop-member.member-index in
     let room = text_room c.args.version datum_of c.args.members.now i c.member-item.result c.loop-member-test.true in
-    let item = ap (λ x. length (canonical_text c.args.version (datum_of x))) c.member-item.is in
-    (omega (arith, room, item, c.loop-member.invariant.spare, c.requires), omega (arith, room, item, c.loop-member.invariant.spare, c.requires))
+    let item = ap (λ x. length (canonical_text c.args.version (datum_of x))) c.member-item.is in (
+      omega (arith, room, item, c.loop-member.invariant.spare, c.requires),
+      omega (arith, room, item, c.loop-member.invariant.spare, c.requires),
+    )
 
 pub write_members-loop-member-preserved : goal.write_members-loop-member-preserved
 write_members-loop-member-preserved t c =
@@ -27,13 +29,15 @@ write_members-loop-member-preserved t c =
     let front = data_of_list (map datum_of (take i c.args.members.now)) in
     let one_more = data-take_more datum_of c.args.members.now i c.member-item.result c.loop-member-test.true in
     subst (Fills c.args.out.now c.write_value.new.out)
-    (ap (λ x. texts (canonical_trees c.args.version front) ++ canonical_text c.args.version (datum_of x)) c.member-item.is
+    (ap (λ x. texts (canonical_trees c.args.version front) ++ canonical_text c.args.version (datum_of x))
+    c.member-item.is
     ∙ sym (ap (λ xs. texts (canonical_trees c.args.version xs)) one_more ∙ texts-extended c.args.version front _))
     (Writes-append c.loop-member.invariant c.write_value.ensures)
 
 pub write_members-returns : goal.write_members-returns
 write_members-returns t c =
-    subst (λ xs. Fills c.args.out.now c.loop-member.out (texts (canonical_trees c.args.version (data_of_list (map datum_of xs)))))
+    subst (λ xs. Fills c.args.out.now c.loop-member.out
+    (texts (canonical_trees c.args.version (data_of_list (map datum_of xs)))))
     (take_all c.loop-member.member-index c.args.members.now c.loop-member-test.false) c.loop-member.invariant
 
 pub write_pairs-loop-pair-init : goal.write_pairs-loop-pair-init
@@ -43,8 +47,10 @@ pub write_pairs-write_value-requires : goal.write_pairs-write_value-requires
 write_pairs-write_value-requires t c =
     let i = c.loop-pair.pair-index in
     let room = pair_room c.args.version pair_data c.args.pairs.now i c.pair-item.result c.loop-pair-test.true in
-    let item = ap (λ x. length (canonical_text c.args.version (datum_of x.0))) c.pair-item.is in
-    (omega (arith, room, item, c.loop-pair.invariant.spare, c.requires), omega (arith, room, item, c.loop-pair.invariant.spare, c.requires))
+    let item = ap (λ x. length (canonical_text c.args.version (datum_of x.0))) c.pair-item.is in (
+      omega (arith, room, item, c.loop-pair.invariant.spare, c.requires),
+      omega (arith, room, item, c.loop-pair.invariant.spare, c.requires),
+    )
 
 pub write_pairs-write_value-requires-in-loop-pair : goal.write_pairs-write_value-requires-in-loop-pair
 write_pairs-write_value-requires-in-loop-pair t c =
@@ -71,7 +77,8 @@ write_pairs-loop-pair-preserved t c =
 
 pub write_pairs-returns : goal.write_pairs-returns
 write_pairs-returns t c =
-    subst (λ xs. Fills c.args.out.now c.loop-pair.out (texts (canonical_trees c.args.version (data_of_list (in_turn (map pair_data xs))))))
+    subst (λ xs. Fills c.args.out.now c.loop-pair.out
+    (texts (canonical_trees c.args.version (data_of_list (in_turn (map pair_data xs))))))
     (take_all c.loop-pair.pair-index c.args.pairs.now c.loop-pair-test.false) c.loop-pair.invariant
 
 pub write_value-write_group-requires : goal.write_value-write_group-requires
@@ -80,13 +87,15 @@ write_value-write_group-requires t c =
       omega (
         arith,
         c.requires,
-        ap length (text_of-Array c.args.version c.args.value.now c.in-Array.members xs c.list-in-Array.ensures c.in-Array.is),
+        ap length (text_of-Array c.args.version c.args.value.now c.in-Array.members xs c.list-in-Array.ensures
+            c.in-Array.is),
         length-head 42 (length xs) (texts (canonical_trees c.args.version (data_of_list (map datum_of xs)))),
       ),
       omega (
         arith,
         c.requires,
-        ap length (text_of-Array c.args.version c.args.value.now c.in-Array.members xs c.list-in-Array.ensures c.in-Array.is),
+        ap length (text_of-Array c.args.version c.args.value.now c.in-Array.members xs c.list-in-Array.ensures
+            c.in-Array.is),
         length-head 42 (length xs) (texts (canonical_trees c.args.version (data_of_list (map datum_of xs)))),
       ),
     )
@@ -114,13 +123,15 @@ write_value-write_group-requires-in-Push t c =
       omega (
         arith,
         c.requires,
-        ap length (text_of-Push c.args.version c.args.value.now c.in-Push.members xs c.list-in-Push.ensures c.in-Push.is),
+        ap length (text_of-Push c.args.version c.args.value.now c.in-Push.members xs c.list-in-Push.ensures
+            c.in-Push.is),
         length-head 62 (length xs) (texts (canonical_trees c.args.version (data_of_list (map datum_of xs)))),
       ),
       omega (
         arith,
         c.requires,
-        ap length (text_of-Push c.args.version c.args.value.now c.in-Push.members xs c.list-in-Push.ensures c.in-Push.is),
+        ap length (text_of-Push c.args.version c.args.value.now c.in-Push.members xs c.list-in-Push.ensures
+            c.in-Push.is),
         length-head 62 (length xs) (texts (canonical_trees c.args.version (data_of_list (map datum_of xs)))),
       ),
     )
@@ -162,7 +173,8 @@ write_value-write_head-requires-in-Attr t c =
     omega (
       arith,
       c.requires,
-      ap length (text_of-Attr c.args.version c.args.value.now c.in-Attr.pairs c.in-Attr.annotated ps c.in-Attr.annotated.value
+      ap length (text_of-Attr c.args.version c.args.value.now c.in-Attr.pairs c.in-Attr.annotated ps
+          c.in-Attr.annotated.value
           c.list-pairs-in-Attr.ensures refl c.in-Attr.is),
       length-head 124 (length ps) (pair_texts c.args.version ps ++
           canonical_text c.args.version (datum_of c.in-Attr.annotated.value)),
@@ -177,7 +189,8 @@ write_value-write_pairs-requires-in-Attr t c =
         c.requires,
         c.write_head-in-Attr.ensures.spare,
         length-head 124 (length ps) [],
-        ap length (text_of-Attr c.args.version c.args.value.now c.in-Attr.pairs c.in-Attr.annotated ps c.in-Attr.annotated.value c.list-pairs-in-Attr.ensures
+        ap length (text_of-Attr c.args.version c.args.value.now c.in-Attr.pairs c.in-Attr.annotated ps
+            c.in-Attr.annotated.value c.list-pairs-in-Attr.ensures
             refl c.in-Attr.is),
         length-head 124 (length ps) (pair_texts c.args.version ps ++ under),
         length-append (pair_texts c.args.version ps) under,
@@ -187,7 +200,8 @@ write_value-write_pairs-requires-in-Attr t c =
         c.requires,
         c.write_head-in-Attr.ensures.spare,
         length-head 124 (length ps) [],
-        ap length (text_of-Attr c.args.version c.args.value.now c.in-Attr.pairs c.in-Attr.annotated ps c.in-Attr.annotated.value c.list-pairs-in-Attr.ensures
+        ap length (text_of-Attr c.args.version c.args.value.now c.in-Attr.pairs c.in-Attr.annotated ps
+            c.in-Attr.annotated.value c.list-pairs-in-Attr.ensures
             refl c.in-Attr.is),
         length-head 124 (length ps) (pair_texts c.args.version ps ++ under),
         length-append (pair_texts c.args.version ps) under,
@@ -204,7 +218,8 @@ write_value-write_annotated-requires t c =
         c.write_head-in-Attr.ensures.spare,
         c.write_pairs-in-Attr.ensures.spare,
         length-head 124 (length ps) [],
-        ap length (text_of-Attr c.args.version c.args.value.now c.in-Attr.pairs c.in-Attr.annotated ps c.deref.result.now c.list-pairs-in-Attr.ensures
+        ap length (text_of-Attr c.args.version c.args.value.now c.in-Attr.pairs c.in-Attr.annotated ps
+            c.deref.result.now c.list-pairs-in-Attr.ensures
             c.deref.ensures c.in-Attr.is),
         length-head 124 (length ps) (pair_texts c.args.version ps ++ under),
         length-append (pair_texts c.args.version ps) under,
@@ -215,7 +230,8 @@ write_value-write_annotated-requires t c =
         c.write_head-in-Attr.ensures.spare,
         c.write_pairs-in-Attr.ensures.spare,
         length-head 124 (length ps) [],
-        ap length (text_of-Attr c.args.version c.args.value.now c.in-Attr.pairs c.in-Attr.annotated ps c.deref.result.now c.list-pairs-in-Attr.ensures
+        ap length (text_of-Attr c.args.version c.args.value.now c.in-Attr.pairs c.in-Attr.annotated ps
+            c.deref.result.now c.list-pairs-in-Attr.ensures
             c.deref.ensures c.in-Attr.is),
         length-head 124 (length ps) (pair_texts c.args.version ps ++ under),
         length-append (pair_texts c.args.version ps) under,
@@ -224,16 +240,19 @@ write_value-write_annotated-requires t c =
 
 pub write_value-returns-in-Array : goal.write_value-returns-in-Array
 write_value-returns-in-Array t c = subst (Fills c.args.out.now c.write_group.new.out)
-    (sym (text_of-Array c.args.version c.args.value.now c.in-Array.members c.list-in-Array.result.now c.list-in-Array.ensures c.in-Array.is))
+    (sym (text_of-Array c.args.version c.args.value.now c.in-Array.members c.list-in-Array.result.now
+    c.list-in-Array.ensures c.in-Array.is))
     c.write_group.ensures
 
 pub write_value-returns-in-Set : goal.write_value-returns-in-Set
 write_value-returns-in-Set t c = subst (Fills c.args.out.now c.write_group-in-Set.new.out)
-    (sym (text_of-Set c.args.version c.args.value.now c.in-Set.members c.list-in-Set.result.now c.list-in-Set.ensures c.in-Set.is)) c.write_group-in-Set.ensures
+    (sym (text_of-Set c.args.version c.args.value.now c.in-Set.members c.list-in-Set.result.now c.list-in-Set.ensures
+    c.in-Set.is)) c.write_group-in-Set.ensures
 
 pub write_value-returns-in-Push : goal.write_value-returns-in-Push
 write_value-returns-in-Push t c = subst (Fills c.args.out.now c.write_group-in-Push.new.out)
-    (sym (text_of-Push c.args.version c.args.value.now c.in-Push.members c.list-in-Push.result.now c.list-in-Push.ensures c.in-Push.is))
+    (sym (text_of-Push c.args.version c.args.value.now c.in-Push.members c.list-in-Push.result.now
+    c.list-in-Push.ensures c.in-Push.is))
     c.write_group-in-Push.ensures
 
 pub write_value-returns-in-Map : goal.write_value-returns-in-Map
@@ -250,6 +269,7 @@ write_value-returns-in-Attr t c =
     let under = canonical_text c.args.version (datum_of c.deref.result.now) in
     subst (Fills c.args.out.now c.write_annotated.new.out)
     (head_split 124 (length ps) (pair_texts c.args.version ps ++ under) ∙
-    sym (text_of-Attr c.args.version c.args.value.now c.in-Attr.pairs c.in-Attr.annotated ps c.deref.result.now c.list-pairs-in-Attr.ensures c.deref.ensures
+    sym (text_of-Attr c.args.version c.args.value.now c.in-Attr.pairs c.in-Attr.annotated ps c.deref.result.now
+    c.list-pairs-in-Attr.ensures c.deref.ensures
     c.in-Attr.is))
     (Writes-append c.write_head-in-Attr.ensures (Writes-append c.write_pairs-in-Attr.ensures c.write_annotated.ensures))

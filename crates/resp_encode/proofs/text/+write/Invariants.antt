@@ -3,7 +3,7 @@ use Rattle.resp_value.specs.Data.{data_of_list, in_turn}
 use Rattle.resp_value.specs.Trees.{texts}
 use Rattle.resp_value.specs.Canonical.{canonical_text, canonical_trees}
 use Rattle.resp_value.specs.Values.{datum_of, pair_data}
-use Rattle.resp_encode.specs.Writings.{Fills}
+use Rattle.resp_encode.specs.Walks.Writings.{Fills}
 use Rattle.resp_encode.proofs.text.+write.Given as goal
 
 abbrev pub invariant-write_members-loop-member : goal.invariant-write_members-loop-member
@@ -22,10 +22,12 @@ abbrev pub decreases-write_group : goal.decreases-write_group
 decreases-write_group l = 2 * length (texts (canonical_trees l.version (data_of_list (map datum_of l.members.now)))) + 2
 
 abbrev pub decreases-write_members : goal.decreases-write_members
-decreases-write_members l = 2 * length (texts (canonical_trees l.version (data_of_list (map datum_of l.members.now)))) + 1
+decreases-write_members l = 2 * length (texts (canonical_trees l.version (data_of_list (map datum_of l.members.now)))) +
+    1
 
 abbrev pub decreases-write_pairs : goal.decreases-write_pairs
-decreases-write_pairs l = 2 * length (texts (canonical_trees l.version (data_of_list (in_turn (map pair_data l.pairs.now))))) + 1
+decreases-write_pairs l = 2 * length (texts (canonical_trees l.version
+    (data_of_list (in_turn (map pair_data l.pairs.now))))) + 1
 
 abbrev pub decreases-write_annotated : goal.decreases-write_annotated
 decreases-write_annotated l = 2 * length (canonical_text l.version (datum_of l.value.now)) + 1

@@ -5,7 +5,11 @@ use Rattle.resp_encode.proofs.Texts.{Writes-bytes}
 use Rattle.resp_encode.proofs.text.write_head.Goals as goal
 
 pub extend_reserved-requires-then-number-lt100 : goal.extend_reserved-requires-then-number-lt100
-extend_reserved-requires-then-number-lt100 c = omega (arith, c.requires, length-decimal-two c.args.number (omega arith) (omega arith))
+extend_reserved-requires-then-number-lt100 c = omega (
+  arith,
+  c.requires,
+  length-decimal-two c.args.number (omega arith) (omega arith),
+)
 
 pub returns-then-number-lt10 : goal.returns-then-number-lt10
 returns-then-number-lt10 c = Writes-bytes c.extend_reserved.ensures.items c.extend_reserved.ensures.spare

@@ -5,10 +5,18 @@ use Rattle.resp_encode.proofs.Texts.{Writes-bytes}
 use Rattle.resp_encode.proofs.text.write_long_head.Goals as goal
 
 pub extend_reserved-requires : goal.extend_reserved-requires
-extend_reserved-requires c = omega (arith, c.requires.room, length-decimal-three c.args.number (omega arith) (omega arith))
+extend_reserved-requires c = omega (
+  arith,
+  c.requires.room,
+  length-decimal-three c.args.number (omega arith) (omega arith),
+)
 
 pub extend_reserved-requires-then-number-lt10000 : goal.extend_reserved-requires-then-number-lt10000
-extend_reserved-requires-then-number-lt10000 c = omega (arith, c.requires.room, length-decimal-four c.args.number (omega arith) (omega arith))
+extend_reserved-requires-then-number-lt10000 c = omega (
+  arith,
+  c.requires.room,
+  length-decimal-four c.args.number (omega arith) (omega arith),
+)
 
 pub returns-then-number-lt1000 : goal.returns-then-number-lt1000
 returns-then-number-lt1000 c =
@@ -24,4 +32,5 @@ returns-then-number-lt10000 c =
     let whole = decimal-four c.args.number (omega arith) (omega arith) in
     let same = ap (λ digits. c.args.byte ∷ digits ++ crlf []) whole in
     let digits = c.four_digits-thousands.ensures in
-    Writes-bytes c.extend_reserved-then-number-lt10000.ensures.items c.extend_reserved-then-number-lt10000.ensures.spare cc
+    Writes-bytes c.extend_reserved-then-number-lt10000.ensures.items c.extend_reserved-then-number-lt10000.ensures.spare
+    cc

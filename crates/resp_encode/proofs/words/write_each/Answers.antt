@@ -6,7 +6,7 @@ use Rattle.resp_value.specs.Trees.{texts}
 use Rattle.resp_value.specs.Canonical.{canonical_trees}
 use Rattle.resp_value.specs.declared.version.Version.TheVariants.{Two}
 use Rattle.resp_encode.specs.Words.{word_datum, texts_of}
-use Rattle.resp_encode.specs.Writings.{Fills}
+use Rattle.resp_encode.specs.Walks.Writings.{Fills}
 use Rattle.resp_encode.proofs.Extended.{texts-extended}
 use Rattle.resp_encode.proofs.SoFar.{word_take_more, word_room}
 use Rattle.resp_encode.proofs.Texts.{Writes-none, Writes-append, length-head}
@@ -22,7 +22,8 @@ write_string-requires c =
       arith,
       c.requires,
       c.loop-word.invariant.spare,
-      word_room c.args.words.now c.loop-word.word-index c.word-item.result c.loop-word-test.true (c.as_slice.ensures.value ∙ ap (λ w. w.items) c.word-item.is),
+      word_room c.args.words.now c.loop-word.word-index c.word-item.result c.loop-word-test.true
+          (c.as_slice.ensures.value ∙ ap (λ w. w.items) c.word-item.is),
       length-head 36 (length word) (word ++ crlf []),
       length-append word (crlf []),
     )
@@ -32,7 +33,8 @@ loop-word-preserved c =
     let i = c.loop-word.word-index in
     let front = data_of_list (map word_datum (take i (texts_of c.args.words.now))) in
     let word = word_datum c.as_slice.result.now in
-    let one_more = word_take_more c.args.words.now i c.word-item.result c.loop-word-test.true (c.as_slice.ensures.value ∙ ap (λ w. w.items) c.word-item.is) in
+    let one_more = word_take_more c.args.words.now i c.word-item.result c.loop-word-test.true
+    (c.as_slice.ensures.value ∙ ap (λ w. w.items) c.word-item.is) in
     subst (Fills c.args.out.now c.write_string.new.out)
     (sym (ap (λ xs. texts (canonical_trees Two xs)) one_more ∙ texts-extended Two front word))
     (Writes-append c.loop-word.invariant c.write_string.ensures)
@@ -40,5 +42,6 @@ loop-word-preserved c =
 pub returns : goal.returns
 returns c =
     subst (λ xs. Fills c.args.out.now c.loop-word.out (texts (canonical_trees Two (data_of_list (map word_datum xs)))))
-    (take_all c.loop-word.word-index (texts_of c.args.words.now) (omega (arith, length-map c.args.words.now (λ word. word.items), c.loop-word-test.false)))
+    (take_all c.loop-word.word-index (texts_of c.args.words.now)
+    (omega (arith, length-map c.args.words.now (λ word. word.items), c.loop-word-test.false)))
     c.loop-word.invariant

@@ -14,8 +14,9 @@ pub write_bool-requires : goal.write_bool-requires
 write_bool-requires c = omega (
   arith,
   four c.args.version c.args.truth,
-  (c.if-not-has_room.ensures (scalar (d.Bool c.args.truth)) (c.of_bool-found.ensures c.args.version)).room,
+  (c.if-not-suits.ensures (scalar (d.Bool c.args.truth)) (c.measure_bool-found.ensures c.args.version)).room,
 )
 
 pub returns : goal.returns
-returns c = scalar_done (c.if-not-has_room.ensures (scalar (d.Bool c.args.truth)) (c.of_bool-found.ensures c.args.version)) tt c.write_bool.ensures
+returns c = scalar_done (c.if-not-suits.ensures (scalar (d.Bool c.args.truth))
+    (c.measure_bool-found.ensures c.args.version)) tt c.write_bool.ensures

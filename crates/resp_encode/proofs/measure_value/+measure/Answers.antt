@@ -1,0 +1,208 @@
+use Rattle.std.proofs.Common.{◌≡◌, List, ◌++◌, ◌∷◌, [], map, take, sym, ap, ◌∙◌, subst}
+use Rattle.std.proofs.lemmas.List.{take_all}
+use Rattle.resp_value.specs.Data.{data_of_list, in_turn, aggregate}
+use Rattle.resp_value.specs.Data as d
+use Rattle.resp_value.specs.Canonical.{IsValue, AreValues}
+use Rattle.resp_value.specs.Values.{datum_of, pair_data, is_negative, extended}
+use Rattle.resp_value.proofs.DatumOf.{datum_of-Array, datum_of-Set, datum_of-Push, datum_of-Map, datum_of-Attr, in_turn_is_whole, annotated_is_whole, are_values_with}
+use Rattle.resp_value.specs.declared.value.Value.{Value}
+use Rattle.resp_encode.specs.Walks.Measures.{Describes, DescribesEach}
+use Rattle.resp_encode.proofs.Counts.{count-map, count-in_turn, count-annotated}
+use Rattle.resp_encode.proofs.Extended.{data_of_list-push, values_with}
+use Rattle.resp_encode.proofs.SoFar.{data-take_more, pairs-take_more}
+use Rattle.resp_encode.proofs.measure_value.+measure.Goals as goal
+
+-- the data of a map and of an attribute, at equal parts
+map_data : {ps qs : List (Value × Value)} → ps ≡ qs → aggregate d.Map (data_of_list (in_turn (map pair_data ps))) ≡
+    aggregate d.Map (data_of_list (in_turn (map pair_data qs)))
+map_data same = ap (λ ps. aggregate d.Map (data_of_list (in_turn (map pair_data ps)))) same
+
+attr_data : {ps qs : List (Value × Value)} {x y : Value} → ps ≡ qs → x ≡ y →
+    aggregate d.Attr (data_of_list (in_turn (map pair_data ps) ++ datum_of x ∷ [])) ≡
+    aggregate d.Attr (data_of_list (in_turn (map pair_data qs) ++ datum_of y ∷ []))
+attr_data {qs = qs} {x = x} same under = ap (λ ps. aggregate d.Attr
+    (data_of_list (in_turn (map pair_data ps) ++ datum_of x ∷ []))) same ∙
+    ap (λ z. aggregate d.Attr (data_of_list (in_turn (map pair_data qs) ++ datum_of z ∷ []))) under
+
+pub measure_value-returns-in-Bool-clause-found : goal.measure_value-returns-in-Bool-clause-found
+measure_value-returns-in-Bool-clause-found t c = subst (λ x. Describes c.args.version x c.measure_bool.result)
+    (sym (ap datum_of c.in-Bool.is))
+    (c.measure_bool.ensures c.args.version)
+
+pub measure_value-returns-in-Int-clause-found : goal.measure_value-returns-in-Int-clause-found
+measure_value-returns-in-Int-clause-found t c = subst (λ x. Describes c.args.version x c.measure_int.result)
+    (sym (ap datum_of c.in-Int.is))
+    (c.measure_int.ensures.found c.args.version)
+
+pub measure_value-returns-in-Simple-clause-found : goal.measure_value-returns-in-Simple-clause-found
+measure_value-returns-in-Simple-clause-found t c =
+    subst (λ x. Describes c.args.version x c.measure_line.result) (ap (λ s. d.scalar (d.Simple s)) c.text.ensures.text ∙
+    sym (ap datum_of c.in-Simple.is)) (c.measure_line.ensures.simple c.args.version)
+
+pub measure_value-returns-in-Error-clause-found : goal.measure_value-returns-in-Error-clause-found
+measure_value-returns-in-Error-clause-found t c = subst (λ x. Describes c.args.version x c.measure_line-in-Error.result)
+    (ap (λ s. d.scalar (d.Error s)) c.text-in-Error.ensures.text ∙ sym (ap datum_of c.in-Error.is))
+    (c.measure_line-in-Error.ensures.error c.args.version)
+
+pub measure_value-returns-in-Bulk-clause-found : goal.measure_value-returns-in-Bulk-clause-found
+measure_value-returns-in-Bulk-clause-found t c = subst (λ x. Describes c.args.version x c.measure_bulk.result)
+    (ap (λ s. d.scalar (d.Bulk s)) c.list.ensures ∙
+    sym (ap datum_of c.in-Bulk.is)) (c.measure_bulk.ensures.found c.args.version)
+
+pub measure_value-returns-in-BulkError-clause-found : goal.measure_value-returns-in-BulkError-clause-found
+measure_value-returns-in-BulkError-clause-found t c =
+    subst (λ x. Describes c.args.version x c.measure_bulk_error.result)
+    (ap (λ s. d.scalar (d.BulkError s)) c.list-in-BulkError.ensures ∙ sym (ap datum_of c.in-BulkError.is))
+    (c.measure_bulk_error.ensures.found c.args.version)
+
+pub measure_value-returns-in-Verbatim-clause-found : goal.measure_value-returns-in-Verbatim-clause-found
+measure_value-returns-in-Verbatim-clause-found t c = subst (λ x. Describes c.args.version x c.measure_verbatim.result)
+    (ap (λ s. d.scalar (d.Verbatim c.in-Verbatim.format s)) c.list-in-Verbatim.ensures ∙
+    sym (ap datum_of c.in-Verbatim.is))
+    (c.measure_verbatim.ensures.found c.args.version)
+
+pub measure_value-returns-in-Big-clause-found : goal.measure_value-returns-in-Big-clause-found
+measure_value-returns-in-Big-clause-found t c = subst (λ x. Describes c.args.version x c.measure_big.result)
+    (ap (λ b. d.scalar (d.Big b c.digits.result.now)) c.is_negative.ensures ∙
+    ap (λ s. d.scalar (d.Big (is_negative c.in-Big.digits) s)) c.digits.ensures.digits ∙ sym (ap datum_of c.in-Big.is))
+    (c.measure_big.ensures c.args.version)
+
+pub measure_value-returns-in-Array-clause-found : goal.measure_value-returns-in-Array-clause-found
+measure_value-returns-in-Array-clause-found t c = subst (λ x. Describes c.args.version x c.measure_group.result)
+    (ap (λ xs. aggregate d.Array (data_of_list (map datum_of xs))) c.list-in-Array.ensures ∙
+    sym (ap datum_of c.in-Array.is ∙ datum_of-Array c.in-Array.members)) c.measure_group.ensures.found
+
+pub measure_value-returns-in-Array-clause-is_value : goal.measure_value-returns-in-Array-clause-is_value
+measure_value-returns-in-Array-clause-is_value t c =
+    subst IsValue (ap (λ xs. aggregate d.Array (data_of_list (map datum_of xs))) c.list-in-Array.ensures ∙
+    sym (ap datum_of c.in-Array.is ∙ datum_of-Array c.in-Array.members)) (tt, c.measure_group.ensures.are_values)
+
+pub measure_value-returns-in-Set-clause-found : goal.measure_value-returns-in-Set-clause-found
+measure_value-returns-in-Set-clause-found t c = subst (λ x. Describes c.args.version x c.measure_group-in-Set.result)
+    (ap (λ xs. aggregate d.Set (data_of_list (map datum_of xs))) c.list-in-Set.ensures ∙
+    sym (ap datum_of c.in-Set.is ∙ datum_of-Set c.in-Set.members))
+    c.measure_group-in-Set.ensures.found
+
+pub measure_value-returns-in-Set-clause-is_value : goal.measure_value-returns-in-Set-clause-is_value
+measure_value-returns-in-Set-clause-is_value t c =
+    subst IsValue (ap (λ xs. aggregate d.Set (data_of_list (map datum_of xs))) c.list-in-Set.ensures ∙
+    sym (ap datum_of c.in-Set.is ∙ datum_of-Set c.in-Set.members)) (tt, c.measure_group-in-Set.ensures.are_values)
+
+pub measure_value-returns-in-Push-clause-found : goal.measure_value-returns-in-Push-clause-found
+measure_value-returns-in-Push-clause-found t c = subst (λ x. Describes c.args.version x c.measure_group-in-Push.result)
+    (ap (λ xs. aggregate d.Push (data_of_list (map datum_of xs))) c.list-in-Push.ensures ∙
+    sym (ap datum_of c.in-Push.is ∙ datum_of-Push c.in-Push.members))
+    c.measure_group-in-Push.ensures.found
+
+pub measure_value-returns-in-Push-clause-is_value : goal.measure_value-returns-in-Push-clause-is_value
+measure_value-returns-in-Push-clause-is_value t c =
+    subst IsValue (ap (λ xs. aggregate d.Push (data_of_list (map datum_of xs))) c.list-in-Push.ensures ∙
+    sym (ap datum_of c.in-Push.is ∙ datum_of-Push c.in-Push.members)) (tt, c.measure_group-in-Push.ensures.are_values)
+
+pub measure_value-returns-in-Map-clause-found : goal.measure_value-returns-in-Map-clause-found
+measure_value-returns-in-Map-clause-found t c = subst (λ x. Describes c.args.version x c.measure_map.result)
+    (map_data c.list-in-Map.ensures ∙
+    sym (ap datum_of c.in-Map.is ∙ datum_of-Map c.in-Map.pairs)) c.measure_map.ensures.found
+
+pub measure_value-returns-in-Map-clause-is_value : goal.measure_value-returns-in-Map-clause-is_value
+measure_value-returns-in-Map-clause-is_value t c =
+    subst IsValue (map_data c.list-in-Map.ensures ∙ sym (ap datum_of c.in-Map.is ∙ datum_of-Map c.in-Map.pairs))
+    c.measure_map.ensures.is_value
+
+pub measure_value-returns-in-Attr-clause-found : goal.measure_value-returns-in-Attr-clause-found
+measure_value-returns-in-Attr-clause-found t c = subst (λ x. Describes c.args.version x c.measure_attr.result)
+    (attr_data c.list-in-Attr.ensures c.deref.ensures ∙
+    sym (ap datum_of c.in-Attr.is ∙ datum_of-Attr c.in-Attr.pairs c.in-Attr.annotated))
+    (c.measure_attr.ensures.found (datum_of c.deref.result.now) c.measure_annotated-under.ensures.found)
+
+pub measure_value-returns-in-Attr-clause-is_value : goal.measure_value-returns-in-Attr-clause-is_value
+measure_value-returns-in-Attr-clause-is_value t c =
+    let pairs = map pair_data c.list-in-Attr.result.now in
+    let annotated = datum_of c.deref.result.now in
+    subst IsValue (attr_data c.list-in-Attr.ensures c.deref.ensures ∙
+    sym (ap datum_of c.in-Attr.is ∙ datum_of-Attr c.in-Attr.pairs c.in-Attr.annotated)) (
+      annotated_is_whole pairs annotated,
+      are_values_with (in_turn pairs) annotated c.measure_attr.ensures.are_values
+          c.measure_annotated-under.ensures.is_value,
+    )
+
+pub measure_map-returns-clause-found : goal.measure_map-returns-clause-found
+measure_map-returns-clause-found t c =
+    let pairs = c.args.pairs.now in
+    c.inside.ensures c.args.version (data_of_list (in_turn (map pair_data pairs))) c.measure_pairs.ensures.found
+    (sym (count-in_turn pair_data pairs))
+
+pub measure_map-returns-clause-is_value : goal.measure_map-returns-clause-is_value
+measure_map-returns-clause-is_value t c = (
+  in_turn_is_whole (map pair_data c.args.pairs.now),
+  c.measure_pairs.ensures.are_values,
+)
+
+pub measure_attr-returns-clause-found : goal.measure_attr-returns-clause-found
+measure_attr-returns-clause-found t c = λ x under.
+    let pairs = c.args.pairs.now in
+    let front = in_turn (map pair_data pairs) in
+    let each = subst (λ xs. DescribesEach c.args.version xs c.with-found.result) (sym (data_of_list-push front x))
+    (c.with-found.ensures c.args.version (data_of_list front) x c.measure_pairs.ensures.found under) in
+    c.inside.ensures c.args.version (data_of_list (front ++ x ∷ [])) each (sym (count-annotated pair_data pairs x))
+
+pub measure_group-returns-clause-found : goal.measure_group-returns-clause-found
+measure_group-returns-clause-found t c = c.inside.ensures c.args.version _ c.measure_members.ensures.found
+    (sym (count-map datum_of c.args.members.now) ∙
+    sym (c.requires _))
+
+pub measure_members-loop-member-init : goal.measure_members-loop-member-init
+measure_members-loop-member-init t c = record { found = c.nothing-found.ensures c.args.version; are_values = tt }
+
+pub measure_members-loop-member-preserved : goal.measure_members-loop-member-preserved
+measure_members-loop-member-preserved t c =
+    let i = c.loop-member.member-index in
+    let front = data_of_list (map datum_of (take i c.args.members.now)) in
+    let one_more = data-take_more datum_of c.args.members.now i c.member-item.result c.loop-member-test.true in
+    let item = ap datum_of c.member-item.is in
+    record {
+      found = subst (λ xs. DescribesEach c.args.version xs c.with-found.result) (sym one_more)
+          (c.with-found.ensures c.args.version front _ c.loop-member.invariant.found
+          (subst (λ x. Describes c.args.version x c.measure_value.result) item c.measure_value.ensures.found));
+      are_values = subst AreValues (sym one_more)
+          (values_with front _ c.loop-member.invariant.are_values
+          (subst IsValue item c.measure_value.ensures.is_value));
+    }
+
+pub measure_members-returns : goal.measure_members-returns
+measure_members-returns t c =
+    let whole = ap (λ xs. data_of_list (map datum_of xs))
+    (take_all c.loop-member.member-index c.args.members.now c.loop-member-test.false) in
+    record {
+      found = subst (λ xs. DescribesEach c.args.version xs c.loop-member.found) whole c.loop-member.invariant.found;
+      are_values = subst AreValues whole c.loop-member.invariant.are_values;
+    }
+
+pub measure_pairs-loop-pair-init : goal.measure_pairs-loop-pair-init
+measure_pairs-loop-pair-init t c = record { found = c.nothing-found.ensures c.args.version; are_values = tt }
+
+pub measure_pairs-loop-pair-preserved : goal.measure_pairs-loop-pair-preserved
+measure_pairs-loop-pair-preserved t c =
+    let i = c.loop-pair.pair-index in
+    let front = data_of_list (in_turn (map pair_data (take i c.args.pairs.now))) in
+    let key = datum_of c.pair-item.result.0 in
+    let one_more = pairs-take_more pair_data c.args.pairs.now i c.pair-item.result c.loop-pair-test.true ∙
+    ap (λ pair. extended (extended front (pair_data pair).0) (pair_data pair).1) (sym c.pair-item.is) in
+    record {
+      found = subst (λ xs. DescribesEach c.args.version xs c.with-found-in-loop-pair.result) (sym one_more)
+          (c.with-found-in-loop-pair.ensures c.args.version (extended front key) _
+          (c.with-found.ensures c.args.version front key c.loop-pair.invariant.found c.measure_value.ensures.found)
+          c.measure_value-in-loop-pair.ensures.found);
+      are_values = subst AreValues (sym one_more) (values_with (extended front key) _
+          (values_with front key c.loop-pair.invariant.are_values c.measure_value.ensures.is_value)
+          c.measure_value-in-loop-pair.ensures.is_value);
+    }
+
+pub measure_pairs-returns : goal.measure_pairs-returns
+measure_pairs-returns t c =
+    let whole = ap (λ xs. data_of_list (in_turn (map pair_data xs)))
+    (take_all c.loop-pair.pair-index c.args.pairs.now c.loop-pair-test.false) in
+    record {
+      found = subst (λ xs. DescribesEach c.args.version xs c.loop-pair.found) whole c.loop-pair.invariant.found;
+      are_values = subst AreValues whole c.loop-pair.invariant.are_values;
+    }

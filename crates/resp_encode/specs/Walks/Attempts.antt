@@ -1,0 +1,72 @@
+-- What a walk that writes as it goes has found, and what it has written.
+use Rattle.std.specs.Prelude.{ℕ, ◌-◌, ◌<◌, ◌≤◌, Bool, List, ◌∷◌, ◌++◌, length}
+use Rattle.std.specs.Bool.{OnTrue}
+use Rattle.bytes.specs.Filled.{Filled}
+use Rattle.resp_value.specs.Bounds.{Bounds}
+use Rattle.resp_value.specs.Bytes.{crlf}
+use Rattle.resp_value.specs.Numbers.{decimal}
+use Rattle.resp_value.specs.Data.{Kind, Attr, Datum, Data, depth, greatest_depth, longest, longest_among, most_items, most_items_among}
+use Rattle.resp_value.specs.Trees.{texts}
+use Rattle.resp_value.specs.Canonical.{IsValue, AreValues, IsKindInTwo, AreInTwo, HasTypes, HaveNoPush, HasPushAtTop, canonical_text, canonical_trees}
+use Rattle.resp_value.specs.declared.version.Version.{Version}
+use Rattle.resp_value.specs.declared.version.Version.TheVariants.{Two, Three}
+use Rattle.resp_encode.specs.Walks.Writings.{Fills}
+
+-- the version has the kind
+abbrev pub HasKind : Version → Kind → Type 0
+HasKind Two k = IsKindInTwo k
+HasKind Three k = Unit {0}
+
+-- the version has each type of the members
+abbrev pub HaveTypes : Version → Data → Type 0
+HaveTypes Two xs = AreInTwo xs
+HaveTypes Three xs = Unit {0}
+
+-- nothing of the value is refused but for its total, where so many aggregates may stand inside one another
+pub record Suits (version : Version) (bounds : Bounds) (deeper : ℕ) (x : Datum) : Type 0 where
+  pub has_types : HasTypes version x
+  pub push_at_top : HasPushAtTop x
+  pub within_depth : depth x ≤ deeper
+  pub within_length : longest x ≤ bounds.length
+  pub within_items : most_items x ≤ bounds.items
+  pub is_value : IsValue x
+
+-- nothing of the members is refused but for the total, and none of them is a push
+pub record SuitEach (version : Version) (bounds : Bounds) (deeper : ℕ) (xs : Data) : Type 0 where
+  pub have_types : HaveTypes version xs
+  pub no_push : HaveNoPush xs
+  pub within_depth : greatest_depth xs ≤ deeper
+  pub within_length : longest_among xs ≤ bounds.length
+  pub within_items : most_items_among xs ≤ bounds.items
+  pub are_values : AreValues xs
+
+-- where it is done, the value suits and its text was appended; else it may be that only a part was
+pub record Attempt (version : Version) (bounds : Bounds) (deeper : ℕ) (x : Datum) (old new : Filled)
+    (done : Bool) : Type 0 where
+  pub whole : OnTrue done (Fills old new (canonical_text version x))
+  pub suits : OnTrue done (Suits version bounds deeper x)
+  pub part : (text : List ℕ) × Fills old new text
+
+-- where it is done, the members suit and their texts were appended; else it may be that only a part was
+pub record AttemptEach (version : Version) (bounds : Bounds) (deeper : ℕ) (xs : Data) (old new : Filled)
+    (done : Bool) : Type 0 where
+  pub whole : OnTrue done (Fills old new (texts (canonical_trees version xs)))
+  pub suits : OnTrue done (SuitEach version bounds deeper xs)
+  pub part : (text : List ℕ) × Fills old new text
+
+-- where it is done, the head of an attribute with this number was appended, and the texts of its keys and values in
+-- turn
+pub record AttemptAttributePairs (version : Version) (bounds : Bounds) (deeper items : ℕ) (xs : Data) (old new : Filled)
+    (done : Bool) : Type 0 where
+  pub whole : OnTrue done (Fills old new (124 ∷ decimal items ++ crlf (texts (canonical_trees version xs))))
+  pub has_kind : OnTrue done (HasKind version Attr)
+  pub within_items : OnTrue done (items ≤ bounds.items)
+  pub within_depth : OnTrue done (0 < deeper)
+  pub suits : OnTrue done (SuitEach version bounds (deeper - 1) xs)
+  pub part : (text : List ℕ) × Fills old new text
+
+-- nothing of a value without members is refused but for its total, and so much room holds its text
+pub record FitsSpare (version : Version) (bounds : Bounds) (spare : ℕ) (x : Datum) : Type 0 where
+  pub has_types : HasTypes version x
+  pub within_length : longest x ≤ bounds.length
+  pub room : length (canonical_text version x) ≤ spare

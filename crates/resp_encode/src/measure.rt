@@ -1,0 +1,124 @@
+//! The measure of a value: all that decides whether it fits, and how long its text is.
+
+ghost use Rattle.std.specs.Prelude.{◌≡◌, ◌+◌, ◌≤◌, true, ℕ, length};
+ghost use Rattle.resp_value.specs.Data.{Datum, Data, none, aggregate, items_of, count};
+ghost use Rattle.resp_value.specs.Numbers.{decimal};
+ghost use Rattle.resp_value.specs.Values.{extended};
+ghost use Rattle.resp_value.specs.declared.version.Version.{Version};
+ghost use Rattle.resp_encode.specs.Walks.Sizes.{IsSize};
+
+use crate::digits::digit_count;
+use resp_value::kind::OpenKind;
+
+/// The measure of a value, or of members that stand side by side.
+#[derive(Clone, Copy)]
+pub(crate) struct Measure {
+    /// Whether version 2 has each type.
+    pub(crate) in_two: bool,
+    /// Whether no push stands there.
+    pub(crate) no_push: bool,
+    /// Whether no push stands below the top of the value.
+    pub(crate) push_at_top: bool,
+    /// How many aggregates stand inside one another, if that is below `u64::MAX`.
+    pub(crate) depth: u64,
+    /// The bytes of the longest content.
+    pub(crate) longest: u64,
+    /// The most members of one array, set or push, or pairs of one map or attribute.
+    pub(crate) most_items: u64,
+    /// The bytes of the text, if a `u64` holds them.
+    pub(crate) size: Option<u64>,
+}
+
+/// The sum of two sizes, if a `u64` holds it.
+#[inline]
+fn sum(left: Option<u64>, right: Option<u64>) -> Option<u64>
+    ensures { (m n : ℕ) → IsSize left m → IsSize right n → IsSize result (m + n) }
+{
+    match (left, right) {
+        (Some(left), Some(right)) => left.checked_add(right),
+        _ => None,
+    }
+}
+
+/// How many bytes the head of an aggregate or of a string takes: the type byte, the number, CR and
+/// LF.
+#[inline]
+pub(crate) fn head_size(number: u64) -> u64
+    ensures size { result ≡ length (decimal number) + 3 }
+    ensures short { result ≤ 23 }
+{
+    digit_count(number) + 3
+}
+
+impl Measure {
+    ghost use Rattle.resp_value.specs.Kinds.{kind_of};
+    ghost use Rattle.resp_encode.specs.Walks.Measures.{DescribesEach, Describes};
+
+    /// The measure of no members.
+    #[inline]
+    pub(crate) fn nothing() -> Measure
+        ensures { (version : Version) → DescribesEach version none result }
+    {
+        Measure::scalar(true, 0, 0)
+    }
+
+    /// The measure of a value without members.
+    #[inline]
+    pub(crate) fn scalar(in_two: bool, length: u64, size: u64) -> Measure
+        ensures { result ≡ record {
+          in_two = in_two;
+          no_push = true;
+          push_at_top = true;
+          depth =
+              0;
+          longest = length;
+          most_items = 0;
+          size = Some size;
+        } }
+    {
+        Measure {
+            in_two,
+            no_push: true,
+            push_at_top: true,
+            depth: 0,
+            longest: length,
+            most_items: 0,
+            size: Some(size),
+        }
+    }
+
+    /// The measure of these members and one more behind them.
+    #[inline]
+    pub(crate) fn with(&self, next: &Measure) -> Measure
+        ensures { (version : Version) (xs : Data) (x : Datum) → DescribesEach version xs self.now →
+            Describes version x next.now → DescribesEach version (extended xs x) result }
+    {
+        Measure {
+            in_two: self.in_two & next.in_two,
+            no_push: self.no_push & next.no_push,
+            push_at_top: true,
+            depth: self.depth.max(next.depth),
+            longest: self.longest.max(next.longest),
+            most_items: self.most_items.max(next.most_items),
+            size: sum(self.size, next.size),
+        }
+    }
+
+    /// The measure of the aggregate that has these members, and this number in its head.
+    #[inline]
+    pub(crate) fn inside(&self, kind: OpenKind, items: u64) -> Measure
+        ensures { (version : Version) (xs : Data) → DescribesEach version xs self.now →
+            items ≡ items_of (kind_of kind) (count xs) →
+            Describes version (aggregate (kind_of kind) xs) result }
+    {
+        Measure {
+            in_two: self.in_two & kind.is_in_two(),
+            no_push: self.no_push & kind.is_below(),
+            push_at_top: self.no_push,
+            depth: self.depth.saturating_add(1),
+            longest: self.longest,
+            most_items: self.most_items.max(items),
+            size: sum(Some(head_size(items)), self.size),
+        }
+    }
+}

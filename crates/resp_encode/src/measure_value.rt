@@ -1,0 +1,207 @@
+//! One walk over a value, which measures it.
+
+ghost use Rattle.std.specs.Prelude.{◌≡◌, ℕ, [], ◌∷◌, ◌++◌, ◌+◌, ◌≤◌, ◌^◌, length, map};
+ghost use Rattle.resp_value.specs.Bytes.{IsText};
+ghost use Rattle.resp_value.specs.Numbers.{decimal};
+ghost use Rattle.resp_value.specs.Data.{Datum, scalar, aggregate, items_of, data_of_list, in_turn};
+ghost use Rattle.resp_value.specs.Data as d;
+ghost use Rattle.resp_value.specs.Canonical.{IsValue, AreValues, IsScalarValue};
+ghost use Rattle.resp_value.specs.Values.{datum_of, pair_data};
+ghost use Rattle.resp_value.specs.declared.version.Version.{Version};
+ghost use Rattle.resp_value.specs.Kinds.{kind_of};
+ghost use Rattle.resp_encode.specs.Walks.Measures.{Describes, DescribesEach};
+
+use crate::digits::digit_count;
+use crate::measure::{Measure, head_size};
+use resp_value::kind::OpenKind;
+use resp_value::value::Value;
+use resp_value::version::Version;
+
+#[inline]
+pub(crate) fn measure_null(version: Version) -> Measure
+    ensures { Describes version (scalar d.Null) result }
+{
+    match version {
+        Version::Two => Measure::scalar(true, 0, 5),
+        Version::Three => Measure::scalar(true, 0, 3),
+    }
+}
+
+#[inline]
+pub(crate) fn measure_bool(truth: bool) -> Measure
+    ensures { (version : Version) → Describes version (scalar (d.Bool truth)) result }
+{
+    Measure::scalar(false, 0, 4)
+}
+
+#[inline]
+pub(crate) fn measure_int(number: &i64) -> Measure
+    ensures found { (version : Version) → Describes version (scalar (d.Int number.now)) result }
+    ensures is_value { IsScalarValue (d.Int number.now) }
+{
+    let digits = digit_count(number.unsigned_abs());
+    let size = if *number < 0 { digits + 4 } else { digits + 3 };
+    Measure::scalar(true, 0, size)
+}
+
+/// The measure of a simple string or of an error.
+#[inline]
+pub(crate) fn measure_line(text: &[u8]) -> Measure
+    ensures simple { (version : Version) → Describes version (scalar (d.Simple text.now)) result }
+    ensures error { (version : Version) → Describes version (scalar (d.Error text.now)) result }
+    ensures is_text { IsText text.now }
+{
+    let length = text.len() as u64;
+    Measure::scalar(true, length, length + 3)
+}
+
+/// How many bytes a string takes whose head says so many: the head, these, CR and LF.
+#[inline]
+pub(crate) fn string_size(counted: u64) -> u64
+    requires { counted ≤ 2 ^ 63 + 4 }
+    ensures { result ≡ length (decimal counted) + counted + 5 }
+{
+    head_size(counted) + counted + 2
+}
+
+#[inline]
+pub(crate) fn measure_bulk(bytes: &[u8]) -> Measure
+    ensures found { (version : Version) → Describes version (scalar (d.Bulk bytes.now)) result }
+    ensures is_text { IsText bytes.now }
+{
+    let counted = bytes.len() as u64;
+    Measure::scalar(true, counted, string_size(counted))
+}
+
+#[inline]
+pub(crate) fn measure_bulk_error(bytes: &[u8]) -> Measure
+    ensures found { (version : Version) →
+        Describes version (scalar (d.BulkError bytes.now)) result }
+    ensures is_text { IsText bytes.now }
+{
+    let counted = bytes.len() as u64;
+    Measure::scalar(false, counted, string_size(counted))
+}
+
+/// The measure of a verbatim string, whose head counts its format and the colon behind that.
+#[inline]
+pub(crate) fn measure_verbatim(format: &[u8; 3], text: &[u8]) -> Measure
+    ensures found { (version : Version) →
+        Describes version (scalar (d.Verbatim format.now text.now)) result }
+    ensures is_value { IsScalarValue (d.Verbatim format.now text.now) }
+{
+    let counted = text.len() as u64 + 4;
+    Measure::scalar(false, counted, string_size(counted))
+}
+
+#[inline]
+pub(crate) fn measure_big(negative: bool, digits: &[u8]) -> Measure
+    ensures { (version : Version) → Describes version (scalar (d.Big negative digits.now)) result }
+{
+    let length = digits.len() as u64;
+    let size = if negative { length + 4 } else { length + 3 };
+    Measure::scalar(false, length, size)
+}
+
+/// The measure of a value. Each value of the program is one that a spelling may have.
+///
+/// It is inlined where it is called, so that the measure of a scalar stays in registers; what leads
+/// back to it is not.
+#[cycle(measure)]
+#[inline(always)]
+pub(crate) fn measure_value(value: &Value, version: Version) -> Measure
+    ensures found { Describes version (datum_of value.now) result }
+    ensures is_value { IsValue (datum_of value.now) }
+{
+    match value {
+        Value::Null => measure_null(version),
+        Value::Bool(truth) => measure_bool(*truth),
+        Value::Int(number) => measure_int(number),
+        Value::Simple(line) => measure_line(line.text()),
+        Value::Error(line) => measure_line(line.text()),
+        Value::Bulk(content) => measure_bulk(content.list()),
+        Value::BulkError(content) => measure_bulk_error(content.list()),
+        Value::Verbatim(format, text) => measure_verbatim(format, text.list()),
+        Value::Big(digits) => measure_big(digits.is_negative(), digits.digits()),
+        Value::Array(members) => measure_group(members.list(), version, OpenKind::Array),
+        Value::Set(members) => measure_group(members.list(), version, OpenKind::Set),
+        Value::Push(members) => measure_group(members.list(), version, OpenKind::Push),
+        Value::Map(pairs) => measure_map(pairs.list(), version),
+        Value::Attr(pairs, annotated) => {
+            let under = measure_annotated(annotated, version);
+            measure_attr(pairs.list(), version, &under)
+        }
+    }
+}
+
+/// The measure of a map of these pairs.
+#[cycle(measure)]
+#[inline(never)]
+fn measure_map(pairs: &[(Value, Value)], version: Version) -> Measure
+    ensures found { Describes version (aggregate d.Map
+        (data_of_list (in_turn (map pair_data pairs.now)))) result }
+    ensures is_value { IsValue (aggregate d.Map (data_of_list (in_turn (map pair_data pairs.now)))) }
+{
+    measure_pairs(pairs, version).inside(OpenKind::Map, pairs.len() as u64)
+}
+
+#[cycle(measure)]
+#[inline(never)]
+fn measure_annotated(value: &Value, version: Version) -> Measure
+    ensures found { Describes version (datum_of value.now) result }
+    ensures is_value { IsValue (datum_of value.now) }
+{
+    measure_value(value, version)
+}
+
+/// The measure of an attribute of these pairs, over a value of this measure.
+#[cycle(measure)]
+#[inline(never)]
+fn measure_attr(pairs: &[(Value, Value)], version: Version, under: &Measure) -> Measure
+    ensures found { (x : Datum) → Describes version x under.now →
+        Describes version (aggregate d.Attr
+        (data_of_list (in_turn (map pair_data pairs.now) ++ x ∷ []))) result }
+    ensures are_values { AreValues (data_of_list (in_turn (map pair_data pairs.now))) }
+{
+    let found = measure_pairs(pairs, version).with(under);
+    found.inside(OpenKind::Attr, pairs.len() as u64)
+}
+
+/// The measure of an aggregate that counts its members one by one.
+#[cycle(measure)]
+#[inline(never)]
+pub(crate) fn measure_group(members: &[Value], version: Version, kind: OpenKind) -> Measure
+    requires { (n : ℕ) → items_of (kind_of kind) n ≡ n }
+    ensures found { Describes version (aggregate (kind_of kind)
+        (data_of_list (map datum_of members.now))) result }
+    ensures are_values { AreValues (data_of_list (map datum_of members.now)) }
+{
+    measure_members(members, version).inside(kind, members.len() as u64)
+}
+
+/// The measure of values that stand side by side.
+#[cycle(measure)]
+fn measure_members(members: &[Value], version: Version) -> Measure
+    ensures found { DescribesEach version (data_of_list (map datum_of members.now)) result }
+    ensures are_values { AreValues (data_of_list (map datum_of members.now)) }
+{
+    let mut found = Measure::nothing();
+    for member in members {
+        found = found.with(&measure_value(member, version));
+    }
+    found
+}
+
+/// The measure of keys and values in turn.
+#[cycle(measure)]
+fn measure_pairs(pairs: &[(Value, Value)], version: Version) -> Measure
+    ensures found { DescribesEach version (data_of_list (in_turn (map pair_data pairs.now))) result }
+    ensures are_values { AreValues (data_of_list (in_turn (map pair_data pairs.now))) }
+{
+    let mut found = Measure::nothing();
+    for pair in pairs {
+        found = found.with(&measure_value(&pair.0, version));
+        found = found.with(&measure_value(&pair.1, version));
+    }
+    found
+}
