@@ -3,8 +3,7 @@
 
 use anyhow::Result;
 use resp_scan::{Event, Scanner};
-use resp_value::limits::Limits;
-use resp_value::version::Version;
+use resp_value::{Limits, Version};
 use std::io::Read;
 
 /// How many bytes one read asks for.
