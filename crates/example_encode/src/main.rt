@@ -4,10 +4,7 @@
 use anyhow::Result;
 use bytes::BytesMut;
 use resp_encode::encode;
-use resp_value::content::Content;
-use resp_value::limits::Limits;
-use resp_value::value::{Members, Value};
-use resp_value::version::Version;
+use resp_value::{Content, Limits, Members, Value, Version};
 use std::io::Write;
 
 fn main(rt: HostRuntime) -> Result<()> {

@@ -2,10 +2,8 @@
 #![tactic(auto)]
 
 use anyhow::Result;
-use resp_scan::event::Event;
-use resp_scan::scanner::Scanner;
-use resp_value::limits::Limits;
-use resp_value::version::Version;
+use resp_scan::{Event, Scanner};
+use resp_value::{Limits, Version};
 use std::io::Read;
 
 /// How many bytes one read asks for.

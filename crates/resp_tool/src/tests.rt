@@ -1,5 +1,7 @@
 //! Tests of the program's calls: readers that give few bytes, and devices that fail.
 
+ghost use Rattle.std.specs.Prelude.{◌≤◌};
+
 use crate::canon::canon;
 use crate::command_line::command;
 use crate::show::show;
@@ -8,11 +10,50 @@ use resp_value::cause::Cause;
 use resp_value::device::{MemorySink, MemorySource};
 use resp_value::limits::Limits;
 use resp_value::version::Version;
+use std::alloc::Global;
 use std::test::Fail;
 
 const STREAM: &[u8] = b"+OK\r\n:+007\r\n$3\r\nfoo\r\n$-1\r\n-ERR no\r\n";
 
 const LINES: &[u8] = b"simple \"OK\" 2\nint 7\nbulk \"foo\" 3\nnull\nerror \"ERR no\" 6\n";
+
+/// `show` in version 2 under the default limits.
+fn show_default(
+    alloc: Global,
+    piece: usize,
+    reader: &mut MemorySource<'_>,
+    writer: &mut MemorySink,
+) -> Result<(), ToolError>
+    requires { (1 ≤ piece) × (piece ≤ 65536) }
+{
+    show(
+        alloc,
+        Version::Two,
+        &Limits::standard(),
+        piece,
+        reader,
+        writer,
+    )
+}
+
+/// `canon` in version 2 under the default limits.
+fn canon_default(
+    alloc: Global,
+    piece: usize,
+    reader: &mut MemorySource<'_>,
+    writer: &mut MemorySink,
+) -> Result<(), ToolError>
+    requires { (1 ≤ piece) × (piece ≤ 65536) }
+{
+    canon(
+        alloc,
+        Version::Two,
+        &Limits::standard(),
+        piece,
+        reader,
+        writer,
+    )
+}
 
 #[test]
 fn shows_the_same_whatever_a_read_gives(rt: HostRuntime) -> Result<(), Fail> {
@@ -20,14 +61,7 @@ fn shows_the_same_whatever_a_read_gives(rt: HostRuntime) -> Result<(), Fail> {
         for most in [1, 2, 3, 4_096] {
             let mut reader = MemorySource::new(STREAM, most);
             let mut writer = MemorySink::new(rt.alloc(), 4_096, 256)?;
-            let shown = show(
-                rt.alloc(),
-                Version::Two,
-                &Limits::standard(),
-                piece,
-                &mut reader,
-                &mut writer,
-            );
+            let shown = show_default(rt.alloc(), piece, &mut reader, &mut writer);
             assert_eq!(rt; shown, Ok(()), "by reads of {piece} of {most}");
             assert_eq!(rt; writer.bytes(), LINES, "by reads of {piece} of {most}");
         }
@@ -39,14 +73,7 @@ fn shows_the_same_whatever_a_read_gives(rt: HostRuntime) -> Result<(), Fail> {
 fn shows_what_came_before_a_refused_value(rt: HostRuntime) -> Result<(), Fail> {
     let mut reader = MemorySource::new(b":1\r\n+a\rb", 4_096);
     let mut writer = MemorySink::new(rt.alloc(), 4_096, 256)?;
-    let shown = show(
-        rt.alloc(),
-        Version::Two,
-        &Limits::standard(),
-        1,
-        &mut reader,
-        &mut writer,
-    );
+    let shown = show_default(rt.alloc(), 1, &mut reader, &mut writer);
     let refused = ToolError::Refused {
         value: 2,
         cause: Cause::Syntax,
@@ -62,14 +89,7 @@ fn stops_where_the_reader_fails(rt: HostRuntime) -> Result<(), Fail> {
     for byte in [0, 7] {
         let mut reader = MemorySource::new(STREAM, 2).failing_from(byte);
         let mut writer = MemorySink::new(rt.alloc(), 4_096, 256)?;
-        let shown = show(
-            rt.alloc(),
-            Version::Two,
-            &Limits::standard(),
-            4_096,
-            &mut reader,
-            &mut writer,
-        );
+        let shown = show_default(rt.alloc(), 4_096, &mut reader, &mut writer);
         assert_eq!(rt; shown, Err(ToolError::Read), "at byte {byte}");
         assert_eq!(rt; writer.bytes(), b"".as_slice(), "at byte {byte}");
     }
@@ -81,14 +101,7 @@ fn stops_where_the_writer_fails(rt: HostRuntime) -> Result<(), Fail> {
     for most in [1, 4_096] {
         let mut reader = MemorySource::new(STREAM, 4_096);
         let mut writer = MemorySink::new(rt.alloc(), most, 20)?;
-        let shown = show(
-            rt.alloc(),
-            Version::Two,
-            &Limits::standard(),
-            4_096,
-            &mut reader,
-            &mut writer,
-        );
+        let shown = show_default(rt.alloc(), 4_096, &mut reader, &mut writer);
         assert_eq!(rt; shown, Err(ToolError::Write), "by writes of {most}");
         assert_eq!(rt;
             writer.bytes(),
@@ -103,14 +116,7 @@ fn stops_where_the_writer_fails(rt: HostRuntime) -> Result<(), Fail> {
 fn stops_where_the_writer_takes_nothing(rt: HostRuntime) -> Result<(), Fail> {
     let mut reader = MemorySource::new(STREAM, 4_096);
     let mut writer = MemorySink::new(rt.alloc(), 0, 20)?;
-    let shown = show(
-        rt.alloc(),
-        Version::Two,
-        &Limits::standard(),
-        4_096,
-        &mut reader,
-        &mut writer,
-    );
+    let shown = show_default(rt.alloc(), 4_096, &mut reader, &mut writer);
     assert_eq!(rt; shown, Err(ToolError::Write));
     assert_eq!(rt; writer.bytes(), b"".as_slice());
     Ok(())
@@ -158,14 +164,7 @@ fn writes_each_value_canonically(rt: HostRuntime) -> Result<(), Fail> {
         for piece in [1, 2, 4_096] {
             let mut reader = MemorySource::new(stream, 4_096);
             let mut writer = MemorySink::new(rt.alloc(), 1, 256)?;
-            let done = canon(
-                rt.alloc(),
-                Version::Two,
-                &Limits::standard(),
-                piece,
-                &mut reader,
-                &mut writer,
-            );
+            let done = canon_default(rt.alloc(), piece, &mut reader, &mut writer);
             assert_eq!(rt; done, Ok(()));
             assert_eq!(rt; writer.bytes(), wanted);
         }
@@ -186,14 +185,7 @@ fn canon_stops_at_a_refused_value_and_a_failing_writer(rt: HostRuntime) -> Resul
     ] {
         let mut reader = MemorySource::new(b":+1\r\n+a\rb", 4_096);
         let mut writer = MemorySink::new(rt.alloc(), 4_096, room)?;
-        let done = canon(
-            rt.alloc(),
-            Version::Two,
-            &Limits::standard(),
-            1,
-            &mut reader,
-            &mut writer,
-        );
+        let done = canon_default(rt.alloc(), 1, &mut reader, &mut writer);
         assert_eq!(rt; done, Err(wanted));
         assert_eq!(rt; writer.bytes(), written);
     }
