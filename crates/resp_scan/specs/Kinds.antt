@@ -1,7 +1,5 @@
 -- The scanner's names for what the grammar names.
 use Rattle.std.specs.Prelude.{◌≡◌, ℕ, List, [], ◌∷◌}
-use Rattle.resp_value.specs.Data.{Kind}
-use Rattle.resp_value.specs.Data as d
 use Rattle.resp_value.specs.Rules.{Rules, Rule}
 use Rattle.resp_value.specs.Spellings.{IsCause}
 use Rattle.resp_value.specs.Causes.{cause_of}

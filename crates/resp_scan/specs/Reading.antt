@@ -1,5 +1,5 @@
 -- What a step promises of what has come, in words of texts and trees.
-use Rattle.std.specs.Prelude.{◌≡◌, ◌⊎◌, ℕ, ◌+◌, ◌<◌, ◌≤◌, List, [], ◌∷◌, ◌++◌, length, take, Option, None, Some, Result, Ok, Err, IfOk, IfNone}
+use Rattle.std.specs.Prelude.{◌≡◌, ◌⊎◌, ℕ, ◌+◌, ◌<◌, ◌≤◌, List, [], ◌∷◌, ◌++◌, length, take, Option, None, Some, Result, IfOk, IfNone}
 use Rattle.std.specs.List.{AllByRecursion}
 use Rattle.resp_value.specs.Trees.{Tree, Spells}
 use Rattle.resp_value.specs.Rules.{Rules, WithinTotal, Keeps}
@@ -12,7 +12,7 @@ use Rattle.resp_scan.specs.declared.event.Step.{Step}
 use Rattle.resp_scan.specs.declared.event.Fault.{Fault}
 use Rattle.resp_scan.specs.Machine.Tokens.{Dead, Place}
 use Rattle.resp_value.specs.Kinds.{kind_of}
-use Rattle.resp_scan.specs.Kinds.{IsRefusedFor, content_events, rules_of, text_kind_of}
+use Rattle.resp_scan.specs.Kinds.{IsRefusedFor, content_events, text_kind_of}
 use Rattle.resp_scan.specs.Machine.Standing.{StandsAfter}
 
 -- the events given since a value began, content byte by byte

@@ -89,7 +89,8 @@ impl Machine {
         requires within { i ≤ length piece.now }
         requires front { 4 ≤ self.old.count }
         ensures { out_of result self.new ≡
-            scan i (at (place_of self.old) (AtFormatSecond first self.old.count)) (drop i piece.now) }
+            scan i (at (place_of self.old) (AtFormatSecond first self.old.count))
+            (drop i piece.now) }
     {
         if i == piece.len() {
             self.format = [first, 0, 0];
@@ -118,7 +119,8 @@ impl Machine {
         requires within { i ≤ length piece.now }
         requires front { 4 ≤ self.old.count }
         ensures { out_of result self.new ≡
-            scan i (at (place_of self.old) (AtFormatColon format self.old.count)) (drop i piece.now) }
+            scan i (at (place_of self.old) (AtFormatColon format self.old.count))
+            (drop i piece.now) }
     {
         self.format = format;
         if i == piece.len() {

@@ -14,7 +14,8 @@ use resp_value::kind::OpenKind;
 /// false, the scanner stops for good.
 ///
 /// What a listener has heard it says in the words of a ghost member, so that it needn't keep the
-/// events themselves: a decoder says that it holds their values, a counter that it has their number.
+/// events themselves: a decoder says that it holds their values, a counter that it has their
+/// number.
 pub trait Listener {
     /// The events that it has heard of the value.
     ghost has_heard: { Self → Events → Type 0 };

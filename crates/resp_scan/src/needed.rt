@@ -9,7 +9,8 @@ impl Machine {
     ghost use Rattle.resp_scan.specs.Machine.Fields.{place_of};
     ghost use Rattle.resp_scan.specs.Machine.Sound.{IsSound, needed, token_needed};
 
-    /// The fewest bytes that complete the value: the token's, and then those of the open aggregates.
+    /// The fewest bytes that complete the value: the token's, and then those of the open
+    /// aggregates.
     #[inline]
     pub fn needed(&self) -> u64
         requires { IsSound (place_of self.now) }

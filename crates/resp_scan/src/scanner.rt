@@ -92,7 +92,8 @@ impl Scanner {
         ensures no_event { WhereRead self.old (λ front given.
             IfNoEvent result (UsesUp self.new front given piece.now)) }
 
-        // The bytes taken are a value, the events given are its events, and the next value may begin.
+        // The bytes taken are a value, the events given are its events, and the next value may
+        // begin.
         ensures value_whole { WhereRead self.old (λ front given.
             IfDone result (EndsValue (rules_of self.old) self.new front given)) }
 

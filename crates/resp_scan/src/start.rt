@@ -20,7 +20,7 @@ impl Machine {
     ghost use Rattle.resp_scan.specs.declared.event.TextKind.TheVariants as text;
 
     #[inline]
-    #[tactic(auto, using(crate::proofs::Soundness::Starts::first_scan, crate::proofs::Soundness::Starts::answers))]
+    #[tactic(auto, using(crate::proofs::Soundness::Starts::first_byte))]
     pub fn start(&mut self, piece: &[u8]) -> Taken
         requires { IsSound (at (place_of self.old) AtStart) }
         ensures { out_of result self.new ≡ scan 0 (at (place_of self.old) AtStart) piece.now }
@@ -124,7 +124,8 @@ impl Machine {
         requires level { HasFrame (place_of self.old) head }
         requires sound { IsSound (at (place_of self.old) AtStart) }
         ensures { out_of result self.new ≡
-            after_first (m.begin_move (at (place_of self.old) AtStart) (first_needed head) (AtHead head))
+            after_first
+            (m.begin_move (at (place_of self.old) AtStart) (first_needed head) (AtHead head))
             (at (place_of self.old) AtStart) (drop 1 piece.now) }
     {
         match self.begin(first_needed(head)) {

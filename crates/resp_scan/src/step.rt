@@ -151,7 +151,7 @@ impl Machine {
     }
 
     #[inline(always)]
-    #[tactic(auto, using(crate::proofs::Soundness::Places::sound_start, crate::proofs::Soundness::Places::content_some))]
+    #[tactic(auto, using(crate::proofs::Soundness::Places::hot_tokens))]
     pub fn step<'a>(&mut self, piece: &'a [u8]) -> Result<Step<'a>, Fault>
         requires { IsSound (place_of self.old) }
         ensures heard { out_of_step (place_of self.old).taken result (place_of self.new) ≡

@@ -1,7 +1,7 @@
 -- What a listener has heard: events told one after another.
 use Rattle.std.specs.Prelude.{MatchBool, true, false}
-use Rattle.std.proofs.Common.{◌≡◌, ℕ, Bool, List, [], ◌∷◌, ◌++◌, refl, sym, ap, subst, ◌∙◌, append_assoc, append-nil}
-use Rattle.resp_scan.specs.Reading.{BeginDue, Events}
+use Rattle.std.proofs.Common.{◌≡◌, Bool, [], ◌++◌, sym, ap, subst, ◌∙◌, append_assoc, append-nil}
+use Rattle.resp_scan.specs.Reading.{Events}
 use Rattle.resp_scan.specs.Listening.{Hears, MayBeGiven, StopsWithin}
 
 -- the first of events that may be given may be given

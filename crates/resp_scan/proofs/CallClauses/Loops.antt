@@ -1,9 +1,9 @@
 -- The loop over a piece: what its turns so far have read and told, and what the last one answers.
 use Prim.Native.Nat.{zero}
-use Rattle.std.specs.Prelude.{Bool, true, false, take, drop, cond, eqb}
+use Rattle.std.specs.Prelude.{true, false, take, drop, cond, eqb}
 use Rattle.std.proofs.Common.{◌≡◌, ℕ, ◌+◌, ◌-◌, ◌*◌, ◌<◌, ◌≤◌, List, [], ◌∷◌, ◌++◌, length, refl, sym, ap, subst, ◌∙◌, arith, append_assoc, append-nil, length-append, suc}
 use Rattle.std.proofs.lemmas.List.{length-drop, take-append-drop}
-use Rattle.resp_value.specs.Rules.{Rules, WithinTotal}
+use Rattle.resp_value.specs.Rules.{WithinTotal}
 use Rattle.resp_value.specs.Spellings.{IsViable}
 use Rattle.resp_value.specs.declared.cause.Cause.{Cause}
 use Rattle.resp_scan.specs.declared.event.Fault.{Fault}
@@ -19,7 +19,7 @@ use Rattle.resp_scan.specs.Listening.{HearsPiece, HearsRefusal, HearsValue, Stop
 use Rattle.resp_scan.specs.Machine.Tokens.{Token, Place, AtBigDigit, AtEnd, AtTextEnd, Dead}
 use Rattle.resp_scan.specs.Machine.Owed.{events_owed, events_owed_at, events_owed_at_end, events_owed_in}
 use Rattle.resp_scan.specs.Machine.Sound.{IsSound}
-use Rattle.resp_scan.specs.Machine.Turns.{GoesOn, IsTurn, OutcomeOfTurn, Refuses, Stops}
+use Rattle.resp_scan.specs.Machine.Turns.{GoesOn, IsTurn, OutcomeOfTurn}
 use Rattle.resp_scan.proofs.CallClauses.Fronts.{front-append}
 use Rattle.resp_scan.proofs.CallClauses.WholeTexts.{taken_on}
 
@@ -159,14 +159,15 @@ refusal_heard s₀ s t H₀ H H' M piece used turned c r v failed dead front giv
     ap (λ n. record { cause = c; at = n }) (sym b.0.kept.1) in
     record {
       heard = given ++ a.told;
-      refused = subst (IsRefused (rules_of s₀) front (given ++ a.told) piece) same (subst (λ x. IsRefused x front (given ++ a.told) piece b.0.fault) r.rules (record {
-        in_piece = omega (arith, f.in_piece, length-append front (take used piece));
-        before_end = omega (arith, f.before_end, ap length all);
-        viable = subst (λ z. IsViable (rules_of s) WithinTotal (take b.0.fault.at z)) all f.viable;
-        refused = subst (λ z. IsRefusedFor (rules_of s) (take (b.0.fault.at + 1) z) b.0.fault.cause) all f.refused;
-        all_due = subst (λ z. AreDue (take b.0.fault.at z) (given ++ a.told)) all f.all_due;
-        no_value = subst (HasNoSpelling (rules_of s)) all f.no_value;
-      }));
+      refused = subst (IsRefused (rules_of s₀) front (given ++ a.told) piece) same
+          (subst (λ x. IsRefused x front (given ++ a.told) piece b.0.fault) r.rules (record {
+            in_piece = omega (arith, f.in_piece, length-append front (take used piece));
+            before_end = omega (arith, f.before_end, ap length all);
+            viable = subst (λ z. IsViable (rules_of s) WithinTotal (take b.0.fault.at z)) all f.viable;
+            refused = subst (λ z. IsRefusedFor (rules_of s) (take (b.0.fault.at + 1) z) b.0.fault.cause) all f.refused;
+            all_due = subst (λ z. AreDue (take b.0.fault.at z) (given ++ a.told)) all f.all_due;
+            no_value = subst (HasNoSpelling (rules_of s)) all f.no_value;
+          }));
       has_heard = b.1;
     }
 

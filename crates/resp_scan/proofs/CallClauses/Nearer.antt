@@ -1,14 +1,12 @@
 -- An event that uses no byte is one of those owed: where it leads, fewer are owed.
 use Rattle.std.specs.Prelude.{cond, eqb, true, false}
-use Rattle.std.proofs.Common.{◌≡◌, ℕ, ◌+◌, ◌<◌, ◌≤◌, List, [], ◌∷◌, length, refl, sym, ap, subst, arith}
-use Rattle.std.proofs.lemmas.Bool.Decides.{nat_tests}
-use Rattle.resp_value.specs.declared.cause.Cause.{Cause}
+use Rattle.std.proofs.Common.{◌≡◌, ℕ, ◌+◌, ◌<◌, ◌≤◌, List, [], ◌∷◌, length, ap, arith}
 use Rattle.resp_value.specs.declared.kind.OpenKind.{OpenKind}
 use Rattle.resp_fronts.specs.Events as e
 use Rattle.resp_scan.specs.declared.frame.Frame.{Frame}
 use Rattle.resp_scan.specs.declared.frame.Shape.{Shape}
 use Rattle.resp_scan.specs.declared.frame.Shape.TheVariants.{Left, Begun}
-use Rattle.resp_scan.specs.Machine.Tokens.{Token, Place, Move, Go, Byte, Give, Refuse, at, at_boundary, token_at_boundary, token_in_shape, AtStart, AtEnd, AtBigDigit, AtTextEnd, Dead}
+use Rattle.resp_scan.specs.Machine.Tokens.{Token, Place, Move, Go, Byte, Give, Refuse, at, token_at_boundary, token_in_shape, AtStart, AtEnd, AtBigDigit, AtTextEnd, Dead}
 use Rattle.resp_scan.specs.Machine.Owed.{events_owed, events_owed_at, events_owed_at_end, events_owed_in}
 use Rattle.resp_scan.specs.Machine.Moves.{next}
 use Rattle.resp_scan.specs.Machine.Scan.{Out, More, Gave, Part, Whole, Bad, and_more, answer, content, out_at_end, out_from, out_from_token, scan}
@@ -73,7 +71,8 @@ boundary_owed (f ∷ fs) = by_shape f.kind f.shape
     by_shape k (Left n) = elim (eqb n 0) as (λ b. length (events_owed_at (cond b AtEnd AtStart) (record { kind = k; shape = Left n } ∷ fs)) ≤
         length (events_owed_in (Left n) (events_owed_at_end fs))) [ true ↦ omega arith | false ↦ omega arith ]
 
-close_nearer : (s : Place) (fs : List Frame) → IsClosed fs → IsNearer (record s { token = AtEnd; frames = fs }) (out_at_end (record s { token = AtEnd; frames = fs }) fs)
+close_nearer : (s : Place) (fs : List Frame) → IsClosed fs → IsNearer (record s { token = AtEnd; frames = fs })
+    (out_at_end (record s { token = AtEnd; frames = fs }) fs)
 close_nearer s [] closed = tt
 close_nearer s (f ∷ fs) closed = λ none.
     let owed : events_owed_in f.shape (events_owed_at_end fs) ≡ e.Close ∷ events_owed_at_end fs = ap (λ x. events_owed_in x (events_owed_at_end fs)) closed in

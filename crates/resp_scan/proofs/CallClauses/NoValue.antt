@@ -1,6 +1,6 @@
 -- Of a viable text whose due events were given without a Done, no front is a spelling.
 use Rattle.std.specs.Prelude.{take, drop, cond, ltb}
-use Rattle.std.proofs.Common.{◌≡◌, ℕ, ◌+◌, ◌<◌, ◌≤◌, List, [], ◌∷◌, ◌++◌, length, refl, sym, ap, subst, ◌∙◌, arith, append_assoc, append-nil, length-append}
+use Rattle.std.proofs.Common.{◌≡◌, ℕ, ◌+◌, ◌<◌, ◌≤◌, List, [], ◌∷◌, ◌++◌, length, sym, ap, subst, ◌∙◌, arith, append_assoc, append-nil, length-append}
 use Rattle.std.proofs.lemmas.Grind.{common_steps}
 use Rattle.resp_value.specs.declared.cause.Cause.{Cause}
 use Rattle.resp_value.specs.Rules.{Rules, WithinTotal}
@@ -13,7 +13,7 @@ use Rattle.resp_fronts.specs.Events as e
 use Rattle.resp_fronts.specs.Events.{all_events, events, events_due, last_of}
 use Rattle.resp_fronts.proofs.EventLaws.EventsDue.{due-append}
 use Rattle.resp_value.proofs.DefaultLimits.{text_at_least}
-use Rattle.resp_scan.specs.Reading.{AreDue, HasNoDone, HasNoSpelling, HasNoValue, IsSpelled}
+use Rattle.resp_scan.specs.Reading.{AreDue, HasNoDone, HasNoSpelling, HasNoValue}
 use Rattle.resp_scan.proofs.DueEvents.NoDone.{no_done_behind}
 use Rattle.resp_value.proofs.Choices.{if_below, if_within}
 

@@ -1,30 +1,25 @@
 -- The contract of a step in words of texts and trees.
-use Rattle.std.specs.Prelude.{Bool, true, false, cond, nat_lt, take, drop, get_or, eqb, Option, None, Some, Result, Ok, Err, IfOk, IfErr, IfNone}
-use Rattle.std.proofs.Common.{◌≡◌, ℕ, ◌+◌, ◌-◌, ◌*◌, ◌<◌, ◌≤◌, List, [], ◌∷◌, ◌++◌, length, refl, sym, ap, subst, ◌∙◌, arith, append_assoc, append-nil, length-append}
-use Rattle.std.proofs.lemmas.Bool.{false≢true}
-use Rattle.std.proofs.lemmas.Grind.{common_steps}
+use Rattle.std.specs.Prelude.{Bool, true, false, take, drop, get_or, eqb, Option, None, Some, Result, Ok, Err, IfOk, IfErr, IfNone}
+use Rattle.std.proofs.Common.{◌≡◌, ℕ, ◌+◌, ◌-◌, ◌<◌, ◌≤◌, List, [], ◌∷◌, ◌++◌, length, refl, sym, ap, subst, ◌∙◌, arith, append_assoc, append-nil, length-append}
 use Rattle.resp_value.specs.Bytes.{IsText}
 use Rattle.resp_value.specs.Trees.{text}
-use Rattle.resp_value.specs.Rules.{Rules, WithinItems, WithinTotal}
+use Rattle.resp_value.specs.Rules.{WithinItems, WithinTotal}
 use Rattle.resp_value.specs.Spellings.{IsViable}
 use Rattle.resp_value.proofs.LocalRuleLemmas.{keeps_locally}
-use Rattle.resp_value.proofs.Unique.{unique}
 use Rattle.resp_fronts.proofs.FrameLaws.FrontLaws.{all_rules}
 use Rattle.resp_fronts.specs.Events.{without_places, events}
 use Rattle.resp_fronts.specs.Events as e
-use Rattle.resp_fronts.specs.LeastCompletions.{IsLeast}
 use Rattle.resp_scan.specs.declared.event.Event.{Event}
 use Rattle.resp_scan.specs.declared.event.Event.TheVariants as event
 use Rattle.resp_scan.specs.declared.event.Step.{Step}
 use Rattle.resp_scan.specs.declared.event.Fault.{Fault}
 use Rattle.resp_scan.specs.declared.frame.Frame.{Frame}
-use Rattle.resp_scan.specs.Machine.Tokens as k
-use Rattle.resp_scan.specs.Machine.Tokens.{Happening, Place, Token, at_boundary, at, AtStart, AtEnd, InLine, AtLineLf, AtIntSign, AtIntFirst, InInt, AtIntLf, AtBigSign, AtBigFirst, InBigZeros, AtBigZeroLf, AtBigDigit, InBig, AtTextEnd, AtNullOne, AtNullCr, AtNullLf, AtBool, AtBoolCr, AtBoolLf, AtBulkHead, AtArrayHead, AtHead, InHead, AtHeadLf, AtFormat, AtFormatSecond, AtFormatThird, AtFormatColon, InContent, AtContentCr, AtContentLf, AtStreamCr, AtStreamLf, AtChunk, InChunk, AtChunkCr, AtChunkLf, AtOpenCr, AtOpenLf, AtCloseCr, AtCloseLf, Dead}
-use Rattle.resp_scan.specs.Machine.Scan.{Out, More, Gave, Part, Whole, Bad, out_from, out_from_token, out_at_end, scan}
+use Rattle.resp_scan.specs.Machine.Tokens.{Place, Token, AtStart, AtEnd, AtBigDigit, AtTextEnd, Dead}
+use Rattle.resp_scan.specs.Machine.Scan.{Out, More, Gave, Part, Whole, Bad, out_from}
 use Rattle.resp_scan.specs.Parts.{IsPartOf, IsOfPiece, IsRun}
 use Rattle.resp_scan.specs.Machine.StepOutcomes.{out_of_step, out_of_event, out_of_part, after_step}
 use Rattle.resp_scan.specs.Kinds.{IsRefusedFor, content_events, event_of, rules_of}
-use Rattle.resp_scan.specs.Machine.Sound.{IsSound, IsSoundBy, needed, token_needed}
+use Rattle.resp_scan.specs.Machine.Sound.{IsSound, IsSoundBy}
 use Rattle.resp_scan.specs.Machine.Owed.{events_owed_at}
 use Rattle.resp_scan.specs.Machine.Standing as f
 use Rattle.resp_scan.specs.Machine.Standing.{AwaitsMember, HasCountsOf, HasEnded, StandsAfter, StandsAfterAt}
@@ -36,7 +31,7 @@ use Rattle.resp_scan.proofs.DueEvents.EventsDue.{events_are_due}
 use Rattle.resp_scan.proofs.CallClauses.Heard.{RefusedAt}
 use Rattle.resp_scan.proofs.CallClauses.Fronts.{front-append, front-one-more, length-front}
 use Rattle.resp_scan.proofs.Soundness.Kept.{IsOut, is_advanced}
-use Rattle.resp_scan.proofs.CallClauses.LeastNeeded.{least_is_needed, followed_is_viable}
+use Rattle.resp_scan.proofs.CallClauses.LeastNeeded.{followed_is_viable}
 use Rattle.resp_scan.proofs.Soundness.Counted.{sound_counted}
 use Rattle.resp_scan.proofs.CallClauses.Answered.{Answered, answered}
 
@@ -113,7 +108,8 @@ OutcomeOf s t front es p n None = UsesUp t front es p n
 OutcomeOf s t front es p n (Some event.Done) = EndsValue (rules_of s) t front es n
 OutcomeOf s t front es p n (Some x) = HasRead t (front ++ take n p) (es ++ events_of x)
 
-pub heard_is : (s t : Place) (front : List ℕ) (es : List e.Event) (p : List ℕ) (n : ℕ) (x : Option Event) → s.taken ≡ length front → length front ≤ s.bounds.total →
+pub heard_is : (s t : Place) (front : List ℕ) (es : List e.Event) (p : List ℕ) (n : ℕ) (x : Option Event) → s.taken ≡ length front →
+    length front ≤ s.bounds.total →
     IsPartOf p n x → Shown s front es p (out_of_event n x t) →
     OutcomeOf s t front es p n x
 heard_is s t front es p n None taken fits part h =

@@ -1,23 +1,20 @@
 -- One turn of the loop over a piece.
-use Rattle.std.specs.Prelude.{Bool, true, false, take, drop, None, Some, get_or, MatchBool}
-use Rattle.std.proofs.Common.{◌≡◌, ℕ, ◌+◌, ◌-◌, ◌<◌, ◌≤◌, List, [], ◌∷◌, ◌++◌, length, refl, sym, ap, subst, ◌∙◌, arith, append_assoc, append-nil, length-append}
+use Rattle.std.specs.Prelude.{Bool, true, false, take, drop, None, MatchBool}
+use Rattle.std.proofs.Common.{◌≡◌, ℕ, ◌+◌, ◌-◌, ◌<◌, List, [], ◌∷◌, ◌++◌, length, refl, sym, ap, subst, ◌∙◌, arith, append_assoc}
 use Rattle.resp_value.specs.Bytes.{IsText}
-use Rattle.resp_value.specs.Rules.{Rules, WithinTotal}
+use Rattle.resp_value.specs.Rules.{WithinTotal}
 use Rattle.resp_value.specs.Spellings.{IsViable}
-use Rattle.resp_fronts.specs.Events as e
-use Rattle.resp_scan.specs.declared.event.Event.TheVariants as event
 use Rattle.resp_scan.specs.declared.event.Fault.{Fault}
 use Rattle.resp_scan.specs.declared.machine.EventTag.{EventTag}
 use Rattle.resp_scan.specs.declared.machine.EventTag.TheVariants as tag
 use Rattle.resp_scan.specs.declared.machine.Machine.{Machine}
 use Rattle.resp_scan.specs.declared.machine.Taken.{Taken}
 use Rattle.resp_scan.specs.declared.listen.Turn.TheVariants as turn
-use Rattle.resp_scan.specs.declared.listen.Turned.{Turned}
 use Rattle.resp_scan.specs.Kinds.{content_events, event_of, rules_of}
 use Rattle.resp_value.specs.declared.cause.Cause.{Cause}
 use Rattle.resp_scan.specs.Reading.{BeginDue, Events, HasRead, IsFaulted}
 use Rattle.resp_scan.specs.Listening.{Hears, MayBeGiven, StopsWithin}
-use Rattle.resp_scan.specs.Machine.Tokens.{Happening, Place, Dead}
+use Rattle.resp_scan.specs.Machine.Tokens.{Place}
 use Rattle.resp_scan.specs.Machine.Fields.{out_by, out_of, place_of}
 use Rattle.resp_scan.specs.Machine.Owed.{events_owed}
 use Rattle.resp_scan.specs.Machine.Scan.{Out, More, Gave, Part, Whole, Bad, out_from, out_from_token}

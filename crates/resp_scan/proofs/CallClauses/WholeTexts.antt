@@ -1,12 +1,10 @@
 -- A text told whole: its head, its content and its CR LF, as one turn.
-use Rattle.std.specs.Prelude.{Bool, true, false, take, drop, get_or, MatchBool, min, eqb, cond}
+use Rattle.std.specs.Prelude.{Bool, take, drop, get_or, min, eqb, cond}
 use Rattle.std.specs.Str.{byte}
-use Rattle.std.specs.List.{AllByRecursion}
-use Rattle.std.proofs.Common.{◌≡◌, ℕ, suc, ◌+◌, ◌-◌, ◌<◌, ◌≤◌, List, [], ◌∷◌, ◌++◌, length, reverse, refl, sym, ap, subst, ◌∙◌, arith, zero-add, add-one, drop-cons, append_assoc, append-nil, length-append}
+use Rattle.std.proofs.Common.{◌≡◌, ℕ, suc, ◌+◌, ◌-◌, ◌<◌, ◌≤◌, List, [], ◌∷◌, ◌++◌, length, reverse, refl, sym, ap, subst, ◌∙◌, arith, zero-add, add-one, drop-cons, append_assoc, append-nil}
 use Prim.Native.Nat.{zero}
 use Rattle.std.proofs.lemmas.Grind.{common_steps}
 use Rattle.std.proofs.lemmas.List.{drop-take, length-drop, take-append-drop}
-use Rattle.std.proofs.lemmas.Bool.Decides.{nat_tests}
 use Rattle.resp_value.specs.Bytes.{IsLine, IsText}
 use Rattle.resp_fronts.specs.Events as e
 use Rattle.resp_scan.specs.declared.event.TextKind.{TextKind}
@@ -17,16 +15,16 @@ use Rattle.resp_scan.specs.declared.machine.EventTag.TheVariants as tag
 use Rattle.resp_scan.specs.declared.machine.Taken.{Taken}
 use Rattle.resp_scan.specs.declared.machine.Machine.{Machine}
 use Rattle.resp_scan.specs.declared.machine.State.TheVariants as state
-use Rattle.resp_scan.specs.Kinds.{content_events, event_of, rules_of, text_kind_of}
+use Rattle.resp_scan.specs.Kinds.{content_events, rules_of, text_kind_of}
 use Rattle.resp_scan.specs.Reading.{Events, HasRead}
 use Rattle.resp_scan.specs.declared.listen.Turned.{Turned}
 use Rattle.resp_scan.specs.Listening.{Hears, IsTextOf, whole_text_events}
 use Rattle.resp_scan.specs.Machine.Fields.{out_by, out_of, place_of, token_at}
-use Rattle.resp_scan.specs.Machine.Tokens.{Place, Text, TextEnd, at, at_boundary, InLine, InContent, AtContentCr}
+use Rattle.resp_scan.specs.Machine.Tokens.{Place, Text, TextEnd, at, at_boundary, InLine, InContent}
 use Rattle.resp_scan.specs.Machine.Heads.{content_at}
 use Rattle.resp_scan.specs.Machine.Room.{total_room}
 use Rattle.resp_scan.specs.Machine.Runs.{plain_run}
-use Rattle.resp_scan.specs.Machine.Scan.{Bad, Gave, Part, out_from, scan}
+use Rattle.resp_scan.specs.Machine.Scan.{Bad, Gave, Part, out_from}
 use Rattle.resp_scan.specs.Machine.Sound.{IsSound, IsTokenSound}
 use Rattle.resp_scan.specs.Machine.StepOutcomes.{after_bytes}
 use Rattle.resp_scan.specs.Machine.Turns.{EndsAt, IsLineTag, IsTurn, LeavesContent, OutcomeOfTurn, turn_of}
@@ -197,7 +195,8 @@ line_text_is tag.Error k bytes is line = subst (λ x. IsTextOf x bytes) (sym is)
 line_text_is w k bytes is line = absurd is
 
 -- A line told whole is a turn.
-pub line_turn : (s : Place) (m m' : Machine) (taken : Taken) (run : ℕ) (k : TextKind) (p : List ℕ) (HadHeard HasHeard MayStop : Events → Type 0) (goes_on : Bool)
+pub line_turn : (s : Place) (m m' : Machine) (taken : Taken) (run : ℕ) (k : TextKind) (p : List ℕ) (HadHeard HasHeard MayStop : Events →
+    Type 0) (goes_on : Bool)
     (turned : Turned) → IsText p → IsSound s → IsLineTag taken.tag k → out_of taken m ≡ out_from s p → m.state ≡ state.Line →
     EndsAt (drop taken.used p) run →
     run ≡ plain_run (take (min (min m.room (total_room (place_of m) - (taken.used + 2))) (length (drop taken.used p))) (drop taken.used p)) →

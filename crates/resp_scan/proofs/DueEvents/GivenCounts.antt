@@ -50,7 +50,8 @@ inside_given r token fs front es w = around_given fs w.frames w.bytes front w.sh
 -- the events of frames alone, of bytes that are theirs, or more
 frames_given : (fs : List Frame) (frames : List opened.Frame) (bytes front : List ℕ) (es : List Event) → length frames ≡ length fs →
     front ≡ text_around frames bytes → es ≡ without_places (events_around frames) → AreGiven fs front es
-frames_given fs frames bytes front es same whole told = around_given fs frames bytes front [] es same (record { none_open = refl; no_done = tt; few = omega arith }) whole
+frames_given fs frames bytes front es same whole told = around_given fs frames bytes front [] es same
+    (record { none_open = refl; no_done = tt; few = omega arith }) whole
     (told ∙ sym (append-nil (without_places (events_around frames))))
 
 between_given : (r : Rules) (fs : List Frame) (front : List ℕ) (es : List Event) → AwaitsMember r fs front es → AreGiven fs front es

@@ -1,5 +1,4 @@
 -- No Done stands among the events of content, of a leaf, of a tree, or of open frames.
-use Rattle.std.specs.List.{AllByRecursion}
 use Rattle.std.proofs.Common.{◌≡◌, ℕ, ◌+◌, List, [], ◌∷◌, ◌++◌, length, Bool, sym, subst}
 use Rattle.resp_value.specs.Numbers.{is_below_zero, significant_digits}
 use Rattle.resp_value.specs.Trees as t
@@ -7,9 +6,8 @@ use Rattle.resp_value.specs.Trees.{Tree, Trees, Leaf, leaf, node, line, numeral,
 use Rattle.resp_fronts.specs.Frames.{Frame, text_around}
 use Rattle.resp_fronts.specs.Events as e
 use Rattle.resp_fronts.specs.Events.{Event, TextKind, big_events, close_event, events, events_around, events_each, frame_events, without_places, last_of, leaf_events}
-use Rattle.resp_scan.specs.Machine.Beginnings.{string_text_kind}
 use Rattle.resp_scan.specs.Kinds.{content_events}
-use Rattle.resp_scan.specs.Reading.{HasNoDone, IsNotDone}
+use Rattle.resp_scan.specs.Reading.{HasNoDone}
 use Rattle.resp_scan.proofs.TokenMoves.LeafEvents.{given-big, given-chunked, given-line, given-string}
 use Rattle.resp_scan.proofs.TokenMoves.Moves.{given-append}
 

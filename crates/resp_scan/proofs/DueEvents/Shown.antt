@@ -82,7 +82,8 @@ chunks_shown r room begun level bytes shown w = (
 
 streamed_shown : (r : Rules) (room : ℕ) (begun : List ℕ) (level : ℕ) (bytes : List ℕ) (shown : List Event) → ChunksBegun r room begun level bytes shown →
     IsShown bytes shown
-streamed_shown r room begun level bytes shown w = let h = chunks_shown r room begun level bytes shown w in record { none_open = h.0; no_done = h.1; few = omega (arith, h.2) }
+streamed_shown r room begun level bytes shown w = let h = chunks_shown r room begun level bytes shown w in
+    record { none_open = h.0; no_done = h.1; few = omega (arith, h.2) }
 
 chunk_shown : (r : Rules) (room n : ℕ) (behind : List ℕ) (level : ℕ) (bytes : List ℕ) (shown : List Event) → ChunkBegun r room n behind level bytes shown →
     IsShown bytes shown

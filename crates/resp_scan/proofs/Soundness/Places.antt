@@ -186,7 +186,32 @@ pub close_owed : (s : Place) → IsSound (at s AtStart) → may_close s.frames �
 close_owed s h m = let o : s.frames_need ≡ need_of_frames s.frames = h.frames_need in omega (arith, o, closing_three s.frames m)
 
 -- what each token says of the machine's fields
-pub ruleset tokens_fit = (sound_start, int_most, int_lf_most, content_some, chunk_some, first_frame, more_frame, more_need, more_few, lf_few, lf_ends, lf_room, more_room, first_four, second_four, third_four, colon_four, lf_frame, lf_need, open_cr_level, open_lf_level)
+pub ruleset tokens_fit = (
+  sound_start,
+  int_most,
+  int_lf_most,
+  content_some,
+  chunk_some,
+  first_frame,
+  more_frame,
+  more_need,
+  more_few,
+  lf_few,
+  lf_ends,
+  lf_room,
+  more_room,
+  first_four,
+  second_four,
+  third_four,
+  colon_four,
+  lf_frame,
+  lf_need,
+  open_cr_level,
+  open_lf_level,
+)
 
 -- what each token needs is a number that a `u64` holds
 pub ruleset needs_fit = (more_few, lf_few, head_more, format_first_few, format_second_few, colon_four, content_few, chunk_few)
+
+-- what the tokens in which a piece often begins say
+pub ruleset hot_tokens = (sound_start, content_some)

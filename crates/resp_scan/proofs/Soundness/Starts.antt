@@ -80,3 +80,6 @@ pub ruleset answers = (refused_answer, begun_answer)
 
 -- what comes of a line's type byte
 pub ruleset lines = (begun_line, refused_line)
+
+-- what a scan comes to at a value's first byte
+pub ruleset first_byte = (first_scan, refused_answer, begun_answer)

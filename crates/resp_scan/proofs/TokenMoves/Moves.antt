@@ -211,7 +211,8 @@ member_ends r f fs g gs u (Begun n) front es k h b bs a o e told =
 pub value_lies : (r : Rules) (fs : List Frame) (frames : List opened.Frame) (u : Tree) (front : List ℕ) (es : List Event) → HaveBegun fs →
     AreLevelsOf (busy_levels fs) frames → CanAllEnd (LeafKeeps r WithinItems) (NodeKeeps r WithinItems) frames → IsTree u →
     HoldsFrom (LeafKeeps r WithinItems) (NodeKeeps r WithinItems) (length frames) u → front ≡ text_around frames (text u) →
-    es ≡ without_places (events_around frames) ++ without_places (events (length (text_around frames [])) u) → StandsAfterAt r (token_at_boundary fs) fs front es
+    es ≡ without_places (events_around frames) ++ without_places (events (length (text_around frames [])) u) →
+    StandsAfterAt r (token_at_boundary fs) fs front es
 value_lies r [] [] u front es b a o p q e told = record { tree = u; is_tree = p; keep = q; whole = e; told = told }
 value_lies r [] (g ∷ gs) u front es b a o p q e told = absurd a
 value_lies r (f ∷ fs) [] u front es b a o p q e told = absurd a

@@ -165,14 +165,16 @@ abbrev pub next_in : Token → Place → ℕ → ℕ → Move
 next_in AtStart s used b = start_next s b
 next_in AtEnd s used b = Refuse cause.Syntax
 next_in (InLine room) s used b =
-    cond (eqb b (byte "\r")) (Go (at s AtLineLf)) (cond (eqb b (byte "\n")) (Refuse cause.Syntax) (content_byte s used room InLine))
+    cond (eqb b (byte "\r")) (Go (at s AtLineLf))
+    (cond (eqb b (byte "\n")) (Refuse cause.Syntax) (content_byte s used room InLine))
 next_in AtLineLf s used b = only_byte (byte "\n") b (Give TextEnd (at_boundary s))
 next_in AtIntSign s used b =
     cond (eqb b (byte "-")) (move_unless (over_total s used 3) (Go (at s (AtIntFirst true))))
     (cond (eqb b (byte "+")) (move_unless (over_total s used 3) (Go (at s (AtIntFirst false)))) (int_first s false b))
 next_in (AtIntFirst negative) s used b = int_first s negative b
 next_in (InInt negative n) s used b =
-    cond (is_digit b) (int_digit s used negative (n * 10 + (b - byte "0"))) (only_byte (byte "\r") b (Go (at s (AtIntLf negative n))))
+    cond (is_digit b) (int_digit s used negative (n * 10 + (b - byte "0")))
+    (only_byte (byte "\r") b (Go (at s (AtIntLf negative n))))
 next_in (AtIntLf negative n) s used b = only_byte (byte "\n") b (Give (Int (with_sign negative n)) (at_boundary s))
 next_in AtBigSign s used b =
     cond (eqb b (byte "-")) (move_unless (over_total s used 3) (Go (at s (AtBigFirst true))))
@@ -189,7 +191,8 @@ next_in AtTextEnd s used b = Refuse cause.Syntax
 next_in AtNullOne s used b = only_byte (byte "1") b (Go (at s AtNullCr))
 next_in AtNullCr s used b = only_byte (byte "\r") b (Go (at s AtNullLf))
 next_in AtNullLf s used b = only_byte (byte "\n") b (Give Null (at_boundary s))
-next_in AtBool s used b = cond (eqb b (byte "t")) (Go (at s (AtBoolCr true))) (only_byte (byte "f") b (Go (at s (AtBoolCr false))))
+next_in AtBool s used b = cond (eqb b (byte "t")) (Go (at s (AtBoolCr true)))
+    (only_byte (byte "f") b (Go (at s (AtBoolCr false))))
 next_in (AtBoolCr v) s used b = only_byte (byte "\r") b (Go (at s (AtBoolLf v)))
 next_in (AtBoolLf v) s used b = only_byte (byte "\n") b (Give (Truth v) (at_boundary s))
 next_in AtBulkHead s used b = bulk_head s used b
@@ -202,7 +205,8 @@ next_in (AtHeadLf h n) s used b = only_byte (byte "\n") b (head_move s h n)
 next_in (AtFormat n) s used b = Go (at s (AtFormatSecond b n))
 next_in (AtFormatSecond x n) s used b = Go (at s (AtFormatThird x b n))
 next_in (AtFormatThird x y n) s used b = Go (at s (AtFormatColon (x ∷ y ∷ b ∷ []) n))
-next_in (AtFormatColon format n) s used b = only_byte (byte ":") b (Give (Text (text.Verbatim format)) (content_at (n - 4) s))
+next_in (AtFormatColon format n) s used b = only_byte (byte ":") b
+    (Give (Text (text.Verbatim format)) (content_at (n - 4) s))
 next_in (InContent n) s used b = Byte (content_at (n - 1) s)
 next_in AtContentCr s used b = only_byte (byte "\r") b (Go (at s AtContentLf))
 next_in AtContentLf s used b = only_byte (byte "\n") b (Give TextEnd (at_boundary s))
@@ -215,7 +219,8 @@ next_in (AtChunkLf room) s used b = only_byte (byte "\n") b (Go (at s (AtChunk r
 next_in (AtOpenCr k) s used b = only_byte (byte "\r") b (Go (at s (AtOpenLf k)))
 next_in (AtOpenLf k) s used b = only_byte (byte "\n") b (Give (Open k None) (after_streamed_open s k))
 next_in AtCloseCr s used b = only_byte (byte "\r") b (Go (at s AtCloseLf))
-next_in AtCloseLf s used b = only_byte (byte "\n") b (Give Close (at_boundary (record s { frames = without_first s.frames })))
+next_in AtCloseLf s used b = only_byte (byte "\n") b
+    (Give Close (at_boundary (record s { frames = without_first s.frames })))
 next_in (Dead c) s used b = Refuse c
 
 -- what one byte more does, the last of so many of the piece

@@ -1,5 +1,5 @@
 -- The events that a place has still to give of the bytes taken.
-use Rattle.std.specs.Prelude.{ℕ, cond, eqb, List, [], ◌∷◌}
+use Rattle.std.specs.Prelude.{cond, eqb, List, [], ◌∷◌}
 use Rattle.resp_fronts.specs.Events as e
 use Rattle.resp_fronts.specs.Events.{Event}
 use Rattle.resp_scan.specs.declared.frame.Frame.{Frame}

@@ -1,6 +1,6 @@
 -- What one turn of the loop comes to, for every front that was read and all events that the listener has heard.
 use Rattle.std.specs.Str.{byte}
-use Rattle.std.specs.Prelude.{◌≡◌, ◌+◌, get_or, Bool, true, false, ℕ, ◌<◌, ◌≤◌, List, [], ◌++◌, length, take}
+use Rattle.std.specs.Prelude.{◌≡◌, ◌+◌, get_or, Bool, true, false, ℕ, ◌<◌, ◌≤◌, List, ◌++◌, length, take}
 use Rattle.resp_value.specs.Rules.{Rules, WithinTotal}
 use Rattle.resp_value.specs.Spellings.{IsViable}
 use Rattle.resp_scan.specs.declared.event.Fault.{Fault}
@@ -20,7 +20,8 @@ use Rattle.resp_scan.specs.Machine.Sound.{IsSound}
 use Rattle.resp_scan.specs.Reading.{BeginDue, EndsValue, Events, HasRead, IsFaulted, IsRefused, UsesUp}
 
 -- the bytes used were read, and the listener was told more events and has heard these too
-pub record GoesOn (t : Place) (HasHeard : Events → Type 0) (front : List ℕ) (given : Events) (piece : List ℕ) (used : ℕ) : Type 0 where
+pub record GoesOn (t : Place) (HasHeard : Events → Type 0) (front : List ℕ) (given : Events) (piece : List ℕ)
+    (used : ℕ) : Type 0 where
   pub told : Events
   pub reads : HasRead t (front ++ take used piece) (given ++ told)
   pub heard : HasHeard (given ++ told)
@@ -39,15 +40,19 @@ pub record Stops (r : Rules) (t : Place) (MayStop : Events → Type 0) (front pi
   pub viable : IsViable r WithinTotal (front ++ take used piece)
   pub taken : t.taken ≡ length (front ++ take used piece)
 
-abbrev pub OutcomeOfTurn : Place → Place → (Events → Type 0) → (Events → Type 0) → List ℕ → Events → List ℕ → ℕ → Turn → Type 0
+abbrev pub OutcomeOfTurn : Place → Place → (Events → Type 0) → (Events → Type 0) → List ℕ → Events → List ℕ → ℕ → Turn →
+    Type 0
 OutcomeOfTurn s t HasHeard MayStop front given piece used On = GoesOn t HasHeard front given piece used
 OutcomeOfTurn s t HasHeard MayStop front given piece used More = UsesUp t front given piece used × HasHeard given
-OutcomeOfTurn s t HasHeard MayStop front given piece used Done = EndsValue (rules_of s) t front given used × HasHeard given
-OutcomeOfTurn s t HasHeard MayStop front given piece used Failed = Refuses (rules_of s) t front given piece × HasHeard given
+OutcomeOfTurn s t HasHeard MayStop front given piece used Done = EndsValue (rules_of s) t front given used ×
+    HasHeard given
+OutcomeOfTurn s t HasHeard MayStop front given piece used Failed = Refuses (rules_of s) t front given piece ×
+    HasHeard given
 OutcomeOfTurn s t HasHeard MayStop front given piece used Stopped = Stops (rules_of s) t MayStop front piece used
 
 -- A turn leads from one sound place to another. One that uses no byte gives an event of those owed, so that turns end.
-pub record IsTurn (s t : Place) (HadHeard HasHeard MayStop : Events → Type 0) (piece : List ℕ) (turned : Turned) : Type 0 where
+pub record IsTurn (s t : Place) (HadHeard HasHeard MayStop : Events → Type 0) (piece : List ℕ) (turned : Turned) : Type
+    0 where
   pub sound : IsSound t
   pub rules : rules_of t ≡ rules_of s
   pub within : turned.used ≤ length piece

@@ -1,7 +1,7 @@
-use Rattle.std.specs.Prelude.{true, false}
-use Rattle.std.proofs.Common.{◌≡◌, List, [], ◌∷◌, ◌++◌, length, refl, subst, sym, ap, ◌∙◌}
+use Rattle.std.specs.Prelude.{false}
+use Rattle.std.proofs.Common.{◌≡◌, [], ◌∷◌, ◌++◌, subst, sym}
 use Rattle.std.proofs.lemmas.Bool.Decides.{nat_tests}
-use Rattle.std.proofs.Common.{arith, ℕ}
+use Rattle.std.proofs.Common.{arith}
 use Rattle.resp_fronts.specs.Events as e
 use Rattle.resp_scan.specs.Kinds.{content_events, text_kind_of}
 use Rattle.resp_scan.specs.Reading.{Events}

@@ -1,4 +1,4 @@
-use Rattle.std.specs.Prelude.{Err, Ok, length, drop, ◌+◌}
+use Rattle.std.specs.Prelude.{Err}
 use Rattle.std.proofs.Common.{◌≡◌, arith, sym, ap, subst, ◌∙◌}
 use Rattle.std.proofs.lemmas.List.{length-drop}
 use Rattle.resp_scan.specs.declared.event.ScanError.TheVariants as stop
@@ -57,7 +57,8 @@ returns-in-Failed-clause-fault_is_final g c fault f =
     let again = fault_again (place_of c.args.self.now) (place_of c.loop-self.self) (place_of c.turn-turned.new.self)
     (g.L.Listener.has_heard c.args.listener.now) (g.L.Listener.has_heard c.loop-self.listener) (g.L.Listener.has_heard c.turn-turned.new.listener)
     g.L.Listener.may_stop c.args.piece.now c.loop-self.used c.turn-turned.result fault c.loop-self.invariant v f in (
-      ap (λ x. Err (stop.Fault x)) (same_fault (place_of c.turn-turned.new.self) c.turn-turned.new.self.cause fault (c.turn-turned.ensures.failed c.in-Failed.is)
+      ap (λ x. Err (stop.Fault x)) (same_fault (place_of c.turn-turned.new.self) c.turn-turned.new.self.cause fault
+          (c.turn-turned.ensures.failed c.in-Failed.is)
           (subst (λ x. IsFaulted x fault) (sym again.1) f)),
       again.1,
     )

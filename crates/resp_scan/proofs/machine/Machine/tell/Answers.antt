@@ -1,13 +1,13 @@
 use mir.Syntax.{w64}
 use mir.Val.{of_z, to_z}
-use Rattle.std.proofs.Common.{rules, [], ◌∷◌, ◌≡◌, refl, sym, subst, arith, length, ap, ◌∙◌}
+use Rattle.std.proofs.Common.{rules, [], ◌∷◌, ◌≡◌, sym, subst, arith, length, ap, ◌∙◌}
 use Rattle.std.proofs.lemmas.List.{length-take-le}
 use Rattle.resp_scan.specs.declared.machine.EventTag.TheVariants as tag
 use Rattle.resp_fronts.specs.Events as e
 use Rattle.resp_scan.specs.Kinds.{content_events}
 use Rattle.resp_scan.specs.Listening.{Hears}
 use Rattle.resp_scan.proofs.CallClauses.Told.{run_length}
-use Rattle.resp_scan.specs.Machine.Turns.{IsTurn, turn_of}
+use Rattle.resp_scan.specs.Machine.Turns.{IsTurn}
 use Rattle.resp_scan.proofs.CallClauses.Calls.{is_text}
 use Rattle.resp_scan.proofs.CallClauses.Turns.{is_done, is_failed, is_more, is_told}
 use Rattle.resp_scan.proofs.Soundness.Counted.{place_counted}
@@ -38,21 +38,24 @@ returns-in-More-clause-is_turn g c s sound out =
     let H = g.L.Listener.has_heard c.args.listener.now in
     subst (λ x. IsTurn s x H H g.L.Listener.may_stop c.args.rest.now c.ends.result) (sym (place_counted c.args.self.now c.args.taken.used))
     (subst (IsTurn s _ H H g.L.Listener.may_stop c.args.rest.now) (sym c.ends.ensures)
-    (is_more c.args.taken c.args.self.now s c.args.rest.now H g.L.Listener.may_stop (is_text c.args.rest.now (λ i. (c.type_inv.rest i).fits)) c.in-More.is sound out))
+    (is_more c.args.taken c.args.self.now s c.args.rest.now H g.L.Listener.may_stop (is_text c.args.rest.now (λ i. (c.type_inv.rest i).fits)) c.in-More.is sound
+    out))
 
 pub returns-in-Failed-clause-is_turn : goal.returns-in-Failed-clause-is_turn
 returns-in-Failed-clause-is_turn g c s sound out =
     let H = g.L.Listener.has_heard c.args.listener.now in
     subst (λ x. IsTurn s x H H g.L.Listener.may_stop c.args.rest.now c.ends-in-Failed.result) (sym (place_counted c.args.self.now c.args.taken.used))
     (subst (IsTurn s _ H H g.L.Listener.may_stop c.args.rest.now) (sym c.ends-in-Failed.ensures)
-    (is_failed c.args.taken c.args.self.now s c.args.rest.now H g.L.Listener.may_stop (is_text c.args.rest.now (λ i. (c.type_inv.rest i).fits)) c.in-Failed.is sound out))
+    (is_failed c.args.taken c.args.self.now s c.args.rest.now H g.L.Listener.may_stop (is_text c.args.rest.now (λ i. (c.type_inv.rest i).fits)) c.in-Failed.is
+    sound out))
 
 pub returns-in-Done-clause-is_turn : goal.returns-in-Done-clause-is_turn
 returns-in-Done-clause-is_turn g c s sound out =
     let H = g.L.Listener.has_heard c.args.listener.now in
     subst (λ x. IsTurn s x H H g.L.Listener.may_stop c.args.rest.now c.ends-in-Done.result) (sym (place_counted c.args.self.now c.args.taken.used))
     (subst (IsTurn s _ H H g.L.Listener.may_stop c.args.rest.now) (sym c.ends-in-Done.ensures)
-    (is_done c.args.taken c.args.self.now s c.args.rest.now H g.L.Listener.may_stop (is_text c.args.rest.now (λ i. (c.type_inv.rest i).fits)) c.in-Done.is sound out))
+    (is_done c.args.taken c.args.self.now s c.args.rest.now H g.L.Listener.may_stop (is_text c.args.rest.now (λ i. (c.type_inv.rest i).fits)) c.in-Done.is sound
+    out))
 
 pub returns-in-Null-clause-is_turn : goal.returns-in-Null-clause-is_turn
 returns-in-Null-clause-is_turn g c s sound out =
@@ -153,7 +156,8 @@ returns-in-ChunkPart-clause-is_turn g c s sound out =
     subst (λ x. IsTurn s x H K g.L.Listener.may_stop c.args.rest.now c.told-in-ChunkPart.result) (sym (place_counted c.args.self.now c.args.taken.used))
     (subst (IsTurn s _ H K g.L.Listener.may_stop c.args.rest.now) (sym c.told-in-ChunkPart.ensures.told)
     (is_told tag.ChunkPart c.args.taken c.args.self.now s c.args.rest.now H K g.L.Listener.may_stop c.part-in-ChunkPart.result tt
-    (is_text c.args.rest.now (λ i. (c.type_inv.rest i).fits)) c.in-ChunkPart.is sound out (subst (λ xs. Hears H K g.L.Listener.may_stop (content_events xs) c.part-in-ChunkPart.result) c.run.ensures c.part-in-ChunkPart.ensures)))
+    (is_text c.args.rest.now (λ i. (c.type_inv.rest i).fits)) c.in-ChunkPart.is sound out
+    (subst (λ xs. Hears H K g.L.Listener.may_stop (content_events xs) c.part-in-ChunkPart.result) c.run.ensures c.part-in-ChunkPart.ensures)))
 
 pub returns-in-Digit-clause-is_turn : goal.returns-in-Digit-clause-is_turn
 returns-in-Digit-clause-is_turn g c s sound out =
@@ -162,7 +166,8 @@ returns-in-Digit-clause-is_turn g c s sound out =
     subst (λ x. IsTurn s x H K g.L.Listener.may_stop c.args.rest.now c.told-in-Digit.result) (sym (place_counted c.args.self.now c.args.taken.used))
     (subst (IsTurn s _ H K g.L.Listener.may_stop c.args.rest.now) (sym c.told-in-Digit.ensures.told)
     (is_told tag.Digit c.args.taken c.args.self.now s c.args.rest.now H K g.L.Listener.may_stop c.part-in-Digit.result tt
-    (is_text c.args.rest.now (λ i. (c.type_inv.rest i).fits)) c.in-Digit.is sound out (subst (λ xs. Hears H K g.L.Listener.may_stop (content_events xs) c.part-in-Digit.result) c.digit_text.ensures c.part-in-Digit.ensures)))
+    (is_text c.args.rest.now (λ i. (c.type_inv.rest i).fits)) c.in-Digit.is sound out
+    (subst (λ xs. Hears H K g.L.Listener.may_stop (content_events xs) c.part-in-Digit.result) c.digit_text.ensures c.part-in-Digit.ensures)))
 
 pub returns-in-TextEnd-clause-is_turn : goal.returns-in-TextEnd-clause-is_turn
 returns-in-TextEnd-clause-is_turn g c s sound out =

@@ -1,6 +1,4 @@
-use Rattle.std.proofs.Common.{arith, ap, length, sym, drop, take, min, ◌+◌, ◌-◌, ◌≡◌, ◌∙◌, subst}
-use Rattle.resp_scan.specs.Machine.Fields.{place_of}
-use Rattle.resp_scan.specs.Machine.Room.{total_room}
+use Rattle.std.proofs.Common.{arith}
 use Rattle.resp_scan.proofs.CallClauses.Calls.{is_text}
 use Rattle.resp_scan.proofs.CallClauses.WholeTexts.{content_turn}
 use Rattle.resp_scan.proofs.Soundness.Pieces.{used_within, few_taken}

@@ -1,13 +1,11 @@
 use Rattle.std.proofs.Common.{sym, subst}
 use Rattle.resp_scan.specs.Machine.Scan.{out_from}
 use Rattle.resp_scan.specs.Machine.Fields.{place_of}
-use Rattle.resp_scan.specs.Machine.Tokens.{Place}
-use Rattle.resp_scan.specs.Reading.{Events, HasRead}
 use Rattle.resp_scan.proofs.Soundness.Kept.{is_advanced}
 use Rattle.resp_scan.proofs.Soundness.Counted.{IsCounted, counted_out, sound_heard}
 use Rattle.resp_scan.proofs.CallClauses.Faults.{none_all, fault_stands}
 use Rattle.resp_scan.proofs.CallClauses.Calls.{begin_due, is_faulted, is_text, rules_stay}
-use Rattle.resp_scan.proofs.CallClauses.Steps.{Outcome, if_done, if_no_event, if_other_event, if_refused, stepped_is}
+use Rattle.resp_scan.proofs.CallClauses.Steps.{if_done, if_no_event, if_other_event, if_refused, stepped_is}
 use Rattle.resp_scan.proofs.scanner.Scanner.step.Goals as goal
 
 pub invariant_of-self : goal.invariant_of-self
