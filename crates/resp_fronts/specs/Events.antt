@@ -107,7 +107,7 @@ declared_count Streamed = None
 abbrev pub open_event : ℕ → Kind → Form → Timed
 open_event from k form = record { at = from + length (form_line form) + 2; event = Open k (declared_count form) }
 
--- and closes at its last byte
+-- an aggregate closes at its last byte
 abbrev pub close_event : ℕ → List ℕ → Timed
 close_event from whole = record { at = last_of from whole; event = Close }
 

@@ -21,7 +21,7 @@ pub record IsLineOf (r : Rules) (l : Leaf) (level : ℕ) (bytes : List ℕ) : Ty
   pub is_line : bytes ≡ leaf_line l
   pub no_rest : leaf_rest l ≡ []
 
--- and that line's CR
+-- the bytes are the line of such a leaf and its CR
 pub record IsReturned (r : Rules) (l : Leaf) (level : ℕ) (bytes : List ℕ) : Type 0 where
   pub begun : List ℕ
   pub line_of : IsLineOf r l level begun

@@ -267,7 +267,7 @@ impl Machine {
         }
     }
 
-    /// The same, in this aggregate, the innermost.
+    /// Begins a member of this aggregate, the innermost, unless items or total refuse it.
     #[inline]
     fn begin_in(&mut self, frame: Frame, needed: u64) -> Option<Cause>
         requires needed { needed < 2 ^ 10 }

@@ -150,7 +150,7 @@ pub record LengthBegun (r : Rules) (k : StringKind) (n : ℕ) (level : ℕ) (byt
     pub valued : number (first ∷ digits) ≡ n
     pub told : shown ≡ []
 
--- and their CR
+-- the digits of a length and their CR
 pub record LengthReturned (r : Rules) (k : StringKind) (n : ℕ) (level : ℕ) (bytes : List ℕ) (shown : List Event) : Type
     0 where
   pub before : List ℕ
@@ -232,7 +232,7 @@ pub record CountBegun (r : Rules) (k : Kind) (n : ℕ) (level : ℕ) (bytes : Li
   pub valued : number (first ∷ digits) ≡ n
   pub told : shown ≡ []
 
--- and their CR
+-- the digits of a count and their CR
 pub record CountReturned (r : Rules) (k : Kind) (n : ℕ) (level : ℕ) (bytes : List ℕ) (shown : List Event) : Type 0 where
   pub first : ℕ
   pub digits : List ℕ

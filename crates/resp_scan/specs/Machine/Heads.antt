@@ -19,22 +19,14 @@ greatest_number s Bulk = s.bounds.length
 greatest_number s BulkError = s.bounds.length
 greatest_number s Verbatim = s.bounds.length
 greatest_number s (Chunk room) = room
-greatest_number s Array = s.bounds.items
-greatest_number s Set = s.bounds.items
-greatest_number s Map = s.bounds.items
-greatest_number s Attr = s.bounds.items
-greatest_number s Push = s.bounds.items
+greatest_number s _ = s.bounds.items
 
 abbrev pub number_cause : Head → Cause
 number_cause Bulk = cause.Length
 number_cause BulkError = cause.Length
 number_cause Verbatim = cause.Length
 number_cause (Chunk room) = cause.Length
-number_cause Array = cause.Items
-number_cause Set = cause.Items
-number_cause Map = cause.Items
-number_cause Attr = cause.Items
-number_cause Push = cause.Items
+number_cause _ = cause.Items
 
 -- a verbatim string has four bytes before its text
 abbrev pub verbatim_needed : ℕ → ℕ
@@ -49,23 +41,17 @@ head_needed Bulk n = n + 4
 head_needed BulkError n = n + 4
 head_needed Verbatim n = verbatim_needed n
 head_needed (Chunk room) n = chunk_needed n
-head_needed Array n = n * 3 + 2
-head_needed Set n = n * 3 + 2
-head_needed Push n = n * 3 + 2
 head_needed Map n = n * 6 + 2
 head_needed Attr n = n * 6 + 5
+head_needed _ n = n * 3 + 2
 
--- and before its first digit
+-- the fewest bytes that complete it before a head's first digit
 abbrev pub first_needed : Head → ℕ
 first_needed Bulk = 4
 first_needed BulkError = 5
 first_needed Verbatim = 9
-first_needed (Chunk room) = 3
-first_needed Array = 3
-first_needed Set = 3
-first_needed Push = 3
-first_needed Map = 3
 first_needed Attr = 6
+first_needed _ = 3
 
 -- what refuses a digit that makes the number n: length or items, and then total
 abbrev pub over : Place → ℕ → Head → ℕ → Option Cause
@@ -73,25 +59,13 @@ over s used h n = cond (nat_lt (greatest_number s h) n) (Some (number_cause h)) 
 
 abbrev pub may_end : Head → ℕ → Bool
 may_end Verbatim n = nat_le 4 n
-may_end Bulk n = true
-may_end BulkError n = true
-may_end (Chunk room) n = true
-may_end Array n = true
-may_end Set n = true
-may_end Map n = true
-may_end Attr n = true
-may_end Push n = true
+may_end _ n = true
 
 abbrev pub streamed_kind : Head → Option OpenKind
 streamed_kind Array = Some kind.Array
 streamed_kind Set = Some kind.Set
 streamed_kind Map = Some kind.Map
-streamed_kind Bulk = None
-streamed_kind BulkError = None
-streamed_kind Verbatim = None
-streamed_kind (Chunk room) = None
-streamed_kind Attr = None
-streamed_kind Push = None
+streamed_kind _ = None
 
 abbrev pub cause_in_three : Version → Option Cause → Option Cause
 cause_in_three version.Two other = Some cause.Version
@@ -101,7 +75,7 @@ cause_in_three version.Three other = other
 abbrev pub string_cause : Place → ℕ → Option Cause
 string_cause s used = cause_in_three s.version (cond s.bounds.streamed (over_total s used 6) (Some cause.Streamed))
 
--- and that of a streamed aggregate
+-- what refuses the `?` of a streamed aggregate
 abbrev pub aggregate_cause : Place → ℕ → Option Cause
 aggregate_cause s used = cause_in_three s.version
     (cond s.bounds.streamed (cond (is_full s) (Some cause.Depth) (over_total s used 5)) (Some cause.Streamed))
@@ -130,15 +104,11 @@ chunk_at room n s = at s (cond (eqb n 0) (AtChunkCr room) (InChunk room n))
 
 -- the heads of aggregates
 abbrev pub is_aggregate : Head → Bool
-is_aggregate Array = true
-is_aggregate Set = true
-is_aggregate Map = true
-is_aggregate Attr = true
-is_aggregate Push = true
 is_aggregate Bulk = false
 is_aggregate BulkError = false
 is_aggregate Verbatim = false
 is_aggregate (Chunk room) = false
+is_aggregate _ = true
 
 -- the frames have room for one more, where the head opens one
 abbrev pub HasFrame : Place → Head → Type 0

@@ -114,10 +114,7 @@ move_in_three version.Three v = v
 abbrev pub may_close_of : OpenKind → Shape → Bool
 may_close_of k (Left n) = false
 may_close_of kind.Map (Begun n) = eqb (n % 2) 0
-may_close_of kind.Array (Begun n) = true
-may_close_of kind.Set (Begun n) = true
-may_close_of kind.Attr (Begun n) = true
-may_close_of kind.Push (Begun n) = true
+may_close_of _ (Begun n) = true
 
 abbrev pub may_close : List Frame → Bool
 may_close [] = false

@@ -31,11 +31,8 @@ shape_after_begin (Begun n) = Begun (n + 1)
 
 -- a map's key calls for its value
 abbrev pub need_after_begin_of : OpenKind → ℕ → ℕ → ℕ
-need_after_begin_of Map n frames_need = cond (eqb (n % 2) 0) (frames_need + 3) (frames_need - 3)
-need_after_begin_of Array n frames_need = frames_need
-need_after_begin_of Set n frames_need = frames_need
-need_after_begin_of Attr n frames_need = frames_need
-need_after_begin_of Push n frames_need = frames_need
+need_after_begin_of Map n need = cond (eqb (n % 2) 0) (need + 3) (need - 3)
+need_after_begin_of _ n need = need
 
 abbrev pub need_after_begin : OpenKind → Shape → ℕ → ℕ
 need_after_begin k (Left n) frames_need = frames_need - 3
@@ -43,10 +40,7 @@ need_after_begin k (Begun n) frames_need = need_after_begin_of k n frames_need
 
 abbrev pub has_all_of : OpenKind → ℕ → ℕ → Bool
 has_all_of Map n items = eqb (n % 2) 0 && nat_le items (n / 2)
-has_all_of Array n items = nat_le items n
-has_all_of Set n items = nat_le items n
-has_all_of Attr n items = nat_le items n
-has_all_of Push n items = nat_le items n
+has_all_of _ n items = nat_le items n
 
 -- whether a streamed aggregate has as many items as may be
 abbrev pub has_all : OpenKind → Shape → ℕ → Bool

@@ -1,4 +1,5 @@
 -- Runs of content at the front of a piece.
+use Rattle.std.specs.Str.{byte}
 use Rattle.std.specs.Prelude.{ℕ, ◌+◌, cond, eqb, List, [], ◌∷◌}
 use Rattle.resp_scan.specs.Machine.Moves.{is_digit}
 
@@ -10,7 +11,7 @@ run_to c (b ∷ bs) = cond (eqb b c) 0 (run_to c bs + 1)
 -- how many bytes from the front are neither CR nor LF
 abbrev pub plain_run : List ℕ → ℕ
 plain_run [] = 0
-plain_run (b ∷ bs) = cond (eqb b 13) 0 (cond (eqb b 10) 0 (plain_run bs + 1))
+plain_run (b ∷ bs) = cond (eqb b (byte "\r")) 0 (cond (eqb b (byte "\n")) 0 (plain_run bs + 1))
 
 -- how many bytes from the front are digits
 abbrev pub digit_run : List ℕ → ℕ

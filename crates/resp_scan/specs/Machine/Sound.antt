@@ -18,10 +18,7 @@ use Rattle.resp_scan.specs.Machine.Moves.{is_digit}
 
 abbrev pub need_of_streamed : OpenKind → ℕ → ℕ
 need_of_streamed Map n = cond (eqb (n % 2) 0) 3 6
-need_of_streamed Array n = 3
-need_of_streamed Set n = 3
-need_of_streamed Attr n = 3
-need_of_streamed Push n = 3
+need_of_streamed _ n = 3
 
 abbrev pub need_of_frame : OpenKind → Shape → ℕ
 need_of_frame k (Left n) = n * 3
@@ -118,39 +115,14 @@ HasLevel h depth fs = is_aggregate h ≡ true → length fs < depth
 -- a chunk has no more bytes than length leaves
 abbrev pub IsWithinRoom : Head → ℕ → Type 0
 IsWithinRoom (head.Chunk room) n = n ≤ room
-IsWithinRoom head.Bulk n = Unit {0}
-IsWithinRoom head.BulkError n = Unit {0}
-IsWithinRoom head.Verbatim n = Unit {0}
-IsWithinRoom head.Array n = Unit {0}
-IsWithinRoom head.Set n = Unit {0}
-IsWithinRoom head.Map n = Unit {0}
-IsWithinRoom head.Attr n = Unit {0}
-IsWithinRoom head.Push n = Unit {0}
+IsWithinRoom _ n = Unit {0}
 
 abbrev pub IsTokenSound : Token → ℕ → List Frame → Type 0
 IsTokenSound AtStart depth fs = IsOpen fs
 IsTokenSound AtEnd depth fs = IsClosed fs
-IsTokenSound (InLine room) depth fs = Unit {0}
-IsTokenSound AtLineLf depth fs = Unit {0}
-IsTokenSound AtIntSign depth fs = Unit {0}
-IsTokenSound (AtIntFirst negative) depth fs = Unit {0}
 IsTokenSound (InInt negative n) depth fs = n ≤ greatest_magnitude negative
 IsTokenSound (AtIntLf negative n) depth fs = n ≤ greatest_magnitude negative
-IsTokenSound AtBigSign depth fs = Unit {0}
-IsTokenSound (AtBigFirst negative) depth fs = Unit {0}
-IsTokenSound (InBigZeros negative) depth fs = Unit {0}
-IsTokenSound AtBigZeroLf depth fs = Unit {0}
 IsTokenSound (AtBigDigit d room) depth fs = is_digit d ≡ true
-IsTokenSound (InBig room) depth fs = Unit {0}
-IsTokenSound AtTextEnd depth fs = Unit {0}
-IsTokenSound AtNullOne depth fs = Unit {0}
-IsTokenSound AtNullCr depth fs = Unit {0}
-IsTokenSound AtNullLf depth fs = Unit {0}
-IsTokenSound AtBool depth fs = Unit {0}
-IsTokenSound (AtBoolCr v) depth fs = Unit {0}
-IsTokenSound (AtBoolLf v) depth fs = Unit {0}
-IsTokenSound AtBulkHead depth fs = Unit {0}
-IsTokenSound AtArrayHead depth fs = Unit {0}
 IsTokenSound (AtHead h) depth fs = HasLevel h depth fs
 IsTokenSound (InHead h n) depth fs = HasLevel h depth fs × IsWithinRoom h n
 IsTokenSound (AtHeadLf h n) depth fs = HasLevel h depth fs × IsWithinRoom h n × (may_end h n ≡ true)
@@ -159,19 +131,12 @@ IsTokenSound (AtFormatSecond x n) depth fs = 4 ≤ n
 IsTokenSound (AtFormatThird x y n) depth fs = 4 ≤ n
 IsTokenSound (AtFormatColon format n) depth fs = 4 ≤ n
 IsTokenSound (InContent n) depth fs = 0 < n
-IsTokenSound AtContentCr depth fs = Unit {0}
-IsTokenSound AtContentLf depth fs = Unit {0}
-IsTokenSound AtStreamCr depth fs = Unit {0}
-IsTokenSound AtStreamLf depth fs = Unit {0}
-IsTokenSound (AtChunk room) depth fs = Unit {0}
 IsTokenSound (InChunk room n) depth fs = 0 < n
-IsTokenSound (AtChunkCr room) depth fs = Unit {0}
-IsTokenSound (AtChunkLf room) depth fs = Unit {0}
 IsTokenSound (AtOpenCr k) depth fs = length fs < depth
 IsTokenSound (AtOpenLf k) depth fs = length fs < depth
 IsTokenSound AtCloseCr depth fs = IsClosed fs
 IsTokenSound AtCloseLf depth fs = IsClosed fs
-IsTokenSound (Dead c) depth fs = Unit {0}
+IsTokenSound _ depth fs = Unit {0}
 
 -- where so many bytes of a piece are used
 pub record IsSoundBy (used : ℕ) (s : Place) : Type 0 where

@@ -28,7 +28,7 @@ abbrev pub waiting_shape : Shape → level.Shape
 waiting_shape (Left n) = to_come n
 waiting_shape (Begun n) = so_far n
 
--- and one whose open member is counted already
+-- an aggregate whose open member is counted already
 abbrev pub busy_shape : Shape → level.Shape
 busy_shape (Left n) = to_come (n + 1)
 busy_shape (Begun n) = so_far (n - 1)
@@ -38,7 +38,7 @@ abbrev pub busy_levels : List Frame → List Level
 busy_levels [] = []
 busy_levels (f ∷ fs) = record { kind = kind_of f.kind; shape = busy_shape f.shape } ∷ busy_levels fs
 
--- and in each but the innermost
+-- a member is open in each but the innermost
 abbrev pub waiting_levels : List Frame → List Level
 waiting_levels [] = []
 waiting_levels (f ∷ fs) = record { kind = kind_of f.kind; shape = waiting_shape f.shape } ∷ busy_levels fs
@@ -52,7 +52,7 @@ abbrev pub HaveBegun : List Frame → Type 0
 HaveBegun [] = Unit {0}
 HaveBegun (f ∷ fs) = HasBegun f.shape × HaveBegun fs
 
--- and the same, but for the innermost
+-- at least one member has begun in each of the outer ones that is streamed
 abbrev pub OuterBegun : List Frame → Type 0
 OuterBegun [] = Unit {0}
 OuterBegun (f ∷ fs) = HaveBegun fs
