@@ -11,6 +11,7 @@ use Rattle.resp_scan.specs.declared.event.TextKind.TheVariants as text
 use Rattle.resp_value.specs.Kinds.{kind_of}
 use Rattle.resp_scan.specs.Machine.Tokens.{Place, Happening, Null, Truth, Int, Text, Digit, TextEnd, Open, Close}
 
+-- the kind of text that the program's kind stands for
 abbrev pub text_kind_of : TextKind → e.TextKind
 text_kind_of text.Simple = e.Simple
 text_kind_of text.Error = e.Error
@@ -19,6 +20,7 @@ text_kind_of text.BulkError = e.BulkError
 text_kind_of (text.Verbatim format) = e.Verbatim format
 text_kind_of (text.Big negative) = e.Big negative
 
+-- the event that a move gives
 abbrev pub event_of : Happening → Event
 event_of Null = e.Null
 event_of (Truth b) = e.Bool b

@@ -91,6 +91,7 @@ IfWhole result P = IfOk result (λ scanned. scanned.is_whole ≡ true → P scan
 abbrev pub IfUsedUp : Result Scanned error.ScanError → Type 0 → Type 0
 IfUsedUp result P = IfOk result (λ scanned. scanned.is_whole ≡ false → P)
 
+-- where it is a fault
 abbrev pub OnFault : error.ScanError → (Fault → Type 0) → Type 0
 OnFault (stop.Fault fault) P = P fault
 OnFault (stop.Stopped taken) P = Unit {0}
@@ -99,6 +100,7 @@ OnFault (stop.Stopped taken) P = Unit {0}
 abbrev pub IfRefused : Result Scanned error.ScanError → (Fault → Type 0) → Type 0
 IfRefused result P = IfErr result (λ stop. OnFault stop P)
 
+-- where it is the listener's stop
 abbrev pub OnStopped : error.ScanError → (ℕ → Type 0) → Type 0
 OnStopped (stop.Fault fault) P = Unit {0}
 OnStopped (stop.Stopped taken) P = P taken

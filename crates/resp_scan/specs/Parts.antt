@@ -9,6 +9,7 @@ abbrev pub IsRun : Bool → List ℕ → ℕ → List ℕ → Type 0
 IsRun true piece n p = length p ≡ 1
 IsRun false piece n p = (0 < length p) × (p ≡ drop (n - length p) (take n piece))
 
+-- what the part of an event is, if it has one
 abbrev pub IsPartOf : List ℕ → ℕ → Option Event → Type 0
 IsPartOf piece n (Some (event.Part p)) = IsRun (eqb n 0) piece n p.now
 IsPartOf piece n _ = Unit {0}

@@ -95,6 +95,7 @@ events_of event.Done = []
 abbrev pub IfNoEvent : Result Step Fault → (ℕ → Type 0) → Type 0
 IfNoEvent result P = IfOk result (λ step. IfNone step.event (P step.used))
 
+-- where the event is Done
 abbrev pub OnDone : Option Event → Type 0 → Type 0
 OnDone (Some event.Done) P = P
 OnDone _ P = Unit {0}
@@ -103,6 +104,7 @@ OnDone _ P = Unit {0}
 abbrev pub IfDone : Result Step Fault → (ℕ → Type 0) → Type 0
 IfDone result P = IfOk result (λ step. OnDone step.event (P step.used))
 
+-- where there is an event that isn't Done
 abbrev pub OnOtherEvent : Option Event → (Event → Type 0) → Type 0
 OnOtherEvent None P = Unit {0}
 OnOtherEvent (Some event.Done) P = Unit {0}

@@ -23,6 +23,7 @@ use Rattle.resp_fronts.specs.Tokens.{HasStreamed, IsContentToken, IsCountReturne
 
 -- Lines and numbers.
 
+-- the kind of text that a line is; that of a double has no events
 abbrev pub line_text_kind : LineKind → TextKind
 line_text_kind t.Simple = e.Simple
 line_text_kind t.Error = e.Error
@@ -50,6 +51,7 @@ IsSigned negative Unsigned = ⊥
 IsSigned negative Plus = negative ≡ false
 IsSigned negative Minus = negative ≡ true
 
+-- a number of which the type byte and a sign have come
 pub record SignBegun (r : Rules) (k : t.NumberKind) (negative : Bool) (level : ℕ) (bytes : List ℕ)
     (shown : List Event) : Type 0 where
   pub sign : Sign
@@ -129,6 +131,7 @@ pub record NullLine (r : Rules) (level : ℕ) (bytes : List ℕ) (shown : List E
   pub token : IsLineOf r (null form) level bytes
   pub told : shown ≡ []
 
+-- a null's line and its CR
 pub record NullReturned (r : Rules) (level : ℕ) (bytes : List ℕ) (shown : List Event) : Type 0 where
   pub form : NullForm
   pub returned : IsReturned r (null form) level bytes
@@ -136,6 +139,7 @@ pub record NullReturned (r : Rules) (level : ℕ) (bytes : List ℕ) (shown : Li
 
 -- Strings.
 
+-- the kind of text that a counted string is
 abbrev pub string_text_kind : StringKind → TextKind
 string_text_kind t.Bulk = e.Bulk
 string_text_kind t.BulkError = e.BulkError

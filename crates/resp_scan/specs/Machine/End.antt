@@ -5,6 +5,7 @@ use Rattle.resp_value.specs.declared.cause.Cause.TheVariants.{Truncated}
 use Rattle.resp_scan.specs.Machine.Tokens.{Token, Place, Dead}
 use Rattle.resp_scan.specs.Machine.Sound.{needed}
 
+-- what refuses the end of the input at this token
 abbrev pub end_cause_in : Token → Place → Option Cause
 end_cause_in (Dead c) s = Some c
 end_cause_in _ s = cond (eqb s.taken 0 || eqb (needed s) 0) None (Some Truncated)

@@ -10,6 +10,7 @@ use Rattle.resp_scan.specs.declared.event.TextKind.TheVariants as text
 use Rattle.resp_scan.specs.Machine.Tokens.{Token, Place, token_at_boundary, Null, Truth, Int, Text, Digit, TextEnd, Open, Close, AtStart, InLine, AtLineLf, AtIntSign, AtIntFirst, InInt, AtIntLf, AtBigSign, AtBigFirst, InBigZeros, AtBigZeroLf, AtBigDigit, InBig, AtTextEnd, AtNullOne, AtNullCr, AtNullLf, AtBool, AtBoolCr, AtBoolLf, AtBulkHead, AtArrayHead, AtHead, InHead, AtHeadLf, AtFormat, AtFormatSecond, AtFormatThird, AtFormatColon, InContent, AtContentCr, AtContentLf, AtStreamCr, AtStreamLf, AtChunk, InChunk, AtChunkCr, AtChunkLf, AtOpenCr, AtOpenLf, AtCloseCr, AtCloseLf, Dead}
 use Rattle.resp_scan.specs.Machine.Scan.{Out, More, Gave, Part, Whole, Bad}
 
+-- the token of a state, with the fields that it uses
 abbrev pub token_at : State → Machine → Token
 token_at state.Start m = AtStart
 token_at state.Boundary m = token_at_boundary (reverse m.frames.items)
@@ -68,6 +69,7 @@ place_of m = record {
   frames_need = m.frames_need;
 }
 
+-- what an answer of this tag says, with so many bytes used
 abbrev pub out_by : EventTag → ℕ → Machine → Out
 out_by tag.More n m = More n (place_of m)
 out_by tag.Failed n m = Bad n m.cause (place_of m)

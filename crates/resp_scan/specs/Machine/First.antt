@@ -24,6 +24,7 @@ first_move s Map = aggregate_move s head.Map
 first_move s Attr = aggregate_move s head.Attr
 first_move s Push = push_move s s.frames
 
+-- what a first byte does, by the form of version 3 alone that it begins, if it begins one
 abbrev pub by_first : Place → Option First → Move
 by_first s None = Refuse cause.Syntax
 by_first s (Some f) = move_in_three s.version (first_move s f)

@@ -21,6 +21,7 @@ greatest_number s Verbatim = s.bounds.length
 greatest_number s (Chunk room) = room
 greatest_number s _ = s.bounds.items
 
+-- the cause where the number is greater
 abbrev pub number_cause : Head → Cause
 number_cause Bulk = cause.Length
 number_cause BulkError = cause.Length
@@ -32,6 +33,7 @@ number_cause _ = cause.Items
 abbrev pub verbatim_needed : ℕ → ℕ
 verbatim_needed n = cond (eqb n 0) 9 (cond (nat_lt n 4) (n * 10 + 5) (n + 4))
 
+-- the line of a chunk without bytes ends the string
 abbrev pub chunk_needed : ℕ → ℕ
 chunk_needed n = cond (eqb n 0) 2 (n + 8)
 
@@ -57,16 +59,19 @@ first_needed _ = 3
 abbrev pub over : Place → ℕ → Head → ℕ → Option Cause
 over s used h n = cond (nat_lt (greatest_number s h) n) (Some (number_cause h)) (over_total s used (head_needed h n))
 
+-- whether a head may end with this number
 abbrev pub may_end : Head → ℕ → Bool
 may_end Verbatim n = nat_le 4 n
 may_end _ n = true
 
+-- the kinds of aggregate that may be streamed
 abbrev pub streamed_kind : Head → Option OpenKind
 streamed_kind Array = Some kind.Array
 streamed_kind Set = Some kind.Set
 streamed_kind Map = Some kind.Map
 streamed_kind _ = None
 
+-- the version refuses it, or else this cause
 abbrev pub cause_in_three : Version → Option Cause → Option Cause
 cause_in_three version.Two other = Some cause.Version
 cause_in_three version.Three other = other
@@ -88,6 +93,7 @@ after_open s k n = at_boundary (record s {
       s.frames_need + n * 3;
 })
 
+-- a streamed aggregate opens
 abbrev pub after_streamed_open : Place → OpenKind → Place
 after_streamed_open s k = at_boundary (record s {
   frames = record { kind = k; shape = Begun 0 } ∷ s.frames;
@@ -95,6 +101,7 @@ after_streamed_open s k = at_boundary (record s {
       s.frames_need + 3;
 })
 
+-- counted content begins, or its end where it has none
 abbrev pub content_at : ℕ → Place → Place
 content_at n s = at s (cond (eqb n 0) AtContentCr (InContent n))
 

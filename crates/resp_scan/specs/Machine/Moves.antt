@@ -19,10 +19,12 @@ use Rattle.resp_scan.specs.Machine.Tokens.{Token, Place, Happening, Move, Go, By
 use Rattle.resp_scan.specs.Machine.Room.{has_total_room, over_total, is_full, after_begin, begin_cause, with_shape}
 use Rattle.resp_scan.specs.Machine.Heads.{over, may_end, streamed_kind, string_cause, aggregate_cause, after_streamed_open, content_at, chunk_at, head_move, first_needed}
 
+-- the integer of this size, with a minus or without
 abbrev pub with_sign : Bool → ℕ → ℤ
 with_sign true n = neg_ℤ (pos n)
 with_sign false n = pos n
 
+-- whether the byte is a digit
 abbrev pub is_digit : ℕ → Bool
 is_digit b = nat_le (byte "0") b && nat_le b (byte "9")
 
@@ -37,10 +39,12 @@ only_byte x b v = cond (eqb b x) v (Refuse cause.Syntax)
 
 -- Digits and lines.
 
+-- an integer's digit, which makes its size n: in range, and then within total
 abbrev pub int_digit : Place → ℕ → Bool → ℕ → Move
 int_digit s used negative n = cond (nat_le n (greatest_magnitude negative))
     (cond (has_total_room s used 2) (Go (at s (InInt negative n))) (Refuse cause.Total)) (Refuse cause.Range)
 
+-- an integer's first digit
 abbrev pub int_first : Place → Bool → ℕ → Move
 int_first s negative b = cond (is_digit b) (Go (at s (InInt negative (b - byte "0")))) (Refuse cause.Syntax)
 
@@ -49,6 +53,7 @@ abbrev pub big_digit : Place → Bool → ℕ → Move
 big_digit s negative b = cond (eqb b (byte "0")) (Go (at s (InBigZeros negative)))
     (Give (Text (text.Big negative)) (at s (AtBigDigit b (s.bounds.length - 1))))
 
+-- a big number's first digit
 abbrev pub big_first : Place → Bool → ℕ → Move
 big_first s negative b = cond (is_digit b) (big_digit s negative b) (Refuse cause.Syntax)
 
@@ -59,23 +64,28 @@ content_byte s used room token = cond (eqb room 0) (Refuse cause.Length)
 
 -- Heads.
 
+-- the `?` of a head that may be streamed
 abbrev pub streamed_move : Place → ℕ → Option OpenKind → Move
 streamed_move s used None = Refuse cause.Syntax
 streamed_move s used (Some k) = move_unless (aggregate_cause s used) (Go (at s (AtOpenCr k)))
 
+-- a head's digit, which makes its number n
 abbrev pub head_digit : Place → ℕ → Head → ℕ → Move
 head_digit s used h n = move_unless (over s used h n) (Go (at s (InHead h n)))
 
+-- a head's first byte behind its type byte
 abbrev pub head_first : Place → ℕ → Head → ℕ → Move
 head_first s used h b =
     cond (eqb b (byte "?")) (streamed_move s used (streamed_kind h))
     (cond (is_digit b) (head_digit s used h (b - byte "0")) (Refuse cause.Syntax))
 
+-- the byte behind `$`
 abbrev pub bulk_head : Place → ℕ → ℕ → Move
 bulk_head s used b =
     cond (eqb b (byte "-")) (Go (at s AtNullOne))
     (cond (eqb b (byte "?")) (move_unless (string_cause s used) (Go (at s AtStreamCr))) (head_first s used head.Bulk b))
 
+-- what refuses the `?` of an array that would be a level too deep
 abbrev pub full_streamed : Version → Bool → Cause
 full_streamed version.Two streamed = cause.Version
 full_streamed version.Three streamed = cond streamed cause.Depth cause.Streamed
@@ -85,6 +95,7 @@ abbrev pub full_cause : Place → ℕ → Cause
 full_cause s b = cond (eqb b (byte "?")) (full_streamed s.version s.bounds.streamed)
     (cond (is_digit b) cause.Depth cause.Syntax)
 
+-- the byte behind `*`
 abbrev pub array_head : Place → ℕ → ℕ → Move
 array_head s used b =
     cond (eqb b (byte "-")) (move_unless (over_total s used 3) (Go (at s AtNullOne)))
@@ -96,12 +107,15 @@ array_head s used b =
 abbrev pub begin_move : Place → ℕ → Token → Move
 begin_move s needed t = move_unless (begin_cause s needed) (Go (at (after_begin s) t))
 
+-- a line begins, with its event
 abbrev pub line_move : Place → Happening → Move
 line_move s e = move_unless (begin_cause s 2) (Give e (at (after_begin s) (InLine s.bounds.length)))
 
+-- an aggregate of version 3 begins, unless it would be a level too deep
 abbrev pub aggregate_move : Place → Head → Move
 aggregate_move s h = cond (is_full s) (Refuse cause.Depth) (begin_move s (first_needed h) (AtHead h))
 
+-- a push begins, at the top alone
 abbrev pub push_move : Place → List Frame → Move
 push_move s [] = aggregate_move s head.Push
 push_move s (f ∷ fs) = Refuse cause.NestedPush
@@ -111,11 +125,13 @@ abbrev pub move_in_three : Version → Move → Move
 move_in_three version.Two v = Refuse cause.Version
 move_in_three version.Three v = v
 
+-- whether a streamed aggregate of this shape may close
 abbrev pub may_close_of : OpenKind → Shape → Bool
 may_close_of k (Left n) = false
 may_close_of kind.Map (Begun n) = eqb (n % 2) 0
 may_close_of _ (Begun n) = true
 
+-- whether the innermost aggregate may close
 abbrev pub may_close : List Frame → Bool
 may_close [] = false
 may_close (f ∷ fs) = may_close_of f.kind f.shape
@@ -129,6 +145,7 @@ close_move s = cond (may_close s.frames) (Go (record s {
   frames_need = s.frames_need - 3;
 })) (Refuse cause.Syntax)
 
+-- a first byte that version 3 alone has
 abbrev pub start_three : Place → ℕ → Move
 start_three s b =
     cond (eqb b (byte "_")) (move_in_three s.version (begin_move s 2 AtNullCr))
@@ -142,6 +159,7 @@ start_three s b =
     (cond (eqb b (byte ">")) (move_in_three s.version (push_move s s.frames))
     (Refuse cause.Syntax)))))))))
 
+-- a first byte
 abbrev pub start_next : Place → ℕ → Move
 start_next s b =
     cond (eqb b (byte "+")) (line_move s (Text text.Simple))
@@ -153,6 +171,7 @@ start_next s b =
     (cond (eqb b (byte ",")) (Refuse cause.Double)
     (start_three s b)))))))
 
+-- the frames around the innermost
 abbrev pub without_first : List Frame → List Frame
 without_first [] = []
 without_first (f ∷ fs) = fs

@@ -9,6 +9,7 @@ use Rattle.resp_scan.specs.declared.frame.Shape.{Shape}
 use Rattle.resp_scan.specs.declared.frame.Shape.TheVariants.{Left, Begun}
 use Rattle.resp_scan.specs.Machine.Tokens.{Place}
 
+-- what total leaves, beside the bytes taken and what the frames need
 abbrev pub total_room : Place → ℕ
 total_room s = (s.bounds.total - s.taken) - s.frames_need
 
@@ -16,6 +17,7 @@ total_room s = (s.bounds.total - s.taken) - s.frames_need
 abbrev pub has_total_room : Place → ℕ → ℕ → Bool
 has_total_room s used needed = nat_le (used + needed) (total_room s)
 
+-- total, unless it leaves so much room
 abbrev pub over_total : Place → ℕ → ℕ → Option Cause
 over_total s used needed = cond (has_total_room s used needed) None (Some cause.Total)
 
@@ -25,6 +27,7 @@ is_full s = nat_le s.bounds.depth (length s.frames)
 
 -- The next member of an aggregate begins.
 
+-- the shape once one more member has begun
 abbrev pub shape_after_begin : Shape → Shape
 shape_after_begin (Left n) = Left (n - 1)
 shape_after_begin (Begun n) = Begun (n + 1)
@@ -34,10 +37,12 @@ abbrev pub need_after_begin_of : OpenKind → ℕ → ℕ → ℕ
 need_after_begin_of Map n need = cond (eqb (n % 2) 0) (need + 3) (need - 3)
 need_after_begin_of _ n need = need
 
+-- what the frames need once one more member has begun
 abbrev pub need_after_begin : OpenKind → Shape → ℕ → ℕ
 need_after_begin k (Left n) frames_need = frames_need - 3
 need_after_begin k (Begun n) frames_need = need_after_begin_of k n frames_need
 
+-- whether a streamed aggregate of n members has as many items as may be
 abbrev pub has_all_of : OpenKind → ℕ → ℕ → Bool
 has_all_of Map n items = eqb (n % 2) 0 && nat_le items (n / 2)
 has_all_of _ n items = nat_le items n
@@ -47,6 +52,7 @@ abbrev pub has_all : OpenKind → Shape → ℕ → Bool
 has_all k (Left n) items = false
 has_all k (Begun n) items = has_all_of k n items
 
+-- the innermost of these frames has one more member begun
 abbrev pub after_begin_in : Place → List Frame → Place
 after_begin_in s [] = s
 after_begin_in s (f ∷ fs) = record s {
@@ -55,9 +61,11 @@ after_begin_in s (f ∷ fs) = record s {
       need_after_begin f.kind f.shape s.frames_need;
 }
 
+-- a member has begun
 abbrev pub after_begin : Place → Place
 after_begin s = after_begin_in s s.frames
 
+-- items, where the innermost aggregate has all, or else the other cause
 abbrev pub items_cause : List Frame → ℕ → Option Cause → Option Cause
 items_cause [] items other = other
 items_cause (f ∷ fs) items other = cond (has_all f.kind f.shape items) (Some cause.Items) other
@@ -76,6 +84,7 @@ abbrev pub with_shape : Shape → List Frame → List Frame
 with_shape shape [] = []
 with_shape shape (f ∷ fs) = record f { shape = shape } ∷ fs
 
+-- the innermost frame, if one is open
 abbrev pub innermost : List Frame → Option Frame
 innermost [] = None
 innermost (f ∷ fs) = Some f

@@ -16,6 +16,7 @@ pub data Out : Type 0 where
   Whole : Place → Out
   Bad : ℕ → Cause → Place → Out
 
+-- goes on behind a byte of content, and else stops
 abbrev pub and_more : Move → ℕ × Place → (Place → ℕ × Place) → ℕ × Place
 and_more (Byte t) stop more = more t
 and_more (Go t) stop more = stop
@@ -27,6 +28,7 @@ abbrev pub content : ℕ → Place → List ℕ → ℕ × Place
 content i s [] = (i, s)
 content i s (b ∷ bs) = and_more (next s (i + 1) b) (i, s) (λ t. content (i + 1) t bs)
 
+-- what a move comes to: more of the piece, a run of content, an event, or a refusal
 abbrev pub answer : Move → ℕ → Place → (Place → Out) → (Place → ℕ × Place) → Out
 answer (Go t) i s more rest = more t
 answer (Byte t) i s more rest = Part i (rest t).0 (rest t).1
@@ -43,6 +45,7 @@ abbrev pub out_at_end : Place → List Frame → Out
 out_at_end s [] = Whole (record s { token = AtStart; taken = 0 })
 out_at_end s (f ∷ fs) = Gave 0 Close (at_boundary (record s { frames = fs }))
 
+-- what is owed at this token, or what the piece gives
 abbrev pub out_from_token : Token → Place → List ℕ → Out
 out_from_token AtEnd s p = out_at_end s s.frames
 out_from_token AtTextEnd s p = Gave 0 TextEnd (at_boundary s)

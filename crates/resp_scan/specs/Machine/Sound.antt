@@ -16,10 +16,12 @@ use Rattle.resp_scan.specs.Machine.Moves.{is_digit}
 
 -- What is needed.
 
+-- a streamed aggregate needs its close, and a map the value of its key
 abbrev pub need_of_streamed : OpenKind → ℕ → ℕ
 need_of_streamed Map n = cond (eqb (n % 2) 0) 3 6
 need_of_streamed _ n = 3
 
+-- the fewest bytes by which one frame ends
 abbrev pub need_of_frame : OpenKind → Shape → ℕ
 need_of_frame k (Left n) = n * 3
 need_of_frame k (Begun n) = need_of_streamed k n
@@ -92,6 +94,7 @@ abbrev pub AreCounted : ℕ → List Frame → Type 0
 AreCounted items [] = Unit {0}
 AreCounted items (f ∷ fs) = (begun_count f.shape ≤ items * 2) × AreCounted items fs
 
+-- a member more may begin
 abbrev pub IsOpenShape : Shape → Type 0
 IsOpenShape (Left n) = 0 < n
 IsOpenShape (Begun n) = Unit {0}
@@ -117,6 +120,7 @@ abbrev pub IsWithinRoom : Head → ℕ → Type 0
 IsWithinRoom (head.Chunk room) n = n ≤ room
 IsWithinRoom _ n = Unit {0}
 
+-- what holds of a token within these frames, at this depth
 abbrev pub IsTokenSound : Token → ℕ → List Frame → Type 0
 IsTokenSound AtStart depth fs = IsOpen fs
 IsTokenSound AtEnd depth fs = IsClosed fs
@@ -148,5 +152,6 @@ pub record IsSoundBy (used : ℕ) (s : Place) : Type 0 where
   pub total : s.taken + used + token_needed s.token s.bounds.depth s.frames + s.frames_need ≤ s.bounds.total
   pub token : IsTokenSound s.token s.bounds.depth s.frames
 
+-- a place between two pieces
 abbrev pub IsSound : Place → Type 0
 IsSound s = IsSoundBy 0 s

@@ -48,6 +48,7 @@ abbrev pub HasBegun : Shape → Type 0
 HasBegun (Left n) = Unit {0}
 HasBegun (Begun n) = 0 < n
 
+-- at least one member has begun in each that is streamed
 abbrev pub HaveBegun : List Frame → Type 0
 HaveBegun [] = Unit {0}
 HaveBegun (f ∷ fs) = HasBegun f.shape × HaveBegun fs
@@ -122,6 +123,7 @@ StandsAfterAt r AtCloseCr fs front es = IsClosingIn r fs (codes ".") (codes "\r\
 StandsAfterAt r AtCloseLf fs front es = IsClosingIn r fs (codes ".\r") (codes "\n") front es
 StandsAfterAt r token fs front es = IsInside r (b.TokenHas r token) fs front es
 
+-- what the bytes taken and the events given are at a place
 abbrev pub StandsAfter : Place → List ℕ → List Event → Type 0
 StandsAfter s front es = StandsAfterAt (rules_of s) s.token s.frames front es
 

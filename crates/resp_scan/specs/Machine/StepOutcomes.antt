@@ -24,6 +24,7 @@ abbrev pub out_of_part : Bool → ℕ → List ℕ → Place → Out
 out_of_part true n p s = Gave n (Digit (get_or p 0 0)) s
 out_of_part false n p s = Part (n - length p) n s
 
+-- what a step's event says, with so many bytes used
 abbrev pub out_of_event : ℕ → Option Event → Place → Out
 out_of_event n None s = More n s
 out_of_event n (Some event.Null) s = Gave n Null s

@@ -67,6 +67,7 @@ pub data Token : Type 0 where
   AtCloseLf : Token
   Dead : Cause → Token
 
+-- where a scanner stands
 pub record Place : Type 0 where
   pub token : Token
   -- the innermost first
@@ -98,9 +99,11 @@ pub data Move : Type 0 where
   Give : Happening → Place → Move
   Refuse : Cause → Move
 
+-- the place at another token
 abbrev pub at : Place → Token → Place
 at s t = record s { token = t }
 
+-- behind a member of a counted aggregate its close may be owed
 abbrev pub token_in_shape : Shape → Token
 token_in_shape (Left n) = cond (eqb n 0) AtEnd AtStart
 token_in_shape (Begun n) = AtStart
@@ -110,5 +113,6 @@ abbrev pub token_at_boundary : List Frame → Token
 token_at_boundary [] = AtEnd
 token_at_boundary (f ∷ fs) = token_in_shape f.shape
 
+-- the place behind a value's end or an aggregate's head
 abbrev pub at_boundary : Place → Place
 at_boundary s = record s { token = token_at_boundary s.frames }

@@ -40,6 +40,7 @@ pub record Stops (r : Rules) (t : Place) (MayStop : Events → Type 0) (front pi
   pub viable : IsViable r WithinTotal (front ++ take used piece)
   pub taken : t.taken ≡ length (front ++ take used piece)
 
+-- what one turn comes to
 abbrev pub OutcomeOfTurn : Place → Place → (Events → Type 0) → (Events → Type 0) → List ℕ → Events → List ℕ → ℕ → Turn →
     Type 0
 OutcomeOfTurn s t HasHeard MayStop front given piece used On = GoesOn t HasHeard front given piece used
