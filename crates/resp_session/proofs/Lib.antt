@@ -5,3 +5,8 @@ pub mod Readings
 pub mod Hearing
 pub mod OrdersGoOn
 pub mod Replays
+pub mod WholeTexts
+pub mod Changes
+pub mod Parts
+pub mod WorldsHold
+pub mod WorldLaws

@@ -10,8 +10,7 @@ use Rattle.resp_session.specs.Stores.{Effect, effect_of_words}
 use Rattle.resp_session.specs.Connections.{Connection, Message, new_requests, push_message, with_request, with_message, with_effect, with_arrived, with_shown, as_dropped}
 use Rattle.resp_session.specs.Worlds.{World, Event, Send, Greet, ToServer, ToClient, Push, Drop, after_event, after_arrival, after_command, after_commands, commands_for, connection_at, with_change, world_with, version_of, new_world}
 use Rattle.resp_session.specs.Runs.{Outcome, Done, Refused, Gone, Step, Run}
-use Rattle.resp_session.specs.Orders.{replay_of, sent_replies}
-use Rattle.resp_session.specs.WorldLaws.{AWorldAgreesWithItsOrder}
+use Rattle.resp_session.specs.Orders.{Agrees, replay_of, sent_replies}
 use Rattle.resp_session.proofs.OrdersGoOn.{after_commands-order}
 
 -- two connections whose sessions have one version and have sent the same replies
@@ -143,8 +142,8 @@ alike_maps f h [] (d ∷ ds) a = absurd a
 alike_maps f h (c ∷ cs) [] a = absurd a
 alike_maps f h (c ∷ cs) (d ∷ ds) a = ap (λ x. x ∷ map f cs) (h c d a.0) ∙ ap (λ l. f d ∷ l) (alike_maps f h cs ds a.1)
 
-pub a_world_agrees_with_its_order : AWorldAgreesWithItsOrder
-a_world_agrees_with_its_order limits n events w r =
+pub agrees_with_its_order : (limits : Bounds) (n : ℕ) (events : List Event) (w : World) → Run limits (new_world n) events w → Agrees w (replay_of n w.order)
+agrees_with_its_order limits n events w r =
     let m = run_kept limits n (new_world n) events w r (record { store = refl; connections = all_alike (new_world n).connections }) in
     record {
       store = m.store;

@@ -1,16 +1,35 @@
 -- What must be true of the definitions of worlds.
-use Rattle.std.specs.Prelude.{ℕ, List}
+use Rattle.std.specs.Prelude.{◌≡◌, ℕ, ◌≤◌, List, ◌++◌, length, Some}
 use Rattle.resp_value.specs.Bounds.{Bounds}
-use Rattle.resp_session.specs.Worlds.{World, Event, new_world}
+use Rattle.resp_session.specs.Heard.{replies_of, pushes_of}
+use Rattle.resp_session.specs.Connections.{Connection, values_of, shown_replies, shown_pushes}
+use Rattle.resp_session.specs.Worlds.{World, Event, connection_at, new_world}
 use Rattle.resp_session.specs.Runs.{Run}
-use Rattle.resp_session.specs.Orders.{Agrees, IsBeginning, replay_of}
+use Rattle.resp_session.specs.Orders.{OneOrder, IsBeginning, part_of_client}
 
--- what was run stays first in the order
+-- whatever happens, one order of all commands gives the store, the versions and the replies, and each client's part of
+-- it is a beginning of what the client asked
+abbrev pub AWorldHasOneOrder : Type 0
+AWorldHasOneOrder = (limits : Bounds) (n : ℕ) (events : List Event) (w : World) → Run limits (new_world n) events w →
+    OneOrder n w
+
+-- a run of events and then of more is cut into a run of the events and one of more
+abbrev pub ARunIsCut : Type 0
+ARunIsCut = (limits : Bounds) (w v : World) (events more : List Event) → Run limits w (events ++ more) v →
+    (u : World) × Run limits w events u × Run limits u more v
+
+-- what was run stays first in the order, so that what is run later stands behind it
 abbrev pub TheOrderOnlyGrows : Type 0
 TheOrderOnlyGrows = (limits : Bounds) (w v : World) (events : List Event) → Run limits w events v →
     IsBeginning w.order v.order
 
--- the store, the versions and the replies are those of the order's commands, run one after another
-abbrev pub AWorldAgreesWithItsOrder : Type 0
-AWorldAgreesWithItsOrder = (limits : Bounds) (n : ℕ) (events : List Event) (w : World) →
-    Run limits (new_world n) events w → Agrees w (replay_of n w.order)
+-- a reply that is shown is of a command that was run: no more replies are shown than the client's commands in the order
+abbrev pub ShownRepliesAreOfTheOrder : Type 0
+ShownRepliesAreOfTheOrder = (limits : Bounds) (n : ℕ) (events : List Event) (w : World) →
+    Run limits (new_world n) events w → (i : ℕ) (c : Connection) → connection_at w.connections i ≡ Some c →
+    length (shown_replies c) ≤ length (part_of_client i w.order)
+
+-- what is shown to a client is a beginning of what its session has sent
+abbrev pub WhatIsShownWasSent : Type 0
+WhatIsShownWasSent = (c : Connection) → IsBeginning (shown_replies c) (replies_of (values_of c.messages)) ×
+    IsBeginning (shown_pushes c) (pushes_of (values_of c.messages))

@@ -9,7 +9,7 @@ ghost use Rattle.resp_session.specs.Examples.{new_session, answers_to, set_a, ge
 ghost use Rattle.resp_session.specs.Heard.{is_push};
 ghost use Rattle.resp_session.specs.ReadingLaws.{ReadingsGoOn, ReadingsStay, ATextHasOneReading, HearingGoesOn};
 ghost use Rattle.resp_session.specs.Replies.{simple, bulk, natural, null};
-ghost use Rattle.resp_session.specs.WorldLaws.{TheOrderOnlyGrows, AWorldAgreesWithItsOrder};
+ghost use Rattle.resp_session.specs.WorldLaws.{AWorldHasOneOrder, ARunIsCut, TheOrderOnlyGrows, ShownRepliesAreOfTheOrder, WhatIsShownWasSent};
 ghost use Rattle.resp_session.specs.Connections.{push_message};
 
 use resp_value::laws as grammar;
@@ -80,15 +80,23 @@ pub fn hearing_goes_on()
     ensures { HearingGoesOn }
 {}
 
-/// What was run stays first in the order.
-pub fn the_order_only_grows()
-    ensures { TheOrderOnlyGrows }
+/// Whatever happens, one order of all commands gives the store, the versions and the replies, and
+/// each client's part of it is a beginning of what the client asked.
+pub fn a_world_has_one_order()
+    ensures { AWorldHasOneOrder }
 {}
 
-/// The store, the versions and the replies are those of the order's commands, run one after
-/// another.
-pub fn a_world_agrees_with_its_order()
-    ensures { AWorldAgreesWithItsOrder }
+/// What was run stays first in the order, and a reply that is shown is of a command that was run. So
+/// a command that is sent behind a shown reply stands behind that reply's command.
+pub fn the_order_goes_on()
+    ensures cut_anywhere { ARunIsCut }
+    ensures only_grows { TheOrderOnlyGrows }
+    ensures holds_what_is_shown { ShownRepliesAreOfTheOrder }
+{}
+
+/// What is shown to a client is a beginning of what its session has sent, replies and pushes apart.
+pub fn what_is_shown_was_sent()
+    ensures { WhatIsShownWasSent }
 {}
 
 /// What a new session of number 1 answers to commands and to values that are none.
