@@ -10,3 +10,6 @@ pub mod Changes
 pub mod Parts
 pub mod WorldsHold
 pub mod WorldLaws
+pub mod InlineCommand
+pub mod FittingWords
+pub mod SentRequests

@@ -116,7 +116,7 @@ run_holds limits w (event ∷ events) last r all =
     run_holds limits next events last t (step_holds limits w event outcome next s all)
 
 -- nothing was sent on any connection at the start
-new_at : (n i : ℕ) (c : Connection) → connection_at (new_connections n) i ≡ Some c → c ≡ new_connection
+pub new_at : (n i : ℕ) (c : Connection) → connection_at (new_connections n) i ≡ Some c → c ≡ new_connection
 new_at zero i c e = absurd (cc)
 new_at (suc n) zero c e = absurd (cc)
 new_at (suc n) (suc zero) c e = cc

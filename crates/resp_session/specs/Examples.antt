@@ -1,9 +1,10 @@
 -- Words of the worked examples.
-use Rattle.std.specs.Prelude.{ℕ, false, List, [], ◌∷◌, ◌++◌, Option, None, Some, map, fold, codes}
+use Rattle.std.specs.Prelude.{ℕ, true, false, List, [], ◌∷◌, ◌++◌, Option, None, Some, map, fold, codes}
+use Rattle.resp_value.specs.Bounds.{Bounds, AreBounds}
 use Rattle.resp_value.specs.Data.{Datum}
 use Rattle.resp_value.specs.declared.version.Version.TheVariants.{Two, Three}
 use Rattle.resp_session.specs.Replies.{bulk}
-use Rattle.resp_session.specs.Answers.{SessionState, after_values}
+use Rattle.resp_session.specs.Answers.{SessionState, Answers, after_values}
 use Rattle.resp_session.specs.Connections.{Connection, shown_replies, shown_pushes}
 use Rattle.resp_session.specs.Worlds.{World, Send, Greet, ToServer, ToClient, Push, new_world, after_event, connection_at}
 
@@ -14,6 +15,15 @@ new_session = record { store = []; version = Two; text = []; closing = false; co
 -- what session 1 answers to these values
 abbrev pub answers_to : List Datum → List ℕ
 answers_to values = (after_values 1 new_session values).text
+
+-- what session 1 has answered where the first byte of all begins no value
+abbrev pub refused_at_once : SessionState
+refused_at_once = record new_session { text = codes "-ERR Protocol error: Syntax at byte 0\r\n"; closing = true }
+
+-- a command as a bare line of words is refused at its first byte
+abbrev pub AnInlineCommandIsRefused : Type 0
+AnInlineCommandIsRefused = (limits : Bounds) → AreBounds limits →
+    Answers limits 1 new_session (codes "PING\r\n") refused_at_once (codes "PING\r\n")
 
 -- what session 1 replies to HELLO in version 3
 abbrev pub hello_in_three : List ℕ

@@ -1,7 +1,8 @@
 -- What a client asks, what is sent for it, and what a client refuses to send.
 use Rattle.std.specs.Prelude.{◌≡◌, ℕ, ◌≤◌, ◌^◌, ◌||◌, ◌&&◌, Bool, true, false, List, [], ◌∷◌, Option, None, Some, codes}
-use Rattle.std.specs.List.{list_any}
+use Rattle.std.specs.List.{AllByRecursion, list_any}
 use Rattle.resp_value.specs.Bounds.{Bounds}
+use Rattle.resp_value.specs.Bytes.{IsText}
 use Rattle.resp_value.specs.Canonical.{canonical_text, Fits}
 use Rattle.resp_value.specs.Numbers.{decimal}
 use Rattle.resp_value.specs.Rules.{rules_under}
@@ -69,3 +70,7 @@ RefusesRequest limits count request TooLarge = (is_unsent_request request ≡ fa
 RefusesRequest limits count request TooMany =
     (is_unsent_request request ≡ false) × FitsRequest limits request × (2 ^ 63 ≤ count)
 RefusesRequest limits count request _ = ⊥
+
+-- the words that a client sends are bytes
+abbrev pub HasBytes : Request → Type 0
+HasBytes request = AllByRecursion IsText (request_words request)

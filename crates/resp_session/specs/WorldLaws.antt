@@ -1,9 +1,15 @@
 -- What must be true of the definitions of worlds.
-use Rattle.std.specs.Prelude.{◌≡◌, ℕ, ◌≤◌, List, ◌++◌, length, Some}
-use Rattle.resp_value.specs.Bounds.{Bounds}
+use Rattle.std.specs.Prelude.{◌≡◌, ℕ, ◌<◌, ◌≤◌, List, ◌++◌, length, map, take, Some}
+use Rattle.std.specs.List.{AllByRecursion}
+use Rattle.resp_value.specs.Bounds.{Bounds, AreBounds}
+use Rattle.resp_value.specs.Data.{Datum}
+use Rattle.resp_value.specs.Words.{command_of}
+use Rattle.resp_session.specs.Answers.{server_rules}
+use Rattle.resp_session.specs.Arrivals.{HasCome}
 use Rattle.resp_session.specs.Heard.{replies_of, pushes_of}
-use Rattle.resp_session.specs.Connections.{Connection, values_of, shown_replies, shown_pushes}
-use Rattle.resp_session.specs.Worlds.{World, Event, connection_at, new_world}
+use Rattle.resp_session.specs.Requests.{Request, Command, HasBytes, request_words, request_text}
+use Rattle.resp_session.specs.Connections.{Connection, sent_text, values_of, shown_replies, shown_pushes}
+use Rattle.resp_session.specs.Worlds.{World, Event, Send, connection_at, new_world}
 use Rattle.resp_session.specs.Runs.{Run}
 use Rattle.resp_session.specs.Orders.{OneOrder, IsBeginning, part_of_client}
 
@@ -33,3 +39,24 @@ ShownRepliesAreOfTheOrder = (limits : Bounds) (n : ℕ) (events : List Event) (w
 abbrev pub WhatIsShownWasSent : Type 0
 WhatIsShownWasSent = (c : Connection) → IsBeginning (shown_replies c) (replies_of (values_of c.messages)) ×
     IsBeginning (shown_pushes c) (pushes_of (values_of c.messages))
+
+-- what a program can ask: words of bytes
+abbrev pub IsOfBytes : Event → Type 0
+IsOfBytes (Send i words) = HasBytes (Command words)
+IsOfBytes _ = Unit {0}
+
+-- the request has a word, so that what is sent for it is a command
+abbrev pub HasName : Request → Type 0
+HasName request = 0 < length (request_words request)
+
+-- each request of a connection as the value that is sent for it
+abbrev pub request_values : Connection → List Datum
+request_values c = map (λ (request : Request). command_of (request_words request)) c.requests
+
+-- what has come to a session is so many whole commands, and a viable rest that begins no value: so no session of a
+-- world answers a fault
+abbrev pub WhatArrivesIsCommands : Type 0
+WhatArrivesIsCommands = (limits : Bounds) (n : ℕ) (events : List Event) (w : World) → AreBounds limits →
+    AllByRecursion IsOfBytes events → Run limits (new_world n) events w → (i : ℕ) (c : Connection) →
+    connection_at w.connections i ≡ Some c → AllByRecursion HasName c.requests ×
+    HasCome (server_rules limits) (request_values c) (map request_text c.requests) (take c.arrived (sent_text c))

@@ -5,11 +5,11 @@ ghost use Rattle.std.specs.Prelude.{◌≡◌, [], ◌∷◌, ◌++◌, codes, l
 ghost use Rattle.resp_value.specs.Words.{command_of};
 ghost use Rattle.resp_session.specs.Answers.{after_values};
 ghost use Rattle.resp_session.specs.AnswerLaws.{ACommandIsItsWords, AnswersGoOn, AnswersEnd, ATextHasOneAnswer, AnswersAreOfTheCut, WhatComesIsWholeTexts};
-ghost use Rattle.resp_session.specs.Examples.{new_session, answers_to, set_a, get_a, get_before_set, hello_in_two, hello_in_three, push_after_hello, clients_of, replies_to, pushes_to};
+ghost use Rattle.resp_session.specs.Examples.{new_session, answers_to, set_a, get_a, AnInlineCommandIsRefused, get_before_set, hello_in_two, hello_in_three, push_after_hello, clients_of, replies_to, pushes_to};
 ghost use Rattle.resp_session.specs.Heard.{is_push};
 ghost use Rattle.resp_session.specs.ReadingLaws.{ReadingsGoOn, ReadingsStay, ATextHasOneReading, HearingGoesOn};
 ghost use Rattle.resp_session.specs.Replies.{simple, bulk, natural, null};
-ghost use Rattle.resp_session.specs.WorldLaws.{AWorldHasOneOrder, ARunIsCut, TheOrderOnlyGrows, ShownRepliesAreOfTheOrder, WhatIsShownWasSent};
+ghost use Rattle.resp_session.specs.WorldLaws.{AWorldHasOneOrder, ARunIsCut, TheOrderOnlyGrows, ShownRepliesAreOfTheOrder, WhatIsShownWasSent, WhatArrivesIsCommands};
 ghost use Rattle.resp_session.specs.Connections.{push_message};
 
 use resp_value::laws as grammar;
@@ -86,8 +86,8 @@ pub fn a_world_has_one_order()
     ensures { AWorldHasOneOrder }
 {}
 
-/// What was run stays first in the order, and a reply that is shown is of a command that was run. So
-/// a command that is sent behind a shown reply stands behind that reply's command.
+/// What was run stays first in the order, and a reply that is shown is of a command that was run.
+/// So a command that is sent behind a shown reply stands behind that reply's command.
 pub fn the_order_goes_on()
     ensures cut_anywhere { ARunIsCut }
     ensures only_grows { TheOrderOnlyGrows }
@@ -98,6 +98,15 @@ pub fn the_order_goes_on()
 pub fn what_is_shown_was_sent()
     ensures { WhatIsShownWasSent }
 {}
+
+/// What has come to a session of a world is so many whole commands, and a viable rest that begins no
+/// value. So no session of a world answers a fault.
+pub fn what_arrives_is_commands()
+    ensures { WhatArrivesIsCommands }
+{
+    what_comes_is_whole_texts();
+    grammar::canonical_text_spells_what_fits();
+}
 
 /// What a new session of number 1 answers to commands and to values that are none.
 pub fn commands_and_their_replies()
@@ -118,6 +127,16 @@ pub fn commands_and_their_replies()
         ≡ codes "-ERR Protocol error: NotCommand at byte 0\r\n" }
     ensures closes { (after_values 1 new_session (natural 1 ∷ [])).closing ≡ true }
 {}
+
+/// What a new session answers to a command as a bare line of words.
+pub fn an_inline_command_is_refused()
+    ensures { AnInlineCommandIsRefused }
+{
+    grammar::no_spelling_is_empty();
+    grammar::fronts_of_spellings_are_viable();
+    grammar::the_empty_text_is_viable();
+    grammar::no_other_byte_begins_a_tree();
+}
 
 /// What a new session of number 1 answers to HELLO.
 pub fn greetings_and_their_replies()
