@@ -99,8 +99,8 @@ pub fn what_is_shown_was_sent()
     ensures { WhatIsShownWasSent }
 {}
 
-/// What has come to a session of a world is so many whole commands, and a viable rest that begins no
-/// value. So no session of a world answers a fault.
+/// What has come to a session of a world is so many whole commands, and a viable rest that begins
+/// no value. So no session of a world answers a fault.
 pub fn what_arrives_is_commands()
     ensures { WhatArrivesIsCommands }
 {
