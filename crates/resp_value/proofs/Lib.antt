@@ -1,6 +1,7 @@
 pub mod KeptDigits
 pub mod ByTests
 pub mod DatumOf
+pub mod AttributeLemmas
 pub mod Splitting
 pub mod FirstBytes
 pub mod FirstLines

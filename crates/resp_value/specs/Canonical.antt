@@ -1,5 +1,5 @@
 -- The one text that is written for a value in a version, and which values it is a spelling of.
-use Rattle.std.specs.Prelude.{◌≡◌, ℕ, ◌+◌, ◌/◌, ◌^◌, ◌≤◌, Bool, true, false, ℤ, pos, negsuc, ◌≤ℤ◌, ◌<ℤ◌, List, length}
+use Rattle.std.specs.Prelude.{◌≡◌, ℕ, ◌+◌, ◌/◌, ◌^◌, ◌<◌, ◌≤◌, Bool, true, false, ℤ, pos, negsuc, ◌≤ℤ◌, ◌<ℤ◌, List, length}
 use Rattle.std.proofs.Common.{neg_ℤ}
 use Rattle.resp_value.specs.Bytes.{IsLine, IsText}
 use Rattle.resp_value.specs.Numbers.{Sign, Unsigned, Minus, decimal, IsKept}
@@ -7,6 +7,8 @@ use Rattle.resp_value.specs.Data.{Kind, Array, Map, Attr, Push, Scalar, Datum, D
 use Rattle.resp_value.specs.Data as d
 use Rattle.resp_value.specs.Trees.{Tree, Trees, leaf, node, none, more, Leaf, line, numeral, null, truth, string, Simple, Error, Double, Int, Big, NullForm, BulkNull, PlainNull, Bulk, BulkError, Verbatim, Counted, text}
 use Rattle.resp_value.specs.Rules.{Rules}
+use Rattle.resp_value.specs.declared.cause.Limit.{Limit}
+use Rattle.resp_value.specs.declared.cause.Limit.TheVariants.{Depth, Length, Items, Total}
 use Rattle.resp_value.specs.declared.version.Version.{Version}
 use Rattle.resp_value.specs.declared.version.Version.TheVariants.{Two, Three}
 
@@ -143,3 +145,12 @@ pub record Fits (rules : Rules) (x : Datum) : Type 0 where
   pub within_length : longest x ≤ rules.limits.length
   pub within_items : most_items x ≤ rules.limits.items
   pub within_total : length (canonical_text rules.version x) ≤ rules.limits.total
+
+-- the value breaks this limit, and none before it
+abbrev pub IsFirstOver : Rules → Datum → Limit → Type 0
+IsFirstOver rules x Depth = rules.limits.depth < depth x
+IsFirstOver rules x Length = (depth x ≤ rules.limits.depth) × (rules.limits.length < longest x)
+IsFirstOver rules x Items = (depth x ≤ rules.limits.depth) × (longest x ≤ rules.limits.length) ×
+    (rules.limits.items < most_items x)
+IsFirstOver rules x Total = (depth x ≤ rules.limits.depth) × (longest x ≤ rules.limits.length) ×
+    (most_items x ≤ rules.limits.items) × (rules.limits.total < length (canonical_text rules.version x))

@@ -12,6 +12,9 @@ pub mod Spellings
 pub mod Canonical
 pub mod Devices
 pub mod Values
+pub mod Attributes
+pub mod Words
+pub mod Commands
 pub mod Causes
 pub mod Laws
 pub mod Examples

@@ -4,6 +4,7 @@
 #![tactic(auto)]
 
 pub mod cause;
+pub mod command;
 pub mod content;
 pub mod device;
 pub mod digits;
@@ -15,6 +16,7 @@ pub mod value;
 pub mod version;
 
 pub use cause::{Cause, Limit};
+pub use command::{BadCommand, Command};
 pub use content::Content;
 pub use device::{
     Device, DeviceFault, MemorySink, MemorySource, Sink, Source, WriteFault, write_all,

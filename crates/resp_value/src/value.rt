@@ -8,6 +8,8 @@ use crate::digits::Digits;
 use crate::line::Line;
 use std::alloc::{AllocError, Global};
 
+mod attributes;
+
 /// The members of an array, a set or a push, in their order. One may stand there more than once, in
 /// a set too.
 #[derive(Debug, PartialEq, Eq, Drop)]

@@ -1,0 +1,55 @@
+-- Words within the limits, and the command that is sent for them.
+use Rattle.std.proofs.Common.{◌≡◌, inl, inr, ℕ, ◌<◌, ◌≤◌, List, [], ◌∷◌, length, map, refl, arith}
+use Rattle.std.proofs.lemmas.Bool.{cases_lt}
+use Rattle.std.specs.List.{AllByRecursion}
+use Rattle.resp_value.specs.Bounds.{Bounds, AreBounds}
+use Rattle.resp_value.specs.Bytes.{IsText}
+use Rattle.resp_value.specs.Canonical.{canonical_text, IsValue, AreValues, AreInTwo, HaveNoPush, Fits}
+use Rattle.resp_value.specs.Data.{data_of_list, greatest_depth, longest, most_items}
+use Rattle.resp_value.specs.Rules.{rules_under}
+use Rattle.resp_value.specs.Words.{word_datum, command_of}
+use Rattle.resp_value.specs.declared.version.Version.TheVariants.{Two}
+
+words_are_values : (words : List (List ℕ)) → AllByRecursion IsText words → AreValues (data_of_list (map word_datum words))
+words_are_values [] h = tt
+words_are_values (word ∷ words) h = (h.0, words_are_values words h.1)
+
+-- words of bytes make a value
+pub command_is_value : (words : List (List ℕ)) → AllByRecursion IsText words → IsValue (command_of words)
+command_is_value words h = (tt, words_are_values words h)
+
+words_are_in_two : (words : List (List ℕ)) → AreInTwo (data_of_list (map word_datum words))
+words_are_in_two [] = tt
+words_are_in_two (word ∷ words) = (tt, words_are_in_two words)
+
+words_have_no_push : (words : List (List ℕ)) → HaveNoPush (data_of_list (map word_datum words))
+words_have_no_push [] = tt
+words_have_no_push (word ∷ words) = (tt, words_have_no_push words)
+
+words_have_no_depth : (words : List (List ℕ)) → greatest_depth (data_of_list (map word_datum words)) ≡ 0
+words_have_no_depth [] = refl
+words_have_no_depth (word ∷ words) = let h = words_have_no_depth words in omega (arith, h)
+
+-- what isn't too large is within the limit
+within : (n limit : ℕ) → (limit < n → ⊥) → n ≤ limit
+within n limit h = elim (cases_lt limit n) as (λ _. n ≤ limit) [
+  | inl l ↦ absurd (h l)
+  | inr l ↦ l
+]
+
+-- words of which it isn't refuted that they fit do fit
+pub words_fit : (limits : Bounds) (words : List (List ℕ)) → AreBounds limits → ((Fits (rules_under Two limits) (command_of words) → ⊥) → ⊥) →
+    Fits (rules_under Two limits) (command_of words)
+words_fit limits words bounds h =
+    let x = command_of words in
+    let flat = words_have_no_depth words in
+    let least = bounds.depth_in_range.0 in
+    record {
+      has_types = (tt, words_are_in_two words);
+      push_at_top = words_have_no_push words;
+      within_depth = omega (arith, flat, least);
+      within_length = within (longest x) limits.length (λ over. h (λ (f : Fits (rules_under Two limits) x). let k = f.within_length in omega (arith, over, k)));
+      within_items = within (most_items x) limits.items (λ over. h (λ (f : Fits (rules_under Two limits) x). let k = f.within_items in omega (arith, over, k)));
+      within_total = within (length (canonical_text Two x)) limits.total
+          (λ over. h (λ (f : Fits (rules_under Two limits) x). let k = f.within_total in omega (arith, over, k)));
+    }

@@ -1,0 +1,15 @@
+pub mod CommandWords
+pub mod TextsInPieces
+pub mod Arrivals
+pub mod Readings
+pub mod Hearing
+pub mod OrdersGoOn
+pub mod Replays
+pub mod WholeTexts
+pub mod Changes
+pub mod Parts
+pub mod WorldsHold
+pub mod WorldLaws
+pub mod InlineCommand
+pub mod FittingWords
+pub mod SentRequests

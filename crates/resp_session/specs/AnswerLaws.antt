@@ -1,0 +1,43 @@
+-- What must be true of the definitions of commands and of a server's answers.
+use Rattle.std.specs.Prelude.{◌≡◌, ◌↔◌, ℕ, true, false, List, ◌∷◌, ◌++◌}
+use Rattle.std.specs.List.{concat}
+use Rattle.resp_value.specs.Bounds.{Bounds, AreBounds}
+use Rattle.resp_value.specs.Data.{Datum}
+use Rattle.resp_value.specs.Rules.{Rules}
+use Rattle.resp_value.specs.Spellings.{Cut}
+use Rattle.resp_value.specs.Words.{command_of}
+use Rattle.resp_session.specs.Answers.{SessionState, Answers, Ends, after_values, server_rules}
+use Rattle.resp_session.specs.Arrivals.{SpellEach, HasCome}
+use Rattle.resp_session.specs.Commands.{Call, meaning_of}
+
+-- a value is a command exactly where it is an array of the words as bulk strings
+abbrev pub ACommandIsItsWords : Type 0
+ACommandIsItsWords = (x : Datum) (name : List ℕ) (arguments : List (List ℕ)) →
+    (meaning_of x ≡ Call name arguments) ↔ (x ≡ command_of (name ∷ arguments))
+
+-- what is answered up to a rest, and then to the rest and more, is answered to the whole
+abbrev pub AnswersGoOn : Type 0
+AnswersGoOn = (limits : Bounds) (id : ℕ) (a b c : SessionState) (text more rest rest' : List ℕ) →
+    Answers limits id a text b rest → b.closing ≡ false → Answers limits id b (rest ++ more) c rest' →
+    Answers limits id a (text ++ more) c rest'
+
+-- a session that is closing answers nothing more
+abbrev pub AnswersEnd : Type 0
+AnswersEnd = (limits : Bounds) (id : ℕ) (a b : SessionState) (text more rest : List ℕ) →
+    Answers limits id a text b rest → b.closing ≡ true → Answers limits id a (text ++ more) b (rest ++ more)
+
+-- a text has one answer
+abbrev pub ATextHasOneAnswer : Type 0
+ATextHasOneAnswer = (limits : Bounds) (id : ℕ) (a b c : SessionState) (text rest rest' : List ℕ) →
+    Answers limits id a text b rest → Answers limits id a text c rest' → b ≡ c
+
+-- where a text has a cut, its answer is that of the cut's values and rest
+abbrev pub AnswersAreOfTheCut : Type 0
+AnswersAreOfTheCut = (limits : Bounds) (id : ℕ) (a b c : SessionState) (text rest rest' : List ℕ) (xs : List Datum) →
+    Cut (server_rules limits) text xs rest' → Ends (server_rules limits) rest' (after_values id a xs) c →
+    Answers limits id a text b rest → b ≡ c
+
+-- whatever has come of texts that were sent is so many of them, and a viable rest that begins no value
+abbrev pub WhatComesIsWholeTexts : Type 0
+WhatComesIsWholeTexts = (rules : Rules) (xs : List Datum) (texts : List (List ℕ)) (came more : List ℕ) →
+    AreBounds rules.limits → SpellEach rules xs texts → came ++ more ≡ concat texts → HasCome rules xs texts came

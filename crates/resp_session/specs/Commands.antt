@@ -1,0 +1,40 @@
+-- Which values are commands.
+use Rattle.std.specs.Prelude.{ℕ, List, [], ◌∷◌, Option, None, Some}
+use Rattle.resp_value.specs.Data.{Datum, Data, scalar, aggregate, none, more}
+use Rattle.resp_value.specs.Data as d
+
+-- what a value means to a server
+pub data Meaning : Type 0 where
+  -- a command: its name, and the words behind it
+  Call : List ℕ → List (List ℕ) → Meaning
+  -- an empty array or a null, which is passed over
+  Nothing : Meaning
+  -- no command
+  NoCommand : Meaning
+
+-- the content of a bulk string
+abbrev pub bulk_content : Datum → Option (List ℕ)
+bulk_content (scalar (d.Bulk s)) = Some s
+bulk_content _ = None
+
+-- a content and those behind it, where each is there
+abbrev pub contents_with : Option (List ℕ) → Option (List (List ℕ)) → Option (List (List ℕ))
+contents_with (Some content) (Some contents) = Some (content ∷ contents)
+contents_with _ _ = None
+
+-- the contents of members that are bulk strings alone
+abbrev pub bulk_contents : Data → Option (List (List ℕ))
+bulk_contents none = Some []
+bulk_contents (more x xs) = contents_with (bulk_content x) (bulk_contents xs)
+
+-- what an array means whose members are bulk strings of these contents, or not bulk strings alone
+abbrev pub array_meaning : Option (List (List ℕ)) → Meaning
+array_meaning None = NoCommand
+array_meaning (Some []) = Nothing
+array_meaning (Some (name ∷ arguments)) = Call name arguments
+
+-- an array of bulk strings alone is a command; an empty array and a null are passed over; nothing else is a command
+abbrev pub meaning_of : Datum → Meaning
+meaning_of (scalar d.Null) = Nothing
+meaning_of (aggregate d.Array xs) = array_meaning (bulk_contents xs)
+meaning_of _ = NoCommand

@@ -1,0 +1,76 @@
+-- Words of the worked examples.
+use Rattle.std.specs.Prelude.{ℕ, true, false, List, [], ◌∷◌, ◌++◌, Option, None, Some, map, fold, codes}
+use Rattle.resp_value.specs.Bounds.{Bounds, AreBounds}
+use Rattle.resp_value.specs.Data.{Datum}
+use Rattle.resp_value.specs.declared.version.Version.TheVariants.{Two, Three}
+use Rattle.resp_session.specs.Replies.{bulk}
+use Rattle.resp_session.specs.Answers.{SessionState, Answers, after_values}
+use Rattle.resp_session.specs.Connections.{Connection, shown_replies, shown_pushes}
+use Rattle.resp_session.specs.Worlds.{World, Send, Greet, ToServer, ToClient, Push, new_world, after_event, connection_at}
+
+-- a new session over an empty store
+abbrev pub new_session : SessionState
+new_session = record { store = []; version = Two; text = []; closing = false; count = 0 }
+
+-- what session 1 answers to these values
+abbrev pub answers_to : List Datum → List ℕ
+answers_to values = (after_values 1 new_session values).text
+
+-- what session 1 has answered where the first byte of all begins no value
+abbrev pub refused_at_once : SessionState
+refused_at_once = record new_session { text = codes "-ERR Protocol error: Syntax at byte 0\r\n"; closing = true }
+
+-- a command as a bare line of words is refused at its first byte
+abbrev pub AnInlineCommandIsRefused : Type 0
+AnInlineCommandIsRefused = (limits : Bounds) → AreBounds limits →
+    Answers limits 1 new_session (codes "PING\r\n") refused_at_once (codes "PING\r\n")
+
+-- what session 1 replies to HELLO in version 3
+abbrev pub hello_in_three : List ℕ
+hello_in_three = codes "%7\r\n$6\r\nserver\r\n$9\r\nresp_loop\r\n$7\r\nversion\r\n$5\r\n1.0.0\r\n$5\r\nproto\r\n:3\r\n"
+    ++
+    codes "$2\r\nid\r\n:1\r\n$4\r\nmode\r\n$10\r\nstandalone\r\n$4\r\nrole\r\n$6\r\nmaster\r\n$7\r\nmodules\r\n*0\r\n"
+
+-- what session 1 replies to HELLO in version 2
+abbrev pub hello_in_two : List ℕ
+hello_in_two = codes "*14\r\n$6\r\nserver\r\n$9\r\nresp_loop\r\n$7\r\nversion\r\n$5\r\n1.0.0\r\n$5\r\nproto\r\n:2\r\n"
+    ++
+    codes "$2\r\nid\r\n:1\r\n$4\r\nmode\r\n$10\r\nstandalone\r\n$4\r\nrole\r\n$6\r\nmaster\r\n$7\r\nmodules\r\n*0\r\n"
+
+-- the words of SET a 1
+abbrev pub set_a : List (List ℕ)
+set_a = codes "SET" ∷ codes "a" ∷ codes "1" ∷ []
+
+-- the words of GET a
+abbrev pub get_a : List (List ℕ)
+get_a = codes "GET" ∷ codes "a" ∷ []
+
+-- two clients, of which one asks to set a key and the other, whose command runs first, to read it
+abbrev pub get_before_set : World
+get_before_set = fold after_event (new_world 2) (Send 1 set_a ∷ Send 2 get_a ∷ ToServer 2 20 ∷ ToServer 1 27 ∷
+    ToServer 1 1000 ∷ ToClient 1 1000 ∷ ToServer 2 1000 ∷ ToClient 2 1000 ∷ [])
+
+-- one client that asks for version 3, and is sent a push behind the reply
+abbrev pub push_after_hello : World
+push_after_hello = fold after_event (new_world 1) (Greet 1 (Some Three) ∷ ToServer 1 1000 ∷ ToClient 1 148 ∷
+    Push 1 (bulk (codes "x") ∷ []) ∷ ToClient 1 10 ∷ ToClient 1 1 ∷ [])
+
+-- the clients of the commands, in the order in which these were run
+abbrev pub clients_of : World → List ℕ
+clients_of w = map (λ (c : ℕ × List (List ℕ)). c.0) w.order
+
+abbrev pub replies_on : Option Connection → List Datum
+replies_on None = []
+replies_on (Some c) = shown_replies c
+
+-- the replies that are shown to the client of this number
+abbrev pub replies_to : World → ℕ → List Datum
+replies_to w i = replies_on (connection_at w.connections i)
+
+abbrev pub pushes_on : Option Connection → List Datum
+pushes_on None = []
+pushes_on (Some c) = shown_pushes c
+
+-- the pushes that are shown to the client of this number
+abbrev pub pushes_to : World → ℕ → List Datum
+pushes_to w i = pushes_on (connection_at w.connections i)

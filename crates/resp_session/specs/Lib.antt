@@ -1,0 +1,17 @@
+pub mod Commands
+pub mod Operations
+pub mod Replies
+pub mod Stores
+pub mod Answers
+pub mod Heard
+pub mod Reading
+pub mod Requests
+pub mod Connections
+pub mod Worlds
+pub mod Runs
+pub mod Orders
+pub mod Arrivals
+pub mod AnswerLaws
+pub mod ReadingLaws
+pub mod WorldLaws
+pub mod Examples

@@ -1,0 +1,52 @@
+-- The values of replies.
+use Rattle.std.specs.Prelude.{ℕ, pos, List, [], ◌∷◌, Option, None, Some, codes}
+use Rattle.resp_value.specs.Data.{Datum, scalar, aggregate, none, data_of_list, in_turn}
+use Rattle.resp_value.specs.Data as d
+use Rattle.resp_value.specs.declared.version.Version.{Version}
+use Rattle.resp_value.specs.declared.version.Version.TheVariants.{Two, Three}
+
+-- a simple string
+abbrev pub simple : List ℕ → Datum
+simple text = scalar (d.Simple text)
+
+-- an error
+abbrev pub error : List ℕ → Datum
+error text = scalar (d.Error text)
+
+-- a bulk string
+abbrev pub bulk : List ℕ → Datum
+bulk content = scalar (d.Bulk content)
+
+-- an integer that is not below zero
+abbrev pub natural : ℕ → Datum
+natural n = scalar (d.Int (pos n))
+
+-- a null
+abbrev pub null : Datum
+null = scalar d.Null
+
+-- a bulk string where there is a value, and else a null
+abbrev pub bulk_or_null : Option (List ℕ) → Datum
+bulk_or_null None = null
+bulk_or_null (Some content) = bulk content
+
+-- the number by which HELLO names a version
+abbrev pub version_number : Version → ℕ
+version_number Two = 2
+version_number Three = 3
+
+-- what HELLO tells of the session with this number
+abbrev pub hello_pairs : Version → ℕ → List (Datum × Datum)
+hello_pairs version id =
+    (bulk (codes "server"), bulk (codes "resp_loop")) ∷
+    (bulk (codes "version"), bulk (codes "1.0.0")) ∷
+    (bulk (codes "proto"), natural (version_number version)) ∷
+    (bulk (codes "id"), natural id) ∷
+    (bulk (codes "mode"), bulk (codes "standalone")) ∷
+    (bulk (codes "role"), bulk (codes "master")) ∷
+    (bulk (codes "modules"), aggregate d.Array none) ∷ []
+
+-- a map in version 3, and an array of keys and values in turn in version 2
+abbrev pub hello_reply : Version → ℕ → Datum
+hello_reply Two id = aggregate d.Array (data_of_list (in_turn (hello_pairs Two id)))
+hello_reply Three id = aggregate d.Map (data_of_list (in_turn (hello_pairs Three id)))

@@ -1,0 +1,64 @@
+-- The store, and what a command does to it.
+use Rattle.std.specs.Prelude.{ℕ, ◌-◌, Bool, true, false, not, List, [], ◌∷◌, length, filter, Option, None, Some, if◌then◌else◌, unwrap_or, codes}
+use Rattle.std.specs.List.{list_any}
+use Rattle.std.specs.Map.{lookup}
+use Rattle.std.specs.Str.{bytes_eq}
+use Rattle.resp_value.specs.Data.{Datum}
+use Rattle.resp_value.specs.declared.version.Version.{Version}
+use Rattle.resp_session.specs.Operations.{Operation, Condition, Always, IfAbsent, IfPresent, Ping, Echo, Get, Set, Del, Hello, Refused, operation_of}
+use Rattle.resp_session.specs.Replies.{simple, error, bulk, natural, null, bulk_or_null, hello_reply}
+
+-- keys and their values, in the order in which the keys came
+abbrev pub Store : Type 0
+Store = List (List ℕ × List ℕ)
+
+-- the value of a key
+abbrev pub value_at : Store → List ℕ → Option (List ℕ)
+value_at store key = lookup (bytes_eq key) store
+
+-- a key that is there keeps its place, and a new one goes last
+abbrev pub store_with : Store → List ℕ → List ℕ → Store
+store_with [] key value = (key, value) ∷ []
+store_with (e ∷ es) key value = if bytes_eq key e.0 then (e.0, value) ∷ es else e ∷ store_with es key value
+
+-- the entries whose keys aren't among these
+abbrev pub store_without : Store → List (List ℕ) → Store
+store_without store keys = filter (λ e. not (list_any (bytes_eq e.0) keys)) store
+
+-- whether a SET on a key with this value sets
+abbrev pub is_met : Condition → Option (List ℕ) → Bool
+is_met Always value = true
+is_met IfAbsent None = true
+is_met IfAbsent (Some value) = false
+is_met IfPresent None = false
+is_met IfPresent (Some value) = true
+
+-- what a command leaves, and what is replied to it
+pub record Effect : Type 0 where
+  pub store : Store
+  -- the session's version
+  pub version : Version
+  pub reply : Datum
+
+-- what an operation does in a session of this version and number
+abbrev pub effect_of : Store → Version → ℕ → Operation → Effect
+effect_of store version id Ping = record { store = store; version = version; reply = simple (codes "PONG") }
+effect_of store version id (Echo word) = record { store = store; version = version; reply = bulk word }
+effect_of store version id (Get key) =
+    record { store = store; version = version; reply = bulk_or_null (value_at store key) }
+effect_of store version id (Set condition key value) =
+    if is_met condition (value_at store key) then
+    record { store = store_with store key value; version = version; reply = simple (codes "OK") } else
+    record { store = store; version = version; reply = null }
+effect_of store version id (Del keys) =
+    let left = store_without store keys in
+    record { store = left; version = version; reply = natural (length store - length left) }
+effect_of store version id (Hello asked) =
+    let next = unwrap_or asked version in
+    record { store = store; version = next; reply = hello_reply next id }
+effect_of store version id (Refused text) = record { store = store; version = version; reply = error text }
+
+-- what the words of a command do; without a word there is no command, and nothing is done
+abbrev pub effect_of_words : Store → Version → ℕ → List (List ℕ) → Effect
+effect_of_words store version id [] = record { store = store; version = version; reply = null }
+effect_of_words store version id (name ∷ arguments) = effect_of store version id (operation_of name arguments)

@@ -1,0 +1,62 @@
+-- What must be true of the definitions of worlds.
+use Rattle.std.specs.Prelude.{◌≡◌, ℕ, ◌<◌, ◌≤◌, List, ◌++◌, length, map, take, Some}
+use Rattle.std.specs.List.{AllByRecursion}
+use Rattle.resp_value.specs.Bounds.{Bounds, AreBounds}
+use Rattle.resp_value.specs.Data.{Datum}
+use Rattle.resp_value.specs.Words.{command_of}
+use Rattle.resp_session.specs.Answers.{server_rules}
+use Rattle.resp_session.specs.Arrivals.{HasCome}
+use Rattle.resp_session.specs.Heard.{replies_of, pushes_of}
+use Rattle.resp_session.specs.Requests.{Request, Command, HasBytes, request_words, request_text}
+use Rattle.resp_session.specs.Connections.{Connection, sent_text, values_of, shown_replies, shown_pushes}
+use Rattle.resp_session.specs.Worlds.{World, Event, Send, connection_at, new_world}
+use Rattle.resp_session.specs.Runs.{Run}
+use Rattle.resp_session.specs.Orders.{OneOrder, IsBeginning, part_of_client}
+
+-- whatever happens, one order of all commands gives the store, the versions and the replies, and each client's part of
+-- it is a beginning of what the client asked
+abbrev pub AWorldHasOneOrder : Type 0
+AWorldHasOneOrder = (limits : Bounds) (n : ℕ) (events : List Event) (w : World) → Run limits (new_world n) events w →
+    OneOrder n w
+
+-- a run of events and then of more is cut into a run of the events and one of more
+abbrev pub ARunIsCut : Type 0
+ARunIsCut = (limits : Bounds) (w v : World) (events more : List Event) → Run limits w (events ++ more) v →
+    (u : World) × Run limits w events u × Run limits u more v
+
+-- what was run stays first in the order, so that what is run later stands behind it
+abbrev pub TheOrderOnlyGrows : Type 0
+TheOrderOnlyGrows = (limits : Bounds) (w v : World) (events : List Event) → Run limits w events v →
+    IsBeginning w.order v.order
+
+-- a reply that is shown is of a command that was run: no more replies are shown than the client's commands in the order
+abbrev pub ShownRepliesAreOfTheOrder : Type 0
+ShownRepliesAreOfTheOrder = (limits : Bounds) (n : ℕ) (events : List Event) (w : World) →
+    Run limits (new_world n) events w → (i : ℕ) (c : Connection) → connection_at w.connections i ≡ Some c →
+    length (shown_replies c) ≤ length (part_of_client i w.order)
+
+-- what is shown to a client is a beginning of what its session has sent
+abbrev pub WhatIsShownWasSent : Type 0
+WhatIsShownWasSent = (c : Connection) → IsBeginning (shown_replies c) (replies_of (values_of c.messages)) ×
+    IsBeginning (shown_pushes c) (pushes_of (values_of c.messages))
+
+-- what a program can ask: words of bytes
+abbrev pub IsOfBytes : Event → Type 0
+IsOfBytes (Send i words) = HasBytes (Command words)
+IsOfBytes _ = Unit {0}
+
+-- the request has a word, so that what is sent for it is a command
+abbrev pub HasName : Request → Type 0
+HasName request = 0 < length (request_words request)
+
+-- each request of a connection as the value that is sent for it
+abbrev pub request_values : Connection → List Datum
+request_values c = map (λ (request : Request). command_of (request_words request)) c.requests
+
+-- what has come to a session is so many whole commands, and a viable rest that begins no value: so no session of a
+-- world answers a fault
+abbrev pub WhatArrivesIsCommands : Type 0
+WhatArrivesIsCommands = (limits : Bounds) (n : ℕ) (events : List Event) (w : World) → AreBounds limits →
+    AllByRecursion IsOfBytes events → Run limits (new_world n) events w → (i : ℕ) (c : Connection) →
+    connection_at w.connections i ≡ Some c → AllByRecursion HasName c.requests ×
+    HasCome (server_rules limits) (request_values c) (map request_text c.requests) (take c.arrived (sent_text c))

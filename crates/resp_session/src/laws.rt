@@ -1,0 +1,191 @@
+//! Laws of the definitions of sessions and worlds, each the contract of a function with an empty
+//! body.
+
+ghost use Rattle.std.specs.Prelude.{◌≡◌, [], ◌∷◌, ◌++◌, codes, length, true, false};
+ghost use Rattle.resp_value.specs.Words.{command_of};
+ghost use Rattle.resp_session.specs.Answers.{after_values};
+ghost use Rattle.resp_session.specs.AnswerLaws.{ACommandIsItsWords, AnswersGoOn, AnswersEnd, ATextHasOneAnswer, AnswersAreOfTheCut, WhatComesIsWholeTexts};
+ghost use Rattle.resp_session.specs.Examples.{new_session, answers_to, set_a, get_a, AnInlineCommandIsRefused, get_before_set, hello_in_two, hello_in_three, push_after_hello, clients_of, replies_to, pushes_to};
+ghost use Rattle.resp_session.specs.Heard.{is_push};
+ghost use Rattle.resp_session.specs.ReadingLaws.{ReadingsGoOn, ReadingsStay, ATextHasOneReading, HearingGoesOn};
+ghost use Rattle.resp_session.specs.Replies.{simple, bulk, natural, null};
+ghost use Rattle.resp_session.specs.WorldLaws.{AWorldHasOneOrder, ARunIsCut, TheOrderOnlyGrows, ShownRepliesAreOfTheOrder, WhatIsShownWasSent, WhatArrivesIsCommands};
+ghost use Rattle.resp_session.specs.Connections.{push_message};
+
+use resp_value::laws as grammar;
+
+/// A value is a command exactly where it is an array of the words, each as a bulk string.
+pub fn a_command_is_its_words()
+    ensures { ACommandIsItsWords }
+{}
+
+/// What is answered up to a rest, and then to the rest and more, is answered to the whole.
+pub fn answers_go_on()
+    ensures { AnswersGoOn }
+{}
+
+/// A session that is closing answers nothing more.
+pub fn answers_end()
+    ensures { AnswersEnd }
+{
+    grammar::fronts_of_spellings_are_viable();
+}
+
+/// A text has one answer, and where it has a cut, that is the answer to the cut's values and rest.
+pub fn a_text_has_one_answer()
+    ensures one_answer { ATextHasOneAnswer }
+    ensures of_the_cut { AnswersAreOfTheCut }
+{
+    grammar::no_spelling_begins_another();
+    grammar::fronts_of_viable_texts_are_viable();
+    grammar::a_viable_text_has_no_cause();
+    grammar::a_rest_has_one_fault();
+}
+
+/// Whatever has come of texts that were sent is so many of them, and a viable rest that begins no
+/// value.
+pub fn what_comes_is_whole_texts()
+    ensures { WhatComesIsWholeTexts }
+{
+    grammar::no_spelling_begins_another();
+    grammar::no_spelling_is_empty();
+    grammar::fronts_of_spellings_are_viable();
+    grammar::the_empty_text_is_viable();
+}
+
+/// What is read, and then more from there on, is read whole.
+pub fn readings_go_on()
+    ensures { ReadingsGoOn }
+{}
+
+/// What was read stays so, whatever is asked behind it. So the version in which a value is read is
+/// fixed, also in the middle of a pipeline.
+pub fn readings_stay()
+    ensures { ReadingsStay }
+{
+    grammar::a_push_begins_with_its_byte();
+    grammar::fronts_of_spellings_are_viable();
+    grammar::later_type_bytes_want_version_three();
+}
+
+/// A text is read into values and a rest in one way.
+pub fn a_text_has_one_reading()
+    ensures { ATextHasOneReading }
+{
+    grammar::no_spelling_begins_another();
+}
+
+/// The replies among values, and then among more, are numbered on; pushes are apart from them.
+pub fn hearing_goes_on()
+    ensures { HearingGoesOn }
+{}
+
+/// Whatever happens, one order of all commands gives the store, the versions and the replies, and
+/// each client's part of it is a beginning of what the client asked.
+pub fn a_world_has_one_order()
+    ensures { AWorldHasOneOrder }
+{}
+
+/// What was run stays first in the order, and a reply that is shown is of a command that was run.
+/// So a command that is sent behind a shown reply stands behind that reply's command.
+pub fn the_order_goes_on()
+    ensures cut_anywhere { ARunIsCut }
+    ensures only_grows { TheOrderOnlyGrows }
+    ensures holds_what_is_shown { ShownRepliesAreOfTheOrder }
+{}
+
+/// What is shown to a client is a beginning of what its session has sent, replies and pushes apart.
+pub fn what_is_shown_was_sent()
+    ensures { WhatIsShownWasSent }
+{}
+
+/// What has come to a session of a world is so many whole commands, and a viable rest that begins
+/// no value. So no session of a world answers a fault.
+pub fn what_arrives_is_commands()
+    ensures { WhatArrivesIsCommands }
+{
+    what_comes_is_whole_texts();
+    grammar::canonical_text_spells_what_fits();
+}
+
+/// What a new session of number 1 answers to commands and to values that are none.
+pub fn commands_and_their_replies()
+    // Empty arrays and nulls are passed over.
+    ensures nothing_is_asked { answers_to (command_of [] ∷ null ∷ []) ≡ [] }
+    // A key that is named twice is removed once.
+    ensures set_del_get { answers_to (command_of set_a ∷
+        command_of (codes "DEL" ∷ codes "a" ∷ codes "a" ∷ []) ∷ command_of get_a ∷ [])
+        ≡ codes "+OK\r\n:1\r\n$-1\r\n" }
+    ensures get_alone { answers_to (command_of (codes "GET" ∷ []) ∷ [])
+        ≡ codes "-ERR wrong number of arguments for 'get' command\r\n" }
+    ensures unknown { answers_to (command_of (codes "INCR" ∷ codes "a" ∷ []) ∷ [])
+        ≡ codes "-ERR unknown command\r\n" }
+    ensures echoes { answers_to (command_of (codes "ECHO" ∷ codes "a" ∷ []) ∷
+        command_of (codes "ping" ∷ codes "b" ∷ []) ∷ []) ≡ codes "$1\r\na\r\n$1\r\nb\r\n" }
+    // What is no command closes the session, and what stands behind it is not answered.
+    ensures no_command { answers_to (natural 1 ∷ command_of (codes "PING" ∷ []) ∷ [])
+        ≡ codes "-ERR Protocol error: NotCommand at byte 0\r\n" }
+    ensures closes { (after_values 1 new_session (natural 1 ∷ [])).closing ≡ true }
+{}
+
+/// What a new session answers to a command as a bare line of words.
+pub fn an_inline_command_is_refused()
+    ensures { AnInlineCommandIsRefused }
+{
+    grammar::no_spelling_is_empty();
+    grammar::fronts_of_spellings_are_viable();
+    grammar::the_empty_text_is_viable();
+    grammar::no_other_byte_begins_a_tree();
+}
+
+/// What a new session of number 1 answers to HELLO.
+pub fn greetings_and_their_replies()
+    // A map in version 3, and an array in version 2.
+    ensures hello_three { answers_to (command_of (codes "HELLO" ∷ codes "3" ∷ []) ∷
+        command_of (codes "PING" ∷ []) ∷ []) ≡ hello_in_three ++ codes "+PONG\r\n" }
+    ensures hello_two { answers_to (command_of (codes "hello" ∷ codes "2" ∷ []) ∷ []) ≡
+        hello_in_two }
+    ensures length_in_three { length hello_in_three ≡ 148 }
+    ensures length_in_two { length hello_in_two ≡ 149 }
+    // Without a version nothing changes, and with another one it is refused.
+    ensures hello_alone { answers_to (command_of (codes "HELLO" ∷ []) ∷ command_of get_a ∷ []) ≡
+        hello_in_two ++ codes "$-1\r\n" }
+    ensures hello_four { answers_to (command_of (codes "HELLO" ∷ codes "4" ∷ []) ∷
+        command_of get_a ∷ []) ≡ codes "-NOPROTO unsupported protocol version\r\n$-1\r\n" }
+    ensures hello_option { answers_to
+        (command_of (codes "hello" ∷ codes "3" ∷ codes "x" ∷ []) ∷ [])
+        ≡ codes "-ERR syntax error\r\n" }
+    // A null is written in the version that HELLO brought.
+    ensures null_in_three { answers_to (command_of (codes "HELLO" ∷ codes "3" ∷ []) ∷
+        command_of get_a ∷ []) ≡ hello_in_three ++ codes "_\r\n" }
+{}
+
+/// What a new session answers to SET with a condition.
+pub fn conditions_and_their_replies()
+    ensures conditions { answers_to (
+        command_of (codes "SET" ∷ codes "a" ∷ codes "1" ∷ codes "NX" ∷ []) ∷
+        command_of (codes "SET" ∷ codes "a" ∷ codes "2" ∷ codes "nx" ∷ []) ∷
+        command_of get_a ∷
+        command_of (codes "SET" ∷ codes "b" ∷ codes "1" ∷ codes "XX" ∷ []) ∷
+        command_of (codes "SET" ∷ codes "a" ∷ codes "3" ∷ codes "XX" ∷ []) ∷
+        command_of get_a ∷ []) ≡ codes "+OK\r\n$-1\r\n$1\r\n1\r\n$-1\r\n+OK\r\n$1\r\n3\r\n" }
+    ensures another_option { answers_to
+        (command_of (codes "SET" ∷ codes "a" ∷ codes "1" ∷ codes "EX" ∷ []) ∷ [])
+        ≡ codes "-ERR syntax error\r\n" }
+    // A key that is there keeps its place.
+    ensures order_of_keys { (after_values 1 new_session (command_of set_a ∷
+        command_of (codes "SET" ∷ codes "b" ∷ codes "2" ∷ []) ∷
+        command_of (codes "SET" ∷ codes "a" ∷ codes "3" ∷ []) ∷ [])).store
+        ≡ (codes "a", codes "3") ∷ (codes "b", codes "2") ∷ [] }
+{}
+
+/// Events, and what a world shows behind them.
+pub fn events_and_what_they_show()
+    ensures order { clients_of get_before_set ≡ 2 ∷ 1 ∷ [] }
+    ensures to_the_first { replies_to get_before_set 1 ≡ simple (codes "OK") ∷ [] }
+    ensures to_the_second { replies_to get_before_set 2 ≡ null ∷ [] }
+    ensures store { get_before_set.store ≡ (codes "a", codes "1") ∷ [] }
+    ensures greeting { length (replies_to push_after_hello 1) ≡ 1 }
+    ensures push { pushes_to push_after_hello 1 ≡ (push_message (bulk (codes "x") ∷ [])).value ∷
+        [] }
+{}

@@ -1,0 +1,4 @@
+//! What commands, replies, sessions and worlds mean: definitions, and their laws.
+#![tactic(auto)]
+
+pub mod laws;

@@ -1,0 +1,19 @@
+-- A value and the attributes that stand before it.
+use Rattle.resp_value.specs.Data.{Datum, Data, scalar, aggregate, none, more, Array, Set, Map, Attr, Push}
+use Rattle.resp_value.specs.Data as d
+
+abbrev mutual
+  -- the value that is left once the attributes before it are taken away
+  pub without_attributes : Datum → Datum
+  without_attributes (scalar s) = scalar s
+  without_attributes (aggregate Array xs) = aggregate Array xs
+  without_attributes (aggregate Set xs) = aggregate Set xs
+  without_attributes (aggregate Map xs) = aggregate Map xs
+  without_attributes (aggregate Attr xs) = annotated_value xs
+  without_attributes (aggregate Push xs) = aggregate Push xs
+
+  -- the value that an attribute with these members annotates, which stands last, without attributes of its own
+  pub annotated_value : Data → Datum
+  annotated_value none = scalar d.Null
+  annotated_value (more x none) = without_attributes x
+  annotated_value (more x (more y ys)) = annotated_value (more y ys)
