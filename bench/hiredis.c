@@ -1,8 +1,8 @@
 /* How long the reader of hiredis takes the texts of bench_scan, by object functions that build nothing.
  *
- * It prints the lines of bench_scan, of the same texts in the same pieces: with no argument of short texts, read once,
- * and with the argument `times` of longer ones, 32 MiB in all for each, with microseconds. Where the counts differ,
- * the two didn't read the same. */
+ * It prints the lines of bench_scan, of the same texts in the same pieces: with no argument of short texts, and with the
+ * argument `times` of longer ones, 32 MiB in all for each, with microseconds, or with `once` of these read a single
+ * time. Where the counts differ, the two didn't read the same. */
 
 #include <hiredis/hiredis.h>
 #include <stdio.h>
@@ -108,30 +108,30 @@ __attribute__((noinline)) static void read_text(redisReader *reader, const char 
 	}
 }
 
-/* Reads the text in pieces of so many bytes, and prints what it counted. */
-static void count(const char *name, const char *text, size_t length, size_t size, int timed)
+/* Reads the text in pieces of so many bytes, so often, and prints what it counted. */
+static void count(const char *name, const char *text, size_t length, size_t size, int rounds)
 {
 	redisReader *reader = redisReaderCreateWithFunctions(&functions);
 	if (reader == NULL)
 		stop("no memory");
 	memset(&tally, 0, sizeof tally);
 	clock_t start = clock();
-	for (int round = 0; round < (timed ? ROUNDS : 1); round++)
+	for (int round = 0; round < (rounds > 0 ? rounds : 1); round++)
 		read_text(reader, text, length, size);
 	clock_t end = clock();
 	redisReaderFree(reader);
 	printf("%s by %zu: %llu replies, %llu values, %llu bytes, sum %lld;", name, size, tally.replies, tally.values,
 	       tally.content, tally.sum);
-	if (timed)
+	if (rounds > 0)
 		printf(" %lld us", (long long)(end - start) * 1000000 / CLOCKS_PER_SEC);
 	printf("\n");
 }
 
 /* Reads a text that is this one over and over, in pieces of each size. */
-static void run(const char *name, const char *unit, size_t length, int timed)
+static void run(const char *name, const char *unit, size_t length, int rounds)
 {
 	static const size_t sizes[] = {1, 7, 1000, 4096, 16384};
-	size_t least = timed ? LONG_TEXT : SHORT_TEXT;
+	size_t least = rounds > 0 ? LONG_TEXT : SHORT_TEXT;
 	char *all = malloc(least + length);
 	size_t filled = 0;
 	if (all == NULL)
@@ -140,42 +140,46 @@ static void run(const char *name, const char *unit, size_t length, int timed)
 		memcpy(all + filled, unit, length);
 		filled += length;
 	}
-	for (size_t i = timed ? 3 : 0; i < 5; i++)
-		count(name, all, filled, sizes[i], timed);
+	for (size_t i = rounds > 0 ? 3 : 0; i < 5; i++)
+		count(name, all, filled, sizes[i], rounds);
 	free(all);
 }
 
 /* Reads texts of so many bytes of content behind this head. */
-static void run_filled(const char *name, const char *head, size_t length, int timed)
+static void run_filled(const char *name, const char *head, size_t length, int rounds)
 {
 	static char unit[UNIT_ROOM];
 	size_t used = strlen(head);
 	memcpy(unit, head, used);
 	memset(unit + used, 'x', length);
 	memcpy(unit + used + length, "\r\n", 2);
-	run(name, unit, used + length + 2, timed);
+	run(name, unit, used + length + 2, rounds);
 }
 
 /* Reads texts of so many equal members behind this head. */
-static void run_members(const char *name, const char *head, const char *member, int members, int timed)
+static void run_members(const char *name, const char *head, const char *member, int members, int rounds)
 {
 	static char unit[UNIT_ROOM];
 	strcpy(unit, head);
 	for (int i = 0; i < members; i++)
 		strcat(unit, member);
-	run(name, unit, strlen(unit), timed);
+	run(name, unit, strlen(unit), rounds);
 }
 
 int main(int argc, char **argv)
 {
-	int timed = argc > 1 && strcmp(argv[1], "times") == 0;
-	run("simple OK", "+OK\r\n", 5, timed);
-	run("integers", ":123456\r\n", 9, timed);
-	run_filled("80-byte lines", "+", 80, timed);
-	run_filled("16-byte bulks", "$16\r\n", 16, timed);
-	run_filled("1 KiB bulks", "$1024\r\n", 1024, timed);
-	run_filled("64 KiB bulks", "$65536\r\n", 65536, timed);
-	run_members("arrays of three bulks", "*3\r\n", "$3\r\nxxx\r\n", 3, timed);
-	run_members("maps of ten pairs", MAP_HEAD, "$8\r\nxxxxxxxx\r\n:7\r\n", 10, timed);
+	int rounds = 0;
+	if (argc > 1 && strcmp(argv[1], "times") == 0)
+		rounds = ROUNDS;
+	if (argc > 1 && strcmp(argv[1], "once") == 0)
+		rounds = 1;
+	run("simple OK", "+OK\r\n", 5, rounds);
+	run("integers", ":123456\r\n", 9, rounds);
+	run_filled("80-byte lines", "+", 80, rounds);
+	run_filled("16-byte bulks", "$16\r\n", 16, rounds);
+	run_filled("1 KiB bulks", "$1024\r\n", 1024, rounds);
+	run_filled("64 KiB bulks", "$65536\r\n", 65536, rounds);
+	run_members("arrays of three bulks", "*3\r\n", "$3\r\nxxx\r\n", 3, rounds);
+	run_members("maps of ten pairs", MAP_HEAD, "$8\r\nxxxxxxxx\r\n:7\r\n", 10, rounds);
 	return 0;
 }

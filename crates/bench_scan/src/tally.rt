@@ -1,7 +1,16 @@
 //! What is counted of a text. Only the number of parts depends on how it is cut into pieces.
 
-use resp_scan::event::{Event, Fault};
+use resp_scan::event::{Event, Fault, ScanError, TextKind};
+use resp_scan::listener::Listener;
 use resp_scan::scanner::Scanner;
+use resp_value::kind::OpenKind;
+
+/// By which call a text is scanned.
+#[derive(Clone, Copy)]
+pub(crate) enum Call {
+    Step,
+    Scan,
+}
 
 #[derive(Drop)]
 pub(crate) struct Tally {
@@ -40,41 +49,115 @@ impl Tally {
     }
 
     #[inline(always)]
+    fn add_value(&mut self) {
+        self.values = self.values.wrapping_add(1);
+    }
+
+    #[inline(always)]
+    fn add_int(&mut self, number: i64) {
+        self.add_value();
+        self.sum = self.sum.wrapping_add(number);
+    }
+
+    #[inline(always)]
+    fn add_part(&mut self, part: &[u8]) {
+        self.parts = self.parts.wrapping_add(1);
+        self.content = self.content.wrapping_add(part.len() as u64);
+    }
+
+    #[inline(always)]
+    fn add_end(&mut self) {
+        self.ends = self.ends.wrapping_add(1);
+    }
+
+    #[inline(always)]
+    fn add_reply(&mut self) {
+        self.replies = self.replies.wrapping_add(1);
+    }
+
+    #[inline(always)]
     fn add(&mut self, event: &Event<'_>) {
         match event {
-            Event::Null | Event::Bool(_) | Event::Text(_) | Event::Open(_, _) => {
-                self.values = self.values.wrapping_add(1);
-            }
-            Event::Int(number) => {
-                self.values = self.values.wrapping_add(1);
-                self.sum = self.sum.wrapping_add(*number);
-            }
-            Event::Part(part) => {
-                self.parts = self.parts.wrapping_add(1);
-                self.content = self.content.wrapping_add(part.len() as u64);
-            }
-            Event::TextEnd | Event::Close => self.ends = self.ends.wrapping_add(1),
-            Event::Done => self.replies = self.replies.wrapping_add(1),
+            Event::Null | Event::Bool(_) | Event::Text(_) | Event::Open(_, _) => self.add_value(),
+            Event::Int(number) => self.add_int(*number),
+            Event::Part(part) => self.add_part(part),
+            Event::TextEnd | Event::Close => self.add_end(),
+            Event::Done => self.add_reply(),
         }
     }
 }
 
-/// Scans the text in pieces of so many bytes.
+/// It never stops.
+impl Listener for Tally {
+    ghost has_heard = { λ _ _. Unit {0} };
+
+    ghost may_stop = { λ _. Unit {0} };
+
+    #[inline(always)]
+    fn null(&mut self) -> bool {
+        self.add_value();
+        true
+    }
+
+    #[inline(always)]
+    fn truth(&mut self, _truth: bool) -> bool {
+        self.add_value();
+        true
+    }
+
+    #[inline(always)]
+    fn int(&mut self, number: i64) -> bool {
+        self.add_int(number);
+        true
+    }
+
+    #[inline(always)]
+    fn text(&mut self, _kind: TextKind) -> bool {
+        self.add_value();
+        true
+    }
+
+    #[inline(always)]
+    fn part(&mut self, part: &[u8]) -> bool {
+        self.add_part(part);
+        true
+    }
+
+    #[inline(always)]
+    fn text_end(&mut self) -> bool {
+        self.add_end();
+        true
+    }
+
+    #[inline(always)]
+    fn open(&mut self, _kind: OpenKind, _count: Option<u64>) -> bool {
+        self.add_value();
+        true
+    }
+
+    #[inline(always)]
+    fn close(&mut self) -> bool {
+        self.add_end();
+        true
+    }
+}
+
+/// Scans the text in pieces of so many bytes, by steps.
 #[inline(never)]
-pub(crate) fn scan_text(
+pub(crate) fn step_text(
     scanner: &mut Scanner,
     text: &[u8],
     size: usize,
     tally: &mut Tally,
 ) -> Result<(), Fault> {
     for piece in text.chunks(size.max(1)) {
-        scan_piece(scanner, piece, tally)?;
+        step_piece(scanner, piece, tally)?;
     }
     Ok(())
 }
 
 #[inline(always)]
-fn scan_piece(scanner: &mut Scanner, piece: &[u8], tally: &mut Tally) -> Result<(), Fault> {
+fn step_piece(scanner: &mut Scanner, piece: &[u8], tally: &mut Tally) -> Result<(), Fault> {
     let mut rest = piece;
     for _ in 0..u64::MAX {
         let step = scanner.step(rest)?;
@@ -83,6 +166,34 @@ fn scan_piece(scanner: &mut Scanner, piece: &[u8], tally: &mut Tally) -> Result<
             Some(event) => tally.add(event),
             None => break,
         }
+    }
+    Ok(())
+}
+
+/// Scans the text in pieces of so many bytes, by the loop.
+#[inline(never)]
+pub(crate) fn scan_text(
+    scanner: &mut Scanner,
+    text: &[u8],
+    size: usize,
+    tally: &mut Tally,
+) -> Result<(), ScanError> {
+    for piece in text.chunks(size.max(1)) {
+        scan_piece(scanner, piece, tally)?;
+    }
+    Ok(())
+}
+
+#[inline(always)]
+fn scan_piece(scanner: &mut Scanner, piece: &[u8], tally: &mut Tally) -> Result<(), ScanError> {
+    let mut rest = piece;
+    for _ in 0..u64::MAX {
+        let scanned = scanner.scan(rest, tally)?;
+        rest = &rest[scanned.used..];
+        if !scanned.is_whole {
+            break;
+        }
+        tally.add_reply();
     }
     Ok(())
 }

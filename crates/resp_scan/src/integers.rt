@@ -59,6 +59,7 @@ impl Machine {
             scan from (at (place_of self.old) (InInt negative first)) (drop from piece.now) }
     {
         let mut magnitude = first;
+        let room = self.total_room();
         let last = if negative { 8 } else { 7 };
         for i in from..piece.len() {
             let byte = piece[i];
@@ -74,7 +75,7 @@ impl Machine {
             {
                 return self.fail(i, Cause::Range);
             }
-            if !self.has_total_room(i + 1, 2) {
+            if (i + 1) as u64 + 2 > room {
                 return self.fail(i, Cause::Total);
             }
             magnitude = magnitude * 10 + digit;

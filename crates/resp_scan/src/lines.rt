@@ -65,7 +65,8 @@ pub fn line_run(s: &[u8]) -> usize
 {
     let near = s.len().min(16);
     for i in 0..near {
-        if s[i] == b'\r' || s[i] == b'\n' {
+        let byte = s[i];
+        if byte <= b'\r' && (byte == b'\r' || byte == b'\n') {
             return i;
         }
     }

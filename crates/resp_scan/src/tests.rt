@@ -1,12 +1,14 @@
 //! What the scanner says of whole inputs, however they are cut. Wanted values are worked out by
 //! hand from the table of spellings.
 
+mod heard;
 mod lifetimes;
 mod limits;
 mod needed;
 
-use crate::event::{Busy, Event, Fault, TextKind};
+use crate::event::{Busy, Event, Fault, ScanError, TextKind};
 use crate::scanner::Scanner;
+use heard::{Heard, feed_by_scan};
 use resp_value::cause::Cause;
 use resp_value::kind::OpenKind;
 use resp_value::limits::Limits;
@@ -29,6 +31,15 @@ enum Cut {
     /// Behind each byte, where an empty piece comes too.
     Everywhere,
 }
+
+/// By which call the pieces are read.
+#[derive(Clone, Copy, Debug)]
+enum Call {
+    Step,
+    Scan,
+}
+
+const BOTH: [Call; 2] = [Call::Step, Call::Scan];
 
 fn add(out: &mut Vec<u8>, text: &[u8]) -> Result<(), AllocError> {
     out.extend_from_slice(text)
@@ -105,97 +116,131 @@ fn add_fault(alloc: Global, out: &mut Vec<u8>, fault: Fault) -> Result<(), Alloc
     add_number(alloc, out, fault.at)
 }
 
-/// Gives the scanner a piece, and adds what it says. Whether it goes on.
-fn feed(
+/// Whether every later call that reads answers this fault and tells nothing.
+fn is_answered_for_good(alloc: Global, scanner: &mut Scanner, piece: &[u8], fault: Fault) -> bool {
+    let mut heard = Heard::new(alloc);
+    let stepped = scanner.step(piece).err();
+    let scanned = scanner.scan(piece, &mut heard).err();
+    stepped == Some(fault)
+        && scanned == Some(ScanError::Fault(fault))
+        && heard.out.is_empty()
+        && scanner.finish() == Err(fault)
+        && scanner.set_version(Version::Three) == Err(Busy)
+}
+
+/// Adds a fault, which is answered for good.
+fn add_refusal(
     alloc: Global,
     out: &mut Vec<u8>,
+    scanner: &mut Scanner,
+    piece: &[u8],
+    fault: Fault,
+) -> Result<(), AllocError> {
+    add(out, b"!")?;
+    add_fault(alloc, out, fault)?;
+    if !is_answered_for_good(alloc, scanner, piece, fault) {
+        add(out, b"FORGOTTEN")?;
+    }
+    Ok(())
+}
+
+/// Gives the scanner a piece by calls of `step`, and adds what it says. Whether it goes on.
+fn feed_by_steps(
+    heard: &mut Heard,
     scanner: &mut Scanner,
     piece: &[u8],
 ) -> Result<bool, AllocError> {
     let mut from = 0;
     for _ in 0..100_000 {
         if from > piece.len() {
-            add(out, b"PAST")?;
+            add(&mut heard.out, b"PAST")?;
             return Ok(false);
         }
         let step = match scanner.step(&piece[from..]) {
             Ok(step) => step,
             Err(fault) => {
-                add(out, b"!")?;
-                add_fault(alloc, out, fault)?;
-                if scanner.finish() != Err(fault) {
-                    add(out, b"FORGOTTEN")?;
-                }
-                match scanner.step(piece) {
-                    Ok(_) => add(out, b"FORGOTTEN")?,
-                    Err(again) => {
-                        if again != fault {
-                            add(out, b"FORGOTTEN")?;
-                        }
-                    }
-                }
+                add_refusal(heard.alloc, &mut heard.out, scanner, piece, fault)?;
                 return Ok(false);
             }
         };
         from = from.saturating_add(step.used);
         match step.event {
-            Some(event) => add_event(alloc, out, event)?,
+            Some(event) => add_event(heard.alloc, &mut heard.out, event)?,
             None => {
                 if from != piece.len() {
-                    add(out, b"LEFT")?;
+                    add(&mut heard.out, b"LEFT")?;
                 }
                 return Ok(true);
             }
         }
     }
-    add(out, b"ENDLESS")?;
+    add(&mut heard.out, b"ENDLESS")?;
     Ok(false)
+}
+
+/// Gives the scanner a piece, and adds what it says. Whether it goes on.
+fn feed(
+    call: Call,
+    heard: &mut Heard,
+    scanner: &mut Scanner,
+    piece: &[u8],
+) -> Result<bool, AllocError> {
+    match call {
+        Call::Step => feed_by_steps(heard, scanner, piece),
+        Call::Scan => feed_by_scan(heard, scanner, piece),
+    }
+}
+
+/// Adds whether the input may end here, the bytes taken, the bytes needed and the depth.
+fn add_end(alloc: Global, out: &mut Vec<u8>, scanner: &Scanner) -> Result<(), AllocError> {
+    match scanner.finish() {
+        Ok(()) => add(out, b" ends")?,
+        Err(fault) => {
+            add(out, b" ")?;
+            add_fault(alloc, out, fault)?;
+        }
+    }
+    add(out, b" taken ")?;
+    add_number(alloc, out, scanner.taken())?;
+    add(out, b" needed ")?;
+    add_number(alloc, out, scanner.needed())?;
+    add(out, b" depth ")?;
+    add_number(alloc, out, scanner.depth() as u64)
 }
 
 /// What a scanner says of an input that is cut so: its events, and then the fault, or whether it
 /// may end here, the bytes taken, the bytes needed and the depth.
 fn said(
     alloc: Global,
+    call: Call,
     version: Version,
     limits: &Limits,
     input: &[u8],
     cut: Cut,
 ) -> Result<Vec<u8>, AllocError> {
-    let mut out = Vec::new(alloc);
+    let mut heard = Heard::new(alloc);
     let mut scanner = Scanner::new(version, limits);
     let goes_on = match cut {
         Cut::At(place) => {
             let place = place.min(input.len());
-            feed(alloc, &mut out, &mut scanner, &input[..place])?
-                && feed(alloc, &mut out, &mut scanner, &input[place..])?
+            feed(call, &mut heard, &mut scanner, &input[..place])?
+                && feed(call, &mut heard, &mut scanner, &input[place..])?
         }
         Cut::Everywhere => {
             let mut goes_on = true;
             for i in 0..input.len() {
                 if goes_on {
-                    goes_on = feed(alloc, &mut out, &mut scanner, &input[i..i + 1])?
-                        && feed(alloc, &mut out, &mut scanner, b"")?;
+                    goes_on = feed(call, &mut heard, &mut scanner, &input[i..i + 1])?
+                        && feed(call, &mut heard, &mut scanner, b"")?;
                 }
             }
             goes_on
         }
     };
     if goes_on {
-        match scanner.finish() {
-            Ok(()) => add(&mut out, b" ends")?,
-            Err(fault) => {
-                add(&mut out, b" ")?;
-                add_fault(alloc, &mut out, fault)?;
-            }
-        }
-        add(&mut out, b" taken ")?;
-        add_number(alloc, &mut out, scanner.taken())?;
-        add(&mut out, b" needed ")?;
-        add_number(alloc, &mut out, scanner.needed())?;
-        add(&mut out, b" depth ")?;
-        add_number(alloc, &mut out, scanner.depth() as u64)?;
+        add_end(alloc, &mut heard.out, &scanner)?;
     }
-    Ok(out)
+    Ok(heard.out)
 }
 
 fn joined(alloc: Global, runs: &[Run]) -> Result<Vec<u8>, AllocError> {
@@ -225,7 +270,8 @@ fn unfolded(alloc: Global, wanted: &str) -> Result<Vec<u8>, Fail> {
     Ok(out)
 }
 
-/// Every row, whole, at each cut in two, and byte by byte with an empty piece behind each byte.
+/// Every row by both calls, at each cut in two, and byte by byte with an empty piece behind each
+/// byte.
 fn run(
     rt: &impl Abort,
     alloc: Global,
@@ -236,11 +282,21 @@ fn run(
     for (runs, text) in rows {
         let input = joined(alloc, runs)?;
         let wanted = unfolded(alloc, text)?;
-        let whole = said(alloc, version, limits, &input, Cut::Everywhere)?;
-        assert_eq!(rt; whole.as_slice(), wanted.as_slice(), "byte by byte: {text}");
-        for place in 0..input.len() + 1 {
-            let cut = said(alloc, version, limits, &input, Cut::At(place))?;
-            assert_eq!(rt; cut.as_slice(), wanted.as_slice(), "cut at {place}: {text}");
+        for call in BOTH {
+            let whole = said(alloc, call, version, limits, &input, Cut::Everywhere)?;
+            assert_eq!(rt;
+                whole.as_slice(),
+                wanted.as_slice(),
+                "{call:?} byte by byte: {text}"
+            );
+            for place in 0..input.len() + 1 {
+                let cut = said(alloc, call, version, limits, &input, Cut::At(place))?;
+                assert_eq!(rt;
+                    cut.as_slice(),
+                    wanted.as_slice(),
+                    "{call:?}, cut at {place}: {text}"
+                );
+            }
         }
     }
     Ok(())
@@ -561,13 +617,15 @@ const LEAST_COMPLETIONS: &[(&[u8], u64)] = &[
 #[test]
 fn least_completions(rt: HostRuntime) -> Result<(), Fail> {
     let limits = Limits::standard();
-    for (front, needed) in LEAST_COMPLETIONS {
-        let mut out = Vec::new(rt.alloc());
-        let mut scanner = Scanner::new(Version::Three, &limits);
-        for i in 0..front.len() {
-            let _ = feed(rt.alloc(), &mut out, &mut scanner, &front[i..i + 1])?;
+    for call in BOTH {
+        for (front, needed) in LEAST_COMPLETIONS {
+            let mut heard = Heard::new(rt.alloc());
+            let mut scanner = Scanner::new(Version::Three, &limits);
+            for i in 0..front.len() {
+                let _ = feed(call, &mut heard, &mut scanner, &front[i..i + 1])?;
+            }
+            assert_eq!(rt; scanner.needed(), *needed, "{call:?} after {front:?}");
         }
-        assert_eq!(rt; scanner.needed(), *needed, "after {front:?}");
     }
     Ok(())
 }
@@ -589,18 +647,20 @@ const WHOLE_VALUES: &[&[u8]] = &[
 #[test]
 fn truncations_are_truncated(rt: HostRuntime) -> Result<(), Fail> {
     let limits = Limits::standard();
-    for row in WHOLE_VALUES {
-        for size in 1..row.len() {
-            let mut out = Vec::new(rt.alloc());
-            let mut scanner = Scanner::new(Version::Three, &limits);
-            assert!(rt; feed(rt.alloc(), &mut out, &mut scanner, &row[..size])?);
-            let wanted = Fault {
-                cause: Cause::Truncated,
-                at: size as u64,
-            };
-            assert_eq!(rt; scanner.finish(), Err(wanted), "{size} bytes of {row:?}");
-            assert_eq!(rt; scanner.taken(), size as u64);
-            assert_eq!(rt; scanner.set_version(Version::Two), Err(Busy));
+    for call in BOTH {
+        for row in WHOLE_VALUES {
+            for size in 1..row.len() {
+                let mut heard = Heard::new(rt.alloc());
+                let mut scanner = Scanner::new(Version::Three, &limits);
+                assert!(rt; feed(call, &mut heard, &mut scanner, &row[..size])?);
+                let wanted = Fault {
+                    cause: Cause::Truncated,
+                    at: size as u64,
+                };
+                assert_eq!(rt; scanner.finish(), Err(wanted), "{size} bytes of {row:?}");
+                assert_eq!(rt; scanner.taken(), size as u64);
+                assert_eq!(rt; scanner.set_version(Version::Two), Err(Busy));
+            }
         }
     }
     Ok(())
@@ -608,17 +668,19 @@ fn truncations_are_truncated(rt: HostRuntime) -> Result<(), Fail> {
 
 #[test]
 fn versions_change_between_values(rt: HostRuntime) -> Result<(), Fail> {
-    let mut out = Vec::new(rt.alloc());
-    let mut scanner = Scanner::new(Version::Two, &Limits::standard());
-    assert_eq!(rt; scanner.set_version(Version::Three), Ok(()));
-    let step = scanner.step(b"_\r\n").ok().ok_or("refused")?;
-    assert_eq!(rt; step.used, 3);
-    assert_eq!(rt; scanner.finish(), Ok(()));
-    assert_eq!(rt; scanner.needed(), 0);
-    assert_eq!(rt; scanner.set_version(Version::Two), Err(Busy));
-    assert!(rt; feed(rt.alloc(), &mut out, &mut scanner, b"")?);
-    assert_eq!(rt; scanner.set_version(Version::Two), Ok(()));
-    assert!(rt; !feed(rt.alloc(), &mut out, &mut scanner, b"_")?);
-    assert_eq!(rt; scanner.set_version(Version::Three), Err(Busy));
+    for call in BOTH {
+        let mut heard = Heard::new(rt.alloc());
+        let mut scanner = Scanner::new(Version::Two, &Limits::standard());
+        assert_eq!(rt; scanner.set_version(Version::Three), Ok(()));
+        let step = scanner.step(b"_\r\n").ok().ok_or("refused")?;
+        assert_eq!(rt; step.used, 3);
+        assert_eq!(rt; scanner.finish(), Ok(()));
+        assert_eq!(rt; scanner.needed(), 0);
+        assert_eq!(rt; scanner.set_version(Version::Two), Err(Busy));
+        assert!(rt; feed(call, &mut heard, &mut scanner, b"")?);
+        assert_eq!(rt; scanner.set_version(Version::Two), Ok(()));
+        assert!(rt; !feed(call, &mut heard, &mut scanner, b"_")?);
+        assert_eq!(rt; scanner.set_version(Version::Three), Err(Busy));
+    }
     Ok(())
 }

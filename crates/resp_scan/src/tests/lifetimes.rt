@@ -1,8 +1,10 @@
 //! Parts are lent from the caller's piece, and live as long as it does. That no part lives longer
-//! is tested by `tests/lifetimes` at the top of the repository, which breaks a line of this file.
+//! is tested by `tests/lifetimes` at the top of the repository, which breaks lines of this file.
 
-use crate::event::Event;
+use crate::event::{Event, TextKind};
+use crate::listener::Listener;
 use crate::scanner::Scanner;
+use resp_value::kind::OpenKind;
 use resp_value::limits::Limits;
 use resp_value::version::Version;
 use std::alloc::Global;
@@ -71,5 +73,69 @@ fn a_piece_changes_behind_its_parts(rt: HostRuntime) -> Result<(), Fail> {
     piece = *b"cdef\r\n";
     let others = parts(rt.alloc(), &mut scanner, &piece)?;
     are(&rt, &others, &[b"cdef"]);
+    Ok(())
+}
+
+/// Keeps a constant for each part, which itself lives no longer than the call.
+#[derive(Drop)]
+struct Parts<'a> {
+    length: usize,
+    kept: &'a [u8],
+}
+
+impl<'a> Listener for Parts<'a> {
+    ghost has_heard = { λ _ _. Unit {0} };
+
+    ghost may_stop = { λ _. Unit {0} };
+
+    fn null(&mut self) -> bool {
+        true
+    }
+
+    fn truth(&mut self, _truth: bool) -> bool {
+        true
+    }
+
+    fn int(&mut self, _number: i64) -> bool {
+        true
+    }
+
+    fn text(&mut self, _kind: TextKind) -> bool {
+        true
+    }
+
+    fn part(&mut self, part: &[u8]) -> bool {
+        self.length = self.length.saturating_add(part.len());
+        self.kept = b"a constant of the listener";
+        true
+    }
+
+    fn text_end(&mut self) -> bool {
+        true
+    }
+
+    fn open(&mut self, _kind: OpenKind, _count: Option<u64>) -> bool {
+        true
+    }
+
+    fn close(&mut self) -> bool {
+        true
+    }
+}
+
+#[test]
+fn a_listener_keeps_no_part(rt: HostRuntime) -> Result<(), Fail> {
+    let mut listener = Parts {
+        length: 0,
+        kept: b"",
+    };
+    let mut scanner = Scanner::new(Version::Two, &Limits::standard());
+    let scanned = scanner
+        .scan(b"+ab\r\n", &mut listener)
+        .ok()
+        .ok_or("refused")?;
+    assert!(rt; scanned.is_whole);
+    assert_eq!(rt; listener.length, 2);
+    are(&rt, &[listener.kept], &[b"a constant of the listener"]);
     Ok(())
 }

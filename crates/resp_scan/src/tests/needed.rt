@@ -2,6 +2,8 @@
 //!
 //! Each number is worked out by hand, from the table of least completions in docs/protocol.md.
 
+use super::heard::Ignoring;
+use super::{BOTH, Call};
 use crate::event::{Event, Fault};
 use crate::scanner::Scanner;
 use resp_value::cause::Cause;
@@ -13,27 +15,70 @@ use std::test::Fail;
 /// A text, and what is needed before its first byte and behind each one. Behind a whole value, 0.
 type Row = (&'static [u8], &'static [u64]);
 
-/// Gives the scanner a piece, and after each step compares what is needed with the number behind
-/// the bytes taken. Where the value's end was told none is taken, and the first number holds again.
-fn feed(rt: &impl Abort, scanner: &mut Scanner, row: &Row, piece: &[u8]) -> Result<(), Fail> {
+/// Compares what is needed with the number behind the bytes taken. Where the value's end was told
+/// none is taken, and the first number holds again.
+fn compare(rt: &impl Abort, scanner: &Scanner, row: &Row) {
     let (text, needed) = row;
+    let taken = scanner.taken();
+    let wanted = needed.get(taken as usize).copied();
+    assert_eq!(rt;
+        Some(scanner.needed()),
+        wanted,
+        "behind {taken} bytes of {text:?}"
+    );
+}
+
+/// Gives the scanner a piece by steps, and compares behind each step.
+fn feed_by_steps(
+    rt: &impl Abort,
+    scanner: &mut Scanner,
+    row: &Row,
+    piece: &[u8],
+) -> Result<(), Fail> {
     let mut from = 0;
     for _ in 0..1_000 {
         let rest = piece.get(from..).ok_or("past the piece")?;
         let step = scanner.step(rest).ok().ok_or("refused")?;
         from = from.saturating_add(step.used);
-        let taken = scanner.taken();
-        let wanted = needed.get(taken as usize).copied();
-        assert_eq!(rt;
-            Some(scanner.needed()),
-            wanted,
-            "behind {taken} bytes of {text:?}"
-        );
+        compare(rt, scanner, row);
         if step.event.is_none() {
             return Ok(());
         }
     }
     Err("endless".into())
+}
+
+/// Gives the scanner a piece by calls of `scan`, and compares behind each call.
+fn feed_by_scan(
+    rt: &impl Abort,
+    scanner: &mut Scanner,
+    row: &Row,
+    piece: &[u8],
+) -> Result<(), Fail> {
+    let mut rest = piece;
+    for _ in 0..1_000 {
+        let scanned = scanner.scan(rest, &mut Ignoring).ok().ok_or("refused")?;
+        rest = &rest[scanned.used..];
+        compare(rt, scanner, row);
+        if !scanned.is_whole {
+            return Ok(());
+        }
+    }
+    Err("endless".into())
+}
+
+/// Gives the scanner a piece by this call.
+fn feed(
+    rt: &impl Abort,
+    call: Call,
+    scanner: &mut Scanner,
+    row: &Row,
+    piece: &[u8],
+) -> Result<(), Fail> {
+    match call {
+        Call::Step => feed_by_steps(rt, scanner, row, piece),
+        Call::Scan => feed_by_scan(rt, scanner, row, piece),
+    }
 }
 
 /// So many bytes of the row's text were given, and all their events: whether the input may end
@@ -53,35 +98,38 @@ fn end(rt: &impl Abort, scanner: &Scanner, row: &Row, size: usize) {
 }
 
 /// Each byte is a piece, and an empty piece follows it.
-fn by_bytes(rt: &impl Abort, scanner: &mut Scanner, row: &Row) -> Result<(), Fail> {
+fn by_bytes(rt: &impl Abort, call: Call, scanner: &mut Scanner, row: &Row) -> Result<(), Fail> {
     let (text, needed) = row;
     assert_eq!(rt;
         needed.len(),
         text.len().saturating_add(1),
         "numbers of {text:?}"
     );
-    feed(rt, scanner, row, b"")?;
+    feed(rt, call, scanner, row, b"")?;
     end(rt, scanner, row, 0);
     for i in 0..text.len() {
-        feed(rt, scanner, row, &text[i..i + 1])?;
+        feed(rt, call, scanner, row, &text[i..i + 1])?;
         end(rt, scanner, row, i + 1);
-        feed(rt, scanner, row, b"")?;
+        feed(rt, call, scanner, row, b"")?;
         end(rt, scanner, row, i + 1);
     }
     Ok(())
 }
 
-/// Every row byte by byte, then cut short behind each byte, and then whole and at each cut in two.
+/// Every row by both calls: byte by byte, then cut short behind each byte, and then whole and at
+/// each cut in two.
 fn run(rt: &impl Abort, version: Version, limits: &Limits, rows: &[Row]) -> Result<(), Fail> {
-    for row in rows {
-        let (text, _) = row;
-        by_bytes(rt, &mut Scanner::new(version, limits), row)?;
-        for place in 0..text.len() + 1 {
-            let mut scanner = Scanner::new(version, limits);
-            feed(rt, &mut scanner, row, &text[..place])?;
-            end(rt, &scanner, row, place);
-            feed(rt, &mut scanner, row, &text[place..])?;
-            end(rt, &scanner, row, text.len());
+    for call in BOTH {
+        for row in rows {
+            let (text, _) = row;
+            by_bytes(rt, call, &mut Scanner::new(version, limits), row)?;
+            for place in 0..text.len() + 1 {
+                let mut scanner = Scanner::new(version, limits);
+                feed(rt, call, &mut scanner, row, &text[..place])?;
+                end(rt, &scanner, row, place);
+                feed(rt, call, &mut scanner, row, &text[place..])?;
+                end(rt, &scanner, row, text.len());
+            }
         }
     }
     Ok(())
