@@ -143,3 +143,45 @@ keeps_digits_if_tested text digits negative p e (inl h) = go (eqb_tells (get_or 
     go (inr q) = keeps_digits text digits negative p e (λ t. (h.0, q.1)) (λ f. let n : negative ≡ true = h.1 ∙ ap not q.0 in absurd (cc))
 keeps_digits_if_tested text digits negative p e (inr h) = keeps_digits text digits negative p e (λ t. let n : negative ≡ false = h.1 in
     absurd (cc)) (λ f. inl h.0)
+
+-- digits are never fewer than those that are kept of them
+kept_no_longer : (digits : List ℕ) → 0 < length digits → length (kept_digits digits) ≤ length digits
+kept_no_longer [] full = absurd (omega arith)
+kept_no_longer (c ∷ []) full = cases (eqb c 48)
+  where
+    cases : (b : Bool) → length (zero_if_none (cond b [] (c ∷ []))) ≤ 1
+    cases true = omega arith
+    cases false = omega arith
+kept_no_longer (c ∷ d ∷ cs) full = cases (eqb c 48) (kept_no_longer (d ∷ cs) (omega arith))
+  where
+    cases : (b : Bool) → length (kept_digits (d ∷ cs)) ≤ length (d ∷ cs) →
+        length (zero_if_none (cond b (significant_digits (d ∷ cs)) (c ∷ d ∷ cs))) ≤ length (c ∷ d ∷ cs)
+    cases true h = omega arith
+    cases false h = omega arith
+
+-- digits that begin with no zero, or are a zero that isn't negative, are kept
+pub kept_where_first_is_tested : (negative : Bool) (digits : List ℕ) → IsDigits digits →
+    (get_or digits 0 0 ≡ 48 → (negative ≡ false) × (length digits ≤ 1)) → IsKept negative digits
+kept_where_first_is_tested negative digits p t =
+    let k = are_kept digits p.1 in
+    cases k (eqb_tells (get_or digits 0 0) 48)
+  where
+    cases : AreKept digits → Told (get_or digits 0 0) 48 → IsKept negative digits
+    cases k (inl q) = (p, kept-end digits p.0 (inl (t q.1).1), λ z. (t q.1).0)
+    cases k (inr q) =
+        let same : kept_digits digits ≡ digits = kept-end digits p.0 (inr (λ e. absurd (cc))) in
+        let above : 0 < number digits = k.above_zero (λ e. let wrong : get_or digits 0 0 ≡ 48 = ap (λ z. get_or z 0 0) (sym same) ∙ e in absurd (cc)) in
+        (p, same, λ z. absurd (omega (arith, above, z)))
+
+-- kept digits that begin with a zero are this zero, and not negative
+pub kept_zero_is_alone : (negative : Bool) (digits : List ℕ) → IsKept negative digits → get_or digits 0 0 ≡ 48 →
+    (negative ≡ false) × (length digits ≤ 1)
+kept_zero_is_alone negative digits k h =
+    let a = are_kept digits k.0.1 in
+    let zero : number digits ≡ 0 = a.zero (ap (λ z. get_or z 0 0) k.1 ∙ h) in
+    (k.2 zero, few digits k.0.0 k.1 h)
+  where
+    few : (digits : List ℕ) → 0 < length digits → kept_digits digits ≡ digits → get_or digits 0 0 ≡ 48 → length digits ≤ 1
+    few [] full same h = omega arith
+    few (c ∷ []) full same h = omega arith
+    few (c ∷ d ∷ cs) full same h = omega (arith, kept_no_longer (d ∷ cs) (omega arith), ap length (sym (kept-zero (c ∷ d ∷ cs) (omega arith) h)), ap length same)

@@ -1,6 +1,6 @@
 //! The sign and digits of a big number.
 
-ghost use Rattle.std.specs.Prelude.{◌≡◌, ◌↔◌, ℕ, ◌<◌, List, length, IsTrue, IfOk, IsErrOf, All};
+ghost use Rattle.std.specs.Prelude.{◌≡◌, ◌↔◌, ℕ, ◌<◌, List, length, IsTrue, IsSome, IfSome, IfOk, IsErrOf, All};
 ghost use Rattle.std.proofs.Props.{props};
 ghost use Rattle.resp_value.specs.Numbers.{IsDigit, IsDigits, IsKept, IsSignedDigits, KeepsDigits, kept_digits, is_minus};
 ghost use Rattle.resp_value.specs.Signs.{sign_at, unsigned_part};
@@ -89,6 +89,25 @@ impl Digits {
         }
     }
 
+    /// These digits behind this sign, in the memory that they have.
+    ///
+    /// Refuses exactly where a big number doesn't keep them so: other bytes than digits or none, a
+    /// leading zero, and a negative `0`.
+    pub fn of_kept(negative: bool, digits: Vec<u8>) -> Option<Digits>
+        ensures kept { IsSome result ↔ IsKept negative digits.items }
+        ensures same_sign { IfSome result (λ made. is_negative made ≡ negative) }
+        ensures same_digits { IfSome result (λ made. digits_text made ≡ digits.items) }
+    {
+        if !are_digits(digits.as_slice()) {
+            return None;
+        }
+        let begins_with_zero = digits[0] == b'0';
+        if begins_with_zero && (negative || digits.len() > 1) {
+            return None;
+        }
+        Some(Digits { negative, digits })
+    }
+
     /// Whether the number is below zero, which `0` never is.
     pub fn is_negative(&self) -> bool
         ensures { result ≡ is_negative self.now }
@@ -138,6 +157,22 @@ mod tests {
             let kept = Digits::new(rt.alloc(), text)?;
             assert_eq!(rt; kept.is_negative(), negative, "sign of {text:?}");
             assert_eq!(rt; kept.digits(), digits, "digits of {text:?}");
+        }
+        Ok(())
+    }
+
+    #[test]
+    fn takes_digits_as_they_are_kept(rt: HostRuntime) -> Result<(), Fail> {
+        for (negative, digits, is_kept) in [
+            (false, b"0".as_slice(), true),
+            (true, b"120", true),
+            (true, b"0", false),
+            (false, b"07", false),
+            (false, b"", false),
+            (false, b"-7", false),
+        ] {
+            let taken = Digits::of_kept(negative, digits.to_vec(rt.alloc())?);
+            assert_eq!(rt; taken.is_some(), is_kept, "{digits:?}");
         }
         Ok(())
     }

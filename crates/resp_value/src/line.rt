@@ -48,6 +48,15 @@ impl Line {
         }
     }
 
+    /// A line of these bytes, none of which is CR or LF. Takes no memory, and looks at none of them.
+    #[inline]
+    pub fn of_plain(bytes: Vec<u8>) -> Line
+        requires { IsLine bytes.items }
+        ensures { line_text result ≡ bytes.items }
+    {
+        Line { text: bytes }
+    }
+
     /// The bytes of the line, without the CR LF that ends it on the wire.
     pub fn text(&self) -> &[u8]
         ensures text { result.now ≡ line_text self.now }

@@ -1,0 +1,6 @@
+pub mod Folds
+pub mod Comes
+pub mod Counted
+pub mod Values
+pub mod HeldLemmas
+pub mod Taking

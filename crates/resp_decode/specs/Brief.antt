@@ -1,0 +1,36 @@
+-- Values without content and members, which take no memory.
+use Rattle.std.specs.Prelude.{◌≡◌, ◌⊎◌, ℕ, List, [], ◌∷◌}
+use Rattle.std.specs.List.{AllByRecursion}
+use Rattle.std.specs.Str.{byte}
+use Rattle.resp_fronts.specs.Events.{Event}
+use Rattle.resp_fronts.specs.Events as e
+
+-- a null, a truth value or an integer, or the end of the value
+abbrev pub IsBriefEvent : Event → Type 0
+IsBriefEvent e.Null = Unit {0}
+IsBriefEvent (e.Bool truth) = Unit {0}
+IsBriefEvent (e.Int number) = Unit {0}
+IsBriefEvent (e.Text kind) = ⊥
+IsBriefEvent (e.Byte content) = ⊥
+IsBriefEvent e.TextEnd = ⊥
+IsBriefEvent (e.Open kind members) = ⊥
+IsBriefEvent e.Close = ⊥
+IsBriefEvent e.Done = Unit {0}
+
+-- none of the events is of a text or an aggregate
+abbrev pub AreBrief : List Event → Type 0
+AreBrief [] = Unit {0}
+AreBrief (x ∷ es) = IsBriefEvent x × AreBrief es
+
+-- some of the events is of a text or an aggregate, which want memory
+abbrev pub WantMemory : List Event → Type 0
+WantMemory es = AreBrief es → ⊥
+
+-- the type byte of an integer, a truth value or a null of one line
+abbrev pub IsBriefByte : ℕ → Type 0
+IsBriefByte first = (first ≡ byte ":") ⊎ (first ≡ byte "#") ⊎ (first ≡ byte "_")
+
+-- the text begins with such a byte
+abbrev pub BeginsBrief : List ℕ → Type 0
+BeginsBrief [] = ⊥
+BeginsBrief (first ∷ text) = IsBriefByte first

@@ -1,0 +1,89 @@
+-- What the events without_places of a value build: the open aggregates with the values of their finished members, the text being
+-- read, and at last the whole value.
+use Rattle.std.specs.Prelude.{ℕ, Option, None, Some, List, [], ◌∷◌, ◌++◌}
+use Rattle.resp_value.specs.Numbers.{zero_if_none}
+use Rattle.resp_value.specs.Data.{Kind, Scalar, Datum, scalar, aggregate, data_of_list}
+use Rattle.resp_value.specs.Data as d
+use Rattle.resp_fronts.specs.Events.{Event, TextKind}
+use Rattle.resp_fronts.specs.Events as e
+
+-- an open aggregate, and the values of its finished members
+pub record Group : Type 0 where
+  pub kind : Kind
+  pub members : List Datum
+
+-- a text being read, and the content that has come
+pub record Text : Type 0 where
+  pub kind : TextKind
+  pub content : List ℕ
+
+-- what is construction of a value: its open aggregates, the innermost first, the text being read, and the value once it is whole
+pub record Construction : Type 0 where
+  pub groups : List Group
+  pub text : Option Text
+  pub whole : Option Datum
+
+-- between two values
+abbrev pub nothing : Construction
+nothing = record { groups = []; text = None; whole = None }
+
+-- the value of a whole text
+abbrev pub scalar_of : TextKind → List ℕ → Scalar
+scalar_of e.Simple s = d.Simple s
+scalar_of e.Error s = d.Error s
+scalar_of e.Bulk s = d.Bulk s
+scalar_of e.BulkError s = d.BulkError s
+scalar_of (e.Verbatim format) s = d.Verbatim format s
+scalar_of (e.Big negative) s = d.Big negative (zero_if_none s)
+
+-- a finished value is a member of the innermost aggregate, or the whole value
+abbrev pub with_value_in : List Group → Datum → Construction → Construction
+with_value_in [] x b = record b { whole = Some x }
+with_value_in (g ∷ gs) x b = record b { groups = record g { members = g.members ++ x ∷ [] } ∷ gs }
+
+abbrev pub with_value : Datum → Construction → Construction
+with_value x b = with_value_in b.groups x b
+
+-- the text being read ends
+abbrev pub with_text_ended : Option Text → Construction → Construction
+with_text_ended None b = b
+with_text_ended (Some t) b = with_value (scalar (scalar_of t.kind t.content)) (record b { text = None })
+
+-- one byte more of it
+abbrev pub with_byte : Option Text → ℕ → Option Text
+with_byte None byte = None
+with_byte (Some t) byte = Some (record t { content = t.content ++ byte ∷ [] })
+
+-- the innermost aggregate ends
+abbrev pub with_group_closed : List Group → Construction → Construction
+with_group_closed [] b = b
+with_group_closed (g ∷ gs) b = with_value (aggregate g.kind (data_of_list g.members)) (record b { groups = gs })
+
+-- what one event makes of it
+abbrev pub with_event : Event → Construction → Construction
+with_event e.Null b = with_value (scalar d.Null) b
+with_event (e.Bool truth) b = with_value (scalar (d.Bool truth)) b
+with_event (e.Int number) b = with_value (scalar (d.Int number)) b
+with_event (e.Text kind) b = record b { text = Some (record { kind = kind; content = [] }) }
+with_event (e.Byte byte) b = record b { text = with_byte b.text byte }
+with_event e.TextEnd b = with_text_ended b.text b
+with_event (e.Open kind members) b = record b { groups = record { kind = kind; members = [] } ∷ b.groups }
+with_event e.Close b = with_group_closed b.groups b
+with_event e.Done b = b
+
+-- what events build, the first of them first
+abbrev pub with_events : List Event → Construction → Construction
+with_events [] b = b
+with_events (event ∷ es) b = with_events es (with_event event b)
+
+-- what the events without_places of a value build
+abbrev pub construction : List Event → Construction
+construction es = with_events es nothing
+
+-- content more of the text being read
+abbrev pub with_bytes : Option Text → List ℕ → Option Text
+with_bytes None s = None
+with_bytes (Some t) s = Some (record t { content = t.content ++ s })
+
+abbrev pub with_content : List ℕ → Construction → Construction
+with_content s b = record b { text = with_bytes b.text s }

@@ -1,0 +1,6 @@
+pub mod Builds
+pub mod Weights
+pub mod Fits
+pub mod Brief
+pub mod Holding
+pub mod Hearing

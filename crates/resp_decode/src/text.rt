@@ -1,0 +1,99 @@
+//! A text that is being read.
+
+ghost use Rattle.std.specs.Prelude.{◌≡◌, [], ◌++◌, OnOk, IfOk, IfSome};
+ghost use Rattle.resp_value.specs.Data.{scalar};
+ghost use Rattle.resp_value.specs.Numbers.{zero_if_none};
+ghost use Rattle.resp_value.specs.Values.{datum_of};
+ghost use Rattle.resp_scan.specs.Kinds.{text_kind_of};
+
+use resp_scan::event::TextKind;
+use resp_value::content::Content;
+use resp_value::digits::Digits;
+use resp_value::line::Line;
+use resp_value::value::Value;
+use std::alloc::{AllocError, Global};
+
+/// A text whose end hasn't come.
+#[derive(Drop)]
+pub(crate) struct Text {
+    kind: TextKind,
+    bytes: Vec<u8>,
+}
+
+impl Text {
+    ghost use Rattle.resp_decode.specs.Builds.{scalar_of};
+    ghost use Rattle.resp_decode.specs.Fits.{end_weight};
+    ghost use Rattle.resp_decode.specs.Holding.{text_of};
+
+    /// A text without content. Takes no memory.
+    #[inline]
+    pub(crate) fn new(alloc: Global, kind: TextKind) -> Text
+        ensures { text_of result ≡ record { kind = text_kind_of kind; content = [] } }
+    {
+        Text {
+            kind,
+            bytes: Vec::new(alloc),
+        }
+    }
+
+    /// Appends these bytes of the content.
+    #[inline]
+    pub(crate) fn extend(&mut self, part: &[u8]) -> Result<(), AllocError>
+        ensures { OnOk result (text_of self.new ≡ record (text_of self.old) {
+            content = (text_of self.old).content ++ part.now }) }
+    {
+        self.bytes.extend_from_slice(part)
+    }
+
+    /// What its end adds to the weight: a node, and the digit of a big zero.
+    #[inline]
+    pub(crate) fn end_weight(&self) -> u64
+        ensures { result ≡ end_weight (text_of self.now).kind (text_of self.now).content }
+    {
+        match self.kind {
+            TextKind::Big { .. } if self.bytes.is_empty() => 4,
+            _ => 3,
+        }
+    }
+
+    /// The value of the whole text; none where there is no memory, or where the content is none of
+    /// this kind of text, which no scanner tells.
+    #[inline]
+    pub(crate) fn into_value(self) -> Option<Value>
+        ensures { IfSome result (λ value. datum_of value ≡
+            scalar (scalar_of (text_of self).kind (text_of self).content)) }
+    {
+        let Text { kind, bytes } = self;
+        match kind {
+            TextKind::Simple => match Line::new(bytes) {
+                Ok(line) => Some(Value::Simple(line)),
+                Err(_) => None,
+            },
+            TextKind::Error => match Line::new(bytes) {
+                Ok(line) => Some(Value::Error(line)),
+                Err(_) => None,
+            },
+            TextKind::Bulk => Some(Value::Bulk(Content::new(bytes))),
+            TextKind::BulkError => Some(Value::BulkError(Content::new(bytes))),
+            TextKind::Verbatim(format) => Some(Value::Verbatim(format, Content::new(bytes))),
+            TextKind::Big { negative } => match zero_if_none(bytes) {
+                Ok(digits) => match Digits::of_kept(negative, digits) {
+                    Some(digits) => Some(Value::Big(digits)),
+                    None => None,
+                },
+                Err(_) => None,
+            },
+        }
+    }
+}
+
+/// The digits, or a lone `0` where there are none.
+#[inline]
+fn zero_if_none(mut digits: Vec<u8>) -> Result<Vec<u8>, AllocError>
+    ensures { IfOk result (λ kept. kept.items ≡ zero_if_none digits.items) }
+{
+    if digits.is_empty() {
+        digits.push(b'0')?;
+    }
+    Ok(digits)
+}
