@@ -92,8 +92,7 @@ end_comes kind s ends to b last weight xs h light whole begins room k = (
 -- a text comes, whose content stands before its end
 pub text_comes : (kind : TextKind) (begins from room : ℕ) (s : List ℕ) (ends to : ℕ) (b : Construction) (last weight : ℕ) (xs : List Timed) → last ≤ begins → begins ≤ from → weight + format_weight kind ≤ begins + 1 → weight + format_weight kind + room ≤ from → from + length s + end_weight kind s ≤ ends + 1 + room → from + length s ≤ ends → ends + 1 ≤ to → IsWholeText kind s → MayBegin b → GoOn to xs (with_value (scalar (scalar_of kind s)) b) → Come last weight (text_events kind begins from s ends ++ xs) b
 text_comes kind begins from room s ends to b last weight xs h1 h2 light1 light2 light3 h3 fits whole may k =
-    let ending : List Timed = record { at = ends; event = e.TextEnd } ∷ [] in
-    (
+    let ending : List Timed = record { at = ends; event = e.TextEnd } ∷ [] in (
       h1,
       light1,
       may,
@@ -168,8 +167,7 @@ leaf_comes from (chunked cs zeros) b last weight xs is p may h light k =
     let size : length tail ≡ length zeros + 3 = omega (arith, length-append (59 ∷ zeros) (crlf [])) in
     let mid = to - length tail in
     let ending : List Timed = record { at = ends; event = e.TextEnd } ∷ [] in
-    let long = chunks_long cs tail in
-    (
+    let long = chunks_long cs tail in (
       omega arith,
       omega arith,
       may,
@@ -205,8 +203,7 @@ mutual
       let ends = last_of from (text (node kind form us)) in
       let ending : List Timed = close_event from (text (node kind form us)) ∷ [] in
       let size : length (text (node kind form us)) ≡ length (form_line form) + 3 + length (texts us) + length (close form) = omega (arith, length-append (kind_byte kind ∷ form_line form) (crlf (texts us ++ close form)), length-append (texts us) (close form)) in
-      let many : IsMemberCount kind (length (value_list us)) = subst (IsMemberCount kind) (sym (length-value_list us)) (may_have kind form (count us) is.0) in
-      (
+      let many : IsMemberCount kind (length (value_list us)) = subst (IsMemberCount kind) (sym (length-value_list us)) (may_have kind form (count us) is.0) in (
         omega arith,
         omega arith,
         may,

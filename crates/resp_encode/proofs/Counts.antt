@@ -4,7 +4,7 @@ use Rattle.std.proofs.Common.{Vec, Global}
 use Rattle.std.proofs.lemmas.List.{length-map}
 use Rattle.resp_value.specs.Data.{Datum, data_of_list, in_turn, count}
 use Rattle.resp_value.proofs.DatumOf.{count-data_of_list, length-in_turn}
-use Rattle.resp_encode.specs.Words.{word_datum, texts_of}
+use Rattle.resp_value.specs.Words.{word_datum, texts_of}
 
 pub count-map : {A : Type 0} (f : A → Datum) (xs : List A) → count (data_of_list (map f xs)) ≡ length xs
 count-map f xs = count-data_of_list (map f xs) ∙ length-map xs f

@@ -8,7 +8,7 @@ use Rattle.resp_value.specs.Canonical.{canonical_text, canonical_trees}
 use Rattle.resp_value.specs.Values.{extended}
 use Rattle.resp_value.specs.declared.version.Version.{Version}
 use Rattle.resp_value.specs.declared.version.Version.TheVariants.{Two}
-use Rattle.resp_encode.specs.Words.{word_datum, texts_of}
+use Rattle.resp_value.specs.Words.{word_datum, texts_of}
 use Rattle.resp_encode.proofs.Extended.{data_of_list-push, length-texts-extended}
 
 -- one more member

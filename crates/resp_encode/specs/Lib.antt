@@ -1,6 +1,6 @@
 -- What a caller reads of the encoder.
 pub mod Encodings
 pub mod Refusals
-pub mod Words
+pub mod Pushes
 -- What the walks over a value promise one another, which no public clause names.
 pub mod Walks

@@ -6,7 +6,7 @@ ghost use Rattle.std.specs.Prelude.{◌≡◌, ◌↔◌, ◌<◌, ◌≤◌, �
 ghost use Rattle.resp_value.specs.Canonical.{canonical_text};
 ghost use Rattle.resp_value.specs.Values.{datum_of};
 ghost use Rattle.resp_encode.specs.Refusals.{HasText};
-ghost use Rattle.resp_encode.specs.Words.{push_of};
+ghost use Rattle.resp_encode.specs.Pushes.{push_of};
 ghost use Rattle.resp_encode.specs.Walks.Writings.{Fills};
 ghost use Rattle.resp_encode.specs.declared.error.EncodeError.{EncodeError};
 ghost use Rattle.resp_value.specs.declared.version.Version.TheVariants.{Three};

@@ -7,7 +7,7 @@ ghost use Rattle.resp_value.specs.Data.{data_of_list};
 ghost use Rattle.resp_value.specs.Trees.{texts};
 ghost use Rattle.resp_value.specs.Canonical.{AreValues, canonical_text, canonical_trees};
 ghost use Rattle.resp_encode.specs.Walks.Measures.{DescribesEach};
-ghost use Rattle.resp_encode.specs.Words.{texts_of, word_datum, command_of};
+ghost use Rattle.resp_value.specs.Words.{texts_of, word_datum, command_of};
 ghost use Rattle.resp_encode.specs.Walks.Writings.{Fills};
 ghost use Rattle.resp_encode.specs.declared.error.EncodeError.{EncodeError};
 ghost use Rattle.resp_value.specs.declared.version.Version.TheVariants.{Two};

@@ -3,12 +3,12 @@ use Rattle.std.proofs.lemmas.List.{take-append-drop}
 use Rattle.std.proofs.Common.{◌≡◌, ℕ, List, [], take, drop, Option, Result, Err, refl, sym, subst, arith}
 use Rattle.resp_value.specs.Data.{Datum}
 use Rattle.resp_value.specs.Rules.{Rules}
-use Rattle.resp_value.specs.Canonical.{canonical_text, Fits}
+use Rattle.resp_value.specs.Canonical.{canonical_text, Fits, IsFirstOver}
 use Rattle.resp_value.specs.Devices.{Appends}
 use Rattle.resp_value.specs.declared.cause.Limit.{Limit}
 use Rattle.resp_value.specs.declared.cause.Limit.TheVariants.{Depth, Length, Items, Total}
 use Rattle.resp_encode.specs.Encodings.{WritesPart}
-use Rattle.resp_encode.specs.Refusals.{IsFirstOver, IsFirstRefusal, IfWrite}
+use Rattle.resp_encode.specs.Refusals.{IsFirstRefusal, IfWrite}
 use Rattle.resp_encode.specs.declared.error.EncodeError.{EncodeError}
 use Rattle.resp_encode.specs.declared.error.EncodeError.TheVariants as encode
 use Rattle.resp_encode.specs.declared.error.EncodeToError.{EncodeToError}

@@ -2,7 +2,7 @@ use Rattle.std.proofs.Common.{map, sym}
 use Rattle.resp_value.specs.Data.{data_of_list}
 use Rattle.resp_value.specs.declared.version.Version.TheVariants.{Two}
 use Rattle.resp_encode.specs.Walks.Measures.{Describes}
-use Rattle.resp_encode.specs.Words.{command_of, word_datum, texts_of}
+use Rattle.resp_value.specs.Words.{command_of, word_datum, texts_of}
 use Rattle.resp_encode.proofs.Counts.{count-words}
 use Rattle.resp_encode.proofs.words.checked_words_size.Goals as goal
 use Rattle.resp_encode.proofs.words.checked_words_size.Goals.{After-inside-found}

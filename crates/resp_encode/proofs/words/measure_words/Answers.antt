@@ -4,7 +4,7 @@ use Rattle.resp_value.specs.Data.{data_of_list}
 use Rattle.resp_value.specs.Canonical.{AreValues}
 use Rattle.resp_value.specs.declared.version.Version.TheVariants.{Two}
 use Rattle.resp_encode.specs.Walks.Measures.{DescribesEach}
-use Rattle.resp_encode.specs.Words.{word_datum, texts_of}
+use Rattle.resp_value.specs.Words.{word_datum, texts_of}
 use Rattle.resp_encode.proofs.Extended.{values_with}
 use Rattle.resp_encode.proofs.SoFar.{word_take_more}
 use Rattle.resp_encode.proofs.words.measure_words.Goals as goal

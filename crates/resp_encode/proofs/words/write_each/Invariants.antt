@@ -3,7 +3,7 @@ use Rattle.resp_value.specs.Data.{data_of_list}
 use Rattle.resp_value.specs.Trees.{texts}
 use Rattle.resp_value.specs.Canonical.{canonical_trees}
 use Rattle.resp_value.specs.declared.version.Version.TheVariants.{Two}
-use Rattle.resp_encode.specs.Words.{word_datum, texts_of}
+use Rattle.resp_value.specs.Words.{word_datum, texts_of}
 use Rattle.resp_encode.specs.Walks.Writings.{Fills}
 use Rattle.resp_encode.proofs.words.write_each.Given as goal
 

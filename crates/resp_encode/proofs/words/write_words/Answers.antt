@@ -4,7 +4,7 @@ use Rattle.resp_value.specs.Data as d
 use Rattle.resp_value.specs.Trees.{texts}
 use Rattle.resp_value.specs.Canonical.{canonical_trees}
 use Rattle.resp_value.specs.declared.version.Version.TheVariants.{Two}
-use Rattle.resp_encode.specs.Words.{word_datum, texts_of}
+use Rattle.resp_value.specs.Words.{word_datum, texts_of}
 use Rattle.resp_encode.specs.Walks.Writings.{Fills}
 use Rattle.resp_encode.proofs.Counts.{count-words}
 use Rattle.resp_encode.proofs.Texts.{Writes-append, aggregate_text, head_split, length-head}
