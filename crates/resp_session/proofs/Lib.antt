@@ -13,3 +13,6 @@ pub mod WorldLaws
 pub mod InlineCommand
 pub mod FittingWords
 pub mod SentRequests
+pub mod KeptVersions
+pub mod WrittenIsRead
+pub mod WorldsAreRead

@@ -9,7 +9,7 @@ ghost use Rattle.resp_session.specs.Examples.{new_session, answers_to, set_a, ge
 ghost use Rattle.resp_session.specs.Heard.{is_push};
 ghost use Rattle.resp_session.specs.ReadingLaws.{ReadingsGoOn, ReadingsStay, ATextHasOneReading, HearingGoesOn};
 ghost use Rattle.resp_session.specs.Replies.{simple, bulk, natural, null};
-ghost use Rattle.resp_session.specs.WorldLaws.{AWorldHasOneOrder, ARunIsCut, TheOrderOnlyGrows, ShownRepliesAreOfTheOrder, WhatIsShownWasSent, WhatArrivesIsCommands};
+ghost use Rattle.resp_session.specs.WorldLaws.{AWorldHasOneOrder, ARunIsCut, TheOrderOnlyGrows, ShownRepliesAreOfTheOrder, WhatIsShownWasSent, WhatArrivesIsCommands, WhatIsWrittenIsRead};
 ghost use Rattle.resp_session.specs.Connections.{push_message};
 
 use resp_value::laws as grammar;
@@ -106,6 +106,17 @@ pub fn what_arrives_is_commands()
 {
     what_comes_is_whole_texts();
     grammar::canonical_text_spells_what_fits();
+}
+
+/// Where all messages of a session are within the limits, their text is what its client reads, each
+/// message in the version in which it is written or in version 3 what version 2 spells.
+pub fn what_is_written_is_read()
+    ensures { WhatIsWrittenIsRead }
+{
+    readings_go_on();
+    readings_stay();
+    grammar::canonical_text_spells_what_fits();
+    grammar::version_three_spells_what_two_does();
 }
 
 /// What a new session of number 1 answers to commands and to values that are none.
