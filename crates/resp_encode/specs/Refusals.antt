@@ -1,11 +1,10 @@
 -- What a value is refused for.
-use Rattle.std.specs.Prelude.{ℕ, ◌<◌, ◌≤◌, length}
-use Rattle.resp_value.specs.Data.{Datum, depth, longest, most_items}
+use Rattle.std.specs.Prelude.{ℕ}
+use Rattle.resp_value.specs.Data.{Datum}
 use Rattle.resp_value.specs.Rules.{Rules}
-use Rattle.resp_value.specs.Canonical.{HasTypes, HasPushAtTop, canonical_text, Fits}
+use Rattle.resp_value.specs.Canonical.{HasTypes, HasPushAtTop, Fits}
+pub use Rattle.resp_value.specs.Canonical.{IsFirstOver}
 use Rattle.resp_value.specs.declared.version.Version.{Version}
-use Rattle.resp_value.specs.declared.cause.Limit.{Limit}
-use Rattle.resp_value.specs.declared.cause.Limit.TheVariants.{Depth, Length, Items, Total}
 use Rattle.resp_encode.specs.declared.error.EncodeError.{EncodeError}
 use Rattle.resp_encode.specs.declared.error.EncodeError.TheVariants.{NotInVersion, NestedPush, OverLimits, OutOfMemory}
 use Rattle.resp_encode.specs.declared.error.EncodeToError.{EncodeToError}
@@ -14,15 +13,6 @@ use Rattle.resp_encode.specs.declared.error.EncodeToError.TheVariants.{Refused, 
 -- the version has each type of the value, and no push stands below its top
 abbrev pub HasText : Version → Datum → Type 0
 HasText version x = HasTypes version x × HasPushAtTop x
-
--- the value breaks this limit, and none before it
-abbrev pub IsFirstOver : Rules → Datum → Limit → Type 0
-IsFirstOver rules x Depth = rules.limits.depth < depth x
-IsFirstOver rules x Length = (depth x ≤ rules.limits.depth) × (rules.limits.length < longest x)
-IsFirstOver rules x Items = (depth x ≤ rules.limits.depth) × (longest x ≤ rules.limits.length) ×
-    (rules.limits.items < most_items x)
-IsFirstOver rules x Total = (depth x ≤ rules.limits.depth) × (longest x ≤ rules.limits.length) ×
-    (most_items x ≤ rules.limits.items) × (rules.limits.total < length (canonical_text rules.version x))
 
 -- the value has this fault, and none before it; want of memory comes only where it has none
 abbrev pub IsFirstFault : Rules → Datum → EncodeError → Type 0

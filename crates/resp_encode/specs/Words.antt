@@ -1,23 +1,11 @@
 -- What the calls over slices encode, as data.
-use Rattle.std.specs.Prelude.{ℕ, List, map, Vec}
-use Rattle.std.proofs.Common.{Global}
-use Rattle.resp_value.specs.Data.{Datum, scalar, aggregate, data_of_list}
+use Rattle.std.specs.Prelude.{List, map}
+use Rattle.resp_value.specs.Data.{Datum, aggregate, data_of_list}
 use Rattle.resp_value.specs.Data as d
 use Rattle.resp_value.specs.Values.{datum_of}
 use Rattle.resp_value.specs.declared.value.Value.{Value}
+pub use Rattle.resp_value.specs.Words.{texts_of, word_datum, command_of}
 
 -- a push of these values
 abbrev pub push_of : List Value → Datum
 push_of items = aggregate d.Push (data_of_list (map datum_of items))
-
--- the bytes of each word
-abbrev pub texts_of : List (Vec ℕ Global) → List (List ℕ)
-texts_of words = map (λ word. word.items) words
-
--- a word as a bulk string
-abbrev pub word_datum : List ℕ → Datum
-word_datum word = scalar (d.Bulk word)
-
--- an array of these words, each as a bulk string
-abbrev pub command_of : List (List ℕ) → Datum
-command_of words = aggregate d.Array (data_of_list (map word_datum words))

@@ -10,7 +10,7 @@ use Rattle.resp_value.specs.declared.version.Version.{Version}
 use Rattle.resp_value.specs.declared.version.Version.TheVariants.{Two, Three}
 use Rattle.resp_session.specs.Heard.{is_push}
 use Rattle.resp_session.specs.Operations.{Operation, Ping, Echo, Get, Set, Del, Hello, Refused, operation_of}
-use Rattle.resp_session.specs.Replies.{bulk_or_null, hello_reply}
+use Rattle.resp_session.specs.Replies.{bulk_string_or_null, hello_reply}
 use Rattle.resp_session.specs.Stores.{Store, Effect, effect_of, effect_of_words, is_met, value_at}
 use Rattle.resp_session.specs.Requests.{Request, request_words, request_text}
 use Rattle.resp_session.specs.Connections.{Connection, Message, whole_within, sent_text, arrived_requests, with_request, with_message, with_effect, push_message}
@@ -83,7 +83,7 @@ push_holds items order i c h = record {
 }
 
 -- a null and a bulk string are no pushes
-found_is_reply : (value : Option (List ℕ)) → is_push (bulk_or_null value) ≡ false
+found_is_reply : (value : Option (List ℕ)) → is_push (bulk_string_or_null value) ≡ false
 found_is_reply None = refl
 found_is_reply (Some content) = refl
 

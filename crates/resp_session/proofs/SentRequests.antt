@@ -16,7 +16,7 @@ use Rattle.resp_session.specs.AnswerLaws.{WhatComesIsWholeTexts}
 use Rattle.resp_session.specs.Arrivals.{SpellEach}
 use Rattle.resp_session.specs.Connections.{Connection, sent_text, new_requests, with_request, with_message, with_shown, with_arrived, push_message, as_dropped}
 use Rattle.resp_session.specs.Requests.{Request, Hello, Command, HasBytes, RefusesRequest, is_unsent, is_unsent_request, request_words, request_text}
-use Rattle.resp_session.specs.Runs.{Outcome, Done, Refused, Gone, Step, Run, Refuses, connection_of, request_count}
+use Rattle.resp_session.specs.Runs.{Outcome, Done, Refused, Gone, Step, Run, RefusesEvent, connection_of, request_count}
 use Rattle.resp_session.specs.WorldLaws.{IsOfBytes, HasName, request_values, WhatArrivesIsCommands}
 use Rattle.resp_session.specs.Worlds.{World, Event, Send, Greet, ToServer, ToClient, Push, Drop, connection_at, world_with, after_event, after_arrival, commands_for, new_world}
 use Rattle.resp_session.proofs.Changes.{is_changed}
@@ -81,7 +81,7 @@ hello_has_bytes (Some Three) = ((omega arith, (omega arith, (omega arith, (omega
 
 -- an event that isn't refused keeps it
 event_sent : CanonicalTextSpellsWhatFits → (limits : Bounds) → AreBounds limits → (w : World) (event : Event) → IsOfBytes event →
-    ((cause : Cause) → Refuses limits (connection_of w event) event cause → ⊥) → AllSent limits w → AllSent limits (after_event w event)
+    ((cause : Cause) → RefusesEvent limits (connection_of w event) event cause → ⊥) → AllSent limits w → AllSent limits (after_event w event)
 event_sent spells limits bounds w (Send i words) bytes unrefused all =
     let count = request_count (connection_at w.connections i) in
     let sent : is_unsent words ≡ false = false_from_ne_true (is_unsent words) (λ e. unrefused BadCommand e) in

@@ -9,10 +9,10 @@ use Rattle.resp_value.specs.declared.version.Version.TheVariants.{Two}
 use Rattle.resp_value.specs.declared.cause.Cause.{Cause}
 use Rattle.resp_value.specs.declared.cause.Cause.TheVariants.{NotInVersion}
 use Rattle.resp_session.specs.Connections.{Connection, values_of, back_text, sent_text, arrived_requests, later_requests, new_requests, whole_within, with_effect, with_request, with_message, with_arrived, push_message}
-use Rattle.resp_session.specs.Reading.{Reads}
+use Rattle.resp_session.specs.Reading.{ReadsAs}
 use Rattle.resp_session.specs.ReadingLaws.{ReadingsGoOn, ReadingsStay}
 use Rattle.resp_session.specs.Requests.{Request, Hello, Command, is_unsent_request, request_words, request_text, version_asked}
-use Rattle.resp_session.specs.Runs.{Outcome, Done, Refused, Gone, Step, Run, Refuses, connection_of}
+use Rattle.resp_session.specs.Runs.{Outcome, Done, Refused, Gone, Step, Run, RefusesEvent, connection_of}
 use Rattle.resp_session.specs.Stores.{Effect, effect_of_words}
 use Rattle.resp_session.specs.WorldLaws.{IsOfBytes, WhatIsWrittenIsRead}
 use Rattle.resp_session.specs.Worlds.{World, Event, Send, Greet, ToServer, ToClient, Push, Drop, connection_at, with_change, world_with, version_of, after_command, after_commands, after_event, after_arrival, commands_for, new_world}
@@ -125,7 +125,7 @@ arrival_read three go_on stay limits w i k (Some own) at held sent all j c e = e
 ]
 
 event_read : VersionThreeSpellsWhatTwoDoes → ReadingsGoOn → ReadingsStay → (limits : Bounds) (w : World) (event : Event) →
-    ((cause : Cause) → Refuses limits (connection_of w event) event cause → ⊥) → AllHold w → AllSent limits w → AllRead limits w →
+    ((cause : Cause) → RefusesEvent limits (connection_of w event) event cause → ⊥) → AllHold w → AllSent limits w → AllRead limits w →
     AllRead limits (after_event w event)
 event_read three go_on stay limits w (Send i words) fine held sent all = change_read limits (with_request (Command words)) w i
     (λ c at r. subst (λ l. IsRead limits l c) (sym (arrived_requests-with_request (Command words) c (held i c at).within)) r) all
@@ -166,4 +166,4 @@ what_is_written_is_read spells three go_on stay limits n events w bounds bytes r
     let k = whole_within (map request_text c.requests) c.arrived in
     let whole : map version_asked (arrived_requests c) ++ asks ≡ map version_asked c.requests =
     sym (map-append version_asked (arrived_requests c) (later_requests c)) ∙ ap (map version_asked) (take-append-drop k c.requests) in
-    subst (λ l. Reads limits (waits Two l) (values_of c.messages) (back_text c) (waits c.version asks)) whole more
+    subst (λ l. ReadsAs limits (waits Two l) (values_of c.messages) (back_text c) (waits c.version asks)) whole more

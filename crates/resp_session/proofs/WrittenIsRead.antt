@@ -12,7 +12,7 @@ use Rattle.resp_value.specs.declared.version.Version.{Version}
 use Rattle.resp_value.specs.declared.version.Version.TheVariants.{Two, Three}
 use Rattle.resp_session.specs.Connections.{Connection, Message, message_text, values_of, back_text, with_effect, with_message, push_message}
 use Rattle.resp_session.specs.Heard.{is_push}
-use Rattle.resp_session.specs.Reading.{Waiting, Reads, reading_version, greater_version, version_after, waiting_after}
+use Rattle.resp_session.specs.Reading.{Waiting, ReadsAs, reading_version, greater_version, version_after, waiting_after}
 use Rattle.resp_session.specs.ReadingLaws.{ReadingsGoOn, ReadingsStay}
 use Rattle.resp_session.specs.Requests.{Request, Hello, Command, is_unsent_request, request_words, version_asked}
 use Rattle.resp_session.specs.Stores.{Store, Effect, effect_of_words}
@@ -57,7 +57,7 @@ suits three limits store version id (Command words) sent =
 -- one reply is read
 reply_reads : (limits : Bounds) (version : Version) (request : Request) (effect : Effect) (text : List ℕ) → is_push effect.reply ≡ false →
     Suits limits version request effect → IsSpelling (rules_under effect.version limits) effect.reply text →
-    Reads limits (waits version (version_asked request ∷ [])) (effect.reply ∷ []) text (waits effect.version [])
+    ReadsAs limits (waits version (version_asked request ∷ [])) (effect.reply ∷ []) text (waits effect.version [])
 reply_reads limits version request effect text reply fits s =
     let w = waits version (version_asked request ∷ []) in
     let after : waiting_after w effect.reply ≡ waits effect.version [] =
@@ -67,7 +67,7 @@ reply_reads limits version request effect text reply fits s =
 -- the session's messages are what a client reads whose requests up to here were answered
 abbrev pub IsRead : Bounds → List Request → Connection → Type 0
 IsRead limits requests c = AllByRecursion (IsWritten limits) c.messages →
-    Reads limits (waits Two (map version_asked requests)) (values_of c.messages) (back_text c) (waits c.version [])
+    ReadsAs limits (waits Two (map version_asked requests)) (values_of c.messages) (back_text c) (waits c.version [])
 
 all_but_last : {X : Type 0} (P : X → Type 0) (xs : List X) (x : X) → AllByRecursion P (xs ++ x ∷ []) → AllByRecursion P xs × P x
 all_but_last P [] x h = (tt, h.0)
@@ -76,9 +76,9 @@ all_but_last P (y ∷ ys) x h = let (p, q) = all_but_last P ys x h.1 in ((h.0, p
 -- a message more is read, whatever was asked for it
 message_read : ReadingsGoOn → ReadingsStay → (limits : Bounds) (requests : List Request) (c : Connection) (m : Message) (asks : List (Option Version))
     (next : Version) → IsRead limits requests c →
-    (IsWritten limits m → Reads limits (waits c.version asks) (m.value ∷ []) (message_text m) (waits next [])) →
+    (IsWritten limits m → ReadsAs limits (waits c.version asks) (m.value ∷ []) (message_text m) (waits next [])) →
     AllByRecursion (IsWritten limits) (c.messages ++ m ∷ []) →
-    Reads limits (waits Two (map version_asked requests ++ asks)) (values_of (c.messages ++ m ∷ [])) (concat (map message_text (c.messages ++ m ∷ [])))
+    ReadsAs limits (waits Two (map version_asked requests ++ asks)) (values_of (c.messages ++ m ∷ [])) (concat (map message_text (c.messages ++ m ∷ [])))
     (waits next [])
 message_read go_on stay limits requests c m asks next read step written =
     let (before, last) = all_but_last (IsWritten limits) c.messages m written in
@@ -91,8 +91,8 @@ message_read go_on stay limits requests c m asks next read step written =
     let texts : back_text c ++ message_text m ≡ concat (map message_text (c.messages ++ m ∷ [])) =
     ap (λ t. back_text c ++ t) (sym (append-nil (message_text m))) ∙ sym (ap concat (map-append message_text c.messages (m ∷ [])) ∙
     concat-append (map message_text c.messages) (message_text m ∷ [])) in
-    subst (λ t. Reads limits (waits Two (asked ++ asks)) (values_of (c.messages ++ m ∷ [])) t (waits next [])) texts
-    (subst (λ l. Reads limits (waits Two (asked ++ asks)) l (back_text c ++ message_text m) (waits next [])) values both)
+    subst (λ t. ReadsAs limits (waits Two (asked ++ asks)) (values_of (c.messages ++ m ∷ [])) t (waits next [])) texts
+    (subst (λ l. ReadsAs limits (waits Two (asked ++ asks)) l (back_text c ++ message_text m) (waits next [])) values both)
 
 -- the reply to a request more
 pub reply_read : VersionThreeSpellsWhatTwoDoes → ReadingsGoOn → ReadingsStay →
@@ -105,7 +105,7 @@ reply_read three go_on stay limits store id requests c request sent read written
     let fits = suits three limits store c.version id request sent in
     let all = message_read go_on stay limits requests c m (version_asked request ∷ []) effect.version read
     (λ s. reply_reads limits c.version request effect (message_text m) (replies_to_words store c.version id (request_words request)) fits s) written in
-    subst (λ l. Reads limits (waits Two l) (values_of (c.messages ++ m ∷ [])) (concat (map message_text (c.messages ++ m ∷ []))) (waits effect.version []))
+    subst (λ l. ReadsAs limits (waits Two l) (values_of (c.messages ++ m ∷ [])) (concat (map message_text (c.messages ++ m ∷ []))) (waits effect.version []))
     (sym (map-append version_asked requests (request ∷ []))) all
 
 three_or_two : (version : Version) → (version ≡ Two → ⊥) → version ≡ Three
@@ -118,7 +118,7 @@ pub push_read : ReadingsGoOn → ReadingsStay → (limits : Bounds) (items : Lis
 push_read go_on stay limits items requests c later read written =
     let m = push_message items in
     let three : c.version ≡ Three = three_or_two c.version later in
-    let step : IsWritten limits m → Reads limits (waits c.version []) (m.value ∷ []) (message_text m) (waits c.version []) =
+    let step : IsWritten limits m → ReadsAs limits (waits c.version []) (m.value ∷ []) (message_text m) (waits c.version []) =
     λ s. (
       message_text m,
       [],
@@ -128,5 +128,5 @@ push_read go_on stay limits items requests c later read written =
       sym (append-nil (message_text m)),
     ) in
     let all = message_read go_on stay limits requests c m [] c.version read step written in
-    subst (λ l. Reads limits (waits Two l) (values_of (c.messages ++ m ∷ [])) (concat (map message_text (c.messages ++ m ∷ []))) (waits c.version []))
+    subst (λ l. ReadsAs limits (waits Two l) (values_of (c.messages ++ m ∷ [])) (concat (map message_text (c.messages ++ m ∷ []))) (waits c.version []))
     (append-nil (map version_asked requests)) all

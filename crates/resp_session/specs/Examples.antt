@@ -3,7 +3,7 @@ use Rattle.std.specs.Prelude.{ℕ, true, false, List, [], ◌∷◌, ◌++◌, O
 use Rattle.resp_value.specs.Bounds.{Bounds, AreBounds}
 use Rattle.resp_value.specs.Data.{Datum}
 use Rattle.resp_value.specs.declared.version.Version.TheVariants.{Two, Three}
-use Rattle.resp_session.specs.Replies.{bulk}
+use Rattle.resp_session.specs.Replies.{bulk_string}
 use Rattle.resp_session.specs.Answers.{SessionState, Answers, after_values}
 use Rattle.resp_session.specs.Connections.{Connection, shown_replies, shown_pushes}
 use Rattle.resp_session.specs.Worlds.{World, Send, Greet, ToServer, ToClient, Push, new_world, after_event, connection_at}
@@ -53,7 +53,7 @@ get_before_set = fold after_event (new_world 2) (Send 1 set_a ∷ Send 2 get_a �
 -- one client that asks for version 3, and is sent a push behind the reply
 abbrev pub push_after_hello : World
 push_after_hello = fold after_event (new_world 1) (Greet 1 (Some Three) ∷ ToServer 1 1000 ∷ ToClient 1 148 ∷
-    Push 1 (bulk (codes "x") ∷ []) ∷ ToClient 1 10 ∷ ToClient 1 1 ∷ [])
+    Push 1 (bulk_string (codes "x") ∷ []) ∷ ToClient 1 10 ∷ ToClient 1 1 ∷ [])
 
 -- the clients of the commands, in the order in which these were run
 abbrev pub clients_of : World → List ℕ

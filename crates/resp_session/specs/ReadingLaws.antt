@@ -4,23 +4,23 @@ use Rattle.resp_value.specs.Data.{Datum}
 use Rattle.resp_value.specs.Bounds.{Bounds}
 use Rattle.resp_value.specs.declared.version.Version.{Version}
 use Rattle.resp_session.specs.Heard.{replies_of, pushes_of, numbered_replies}
-use Rattle.resp_session.specs.Reading.{Waiting, Reads, MayGoOn}
+use Rattle.resp_session.specs.Reading.{Waiting, ReadsAs, MayGoOn}
 
 -- what was read, and then more from there on, is read whole
 abbrev pub ReadingsGoOn : Type 0
 ReadingsGoOn = (limits : Bounds) (a b c : Waiting) (xs ys : List Datum) (text more : List ℕ) →
-    Reads limits a xs text b → Reads limits b ys more c → Reads limits a (xs ++ ys) (text ++ more) c
+    ReadsAs limits a xs text b → ReadsAs limits b ys more c → ReadsAs limits a (xs ++ ys) (text ++ more) c
 
 -- what was read stays so, whatever is asked behind it
 abbrev pub ReadingsStay : Type 0
 ReadingsStay = (limits : Bounds) (a b : Waiting) (asks : List (Option Version)) (xs : List Datum) (text : List ℕ) →
-    Reads limits a xs text b →
-    Reads limits (record a { asks = a.asks ++ asks }) xs text (record b { asks = b.asks ++ asks })
+    ReadsAs limits a xs text b →
+    ReadsAs limits (record a { asks = a.asks ++ asks }) xs text (record b { asks = b.asks ++ asks })
 
 -- a text is read into values and a rest that may go on in one way
 abbrev pub ATextHasOneReading : Type 0
 ATextHasOneReading = (limits : Bounds) (w a b : Waiting) (xs ys : List Datum) (p q rest rest' : List ℕ) →
-    Reads limits w xs p a → Reads limits w ys q b → p ++ rest ≡ q ++ rest' → MayGoOn limits a rest →
+    ReadsAs limits w xs p a → ReadsAs limits w ys q b → p ++ rest ≡ q ++ rest' → MayGoOn limits a rest →
     MayGoOn limits b rest' → (xs ≡ ys) × (a ≡ b) × (rest ≡ rest')
 
 -- the replies among values and then more are those among the values, and then those among more, numbered on; the

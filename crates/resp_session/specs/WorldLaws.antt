@@ -11,7 +11,7 @@ use Rattle.resp_value.specs.declared.version.Version.TheVariants.{Two}
 use Rattle.resp_session.specs.Answers.{server_rules}
 use Rattle.resp_session.specs.Arrivals.{HasCome}
 use Rattle.resp_session.specs.Heard.{replies_of, pushes_of}
-use Rattle.resp_session.specs.Reading.{Waiting, Reads}
+use Rattle.resp_session.specs.Reading.{Waiting, ReadsAs}
 use Rattle.resp_session.specs.Requests.{version_asked, Request, Command, HasBytes, request_words, request_text}
 use Rattle.resp_session.specs.Connections.{Connection, Message, message_text, back_text, later_requests, sent_text, values_of, shown_replies, shown_pushes}
 use Rattle.resp_session.specs.Worlds.{World, Event, Send, connection_at, new_world}
@@ -80,5 +80,5 @@ abbrev pub WhatIsWrittenIsRead : Type 0
 WhatIsWrittenIsRead = (limits : Bounds) (n : ℕ) (events : List Event) (w : World) → AreBounds limits →
     AllByRecursion IsOfBytes events → Run limits (new_world n) events w → (i : ℕ) (c : Connection) →
     connection_at w.connections i ≡ Some c → AllByRecursion (IsWritten limits) c.messages →
-    Reads limits (waiting_for Two c.requests) (values_of c.messages) (back_text c)
+    ReadsAs limits (waiting_for Two c.requests) (values_of c.messages) (back_text c)
     (waiting_for c.version (later_requests c))

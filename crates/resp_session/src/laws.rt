@@ -1,14 +1,13 @@
 //! Laws of the definitions of sessions and worlds, each the contract of a function with an empty
 //! body.
 
-ghost use Rattle.std.specs.Prelude.{◌≡◌, [], ◌∷◌, ◌++◌, codes, length, true, false};
+ghost use Rattle.std.specs.Prelude.{◌≡◌, [], ◌∷◌, ◌++◌, codes, length, true};
 ghost use Rattle.resp_value.specs.Words.{command_of};
 ghost use Rattle.resp_session.specs.Answers.{after_values};
 ghost use Rattle.resp_session.specs.AnswerLaws.{ACommandIsItsWords, AnswersGoOn, AnswersEnd, ATextHasOneAnswer, AnswersAreOfTheCut, WhatComesIsWholeTexts};
 ghost use Rattle.resp_session.specs.Examples.{new_session, answers_to, set_a, get_a, AnInlineCommandIsRefused, get_before_set, hello_in_two, hello_in_three, push_after_hello, clients_of, replies_to, pushes_to};
-ghost use Rattle.resp_session.specs.Heard.{is_push};
 ghost use Rattle.resp_session.specs.ReadingLaws.{ReadingsGoOn, ReadingsStay, ATextHasOneReading, HearingGoesOn};
-ghost use Rattle.resp_session.specs.Replies.{simple, bulk, natural, null};
+ghost use Rattle.resp_session.specs.Replies.{simple_string, bulk_string, natural, null};
 ghost use Rattle.resp_session.specs.WorldLaws.{AWorldHasOneOrder, ARunIsCut, TheOrderOnlyGrows, ShownRepliesAreOfTheOrder, WhatIsShownWasSent, WhatArrivesIsCommands, WhatIsWrittenIsRead};
 ghost use Rattle.resp_session.specs.Connections.{push_message};
 
@@ -193,10 +192,10 @@ pub fn conditions_and_their_replies()
 /// Events, and what a world shows behind them.
 pub fn events_and_what_they_show()
     ensures order { clients_of get_before_set ≡ 2 ∷ 1 ∷ [] }
-    ensures to_the_first { replies_to get_before_set 1 ≡ simple (codes "OK") ∷ [] }
+    ensures to_the_first { replies_to get_before_set 1 ≡ simple_string (codes "OK") ∷ [] }
     ensures to_the_second { replies_to get_before_set 2 ≡ null ∷ [] }
     ensures store { get_before_set.store ≡ (codes "a", codes "1") ∷ [] }
     ensures greeting { length (replies_to push_after_hello 1) ≡ 1 }
-    ensures push { pushes_to push_after_hello 1 ≡ (push_message (bulk (codes "x") ∷ [])).value ∷
+    ensures push { pushes_to push_after_hello 1 ≡ (push_message (bulk_string (codes "x") ∷ [])).value ∷
         [] }
 {}
