@@ -2,6 +2,7 @@ pub mod CommandWords
 pub mod TextsInPieces
 pub mod Arrivals
 pub mod Readings
+pub mod ClientFaults
 pub mod Hearing
 pub mod OrdersGoOn
 pub mod Replays

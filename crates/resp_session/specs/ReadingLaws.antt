@@ -3,8 +3,9 @@ use Rattle.std.specs.Prelude.{◌≡◌, ℕ, ◌+◌, List, ◌++◌, length, O
 use Rattle.resp_value.specs.Data.{Datum}
 use Rattle.resp_value.specs.Bounds.{Bounds}
 use Rattle.resp_value.specs.declared.version.Version.{Version}
+use Rattle.resp_value.specs.declared.cause.Cause.{Cause}
 use Rattle.resp_session.specs.Heard.{replies_of, pushes_of, numbered_replies}
-use Rattle.resp_session.specs.Reading.{Waiting, ReadsAs, MayGoOn}
+use Rattle.resp_session.specs.Reading.{Waiting, ReadsAs, MayGoOn, ClientFault}
 
 -- what was read, and then more from there on, is read whole
 abbrev pub ReadingsGoOn : Type 0
@@ -30,3 +31,9 @@ HearingGoesOn = (first : ℕ) (xs ys : List Datum) →
     (numbered_replies first (xs ++ ys) ≡
     numbered_replies first xs ++ numbered_replies (first + length (replies_of xs)) ys) ×
     (pushes_of (xs ++ ys) ≡ pushes_of xs ++ pushes_of ys)
+
+-- a rest that may go on has no fault, and any other has one at most: one cause and one place
+abbrev pub ARestHasOneClientFault : Type 0
+ARestHasOneClientFault = (limits : Bounds) (w : Waiting) (rest : List ℕ) (cause cause' : Cause) (at at' : ℕ) →
+    ClientFault limits w rest cause at →
+    (MayGoOn limits w rest → ⊥) × (ClientFault limits w rest cause' at' → (cause ≡ cause') × (at ≡ at'))

@@ -6,7 +6,7 @@ ghost use Rattle.resp_value.specs.Words.{command_of};
 ghost use Rattle.resp_session.specs.Answers.{after_values};
 ghost use Rattle.resp_session.specs.AnswerLaws.{ACommandIsItsWords, AnswersGoOn, AnswersEnd, ATextHasOneAnswer, AnswersAreOfTheCut, WhatComesIsWholeTexts};
 ghost use Rattle.resp_session.specs.Examples.{new_session, answers_to, set_a, get_a, AnInlineCommandIsRefused, get_before_set, hello_in_two, hello_in_three, push_after_hello, clients_of, replies_to, pushes_to};
-ghost use Rattle.resp_session.specs.ReadingLaws.{ReadingsGoOn, ReadingsStay, ATextHasOneReading, HearingGoesOn};
+ghost use Rattle.resp_session.specs.ReadingLaws.{ReadingsGoOn, ReadingsStay, ATextHasOneReading, ARestHasOneClientFault, HearingGoesOn};
 ghost use Rattle.resp_session.specs.Replies.{simple_string, bulk_string, natural, null};
 ghost use Rattle.resp_session.specs.WorldLaws.{AWorldHasOneOrder, ARunIsCut, TheOrderOnlyGrows, ShownRepliesAreOfTheOrder, WhatIsShownWasSent, WhatArrivesIsCommands, WhatIsWrittenIsRead};
 ghost use Rattle.resp_session.specs.Connections.{push_message};
@@ -72,6 +72,15 @@ pub fn a_text_has_one_reading()
     ensures { ATextHasOneReading }
 {
     grammar::no_spelling_begins_another();
+}
+
+/// A rest that may go on has no fault, and any other has one at most.
+pub fn a_rest_has_one_client_fault()
+    ensures { ARestHasOneClientFault }
+{
+    grammar::fronts_of_viable_texts_are_viable();
+    grammar::a_viable_text_has_no_cause();
+    grammar::a_rest_has_one_fault();
 }
 
 /// The replies among values, and then among more, are numbered on; pushes are apart from them.
