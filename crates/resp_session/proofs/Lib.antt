@@ -2,6 +2,7 @@ pub mod CommandWords
 pub mod TextsInPieces
 pub mod Arrivals
 pub mod Readings
+pub mod ClientFaults
 pub mod Hearing
 pub mod OrdersGoOn
 pub mod Replays
@@ -13,3 +14,6 @@ pub mod WorldLaws
 pub mod InlineCommand
 pub mod FittingWords
 pub mod SentRequests
+pub mod KeptVersions
+pub mod WrittenIsRead
+pub mod WorldsAreRead

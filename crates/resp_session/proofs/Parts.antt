@@ -10,7 +10,7 @@ use Rattle.resp_value.specs.declared.version.Version.{Version}
 use Rattle.resp_value.specs.declared.version.Version.TheVariants.{Two, Three}
 use Rattle.resp_session.specs.Heard.{is_push}
 use Rattle.resp_session.specs.Operations.{Operation, Ping, Echo, Get, Set, Del, Hello, Refused, operation_of}
-use Rattle.resp_session.specs.Replies.{bulk_or_null, hello_reply}
+use Rattle.resp_session.specs.Replies.{bulk_string_or_null, hello_reply}
 use Rattle.resp_session.specs.Stores.{Store, Effect, effect_of, effect_of_words, is_met, value_at}
 use Rattle.resp_session.specs.Requests.{Request, request_words, request_text}
 use Rattle.resp_session.specs.Connections.{Connection, Message, whole_within, sent_text, arrived_requests, with_request, with_message, with_effect, push_message}
@@ -39,23 +39,34 @@ change_holds f w i keeps all j c e = elim (is_changed f w.connections i j c e) a
 request_full : (request : Request) → 0 < length (request_text request)
 request_full request = omega arith
 
+-- the texts of one request more
+one_text_more : (request : Request) (c : Connection) →
+    map request_text (c.requests ++ request ∷ []) ≡ map request_text c.requests ++ request_text request ∷ []
+one_text_more request c = map-append request_text c.requests (request ∷ [])
+
+-- the requests that have come are the same where one more is asked
+pub arrived_requests-with_request : (request : Request) (c : Connection) → c.arrived ≤ length (sent_text c) →
+    arrived_requests (with_request request c) ≡ arrived_requests c
+arrived_requests-with_request request c within =
+    let texts = map request_text c.requests in
+    let k = whole_within texts c.arrived in
+    let same : whole_within (map request_text (c.requests ++ request ∷ [])) c.arrived ≡ k =
+    ap (λ l. whole_within l c.arrived) (one_text_more request c) ∙
+    whole_within-append texts (request_text request) c.arrived within (request_full request) in
+    let most : k ≤ length c.requests = omega (arith, whole_within-most texts c.arrived, length-map c.requests request_text) in
+    ap (λ n. take n (c.requests ++ request ∷ [])) same ∙ take-append-le k c.requests (request ∷ []) most
+
 -- a request more
 pub request_holds : (request : Request) (order : List (ℕ × List (List ℕ))) (i : ℕ) (c : Connection) → Holds i c order → Holds i (with_request request c) order
 request_holds request order i c h =
     let texts = map request_text c.requests in
-    let k = whole_within texts c.arrived in
-    let more : map request_text (c.requests ++ request ∷ []) ≡ texts ++ request_text request ∷ [] = map-append request_text c.requests (request ∷ []) in
-    let same : whole_within (map request_text (c.requests ++ request ∷ [])) c.arrived ≡ k =
-    ap (λ l. whole_within l c.arrived) more ∙ whole_within-append texts (request_text request) c.arrived h.within (request_full request) in
-    let most : k ≤ length c.requests = omega (arith, whole_within-most texts c.arrived, length-map c.requests request_text) in
-    let arrived : arrived_requests (with_request request c) ≡ arrived_requests c =
-    ap (λ n. take n (c.requests ++ request ∷ [])) same ∙ take-append-le k c.requests (request ∷ []) most in
     let longer : length (sent_text (with_request request c)) ≡ length (sent_text c) + length (concat (request_text request ∷ [])) =
-    ap (λ l. length (concat l)) more ∙ ap length (concat-append texts (request_text request ∷ [])) ∙
+    ap (λ l. length (concat l)) (one_text_more request c) ∙ ap length (concat-append texts (request_text request ∷ [])) ∙
     length-append (concat texts) (concat (request_text request ∷ [])) in
+    let within = h.within in
     record {
-      part = h.part ∙ sym (ap (map request_words) arrived);
-      within = omega (arith, h.within, longer);
+      part = h.part ∙ sym (ap (map request_words) (arrived_requests-with_request request c within));
+      within = omega (arith, within, longer);
       replies = h.replies;
     }
 
@@ -72,7 +83,7 @@ push_holds items order i c h = record {
 }
 
 -- a null and a bulk string are no pushes
-found_is_reply : (value : Option (List ℕ)) → is_push (bulk_or_null value) ≡ false
+found_is_reply : (value : Option (List ℕ)) → is_push (bulk_string_or_null value) ≡ false
 found_is_reply None = refl
 found_is_reply (Some content) = refl
 

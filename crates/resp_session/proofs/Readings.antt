@@ -8,14 +8,14 @@ use Rattle.resp_value.specs.Laws.{APushBeginsWithItsByte, NoSpellingBeginsAnothe
 use Rattle.resp_value.specs.declared.version.Version.{Version}
 use Rattle.resp_value.specs.declared.version.Version.TheVariants.{Two, Three}
 use Rattle.resp_session.specs.Heard.{is_push}
-use Rattle.resp_session.specs.Reading.{MayGoOn, Reads, Waiting, reading_rules, reading_version, waiting_after, waiting_after_reply}
+use Rattle.resp_session.specs.Reading.{MayGoOn, ReadsAs, Waiting, reading_rules, reading_version, waiting_after, waiting_after_reply}
 use Rattle.resp_session.specs.ReadingLaws.{ATextHasOneReading, ReadingsGoOn, ReadingsStay}
 
 pub readings_go_on : ReadingsGoOn
 readings_go_on limits a b c [] ys text more m n =
     let e : text ≡ [] = m.0 in
     let f : b ≡ a = m.1 in
-    subst (λ z. Reads limits a ys z c) (sym (ap (λ z. z ++ more) e)) (subst (λ z. Reads limits z ys more c) f n)
+    subst (λ z. ReadsAs limits a ys z c) (sym (ap (λ z. z ++ more) e)) (subst (λ z. ReadsAs limits z ys more c) f n)
 readings_go_on limits a b c (x ∷ xs) ys text more m n =
     let (f, g, s, may, t, w) = m in
     (f, g ++ more, s, may, readings_go_on limits (waiting_after a x) b c xs ys g more t n, ap (λ z. z ++ more) w ∙ append_assoc f g more)
@@ -92,13 +92,13 @@ readings_stay begins viable later limits a b more (x ∷ xs) text m =
       g,
       subst (λ version. IsSpelling (record { version = version; limits = limits }) x f) (sym same) s,
       may_stay a.asks more (is_push x) may,
-      subst (λ z. Reads limits z xs g (record { version = b.version; asks = b.asks ++ more })) (sym next)
+      subst (λ z. ReadsAs limits z xs g (record { version = b.version; asks = b.asks ++ more })) (sym next)
           (readings_stay begins viable later limits (waiting_after a x) b more xs g t),
       w,
     )
 
-one_reading : NoSpellingBeginsAnother → (limits : Bounds) (w a b : Waiting) (xs ys : List Datum) (p q u v : List ℕ) → Reads limits w xs p a →
-    Reads limits w ys q b → p ++ u ≡ q ++ v → MayGoOn limits a u → MayGoOn limits b v → (xs ≡ ys) × (a ≡ b) × (u ≡ v)
+one_reading : NoSpellingBeginsAnother → (limits : Bounds) (w a b : Waiting) (xs ys : List Datum) (p q u v : List ℕ) → ReadsAs limits w xs p a →
+    ReadsAs limits w ys q b → p ++ u ≡ q ++ v → MayGoOn limits a u → MayGoOn limits b v → (xs ≡ ys) × (a ≡ b) × (u ≡ v)
 one_reading apart limits w a b [] [] p q u v m n e j k =
     let m0 : p ≡ [] = m.0 in
     let n0 : q ≡ [] = n.0 in
@@ -120,7 +120,7 @@ one_reading apart limits w a b (x ∷ xs) (y ∷ ys) p q u v m n e j k =
     let r = reading_rules limits w in
     let d = apart r r x y f f2 (g ++ u) (g2 ++ v) s s2 e2 in
     let x0 : y ≡ x = sym d.0 in
-    let i = one_reading apart limits (waiting_after w x) a b xs ys g g2 u v t (subst (λ z. Reads limits (waiting_after w z) ys g2 b) x0 t2) d.2 j k in
+    let i = one_reading apart limits (waiting_after w x) a b xs ys g g2 u v t (subst (λ z. ReadsAs limits (waiting_after w z) ys g2 b) x0 t2) d.2 j k in
     let xs0 : xs ≡ ys = i.0 in
     (cc, i.1, i.2)
 

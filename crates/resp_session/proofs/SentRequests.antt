@@ -16,7 +16,7 @@ use Rattle.resp_session.specs.AnswerLaws.{WhatComesIsWholeTexts}
 use Rattle.resp_session.specs.Arrivals.{SpellEach}
 use Rattle.resp_session.specs.Connections.{Connection, sent_text, new_requests, with_request, with_message, with_shown, with_arrived, push_message, as_dropped}
 use Rattle.resp_session.specs.Requests.{Request, Hello, Command, HasBytes, RefusesRequest, is_unsent, is_unsent_request, request_words, request_text}
-use Rattle.resp_session.specs.Runs.{Outcome, Done, Refused, Gone, Step, Run, Refuses, connection_of, request_count}
+use Rattle.resp_session.specs.Runs.{Outcome, Done, Refused, Gone, Step, Run, RefusesEvent, connection_of, request_count}
 use Rattle.resp_session.specs.WorldLaws.{IsOfBytes, HasName, request_values, WhatArrivesIsCommands}
 use Rattle.resp_session.specs.Worlds.{World, Event, Send, Greet, ToServer, ToClient, Push, Drop, connection_at, world_with, after_event, after_arrival, commands_for, new_world}
 use Rattle.resp_session.proofs.Changes.{is_changed}
@@ -24,14 +24,15 @@ use Rattle.resp_session.proofs.FittingWords.{command_is_value, words_fit}
 use Rattle.resp_session.proofs.Parts.{comes_from}
 use Rattle.resp_session.proofs.WorldsHold.{new_at}
 
--- a request that was sent: it has a word, and its text is a spelling of its words
-abbrev IsSent : Bounds → Request → Type 0
-IsSent limits request = HasName request × IsSpelling (server_rules limits) (command_of (request_words request)) (request_text request)
+-- a request that was sent: it has a word, a client sends it, and its text is a spelling of its words
+abbrev pub IsSent : Bounds → Request → Type 0
+IsSent limits request = HasName request × (is_unsent_request request ≡ false) ×
+    IsSpelling (server_rules limits) (command_of (request_words request)) (request_text request)
 
-abbrev AreSent : Bounds → Connection → Type 0
+abbrev pub AreSent : Bounds → Connection → Type 0
 AreSent limits c = AllByRecursion (IsSent limits) c.requests
 
-abbrev AllSent : Bounds → World → Type 0
+abbrev pub AllSent : Bounds → World → Type 0
 AllSent limits w = (i : ℕ) (c : Connection) → connection_at w.connections i ≡ Some c → AreSent limits c
 
 one_more : {X : Type 0} (P : X → Type 0) (xs : List X) (x : X) → AllByRecursion P xs → P x → AllByRecursion P (xs ++ x ∷ [])
@@ -60,6 +61,7 @@ request_is_sent : CanonicalTextSpellsWhatFits → (limits : Bounds) → AreBound
 request_is_sent spells limits bounds count request bytes named sent unrefused =
     let words = request_words request in (
       named,
+      sent,
       (spells (server_rules limits) (command_of words) (command_is_value words bytes)).1
           (words_fit limits words bounds (λ h. unrefused TooLarge (sent, h))),
     )
@@ -79,7 +81,7 @@ hello_has_bytes (Some Three) = ((omega arith, (omega arith, (omega arith, (omega
 
 -- an event that isn't refused keeps it
 event_sent : CanonicalTextSpellsWhatFits → (limits : Bounds) → AreBounds limits → (w : World) (event : Event) → IsOfBytes event →
-    ((cause : Cause) → Refuses limits (connection_of w event) event cause → ⊥) → AllSent limits w → AllSent limits (after_event w event)
+    ((cause : Cause) → RefusesEvent limits (connection_of w event) event cause → ⊥) → AllSent limits w → AllSent limits (after_event w event)
 event_sent spells limits bounds w (Send i words) bytes unrefused all =
     let count = request_count (connection_at w.connections i) in
     let sent : is_unsent words ≡ false = false_from_ne_true (is_unsent words) (λ e. unrefused BadCommand e) in
@@ -94,7 +96,7 @@ event_sent spells limits bounds w (ToClient i k) bytes unrefused all = change_se
 event_sent spells limits bounds w (Push i items) bytes unrefused all = change_sent limits (with_message (push_message items)) w i (λ c a. a) all
 event_sent spells limits bounds w (Drop i) bytes unrefused all = change_sent limits as_dropped w i (λ c a. a) all
 
-step_sent : CanonicalTextSpellsWhatFits → (limits : Bounds) → AreBounds limits → (w : World) (event : Event) (outcome : Outcome) (next : World) →
+pub step_sent : CanonicalTextSpellsWhatFits → (limits : Bounds) → AreBounds limits → (w : World) (event : Event) (outcome : Outcome) (next : World) →
     IsOfBytes event →
     Step limits w event outcome next → AllSent limits w → AllSent limits next
 step_sent spells limits bounds w event Done next bytes s all = subst (AllSent limits) (sym s.2) (event_sent spells limits bounds w event bytes s.1 all)
@@ -109,7 +111,7 @@ run_sent spells limits bounds w (event ∷ events) last bytes r all =
     let (outcome, next, s, t) = r in
     run_sent spells limits bounds next events last bytes.1 t (step_sent spells limits bounds w event outcome next bytes.0 s all)
 
-new_sent : (limits : Bounds) (n : ℕ) → AllSent limits (new_world n)
+pub new_sent : (limits : Bounds) (n : ℕ) → AllSent limits (new_world n)
 new_sent limits n i c e = subst (AreSent limits) (sym (new_at n i c e)) tt
 
 names_of : (limits : Bounds) (requests : List Request) → AllByRecursion (IsSent limits) requests → AllByRecursion HasName requests
@@ -119,7 +121,7 @@ names_of limits (r ∷ rs) h = (h.0.0, names_of limits rs h.1)
 texts_spell : (limits : Bounds) (requests : List Request) → AllByRecursion (IsSent limits) requests →
     SpellEach (server_rules limits) (map (λ (r : Request). command_of (request_words r)) requests) (map request_text requests)
 texts_spell limits [] h = tt
-texts_spell limits (r ∷ rs) h = (h.0.1, texts_spell limits rs h.1)
+texts_spell limits (r ∷ rs) h = (h.0.2, texts_spell limits rs h.1)
 
 pub what_arrives_is_commands : WhatComesIsWholeTexts → CanonicalTextSpellsWhatFits → WhatArrivesIsCommands
 what_arrives_is_commands comes spells limits n events w bounds bytes r i c at =

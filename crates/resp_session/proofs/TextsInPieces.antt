@@ -6,7 +6,7 @@ use Rattle.resp_value.specs.Spellings.{IsSpelling, AreSpellings, IsViable, Fault
 use Rattle.resp_value.specs.Causes.{cause_of, name_of}
 use Rattle.resp_value.specs.Laws.{NoSpellingBeginsAnother, FrontsOfSpellingsAreViable, FrontsOfViableTextsAreViable, AViableTextHasNoCause, ARestHasOneFault}
 use Rattle.resp_session.specs.AnswerLaws.{ATextHasOneAnswer, AnswersAreOfTheCut, AnswersEnd, AnswersGoOn}
-use Rattle.resp_session.specs.Answers.{BeginsNoValue, Ends, IsRefused, SessionState, Waits, after_error, after_meaning, after_value, after_values, server_rules}
+use Rattle.resp_session.specs.Answers.{BeginsNoValue, Ends, EndsInFault, SessionState, Waits, after_error, after_meaning, after_value, after_values, server_rules}
 use Rattle.resp_session.specs.Commands.{meaning_of}
 
 -- answers to values, and then to more
@@ -73,7 +73,7 @@ no_value_later viable r rest more rule at f none x next behind s (inl (q, e, w))
 no_value_later viable r rest more rule at f none x next behind s (inr (q, e, w)) =
     none x next (q ++ f.behind) s (f.whole ∙ ap (λ z. z ++ f.behind) e ∙ append_assoc next q f.behind)
 
-pub fault_stays : FrontsOfSpellingsAreViable → (r : Rules) (rest more : List ℕ) (s b : SessionState) → IsRefused r rest s b → IsRefused r (rest ++ more) s b
+pub fault_stays : FrontsOfSpellingsAreViable → (r : Rules) (rest more : List ℕ) (s b : SessionState) → EndsInFault r rest s b → EndsInFault r (rest ++ more) s b
 fault_stays viable r rest more s b f =
     let g = f.fault in
     let split : rest ++ more ≡ g.front ++ (g.behind ++ more) = ap (λ z. z ++ more) g.whole ∙ append_assoc g.front g.behind more in
@@ -103,7 +103,8 @@ answers_end viable limits id a b text more rest m closing = record {
 
 -- One answer.
 
-not_both : FrontsOfViableTextsAreViable → AViableTextHasNoCause → (r : Rules) (rest : List ℕ) (s b c : SessionState) → Waits r rest s b → IsRefused r rest s c →
+not_both : FrontsOfViableTextsAreViable → AViableTextHasNoCause → (r : Rules) (rest : List ℕ) (s b c : SessionState) → Waits r rest s b →
+    EndsInFault r rest s c →
     ⊥
 not_both viable no_cause r rest s b c w f =
     let g = f.fault in

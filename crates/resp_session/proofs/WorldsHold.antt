@@ -24,7 +24,8 @@ fewer_then_more n m xs h k =
     ap (λ i. take n xs ++ drop i (take m xs)) (length-take-le n xs few) ∙ ap (λ l. l ++ drop n (take m xs)) same ∙ take-append-drop n (take m xs)
 
 -- the requests that have come, and then those that so many bytes more bring
-arrived_then_new : (k : ℕ) (c : Connection) → c.arrived ≤ length (sent_text c) → arrived_requests c ++ new_requests k c ≡ arrived_requests (with_arrived k c)
+pub arrived_then_new : (k : ℕ) (c : Connection) → c.arrived ≤ length (sent_text c) →
+    arrived_requests c ++ new_requests k c ≡ arrived_requests (with_arrived k c)
 arrived_then_new k c h =
     let texts = map request_text c.requests in
     let n : ℕ = min (c.arrived + k) (length (sent_text c)) in
@@ -32,10 +33,10 @@ arrived_then_new k c h =
     let most : whole_within texts n ≤ length c.requests = omega (arith, whole_within-most texts n, length-map c.requests request_text) in
     fewer_then_more (whole_within texts c.arrived) (whole_within texts n) c.requests (whole_within-grows texts c.arrived n later) most
 
-abbrev arrived_of : List Request → ℕ → List Request
+abbrev pub arrived_of : List Request → ℕ → List Request
 arrived_of requests arrived = take (whole_within (map request_text requests) arrived) requests
 
-one_connection : (x y : Connection) (o : Option Connection) → o ≡ Some x → o ≡ Some y → y ≡ x
+pub one_connection : (x y : Connection) (o : Option Connection) → o ≡ Some x → o ≡ Some y → y ≡ x
 one_connection x y o e f = let g : Some y ≡ Some x = sym f ∙ e in cc
 
 -- a connection behind commands that have arrived on another one, or on this one
@@ -103,7 +104,7 @@ event_holds w (ToClient i k) all = change_holds _ w i (λ j c h. record { part =
 event_holds w (Push i items) all = change_holds _ w i (push_holds items w.order) all
 event_holds w (Drop i) all = change_holds _ w i (λ j c h. record { part = h.part; within = h.within; replies = h.replies }) all
 
-step_holds : (limits : Bounds) (w : World) (event : Event) (outcome : Outcome) (next : World) → Step limits w event outcome next → AllHold w → AllHold next
+pub step_holds : (limits : Bounds) (w : World) (event : Event) (outcome : Outcome) (next : World) → Step limits w event outcome next → AllHold w → AllHold next
 step_holds limits w event Done next s all = subst AllHold (sym s.2) (event_holds w event all)
 step_holds limits w event (Refused cause) next s all = subst AllHold (sym s.2) all
 step_holds limits w event Gone next s all = subst AllHold (sym s.1) all

@@ -69,7 +69,7 @@ pub record Waits (rules : Rules) (rest : List ℕ) (before after : SessionState)
   pub same : after ≡ before
 
 -- a rest that no value begins is refused where it isn't viable
-pub record IsRefused (rules : Rules) (rest : List ℕ) (before after : SessionState) : Type 0 where
+pub record EndsInFault (rules : Rules) (rest : List ℕ) (before after : SessionState) : Type 0 where
   pub is_open : before.closing ≡ false
   pub no_more : BeginsNoValue rules rest
   pub rule : Rule
@@ -85,7 +85,7 @@ pub record IsUnread (before after : SessionState) : Type 0 where
 -- what comes of the rest behind the values that were answered
 abbrev pub Ends : Rules → List ℕ → SessionState → SessionState → Type 0
 Ends rules rest before after = Waits rules rest before after ⊎
-    (IsRefused rules rest before after ⊎ IsUnread before after)
+    (EndsInFault rules rest before after ⊎ IsUnread before after)
 
 -- a server reads version 2, whatever version it answers in
 abbrev pub server_rules : Bounds → Rules

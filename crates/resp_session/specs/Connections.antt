@@ -60,6 +60,10 @@ whole_within (text ∷ texts) n = if nat_lt n (length text) then 0 else whole_wi
 abbrev pub arrived_requests : Connection → List Request
 arrived_requests c = take (whole_within (map request_text c.requests) c.arrived) c.requests
 
+-- the requests that have not come whole
+abbrev pub later_requests : Connection → List Request
+later_requests c = drop (whole_within (map request_text c.requests) c.arrived) c.requests
+
 -- the messages that have come whole
 abbrev pub shown_messages : Connection → List Message
 shown_messages c = take (whole_within (map message_text c.messages) c.shown) c.messages

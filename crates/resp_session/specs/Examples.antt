@@ -2,11 +2,13 @@
 use Rattle.std.specs.Prelude.{ℕ, true, false, List, [], ◌∷◌, ◌++◌, Option, None, Some, map, fold, codes}
 use Rattle.resp_value.specs.Bounds.{Bounds, AreBounds}
 use Rattle.resp_value.specs.Data.{Datum}
+use Rattle.resp_value.specs.declared.cause.Cause.{Cause}
 use Rattle.resp_value.specs.declared.version.Version.TheVariants.{Two, Three}
-use Rattle.resp_session.specs.Replies.{bulk}
+use Rattle.resp_session.specs.Runs.{Step, Refused, Gone}
+use Rattle.resp_session.specs.Replies.{bulk_string}
 use Rattle.resp_session.specs.Answers.{SessionState, Answers, after_values}
 use Rattle.resp_session.specs.Connections.{Connection, shown_replies, shown_pushes}
-use Rattle.resp_session.specs.Worlds.{World, Send, Greet, ToServer, ToClient, Push, new_world, after_event, connection_at}
+use Rattle.resp_session.specs.Worlds.{World, Event, Send, Greet, ToServer, ToClient, Push, new_world, after_event, connection_at}
 
 -- a new session over an empty store
 abbrev pub new_session : SessionState
@@ -53,7 +55,7 @@ get_before_set = fold after_event (new_world 2) (Send 1 set_a ∷ Send 2 get_a �
 -- one client that asks for version 3, and is sent a push behind the reply
 abbrev pub push_after_hello : World
 push_after_hello = fold after_event (new_world 1) (Greet 1 (Some Three) ∷ ToServer 1 1000 ∷ ToClient 1 148 ∷
-    Push 1 (bulk (codes "x") ∷ []) ∷ ToClient 1 10 ∷ ToClient 1 1 ∷ [])
+    Push 1 (bulk_string (codes "x") ∷ []) ∷ ToClient 1 10 ∷ ToClient 1 1 ∷ [])
 
 -- the clients of the commands, in the order in which these were run
 abbrev pub clients_of : World → List ℕ
@@ -74,3 +76,11 @@ pushes_on (Some c) = shown_pushes c
 -- the pushes that are shown to the client of this number
 abbrev pub pushes_to : World → ℕ → List Datum
 pushes_to w i = pushes_on (connection_at w.connections i)
+
+-- under all limits, the event is refused for this cause behind this world
+abbrev pub IsRefusedFor : World → Event → Cause → Type 0
+IsRefusedFor w event cause = (limits : Bounds) → Step limits w event (Refused cause) w
+
+-- under all limits, the event is of nobody in this world
+abbrev pub IsOfNobody : World → Event → Type 0
+IsOfNobody w event = (limits : Bounds) → Step limits w event Gone w

@@ -62,10 +62,11 @@ abbrev pub MayCome : Waiting → Datum → Type 0
 MayCome w x = w.asks ≡ [] → is_push x ≡ true
 
 -- the text is spellings of these values in order, each in the version in which it is read, and leaves so much waiting
-abbrev pub Reads : Bounds → Waiting → List Datum → List ℕ → Waiting → Type 0
-Reads limits w [] text after = (text ≡ []) × (after ≡ w)
-Reads limits w (x ∷ xs) text after = (front : List ℕ) × (rest : List ℕ) × IsSpelling (reading_rules limits w) x front ×
-    MayCome w x × Reads limits (waiting_after w x) xs rest after × (text ≡ front ++ rest)
+abbrev pub ReadsAs : Bounds → Waiting → List Datum → List ℕ → Waiting → Type 0
+ReadsAs limits w [] text after = (text ≡ []) × (after ≡ w)
+ReadsAs limits w (x ∷ xs) text after = (front : List ℕ) × (rest : List ℕ) ×
+    IsSpelling (reading_rules limits w) x front ×
+    MayCome w x × ReadsAs limits (waiting_after w x) xs rest after × (text ≡ front ++ rest)
 
 -- a rest whose first byte begins no push, while no command waits
 abbrev pub IsUnasked : Waiting → List ℕ → Type 0

@@ -3,24 +3,25 @@ use Rattle.std.specs.Prelude.{◌≡◌, ℕ, ◌+◌, List, ◌++◌, length, O
 use Rattle.resp_value.specs.Data.{Datum}
 use Rattle.resp_value.specs.Bounds.{Bounds}
 use Rattle.resp_value.specs.declared.version.Version.{Version}
+use Rattle.resp_value.specs.declared.cause.Cause.{Cause}
 use Rattle.resp_session.specs.Heard.{replies_of, pushes_of, numbered_replies}
-use Rattle.resp_session.specs.Reading.{Waiting, Reads, MayGoOn}
+use Rattle.resp_session.specs.Reading.{Waiting, ReadsAs, MayGoOn, ClientFault}
 
 -- what was read, and then more from there on, is read whole
 abbrev pub ReadingsGoOn : Type 0
 ReadingsGoOn = (limits : Bounds) (a b c : Waiting) (xs ys : List Datum) (text more : List ℕ) →
-    Reads limits a xs text b → Reads limits b ys more c → Reads limits a (xs ++ ys) (text ++ more) c
+    ReadsAs limits a xs text b → ReadsAs limits b ys more c → ReadsAs limits a (xs ++ ys) (text ++ more) c
 
 -- what was read stays so, whatever is asked behind it
 abbrev pub ReadingsStay : Type 0
 ReadingsStay = (limits : Bounds) (a b : Waiting) (asks : List (Option Version)) (xs : List Datum) (text : List ℕ) →
-    Reads limits a xs text b →
-    Reads limits (record a { asks = a.asks ++ asks }) xs text (record b { asks = b.asks ++ asks })
+    ReadsAs limits a xs text b →
+    ReadsAs limits (record a { asks = a.asks ++ asks }) xs text (record b { asks = b.asks ++ asks })
 
 -- a text is read into values and a rest that may go on in one way
 abbrev pub ATextHasOneReading : Type 0
 ATextHasOneReading = (limits : Bounds) (w a b : Waiting) (xs ys : List Datum) (p q rest rest' : List ℕ) →
-    Reads limits w xs p a → Reads limits w ys q b → p ++ rest ≡ q ++ rest' → MayGoOn limits a rest →
+    ReadsAs limits w xs p a → ReadsAs limits w ys q b → p ++ rest ≡ q ++ rest' → MayGoOn limits a rest →
     MayGoOn limits b rest' → (xs ≡ ys) × (a ≡ b) × (rest ≡ rest')
 
 -- the replies among values and then more are those among the values, and then those among more, numbered on; the
@@ -30,3 +31,9 @@ HearingGoesOn = (first : ℕ) (xs ys : List Datum) →
     (numbered_replies first (xs ++ ys) ≡
     numbered_replies first xs ++ numbered_replies (first + length (replies_of xs)) ys) ×
     (pushes_of (xs ++ ys) ≡ pushes_of xs ++ pushes_of ys)
+
+-- a rest that may go on has no fault, and any other has one at most: one cause and one place
+abbrev pub ARestHasOneClientFault : Type 0
+ARestHasOneClientFault = (limits : Bounds) (w : Waiting) (rest : List ℕ) (cause cause' : Cause) (at at' : ℕ) →
+    ClientFault limits w rest cause at →
+    (MayGoOn limits w rest → ⊥) × (ClientFault limits w rest cause' at' → (cause ≡ cause') × (at ≡ at'))

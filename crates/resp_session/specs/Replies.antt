@@ -6,16 +6,16 @@ use Rattle.resp_value.specs.declared.version.Version.{Version}
 use Rattle.resp_value.specs.declared.version.Version.TheVariants.{Two, Three}
 
 -- a simple string
-abbrev pub simple : List ℕ → Datum
-simple text = scalar (d.Simple text)
+abbrev pub simple_string : List ℕ → Datum
+simple_string text = scalar (d.Simple text)
 
 -- an error
 abbrev pub error : List ℕ → Datum
 error text = scalar (d.Error text)
 
 -- a bulk string
-abbrev pub bulk : List ℕ → Datum
-bulk content = scalar (d.Bulk content)
+abbrev pub bulk_string : List ℕ → Datum
+bulk_string content = scalar (d.Bulk content)
 
 -- an integer that is not below zero
 abbrev pub natural : ℕ → Datum
@@ -26,9 +26,9 @@ abbrev pub null : Datum
 null = scalar d.Null
 
 -- a bulk string where there is a value, and else a null
-abbrev pub bulk_or_null : Option (List ℕ) → Datum
-bulk_or_null None = null
-bulk_or_null (Some content) = bulk content
+abbrev pub bulk_string_or_null : Option (List ℕ) → Datum
+bulk_string_or_null None = null
+bulk_string_or_null (Some content) = bulk_string content
 
 -- the number by which HELLO names a version
 abbrev pub version_number : Version → ℕ
@@ -38,13 +38,13 @@ version_number Three = 3
 -- what HELLO tells of the session with this number
 abbrev pub hello_pairs : Version → ℕ → List (Datum × Datum)
 hello_pairs version id =
-    (bulk (codes "server"), bulk (codes "resp_loop")) ∷
-    (bulk (codes "version"), bulk (codes "1.0.0")) ∷
-    (bulk (codes "proto"), natural (version_number version)) ∷
-    (bulk (codes "id"), natural id) ∷
-    (bulk (codes "mode"), bulk (codes "standalone")) ∷
-    (bulk (codes "role"), bulk (codes "master")) ∷
-    (bulk (codes "modules"), aggregate d.Array none) ∷ []
+    (bulk_string (codes "server"), bulk_string (codes "resp_loop")) ∷
+    (bulk_string (codes "version"), bulk_string (codes "1.0.0")) ∷
+    (bulk_string (codes "proto"), natural (version_number version)) ∷
+    (bulk_string (codes "id"), natural id) ∷
+    (bulk_string (codes "mode"), bulk_string (codes "standalone")) ∷
+    (bulk_string (codes "role"), bulk_string (codes "master")) ∷
+    (bulk_string (codes "modules"), aggregate d.Array none) ∷ []
 
 -- a map in version 3, and an array of keys and values in turn in version 2
 abbrev pub hello_reply : Version → ℕ → Datum

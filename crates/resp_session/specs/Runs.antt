@@ -39,11 +39,11 @@ RefusesPush limits version push (OverLimits limit) =
 RefusesPush limits version push _ = ⊥
 
 -- why an event on this connection is refused; bytes and drops never are
-abbrev pub Refuses : Bounds → Option Connection → Event → Cause → Type 0
-Refuses limits c (Send i words) cause = RefusesRequest limits (request_count c) (Command words) cause
-Refuses limits c (Greet i asked) cause = RefusesRequest limits (request_count c) (Hello asked) cause
-Refuses limits c (Push i items) cause = RefusesPush limits (version_of c) (push_message items).value cause
-Refuses limits c _ cause = ⊥
+abbrev pub RefusesEvent : Bounds → Option Connection → Event → Cause → Type 0
+RefusesEvent limits c (Send i words) cause = RefusesRequest limits (request_count c) (Command words) cause
+RefusesEvent limits c (Greet i asked) cause = RefusesRequest limits (request_count c) (Hello asked) cause
+RefusesEvent limits c (Push i items) cause = RefusesPush limits (version_of c) (push_message items).value cause
+RefusesEvent limits c _ cause = ⊥
 
 -- the connection of an event
 abbrev pub connection_of : World → Event → Option Connection
@@ -53,10 +53,10 @@ connection_of w event = connection_at w.connections (client_of event)
 abbrev pub Step : Bounds → World → Event → Outcome → World → Type 0
 Step limits w event Gone next = (is_gone (connection_of w event) ≡ true) × (next ≡ w)
 Step limits w event (Refused cause) next =
-    (is_gone (connection_of w event) ≡ false) × Refuses limits (connection_of w event) event cause × (next ≡ w)
+    (is_gone (connection_of w event) ≡ false) × RefusesEvent limits (connection_of w event) event cause × (next ≡ w)
 Step limits w event Done next =
     (is_gone (connection_of w event) ≡ false) ×
-    ((cause : Cause) → Refuses limits (connection_of w event) event cause → ⊥) × (next ≡ after_event w event)
+    ((cause : Cause) → RefusesEvent limits (connection_of w event) event cause → ⊥) × (next ≡ after_event w event)
 
 -- what events leave, one after another
 abbrev pub Run : Bounds → World → List Event → World → Type 0

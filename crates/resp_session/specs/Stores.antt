@@ -6,7 +6,7 @@ use Rattle.std.specs.Str.{bytes_eq}
 use Rattle.resp_value.specs.Data.{Datum}
 use Rattle.resp_value.specs.declared.version.Version.{Version}
 use Rattle.resp_session.specs.Operations.{Operation, Condition, Always, IfAbsent, IfPresent, Ping, Echo, Get, Set, Del, Hello, Refused, operation_of}
-use Rattle.resp_session.specs.Replies.{simple, error, bulk, natural, null, bulk_or_null, hello_reply}
+use Rattle.resp_session.specs.Replies.{simple_string, error, bulk_string, natural, null, bulk_string_or_null, hello_reply}
 
 -- keys and their values, in the order in which the keys came
 abbrev pub Store : Type 0
@@ -42,13 +42,13 @@ pub record Effect : Type 0 where
 
 -- what an operation does in a session of this version and number
 abbrev pub effect_of : Store → Version → ℕ → Operation → Effect
-effect_of store version id Ping = record { store = store; version = version; reply = simple (codes "PONG") }
-effect_of store version id (Echo word) = record { store = store; version = version; reply = bulk word }
+effect_of store version id Ping = record { store = store; version = version; reply = simple_string (codes "PONG") }
+effect_of store version id (Echo word) = record { store = store; version = version; reply = bulk_string word }
 effect_of store version id (Get key) =
-    record { store = store; version = version; reply = bulk_or_null (value_at store key) }
+    record { store = store; version = version; reply = bulk_string_or_null (value_at store key) }
 effect_of store version id (Set condition key value) =
     if is_met condition (value_at store key) then
-    record { store = store_with store key value; version = version; reply = simple (codes "OK") } else
+    record { store = store_with store key value; version = version; reply = simple_string (codes "OK") } else
     record { store = store; version = version; reply = null }
 effect_of store version id (Del keys) =
     let left = store_without store keys in

@@ -3,12 +3,17 @@ use Rattle.std.specs.Prelude.{◌≡◌, ℕ, ◌<◌, ◌≤◌, List, ◌++◌
 use Rattle.std.specs.List.{AllByRecursion}
 use Rattle.resp_value.specs.Bounds.{Bounds, AreBounds}
 use Rattle.resp_value.specs.Data.{Datum}
+use Rattle.resp_value.specs.Rules.{rules_under}
+use Rattle.resp_value.specs.Spellings.{IsSpelling}
 use Rattle.resp_value.specs.Words.{command_of}
+use Rattle.resp_value.specs.declared.version.Version.{Version}
+use Rattle.resp_value.specs.declared.version.Version.TheVariants.{Two}
 use Rattle.resp_session.specs.Answers.{server_rules}
 use Rattle.resp_session.specs.Arrivals.{HasCome}
 use Rattle.resp_session.specs.Heard.{replies_of, pushes_of}
-use Rattle.resp_session.specs.Requests.{Request, Command, HasBytes, request_words, request_text}
-use Rattle.resp_session.specs.Connections.{Connection, sent_text, values_of, shown_replies, shown_pushes}
+use Rattle.resp_session.specs.Reading.{Waiting, ReadsAs}
+use Rattle.resp_session.specs.Requests.{version_asked, Request, Command, HasBytes, request_words, request_text}
+use Rattle.resp_session.specs.Connections.{Connection, Message, message_text, back_text, later_requests, sent_text, values_of, shown_replies, shown_pushes}
 use Rattle.resp_session.specs.Worlds.{World, Event, Send, connection_at, new_world}
 use Rattle.resp_session.specs.Runs.{Run}
 use Rattle.resp_session.specs.Orders.{OneOrder, IsBeginning, part_of_client}
@@ -60,3 +65,20 @@ WhatArrivesIsCommands = (limits : Bounds) (n : ℕ) (events : List Event) (w : W
     AllByRecursion IsOfBytes events → Run limits (new_world n) events w → (i : ℕ) (c : Connection) →
     connection_at w.connections i ≡ Some c → AllByRecursion HasName c.requests ×
     HasCome (server_rules limits) (request_values c) (map request_text c.requests) (take c.arrived (sent_text c))
+
+-- the message's text is a spelling of its value, in the version in which it is written
+abbrev pub IsWritten : Bounds → Message → Type 0
+IsWritten limits m = IsSpelling (rules_under m.version limits) m.value (message_text m)
+
+-- what a client waits for that has asked these requests and has heard nothing, or is in this version
+abbrev pub waiting_for : Version → List Request → Waiting
+waiting_for version requests = record { version = version; asks = map version_asked requests }
+
+-- where all messages of a session are within the limits, their text is what its client reads: each message, and then
+-- it waits, in the session's version, for the requests that have not come
+abbrev pub WhatIsWrittenIsRead : Type 0
+WhatIsWrittenIsRead = (limits : Bounds) (n : ℕ) (events : List Event) (w : World) → AreBounds limits →
+    AllByRecursion IsOfBytes events → Run limits (new_world n) events w → (i : ℕ) (c : Connection) →
+    connection_at w.connections i ≡ Some c → AllByRecursion (IsWritten limits) c.messages →
+    ReadsAs limits (waiting_for Two c.requests) (values_of c.messages) (back_text c)
+    (waiting_for c.version (later_requests c))

@@ -1,15 +1,16 @@
 //! Laws of the definitions of sessions and worlds, each the contract of a function with an empty
 //! body.
 
-ghost use Rattle.std.specs.Prelude.{◌≡◌, [], ◌∷◌, ◌++◌, codes, length, true, false};
+ghost use Rattle.std.specs.Prelude.{◌≡◌, [], ◌∷◌, ◌++◌, codes, length, true};
 ghost use Rattle.resp_value.specs.Words.{command_of};
 ghost use Rattle.resp_session.specs.Answers.{after_values};
 ghost use Rattle.resp_session.specs.AnswerLaws.{ACommandIsItsWords, AnswersGoOn, AnswersEnd, ATextHasOneAnswer, AnswersAreOfTheCut, WhatComesIsWholeTexts};
-ghost use Rattle.resp_session.specs.Examples.{new_session, answers_to, set_a, get_a, AnInlineCommandIsRefused, get_before_set, hello_in_two, hello_in_three, push_after_hello, clients_of, replies_to, pushes_to};
-ghost use Rattle.resp_session.specs.Heard.{is_push};
-ghost use Rattle.resp_session.specs.ReadingLaws.{ReadingsGoOn, ReadingsStay, ATextHasOneReading, HearingGoesOn};
-ghost use Rattle.resp_session.specs.Replies.{simple, bulk, natural, null};
-ghost use Rattle.resp_session.specs.WorldLaws.{AWorldHasOneOrder, ARunIsCut, TheOrderOnlyGrows, ShownRepliesAreOfTheOrder, WhatIsShownWasSent, WhatArrivesIsCommands};
+ghost use Rattle.resp_session.specs.Examples.{new_session, answers_to, set_a, get_a, AnInlineCommandIsRefused, get_before_set, hello_in_two, hello_in_three, push_after_hello, clients_of, replies_to, pushes_to, IsRefusedFor, IsOfNobody};
+ghost use Rattle.resp_session.specs.Worlds.{Push, Drop};
+ghost use Rattle.resp_value.specs.declared.cause.Cause.TheVariants.{NotInVersion};
+ghost use Rattle.resp_session.specs.ReadingLaws.{ReadingsGoOn, ReadingsStay, ATextHasOneReading, ARestHasOneClientFault, HearingGoesOn};
+ghost use Rattle.resp_session.specs.Replies.{simple_string, bulk_string, natural, null};
+ghost use Rattle.resp_session.specs.WorldLaws.{AWorldHasOneOrder, ARunIsCut, TheOrderOnlyGrows, ShownRepliesAreOfTheOrder, WhatIsShownWasSent, WhatArrivesIsCommands, WhatIsWrittenIsRead};
 ghost use Rattle.resp_session.specs.Connections.{push_message};
 
 use resp_value::laws as grammar;
@@ -75,6 +76,15 @@ pub fn a_text_has_one_reading()
     grammar::no_spelling_begins_another();
 }
 
+/// A rest that may go on has no fault, and any other has one at most.
+pub fn a_rest_has_one_client_fault()
+    ensures { ARestHasOneClientFault }
+{
+    grammar::fronts_of_viable_texts_are_viable();
+    grammar::a_viable_text_has_no_cause();
+    grammar::a_rest_has_one_fault();
+}
+
 /// The replies among values, and then among more, are numbered on; pushes are apart from them.
 pub fn hearing_goes_on()
     ensures { HearingGoesOn }
@@ -106,6 +116,17 @@ pub fn what_arrives_is_commands()
 {
     what_comes_is_whole_texts();
     grammar::canonical_text_spells_what_fits();
+}
+
+/// Where all messages of a session are within the limits, their text is what its client reads, each
+/// message in the version in which it is written or in version 3 what version 2 spells.
+pub fn what_is_written_is_read()
+    ensures { WhatIsWrittenIsRead }
+{
+    readings_go_on();
+    readings_stay();
+    grammar::canonical_text_spells_what_fits();
+    grammar::version_three_spells_what_two_does();
 }
 
 /// What a new session of number 1 answers to commands and to values that are none.
@@ -182,10 +203,14 @@ pub fn conditions_and_their_replies()
 /// Events, and what a world shows behind them.
 pub fn events_and_what_they_show()
     ensures order { clients_of get_before_set ≡ 2 ∷ 1 ∷ [] }
-    ensures to_the_first { replies_to get_before_set 1 ≡ simple (codes "OK") ∷ [] }
+    ensures to_the_first { replies_to get_before_set 1 ≡ simple_string (codes "OK") ∷ [] }
     ensures to_the_second { replies_to get_before_set 2 ≡ null ∷ [] }
     ensures store { get_before_set.store ≡ (codes "a", codes "1") ∷ [] }
     ensures greeting { length (replies_to push_after_hello 1) ≡ 1 }
-    ensures push { pushes_to push_after_hello 1 ≡ (push_message (bulk (codes "x") ∷ [])).value ∷
-        [] }
+    ensures push { pushes_to push_after_hello 1 ≡
+        (push_message (bulk_string (codes "x") ∷ [])).value ∷ [] }
+    // A push is refused in version 2, and nothing comes of an event of a client that isn't there.
+    ensures refused_push { IsRefusedFor get_before_set (Push 2 (bulk_string (codes "x") ∷ []))
+        NotInVersion }
+    ensures nobody { IsOfNobody get_before_set (Drop 3) }
 {}
