@@ -1,7 +1,7 @@
 /* How long the reader of hiredis takes the texts of bench_scan, by object functions that build nothing.
  *
- * It prints the lines of bench_scan, of the same texts in the same pieces: with no argument of short texts, and with the
- * argument `times` of longer ones, 32 MiB in all for each, with microseconds, or with `once` of these read a single
+ * It prints the lines of bench_scan, of the same texts in the same pieces: with no argument of short texts, and with
+ * the argument `times` of longer ones, 32 MiB in all for each, with microseconds, or with `once` of these read a single
  * time. Where the counts differ, the two didn't read the same. */
 
 #include <hiredis/hiredis.h>

@@ -19,7 +19,7 @@ impl Machine {
     ghost use Rattle.resp_scan.specs.Machine.Tokens.{at, Text, AtStart, AtHead};
     ghost use Rattle.resp_scan.specs.declared.event.TextKind.TheVariants as text;
 
-    #[inline(always)]
+    #[inline]
     #[tactic(auto, using(crate::proofs::Soundness::Starts::first_byte))]
     pub fn start(&mut self, piece: &[u8]) -> Taken
         requires { IsSound (at (place_of self.old) AtStart) }

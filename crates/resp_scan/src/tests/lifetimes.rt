@@ -78,12 +78,12 @@ fn a_piece_changes_behind_its_parts(rt: HostRuntime) -> Result<(), Fail> {
 
 /// Keeps a constant for each part, which itself lives no longer than the call.
 #[derive(Drop)]
-struct Parts<'a> {
+struct KeptConstant<'a> {
     length: usize,
     kept: &'a [u8],
 }
 
-impl<'a> Listener for Parts<'a> {
+impl<'a> Listener for KeptConstant<'a> {
     ghost has_heard = { λ _ _. Unit {0} };
 
     ghost may_stop = { λ _. Unit {0} };
@@ -125,7 +125,7 @@ impl<'a> Listener for Parts<'a> {
 
 #[test]
 fn a_listener_keeps_no_part(rt: HostRuntime) -> Result<(), Fail> {
-    let mut listener = Parts {
+    let mut listener = KeptConstant {
         length: 0,
         kept: b"",
     };
