@@ -4,3 +4,4 @@ pub mod Counted
 pub mod Values
 pub mod HeldLemmas
 pub mod Taking
+pub mod Feeding

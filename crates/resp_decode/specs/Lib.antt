@@ -4,3 +4,4 @@ pub mod Fits
 pub mod Brief
 pub mod Holding
 pub mod Hearing
+pub mod Decoding
