@@ -1,9 +1,9 @@
 -- What a decoder has taken, from what its scanner and its listener say.
-use Rattle.std.proofs.Common.{◌≡◌, ◌⊎◌, inl, inr, ℕ, zero, suc, ◌≤◌, ◌<◌, Bool, true, false, cond, ltb, Option, None, Some, List, [], ◌∷◌, ◌++◌, length, take, refl, sym, ap, subst, ◌∙◌, arith}
+use Rattle.std.proofs.Common.{◌≡◌, ◌⊎◌, inl, inr, ℕ, zero, suc, ◌≤◌, ◌<◌, Bool, true, false, cond, ltb, Option, None, Some, List, [], ◌∷◌, ◌++◌, length, take, drop, ◌+◌, ◌-◌, append_assoc, length-append, refl, sym, ap, subst, ◌∙◌, arith}
 use Rattle.std.specs.Prelude.{IsOk, OnOk, ◌↔◌, Result, Ok, Err}
-use Rattle.std.proofs.lemmas.List.{append-nil, take_all}
+use Rattle.std.proofs.lemmas.List.{append-nil, length-take-le, take-append-drop, take_all}
 use Rattle.std.proofs.lemmas.Bool.{ltb-true}
-use Rattle.std.proofs.Math.Seq.{take-nil}
+use Rattle.std.proofs.Math.Seq.{take-append-add, take-nil}
 use Rattle.resp_value.specs.Trees.{Tree, Spells, leaf, null, PlainNull, text}
 use Rattle.resp_value.specs.TreeValues.{value}
 use Rattle.resp_value.specs.Rules.{Rules, WithinTotal}
@@ -11,11 +11,13 @@ use Rattle.resp_value.specs.Spellings.{IsSpelling, IsViable}
 use Rattle.resp_value.specs.Values.{datum_of}
 use Rattle.resp_value.specs.declared.value.Value.{Value}
 use Rattle.resp_value.proofs.SpellingLaws.{text_not_empty}
+use Rattle.resp_value.proofs.ViabilityLaws.{fronts_of_viable_texts_are_viable}
 use Rattle.resp_fronts.specs.Events.{Timed, all_events, events_due}
 use Rattle.resp_scan.specs.Kinds.{rules_of}
-use Rattle.resp_scan.specs.Reading.{AreDue, BeginDue, Events, HasNoValue, HasRead, MayEnd}
+use Rattle.resp_scan.specs.Reading.{AreDue, BeginDue, Events, HasNoValue, HasRead, IsRefused, MayEnd}
 use Rattle.resp_scan.specs.Listening.{HearsRefusal, HearsValue, OnFault, OnStopped, StopsBehind, fault_of}
 use Rattle.resp_scan.specs.Machine.Tokens.{Place}
+use Rattle.resp_scan.specs.declared.event.Fault.{Fault}
 use Rattle.resp_scan.specs.declared.event.ScanError.{ScanError}
 use Rattle.resp_scan.specs.declared.event.ScanError.TheVariants as stop
 use Rattle.resp_decode.specs.Brief.{AreBrief, BeginsBrief, WantMemory}
@@ -135,11 +137,42 @@ brief_given r (byte ∷ written) zero es brief v begin =
     brief_first es owed (subst AreBrief (sym (due_at_start (all_events v.tree)) ∙ is) tt)
 brief_given r (byte ∷ written) (suc n) es brief v begin = are_brief r byte (take n written) es brief v begin
 
+-- the byte that a scanner refuses is the first after which nothing can follow
+refused_byte : (r : Rules) (front piece : List ℕ) (fault : Fault) (given : Events) → IsRefused r front given piece fault → RefusesByte r front piece fault
+refused_byte r front piece fault given w =
+    let text = front ++ piece in
+    let n = fault.at in
+    record {
+      rule = w.refused.rule;
+      names = w.refused.names;
+      fault_of = record {
+        front = take (n + 1) text;
+        behind = drop (n + 1) text;
+        whole = sym (take-append-drop (n + 1) text);
+        place = sym (length-take-le (n + 1) text (omega (arith, w.before_end)));
+        cause = w.refused.cause;
+        first = viable_before;
+      };
+      in_piece = w.in_piece;
+      no_value = w.no_value;
+    }
+  where
+    viable_before : (before : List ℕ) (byte : ℕ) (after : List ℕ) → take (fault.at + 1) (front ++ piece) ≡ before ++ byte ∷ after → IsViable r WithinTotal before
+    viable_before before byte after is =
+        let text = front ++ piece in
+        let n = fault.at in
+        let behind = (byte ∷ after) ++ drop (n + 1) text in
+        let whole : text ≡ before ++ behind = sym (take-append-drop (n + 1) text) ∙ ap (λ z. z ++ drop (n + 1) text) is ∙ append_assoc before (byte ∷ after) (drop (n + 1) text) in
+        let m = n - length before in
+        let at : n ≡ length before + m = omega (arith, length-take-le (n + 1) text (omega (arith, w.before_end)), ap length is, length-append before (byte ∷ after)) in
+        let split : take n text ≡ before ++ take m behind = ap (λ k. take k text) at ∙ ap (take (length before + m)) whole ∙ take-append-add before behind m in
+        fronts_of_viable_texts_are_viable r WithinTotal before (take m behind) (subst (IsViable r WithinTotal) split w.viable)
+
 -- a call that was refused met a byte after which nothing can follow, or found no memory
 pub refuses_or_lacks : (r : Rules) (HasHeard' : Events → Type 0) (front piece : List ℕ) (s : ScanError) →
     OnFault s (HearsRefusal r HasHeard' front piece) → OnStopped s (StopsBehind r WantMemory front piece) →
     RefusesByte r front piece (fault_of s) ⊎ LacksMemory r front piece (fault_of s)
-refuses_or_lacks r H front piece (stop.Fault fault) refused stopped = inl (refused.heard, refused.refused)
+refuses_or_lacks r H front piece (stop.Fault fault) refused stopped = inl (refused_byte r front piece fault refused.heard refused.refused)
 refuses_or_lacks r H front piece (stop.Stopped taken) refused stopped = inr (record {
   names = refl;
   in_piece = stopped.in_piece;

@@ -1,12 +1,13 @@
 -- What a decoder promises, in words of texts and values.
 use Rattle.std.specs.Prelude.{◌≡◌, ◌⊎◌, ℕ, ◌≤◌, List, [], ◌++◌, length, take, Option, None, Some, Result, Ok, Err, IfOk}
-use Rattle.resp_value.specs.Rules.{Rules, WithinTotal}
-use Rattle.resp_value.specs.Spellings.{IsSpelling, IsViable}
+use Rattle.resp_value.specs.Rules.{Rules, Rule, WithinTotal}
+use Rattle.resp_value.specs.Spellings.{FaultOf, IsSpelling, IsViable}
+use Rattle.resp_value.specs.Causes.{cause_of}
 use Rattle.resp_value.specs.Values.{datum_of}
 use Rattle.resp_value.specs.declared.value.Value.{Value}
 use Rattle.resp_value.specs.declared.cause.Cause.TheVariants as cause
 use Rattle.resp_scan.specs.Kinds.{rules_of}
-use Rattle.resp_scan.specs.Reading.{AreDue, Events, HasNoValue, HasRead}
+use Rattle.resp_scan.specs.Reading.{AreDue, Events, HasNoSpelling, HasNoValue, HasRead}
 use Rattle.resp_scan.specs.Reading as scan
 use Rattle.resp_scan.specs.declared.event.Fault.{Fault}
 use Rattle.resp_decode.specs.Brief.{BeginsBrief}
@@ -53,9 +54,14 @@ pub record UsesUp (r : Rules) (d : Decoder) (written piece : List ℕ) (used : �
   pub viable : IsViable r WithinTotal written
   pub takes : HasTaken d written
 
--- a byte is refused, the first after which nothing can follow
-abbrev pub RefusesByte : Rules → List ℕ → List ℕ → Fault → Type 0
-RefusesByte r front piece fault = (given : Events) × scan.IsRefused r front given piece fault
+-- a byte of the piece is refused: there the text stops being viable, for the rule of the fault's cause, and no front of
+-- the text is a spelling within the rules
+pub record RefusesByte (r : Rules) (front piece : List ℕ) (fault : Fault) : Type 0 where
+  pub rule : Rule
+  pub names : fault.cause ≡ cause_of rule
+  pub fault_of : FaultOf r (front ++ piece) rule fault.at
+  pub in_piece : length front ≤ fault.at
+  pub no_value : HasNoSpelling r (front ++ piece)
 
 -- no memory was found, behind bytes that are viable, and not in an integer, a truth value or a null of one line
 pub record LacksMemory (r : Rules) (front piece : List ℕ) (fault : Fault) : Type 0 where

@@ -85,12 +85,9 @@ impl Group {
 
     /// An aggregate without members, and room for so many members or pairs.
     #[inline]
-    pub(crate) fn with_room(
-        alloc: Global,
-        kind: OpenKind,
-        room: usize,
-    ) -> Result<Group, AllocError>
-        ensures { IfOk result (λ made. group_of made ≡ record { kind = kind_of kind; members = [] }) }
+    pub(crate) fn with_room(alloc: Global, kind: OpenKind, room: usize) -> Result<Group, AllocError>
+        ensures { IfOk result (λ made. group_of made ≡ record { kind = kind_of kind; members = [] })
+            }
     {
         match kind {
             OpenKind::Array => Ok(Group::Array(Vec::with_capacity(alloc, room)?)),
@@ -105,7 +102,8 @@ impl Group {
     #[inline]
     pub(crate) fn add(&mut self, value: Value) -> Result<(), AllocError>
         ensures { OnOk result (group_of self.new ≡ record (group_of self.old) {
-            members = (group_of self.old).members ++ datum_of value ∷ [] }) }
+          members = (group_of self.old).members ++ datum_of value ∷ [];
+        }) }
     {
         match self {
             Group::Array(members) => members.push(value)?,

@@ -93,7 +93,8 @@ impl Held {
     #[inline]
     fn add_weight(&mut self, more: u64)
         ensures { self.new ≡ record self.old {
-            weight = min (self.old.weight + more) (2 ^ 64 - 1) } }
+          weight = min (self.old.weight + more) (2 ^ 64 - 1);
+        } }
     {
         self.weight = self.weight.saturating_add(more);
     }

@@ -8,6 +8,8 @@ pub mod decoder;
 pub mod fed;
 mod group;
 mod held;
+#[cfg(test)]
+mod tests;
 mod text;
 
 pub use decoder::Decoder;

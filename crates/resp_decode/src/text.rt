@@ -40,7 +40,8 @@ impl Text {
     #[inline]
     pub(crate) fn extend(&mut self, part: &[u8]) -> Result<(), AllocError>
         ensures { OnOk result (text_of self.new ≡ record (text_of self.old) {
-            content = (text_of self.old).content ++ part.now }) }
+          content = (text_of self.old).content ++ part.now;
+        }) }
     {
         self.bytes.extend_from_slice(part)
     }

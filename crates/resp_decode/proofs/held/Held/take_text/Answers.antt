@@ -15,15 +15,17 @@ returns-in-Simple c =
     let same = c.of_plain.ensures ∙ c.in-Ok.ensures.items in
     subst (λ kind. TakesInWhereFit old c.put_scalar.new.self (whole_text_events kind c.args.bytes.now) c.put_scalar.result) (sym c.in-Simple.is)
     (takes_in_text old c.put_scalar.new.self e.Simple c.args.bytes.now c.put_scalar.result refl
-      (λ goes. c.put_scalar.ensures.holds goes ∙ ap (λ s. with_value (scalar (d.Simple s)) (construction_of old)) same) c.put_scalar.ensures.weighs)
+    (λ goes. c.put_scalar.ensures.holds goes ∙ ap (λ s. with_value (scalar (d.Simple s)) (construction_of old)) same) c.put_scalar.ensures.weighs)
 
 pub returns-in-Error : goal.returns-in-Error
 returns-in-Error c =
     let old = c.args.self.now in
     let same = c.of_plain-in-Error.ensures ∙ c.in-Ok.ensures.items in
-    subst (λ kind. TakesInWhereFit old c.put_scalar-in-Error.new.self (whole_text_events kind c.args.bytes.now) c.put_scalar-in-Error.result) (sym c.in-Error.is)
+    subst (λ kind. TakesInWhereFit old c.put_scalar-in-Error.new.self (whole_text_events kind c.args.bytes.now) c.put_scalar-in-Error.result)
+        (sym c.in-Error.is)
     (takes_in_text old c.put_scalar-in-Error.new.self e.Error c.args.bytes.now c.put_scalar-in-Error.result refl
-      (λ goes. c.put_scalar-in-Error.ensures.holds goes ∙ ap (λ s. with_value (scalar (d.Error s)) (construction_of old)) same) c.put_scalar-in-Error.ensures.weighs)
+    (λ goes. c.put_scalar-in-Error.ensures.holds goes ∙ ap (λ s. with_value (scalar (d.Error s)) (construction_of old)) same)
+        c.put_scalar-in-Error.ensures.weighs)
 
 pub returns-in-Bulk : goal.returns-in-Bulk
 returns-in-Bulk c =
@@ -31,4 +33,4 @@ returns-in-Bulk c =
     let same = c.new.ensures ∙ c.in-Ok.ensures.items in
     subst (λ kind. TakesInWhereFit old c.put_scalar-in-Bulk.new.self (whole_text_events kind c.args.bytes.now) c.put_scalar-in-Bulk.result) (sym c.in-Bulk.is)
     (takes_in_text old c.put_scalar-in-Bulk.new.self e.Bulk c.args.bytes.now c.put_scalar-in-Bulk.result refl
-      (λ goes. c.put_scalar-in-Bulk.ensures.holds goes ∙ ap (λ s. with_value (scalar (d.Bulk s)) (construction_of old)) same) c.put_scalar-in-Bulk.ensures.weighs)
+    (λ goes. c.put_scalar-in-Bulk.ensures.holds goes ∙ ap (λ s. with_value (scalar (d.Bulk s)) (construction_of old)) same) c.put_scalar-in-Bulk.ensures.weighs)

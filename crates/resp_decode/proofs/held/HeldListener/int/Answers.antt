@@ -14,5 +14,5 @@ returns c =
     let old = c.args.self.now in
     let number : to_z w64 (of_z w64 c.args.number) ≡ c.args.number = search rules in
     let takes = takes_in_scalar old c.put_scalar.new.self (e.Int c.args.number) (scalar (d.Int c.args.number)) c.put_scalar.result refl refl
-      (λ goes. c.put_scalar.ensures.holds goes ∙ ap (λ n. with_value (scalar (d.Int n)) (construction_of old)) number) c.put_scalar.ensures.weighs in
+    (λ goes. c.put_scalar.ensures.holds goes ∙ ap (λ n. with_value (scalar (d.Int n)) (construction_of old)) number) c.put_scalar.ensures.weighs in
     hears_scalar old c.put_scalar.new.self (e.Int c.args.number) c.put_scalar.result takes c.put_scalar.ensures.memory_for_members

@@ -5,4 +5,5 @@ use Rattle.resp_decode.proofs.Taking.{hears_events}
 use Rattle.resp_decode.proofs.held.HeldListener.open.Goals as goal
 
 pub returns : goal.returns
-returns c = hears_events c.args.self.now c.open_group.new.self (e.Open (kind_of c.args.kind) c.args.count ∷ []) c.open_group.result c.open_group.ensures (λ brief. brief.0)
+returns c = hears_events c.args.self.now c.open_group.new.self (e.Open (kind_of c.args.kind) c.args.count ∷ []) c.open_group.result c.open_group.ensures
+    (λ brief. brief.0)

@@ -15,7 +15,8 @@ pub returns-then-len-gt1-clause-kept : goal.returns-then-len-gt1-clause-kept
 returns-then-len-gt1-clause-kept c =
     let tested = c.are_digits.ensures.0 c.if-not-are_digits.false in
     let full : 0 < length c.args.digits.items = subst (λ z. 0 < length z) c.as_slice.ensures.value tested.0 in
-    let first : get_or c.args.digits.items 0 0 ≡ 48 = first_byte c.args.digits.items 0 c.index.result.now full ∙ sym c.index.ensures ∙ c.if-begins_with_zero.true in
+    let first : get_or c.args.digits.items 0 0 ≡ 48 = first_byte c.args.digits.items 0 c.index.result.now full ∙ sym c.index.ensures ∙
+        c.if-begins_with_zero.true in
     (λ wrong. absurd (cc), λ kept.
     let alone = kept_zero_is_alone c.args.negative c.args.digits.items kept first in
     let few : vec_len c.args.digits ≤ 1 = omega (arith, alone.1, c.args.digits.ok.0) in
