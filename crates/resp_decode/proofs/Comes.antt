@@ -59,7 +59,7 @@ due_light n last weight (x ∷ xs) b h c = case (ltb x.at n) refl (λ light. due
     case false is later =
         let late : n ≤ x.at = ltb-false x.at n is in
         subst (λ es. AreLight n weight es b) (sym (none_due n x.at (weight + event_weight x.event b) xs (with_event x.event b) late c.3))
-            (record { may = tt; light = omega arith })
+        (record { may = tt; light = omega arith })
 
 -- the first of them are so too
 pub first_come : (es owed : List Event) (b : Construction) → MayAllCome (es ++ owed) b → MayAllCome es b
@@ -128,11 +128,11 @@ chunks_come at to kind so_far (c ∷ cs) rest b last weight xs h light unended f
     let first = bytes_from (at + length c.digits + 3) c.content in
     let next = at + length c.digits + length c.content + 5 in
     let whole : length (chunks_text (c ∷ cs) rest) ≡ length c.digits + length c.content + 5 + length (chunks_text cs rest) =
-        omega (arith, length-append (59 ∷ c.digits) (crlf (c.content ++ crlf (chunks_text cs rest))), length-append c.content (crlf (chunks_text cs rest))) in
+    omega (arith, length-append (59 ∷ c.digits) (crlf (c.content ++ crlf (chunks_text cs rest))), length-append c.content (crlf (chunks_text cs rest))) in
     behind first (chunk_events next cs) xs last weight (in_text kind so_far b)
-        (content_comes (at + length c.digits + 3) next 0 kind so_far c.content b last weight (chunk_events next cs ++ xs) (omega arith) (omega arith) unended
-        (omega arith) (λ l v p q. chunks_come next to kind (so_far ++ c.content) cs rest b l v xs p (omega arith) unended (omega arith)
-        (λ l' v' p' q'. subst (λ z. Come l' v' xs (in_text kind z b)) (sym (append_assoc so_far c.content (joined_content cs))) (k l' v' p' q'))))
+    (content_comes (at + length c.digits + 3) next 0 kind so_far c.content b last weight (chunk_events next cs ++ xs) (omega arith) (omega arith) unended
+    (omega arith) (λ l v p q. chunks_come next to kind (so_far ++ c.content) cs rest b l v xs p (omega arith) unended (omega arith)
+    (λ l' v' p' q'. subst (λ z. Come l' v' xs (in_text kind z b)) (sym (append_assoc so_far c.content (joined_content cs))) (k l' v' p' q'))))
 
 -- digits without leading zeros are no more
 stripped_shorter : (digits : List ℕ) → length (significant_digits digits) ≤ length digits
@@ -165,25 +165,25 @@ pub leaf_comes : (from : ℕ) (l : Leaf) (b : Construction) (last weight : ℕ) 
 leaf_comes from (line t.Simple s) b last weight xs is p may h light k =
     let n : length (leaf_text (line t.Simple s)) ≡ length s + 3 = omega (arith, length-append s (crlf [])) in
     text_comes e.Simple from (from + 1) 1 s (last_of from (leaf_text (line t.Simple s))) (from + length (leaf_text (line t.Simple s))) b last weight xs h
-        (omega arith) (omega arith) (omega arith) (omega arith) (omega arith) (omega arith) is.0 may k
+    (omega arith) (omega arith) (omega arith) (omega arith) (omega arith) (omega arith) is.0 may k
 leaf_comes from (line t.Error s) b last weight xs is p may h light k =
     let n : length (leaf_text (line t.Error s)) ≡ length s + 3 = omega (arith, length-append s (crlf [])) in
     text_comes e.Error from (from + 1) 1 s (last_of from (leaf_text (line t.Error s))) (from + length (leaf_text (line t.Error s))) b last weight xs h
-        (omega arith) (omega arith) (omega arith) (omega arith) (omega arith) (omega arith) is.0 may k
+    (omega arith) (omega arith) (omega arith) (omega arith) (omega arith) (omega arith) is.0 may k
 leaf_comes from (line t.Double s) b last weight xs is p may h light k = absurd p
 leaf_comes from (numeral t.Int sign digits) b last weight xs is p may h light k =
     let n : length (leaf_text (numeral t.Int sign digits)) ≡ length (sign_text sign) + length digits + 3 =
-        omega (arith, length-append (58 ∷ (sign_text sign ++ digits)) (crlf []), length-append (sign_text sign) digits) in
+    omega (arith, length-append (58 ∷ (sign_text sign ++ digits)) (crlf []), length-append (sign_text sign) digits) in
     let some = is.0 in
     (omega arith, omega arith, may, k (last_of from (leaf_text (numeral t.Int sign digits))) (weight + 3) (omega arith) (omega arith))
 leaf_comes from (numeral t.Big sign digits) b last weight xs is p may h light k =
     let n : length (leaf_text (numeral t.Big sign digits)) ≡ length (sign_text sign) + length digits + 3 =
-        omega (arith, length-append (40 ∷ (sign_text sign ++ digits)) (crlf []), length-append (sign_text sign) digits) in
+    omega (arith, length-append (40 ∷ (sign_text sign ++ digits)) (crlf []), length-append (sign_text sign) digits) in
     let some = is.0 in
     let few = stripped_shorter digits in
     big_comes (is_below_zero sign digits) (significant_digits digits) from (last_of from (leaf_text (numeral t.Big sign digits)))
-        (from + length (leaf_text (numeral t.Big sign digits))) b last weight xs h light (omega arith) (omega arith) (omega arith)
-        (big_digits_are_kept sign digits is) may k
+    (from + length (leaf_text (numeral t.Big sign digits))) b last weight xs h light (omega arith) (omega arith) (omega arith)
+    (big_digits_are_kept sign digits is) may k
 leaf_comes from (null t.BulkNull) b last weight xs is p may h light k =
     (omega arith, omega arith, may, k (last_of from (leaf_text (null t.BulkNull))) (weight + 3) (omega arith) (omega arith))
 leaf_comes from (null t.ArrayNull) b last weight xs is p may h light k =
@@ -196,23 +196,27 @@ leaf_comes from (truth false) b last weight xs is p may h light k =
     (omega arith, omega arith, may, k (last_of from (leaf_text (truth false))) (weight + 3) (omega arith) (omega arith))
 leaf_comes from (string t.Bulk digits s) b last weight xs is p may h light k =
     let n : length (leaf_text (string t.Bulk digits s)) ≡ length digits + length s + 5 =
-        omega (arith, length-append (36 ∷ digits) (crlf (s ++ crlf [])), length-append s (crlf [])) in
+    omega (arith, length-append (36 ∷ digits) (crlf (s ++ crlf [])), length-append s (crlf [])) in
     text_comes e.Bulk (from + length digits + 2) (from + length digits + 3) 1 s (last_of from (leaf_text (string t.Bulk digits s)))
-        (from + length (leaf_text (string t.Bulk digits s))) b last weight xs (omega arith) (omega arith) (omega arith) (omega arith) (omega arith)
-        (omega arith) (omega arith) tt may k
+    (from + length (leaf_text (string t.Bulk digits s))) b last weight xs (omega arith) (omega arith) (omega arith) (omega arith) (omega arith)
+    (omega arith) (omega arith) tt may k
 leaf_comes from (string t.BulkError digits s) b last weight xs is p may h light k =
     let n : length (leaf_text (string t.BulkError digits s)) ≡ length digits + length s + 5 =
-        omega (arith, length-append (33 ∷ digits) (crlf (s ++ crlf [])), length-append s (crlf [])) in
+    omega (arith, length-append (33 ∷ digits) (crlf (s ++ crlf [])), length-append s (crlf [])) in
     text_comes e.BulkError (from + length digits + 2) (from + length digits + 3) 1 s (last_of from (leaf_text (string t.BulkError digits s)))
-        (from + length (leaf_text (string t.BulkError digits s))) b last weight xs (omega arith) (omega arith) (omega arith) (omega arith) (omega arith)
-        (omega arith) (omega arith) tt may k
+    (from + length (leaf_text (string t.BulkError digits s))) b last weight xs (omega arith) (omega arith) (omega arith) (omega arith) (omega arith)
+    (omega arith) (omega arith) tt may k
 leaf_comes from (string (t.Verbatim format) digits s) b last weight xs is p may h light k =
     let n : length (leaf_text (string (t.Verbatim format) digits s)) ≡ length digits + length format + length s + 6 =
-        omega (arith, length-append (61 ∷ digits) (crlf ((format ++ (58 ∷ s)) ++ crlf [])), length-append (format ++ (58 ∷ s)) (crlf []),
-        length-append format (58 ∷ s)) in
+    omega (
+      arith,
+      length-append (61 ∷ digits) (crlf ((format ++ (58 ∷ s)) ++ crlf [])),
+      length-append (format ++ (58 ∷ s)) (crlf []),
+      length-append format (58 ∷ s),
+    ) in
     text_comes (e.Verbatim format) (from + length digits + length format + 3) (from + length digits + length format + 4) 1 s
-        (last_of from (leaf_text (string (t.Verbatim format) digits s))) (from + length (leaf_text (string (t.Verbatim format) digits s))) b last weight xs
-        (omega arith) (omega arith) (omega arith) (omega arith) (omega arith) (omega arith) (omega arith) is.1.0 may k
+    (last_of from (leaf_text (string (t.Verbatim format) digits s))) (from + length (leaf_text (string (t.Verbatim format) digits s))) b last weight xs
+    (omega arith) (omega arith) (omega arith) (omega arith) (omega arith) (omega arith) (omega arith) is.1.0 may k
 leaf_comes from (chunked cs zeros) b last weight xs is p may h light k =
     let tail = (59 ∷ zeros) ++ crlf [] in
     let ends = last_of from (leaf_text (chunked cs zeros)) in
@@ -231,8 +235,12 @@ leaf_comes from (chunked cs zeros) b last weight xs is p may h light k =
   where
     chunks_long : (cs : List Chunk) (rest : List ℕ) → length rest ≤ length (chunks_text cs rest)
     chunks_long [] rest = omega arith
-    chunks_long (c ∷ cs) rest = omega (arith, chunks_long cs rest, length-append (59 ∷ c.digits) (crlf (c.content ++ crlf (chunks_text cs rest))),
-        length-append c.content (crlf (chunks_text cs rest)))
+    chunks_long (c ∷ cs) rest = omega (
+      arith,
+      chunks_long cs rest,
+      length-append (59 ∷ c.digits) (crlf (c.content ++ crlf (chunks_text cs rest))),
+      length-append c.content (crlf (chunks_text cs rest)),
+    )
 
 -- Trees.
 
@@ -260,15 +268,20 @@ mutual
       let ends = last_of from (text (node kind form us)) in
       let ending : List Timed = close_event from (text (node kind form us)) ∷ [] in
       let size : length (text (node kind form us)) ≡ length (form_line form) + 3 + length (texts us) + length (close form) =
-          omega (arith, length-append (kind_byte kind ∷ form_line form) (crlf (texts us ++ close form)), length-append (texts us) (close form)) in
+      omega (arith, length-append (kind_byte kind ∷ form_line form) (crlf (texts us ++ close form)), length-append (texts us) (close form)) in
       let many : IsMemberCount kind (length (value_list us)) = subst (IsMemberCount kind) (sym (length-value_list us)) (may_have kind form (count us) is.0) in (
         omega arith,
         omega arith,
         may,
         behind (events_each at us) ending xs (from + length (form_line form) + 2) (weight + 3) (in_group kind [] b)
             (trees_come at us kind [] b (from + length (form_line form) + 2) (weight + 3) (ending ++ xs) is.1 p.1 may (omega arith) (omega arith)
-            (λ l v q r. (omega arith, omega arith, (may, many), subst (λ ys. Come ends (v + 0) xs (with_value (aggregate kind ys) b)) (sym (values_listed us))
-            (k ends (v + 0) (omega arith) (omega arith))))),
+            (λ l v q r. (
+              omega arith,
+              omega arith,
+              (may, many),
+              subst (λ ys. Come ends (v + 0) xs (with_value (aggregate kind ys) b)) (sym (values_listed us))
+                  (k ends (v + 0) (omega arith) (omega arith)),
+            ))),
       )
 
   -- of trees, the members of an aggregate
@@ -281,10 +294,10 @@ mutual
       let next = from + length (text u) in
       let size : length (texts (more u us)) ≡ length (text u) + length (texts us) = length-append (text u) (texts us) in
       behind (events from u) (events_each next us) xs last weight (in_group kind so_far b)
-          (tree_comes from u (in_group kind so_far b) last weight (events_each next us ++ xs) is.0 p.0 may (omega arith) light
-          (λ l v q r. trees_come next us kind (so_far ++ value u ∷ []) b l v xs is.1 p.1 may q r
-          (λ l' v' q' r'. subst (λ z. Come l' v' xs (in_group kind z b)) (sym (append_assoc so_far (value u ∷ []) (value_list us)))
-          (k l' v' (omega arith) (omega arith)))))
+      (tree_comes from u (in_group kind so_far b) last weight (events_each next us ++ xs) is.0 p.0 may (omega arith) light
+      (λ l v q r. trees_come next us kind (so_far ++ value u ∷ []) b l v xs is.1 p.1 may q r
+      (λ l' v' q' r'. subst (λ z. Come l' v' xs (in_group kind z b)) (sym (append_assoc so_far (value u ∷ []) (value_list us)))
+      (k l' v' (omega arith) (omega arith)))))
 
 -- all events of a tree, from nothing on
 pub all_come : (u : Tree) → IsTree u → Every IsNoDouble IsAnyNode u → Come 0 0 (events 0 u ++ record { at = last_of 0 (text u); event = e.Done } ∷ []) nothing

@@ -25,7 +25,7 @@ put_in_weighs (g ∷ gs) text x = omega (arith, weight_of_all-append g.members x
 pub put_weighs : (x : Datum) (b : Construction) → b.whole ≡ None → weight_of (with_value x b) ≡ weight_of_groups b.groups + weight_of_text b.text + weight x
 put_weighs x b unended =
     let P : Option Datum → Type 0 = λ w. weight_of (with_value_in b.groups x (record { groups = b.groups; text = b.text; whole = w })) ≡
-        weight_of_groups b.groups + weight_of_text b.text + weight x in
+    weight_of_groups b.groups + weight_of_text b.text + weight x in
     subst P (sym unended) (put_in_weighs b.groups b.text x)
 
 -- and so does a whole text
@@ -41,8 +41,11 @@ scalar_weighs (e.Big negative) (c ∷ s) = omega arith
 text_weighs : (text : Option Text) (b : Construction) → MayEndText text → b.whole ≡ None →
     weight_of (with_text_ended text b) ≡ weight_of_groups b.groups + weight_of_text text + text_end_weight text
 text_weighs None b may unended = absurd may
-text_weighs (Some t) b may unended = omega (arith, put_weighs (scalar (scalar_of t.kind t.content)) (record b { text = None }) unended,
-    scalar_weighs t.kind t.content)
+text_weighs (Some t) b may unended = omega (
+  arith,
+  put_weighs (scalar (scalar_of t.kind t.content)) (record b { text = None }) unended,
+  scalar_weighs t.kind t.content,
+)
 
 byte_weighs : (text : Option Text) (c : ℕ) → IsInText text → weight_of_text (with_byte text c) ≡ weight_of_text text + 1
 byte_weighs None c may = absurd may
@@ -51,8 +54,11 @@ byte_weighs (Some t) c may = omega (arith, length-append t.content (c ∷ []))
 close_weighs : (gs : List Group) (b : Construction) → MayClose gs → b.whole ≡ None →
     weight_of (with_group_closed gs b) ≡ weight_of_groups gs + weight_of_text b.text
 close_weighs [] b may unended = absurd may
-close_weighs (g ∷ gs) b may unended = omega (arith, put_weighs (aggregate g.kind (data_of_list g.members)) (record b { groups = gs }) unended,
-    weight-listed g.members)
+close_weighs (g ∷ gs) b may unended = omega (
+  arith,
+  put_weighs (aggregate g.kind (data_of_list g.members)) (record b { groups = gs }) unended,
+  weight-listed g.members,
+)
 
 -- of one event
 pub event_weighs : (event : Event) (b : Construction) → MayCome event b → weight_of (with_event event b) ≡ weight_of b + event_weight event b

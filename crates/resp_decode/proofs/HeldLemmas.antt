@@ -79,7 +79,7 @@ group_put xs n g y x b size h is added =
     let at : n - 1 ≡ length init = omega (arith, ap length whole, length-append init (g ∷ [])) in
     let new : set xs (n - 1) y ≡ init ++ y ∷ [] = ap (λ i. set xs i y) at ∙ ap (λ z. set z (length init) y) whole ∙ set-append_seam init g [] y in
     ap (λ z. let c : Construction = record b { groups = z } in c) (ap (λ z. reverse (map group_of z)) new ∙ innermost init y ∙
-        ap (λ z. z ∷ reverse (map group_of init)) added)
+    ap (λ z. z ∷ reverse (map group_of init)) added)
     ∙ ap (λ z. with_value_in z x b) (sym (ap (λ z. reverse (map group_of z)) whole ∙ innermost init g))
 
 -- the text that is being read has a part more

@@ -5,3 +5,4 @@ pub mod Values
 pub mod HeldLemmas
 pub mod Taking
 pub mod Feeding
+pub mod ReadingInputs

@@ -110,8 +110,12 @@ whole_text_weighs : (kind : TextKind) (s : List ℕ) (b : Construction) →
     events_weight (e.Text kind ∷ (content_events s ++ e.TextEnd ∷ [])) b ≡ format_weight kind + length s + end_weight kind s
 whole_text_weighs kind s b =
     let opened = with_event (e.Text kind) b in
-    omega (arith, events_weight-append (content_events s) (e.TextEnd ∷ []) opened, content_adds s opened,
-        ap (event_weight e.TextEnd) (content_held s (Some (record { kind = kind; content = [] })) b))
+    omega (
+      arith,
+      events_weight-append (content_events s) (e.TextEnd ∷ []) opened,
+      content_adds s opened,
+      ap (event_weight e.TextEnd) (content_held s (Some (record { kind = kind; content = [] })) b),
+    )
 
 -- a text that is told whole is taken in where its value is put in its place
 pub takes_in_text : (old new : Held) (kind : TextKind) (s : List ℕ) (goes_on : Bool) → format_weight kind + end_weight kind s ≡ 3 →

@@ -5,3 +5,4 @@ pub mod Brief
 pub mod Holding
 pub mod Hearing
 pub mod Decoding
+pub mod Inputs

@@ -4,6 +4,7 @@
 //! byte exactly where the scanner does, and holds no more than the value that is being read.
 #![tactic(auto)]
 
+pub mod all;
 pub mod decoder;
 pub mod fed;
 mod group;
@@ -12,5 +13,6 @@ mod held;
 mod tests;
 mod text;
 
+pub use all::{AllFault, decode_all};
 pub use decoder::Decoder;
 pub use fed::Fed;

@@ -1,6 +1,7 @@
 //! What the decoder says of whole inputs, however they are cut. The wanted values are worked out by
 //! hand from the table of spellings.
 
+use crate::all::{AllFault, decode_all};
 use crate::decoder::Decoder;
 use resp_scan::event::{Busy, Fault};
 use resp_value::cause::Cause;
@@ -312,5 +313,31 @@ fn a_value_of_many_levels(rt: HostRuntime) -> Result<(), Fail> {
     let mut decoder = Decoder::new(alloc, Version::Two, &limits);
     text.extend_from_slice(b":1\r\n")?;
     assert_eq!(rt; decoder.feed(text.as_slice())?.value.is_some(), true);
+    Ok(())
+}
+
+#[test]
+fn all_values_of_an_input(rt: HostRuntime) -> Result<(), Fail> {
+    let alloc = rt.alloc();
+    let limits = Limits::standard();
+    let values = decode_all(alloc, Version::Two, &limits, b":1\r\n:2\r\n")?;
+    assert_eq!(rt;
+        values.as_slice(),
+        [Value::Int(1), Value::Int(2)].as_slice()
+    );
+    for (input, value, cause, at) in [
+        (b":1\r\n:2\r\n:3\r\n:4".as_slice(), 4, Cause::Truncated, 2),
+        (b":1\r\n:x", 2, Cause::Syntax, 1),
+        (b"#t\r\n", 1, Cause::Version, 0),
+    ] {
+        let wanted = AllFault {
+            value,
+            fault: Fault { cause, at },
+        };
+        assert_eq!(rt;
+            decode_all(alloc, Version::Two, &limits, input),
+            Err(wanted)
+        );
+    }
     Ok(())
 }

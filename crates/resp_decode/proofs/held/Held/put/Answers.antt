@@ -9,4 +9,4 @@ returns-in_ok-add-in-Some-clause-holds c =
     let old = c.args.self.now in
     let size : vec_len old.groups ≡ length old.groups.items = omega (arith, old.groups.ok.0) in
     group_put old.groups.items (vec_len old.groups) c.in-Some.group.now c.add.new.self (datum_of c.args.value) (construction_of old) size
-        (c.in-Some.ensures.variant.0 refl) c.in-Some.ensures.value c.in_ok-add-in-Some.ensures
+    (c.in-Some.ensures.variant.0 refl) c.in-Some.ensures.value c.in_ok-add-in-Some.ensures

@@ -22,10 +22,10 @@ returns-in-Error c =
     let old = c.args.self.now in
     let same = c.of_plain-in-Error.ensures ∙ c.in-Ok.ensures.items in
     subst (λ kind. TakesInWhereFit old c.put_scalar-in-Error.new.self (whole_text_events kind c.args.bytes.now) c.put_scalar-in-Error.result)
-        (sym c.in-Error.is)
+    (sym c.in-Error.is)
     (takes_in_text old c.put_scalar-in-Error.new.self e.Error c.args.bytes.now c.put_scalar-in-Error.result refl
     (λ goes. c.put_scalar-in-Error.ensures.holds goes ∙ ap (λ s. with_value (scalar (d.Error s)) (construction_of old)) same)
-        c.put_scalar-in-Error.ensures.weighs)
+    c.put_scalar-in-Error.ensures.weighs)
 
 pub returns-in-Bulk : goal.returns-in-Bulk
 returns-in-Bulk c =
