@@ -1,20 +1,19 @@
 -- The events of a tree come in order, each may come, and at each byte they add no more to the weight than bytes have come.
-use Rattle.std.proofs.Common.{◌≡◌, ℕ, suc, ◌+◌, ◌-◌, ◌<◌, ◌≤◌, Bool, true, false, cond, eqb, ltb, Option, None, Some, List, [], ◌∷◌, ◌++◌, length, refl, sym, ap, subst, ◌∙◌, append_assoc, length-append, arith}
+use Rattle.std.proofs.Common.{◌≡◌, ℕ, ◌+◌, ◌-◌, ◌<◌, ◌≤◌, Bool, true, false, cond, eqb, ltb, None, List, [], ◌∷◌, ◌++◌, length, refl, sym, ap, subst, ◌∙◌, append_assoc, length-append, arith}
 use Rattle.std.proofs.lemmas.List.{append-nil}
 use Rattle.std.proofs.lemmas.Bool.{ltb-true, ltb-false}
-use Rattle.std.specs.List.{AllByRecursion}
-use Rattle.resp_value.specs.Bytes.{IsLine, crlf}
-use Rattle.resp_value.specs.Numbers.{Sign, IsDigits, IsKept, is_minus, is_below_zero, kept_digits, signed_value, sign_text, significant_digits, zero_if_none}
+use Rattle.resp_value.specs.Bytes.{crlf}
+use Rattle.resp_value.specs.Numbers.{Sign, IsDigits, IsKept, is_minus, is_below_zero, sign_text, significant_digits, zero_if_none}
 use Rattle.resp_value.specs.Data.{Kind, Datum, Data, scalar, aggregate, data_of_list, Array, Set, Map, Attr, Push, members_of}
 use Rattle.resp_value.specs.Data as d
 use Rattle.resp_value.specs.Trees as t
 use Rattle.resp_value.specs.Trees.{Tree, Trees, leaf, node, none, more, Leaf, line, numeral, null, truth, string, chunked, Chunk, chunks_text, joined_content, Form, Counted, Streamed, HasMembers, close, form_line, kind_byte, leaf_text, payload, string_byte, text, texts, count, IsTree, AreTrees, IsLeaf}
-use Rattle.resp_value.specs.TreeValues.{value, values, leaf_value}
+use Rattle.resp_value.specs.TreeValues.{value, leaf_value}
 use Rattle.resp_value.specs.Rules.{Every, EveryOf, IsNoDouble, IsAnyNode}
 use Rattle.resp_value.proofs.KeptDigits.{are_kept}
 use Rattle.resp_fronts.specs.Events.{Event, Timed, TextKind, bytes_from, text_events, last_of, big_events, chunk_events, leaf_events, events, events_each, open_event, close_event, without_places, events_due}
 use Rattle.resp_fronts.specs.Events as e
-use Rattle.resp_decode.specs.Builds.{Group, Text, Construction, nothing, with_value, with_value_in, scalar_of, with_event, with_events}
+use Rattle.resp_decode.specs.Builds.{Construction, nothing, with_value, scalar_of, with_event}
 use Rattle.resp_decode.specs.Weights.{format_weight}
 use Rattle.resp_decode.specs.Fits.{IsWholeText, IsMemberCount, MayBegin, MayCome, MayAllCome, event_weight, events_weight, end_weight}
 use Rattle.resp_decode.proofs.Folds.{in_group, in_text, value_list, values_listed, without_text}

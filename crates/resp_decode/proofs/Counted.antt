@@ -1,12 +1,12 @@
 -- What an event event_weight to the weight is what it event_weight to what is construction.
-use Rattle.std.proofs.Common.{◌≡◌, ℕ, ◌+◌, Option, None, Some, List, [], ◌∷◌, ◌++◌, length, refl, sym, ap, subst, ◌∙◌, arith, length-append}
+use Rattle.std.proofs.Common.{◌≡◌, ℕ, ◌+◌, Option, None, Some, List, [], ◌∷◌, ◌++◌, length, refl, sym, ap, subst, arith, length-append}
 use Rattle.resp_value.specs.Data.{Kind, Datum, Data, scalar, aggregate, data_of_list}
 use Rattle.resp_value.specs.Data as d
 use Rattle.resp_fronts.specs.Events.{Event, TextKind}
 use Rattle.resp_fronts.specs.Events as e
 use Rattle.resp_decode.specs.Builds.{Group, Text, Construction, with_value, with_value_in, scalar_of, with_text_ended, with_byte, with_group_closed, with_event, with_events}
 use Rattle.resp_decode.specs.Weights.{content_size, weight, weight_of_each, weight_of_all, weight_of_groups, format_weight, weight_of_text, weight_of_whole, weight_of}
-use Rattle.resp_decode.specs.Fits.{IsInText, MayEndText, MayClose, MayBegin, MayCome, MayAllCome, event_weight, events_weight, end_weight, text_end_weight}
+use Rattle.resp_decode.specs.Fits.{IsInText, MayEndText, MayClose, MayCome, MayAllCome, event_weight, events_weight, end_weight, text_end_weight}
 
 pub weight_of_all-append : (xs : List Datum) (x : Datum) → weight_of_all (xs ++ x ∷ []) ≡ weight_of_all xs + weight x
 weight_of_all-append [] x = omega arith

@@ -1,5 +1,5 @@
 -- What a decoder has taken, from what its scanner and its listener say.
-use Rattle.std.proofs.Common.{◌≡◌, ◌⊎◌, inl, inr, ℕ, zero, suc, ◌≤◌, ◌<◌, Bool, true, false, cond, ltb, Option, None, Some, List, [], ◌∷◌, ◌++◌, length, take, drop, ◌+◌, ◌-◌, append_assoc, length-append, refl, sym, ap, subst, ◌∙◌, arith}
+use Rattle.std.proofs.Common.{◌≡◌, ◌⊎◌, inl, inr, ℕ, zero, suc, ◌≤◌, ◌<◌, Bool, true, false, cond, ltb, None, Some, List, [], ◌∷◌, ◌++◌, length, take, drop, ◌+◌, ◌-◌, append_assoc, length-append, refl, sym, ap, subst, ◌∙◌, arith}
 use Rattle.std.specs.Prelude.{IsOk, OnOk, ◌↔◌, Result, Ok, Err}
 use Rattle.std.proofs.lemmas.List.{append-nil, length-take-le, take-append-drop, take_all}
 use Rattle.std.proofs.lemmas.Bool.{ltb-true}
@@ -21,10 +21,10 @@ use Rattle.resp_scan.specs.declared.event.Fault.{Fault}
 use Rattle.resp_scan.specs.declared.event.ScanError.{ScanError}
 use Rattle.resp_scan.specs.declared.event.ScanError.TheVariants as stop
 use Rattle.resp_decode.specs.Brief.{AreBrief, BeginsBrief, WantMemory}
-use Rattle.resp_decode.specs.Builds.{Construction, construction, nothing}
+use Rattle.resp_decode.specs.Builds.{Construction, nothing}
 use Rattle.resp_decode.specs.Decoding.{GivesValue, HasTaken, LacksMemory, RefusesByte}
 use Rattle.resp_decode.specs.Hearing.{HasHeard}
-use Rattle.resp_decode.specs.Holding.{construction_of, maybe_datum}
+use Rattle.resp_decode.specs.Holding.{construction_of}
 use Rattle.resp_decode.specs.Weights.{weight_of}
 use Rattle.resp_decode.specs.declared.decoder.Decoder.{Decoder}
 use Rattle.resp_decode.specs.declared.held.Held.{Held}

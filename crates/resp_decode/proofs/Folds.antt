@@ -1,8 +1,7 @@
 -- What the events of a tree build: its value, with_value where a finished value goes; and each of them may come.
-use Rattle.std.proofs.Common.{◌≡◌, ℕ, ◌+◌, ◌-◌, Bool, true, false, cond, eqb, Option, None, Some, List, [], ◌∷◌, ◌++◌, length, refl, sym, ap, subst, ◌∙◌, append_assoc, length-append, arith}
+use Rattle.std.proofs.Common.{◌≡◌, ℕ, ◌+◌, ◌-◌, Bool, None, Some, List, [], ◌∷◌, ◌++◌, length, refl, sym, ap, ◌∙◌, append_assoc}
 use Rattle.std.proofs.lemmas.List.{append-nil}
-use Rattle.resp_value.specs.Bytes.{IsLine}
-use Rattle.resp_value.specs.Numbers.{Sign, IsDigits, IsKept, is_below_zero, kept_digits, signed_value, significant_digits, zero_if_none}
+use Rattle.resp_value.specs.Numbers.{is_below_zero, significant_digits, zero_if_none}
 use Rattle.resp_value.specs.Data.{Kind, Datum, Data, scalar, aggregate, data_of_list}
 use Rattle.resp_value.specs.Data as d
 use Rattle.resp_value.specs.Trees as t
@@ -11,7 +10,7 @@ use Rattle.resp_value.specs.TreeValues.{value, values, leaf_value}
 use Rattle.resp_value.specs.Rules.{Every, EveryOf, IsNoDouble, IsAnyNode}
 use Rattle.resp_fronts.specs.Events.{Event, Timed, TextKind, bytes_from, text_events, last_of, big_events, chunk_events, leaf_events, events, events_each, open_event, close_event, without_places}
 use Rattle.resp_fronts.specs.Events as e
-use Rattle.resp_decode.specs.Builds.{Group, Text, Construction, with_value, with_value_in, scalar_of, with_event, with_events}
+use Rattle.resp_decode.specs.Builds.{Group, Construction, with_value, with_value_in, scalar_of, with_event, with_events}
 
 -- events side by side
 pub without_places-append : (xs ys : List Timed) → without_places (xs ++ ys) ≡ without_places xs ++ without_places ys

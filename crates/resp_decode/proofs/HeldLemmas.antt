@@ -1,14 +1,12 @@
 -- Members in turn, and groups in their order.
-use Rattle.std.proofs.Common.{◌≡◌, ℕ, suc, ◌+◌, ◌-◌, ◌<◌, get_or, Option, None, Some, List, [], ◌∷◌, ◌++◌, length, map, reverse, refl, sym, ap, subst, ◌∙◌, append_assoc, length-append, arith}
+use Rattle.std.proofs.Common.{◌≡◌, ℕ, suc, ◌-◌, ◌<◌, get_or, Option, None, Some, List, [], ◌∷◌, ◌++◌, length, map, reverse, refl, sym, ap, ◌∙◌, append_assoc, length-append, arith}
 use Rattle.std.proofs.lemmas.List.{append-nil, map-append, reverse-append}
 use Rattle.std.proofs.Math.ListN.{set}
 use Rattle.std.proofs.Math.Seq.{set-append_seam}
 use Rattle.resp_value.specs.Data.{Datum, aggregate, data_of_list, in_turn}
 use Rattle.resp_value.specs.Data as d
-use Rattle.resp_value.specs.Values.{datum_of, pair_data, pairs_of}
+use Rattle.resp_value.specs.Values.{datum_of, pair_data}
 use Rattle.resp_value.specs.declared.value.Value.{Value}
-use Rattle.resp_value.specs.declared.value.PairList.{PairList}
-use Rattle.resp_value.specs.declared.value.Value.TheVariants.{Map'}
 use Rattle.resp_value.proofs.DatumOf.{length-in_turn}
 use Rattle.resp_fronts.specs.Events as e
 use Rattle.resp_scan.specs.Kinds.{content_events}

@@ -1,9 +1,9 @@
 -- What has been read of a whole input, a value at a time.
-use Rattle.std.proofs.Common.{◌≡◌, ◌⊎◌, inl, inr, ℕ, zero, suc, ◌+◌, ◌-◌, ◌<◌, ◌≤◌, Option, None, Some, List, [], ◌∷◌, ◌++◌, length, take, drop, map, refl, sym, ap, subst, ◌∙◌, append_assoc, length-append, arith}
+use Rattle.std.proofs.Common.{◌≡◌, ◌⊎◌, inl, inr, ℕ, zero, suc, ◌+◌, ◌-◌, ◌<◌, List, [], ◌∷◌, ◌++◌, length, take, drop, map, refl, sym, ap, subst, ◌∙◌, append_assoc, arith}
 use Rattle.std.proofs.lemmas.List.{append-nil, length-drop, map-append, take-append-drop, take_all}
 use Rattle.resp_value.specs.Data.{Datum}
-use Rattle.resp_value.specs.Rules.{Rules, WithinTotal}
-use Rattle.resp_value.specs.Spellings.{AreSpellings, IsSpelling, IsViable}
+use Rattle.resp_value.specs.Rules.{Rules}
+use Rattle.resp_value.specs.Spellings.{AreSpellings, IsSpelling}
 use Rattle.resp_value.specs.Values.{datum_of}
 use Rattle.resp_value.specs.declared.value.Value.{Value}
 use Rattle.resp_value.specs.declared.cause.Cause.TheVariants as cause
@@ -11,7 +11,7 @@ use Rattle.resp_value.proofs.SpellingLaws.{no_spelling_is_empty}
 use Rattle.resp_scan.specs.Kinds.{rules_of}
 use Rattle.resp_scan.specs.declared.event.Fault.{Fault}
 use Rattle.resp_decode.specs.Decoding.{GivesValue, HasTaken, LacksMemory, RefusesByte, UsesUp}
-use Rattle.resp_decode.specs.Inputs.{EndsInside, HasRead, RefusesInput, RefusesRest}
+use Rattle.resp_decode.specs.Inputs.{HasRead, RefusesInput, RefusesRest}
 use Rattle.resp_decode.specs.declared.all.AllFault.{AllFault}
 use Rattle.resp_decode.specs.declared.decoder.Decoder.{Decoder}
 

@@ -1,11 +1,11 @@
 -- What is known of the events without_places of a front: each could come, they weigh no more than the front, and at the end of a
 -- value they build it.
-use Rattle.std.proofs.Common.{◌≡◌, ◌⊎◌, inl, inr, ℕ, ◌+◌, ◌≤◌, Bool, true, false, cond, ltb, Option, None, Some, List, [], ◌∷◌, ◌++◌, length, refl, sym, ap, subst, ◌∙◌, arith}
+use Rattle.std.proofs.Common.{◌≡◌, inl, inr, ℕ, ◌≤◌, Bool, true, false, cond, ltb, Some, List, [], ◌∷◌, ◌++◌, length, refl, ap, subst, ◌∙◌, arith}
 use Rattle.resp_value.specs.Data as d
 use Rattle.resp_value.specs.Trees as t
 use Rattle.resp_value.specs.Trees.{Tree, Spells, text, leaf, node, line, numeral, null, truth, string, chunked}
 use Rattle.resp_value.specs.TreeValues.{value}
-use Rattle.resp_value.specs.Rules.{Rules, Rule, Every, IsNoDouble, IsAnyNode, Keeps, NoDouble, WithinTotal, rank}
+use Rattle.resp_value.specs.Rules.{Rules, Every, IsNoDouble, IsAnyNode, Keeps, NoDouble, WithinTotal}
 use Rattle.resp_value.specs.Spellings.{IsSpelling, IsViable}
 use Rattle.resp_fronts.specs.Events.{Event, Timed, all_events, events_due, events, without_places}
 use Rattle.resp_fronts.specs.Events as e

@@ -1,12 +1,11 @@
 -- What a decoder promises, in words of texts and values.
-use Rattle.std.specs.Prelude.{◌≡◌, ◌⊎◌, ℕ, ◌≤◌, List, [], ◌++◌, length, take, Option, None, Some, Result, Ok, Err, IfOk}
+use Rattle.std.specs.Prelude.{◌≡◌, ℕ, ◌≤◌, List, [], ◌++◌, length, take, None, Some, Result, IfOk}
 use Rattle.resp_value.specs.Rules.{Rules, Rule, WithinTotal}
 use Rattle.resp_value.specs.Spellings.{FaultOf, IsSpelling, IsViable}
 use Rattle.resp_value.specs.Causes.{cause_of}
 use Rattle.resp_value.specs.Values.{datum_of}
 use Rattle.resp_value.specs.declared.value.Value.{Value}
 use Rattle.resp_value.specs.declared.cause.Cause.TheVariants as cause
-use Rattle.resp_scan.specs.Kinds.{rules_of}
 use Rattle.resp_scan.specs.Reading.{AreDue, Events, HasNoSpelling, HasNoValue, HasRead}
 use Rattle.resp_scan.specs.Reading as scan
 use Rattle.resp_scan.specs.declared.event.Fault.{Fault}

@@ -3,6 +3,7 @@
 
 use crate::all::{AllFault, decode_all};
 use crate::decoder::Decoder;
+use crate::fed::Fed;
 use resp_scan::event::{Busy, Fault};
 use resp_value::cause::Cause;
 use resp_value::limits::Limits;
@@ -137,12 +138,13 @@ fn give(
             }
         };
         assert!(rt; decoder.weight() <= decoder.taken());
-        rest = &rest[fed.used..];
-        match fed.value {
+        let Fed { used, value } = fed;
+        rest = &rest[used..];
+        match value {
             Some(value) => {
                 add_value(alloc, out, &value)?;
                 add(out, b"#")?;
-                add_number(alloc, out, fed.used as u64)?;
+                add_number(alloc, out, used as u64)?;
                 add(out, b".")?;
                 assert!(rt; decoder.taken() == 0 && decoder.weight() == 0);
             }
@@ -273,13 +275,18 @@ fn a_long_streamed_array(rt: HostRuntime) -> Result<(), Fail> {
     }
     text.extend_from_slice(b".\r\n")?;
     let mut decoder = Decoder::new(alloc, Version::Three, &limits);
-    let fed = decoder.feed(text.as_slice())?;
-    assert_eq!(rt; fed.used, 30_007);
-    match fed.value {
-        Some(Value::Array(members)) => assert_eq!(rt; members.list().len(), 10_000),
-        _ => assert!(rt; false),
-    }
+    let Fed { used, value } = decoder.feed(text.as_slice())?;
+    assert_eq!(rt; used, 30_007);
+    assert_eq!(rt; members_of(&value), 10_000);
     Ok(())
+}
+
+/// The number of an array's members.
+fn members_of(value: &Option<Value>) -> usize {
+    match value {
+        Some(Value::Array(members)) => members.list().len(),
+        _ => 0,
+    }
 }
 
 #[test]

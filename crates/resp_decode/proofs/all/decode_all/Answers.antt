@@ -1,11 +1,10 @@
-use Rattle.std.proofs.Common.{rules, ◌≡◌, ◌<◌, ◌≤◌, ◌+◌, ◌-◌, None, Some, ◌⊎◌, inr, [], ◌∷◌, ◌++◌, length, drop, take, subst, sym, ap, refl, ◌∙◌, arith, vec_len}
+use Rattle.std.proofs.Common.{rules, ◌≡◌, ◌<◌, ◌+◌, None, ◌⊎◌, inr, [], length, subst, ap, refl, ◌∙◌, arith}
 use Rattle.std.proofs.lemmas.List.{length-drop}
 use Rattle.resp_value.specs.Rules.{rules_under}
 use Rattle.resp_value.specs.declared.cause.Cause.TheVariants as cause
 use Rattle.resp_scan.specs.declared.event.Fault.{Fault}
 use Rattle.resp_scan.specs.Kinds.{rules_of}
-use Rattle.resp_decode.specs.Decoding.{GivesValue, LacksMemory, RefusesByte, UsesUp}
-use Rattle.resp_decode.specs.Inputs.{RefusesRest}
+use Rattle.resp_decode.specs.Decoding.{LacksMemory, RefusesByte, UsesUp}
 use Rattle.resp_decode.proofs.ReadingInputs.{bytes_behind, ends_inside, reads_all, reads_nothing, reads_value, refuses_input, refuses_rest, value_uses_bytes}
 use Rattle.resp_decode.proofs.all.decode_all.Goals as goal
 

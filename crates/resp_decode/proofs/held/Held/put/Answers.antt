@@ -1,4 +1,4 @@
-use Rattle.std.proofs.Common.{◌≡◌, ◌<◌, length, refl, arith, vec_len}
+use Rattle.std.proofs.Common.{◌≡◌, length, refl, arith, vec_len}
 use Rattle.resp_value.specs.Values.{datum_of}
 use Rattle.resp_decode.specs.Holding.{construction_of}
 use Rattle.resp_decode.proofs.HeldLemmas.{group_put}

@@ -1,4 +1,4 @@
-use Rattle.std.proofs.Common.{◌≡◌, ◌+◌, sym, ap, subst, ◌∙◌, refl, arith, length}
+use Rattle.std.proofs.Common.{sym, ap, subst, ◌∙◌, refl}
 use Rattle.resp_value.specs.Data.{scalar}
 use Rattle.resp_value.specs.Data as d
 use Rattle.resp_fronts.specs.Events as e

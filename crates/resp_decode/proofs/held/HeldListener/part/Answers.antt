@@ -1,5 +1,3 @@
-use Rattle.std.proofs.Common.{[], ◌∷◌, true}
-use Rattle.resp_fronts.specs.Events as e
 use Rattle.resp_scan.specs.Kinds.{content_events}
 use Rattle.resp_decode.proofs.Taking.{hears_events, content_wants_memory}
 use Rattle.resp_decode.proofs.held.HeldListener.part.Goals as goal

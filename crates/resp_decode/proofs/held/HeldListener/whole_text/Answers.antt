@@ -1,5 +1,3 @@
-use Rattle.std.proofs.Common.{[], ◌∷◌, true}
-use Rattle.resp_fronts.specs.Events as e
 use Rattle.resp_scan.specs.Listening.{whole_text_events}
 use Rattle.resp_decode.proofs.Taking.{hears_events}
 use Rattle.resp_decode.proofs.held.HeldListener.whole_text.Goals as goal
