@@ -1,12 +1,12 @@
 -- What an event event_weight to the weight is what it event_weight to what is construction.
-use Rattle.std.proofs.Common.{◌≡◌, ℕ, ◌+◌, Option, None, Some, List, [], ◌∷◌, ◌++◌, length, refl, sym, ap, subst, ◌∙◌, arith, length-append}
+use Rattle.std.proofs.Common.{◌≡◌, ℕ, ◌+◌, Option, None, Some, List, [], ◌∷◌, ◌++◌, length, refl, sym, ap, subst, arith, length-append}
 use Rattle.resp_value.specs.Data.{Kind, Datum, Data, scalar, aggregate, data_of_list}
 use Rattle.resp_value.specs.Data as d
 use Rattle.resp_fronts.specs.Events.{Event, TextKind}
 use Rattle.resp_fronts.specs.Events as e
 use Rattle.resp_decode.specs.Builds.{Group, Text, Construction, with_value, with_value_in, scalar_of, with_text_ended, with_byte, with_group_closed, with_event, with_events}
 use Rattle.resp_decode.specs.Weights.{content_size, weight, weight_of_each, weight_of_all, weight_of_groups, format_weight, weight_of_text, weight_of_whole, weight_of}
-use Rattle.resp_decode.specs.Fits.{IsInText, MayEndText, MayClose, MayBegin, MayCome, MayAllCome, event_weight, events_weight, end_weight, text_end_weight}
+use Rattle.resp_decode.specs.Fits.{IsInText, MayEndText, MayClose, MayCome, MayAllCome, event_weight, events_weight, end_weight, text_end_weight}
 
 pub weight_of_all-append : (xs : List Datum) (x : Datum) → weight_of_all (xs ++ x ∷ []) ≡ weight_of_all xs + weight x
 weight_of_all-append [] x = omega arith
@@ -17,13 +17,15 @@ weight-listed [] = refl
 weight-listed (x ∷ xs) = omega (arith, weight-listed xs)
 
 -- a finished value weighs what it weighs
-put_in_weighs : (gs : List Group) (text : Option Text) (x : Datum) → weight_of (with_value_in gs x (record { groups = gs; text = text; whole = None })) ≡ weight_of_groups gs + weight_of_text text + weight x
+put_in_weighs : (gs : List Group) (text : Option Text) (x : Datum) → weight_of (with_value_in gs x (record { groups = gs; text = text; whole = None })) ≡
+    weight_of_groups gs + weight_of_text text + weight x
 put_in_weighs [] text x = omega arith
 put_in_weighs (g ∷ gs) text x = omega (arith, weight_of_all-append g.members x)
 
 pub put_weighs : (x : Datum) (b : Construction) → b.whole ≡ None → weight_of (with_value x b) ≡ weight_of_groups b.groups + weight_of_text b.text + weight x
 put_weighs x b unended =
-    let P : Option Datum → Type 0 = λ w. weight_of (with_value_in b.groups x (record { groups = b.groups; text = b.text; whole = w })) ≡ weight_of_groups b.groups + weight_of_text b.text + weight x in
+    let P : Option Datum → Type 0 = λ w. weight_of (with_value_in b.groups x (record { groups = b.groups; text = b.text; whole = w })) ≡
+    weight_of_groups b.groups + weight_of_text b.text + weight x in
     subst P (sym unended) (put_in_weighs b.groups b.text x)
 
 -- and so does a whole text
@@ -36,17 +38,27 @@ scalar_weighs (e.Verbatim format) s = omega arith
 scalar_weighs (e.Big negative) [] = refl
 scalar_weighs (e.Big negative) (c ∷ s) = omega arith
 
-text_weighs : (text : Option Text) (b : Construction) → MayEndText text → b.whole ≡ None → weight_of (with_text_ended text b) ≡ weight_of_groups b.groups + weight_of_text text + text_end_weight text
+text_weighs : (text : Option Text) (b : Construction) → MayEndText text → b.whole ≡ None →
+    weight_of (with_text_ended text b) ≡ weight_of_groups b.groups + weight_of_text text + text_end_weight text
 text_weighs None b may unended = absurd may
-text_weighs (Some t) b may unended = omega (arith, put_weighs (scalar (scalar_of t.kind t.content)) (record b { text = None }) unended, scalar_weighs t.kind t.content)
+text_weighs (Some t) b may unended = omega (
+  arith,
+  put_weighs (scalar (scalar_of t.kind t.content)) (record b { text = None }) unended,
+  scalar_weighs t.kind t.content,
+)
 
 byte_weighs : (text : Option Text) (c : ℕ) → IsInText text → weight_of_text (with_byte text c) ≡ weight_of_text text + 1
 byte_weighs None c may = absurd may
 byte_weighs (Some t) c may = omega (arith, length-append t.content (c ∷ []))
 
-close_weighs : (gs : List Group) (b : Construction) → MayClose gs → b.whole ≡ None → weight_of (with_group_closed gs b) ≡ weight_of_groups gs + weight_of_text b.text
+close_weighs : (gs : List Group) (b : Construction) → MayClose gs → b.whole ≡ None →
+    weight_of (with_group_closed gs b) ≡ weight_of_groups gs + weight_of_text b.text
 close_weighs [] b may unended = absurd may
-close_weighs (g ∷ gs) b may unended = omega (arith, put_weighs (aggregate g.kind (data_of_list g.members)) (record b { groups = gs }) unended, weight-listed g.members)
+close_weighs (g ∷ gs) b may unended = omega (
+  arith,
+  put_weighs (aggregate g.kind (data_of_list g.members)) (record b { groups = gs }) unended,
+  weight-listed g.members,
+)
 
 -- of one event
 pub event_weighs : (event : Event) (b : Construction) → MayCome event b → weight_of (with_event event b) ≡ weight_of b + event_weight event b

@@ -1,8 +1,7 @@
 -- What the events of a tree build: its value, with_value where a finished value goes; and each of them may come.
-use Rattle.std.proofs.Common.{◌≡◌, ℕ, ◌+◌, ◌-◌, Bool, true, false, cond, eqb, Option, None, Some, List, [], ◌∷◌, ◌++◌, length, refl, sym, ap, subst, ◌∙◌, append_assoc, length-append, arith}
+use Rattle.std.proofs.Common.{◌≡◌, ℕ, ◌+◌, ◌-◌, Bool, None, Some, List, [], ◌∷◌, ◌++◌, length, refl, sym, ap, ◌∙◌, append_assoc}
 use Rattle.std.proofs.lemmas.List.{append-nil}
-use Rattle.resp_value.specs.Bytes.{IsLine}
-use Rattle.resp_value.specs.Numbers.{Sign, IsDigits, IsKept, is_below_zero, kept_digits, signed_value, significant_digits, zero_if_none}
+use Rattle.resp_value.specs.Numbers.{is_below_zero, significant_digits, zero_if_none}
 use Rattle.resp_value.specs.Data.{Kind, Datum, Data, scalar, aggregate, data_of_list}
 use Rattle.resp_value.specs.Data as d
 use Rattle.resp_value.specs.Trees as t
@@ -11,7 +10,7 @@ use Rattle.resp_value.specs.TreeValues.{value, values, leaf_value}
 use Rattle.resp_value.specs.Rules.{Every, EveryOf, IsNoDouble, IsAnyNode}
 use Rattle.resp_fronts.specs.Events.{Event, Timed, TextKind, bytes_from, text_events, last_of, big_events, chunk_events, leaf_events, events, events_each, open_event, close_event, without_places}
 use Rattle.resp_fronts.specs.Events as e
-use Rattle.resp_decode.specs.Builds.{Group, Text, Construction, with_value, with_value_in, scalar_of, with_event, with_events}
+use Rattle.resp_decode.specs.Builds.{Group, Construction, with_value, with_value_in, scalar_of, with_event, with_events}
 
 -- events side by side
 pub without_places-append : (xs ys : List Timed) → without_places (xs ++ ys) ≡ without_places xs ++ without_places ys
@@ -28,7 +27,8 @@ abbrev pub in_text : TextKind → List ℕ → Construction → Construction
 in_text kind s b = record b { text = Some (record { kind = kind; content = s }) }
 
 -- content comes
-pub builds-content : (from : ℕ) (kind : TextKind) (so_far s : List ℕ) (b : Construction) → with_events (without_places (bytes_from from s)) (in_text kind so_far b) ≡ in_text kind (so_far ++ s) b
+pub builds-content : (from : ℕ) (kind : TextKind) (so_far s : List ℕ) (b : Construction) →
+    with_events (without_places (bytes_from from s)) (in_text kind so_far b) ≡ in_text kind (so_far ++ s) b
 builds-content from kind so_far [] b = ap (λ z. in_text kind z b) (sym (append-nil so_far))
 builds-content from kind so_far (c ∷ s) b = builds-content (from + 1) kind (so_far ++ c ∷ []) s b ∙ ap (λ z. in_text kind z b) (append_assoc so_far (c ∷ []) s)
 
@@ -41,7 +41,8 @@ pub without_text : (b : Construction) → Rests b → record b { text = None } �
 without_text b rests = ap (λ z. let c : Construction = record b { text = z } in c) (sym rests)
 
 -- a text's events build its value
-pub builds-text : (kind : TextKind) (begins from : ℕ) (s : List ℕ) (ends : ℕ) (b : Construction) → Rests b → with_events (without_places (text_events kind begins from s ends)) b ≡ with_value (scalar (scalar_of kind s)) b
+pub builds-text : (kind : TextKind) (begins from : ℕ) (s : List ℕ) (ends : ℕ) (b : Construction) → Rests b →
+    with_events (without_places (text_events kind begins from s ends)) b ≡ with_value (scalar (scalar_of kind s)) b
 builds-text kind begins from s ends b rests =
     let ending : List Timed = record { at = ends; event = e.TextEnd } ∷ [] in
     let opened : Construction = in_text kind [] b in
@@ -51,7 +52,8 @@ builds-text kind begins from s ends b rests =
     ∙ ap (with_value (scalar (scalar_of kind s))) (without_text b rests)
 
 -- the content of chunks comes
-pub builds-chunks : (at : ℕ) (kind : TextKind) (so_far : List ℕ) (cs : List Chunk) (b : Construction) → with_events (without_places (chunk_events at cs)) (in_text kind so_far b) ≡ in_text kind (so_far ++ joined_content cs) b
+pub builds-chunks : (at : ℕ) (kind : TextKind) (so_far : List ℕ) (cs : List Chunk) (b : Construction) →
+    with_events (without_places (chunk_events at cs)) (in_text kind so_far b) ≡ in_text kind (so_far ++ joined_content cs) b
 builds-chunks at kind so_far [] b = ap (λ z. in_text kind z b) (sym (append-nil so_far))
 builds-chunks at kind so_far (c ∷ cs) b =
     let first = bytes_from (at + length c.digits + 3) c.content in
@@ -63,21 +65,28 @@ builds-chunks at kind so_far (c ∷ cs) b =
     ∙ ap (λ z. in_text kind z b) (append_assoc so_far c.content (joined_content cs))
 
 -- of a leaf
-pub builds-leaf : (from : ℕ) (l : Leaf) (b : Construction) → IsNoDouble l → Rests b → with_events (without_places (leaf_events from l)) b ≡ with_value (scalar (leaf_value l)) b
+pub builds-leaf : (from : ℕ) (l : Leaf) (b : Construction) → IsNoDouble l → Rests b → with_events (without_places (leaf_events from l)) b ≡
+    with_value (scalar (leaf_value l)) b
 builds-leaf from (line t.Simple s) b p rests = builds-text e.Simple from (from + 1) s _ b rests
 builds-leaf from (line t.Error s) b p rests = builds-text e.Error from (from + 1) s _ b rests
 builds-leaf from (line t.Double s) b p rests = absurd p
 builds-leaf from (numeral t.Int sign digits) b p rests = refl
-builds-leaf from (numeral t.Big sign digits) b p rests = big (is_below_zero sign digits) (significant_digits digits) (last_of from (leaf_text (numeral t.Big sign digits)))
+builds-leaf from (numeral t.Big sign digits) b p rests = big (is_below_zero sign digits) (significant_digits digits)
+    (last_of from (leaf_text (numeral t.Big sign digits)))
   where
-    big : (negative : Bool) (s : List ℕ) (last : ℕ) → with_events (without_places (big_events negative s last)) b ≡ with_value (scalar (d.Big negative (zero_if_none s))) b
+    big : (negative : Bool) (s : List ℕ) (last : ℕ) → with_events (without_places (big_events negative s last)) b ≡
+        with_value (scalar (d.Big negative (zero_if_none s))) b
     big negative [] last = builds-text (e.Big negative) last last [] last b rests
     big negative (c ∷ s) last = builds-text (e.Big negative) (last - 2 - length s) (last - 2 - length s) (c ∷ s) last b rests
 builds-leaf from (null form) b p rests = refl
 builds-leaf from (truth x) b p rests = refl
-builds-leaf from (string t.Bulk digits s) b p rests = builds-text e.Bulk (from + length digits + 2) (from + length digits + 3) s (last_of from (leaf_text (string t.Bulk digits s))) b rests
-builds-leaf from (string t.BulkError digits s) b p rests = builds-text e.BulkError (from + length digits + 2) (from + length digits + 3) s (last_of from (leaf_text (string t.BulkError digits s))) b rests
-builds-leaf from (string (t.Verbatim format) digits s) b p rests = builds-text (e.Verbatim format) (from + length digits + length format + 3) (from + length digits + length format + 4) s (last_of from (leaf_text (string (t.Verbatim format) digits s))) b rests
+builds-leaf from (string t.Bulk digits s) b p rests = builds-text e.Bulk (from + length digits + 2) (from + length digits + 3) s
+    (last_of from (leaf_text (string t.Bulk digits s))) b rests
+builds-leaf from (string t.BulkError digits s) b p rests = builds-text e.BulkError (from + length digits + 2) (from + length digits + 3) s
+    (last_of from (leaf_text (string t.BulkError digits s))) b rests
+builds-leaf from (string (t.Verbatim format) digits s) b p rests =
+    builds-text (e.Verbatim format) (from + length digits + length format + 3) (from + length digits + length format + 4) s
+    (last_of from (leaf_text (string (t.Verbatim format) digits s))) b rests
 builds-leaf from (chunked cs zeros) b p rests =
     let ending : List Timed = record { at = last_of from (leaf_text (chunked cs zeros)); event = e.TextEnd } ∷ [] in
     let opened : Construction = in_text e.Bulk [] b in
@@ -109,7 +118,8 @@ put_rests x b rests = case b.groups
 
 mutual
   -- of a tree
-  pub builds-tree : (from : ℕ) (u : Tree) (b : Construction) → Every IsNoDouble IsAnyNode u → Rests b → with_events (without_places (events from u)) b ≡ with_value (value u) b
+  pub builds-tree : (from : ℕ) (u : Tree) (b : Construction) → Every IsNoDouble IsAnyNode u → Rests b → with_events (without_places (events from u)) b ≡
+      with_value (value u) b
   builds-tree from (leaf l) b p rests = builds-leaf from l b p rests
   builds-tree from (node k form us) b p rests =
       let at = from + length (form_line form) + 3 in
@@ -121,7 +131,8 @@ mutual
       ∙ ap (λ xs. with_value (aggregate k xs) b) (values_listed us)
 
   -- of trees, the members of an aggregate
-  pub builds-trees : (from : ℕ) (us : Trees) (k : Kind) (so_far : List Datum) (b : Construction) → EveryOf IsNoDouble IsAnyNode us → Rests b → with_events (without_places (events_each from us)) (in_group k so_far b) ≡ in_group k (so_far ++ value_list us) b
+  pub builds-trees : (from : ℕ) (us : Trees) (k : Kind) (so_far : List Datum) (b : Construction) → EveryOf IsNoDouble IsAnyNode us → Rests b →
+      with_events (without_places (events_each from us)) (in_group k so_far b) ≡ in_group k (so_far ++ value_list us) b
   builds-trees from none k so_far b p rests = ap (λ z. in_group k z b) (sym (append-nil so_far))
   builds-trees from (more u us) k so_far b p rests =
       let first = events from u in

@@ -1,14 +1,12 @@
 -- Members in turn, and groups in their order.
-use Rattle.std.proofs.Common.{◌≡◌, ℕ, suc, ◌+◌, ◌-◌, ◌<◌, get_or, Option, None, Some, List, [], ◌∷◌, ◌++◌, length, map, reverse, refl, sym, ap, subst, ◌∙◌, append_assoc, length-append, arith}
+use Rattle.std.proofs.Common.{◌≡◌, ℕ, suc, ◌-◌, ◌<◌, get_or, Option, None, Some, List, [], ◌∷◌, ◌++◌, length, map, reverse, refl, sym, ap, ◌∙◌, append_assoc, length-append, arith}
 use Rattle.std.proofs.lemmas.List.{append-nil, map-append, reverse-append}
 use Rattle.std.proofs.Math.ListN.{set}
 use Rattle.std.proofs.Math.Seq.{set-append_seam}
 use Rattle.resp_value.specs.Data.{Datum, aggregate, data_of_list, in_turn}
 use Rattle.resp_value.specs.Data as d
-use Rattle.resp_value.specs.Values.{datum_of, pair_data, pairs_of}
+use Rattle.resp_value.specs.Values.{datum_of, pair_data}
 use Rattle.resp_value.specs.declared.value.Value.{Value}
-use Rattle.resp_value.specs.declared.value.PairList.{PairList}
-use Rattle.resp_value.specs.declared.value.Value.TheVariants.{Map'}
 use Rattle.resp_value.proofs.DatumOf.{length-in_turn}
 use Rattle.resp_fronts.specs.Events as e
 use Rattle.resp_scan.specs.Kinds.{content_events}
@@ -25,7 +23,8 @@ in_turn-append [] ys = refl
 in_turn-append (x ∷ xs) ys = ap (λ zs. x.0 ∷ x.1 ∷ zs) (in_turn-append xs ys)
 
 -- a key and its value are a pair more
-pub pair_more : (ps qs : List (Value × Value)) (key value : Value) → qs ≡ ps ++ (key, value) ∷ [] → in_turn (map pair_data qs) ++ [] ≡ (in_turn (map pair_data ps) ++ datum_of key ∷ []) ++ datum_of value ∷ []
+pub pair_more : (ps qs : List (Value × Value)) (key value : Value) → qs ≡ ps ++ (key, value) ∷ [] →
+    in_turn (map pair_data qs) ++ [] ≡ (in_turn (map pair_data ps) ++ datum_of key ∷ []) ++ datum_of value ∷ []
 pair_more ps qs key value e =
     append-nil (in_turn (map pair_data qs))
     ∙ ap (λ zs. in_turn (map pair_data zs)) e
@@ -43,11 +42,13 @@ pub some_key : (ps : List (Datum × Datum)) → IsMemberCount d.Attr (length (in
 some_key ps h = omega (arith, h.1, length-append (in_turn ps) [], length-in_turn ps)
 
 -- content comes a part at a time
-pub content_held : (s : List ℕ) (text : Option Text) (b : Construction) → with_events (content_events s) (record b { text = text }) ≡ record b { text = with_bytes text s }
+pub content_held : (s : List ℕ) (text : Option Text) (b : Construction) → with_events (content_events s) (record b { text = text }) ≡
+    record b { text = with_bytes text s }
 content_held [] None b = refl
 content_held [] (Some t) b = ap (λ z. let c : Construction = record b { text = Some (record t { content = z }) } in c) (sym (append-nil t.content))
 content_held (x ∷ s) None b = content_held s None b
-content_held (x ∷ s) (Some t) b = content_held s (Some (record t { content = t.content ++ x ∷ [] })) b ∙ ap (λ z. let c : Construction = record b { text = Some (record t { content = z }) } in c) (append_assoc t.content (x ∷ []) s)
+content_held (x ∷ s) (Some t) b = content_held s (Some (record t { content = t.content ++ x ∷ [] })) b ∙
+    ap (λ z. let c : Construction = record b { text = Some (record t { content = z }) } in c) (append_assoc t.content (x ∷ []) s)
 
 pub content_adds : (s : List ℕ) (b : Construction) → events_weight (content_events s) b ≡ length s
 content_adds [] b = refl
@@ -67,13 +68,16 @@ innermost : (init : List Group) (z : Group) → reverse (map group_of (init ++ z
 innermost init z = ap reverse (map-append group_of init (z ∷ [])) ∙ reverse-append (map group_of init) (group_of z ∷ [])
 
 -- one member more in the innermost aggregate
-pub group_put : (xs : List Group) (n : ℕ) (g y : Group) (x : Datum) (b : Construction) → n ≡ length xs → 0 < n → g ≡ get_or xs (n - 1) g → group_of y ≡ record (group_of g) { members = (group_of g).members ++ x ∷ [] } → record b { groups = reverse (map group_of (set xs (n - 1) y)) } ≡ with_value_in (reverse (map group_of xs)) x b
+pub group_put : (xs : List Group) (n : ℕ) (g y : Group) (x : Datum) (b : Construction) → n ≡ length xs → 0 < n → g ≡ get_or xs (n - 1) g →
+    group_of y ≡ record (group_of g) { members = (group_of g).members ++ x ∷ [] } → record b { groups = reverse (map group_of (set xs (n - 1) y)) } ≡
+    with_value_in (reverse (map group_of xs)) x b
 group_put xs n g y x b size h is added =
     let (init, e) = last_split xs g (omega arith) in
     let whole : xs ≡ init ++ g ∷ [] = e ∙ ap (λ z. init ++ z ∷ []) (sym (is ∙ ap (λ i. get_or xs (i - 1) g) size)) in
     let at : n - 1 ≡ length init = omega (arith, ap length whole, length-append init (g ∷ [])) in
     let new : set xs (n - 1) y ≡ init ++ y ∷ [] = ap (λ i. set xs i y) at ∙ ap (λ z. set z (length init) y) whole ∙ set-append_seam init g [] y in
-    ap (λ z. let c : Construction = record b { groups = z } in c) (ap (λ z. reverse (map group_of z)) new ∙ innermost init y ∙ ap (λ z. z ∷ reverse (map group_of init)) added)
+    ap (λ z. let c : Construction = record b { groups = z } in c) (ap (λ z. reverse (map group_of z)) new ∙ innermost init y ∙
+    ap (λ z. z ∷ reverse (map group_of init)) added)
     ∙ ap (λ z. with_value_in z x b) (sym (ap (λ z. reverse (map group_of z)) whole ∙ innermost init g))
 
 -- the text that is being read has a part more

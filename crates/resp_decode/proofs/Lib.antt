@@ -4,3 +4,5 @@ pub mod Counted
 pub mod Values
 pub mod HeldLemmas
 pub mod Taking
+pub mod Feeding
+pub mod ReadingInputs

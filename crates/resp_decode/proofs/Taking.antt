@@ -1,18 +1,17 @@
 -- Taking in events, one after another, and what a listener has heard then.
-use Rattle.std.proofs.Common.{◌≡◌, ℕ, ◌+◌, ◌<◌, ◌≤◌, ◌^◌, Bool, true, false, Option, None, Some, List, [], ◌∷◌, ◌++◌, length, refl, sym, ap, subst, ◌∙◌, length-append, arith, min, ◌-◌}
+use Rattle.std.proofs.Common.{◌≡◌, ℕ, ◌+◌, ◌<◌, ◌≤◌, ◌^◌, Bool, true, false, None, Some, List, [], ◌∷◌, ◌++◌, length, refl, sym, ap, subst, ◌∙◌, length-append, arith, min, ◌-◌}
 use Rattle.std.proofs.lemmas.List.{append-nil}
 use Rattle.resp_value.specs.Data.{Datum, scalar}
 use Rattle.resp_value.specs.Trees.{text}
-use Rattle.resp_value.specs.Rules.{Rules, WithinTotal}
-use Rattle.resp_value.specs.Spellings.{IsViable}
+use Rattle.resp_value.specs.Rules.{WithinTotal}
 use Rattle.resp_fronts.specs.Events.{Event, TextKind}
 use Rattle.resp_fronts.specs.Events as e
 use Rattle.resp_scan.specs.Kinds.{content_events}
 use Rattle.resp_scan.specs.Reading.{Events}
-use Rattle.resp_scan.specs.Listening.{Hears, MayBeGiven, StopsWithin}
-use Rattle.resp_decode.specs.Builds.{Construction, Group, construction, nothing, scalar_of, with_value, with_bytes, with_event, with_events}
+use Rattle.resp_scan.specs.Listening.{Hears, MayBeGiven}
+use Rattle.resp_decode.specs.Builds.{Construction, construction, nothing, scalar_of, with_value, with_bytes, with_event, with_events}
 use Rattle.resp_decode.specs.Brief.{AreBrief, WantMemory}
-use Rattle.resp_decode.specs.Fits.{MayAllCome, event_weight, events_weight, end_weight, text_end_weight}
+use Rattle.resp_decode.specs.Fits.{MayAllCome, event_weight, events_weight, end_weight}
 use Rattle.resp_decode.specs.Weights.{format_weight}
 use Rattle.resp_decode.specs.Hearing.{HasHeard, TakesIn, TakesInWhereFit}
 use Rattle.resp_decode.specs.Holding.{construction_of}
@@ -20,7 +19,7 @@ use Rattle.resp_decode.specs.declared.held.Held.{Held}
 use Rattle.resp_decode.proofs.Comes.{first_come}
 use Rattle.resp_decode.proofs.Folds.{with_events-append, without_text}
 use Rattle.resp_decode.proofs.HeldLemmas.{content_held, content_adds}
-use Rattle.resp_decode.proofs.Values.{AreGood, are_good, brief_first, brief_groups}
+use Rattle.resp_decode.proofs.Values.{are_good, brief_first, brief_groups}
 
 -- the last of events that may come may come behind the first
 pub last_come : (es later : Events) (b : Construction) → MayAllCome (es ++ later) b → MayAllCome later (with_events es b)
@@ -110,7 +109,12 @@ whole_text_weighs : (kind : TextKind) (s : List ℕ) (b : Construction) →
     events_weight (e.Text kind ∷ (content_events s ++ e.TextEnd ∷ [])) b ≡ format_weight kind + length s + end_weight kind s
 whole_text_weighs kind s b =
     let opened = with_event (e.Text kind) b in
-    omega (arith, events_weight-append (content_events s) (e.TextEnd ∷ []) opened, content_adds s opened, ap (event_weight e.TextEnd) (content_held s (Some (record { kind = kind; content = [] })) b))
+    omega (
+      arith,
+      events_weight-append (content_events s) (e.TextEnd ∷ []) opened,
+      content_adds s opened,
+      ap (event_weight e.TextEnd) (content_held s (Some (record { kind = kind; content = [] })) b),
+    )
 
 -- a text that is told whole is taken in where its value is put in its place
 pub takes_in_text : (old new : Held) (kind : TextKind) (s : List ℕ) (goes_on : Bool) → format_weight kind + end_weight kind s ≡ 3 →

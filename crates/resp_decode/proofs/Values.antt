@@ -1,11 +1,11 @@
 -- What is known of the events without_places of a front: each could come, they weigh no more than the front, and at the end of a
 -- value they build it.
-use Rattle.std.proofs.Common.{◌≡◌, ◌⊎◌, inl, inr, ℕ, ◌+◌, ◌≤◌, Bool, true, false, cond, ltb, Option, None, Some, List, [], ◌∷◌, ◌++◌, length, refl, sym, ap, subst, ◌∙◌, arith}
+use Rattle.std.proofs.Common.{◌≡◌, inl, inr, ℕ, ◌≤◌, Bool, true, false, cond, ltb, Some, List, [], ◌∷◌, ◌++◌, length, refl, ap, subst, ◌∙◌, arith}
 use Rattle.resp_value.specs.Data as d
 use Rattle.resp_value.specs.Trees as t
 use Rattle.resp_value.specs.Trees.{Tree, Spells, text, leaf, node, line, numeral, null, truth, string, chunked}
 use Rattle.resp_value.specs.TreeValues.{value}
-use Rattle.resp_value.specs.Rules.{Rules, Rule, Every, IsNoDouble, IsAnyNode, Keeps, NoDouble, WithinTotal, rank}
+use Rattle.resp_value.specs.Rules.{Rules, Every, IsNoDouble, IsAnyNode, Keeps, NoDouble, WithinTotal}
 use Rattle.resp_value.specs.Spellings.{IsSpelling, IsViable}
 use Rattle.resp_fronts.specs.Events.{Event, Timed, all_events, events_due, events, without_places}
 use Rattle.resp_fronts.specs.Events as e
@@ -54,29 +54,42 @@ value_is_built r front es v = record {
 -- Values without content.
 
 -- the text begins with another byte
-other_byte : (byte : ℕ) (front rest behind : List ℕ) (wrong : ℕ) → wrong ∷ behind ≡ (byte ∷ front) ++ rest → IsBriefByte byte → (wrong ≡ 58 → ⊥) → (wrong ≡ 35 → ⊥) → (wrong ≡ 95 → ⊥) → ⊥
+other_byte : (byte : ℕ) (front rest behind : List ℕ) (wrong : ℕ) → wrong ∷ behind ≡ (byte ∷ front) ++ rest → IsBriefByte byte → (wrong ≡ 58 → ⊥) →
+    (wrong ≡ 35 → ⊥) → (wrong ≡ 95 → ⊥) → ⊥
 other_byte byte front rest behind wrong same brief a b c =
     let first : wrong ≡ byte = cc in
     elim brief [ inl p ↦ a (first ∙ p) | inr q ↦ elim q [ inl p ↦ b (first ∙ p) | inr p ↦ c (first ∙ p) ] ]
 
 -- a tree whose text begins so has such events alone
 brief_tree : (u : Tree) (byte : ℕ) (front rest : List ℕ) → text u ≡ (byte ∷ front) ++ rest → IsBriefByte byte → AreBrief (without_places (all_events u))
-brief_tree (leaf (line t.Simple s)) byte front rest same brief = absurd (other_byte byte front rest _ 43 same brief (λ p. omega arith) (λ p. omega arith) (λ p. omega arith))
-brief_tree (leaf (line t.Error s)) byte front rest same brief = absurd (other_byte byte front rest _ 45 same brief (λ p. omega arith) (λ p. omega arith) (λ p. omega arith))
+brief_tree (leaf (line t.Simple s)) byte front rest same brief = absurd
+    (other_byte byte front rest _ 43 same brief (λ p. omega arith) (λ p. omega arith) (λ p. omega arith))
+brief_tree (leaf (line t.Error s)) byte front rest same brief = absurd
+    (other_byte byte front rest _ 45 same brief (λ p. omega arith) (λ p. omega arith) (λ p. omega arith))
 brief_tree (leaf (line t.Double s)) byte front rest same brief = (tt, tt)
 brief_tree (leaf (numeral t.Int sign digits)) byte front rest same brief = (tt, (tt, tt))
-brief_tree (leaf (numeral t.Big sign digits)) byte front rest same brief = absurd (other_byte byte front rest _ 40 same brief (λ p. omega arith) (λ p. omega arith) (λ p. omega arith))
+brief_tree (leaf (numeral t.Big sign digits)) byte front rest same brief =
+    absurd (other_byte byte front rest _ 40 same brief (λ p. omega arith) (λ p. omega arith) (λ p. omega arith))
 brief_tree (leaf (null form)) byte front rest same brief = (tt, (tt, tt))
 brief_tree (leaf (truth b)) byte front rest same brief = (tt, (tt, tt))
-brief_tree (leaf (string t.Bulk digits s)) byte front rest same brief = absurd (other_byte byte front rest _ 36 same brief (λ p. omega arith) (λ p. omega arith) (λ p. omega arith))
-brief_tree (leaf (string t.BulkError digits s)) byte front rest same brief = absurd (other_byte byte front rest _ 33 same brief (λ p. omega arith) (λ p. omega arith) (λ p. omega arith))
-brief_tree (leaf (string (t.Verbatim format) digits s)) byte front rest same brief = absurd (other_byte byte front rest _ 61 same brief (λ p. omega arith) (λ p. omega arith) (λ p. omega arith))
-brief_tree (leaf (chunked cs zeros)) byte front rest same brief = absurd (other_byte byte front rest _ 36 same brief (λ p. omega arith) (λ p. omega arith) (λ p. omega arith))
-brief_tree (node d.Array form us) byte front rest same brief = absurd (other_byte byte front rest _ 42 same brief (λ p. omega arith) (λ p. omega arith) (λ p. omega arith))
-brief_tree (node d.Set form us) byte front rest same brief = absurd (other_byte byte front rest _ 126 same brief (λ p. omega arith) (λ p. omega arith) (λ p. omega arith))
-brief_tree (node d.Map form us) byte front rest same brief = absurd (other_byte byte front rest _ 37 same brief (λ p. omega arith) (λ p. omega arith) (λ p. omega arith))
-brief_tree (node d.Attr form us) byte front rest same brief = absurd (other_byte byte front rest _ 124 same brief (λ p. omega arith) (λ p. omega arith) (λ p. omega arith))
-brief_tree (node d.Push form us) byte front rest same brief = absurd (other_byte byte front rest _ 62 same brief (λ p. omega arith) (λ p. omega arith) (λ p. omega arith))
+brief_tree (leaf (string t.Bulk digits s)) byte front rest same brief =
+    absurd (other_byte byte front rest _ 36 same brief (λ p. omega arith) (λ p. omega arith) (λ p. omega arith))
+brief_tree (leaf (string t.BulkError digits s)) byte front rest same brief =
+    absurd (other_byte byte front rest _ 33 same brief (λ p. omega arith) (λ p. omega arith) (λ p. omega arith))
+brief_tree (leaf (string (t.Verbatim format) digits s)) byte front rest same brief =
+    absurd (other_byte byte front rest _ 61 same brief (λ p. omega arith) (λ p. omega arith) (λ p. omega arith))
+brief_tree (leaf (chunked cs zeros)) byte front rest same brief =
+    absurd (other_byte byte front rest _ 36 same brief (λ p. omega arith) (λ p. omega arith) (λ p. omega arith))
+brief_tree (node d.Array form us) byte front rest same brief = absurd
+    (other_byte byte front rest _ 42 same brief (λ p. omega arith) (λ p. omega arith) (λ p. omega arith))
+brief_tree (node d.Set form us) byte front rest same brief = absurd
+    (other_byte byte front rest _ 126 same brief (λ p. omega arith) (λ p. omega arith) (λ p. omega arith))
+brief_tree (node d.Map form us) byte front rest same brief = absurd
+    (other_byte byte front rest _ 37 same brief (λ p. omega arith) (λ p. omega arith) (λ p. omega arith))
+brief_tree (node d.Attr form us) byte front rest same brief = absurd
+    (other_byte byte front rest _ 124 same brief (λ p. omega arith) (λ p. omega arith) (λ p. omega arith))
+brief_tree (node d.Push form us) byte front rest same brief = absurd
+    (other_byte byte front rest _ 62 same brief (λ p. omega arith) (λ p. omega arith) (λ p. omega arith))
 
 -- what is events_due of such events is such
 brief_due : (n : ℕ) (xs : List Timed) → AreBrief (without_places xs) → AreBrief (events_due n xs)
@@ -92,7 +105,8 @@ brief_first [] owed h = tt
 brief_first (x ∷ es) owed h = (h.0, brief_first es owed h.1)
 
 -- the events without_places of a front that begins so are such
-pub are_brief : (r : Rules) (byte : ℕ) (front : List ℕ) (es : Events) → IsBriefByte byte → IsViable r WithinTotal (byte ∷ front) → BeginDue (byte ∷ front) es → AreBrief es
+pub are_brief : (r : Rules) (byte : ℕ) (front : List ℕ) (es : Events) → IsBriefByte byte → IsViable r WithinTotal (byte ∷ front) → BeginDue (byte ∷ front) es →
+    AreBrief es
 are_brief r byte front es brief v begin =
     let (owed, is) = begin v.rest v.tree v.spells in
     brief_first es owed (subst AreBrief is (brief_due (length (byte ∷ front)) (all_events v.tree) (brief_tree v.tree byte front v.rest v.spells.spelled brief)))

@@ -1,5 +1,5 @@
--- What the events without_places of a value build: the open aggregates with the values of their finished members, the text being
--- read, and at last the whole value.
+-- What the events without_places of a value build: the open aggregates with the values of their finished members, the
+-- text being read, and at last the whole value.
 use Rattle.std.specs.Prelude.{ℕ, Option, None, Some, List, [], ◌∷◌, ◌++◌}
 use Rattle.resp_value.specs.Numbers.{zero_if_none}
 use Rattle.resp_value.specs.Data.{Kind, Scalar, Datum, scalar, aggregate, data_of_list}
@@ -17,7 +17,8 @@ pub record Text : Type 0 where
   pub kind : TextKind
   pub content : List ℕ
 
--- what is construction of a value: its open aggregates, the innermost first, the text being read, and the value once it is whole
+-- what is construction of a value: its open aggregates, the innermost first, the text being read, and the value once it
+-- is whole
 pub record Construction : Type 0 where
   pub groups : List Group
   pub text : Option Text

@@ -4,3 +4,5 @@ pub mod Fits
 pub mod Brief
 pub mod Holding
 pub mod Hearing
+pub mod Decoding
+pub mod Inputs

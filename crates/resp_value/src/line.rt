@@ -48,7 +48,8 @@ impl Line {
         }
     }
 
-    /// A line of these bytes, none of which is CR or LF. Takes no memory, and looks at none of them.
+    /// A line of these bytes, none of which is CR or LF. Takes no memory, and looks at none of
+    /// them.
     #[inline]
     pub fn of_plain(bytes: Vec<u8>) -> Line
         requires { IsLine bytes.items }

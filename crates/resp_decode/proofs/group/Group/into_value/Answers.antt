@@ -1,4 +1,4 @@
-use Rattle.std.proofs.Common.{◌≡◌, [], ◌∷◌, ◌++◌, map, sym, ap, ◌∙◌}
+use Rattle.std.proofs.Common.{map, sym, ap, ◌∙◌}
 use Rattle.resp_value.specs.Data.{aggregate, data_of_list}
 use Rattle.resp_value.specs.Data as d
 use Rattle.resp_value.specs.Values.{datum_of}

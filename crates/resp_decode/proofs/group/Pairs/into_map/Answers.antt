@@ -1,8 +1,8 @@
-use Rattle.std.proofs.Common.{◌≡◌, [], ◌∷◌, ◌++◌, map, sym, ap, ◌∙◌}
+use Rattle.std.proofs.Common.{◌++◌, map, sym, ap, ◌∙◌}
 use Rattle.std.proofs.lemmas.List.{append-nil}
 use Rattle.resp_value.specs.Data.{aggregate, data_of_list, in_turn}
 use Rattle.resp_value.specs.Data as d
-use Rattle.resp_value.specs.Values.{datum_of, pair_data}
+use Rattle.resp_value.specs.Values.{pair_data}
 use Rattle.resp_value.proofs.DatumOf.{datum_of-Map}
 use Rattle.resp_decode.proofs.HeldLemmas.{no_key}
 use Rattle.resp_decode.proofs.group.Pairs.into_map.Goals as goal

@@ -1,4 +1,4 @@
-use Rattle.std.proofs.Common.{rules, ◌≡◌, ◌+◌, ◌++◌, true, None, Some, sym, ap, ◌∙◌, refl, arith, length}
+use Rattle.std.proofs.Common.{rules, ◌≡◌, ◌++◌, Some, ap, arith}
 use Rattle.resp_decode.specs.Holding.{text_of}
 use Rattle.resp_decode.specs.declared.held.Held.{Held}
 use Rattle.resp_decode.proofs.HeldLemmas.{extended_text}

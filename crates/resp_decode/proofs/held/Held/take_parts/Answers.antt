@@ -11,4 +11,5 @@ returns-then-extend_text c =
     let content = content_events c.args.bytes.now in
     let ends = e.TextEnd ∷ [] in
     takes_in_both c.args.self.now c.begin_text.new.self c.end_text.new.self begins (content ++ ends) c.end_text.result c.begin_text.ensures
-    (takes_in_both c.begin_text.new.self c.extend_text.new.self c.end_text.new.self content ends c.end_text.result (subst (TakesInWhereFit c.begin_text.new.self c.extend_text.new.self content) c.if-extend_text.true c.extend_text.ensures) c.end_text.ensures)
+    (takes_in_both c.begin_text.new.self c.extend_text.new.self c.end_text.new.self content ends c.end_text.result
+    (subst (TakesInWhereFit c.begin_text.new.self c.extend_text.new.self content) c.if-extend_text.true c.extend_text.ensures) c.end_text.ensures)

@@ -1,4 +1,4 @@
-use Rattle.std.proofs.Common.{◌≡◌, ◌+◌, sym, ap, subst, ◌∙◌, refl, arith, length}
+use Rattle.std.proofs.Common.{sym, ap, subst, ◌∙◌, refl}
 use Rattle.resp_value.specs.Data.{scalar}
 use Rattle.resp_value.specs.Data as d
 use Rattle.resp_fronts.specs.Events as e
@@ -21,9 +21,11 @@ pub returns-in-Error : goal.returns-in-Error
 returns-in-Error c =
     let old = c.args.self.now in
     let same = c.of_plain-in-Error.ensures ∙ c.in-Ok.ensures.items in
-    subst (λ kind. TakesInWhereFit old c.put_scalar-in-Error.new.self (whole_text_events kind c.args.bytes.now) c.put_scalar-in-Error.result) (sym c.in-Error.is)
+    subst (λ kind. TakesInWhereFit old c.put_scalar-in-Error.new.self (whole_text_events kind c.args.bytes.now) c.put_scalar-in-Error.result)
+    (sym c.in-Error.is)
     (takes_in_text old c.put_scalar-in-Error.new.self e.Error c.args.bytes.now c.put_scalar-in-Error.result refl
-    (λ goes. c.put_scalar-in-Error.ensures.holds goes ∙ ap (λ s. with_value (scalar (d.Error s)) (construction_of old)) same) c.put_scalar-in-Error.ensures.weighs)
+    (λ goes. c.put_scalar-in-Error.ensures.holds goes ∙ ap (λ s. with_value (scalar (d.Error s)) (construction_of old)) same)
+    c.put_scalar-in-Error.ensures.weighs)
 
 pub returns-in-Bulk : goal.returns-in-Bulk
 returns-in-Bulk c =

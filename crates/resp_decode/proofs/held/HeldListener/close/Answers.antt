@@ -1,4 +1,4 @@
-use Rattle.std.proofs.Common.{[], ◌∷◌, true}
+use Rattle.std.proofs.Common.{[], ◌∷◌}
 use Rattle.resp_fronts.specs.Events as e
 use Rattle.resp_decode.proofs.Taking.{hears_events}
 use Rattle.resp_decode.proofs.held.HeldListener.close.Goals as goal

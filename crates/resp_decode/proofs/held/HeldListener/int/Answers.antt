@@ -1,4 +1,4 @@
-use Rattle.std.proofs.Common.{rules, ◌≡◌, refl, sym, ap, subst, ◌∙◌}
+use Rattle.std.proofs.Common.{rules, ◌≡◌, refl, ap, ◌∙◌}
 use mir.Val.{of_z, to_z}
 use mir.Syntax.{w64}
 use Rattle.resp_value.specs.Data.{scalar}

@@ -7,5 +7,6 @@ use Rattle.resp_decode.proofs.held.HeldListener.null.Goals as goal
 
 pub returns : goal.returns
 returns c =
-    let takes = takes_in_scalar c.args.self.now c.put_scalar.new.self e.Null (scalar d.Null) c.put_scalar.result refl refl c.put_scalar.ensures.holds c.put_scalar.ensures.weighs in
+    let takes = takes_in_scalar c.args.self.now c.put_scalar.new.self e.Null (scalar d.Null) c.put_scalar.result refl refl c.put_scalar.ensures.holds
+    c.put_scalar.ensures.weighs in
     hears_scalar c.args.self.now c.put_scalar.new.self e.Null c.put_scalar.result takes c.put_scalar.ensures.memory_for_members

@@ -7,5 +7,6 @@ use Rattle.resp_decode.proofs.held.HeldListener.truth.Goals as goal
 
 pub returns : goal.returns
 returns c =
-    let takes = takes_in_scalar c.args.self.now c.put_scalar.new.self (e.Bool c.args.truth) (scalar (d.Bool c.args.truth)) c.put_scalar.result refl refl c.put_scalar.ensures.holds c.put_scalar.ensures.weighs in
+    let takes = takes_in_scalar c.args.self.now c.put_scalar.new.self (e.Bool c.args.truth) (scalar (d.Bool c.args.truth)) c.put_scalar.result refl refl
+    c.put_scalar.ensures.holds c.put_scalar.ensures.weighs in
     hears_scalar c.args.self.now c.put_scalar.new.self (e.Bool c.args.truth) c.put_scalar.result takes c.put_scalar.ensures.memory_for_members

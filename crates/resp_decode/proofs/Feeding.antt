@@ -1,0 +1,182 @@
+-- What a decoder has taken, from what its scanner and its listener say.
+use Rattle.std.proofs.Common.{◌≡◌, ◌⊎◌, inl, inr, ℕ, zero, suc, ◌≤◌, ◌<◌, Bool, true, false, cond, ltb, None, Some, List, [], ◌∷◌, ◌++◌, length, take, drop, ◌+◌, ◌-◌, append_assoc, length-append, refl, sym, ap, subst, ◌∙◌, arith}
+use Rattle.std.specs.Prelude.{IsOk, OnOk, ◌↔◌, Result, Ok, Err}
+use Rattle.std.proofs.lemmas.List.{append-nil, length-take-le, take-append-drop, take_all}
+use Rattle.std.proofs.lemmas.Bool.{ltb-true}
+use Rattle.std.proofs.Math.Seq.{take-append-add, take-nil}
+use Rattle.resp_value.specs.Trees.{Tree, Spells, leaf, null, PlainNull, text}
+use Rattle.resp_value.specs.TreeValues.{value}
+use Rattle.resp_value.specs.Rules.{Rules, WithinTotal}
+use Rattle.resp_value.specs.Spellings.{IsSpelling, IsViable}
+use Rattle.resp_value.specs.Values.{datum_of}
+use Rattle.resp_value.specs.declared.value.Value.{Value}
+use Rattle.resp_value.proofs.SpellingLaws.{text_not_empty}
+use Rattle.resp_value.proofs.ViabilityLaws.{fronts_of_viable_texts_are_viable}
+use Rattle.resp_fronts.specs.Events.{Timed, all_events, events_due}
+use Rattle.resp_scan.specs.Kinds.{rules_of}
+use Rattle.resp_scan.specs.Reading.{AreDue, BeginDue, Events, HasNoValue, HasRead, IsRefused, MayEnd}
+use Rattle.resp_scan.specs.Listening.{HearsRefusal, HearsValue, OnFault, OnStopped, StopsBehind, fault_of}
+use Rattle.resp_scan.specs.Machine.Tokens.{Place}
+use Rattle.resp_scan.specs.declared.event.Fault.{Fault}
+use Rattle.resp_scan.specs.declared.event.ScanError.{ScanError}
+use Rattle.resp_scan.specs.declared.event.ScanError.TheVariants as stop
+use Rattle.resp_decode.specs.Brief.{AreBrief, BeginsBrief, WantMemory}
+use Rattle.resp_decode.specs.Builds.{Construction, nothing}
+use Rattle.resp_decode.specs.Decoding.{GivesValue, HasTaken, LacksMemory, RefusesByte}
+use Rattle.resp_decode.specs.Hearing.{HasHeard}
+use Rattle.resp_decode.specs.Holding.{construction_of}
+use Rattle.resp_decode.specs.Weights.{weight_of}
+use Rattle.resp_decode.specs.declared.decoder.Decoder.{Decoder}
+use Rattle.resp_decode.specs.declared.held.Held.{Held}
+use Rattle.resp_decode.proofs.Counted.{events_weigh}
+use Rattle.resp_decode.proofs.Values.{are_brief, are_good, brief_first, value_is_built}
+
+-- nothing is due of no byte
+due_at_start : (xs : List Timed) → events_due 0 xs ≡ []
+due_at_start [] = refl
+due_at_start (x ∷ xs) = case (ltb x.at 0) refl (due_at_start xs)
+  where
+    case : (early : Bool) → ltb x.at 0 ≡ early → events_due 0 xs ≡ [] → cond early (x.event ∷ events_due 0 xs) (events_due 0 xs) ≡ []
+    case true is others = let early : x.at < 0 = ltb-true x.at 0 is in absurd (omega arith)
+    case false is others = others
+
+none_due_at_start : AreDue [] []
+none_due_at_start rest whole spells = due_at_start (all_events whole)
+
+no_value_at_start : HasNoValue []
+no_value_at_start n tree spells = text_not_empty tree (spells.spelled ∙ take-nil n)
+
+-- what was given of no byte is nothing
+given_at_start : (given : Events) → AreDue [] given → given ≡ []
+given_at_start given due =
+    let whole : Tree = leaf (null PlainNull) in
+    sym (due (text whole) whole (record { is_tree = tt; spelled = refl })) ∙ due_at_start (all_events whole)
+
+-- a decoder has taken nothing where its scanner has read nothing, and nothing is held
+pub takes_nothing : (d : Decoder) → HasRead d.scanner [] [] → construction_of d.held ≡ nothing → d.held.weight ≡ 0 → HasTaken d []
+takes_nothing d reads holds weighs = record {
+  given = [];
+  reads = reads;
+  heard = record { holds = holds; weighs = weighs };
+  all_due = none_due_at_start;
+  no_value = no_value_at_start;
+}
+
+-- a decoder between values takes nothing with another scanner that has read nothing
+pub takes_nothing_anew : (d : Decoder) (s : Place) (front : List ℕ) → HasTaken d front → front ≡ [] → HasRead s [] [] →
+    HasTaken (record d { scanner = s }) []
+takes_nothing_anew d s front w none reads =
+    let given : w.given ≡ [] = given_at_start w.given (subst (λ z. AreDue z w.given) none w.all_due) in
+    let heard : HasHeard d.held [] = subst (HasHeard d.held) given w.heard in
+    takes_nothing (record d { scanner = s }) reads heard.holds heard.weighs
+
+-- a change of version between values keeps it so
+pub takes_nothing_of_version : {A B : Type 0} (d : Decoder) (s : Place) (front : List ℕ) (result : Result A B) → HasTaken d front →
+    (IsOk result → front ≡ []) → OnOk result (HasRead s [] []) → OnOk result (HasTaken (record d { scanner = s }) [])
+takes_nothing_of_version d s front (Ok x) w between reads = takes_nothing_anew d s front w (between refl) reads
+takes_nothing_of_version d s front (Err x) w between reads = tt
+
+-- the input may end exactly between values
+pub ends_between_values : (d : Decoder) (front : List ℕ) (Ended : Type 0) → HasTaken d front → Ended ↔ MayEnd (rules_of d.scanner) front →
+    Ended ↔ (front ≡ [])
+ends_between_values d front Ended w may = (λ ended. only (may.0 ended), λ none. may.1 (inl none))
+  where
+    only : MayEnd (rules_of d.scanner) front → front ≡ []
+    only (inl none) = none
+    only (inr s) = absurd (w.no_value (length front) s.tree (subst (Spells s.tree) (sym (take_all (length front) front (omega arith))) s.spells))
+
+-- the weight kept is that of what is held, and at most the bytes taken
+pub record IsLight (d : Decoder) (front : List ℕ) : Type 0 where
+  pub same : d.held.weight ≡ weight_of (construction_of d.held)
+  pub light : d.held.weight ≤ length front
+
+pub is_light : (d : Decoder) (front : List ℕ) → HasTaken d front → IsViable (rules_of d.scanner) WithinTotal front → IsLight d front
+is_light d front w viable =
+    let begin : BeginDue front w.given = λ rest whole spells. ([], w.all_due rest whole spells ∙ sym (append-nil w.given)) in
+    let good = are_good (rules_of d.scanner) front w.given viable begin in
+    let weigh = events_weigh w.given nothing good.may in
+    record {
+      same = omega (arith, w.heard.weighs, weigh, ap weight_of w.heard.holds);
+      light = omega (arith, w.heard.weighs, good.light);
+    }
+
+-- where a value ends it is held whole
+value_whole : (r : Rules) (s : Place) (held : Held) (written : List ℕ) (h : HearsValue r s (HasHeard held) written) →
+    (tree : Tree) × IsSpelling r (value tree) written × (construction_of held ≡ record nothing { whole = Some (value tree) })
+value_whole r s held written h =
+    let b = value_is_built r written h.heard h.is_value in
+    (b.tree, b.spelling, h.has_heard.holds ∙ b.is)
+
+-- it is the one that is taken out, and then nothing is held
+pub gives_value : (r : Rules) (s : Place) (held left : Held) (written : List ℕ) (x : Value) → HearsValue r s (HasHeard held) written →
+    Some (datum_of x) ≡ (construction_of held).whole → construction_of left ≡ record (construction_of held) { whole = None } →
+    left.weight ≡ 0 → GivesValue r (record { scanner = s; held = left }) written x
+gives_value r s held left written x h taken holds weighs =
+    let (tree, spelling, is) = value_whole r s held written h in
+    let same : Some (datum_of x) ≡ Some (value tree) = taken ∙ ap (λ b. let c : Construction = b in c.whole) is in
+    let same_value : value tree ≡ datum_of x = cc in
+    record {
+      spelling = subst (λ y. IsSpelling r y written) same_value spelling;
+      takes = takes_nothing (record { scanner = s; held = left }) h.reads (holds ∙ ap (λ b. let c : Construction = record b { whole = None } in c) is) weighs;
+    }
+
+-- so one is taken out
+pub holds_some_value : (r : Rules) (s : Place) (held : Held) (written : List ℕ) → HearsValue r s (HasHeard held) written →
+    (construction_of held).whole ≡ None → ⊥
+holds_some_value r s held written h none =
+    let (tree, spelling, is) = value_whole r s held written h in
+    let wrong : None ≡ Some (value tree) = sym none ∙ ap (λ b. let c : Construction = b in c.whole) is in
+    cc
+
+-- the first events due of a text that begins an integer, a truth value or a null want no memory
+brief_given : (r : Rules) (written : List ℕ) (n : ℕ) (es : Events) → BeginsBrief written → IsViable r WithinTotal (take n written) →
+    BeginDue (take n written) es → AreBrief es
+brief_given r [] n es brief v begin = absurd brief
+brief_given r (byte ∷ written) zero es brief v begin =
+    let (owed, is) = begin v.rest v.tree v.spells in
+    brief_first es owed (subst AreBrief (sym (due_at_start (all_events v.tree)) ∙ is) tt)
+brief_given r (byte ∷ written) (suc n) es brief v begin = are_brief r byte (take n written) es brief v begin
+
+-- the byte that a scanner refuses is the first after which nothing can follow
+refused_byte : (r : Rules) (front piece : List ℕ) (fault : Fault) (given : Events) → IsRefused r front given piece fault → RefusesByte r front piece fault
+refused_byte r front piece fault given w =
+    let text = front ++ piece in
+    let n = fault.at in
+    record {
+      rule = w.refused.rule;
+      names = w.refused.names;
+      fault_of = record {
+        front = take (n + 1) text;
+        behind = drop (n + 1) text;
+        whole = sym (take-append-drop (n + 1) text);
+        place = sym (length-take-le (n + 1) text (omega (arith, w.before_end)));
+        cause = w.refused.cause;
+        first = viable_before;
+      };
+      in_piece = w.in_piece;
+      no_value = w.no_value;
+    }
+  where
+    viable_before : (before : List ℕ) (byte : ℕ) (after : List ℕ) → take (fault.at + 1) (front ++ piece) ≡ before ++ byte ∷ after → IsViable r WithinTotal before
+    viable_before before byte after is =
+        let text = front ++ piece in
+        let n = fault.at in
+        let behind = (byte ∷ after) ++ drop (n + 1) text in
+        let whole : text ≡ before ++ behind = sym (take-append-drop (n + 1) text) ∙ ap (λ z. z ++ drop (n + 1) text) is ∙ append_assoc before (byte ∷ after) (drop (n + 1) text) in
+        let m = n - length before in
+        let at : n ≡ length before + m = omega (arith, length-take-le (n + 1) text (omega (arith, w.before_end)), ap length is, length-append before (byte ∷ after)) in
+        let split : take n text ≡ before ++ take m behind = ap (λ k. take k text) at ∙ ap (take (length before + m)) whole ∙ take-append-add before behind m in
+        fronts_of_viable_texts_are_viable r WithinTotal before (take m behind) (subst (IsViable r WithinTotal) split w.viable)
+
+-- a call that was refused met a byte after which nothing can follow, or found no memory
+pub refuses_or_lacks : (r : Rules) (HasHeard' : Events → Type 0) (front piece : List ℕ) (s : ScanError) →
+    OnFault s (HearsRefusal r HasHeard' front piece) → OnStopped s (StopsBehind r WantMemory front piece) →
+    RefusesByte r front piece (fault_of s) ⊎ LacksMemory r front piece (fault_of s)
+refuses_or_lacks r H front piece (stop.Fault fault) refused stopped = inl (refused_byte r front piece fault refused.heard refused.refused)
+refuses_or_lacks r H front piece (stop.Stopped taken) refused stopped = inr (record {
+  names = refl;
+  in_piece = stopped.in_piece;
+  within = stopped.within;
+  viable = stopped.viable;
+  not_brief = λ brief. stopped.may_stop (brief_given r (front ++ piece) taken stopped.told brief stopped.viable stopped.first_due);
+})

@@ -1,0 +1,32 @@
+use Rattle.std.proofs.Common.{rules, true, ◌≡◌, ◌⊎◌, ◌++◌, take, subst, sym, ap, ◌∙◌}
+use Rattle.resp_scan.specs.Kinds.{rules_of}
+use Rattle.resp_decode.specs.Decoding.{LacksMemory, RefusesByte}
+use Rattle.resp_decode.specs.Hearing.{HasHeard}
+use Rattle.resp_decode.specs.Holding.{maybe_datum}
+use Rattle.resp_decode.proofs.Feeding.{gives_value, holds_some_value, refuses_or_lacks}
+use Rattle.resp_decode.proofs.decoder.Decoder.feed.Goals as goal
+
+pub returns-in-Err-clause-refusal : goal.returns-in-Err-clause-refusal
+returns-in-Err-clause-refusal c = λ front w.
+    let r = rules_of c.args.self.now.scanner in
+    let piece = c.args.piece.now in
+    subst (λ fault. RefusesByte r front piece fault ⊎ LacksMemory r front piece fault) (sym c.fault_of.ensures)
+    (refuses_or_lacks r (HasHeard c.scan.new.listener) front piece c.in-Err.stop (c.in-Err.ensures.refusal front w.given w.reads w.heard)
+    (c.in-Err.ensures.stopped front w.given w.reads w.heard))
+
+pub returns-clause-value_whole : goal.returns-clause-value_whole
+returns-clause-value_whole c = λ front w x is.
+    let r = rules_of c.args.self.now.scanner in
+    let written = front ++ take c.in-Ok.scanned.used c.args.piece.now in
+    let whole : c.in-Ok.scanned.is_whole ≡ true = search rules in
+    let heard = c.in-Ok.ensures.value_whole front w.given w.reads w.heard whole in
+    gives_value r c.scan.new.self c.scan.new.listener c.take_whole-value.new.self written x heard
+    (ap maybe_datum (sym is) ∙ c.take_whole-value.ensures.taken) c.take_whole-value.ensures.holds c.take_whole-value.ensures.weighs
+
+pub returns-clause-used_up : goal.returns-clause-used_up
+returns-clause-used_up c = λ front w none.
+    let r = rules_of c.args.self.now.scanner in
+    let written = front ++ take c.in-Ok.scanned.used c.args.piece.now in
+    let whole : c.in-Ok.scanned.is_whole ≡ true = search rules in
+    let heard = c.in-Ok.ensures.value_whole front w.given w.reads w.heard whole in
+    absurd (holds_some_value r c.scan.new.self c.scan.new.listener written heard (sym c.take_whole-value.ensures.taken ∙ ap maybe_datum none))

@@ -1,0 +1,71 @@
+-- What a decoder promises, in words of texts and values.
+use Rattle.std.specs.Prelude.{◌≡◌, ℕ, ◌≤◌, List, [], ◌++◌, length, take, None, Some, Result, IfOk}
+use Rattle.resp_value.specs.Rules.{Rules, Rule, WithinTotal}
+use Rattle.resp_value.specs.Spellings.{FaultOf, IsSpelling, IsViable}
+use Rattle.resp_value.specs.Causes.{cause_of}
+use Rattle.resp_value.specs.Values.{datum_of}
+use Rattle.resp_value.specs.declared.value.Value.{Value}
+use Rattle.resp_value.specs.declared.cause.Cause.TheVariants as cause
+use Rattle.resp_scan.specs.Reading.{AreDue, Events, HasNoSpelling, HasNoValue, HasRead}
+use Rattle.resp_scan.specs.Reading as scan
+use Rattle.resp_scan.specs.declared.event.Fault.{Fault}
+use Rattle.resp_decode.specs.Brief.{BeginsBrief}
+use Rattle.resp_decode.specs.Hearing.{HasHeard}
+use Rattle.resp_decode.specs.declared.decoder.Decoder.{Decoder}
+use Rattle.resp_decode.specs.declared.fed.Fed.{Fed}
+
+-- What a decoder has taken of a value: its scanner has read the bytes of this front, no value has ended in them, and
+-- what is held is what the events that are due build. How a decoder stands to them is opaque to callers: `new`
+-- establishes this relation, and `feed` keeps it.
+pub record HasTaken (d : Decoder) (front : List ℕ) : Type 0 where
+  pub given : Events
+  pub reads : HasRead d.scanner front given
+  pub heard : HasHeard d.held given
+  pub all_due : AreDue front given
+  pub no_value : HasNoValue front
+
+-- this holds of every front that the decoder has taken
+abbrev pub WhereTaken : Decoder → (List ℕ → Type 0) → Type 0
+WhereTaken d P = (front : List ℕ) → HasTaken d front → P front
+
+-- a fault is answered for good
+abbrev pub IsFaulted : Decoder → Fault → Type 0
+IsFaulted d fault = scan.IsFaulted d.scanner fault
+
+-- where a value ends behind so many bytes of the piece
+abbrev pub IfValue : Result Fed Fault → (ℕ → Value → Type 0) → Type 0
+IfValue result P = IfOk result (λ fed. (value : Value) → fed.value ≡ Some value → P fed.used value)
+
+-- where no value ends in the piece
+abbrev pub IfNoValue : Result Fed Fault → (ℕ → Type 0) → Type 0
+IfNoValue result P = IfOk result (λ fed. fed.value ≡ None → P fed.used)
+
+-- the text is a spelling of the value within the rules, and nothing is taken of the next
+pub record GivesValue (r : Rules) (d : Decoder) (written : List ℕ) (value : Value) : Type 0 where
+  pub spelling : IsSpelling r (datum_of value) written
+  pub takes : HasTaken d []
+
+-- the piece is used up: no front of the text is a spelling, in any version and under any limits, some value within the
+-- rules goes on so, and the text is taken
+pub record UsesUp (r : Rules) (d : Decoder) (written piece : List ℕ) (used : ℕ) : Type 0 where
+  pub whole_piece : used ≡ length piece
+  pub no_value : HasNoValue written
+  pub viable : IsViable r WithinTotal written
+  pub takes : HasTaken d written
+
+-- a byte of the piece is refused: there the text stops being viable, for the rule of the fault's cause, and no front of
+-- the text is a spelling within the rules
+pub record RefusesByte (r : Rules) (front piece : List ℕ) (fault : Fault) : Type 0 where
+  pub rule : Rule
+  pub names : fault.cause ≡ cause_of rule
+  pub fault_of : FaultOf r (front ++ piece) rule fault.at
+  pub in_piece : length front ≤ fault.at
+  pub no_value : HasNoSpelling r (front ++ piece)
+
+-- no memory was found, behind bytes that are viable, and not in an integer, a truth value or a null of one line
+pub record LacksMemory (r : Rules) (front piece : List ℕ) (fault : Fault) : Type 0 where
+  pub names : fault.cause ≡ cause.OutOfMemory
+  pub in_piece : length front ≤ fault.at
+  pub within : fault.at ≤ length (front ++ piece)
+  pub viable : IsViable r WithinTotal (take fault.at (front ++ piece))
+  pub not_brief : BeginsBrief (front ++ piece) → ⊥

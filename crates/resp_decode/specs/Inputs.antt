@@ -1,0 +1,44 @@
+-- What is read of a whole input.
+use Rattle.std.specs.Prelude.{◌≡◌, ◌⊎◌, ℕ, ◌+◌, ◌<◌, List, [], ◌++◌, length, map}
+use Rattle.resp_value.specs.Data.{Datum}
+use Rattle.resp_value.specs.Rules.{Rules, WithinTotal}
+use Rattle.resp_value.specs.Spellings.{AreSpellings, IsViable}
+use Rattle.resp_value.specs.Values.{datum_of}
+use Rattle.resp_value.specs.declared.value.Value.{Value}
+use Rattle.resp_value.specs.declared.cause.Cause.TheVariants as cause
+use Rattle.resp_scan.specs.Kinds.{rules_of}
+use Rattle.resp_scan.specs.Reading.{HasNoValue}
+use Rattle.resp_scan.specs.declared.event.Fault.{Fault}
+use Rattle.resp_decode.specs.Decoding.{HasTaken, RefusesByte}
+use Rattle.resp_decode.specs.declared.all.AllFault.{AllFault}
+use Rattle.resp_decode.specs.declared.decoder.Decoder.{Decoder}
+
+-- the input ends inside a value that some bytes have begun
+pub record EndsInside (r : Rules) (rest : List ℕ) (fault : Fault) : Type 0 where
+  pub names : fault.cause ≡ cause.Truncated
+  pub place : fault.at ≡ length rest
+  pub begun : 0 < length rest
+  pub viable : IsViable r WithinTotal rest
+  pub no_value : HasNoValue rest
+
+-- a byte of the rest is refused, or it ends inside a value, or no memory was found
+abbrev pub RefusesRest : Rules → List ℕ → Fault → Type 0
+RefusesRest r rest fault = RefusesByte r [] rest fault ⊎ EndsInside r rest fault ⊎ (fault.cause ≡ cause.OutOfMemory)
+
+-- the input is spellings of some values, and a rest that is refused as the value behind them
+pub record RefusesInput (r : Rules) (bytes : List ℕ) (refusal : AllFault) : Type 0 where
+  pub values : List Datum
+  pub front : List ℕ
+  pub rest : List ℕ
+  pub spelled : AreSpellings r values front
+  pub whole : bytes ≡ front ++ rest
+  pub number : refusal.value ≡ length values + 1
+  pub refused : RefusesRest r rest refusal.fault
+
+-- the bytes before the rest are spellings of these values, and the decoder stands between two
+pub record HasRead (r : Rules) (bytes : List ℕ) (d : Decoder) (values : List Value) (rest : List ℕ) : Type 0 where
+  pub front : List ℕ
+  pub spelled : AreSpellings r (map datum_of values) front
+  pub whole : bytes ≡ front ++ rest
+  pub takes : HasTaken d []
+  pub same_rules : rules_of d.scanner ≡ r

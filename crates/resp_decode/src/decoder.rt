@@ -1,0 +1,143 @@
+//! The decoder.
+
+ghost use Rattle.std.specs.Prelude.{◌≡◌, ◌⊎◌, ◌↔◌, ◌≤◌, ◌++◌, ℕ, length, take, [], Err, IsOk, OnOk, OnErr, IfOk, IfErr};
+ghost use Rattle.resp_scan.specs.Listening.{fault_of};
+ghost use Rattle.resp_value.specs.declared.cause.Cause.TheVariants as cause;
+
+use crate::fed::Fed;
+use crate::held::Held;
+use resp_scan::event::{Busy, Fault, ScanError};
+use resp_scan::scanner::Scanner;
+use resp_value::cause::Cause;
+use resp_value::limits::Limits;
+use resp_value::version::Version;
+use std::alloc::Global;
+
+/// Reads values one after another, in pieces of any size. It holds no more than the value that is
+/// being read, and its memory grows with the bytes that came.
+#[derive(Drop)]
+pub struct Decoder {
+    scanner: Scanner,
+    held: Held,
+}
+
+impl Decoder {
+    ghost use Rattle.resp_decode.specs.Decoding.{GivesValue, HasTaken, IfNoValue, IfValue, IsFaulted, LacksMemory, RefusesByte, UsesUp, WhereTaken};
+    ghost use Rattle.resp_decode.specs.Holding.{construction_of};
+    ghost use Rattle.resp_decode.specs.Weights.{weight_of};
+    ghost use Rattle.resp_scan.specs.Kinds.{rules_of};
+    ghost use Rattle.resp_scan.specs.declared.event.Fault.{Fault};
+    ghost use Rattle.resp_value.specs.Rules.{WithinTotal, rules_under};
+    ghost use Rattle.resp_value.specs.Spellings.{IsViable};
+
+    /// A decoder of this version within these limits, between two values. Takes no memory.
+    pub fn new(alloc: Global, version: Version, limits: &Limits) -> Decoder
+        ensures nothing_taken { HasTaken result [] }
+        ensures rules { rules_of result.scanner ≡ rules_under version limits.now }
+    {
+        Decoder {
+            scanner: Scanner::new(version, limits),
+            held: Held::new(alloc),
+        }
+    }
+
+    /// Takes bytes of the piece until a value is whole or the piece ends.
+    ///
+    /// Refuses the first byte after which nothing can follow, by the first cause that holds in the
+    /// order of [`Scanner::step`], and by OutOfMemory where no memory is found for what came. Every
+    /// later call answers the same.
+    pub fn feed(&mut self, piece: &[u8]) -> Result<Fed, Fault>
+        // The bytes are a spelling of the value, and the next value may begin.
+        ensures value_whole { WhereTaken self.old (λ front. IfValue result (λ used.
+            GivesValue (rules_of self.old.scanner) self.new (front ++ take used piece.now))) }
+
+        // No value has ended in the piece, which was taken.
+        ensures used_up { WhereTaken self.old (λ front. IfNoValue result
+            (UsesUp (rules_of self.old.scanner) self.new (front ++ piece.now) piece.now)) }
+
+        // The refused byte is the first after which nothing can follow, and the fault names why, or
+        // there was no memory.
+        ensures refusal { WhereTaken self.old (λ front. IfErr result (λ fault.
+            RefusesByte (rules_of self.old.scanner) front piece.now fault ⊎
+            LacksMemory (rules_of self.old.scanner) front piece.now fault)) }
+
+        ensures within_piece { IfOk result (λ fed. fed.used ≤ length piece.now) }
+        ensures same_rules { rules_of self.new.scanner ≡ rules_of self.old.scanner }
+        ensures fault_is_kept { IfErr result (IsFaulted self.new) }
+        ensures fault_is_final { (fault : Fault) → IsFaulted self.old fault → result ≡ Err fault }
+    {
+        let scanned = match self.scanner.scan(piece, &mut self.held) {
+            Ok(scanned) => scanned,
+            Err(stop) => return Err(fault_of(stop)),
+        };
+        let used = scanned.used;
+        // What was taken is viable, as the scanner says of it here.
+        let _taken = self.scanner.taken();
+        if !scanned.is_whole {
+            return Ok(Fed { used, value: None });
+        }
+        let value = self.held.take_whole();
+        Ok(Fed { used, value })
+    }
+
+    /// The end of the input. Refuses it by Truncated inside a value, with the number of its bytes
+    /// that were taken, and by the fault that stands.
+    pub fn finish(&self) -> Result<(), Fault>
+        ensures only_between_values { WhereTaken self.now (λ front. IsOk result ↔ (front ≡ [])) }
+        ensures truncated_inside_a_value { WhereTaken self.now (λ front.
+            IfErr result (λ fault. (fault.cause ≡ cause.Truncated) × (fault.at ≡ length front))) }
+        ensures fault_is_final { (fault : Fault) → IsFaulted self.now fault → result ≡ Err fault }
+    {
+        self.scanner.finish()
+    }
+
+    /// Reads this version from the next value on.
+    ///
+    /// Refuses, and changes nothing, from a value's first byte until the value was given, and after
+    /// a fault.
+    pub fn set_version(&mut self, version: Version) -> Result<(), Busy>
+        ensures only_between_values { WhereTaken self.old (λ front. IsOk result ↔ (front ≡ [])) }
+        ensures nothing_taken { WhereTaken self.old (λ front. OnOk result (HasTaken self.new [])) }
+        ensures new_version { OnOk result (rules_of self.new.scanner ≡
+            rules_under version (rules_of self.old.scanner).limits) }
+        ensures unchanged_where_busy { OnErr result (self.new ≡ self.old) }
+        ensures never_after_a_fault { (fault : Fault) → IsFaulted self.old fault → OnOk result ⊥ }
+    {
+        self.scanner.set_version(version)
+    }
+
+    /// The number of bytes taken of the value, 0 between values. A refused byte isn't among them.
+    pub fn taken(&self) -> u64
+        ensures length_of_front { WhereTaken self.now (λ front. result ≡ length front) }
+        ensures viable { WhereTaken self.now (IsViable (rules_of self.now.scanner) WithinTotal) }
+        ensures at_most_total { result ≤ (rules_of self.now.scanner).limits.total }
+    {
+        self.scanner.taken()
+    }
+
+    /// How much is held of the value: three for each finished node and each open aggregate, and one
+    /// for each byte of content. It is never more than the bytes taken.
+    pub fn weight(&self) -> u64
+        ensures weight_of_held { WhereTaken self.now (λ front.
+            result ≡ weight_of (construction_of self.now.held)) }
+        ensures at_most_taken { WhereTaken self.now (λ front. result ≤ length front) }
+    {
+        // What was taken is viable, as the scanner says of it here.
+        let _taken = self.scanner.taken();
+        self.held.weight()
+    }
+}
+
+/// The fault that stands behind the scanner's answer.
+#[inline]
+fn fault_of(stop: ScanError) -> Fault
+    ensures { result ≡ fault_of stop }
+{
+    match stop {
+        ScanError::Fault(fault) => fault,
+        ScanError::Stopped { taken } => Fault {
+            cause: Cause::OutOfMemory,
+            at: taken,
+        },
+    }
+}
