@@ -184,5 +184,9 @@ kept_zero_is_alone negative digits k h =
     few : (digits : List ℕ) → 0 < length digits → kept_digits digits ≡ digits → get_or digits 0 0 ≡ 48 → length digits ≤ 1
     few [] full same h = omega arith
     few (c ∷ []) full same h = omega arith
-    few (c ∷ d ∷ cs) full same h = omega (arith, kept_no_longer (d ∷ cs) (omega arith), ap length (sym (kept-zero (c ∷ d ∷ cs) (omega arith) h)),
-        ap length same)
+    few (c ∷ d ∷ cs) full same h = omega (
+      arith,
+      kept_no_longer (d ∷ cs) (omega arith),
+      ap length (sym (kept-zero (c ∷ d ∷ cs) (omega arith) h)),
+      ap length same,
+    )
