@@ -15,7 +15,7 @@ use Rattle.resp_fronts.specs.Events.{Event, Timed, TextKind, bytes_from, text_ev
 use Rattle.resp_fronts.specs.Events as e
 use Rattle.resp_decode.specs.Builds.{Construction, nothing, with_value, scalar_of, with_event}
 use Rattle.resp_decode.specs.Weights.{format_weight}
-use Rattle.resp_decode.specs.Fits.{IsWholeText, IsMemberCount, MayBegin, MayCome, MayAllCome, event_weight, events_weight, end_weight}
+use Rattle.resp_decode.specs.Fits.{IsContentOf, IsMemberCount, MayBegin, MayCome, MayAllCome, event_weight, events_weight, end_weight}
 use Rattle.resp_decode.proofs.Folds.{in_group, in_text, value_list, values_listed, without_text}
 
 -- from a weight on, events come at no byte before the last one's, each may come, and each leaves no more weight than bytes
@@ -91,7 +91,7 @@ content_comes from to room kind so_far (c ∷ s) b last weight xs h light unende
 
 -- a text ends
 end_comes : (kind : TextKind) (s : List ℕ) (ends to : ℕ) (b : Construction) (last weight : ℕ) (xs : List Timed) → last ≤ ends →
-    weight + end_weight kind s ≤ ends + 1 → IsWholeText kind s → MayBegin b → ends + 1 ≤ to → GoOn to xs (with_value (scalar (scalar_of kind s)) b) →
+    weight + end_weight kind s ≤ ends + 1 → IsContentOf kind s → MayBegin b → ends + 1 ≤ to → GoOn to xs (with_value (scalar (scalar_of kind s)) b) →
     Come last weight (record { at = ends; event = e.TextEnd } ∷ xs) (in_text kind s b)
 end_comes kind s ends to b last weight xs h light whole begins room k = (
   h,
@@ -104,7 +104,7 @@ end_comes kind s ends to b last weight xs h light whole begins room k = (
 -- a text comes, whose content stands before its end
 pub text_comes : (kind : TextKind) (begins from room : ℕ) (s : List ℕ) (ends to : ℕ) (b : Construction) (last weight : ℕ) (xs : List Timed) → last ≤ begins →
     begins ≤ from → weight + format_weight kind ≤ begins + 1 → weight + format_weight kind + room ≤ from →
-    from + length s + end_weight kind s ≤ ends + 1 + room → from + length s ≤ ends → ends + 1 ≤ to → IsWholeText kind s → MayBegin b →
+    from + length s + end_weight kind s ≤ ends + 1 + room → from + length s ≤ ends → ends + 1 ≤ to → IsContentOf kind s → MayBegin b →
     GoOn to xs (with_value (scalar (scalar_of kind s)) b) → Come last weight (text_events kind begins from s ends ++ xs) b
 text_comes kind begins from room s ends to b last weight xs h1 h2 light1 light2 light3 h3 fits whole may k =
     let ending : List Timed = record { at = ends; event = e.TextEnd } ∷ [] in (
@@ -150,7 +150,7 @@ big_digits_are_kept sign digits h =
 
 -- a big number comes
 big_comes : (negative : Bool) (s : List ℕ) (from end to : ℕ) (b : Construction) (last weight : ℕ) (xs : List Timed) → last ≤ from → weight ≤ from →
-    from + length s + 2 ≤ end → from + 3 ≤ end → end + 1 ≤ to → IsWholeText (e.Big negative) s → MayBegin b →
+    from + length s + 2 ≤ end → from + 3 ≤ end → end + 1 ≤ to → IsContentOf (e.Big negative) s → MayBegin b →
     GoOn to xs (with_value (scalar (d.Big negative (zero_if_none s))) b) → Come last weight (big_events negative s end ++ xs) b
 big_comes negative [] from end to b last weight xs h light size some room whole may k =
     (omega arith, omega arith, may, end_comes (e.Big negative) [] end to b end (weight + 0) xs (omega arith) (omega arith) whole may room k)

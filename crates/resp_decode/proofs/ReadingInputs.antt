@@ -10,8 +10,8 @@ use Rattle.resp_value.specs.declared.cause.Cause.TheVariants as cause
 use Rattle.resp_value.proofs.SpellingLaws.{no_spelling_is_empty}
 use Rattle.resp_scan.specs.Kinds.{rules_of}
 use Rattle.resp_scan.specs.declared.event.Fault.{Fault}
-use Rattle.resp_decode.specs.Decoding.{GivesValue, HasTaken, LacksMemory, RefusesByte, UsesUp}
-use Rattle.resp_decode.specs.Inputs.{HasRead, RefusesInput, RefusesRest}
+use Rattle.resp_decode.specs.Decoding.{GivesValue, HasTaken, LacksMemory, RefusesByte, TakesPiece}
+use Rattle.resp_decode.specs.Inputs.{IsReadUpTo, RefusesInput, RefusesRest}
 use Rattle.resp_decode.specs.declared.all.AllFault.{AllFault}
 use Rattle.resp_decode.specs.declared.decoder.Decoder.{Decoder}
 
@@ -25,7 +25,7 @@ are_spellings-more r (y ∷ ys) x front next are is =
 
 -- nothing has been read of an input
 pub reads_nothing : (r : Rules) (bytes : List ℕ) (d : Decoder) (values : List Value) → values ≡ [] → HasTaken d [] → rules_of d.scanner ≡ r →
-    HasRead r bytes d values bytes
+    IsReadUpTo r bytes d values bytes
 reads_nothing r bytes d values none takes same = record {
   front = [];
   spelled = subst (λ xs. AreSpellings r (map datum_of xs) []) (sym none) refl;
@@ -36,8 +36,8 @@ reads_nothing r bytes d values none takes same = record {
 
 -- a value more has been read
 pub reads_value : (r : Rules) (bytes : List ℕ) (old new : Decoder) (values more : List Value) (x : Value) (rest behind : List ℕ) (used : ℕ) →
-    HasRead r bytes old values rest → GivesValue (rules_of old.scanner) new (take used rest) x → rules_of new.scanner ≡ rules_of old.scanner →
-    more ≡ values ++ x ∷ [] → behind ≡ drop used rest → HasRead r bytes new more behind
+    IsReadUpTo r bytes old values rest → GivesValue (rules_of old.scanner) new (take used rest) x → rules_of new.scanner ≡ rules_of old.scanner →
+    more ≡ values ++ x ∷ [] → behind ≡ drop used rest → IsReadUpTo r bytes new more behind
 reads_value r bytes old new values more x rest behind used w given same is left =
     let spelled : AreSpellings r (map datum_of values ++ datum_of x ∷ []) (w.front ++ take used rest) =
     are_spellings-more r (map datum_of values) (datum_of x) w.front (take used rest) w.spelled (subst (λ z. IsSpelling z (datum_of x) (take used rest)) w.same_rules given.spelling) in
@@ -57,7 +57,7 @@ value_uses_bytes r d rest zero x given = absurd (no_spelling_is_empty r (datum_o
 value_uses_bytes r d rest (suc used) x given = omega arith
 
 -- at the end the input is the values' spellings
-pub reads_all : (r : Rules) (bytes : List ℕ) (d : Decoder) (values : List Value) (rest : List ℕ) → HasRead r bytes d values rest → length rest ≡ 0 →
+pub reads_all : (r : Rules) (bytes : List ℕ) (d : Decoder) (values : List Value) (rest : List ℕ) → IsReadUpTo r bytes d values rest → length rest ≡ 0 →
     AreSpellings r (map datum_of values) bytes
 reads_all r bytes d values (c ∷ rest) w end = absurd (omega (arith, end))
 reads_all r bytes d values [] w end =
@@ -74,7 +74,7 @@ length-data [] = refl
 length-data (x ∷ xs) = omega (arith, length-data xs)
 
 -- an input whose rest is refused
-pub refuses_input : (r : Rules) (bytes : List ℕ) (d : Decoder) (values : List Value) (rest : List ℕ) (refusal : AllFault) → HasRead r bytes d values rest →
+pub refuses_input : (r : Rules) (bytes : List ℕ) (d : Decoder) (values : List Value) (rest : List ℕ) (refusal : AllFault) → IsReadUpTo r bytes d values rest →
     refusal.value ≡ length values + 1 → RefusesRest r rest refusal.fault → RefusesInput r bytes refusal
 refuses_input r bytes d values rest refusal w number refused = record {
   values = map datum_of values;
@@ -87,7 +87,7 @@ refuses_input r bytes d values rest refusal w number refused = record {
 }
 
 -- an input that ends inside a value
-pub ends_inside : (r : Rules) (d : Decoder) (rest : List ℕ) (used : ℕ) (fault : Fault) → UsesUp r d rest rest used → 0 < length rest →
+pub ends_inside : (r : Rules) (d : Decoder) (rest : List ℕ) (used : ℕ) (fault : Fault) → TakesPiece r d rest rest used → 0 < length rest →
     fault.cause ≡ cause.Truncated → fault.at ≡ length rest → RefusesRest r rest fault
 ends_inside r d rest used fault w full names place = inr (inl (record { names = names; place = place; begun = full; viable = w.viable; no_value = w.no_value }))
 

@@ -9,7 +9,7 @@ use Rattle.resp_fronts.specs.Events as e
 use Rattle.resp_scan.specs.Kinds.{content_events}
 use Rattle.resp_scan.specs.Reading.{Events}
 use Rattle.resp_scan.specs.Listening.{Hears, MayBeGiven}
-use Rattle.resp_decode.specs.Builds.{Construction, construction, nothing, scalar_of, with_value, with_bytes, with_event, with_events}
+use Rattle.resp_decode.specs.Builds.{Construction, built_from, nothing, scalar_of, with_value, with_bytes, with_event, with_events}
 use Rattle.resp_decode.specs.Brief.{AreBrief, WantMemory}
 use Rattle.resp_decode.specs.Fits.{MayAllCome, event_weight, events_weight, end_weight}
 use Rattle.resp_decode.specs.Weights.{format_weight}
@@ -48,8 +48,8 @@ takes_in_both old between new first second goes_on one two may room goes =
 
 -- so much of a front's events may come behind the first of them, and there is room for their weight
 pub record IsRoomFor (given more : Events) : Type 0 where
-  pub may : MayAllCome more (construction given)
-  pub room : events_weight given nothing + events_weight more (construction given) < 2 ^ 64
+  pub may : MayAllCome more (built_from given)
+  pub room : events_weight given nothing + events_weight more (built_from given) < 2 ^ 64
 
 pub room_for : (given more : Events) → MayBeGiven (given ++ more) → IsRoomFor given more
 room_for given more h =
@@ -93,7 +93,7 @@ pub hears_scalar : (old new : Held) (event : Event) (goes_on : Bool) → TakesIn
     (goes_on ≡ false → (construction_of old).groups ≡ [] → ⊥) → Hears (HasHeard old) (HasHeard new) WantMemory (event ∷ []) goes_on
 hears_scalar old new event goes_on takes within =
     hears_or_stops old new (event ∷ []) goes_on takes (λ given h stop brief.
-    let same : (construction_of old).groups ≡ (construction given).groups = ap (λ b. let c : Construction = b in c.groups) h.holds in
+    let same : (construction_of old).groups ≡ (built_from given).groups = ap (λ b. let c : Construction = b in c.groups) h.holds in
     within stop (same ∙ brief_groups given nothing (brief_first given (event ∷ []) brief) refl))
 
 -- the events of a text that is told whole build its value

@@ -10,7 +10,7 @@ use Rattle.resp_value.specs.Spellings.{IsSpelling, IsViable}
 use Rattle.resp_fronts.specs.Events.{Event, Timed, all_events, events_due, events, without_places}
 use Rattle.resp_fronts.specs.Events as e
 use Rattle.resp_scan.specs.Reading.{BeginDue, Events, IsValue}
-use Rattle.resp_decode.specs.Builds.{Construction, Group, nothing, construction, with_value, with_value_in, with_event, with_events}
+use Rattle.resp_decode.specs.Builds.{Construction, Group, nothing, built_from, with_value, with_value_in, with_event, with_events}
 use Rattle.resp_decode.specs.Brief.{AreBrief, IsBriefByte}
 use Rattle.resp_decode.specs.Weights.{weight_of}
 use Rattle.resp_decode.specs.Fits.{MayAllCome, events_weight}
@@ -26,7 +26,7 @@ no_double r u keeps = keeps NoDouble (omega arith)
 pub record AreGood (front : List ℕ) (es : Events) : Type 0 where
   pub may : MayAllCome es nothing
   pub light : events_weight es nothing ≤ length front
-  pub weight : weight_of (construction es) ≤ length front
+  pub weight : weight_of (built_from es) ≤ length front
 
 pub are_good : (r : Rules) (front : List ℕ) (es : Events) → IsViable r WithinTotal front → BeginDue front es → AreGood front es
 are_good r front es v begin =
@@ -42,13 +42,13 @@ are_good r front es v begin =
 pub record IsBuilt (r : Rules) (front : List ℕ) (es : Events) : Type 0 where
   pub tree : Tree
   pub spelling : IsSpelling r (value tree) front
-  pub is : construction es ≡ record nothing { whole = Some (value tree) }
+  pub is : built_from es ≡ record nothing { whole = Some (value tree) }
 
 pub value_is_built : (r : Rules) (front : List ℕ) (es : Events) → IsValue r front es → IsBuilt r front es
 value_is_built r front es v = record {
   tree = v.tree;
   spelling = record { tree = v.tree; spells = v.spells; keeps = v.keeps; valued = refl };
-  is = ap construction v.told ∙ builds-tree 0 v.tree nothing (no_double r v.tree v.keeps) refl;
+  is = ap built_from v.told ∙ builds-tree 0 v.tree nothing (no_double r v.tree v.keeps) refl;
 }
 
 -- Values without content.

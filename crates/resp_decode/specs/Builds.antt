@@ -78,8 +78,8 @@ with_events [] b = b
 with_events (event ∷ es) b = with_events es (with_event event b)
 
 -- what the events without_places of a value build
-abbrev pub construction : List Event → Construction
-construction es = with_events es nothing
+abbrev pub built_from : List Event → Construction
+built_from es = with_events es nothing
 
 -- content more of the text being read
 abbrev pub with_bytes : Option Text → List ℕ → Option Text

@@ -29,8 +29,8 @@ abbrev pub WhereTaken : Decoder → (List ℕ → Type 0) → Type 0
 WhereTaken d P = (front : List ℕ) → HasTaken d front → P front
 
 -- a fault is answered for good
-abbrev pub IsFaulted : Decoder → Fault → Type 0
-IsFaulted d fault = scan.IsFaulted d.scanner fault
+abbrev pub HasFault : Decoder → Fault → Type 0
+HasFault d fault = scan.IsFaulted d.scanner fault
 
 -- where a value ends behind so many bytes of the piece
 abbrev pub IfValue : Result Fed Fault → (ℕ → Value → Type 0) → Type 0
@@ -47,7 +47,7 @@ pub record GivesValue (r : Rules) (d : Decoder) (written : List ℕ) (value : Va
 
 -- the piece is used up: no front of the text is a spelling, in any version and under any limits, some value within the
 -- rules goes on so, and the text is taken
-pub record UsesUp (r : Rules) (d : Decoder) (written piece : List ℕ) (used : ℕ) : Type 0 where
+pub record TakesPiece (r : Rules) (d : Decoder) (written piece : List ℕ) (used : ℕ) : Type 0 where
   pub whole_piece : used ≡ length piece
   pub no_value : HasNoValue written
   pub viable : IsViable r WithinTotal written

@@ -9,13 +9,13 @@ use Rattle.resp_decode.specs.Builds.{Group, Text, Construction, with_event}
 use Rattle.resp_decode.specs.Weights.{format_weight}
 
 -- a whole text of this kind
-abbrev pub IsWholeText : TextKind → List ℕ → Type 0
-IsWholeText e.Simple s = IsLine s
-IsWholeText e.Error s = IsLine s
-IsWholeText e.Bulk s = Unit {0}
-IsWholeText e.BulkError s = Unit {0}
-IsWholeText (e.Verbatim format) s = length format ≡ 3
-IsWholeText (e.Big negative) s = IsKept negative (zero_if_none s)
+abbrev pub IsContentOf : TextKind → List ℕ → Type 0
+IsContentOf e.Simple s = IsLine s
+IsContentOf e.Error s = IsLine s
+IsContentOf e.Bulk s = Unit {0}
+IsContentOf e.BulkError s = Unit {0}
+IsContentOf (e.Verbatim format) s = length format ≡ 3
+IsContentOf (e.Big negative) s = IsKept negative (zero_if_none s)
 
 -- an aggregate of this kind has so many members: whole pairs in a map, and one more behind them in an attribute
 abbrev pub IsMemberCount : Kind → ℕ → Type 0
@@ -27,7 +27,7 @@ IsMemberCount Push n = Unit {0}
 
 abbrev pub MayEndText : Option Text → Type 0
 MayEndText None = ⊥
-MayEndText (Some t) = IsWholeText t.kind t.content
+MayEndText (Some t) = IsContentOf t.kind t.content
 
 abbrev pub IsInText : Option Text → Type 0
 IsInText None = ⊥

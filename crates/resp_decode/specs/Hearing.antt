@@ -1,14 +1,14 @@
 -- What a decoder's listener has heard, and what a call changes of what it holds.
 use Rattle.std.specs.Prelude.{◌≡◌, ◌+◌, ◌<◌, ◌^◌, Bool, true}
 use Rattle.resp_scan.specs.Reading.{Events}
-use Rattle.resp_decode.specs.Builds.{construction, nothing, with_events}
+use Rattle.resp_decode.specs.Builds.{built_from, nothing, with_events}
 use Rattle.resp_decode.specs.Fits.{MayAllCome, events_weight}
 use Rattle.resp_decode.specs.Holding.{construction_of}
 use Rattle.resp_decode.specs.declared.held.Held.{Held}
 
 -- what is held is what these events build, and its weight is theirs
 pub record HasHeard (held : Held) (es : Events) : Type 0 where
-  pub holds : construction_of held ≡ construction es
+  pub holds : construction_of held ≡ built_from es
   pub weighs : held.weight ≡ events_weight es nothing
 
 -- more events are taken in, each of which may come, and whose weight has room

@@ -36,13 +36,13 @@ group_of (group.Attr pairs) = record { kind = d.Attr; members = pairs_data pairs
 group_of (group.Push members) = record { kind = d.Push; members = map datum_of members.items }
 
 -- the text that is being read
-abbrev pub text_of : Text → b.Text
-text_of text = record { kind = text_kind_of text.kind; content = text.bytes.items }
+abbrev pub text_held : Text → b.Text
+text_held text = record { kind = text_kind_of text.kind; content = text.bytes.items }
 
 -- the text that is being read, if there is one
 abbrev pub maybe_text : Option Text → Option b.Text
 maybe_text None = None
-maybe_text (Some text) = Some (text_of text)
+maybe_text (Some text) = Some (text_held text)
 
 -- all that is held
 abbrev pub construction_of : Held → Construction

@@ -36,7 +36,7 @@ pub record RefusesInput (r : Rules) (bytes : List ℕ) (refusal : AllFault) : Ty
   pub refused : RefusesRest r rest refusal.fault
 
 -- the bytes before the rest are spellings of these values, and the decoder stands between two
-pub record HasRead (r : Rules) (bytes : List ℕ) (d : Decoder) (values : List Value) (rest : List ℕ) : Type 0 where
+pub record IsReadUpTo (r : Rules) (bytes : List ℕ) (d : Decoder) (values : List Value) (rest : List ℕ) : Type 0 where
   pub front : List ℕ
   pub spelled : AreSpellings r (map datum_of values) front
   pub whole : bytes ≡ front ++ rest

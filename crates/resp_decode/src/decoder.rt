@@ -22,7 +22,7 @@ pub struct Decoder {
 }
 
 impl Decoder {
-    ghost use Rattle.resp_decode.specs.Decoding.{GivesValue, HasTaken, IfNoValue, IfValue, IsFaulted, LacksMemory, RefusesByte, UsesUp, WhereTaken};
+    ghost use Rattle.resp_decode.specs.Decoding.{GivesValue, HasTaken, IfNoValue, IfValue, HasFault, LacksMemory, RefusesByte, TakesPiece, WhereTaken};
     ghost use Rattle.resp_decode.specs.Holding.{construction_of};
     ghost use Rattle.resp_decode.specs.Weights.{weight_of};
     ghost use Rattle.resp_scan.specs.Kinds.{rules_of};
@@ -53,7 +53,7 @@ impl Decoder {
 
         // No value has ended in the piece, which was taken.
         ensures used_up { WhereTaken self.old (λ front. IfNoValue result
-            (UsesUp (rules_of self.old.scanner) self.new (front ++ piece.now) piece.now)) }
+            (TakesPiece (rules_of self.old.scanner) self.new (front ++ piece.now) piece.now)) }
 
         // The refused byte is the first after which nothing can follow, and the fault names why, or
         // there was no memory.
@@ -63,8 +63,8 @@ impl Decoder {
 
         ensures within_piece { IfOk result (λ fed. fed.used ≤ length piece.now) }
         ensures same_rules { rules_of self.new.scanner ≡ rules_of self.old.scanner }
-        ensures fault_is_kept { IfErr result (IsFaulted self.new) }
-        ensures fault_is_final { (fault : Fault) → IsFaulted self.old fault → result ≡ Err fault }
+        ensures fault_is_kept { IfErr result (HasFault self.new) }
+        ensures fault_is_final { (fault : Fault) → HasFault self.old fault → result ≡ Err fault }
     {
         let scanned = match self.scanner.scan(piece, &mut self.held) {
             Ok(scanned) => scanned,
@@ -86,7 +86,7 @@ impl Decoder {
         ensures only_between_values { WhereTaken self.now (λ front. IsOk result ↔ (front ≡ [])) }
         ensures truncated_inside_a_value { WhereTaken self.now (λ front.
             IfErr result (λ fault. (fault.cause ≡ cause.Truncated) × (fault.at ≡ length front))) }
-        ensures fault_is_final { (fault : Fault) → IsFaulted self.now fault → result ≡ Err fault }
+        ensures fault_is_final { (fault : Fault) → HasFault self.now fault → result ≡ Err fault }
     {
         self.scanner.finish()
     }
@@ -101,7 +101,7 @@ impl Decoder {
         ensures new_version { OnOk result (rules_of self.new.scanner ≡
             rules_under version (rules_of self.old.scanner).limits) }
         ensures unchanged_where_busy { OnErr result (self.new ≡ self.old) }
-        ensures never_after_a_fault { (fault : Fault) → IsFaulted self.old fault → OnOk result ⊥ }
+        ensures never_after_a_fault { (fault : Fault) → HasFault self.old fault → OnOk result ⊥ }
     {
         self.scanner.set_version(version)
     }

@@ -23,12 +23,12 @@ pub(crate) struct Text {
 impl Text {
     ghost use Rattle.resp_decode.specs.Builds.{scalar_of};
     ghost use Rattle.resp_decode.specs.Fits.{end_weight};
-    ghost use Rattle.resp_decode.specs.Holding.{text_of};
+    ghost use Rattle.resp_decode.specs.Holding.{text_held};
 
     /// A text without content. Takes no memory.
     #[inline]
     pub(crate) fn new(alloc: Global, kind: TextKind) -> Text
-        ensures { text_of result ≡ record { kind = text_kind_of kind; content = [] } }
+        ensures { text_held result ≡ record { kind = text_kind_of kind; content = [] } }
     {
         Text {
             kind,
@@ -39,8 +39,8 @@ impl Text {
     /// Appends these bytes of the content.
     #[inline]
     pub(crate) fn extend(&mut self, part: &[u8]) -> Result<(), AllocError>
-        ensures { OnOk result (text_of self.new ≡ record (text_of self.old) {
-          content = (text_of self.old).content ++ part.now;
+        ensures { OnOk result (text_held self.new ≡ record (text_held self.old) {
+          content = (text_held self.old).content ++ part.now;
         }) }
     {
         self.bytes.extend_from_slice(part)
@@ -49,7 +49,7 @@ impl Text {
     /// What its end adds to the weight: a node, and the digit of a big zero.
     #[inline]
     pub(crate) fn end_weight(&self) -> u64
-        ensures { result ≡ end_weight (text_of self.now).kind (text_of self.now).content }
+        ensures { result ≡ end_weight (text_held self.now).kind (text_held self.now).content }
     {
         match self.kind {
             TextKind::Big { .. } if self.bytes.is_empty() => 4,
@@ -62,7 +62,7 @@ impl Text {
     #[inline]
     pub(crate) fn into_value(self) -> Option<Value>
         ensures { IfSome result (λ value. datum_of value ≡
-            scalar (scalar_of (text_of self).kind (text_of self).content)) }
+            scalar (scalar_of (text_held self).kind (text_held self).content)) }
     {
         let Text { kind, bytes } = self;
         match kind {

@@ -8,7 +8,7 @@ use Rattle.resp_session.specs.Heard.{is_push}
 use Rattle.resp_session.specs.Requests.{Hello, Command}
 use Rattle.resp_session.specs.Stores.{Effect, effect_of_words}
 use Rattle.resp_session.specs.Connections.{Connection, Message, new_requests, push_message, with_request, with_message, with_effect, with_arrived, with_shown, as_dropped}
-use Rattle.resp_session.specs.Worlds.{World, Event, Send, Greet, ToServer, ToClient, Push, Drop, after_event, after_arrival, after_command, after_commands, commands_for, connection_at, with_change, world_with, version_of, new_world}
+use Rattle.resp_session.specs.Worlds.{World, WorldEvent, Send, Greet, ToServer, ToClient, Push, Drop, after_event, after_arrival, after_command, after_commands, commands_for, connection_at, with_change, world_with, version_of, new_world}
 use Rattle.resp_session.specs.Runs.{Outcome, Done, Refused, Gone, Step, Run}
 use Rattle.resp_session.specs.Orders.{Agrees, replay_of, sent_replies}
 use Rattle.resp_session.proofs.OrdersGoOn.{after_commands-order}
@@ -112,7 +112,7 @@ after_arrival_kept n w i k (Some c) a =
     subst (Matches (after_commands v commands)) (sym (fold-append after_command (new_world n) w.order commands) ∙
     ap (replay_of n) (sym (after_commands-order v commands))) b
 
-after_event_kept : (n : ℕ) (w : World) (event : Event) → Kept n w → Kept n (after_event w event)
+after_event_kept : (n : ℕ) (w : World) (event : WorldEvent) → Kept n w → Kept n (after_event w event)
 after_event_kept n w (Send i words) a = change_matches (with_request (Command words)) (same_alike _ (λ c. refl) (λ c. refl)) w (replay_of n w.order) i a
 after_event_kept n w (Greet i asked) a = change_matches (with_request (Hello asked)) (same_alike _ (λ c. refl) (λ c. refl)) w (replay_of n w.order) i a
 after_event_kept n w (ToServer i k) a = after_arrival_kept n w i k (connection_at w.connections i) a
@@ -120,12 +120,12 @@ after_event_kept n w (ToClient i k) a = change_matches (with_shown k) (same_alik
 after_event_kept n w (Push i items) a = change_matches (with_message (push_message items)) (push_alike items) w (replay_of n w.order) i a
 after_event_kept n w (Drop i) a = change_matches as_dropped (same_alike _ (λ c. refl) (λ c. refl)) w (replay_of n w.order) i a
 
-step_kept : (limits : Bounds) (n : ℕ) (w : World) (event : Event) (outcome : Outcome) (next : World) → Step limits w event outcome next → Kept n w → Kept n next
+step_kept : (limits : Bounds) (n : ℕ) (w : World) (event : WorldEvent) (outcome : Outcome) (next : World) → Step limits w event outcome next → Kept n w → Kept n next
 step_kept limits n w event Done next s a = subst (Kept n) (sym s.2) (after_event_kept n w event a)
 step_kept limits n w event (Refused cause) next s a = subst (Kept n) (sym s.2) a
 step_kept limits n w event Gone next s a = subst (Kept n) (sym s.1) a
 
-run_kept : (limits : Bounds) (n : ℕ) (w : World) (events : List Event) (last : World) → Run limits w events last → Kept n w → Kept n last
+run_kept : (limits : Bounds) (n : ℕ) (w : World) (events : List WorldEvent) (last : World) → Run limits w events last → Kept n w → Kept n last
 run_kept limits n w [] last r a = subst (Kept n) (sym r) a
 run_kept limits n w (event ∷ events) last r a =
     let (outcome, next, s, t) = r in
@@ -142,7 +142,7 @@ alike_maps f h [] (d ∷ ds) a = absurd a
 alike_maps f h (c ∷ cs) [] a = absurd a
 alike_maps f h (c ∷ cs) (d ∷ ds) a = ap (λ x. x ∷ map f cs) (h c d a.0) ∙ ap (λ l. f d ∷ l) (alike_maps f h cs ds a.1)
 
-pub agrees_with_its_order : (limits : Bounds) (n : ℕ) (events : List Event) (w : World) → Run limits (new_world n) events w → Agrees w (replay_of n w.order)
+pub agrees_with_its_order : (limits : Bounds) (n : ℕ) (events : List WorldEvent) (w : World) → Run limits (new_world n) events w → Agrees w (replay_of n w.order)
 agrees_with_its_order limits n events w r =
     let m = run_kept limits n (new_world n) events w r (record { store = refl; connections = all_alike (new_world n).connections }) in
     record {

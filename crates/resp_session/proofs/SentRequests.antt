@@ -18,7 +18,7 @@ use Rattle.resp_session.specs.Connections.{Connection, sent_text, new_requests, 
 use Rattle.resp_session.specs.Requests.{Request, Hello, Command, HasBytes, RefusesRequest, is_unsent, is_unsent_request, request_words, request_text}
 use Rattle.resp_session.specs.Runs.{Outcome, Done, Refused, Gone, Step, Run, RefusesEvent, connection_of, request_count}
 use Rattle.resp_session.specs.WorldLaws.{IsOfBytes, HasName, request_values, WhatArrivesIsCommands}
-use Rattle.resp_session.specs.Worlds.{World, Event, Send, Greet, ToServer, ToClient, Push, Drop, connection_at, world_with, after_event, after_arrival, commands_for, new_world}
+use Rattle.resp_session.specs.Worlds.{World, WorldEvent, Send, Greet, ToServer, ToClient, Push, Drop, connection_at, world_with, after_event, after_arrival, commands_for, new_world}
 use Rattle.resp_session.proofs.Changes.{is_changed}
 use Rattle.resp_session.proofs.FittingWords.{command_is_value, words_fit}
 use Rattle.resp_session.proofs.Parts.{comes_from}
@@ -80,7 +80,7 @@ hello_has_bytes (Some Two) = ((omega arith, (omega arith, (omega arith, (omega a
 hello_has_bytes (Some Three) = ((omega arith, (omega arith, (omega arith, (omega arith, (omega arith, tt))))), ((omega arith, tt), tt))
 
 -- an event that isn't refused keeps it
-event_sent : CanonicalTextSpellsWhatFits → (limits : Bounds) → AreBounds limits → (w : World) (event : Event) → IsOfBytes event →
+event_sent : CanonicalTextSpellsWhatFits → (limits : Bounds) → AreBounds limits → (w : World) (event : WorldEvent) → IsOfBytes event →
     ((cause : Cause) → RefusesEvent limits (connection_of w event) event cause → ⊥) → AllSent limits w → AllSent limits (after_event w event)
 event_sent spells limits bounds w (Send i words) bytes unrefused all =
     let count = request_count (connection_at w.connections i) in
@@ -96,14 +96,14 @@ event_sent spells limits bounds w (ToClient i k) bytes unrefused all = change_se
 event_sent spells limits bounds w (Push i items) bytes unrefused all = change_sent limits (with_message (push_message items)) w i (λ c a. a) all
 event_sent spells limits bounds w (Drop i) bytes unrefused all = change_sent limits as_dropped w i (λ c a. a) all
 
-pub step_sent : CanonicalTextSpellsWhatFits → (limits : Bounds) → AreBounds limits → (w : World) (event : Event) (outcome : Outcome) (next : World) →
+pub step_sent : CanonicalTextSpellsWhatFits → (limits : Bounds) → AreBounds limits → (w : World) (event : WorldEvent) (outcome : Outcome) (next : World) →
     IsOfBytes event →
     Step limits w event outcome next → AllSent limits w → AllSent limits next
 step_sent spells limits bounds w event Done next bytes s all = subst (AllSent limits) (sym s.2) (event_sent spells limits bounds w event bytes s.1 all)
 step_sent spells limits bounds w event (Refused cause) next bytes s all = subst (AllSent limits) (sym s.2) all
 step_sent spells limits bounds w event Gone next bytes s all = subst (AllSent limits) (sym s.1) all
 
-run_sent : CanonicalTextSpellsWhatFits → (limits : Bounds) → AreBounds limits → (w : World) (events : List Event) (last : World) →
+run_sent : CanonicalTextSpellsWhatFits → (limits : Bounds) → AreBounds limits → (w : World) (events : List WorldEvent) (last : World) →
     AllByRecursion IsOfBytes events →
     Run limits w events last → AllSent limits w → AllSent limits last
 run_sent spells limits bounds w [] last bytes r all = subst (AllSent limits) (sym r) all

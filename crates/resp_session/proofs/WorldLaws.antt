@@ -7,7 +7,7 @@ use Rattle.resp_value.specs.Data.{Datum}
 use Rattle.resp_session.specs.Heard.{is_push, replies_of}
 use Rattle.resp_session.specs.Requests.{request_words, request_text}
 use Rattle.resp_session.specs.Connections.{Connection, Message, message_text, values_of, whole_within, shown_messages, shown_replies, arrived_requests}
-use Rattle.resp_session.specs.Worlds.{World, Event, connection_at, new_world}
+use Rattle.resp_session.specs.Worlds.{World, WorldEvent, connection_at, new_world}
 use Rattle.resp_session.specs.Runs.{Run}
 use Rattle.resp_session.specs.Orders.{IsBeginning, part_of_client, sent_replies}
 use Rattle.resp_session.specs.WorldLaws.{AWorldHasOneOrder, ARunIsCut, ShownRepliesAreOfTheOrder, WhatIsShownWasSent}
@@ -16,7 +16,7 @@ use Rattle.resp_session.proofs.Replays.{agrees_with_its_order}
 use Rattle.resp_session.proofs.WorldsHold.{run_holds, new_world_holds}
 
 -- what stands of a connection of a world of a run
-holds_at : (limits : Bounds) (n : ℕ) (events : List Event) (w : World) → Run limits (new_world n) events w → (i : ℕ) (c : Connection) →
+holds_at : (limits : Bounds) (n : ℕ) (events : List WorldEvent) (w : World) → Run limits (new_world n) events w → (i : ℕ) (c : Connection) →
     connection_at w.connections i ≡ Some c → Holds i c w.order
 holds_at limits n events w r i c at = run_holds limits (new_world n) events w r (new_world_holds n) i c at
 

@@ -15,7 +15,7 @@ use Rattle.resp_session.specs.Requests.{Request, Hello, Command, is_unsent_reque
 use Rattle.resp_session.specs.Runs.{Outcome, Done, Refused, Gone, Step, Run, RefusesEvent, connection_of}
 use Rattle.resp_session.specs.Stores.{Effect, effect_of_words}
 use Rattle.resp_session.specs.WorldLaws.{IsOfBytes, WhatIsWrittenIsRead}
-use Rattle.resp_session.specs.Worlds.{World, Event, Send, Greet, ToServer, ToClient, Push, Drop, connection_at, with_change, world_with, version_of, after_command, after_commands, after_event, after_arrival, commands_for, new_world}
+use Rattle.resp_session.specs.Worlds.{World, WorldEvent, Send, Greet, ToServer, ToClient, Push, Drop, connection_at, with_change, world_with, version_of, after_command, after_commands, after_event, after_arrival, commands_for, new_world}
 use Rattle.resp_session.proofs.Changes.{is_changed}
 use Rattle.resp_session.proofs.Parts.{AllHold, comes_from, arrived_requests-with_request}
 use Rattle.resp_session.proofs.SentRequests.{IsSent, AllSent, step_sent, new_sent}
@@ -124,7 +124,7 @@ arrival_read three go_on stay limits w i k (Some own) at held sent all j c e = e
   | inr h ↦ all j c (other_stays (with_arrived k) w i j c h (others_stay (world_with (with_arrived k) w i) i (new_requests k own) j c h e))
 ]
 
-event_read : VersionThreeSpellsWhatTwoDoes → ReadingsGoOn → ReadingsStay → (limits : Bounds) (w : World) (event : Event) →
+event_read : VersionThreeSpellsWhatTwoDoes → ReadingsGoOn → ReadingsStay → (limits : Bounds) (w : World) (event : WorldEvent) →
     ((cause : Cause) → RefusesEvent limits (connection_of w event) event cause → ⊥) → AllHold w → AllSent limits w → AllRead limits w →
     AllRead limits (after_event w event)
 event_read three go_on stay limits w (Send i words) fine held sent all = change_read limits (with_request (Command words)) w i
@@ -138,7 +138,7 @@ event_read three go_on stay limits w (Push i items) fine held sent all = change_
     (λ c at r. push_read go_on stay limits items (arrived_requests c) c (λ two. fine NotInVersion (ap version_of at ∙ two)) r) all
 event_read three go_on stay limits w (Drop i) fine held sent all = change_read limits _ w i (λ c at r. r) all
 
-step_read : VersionThreeSpellsWhatTwoDoes → ReadingsGoOn → ReadingsStay → (limits : Bounds) (w : World) (event : Event) (outcome : Outcome) (next : World) →
+step_read : VersionThreeSpellsWhatTwoDoes → ReadingsGoOn → ReadingsStay → (limits : Bounds) (w : World) (event : WorldEvent) (outcome : Outcome) (next : World) →
     Step limits w event outcome next → AllHold w → AllSent limits w → AllRead limits w → AllRead limits next
 step_read three go_on stay limits w event Done next s held sent all =
     subst (AllRead limits) (sym s.2) (event_read three go_on stay limits w event s.1 held sent all)
@@ -146,7 +146,7 @@ step_read three go_on stay limits w event (Refused cause) next s held sent all =
 step_read three go_on stay limits w event Gone next s held sent all = subst (AllRead limits) (sym s.1) all
 
 run_read : CanonicalTextSpellsWhatFits → VersionThreeSpellsWhatTwoDoes → ReadingsGoOn → ReadingsStay → (limits : Bounds) → AreBounds limits → (w : World)
-    (events : List Event) (last : World) → AllByRecursion IsOfBytes events → Run limits w events last → AllHold w → AllSent limits w → AllRead limits w →
+    (events : List WorldEvent) (last : World) → AllByRecursion IsOfBytes events → Run limits w events last → AllHold w → AllSent limits w → AllRead limits w →
     AllRead limits last
 run_read spells three go_on stay limits bounds w [] last bytes r held sent all = subst (AllRead limits) (sym r) all
 run_read spells three go_on stay limits bounds w (event ∷ events) last bytes r held sent all =

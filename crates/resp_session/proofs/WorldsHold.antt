@@ -5,7 +5,7 @@ use Rattle.std.specs.List.{concat}
 use Rattle.resp_value.specs.Bounds.{Bounds}
 use Rattle.resp_session.specs.Requests.{Request, Hello, Command, request_words, request_text}
 use Rattle.resp_session.specs.Connections.{Connection, new_connection, whole_within, sent_text, arrived_requests, new_requests, with_arrived}
-use Rattle.resp_session.specs.Worlds.{World, Event, Send, Greet, ToServer, ToClient, Push, Drop, connection_at, world_with, after_event, after_arrival, commands_for, new_connections, new_world}
+use Rattle.resp_session.specs.Worlds.{World, WorldEvent, Send, Greet, ToServer, ToClient, Push, Drop, connection_at, world_with, after_event, after_arrival, commands_for, new_connections, new_world}
 use Rattle.resp_session.specs.Runs.{Outcome, Done, Refused, Gone, Step, Run}
 use Rattle.resp_session.specs.Orders.{part_of_client, sent_replies}
 use Rattle.resp_session.proofs.OrdersGoOn.{after_commands-order}
@@ -96,7 +96,7 @@ arrival_holds w i k (Some own) at all j c e =
     let h = comes_from w1 cs j c e in
     subst (Holds j c) (sym (after_commands-order w1 cs)) (arrival_on w i k own at all j c h (is_changed (with_arrived k) w.connections i j h.before h.at))
 
-event_holds : (w : World) (event : Event) → AllHold w → AllHold (after_event w event)
+event_holds : (w : World) (event : WorldEvent) → AllHold w → AllHold (after_event w event)
 event_holds w (Send i words) all = change_holds _ w i (request_holds (Command words) w.order) all
 event_holds w (Greet i asked) all = change_holds _ w i (request_holds (Hello asked) w.order) all
 event_holds w (ToServer i k) all = arrival_holds w i k (connection_at w.connections i) refl all
@@ -104,13 +104,13 @@ event_holds w (ToClient i k) all = change_holds _ w i (λ j c h. record { part =
 event_holds w (Push i items) all = change_holds _ w i (push_holds items w.order) all
 event_holds w (Drop i) all = change_holds _ w i (λ j c h. record { part = h.part; within = h.within; replies = h.replies }) all
 
-pub step_holds : (limits : Bounds) (w : World) (event : Event) (outcome : Outcome) (next : World) → Step limits w event outcome next → AllHold w → AllHold next
+pub step_holds : (limits : Bounds) (w : World) (event : WorldEvent) (outcome : Outcome) (next : World) → Step limits w event outcome next → AllHold w → AllHold next
 step_holds limits w event Done next s all = subst AllHold (sym s.2) (event_holds w event all)
 step_holds limits w event (Refused cause) next s all = subst AllHold (sym s.2) all
 step_holds limits w event Gone next s all = subst AllHold (sym s.1) all
 
 -- it stands behind events where it stood before them
-pub run_holds : (limits : Bounds) (w : World) (events : List Event) (last : World) → Run limits w events last → AllHold w → AllHold last
+pub run_holds : (limits : Bounds) (w : World) (events : List WorldEvent) (last : World) → Run limits w events last → AllHold w → AllHold last
 run_holds limits w [] last r all = subst AllHold (sym r) all
 run_holds limits w (event ∷ events) last r all =
     let (outcome, next, s, t) = r in

@@ -8,7 +8,7 @@ use Rattle.resp_session.specs.Runs.{Step, Refused, Gone}
 use Rattle.resp_session.specs.Replies.{bulk_string}
 use Rattle.resp_session.specs.Answers.{SessionState, Answers, after_values}
 use Rattle.resp_session.specs.Connections.{Connection, shown_replies, shown_pushes}
-use Rattle.resp_session.specs.Worlds.{World, Event, Send, Greet, ToServer, ToClient, Push, new_world, after_event, connection_at}
+use Rattle.resp_session.specs.Worlds.{World, WorldEvent, Send, Greet, ToServer, ToClient, Push, new_world, after_event, connection_at}
 
 -- a new session over an empty store
 abbrev pub new_session : SessionState
@@ -78,9 +78,9 @@ abbrev pub pushes_to : World → ℕ → List Datum
 pushes_to w i = pushes_on (connection_at w.connections i)
 
 -- under all limits, the event is refused for this cause behind this world
-abbrev pub IsRefusedFor : World → Event → Cause → Type 0
-IsRefusedFor w event cause = (limits : Bounds) → Step limits w event (Refused cause) w
+abbrev pub RefusesEventFor : World → WorldEvent → Cause → Type 0
+RefusesEventFor w event cause = (limits : Bounds) → Step limits w event (Refused cause) w
 
 -- under all limits, the event is of nobody in this world
-abbrev pub IsOfNobody : World → Event → Type 0
+abbrev pub IsOfNobody : World → WorldEvent → Type 0
 IsOfNobody w event = (limits : Bounds) → Step limits w event Gone w

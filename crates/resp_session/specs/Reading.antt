@@ -58,15 +58,15 @@ abbrev pub waiting_after : Waiting → Datum → Waiting
 waiting_after w x = if is_push x then w else waiting_after_reply w.version w.asks x
 
 -- while no command waits a value is a push
-abbrev pub MayCome : Waiting → Datum → Type 0
-MayCome w x = w.asks ≡ [] → is_push x ≡ true
+abbrev pub MayBeRead : Waiting → Datum → Type 0
+MayBeRead w x = w.asks ≡ [] → is_push x ≡ true
 
 -- the text is spellings of these values in order, each in the version in which it is read, and leaves so much waiting
 abbrev pub ReadsAs : Bounds → Waiting → List Datum → List ℕ → Waiting → Type 0
 ReadsAs limits w [] text after = (text ≡ []) × (after ≡ w)
 ReadsAs limits w (x ∷ xs) text after = (front : List ℕ) × (rest : List ℕ) ×
     IsSpelling (reading_rules limits w) x front ×
-    MayCome w x × ReadsAs limits (waiting_after w x) xs rest after × (text ≡ front ++ rest)
+    MayBeRead w x × ReadsAs limits (waiting_after w x) xs rest after × (text ≡ front ++ rest)
 
 -- a rest whose first byte begins no push, while no command waits
 abbrev pub IsUnasked : Waiting → List ℕ → Type 0

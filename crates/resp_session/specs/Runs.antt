@@ -10,7 +10,7 @@ use Rattle.resp_value.specs.declared.cause.Cause.{Cause}
 use Rattle.resp_value.specs.declared.cause.Cause.TheVariants.{NotInVersion, PushBelowTop, OverLimits}
 use Rattle.resp_session.specs.Requests.{Hello, Command, RefusesRequest}
 use Rattle.resp_session.specs.Connections.{Connection, push_message}
-use Rattle.resp_session.specs.Worlds.{World, Event, Send, Greet, Push, client_of, connection_at, version_of, after_event}
+use Rattle.resp_session.specs.Worlds.{World, WorldEvent, Send, Greet, Push, client_of, connection_at, version_of, after_event}
 
 pub data Outcome : Type 0 where
   -- it happened
@@ -39,18 +39,18 @@ RefusesPush limits version push (OverLimits limit) =
 RefusesPush limits version push _ = ⊥
 
 -- why an event on this connection is refused; bytes and drops never are
-abbrev pub RefusesEvent : Bounds → Option Connection → Event → Cause → Type 0
+abbrev pub RefusesEvent : Bounds → Option Connection → WorldEvent → Cause → Type 0
 RefusesEvent limits c (Send i words) cause = RefusesRequest limits (request_count c) (Command words) cause
 RefusesEvent limits c (Greet i asked) cause = RefusesRequest limits (request_count c) (Hello asked) cause
 RefusesEvent limits c (Push i items) cause = RefusesPush limits (version_of c) (push_message items).value cause
 RefusesEvent limits c _ cause = ⊥
 
 -- the connection of an event
-abbrev pub connection_of : World → Event → Option Connection
+abbrev pub connection_of : World → WorldEvent → Option Connection
 connection_of w event = connection_at w.connections (client_of event)
 
 -- what comes of an event, and what it leaves
-abbrev pub Step : Bounds → World → Event → Outcome → World → Type 0
+abbrev pub Step : Bounds → World → WorldEvent → Outcome → World → Type 0
 Step limits w event Gone next = (is_gone (connection_of w event) ≡ true) × (next ≡ w)
 Step limits w event (Refused cause) next =
     (is_gone (connection_of w event) ≡ false) × RefusesEvent limits (connection_of w event) event cause × (next ≡ w)
@@ -59,7 +59,7 @@ Step limits w event Done next =
     ((cause : Cause) → RefusesEvent limits (connection_of w event) event cause → ⊥) × (next ≡ after_event w event)
 
 -- what events leave, one after another
-abbrev pub Run : Bounds → World → List Event → World → Type 0
+abbrev pub Run : Bounds → World → List WorldEvent → World → Type 0
 Run limits w [] last = last ≡ w
 Run limits w (event ∷ events) last =
     (outcome : Outcome) × (next : World) × Step limits w event outcome next × Run limits next events last

@@ -14,29 +14,29 @@ use Rattle.resp_session.specs.Heard.{replies_of, pushes_of}
 use Rattle.resp_session.specs.Reading.{Waiting, ReadsAs}
 use Rattle.resp_session.specs.Requests.{version_asked, Request, Command, HasBytes, request_words, request_text}
 use Rattle.resp_session.specs.Connections.{Connection, Message, message_text, back_text, later_requests, sent_text, values_of, shown_replies, shown_pushes}
-use Rattle.resp_session.specs.Worlds.{World, Event, Send, connection_at, new_world}
+use Rattle.resp_session.specs.Worlds.{World, WorldEvent, Send, connection_at, new_world}
 use Rattle.resp_session.specs.Runs.{Run}
 use Rattle.resp_session.specs.Orders.{OneOrder, IsBeginning, part_of_client}
 
 -- whatever happens, one order of all commands gives the store, the versions and the replies, and each client's part of
 -- it is a beginning of what the client asked
 abbrev pub AWorldHasOneOrder : Type 0
-AWorldHasOneOrder = (limits : Bounds) (n : ℕ) (events : List Event) (w : World) → Run limits (new_world n) events w →
+AWorldHasOneOrder = (limits : Bounds) (n : ℕ) (events : List WorldEvent) (w : World) → Run limits (new_world n) events w →
     OneOrder n w
 
 -- a run of events and then of more is cut into a run of the events and one of more
 abbrev pub ARunIsCut : Type 0
-ARunIsCut = (limits : Bounds) (w v : World) (events more : List Event) → Run limits w (events ++ more) v →
+ARunIsCut = (limits : Bounds) (w v : World) (events more : List WorldEvent) → Run limits w (events ++ more) v →
     (u : World) × Run limits w events u × Run limits u more v
 
 -- what was run stays first in the order, so that what is run later stands behind it
 abbrev pub TheOrderOnlyGrows : Type 0
-TheOrderOnlyGrows = (limits : Bounds) (w v : World) (events : List Event) → Run limits w events v →
+TheOrderOnlyGrows = (limits : Bounds) (w v : World) (events : List WorldEvent) → Run limits w events v →
     IsBeginning w.order v.order
 
 -- a reply that is shown is of a command that was run: no more replies are shown than the client's commands in the order
 abbrev pub ShownRepliesAreOfTheOrder : Type 0
-ShownRepliesAreOfTheOrder = (limits : Bounds) (n : ℕ) (events : List Event) (w : World) →
+ShownRepliesAreOfTheOrder = (limits : Bounds) (n : ℕ) (events : List WorldEvent) (w : World) →
     Run limits (new_world n) events w → (i : ℕ) (c : Connection) → connection_at w.connections i ≡ Some c →
     length (shown_replies c) ≤ length (part_of_client i w.order)
 
@@ -46,7 +46,7 @@ WhatIsShownWasSent = (c : Connection) → IsBeginning (shown_replies c) (replies
     IsBeginning (shown_pushes c) (pushes_of (values_of c.messages))
 
 -- what a program can ask: words of bytes
-abbrev pub IsOfBytes : Event → Type 0
+abbrev pub IsOfBytes : WorldEvent → Type 0
 IsOfBytes (Send i words) = HasBytes (Command words)
 IsOfBytes _ = Unit {0}
 
@@ -61,7 +61,7 @@ request_values c = map (λ (request : Request). command_of (request_words reques
 -- what has come to a session is so many whole commands, and a viable rest that begins no value: so no session of a
 -- world answers a fault
 abbrev pub WhatArrivesIsCommands : Type 0
-WhatArrivesIsCommands = (limits : Bounds) (n : ℕ) (events : List Event) (w : World) → AreBounds limits →
+WhatArrivesIsCommands = (limits : Bounds) (n : ℕ) (events : List WorldEvent) (w : World) → AreBounds limits →
     AllByRecursion IsOfBytes events → Run limits (new_world n) events w → (i : ℕ) (c : Connection) →
     connection_at w.connections i ≡ Some c → AllByRecursion HasName c.requests ×
     HasCome (server_rules limits) (request_values c) (map request_text c.requests) (take c.arrived (sent_text c))
@@ -77,7 +77,7 @@ waiting_for version requests = record { version = version; asks = map version_as
 -- where all messages of a session are within the limits, their text is what its client reads: each message, and then
 -- it waits, in the session's version, for the requests that have not come
 abbrev pub WhatIsWrittenIsRead : Type 0
-WhatIsWrittenIsRead = (limits : Bounds) (n : ℕ) (events : List Event) (w : World) → AreBounds limits →
+WhatIsWrittenIsRead = (limits : Bounds) (n : ℕ) (events : List WorldEvent) (w : World) → AreBounds limits →
     AllByRecursion IsOfBytes events → Run limits (new_world n) events w → (i : ℕ) (c : Connection) →
     connection_at w.connections i ≡ Some c → AllByRecursion (IsWritten limits) c.messages →
     ReadsAs limits (waiting_for Two c.requests) (values_of c.messages) (back_text c)

@@ -15,22 +15,22 @@ pub record World : Type 0 where
   pub store : Store
 
 -- what may happen, each to the client of this number
-pub data Event : Type 0 where
+pub data WorldEvent : Type 0 where
   -- it asks a command of these words
-  Send : ℕ → List (List ℕ) → Event
+  Send : ℕ → List (List ℕ) → WorldEvent
   -- it asks HELLO, with a version or without
-  Greet : ℕ → Option Version → Event
+  Greet : ℕ → Option Version → WorldEvent
   -- so many bytes more come to its session
-  ToServer : ℕ → ℕ → Event
+  ToServer : ℕ → ℕ → WorldEvent
   -- so many bytes more come to it
-  ToClient : ℕ → ℕ → Event
+  ToClient : ℕ → ℕ → WorldEvent
   -- a push of these items is sent to it
-  Push : ℕ → List Datum → Event
+  Push : ℕ → List Datum → WorldEvent
   -- it is given up
-  Drop : ℕ → Event
+  Drop : ℕ → WorldEvent
 
 -- the client of an event
-abbrev pub client_of : Event → ℕ
+abbrev pub client_of : WorldEvent → ℕ
 client_of (Send i words) = i
 client_of (Greet i asked) = i
 client_of (ToServer i k) = i
@@ -85,7 +85,7 @@ after_arrival w i k None = w
 after_arrival w i k (Some c) = after_commands (world_with (with_arrived k) w i) (commands_for i (new_requests k c))
 
 -- what an event leaves that isn't refused
-abbrev pub after_event : World → Event → World
+abbrev pub after_event : World → WorldEvent → World
 after_event w (Send i words) = world_with (with_request (Command words)) w i
 after_event w (Greet i asked) = world_with (with_request (Hello asked)) w i
 after_event w (ToServer i k) = after_arrival w i k (connection_at w.connections i)

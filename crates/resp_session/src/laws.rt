@@ -5,7 +5,7 @@ ghost use Rattle.std.specs.Prelude.{◌≡◌, [], ◌∷◌, ◌++◌, codes, l
 ghost use Rattle.resp_value.specs.Words.{command_of};
 ghost use Rattle.resp_session.specs.Answers.{after_values};
 ghost use Rattle.resp_session.specs.AnswerLaws.{ACommandIsItsWords, AnswersGoOn, AnswersEnd, ATextHasOneAnswer, AnswersAreOfTheCut, WhatComesIsWholeTexts};
-ghost use Rattle.resp_session.specs.Examples.{new_session, answers_to, set_a, get_a, AnInlineCommandIsRefused, get_before_set, hello_in_two, hello_in_three, push_after_hello, clients_of, replies_to, pushes_to, IsRefusedFor, IsOfNobody};
+ghost use Rattle.resp_session.specs.Examples.{new_session, answers_to, set_a, get_a, AnInlineCommandIsRefused, get_before_set, hello_in_two, hello_in_three, push_after_hello, clients_of, replies_to, pushes_to, RefusesEventFor, IsOfNobody};
 ghost use Rattle.resp_session.specs.Worlds.{Push, Drop};
 ghost use Rattle.resp_value.specs.declared.cause.Cause.TheVariants.{NotInVersion};
 ghost use Rattle.resp_session.specs.ReadingLaws.{ReadingsGoOn, ReadingsStay, ATextHasOneReading, ARestHasOneClientFault, HearingGoesOn};
@@ -210,7 +210,7 @@ pub fn events_and_what_they_show()
     ensures push { pushes_to push_after_hello 1 ≡
         (push_message (bulk_string (codes "x") ∷ [])).value ∷ [] }
     // A push is refused in version 2, and nothing comes of an event of a client that isn't there.
-    ensures refused_push { IsRefusedFor get_before_set (Push 2 (bulk_string (codes "x") ∷ []))
+    ensures refused_push { RefusesEventFor get_before_set (Push 2 (bulk_string (codes "x") ∷ []))
         NotInVersion }
     ensures nobody { IsOfNobody get_before_set (Drop 3) }
 {}

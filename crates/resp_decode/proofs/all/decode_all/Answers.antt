@@ -4,7 +4,7 @@ use Rattle.resp_value.specs.Rules.{rules_under}
 use Rattle.resp_value.specs.declared.cause.Cause.TheVariants as cause
 use Rattle.resp_scan.specs.declared.event.Fault.{Fault}
 use Rattle.resp_scan.specs.Kinds.{rules_of}
-use Rattle.resp_decode.specs.Decoding.{LacksMemory, RefusesByte, UsesUp}
+use Rattle.resp_decode.specs.Decoding.{LacksMemory, RefusesByte, TakesPiece}
 use Rattle.resp_decode.proofs.ReadingInputs.{bytes_behind, ends_inside, reads_all, reads_nothing, reads_value, refuses_input, refuses_rest, value_uses_bytes}
 use Rattle.resp_decode.proofs.all.decode_all.Goals as goal
 
@@ -30,7 +30,7 @@ returns-in_default-clause-refusal c =
     let number : c.len.result ≡ length c.loop-rest.values.items = omega (arith, c.len.ensures, c.loop-rest.values.ok.0) in
     let none : c.in-Ok.fed.value ≡ None = search rules in
     let full : 0 < length rest = search rules in
-    let used = subst (λ z. UsesUp z c.feed.new.self rest rest c.in-Ok.fed.used) w.same_rules (c.in-Ok.ensures.used_up [] w.takes none) in
+    let used = subst (λ z. TakesPiece z c.feed.new.self rest rest c.in-Ok.fed.used) w.same_rules (c.in-Ok.ensures.used_up [] w.takes none) in
     let names : fault.cause ≡ cause.Truncated = ap (λ f. let z : Fault = f in z.cause) c.fault_at.ensures in
     let place : fault.at ≡ length rest = ap (λ f. let z : Fault = f in z.at) c.fault_at.ensures ∙ search rules in
     refuses_input r c.args.bytes.now c.loop-rest.decoder c.loop-rest.values.items rest (record { value = c.len.result + 1; fault = fault }) w (omega (arith, number))

@@ -1,5 +1,5 @@
 use Rattle.std.proofs.Common.{rules, ◌≡◌, ◌++◌, Some, ap, arith}
-use Rattle.resp_decode.specs.Holding.{text_of}
+use Rattle.resp_decode.specs.Holding.{text_held}
 use Rattle.resp_decode.specs.declared.held.Held.{Held}
 use Rattle.resp_decode.proofs.HeldLemmas.{extended_text}
 use Rattle.resp_decode.proofs.Taking.{takes_in_part}
@@ -10,6 +10,6 @@ returns-in-Some c =
     let old = c.args.self.now in
     let part = c.args.part.now in
     takes_in_part old (record c.add_weight.new.self { text = Some c.extend.new.self }) part c.is_ok.result (λ goes.
-    let added : text_of c.extend.new.self ≡ record (text_of c.in-Some.text) { content = (text_of c.in-Some.text).content ++ part } = search rules in
+    let added : text_held c.extend.new.self ≡ record (text_held c.in-Some.text) { content = (text_held c.in-Some.text).content ++ part } = search rules in
     extended_text old c.add_weight.new.self _ c.in-Some.text c.extend.new.self part c.add_weight.ensures c.in-Some.is added)
     (λ room. omega (arith, ap (λ h. let z : Held = h in z.weight) c.add_weight.ensures, room))
