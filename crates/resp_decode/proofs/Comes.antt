@@ -28,7 +28,7 @@ Come last weight (x ∷ xs) b = (last ≤ x.at) × (weight + event_weight x.even
 abbrev pub GoOn : ℕ → List Timed → Construction → Type 0
 GoOn bytes xs b = (last weight : ℕ) → last < bytes → weight ≤ bytes → Come last weight xs b
 
--- no event is events_due whose byte hasn't come
+-- no event is due whose byte hasn't come
 none_due : (n last weight : ℕ) (xs : List Timed) (b : Construction) → n ≤ last → Come last weight xs b → events_due n xs ≡ []
 none_due n last weight [] b h c = refl
 none_due n last weight (x ∷ xs) b h c = case (ltb x.at n) refl (none_due n x.at (weight + event_weight x.event b) xs (with_event x.event b) (omega (arith, c.0))
@@ -38,7 +38,7 @@ none_due n last weight (x ∷ xs) b h c = case (ltb x.at n) refl (none_due n x.a
     case true is others = let early : x.at < n = ltb-true x.at n is in absurd (omega (arith, c.0))
     case false is others = others
 
--- events that come so: those events_due of the first bytes may come, and add no more than there are bytes
+-- events that come so: those due of the first bytes may come, and add no more than there are bytes
 pub record AreLight (n weight : ℕ) (es : List Event) (b : Construction) : Type 0 where
   pub may : MayAllCome es b
   pub light : weight + events_weight es b ≤ n
@@ -142,7 +142,7 @@ stripped_shorter (d ∷ ds) = cases (eqb d 48) (stripped_shorter ds)
     cases true h = omega arith
     cases false h = omega arith
 
--- the digits of a big number are kept_digits
+-- the digits of a big number are kept
 big_digits_are_kept : (sign : Sign) (digits : List ℕ) → IsDigits digits → IsKept (is_below_zero sign digits) (zero_if_none (significant_digits digits))
 big_digits_are_kept sign digits h =
     let k = are_kept digits h.1 in
@@ -158,7 +158,7 @@ big_comes negative (c ∷ s) from end to b last weight xs h light size some room
     text_comes (e.Big negative) (end - 2 - length s) (end - 2 - length s) 1 (c ∷ s) end to b last weight xs (omega arith) (omega arith) (omega arith)
     (omega arith) (omega arith) (omega arith) room whole may k
 
--- of a leaf
+-- the events of a leaf
 pub leaf_comes : (from : ℕ) (l : Leaf) (b : Construction) (last weight : ℕ) (xs : List Timed) → IsLeaf l → IsNoDouble l → MayBegin b → last ≤ from →
     weight ≤ from → GoOn (from + length (leaf_text l)) xs (with_value (scalar (leaf_value l)) b) → Come last weight (leaf_events from l ++ xs) b
 leaf_comes from (line t.Simple s) b last weight xs is p may h light k =
@@ -258,7 +258,7 @@ may_have Attr (Counted digits) n h = (_, sym h.1)
 may_have Attr Streamed n h = absurd h
 
 mutual
-  -- of a tree
+  -- the events of a tree
   pub tree_comes : (from : ℕ) (u : Tree) (b : Construction) (last weight : ℕ) (xs : List Timed) → IsTree u → Every IsNoDouble IsAnyNode u → MayBegin b →
       last ≤ from → weight ≤ from → GoOn (from + length (text u)) xs (with_value (value u) b) → Come last weight (events from u ++ xs) b
   tree_comes from (leaf l) b last weight xs is p may h light k = leaf_comes from l b last weight xs is p may h light k
@@ -283,7 +283,7 @@ mutual
             ))),
       )
 
-  -- of trees, the members of an aggregate
+  -- the events of trees, the members of an aggregate
   pub trees_come : (from : ℕ) (us : Trees) (kind : Kind) (so_far : List Datum) (b : Construction) (last weight : ℕ) (xs : List Timed) → AreTrees us →
       EveryOf IsNoDouble IsAnyNode us → MayBegin b → last < from → weight ≤ from →
       GoOn (from + length (texts us)) xs (in_group kind (so_far ++ value_list us) b) → Come last weight (events_each from us ++ xs) (in_group kind so_far b)

@@ -1,4 +1,4 @@
--- What an event event_weight to the weight is what it event_weight to what is construction.
+-- What an event adds to the weight is what it adds to what is built.
 use Rattle.std.proofs.Common.{◌≡◌, ℕ, ◌+◌, Option, None, Some, List, [], ◌∷◌, ◌++◌, length, refl, sym, ap, subst, arith, length-append}
 use Rattle.resp_value.specs.Data.{Kind, Datum, Data, scalar, aggregate, data_of_list}
 use Rattle.resp_value.specs.Data as d
@@ -28,7 +28,7 @@ put_weighs x b unended =
     weight_of_groups b.groups + weight_of_text b.text + weight x in
     subst P (sym unended) (put_in_weighs b.groups b.text x)
 
--- and so does a whole text
+-- a whole text weighs what its value does
 scalar_weighs : (kind : TextKind) (s : List ℕ) → content_size (scalar_of kind s) + 3 ≡ format_weight kind + length s + end_weight kind s
 scalar_weighs e.Simple s = omega arith
 scalar_weighs e.Error s = omega arith
@@ -60,7 +60,7 @@ close_weighs (g ∷ gs) b may unended = omega (
   weight-listed g.members,
 )
 
--- of one event
+-- what one event adds
 pub event_weighs : (event : Event) (b : Construction) → MayCome event b → weight_of (with_event event b) ≡ weight_of b + event_weight event b
 event_weighs e.Null b may = omega (arith, put_weighs (scalar d.Null) b may.1, ap weight_of_whole may.1)
 event_weighs (e.Bool truth) b may = omega (arith, put_weighs (scalar (d.Bool truth)) b may.1, ap weight_of_whole may.1)
@@ -72,7 +72,7 @@ event_weighs (e.Open kind members) b may = omega arith
 event_weighs e.Close b may = omega (arith, close_weighs b.groups b may.1 may.0.1, ap weight_of_whole may.0.1)
 event_weighs e.Done b may = omega arith
 
--- of events
+-- what events add
 pub events_weigh : (es : List Event) (b : Construction) → MayAllCome es b → weight_of (with_events es b) ≡ weight_of b + events_weight es b
 events_weigh [] b may = omega arith
 events_weigh (x ∷ es) b may = omega (arith, event_weighs x b may.0, events_weigh es (with_event x b) may.1)

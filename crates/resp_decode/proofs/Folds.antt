@@ -1,4 +1,4 @@
--- What the events of a tree build: its value, with_value where a finished value goes; and each of them may come.
+-- What the events of a tree build: its value, put where a finished value goes; and each of them may come.
 use Rattle.std.proofs.Common.{◌≡◌, ℕ, ◌+◌, ◌-◌, Bool, None, Some, List, [], ◌∷◌, ◌++◌, length, refl, sym, ap, ◌∙◌, append_assoc}
 use Rattle.std.proofs.lemmas.List.{append-nil}
 use Rattle.resp_value.specs.Numbers.{is_below_zero, significant_digits, zero_if_none}
@@ -17,7 +17,7 @@ pub without_places-append : (xs ys : List Timed) → without_places (xs ++ ys) �
 without_places-append [] ys = refl
 without_places-append (x ∷ xs) ys = ap (λ es. x.event ∷ es) (without_places-append xs ys)
 
--- what is construction so far goes on
+-- what is built so far goes on
 pub with_events-append : (xs ys : List Event) (b : Construction) → with_events (xs ++ ys) b ≡ with_events ys (with_events xs b)
 with_events-append [] ys b = refl
 with_events-append (x ∷ xs) ys b = with_events-append xs ys (with_event x b)
@@ -36,7 +36,7 @@ builds-content from kind so_far (c ∷ s) b = builds-content (from + 1) kind (so
 abbrev pub Rests : Construction → Type 0
 Rests b = b.text ≡ None
 
--- a construction value without a text is what it is
+-- a built value without a text is what it is
 pub without_text : (b : Construction) → Rests b → record b { text = None } ≡ b
 without_text b rests = ap (λ z. let c : Construction = record b { text = z } in c) (sym rests)
 
@@ -64,7 +64,7 @@ builds-chunks at kind so_far (c ∷ cs) b =
     ∙ builds-chunks (at + length c.digits + length c.content + 5) kind (so_far ++ c.content) cs b
     ∙ ap (λ z. in_text kind z b) (append_assoc so_far c.content (joined_content cs))
 
--- of a leaf
+-- the events of a leaf
 pub builds-leaf : (from : ℕ) (l : Leaf) (b : Construction) → IsNoDouble l → Rests b → with_events (without_places (leaf_events from l)) b ≡
     with_value (scalar (leaf_value l)) b
 builds-leaf from (line t.Simple s) b p rests = builds-text e.Simple from (from + 1) s _ b rests
@@ -117,7 +117,7 @@ put_rests x b rests = case b.groups
     case (g ∷ gs) = rests
 
 mutual
-  -- of a tree
+  -- the events of a tree
   pub builds-tree : (from : ℕ) (u : Tree) (b : Construction) → Every IsNoDouble IsAnyNode u → Rests b → with_events (without_places (events from u)) b ≡
       with_value (value u) b
   builds-tree from (leaf l) b p rests = builds-leaf from l b p rests
@@ -130,7 +130,7 @@ mutual
       ∙ ap (with_events (e.Close ∷ [])) (builds-trees at us k [] b p.1 rests)
       ∙ ap (λ xs. with_value (aggregate k xs) b) (values_listed us)
 
-  -- of trees, the members of an aggregate
+  -- the events of trees, the members of an aggregate
   pub builds-trees : (from : ℕ) (us : Trees) (k : Kind) (so_far : List Datum) (b : Construction) → EveryOf IsNoDouble IsAnyNode us → Rests b →
       with_events (without_places (events_each from us)) (in_group k so_far b) ≡ in_group k (so_far ++ value_list us) b
   builds-trees from none k so_far b p rests = ap (λ z. in_group k z b) (sym (append-nil so_far))

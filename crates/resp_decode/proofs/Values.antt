@@ -1,4 +1,4 @@
--- What is known of the events without_places of a front: each could come, they weigh no more than the front, and at the end of a
+-- What is known of the events given of a front: each could come, they weigh no more than the front, and at the end of a
 -- value they build it.
 use Rattle.std.proofs.Common.{◌≡◌, inl, inr, ℕ, ◌≤◌, Bool, true, false, cond, ltb, Some, List, [], ◌∷◌, ◌++◌, length, refl, ap, subst, ◌∙◌, arith}
 use Rattle.resp_value.specs.Data as d
@@ -22,7 +22,7 @@ use Rattle.resp_decode.proofs.Counted.{events_weigh}
 pub no_double : (r : Rules) (u : Tree) → Keeps r WithinTotal u → Every IsNoDouble IsAnyNode u
 no_double r u keeps = keeps NoDouble (omega arith)
 
--- what is known of the events without_places of a viable front
+-- what is known of the events given of a viable front
 pub record AreGood (front : List ℕ) (es : Events) : Type 0 where
   pub may : MayAllCome es nothing
   pub light : events_weight es nothing ≤ length front
@@ -38,7 +38,7 @@ are_good r front es v begin =
     let light : events_weight es nothing ≤ length front = omega (arith, whole.light, ap (λ z. events_weight z nothing) is, first_add es owed nothing) in
     record { may = first; light = light; weight = omega (arith, light, events_weigh es nothing first) }
 
--- a whole value is construction of its events
+-- a whole value is built of its events
 pub record IsBuilt (r : Rules) (front : List ℕ) (es : Events) : Type 0 where
   pub tree : Tree
   pub spelling : IsSpelling r (value tree) front
@@ -91,7 +91,7 @@ brief_tree (node d.Attr form us) byte front rest same brief = absurd
 brief_tree (node d.Push form us) byte front rest same brief = absurd
     (other_byte byte front rest _ 62 same brief (λ p. omega arith) (λ p. omega arith) (λ p. omega arith))
 
--- what is events_due of such events is such
+-- what is due of such events is such
 brief_due : (n : ℕ) (xs : List Timed) → AreBrief (without_places xs) → AreBrief (events_due n xs)
 brief_due n [] h = tt
 brief_due n (x ∷ xs) h = case (ltb x.at n) (brief_due n xs h.1)
@@ -104,7 +104,7 @@ pub brief_first : (es owed : List Event) → AreBrief (es ++ owed) → AreBrief 
 brief_first [] owed h = tt
 brief_first (x ∷ es) owed h = (h.0, brief_first es owed h.1)
 
--- the events without_places of a front that begins so are such
+-- the events given of a front that begins so are such
 pub are_brief : (r : Rules) (byte : ℕ) (front : List ℕ) (es : Events) → IsBriefByte byte → IsViable r WithinTotal (byte ∷ front) → BeginDue (byte ∷ front) es →
     AreBrief es
 are_brief r byte front es brief v begin =
@@ -118,7 +118,7 @@ put_groups x b none = case b.groups none
     case [] e = none
     case (g ∷ gs) e = absurd (cc)
 
--- and they open no aggregate
+-- such events open no aggregate
 pub brief_groups : (es : List Event) (b : Construction) → AreBrief es → b.groups ≡ [] → (with_events es b).groups ≡ []
 brief_groups [] b h none = none
 brief_groups (e.Null ∷ es) b h none = brief_groups es (with_event e.Null b) h.1 (put_groups (d.scalar d.Null) b none)

@@ -1,4 +1,4 @@
--- What the events without_places of a value build: the open aggregates with the values of their finished members, the
+-- What the events given of a value build: the open aggregates with the values of their finished members, the
 -- text being read, and at last the whole value.
 use Rattle.std.specs.Prelude.{ℕ, Option, None, Some, List, [], ◌∷◌, ◌++◌}
 use Rattle.resp_value.specs.Numbers.{zero_if_none}
@@ -17,7 +17,7 @@ pub record Text : Type 0 where
   pub kind : TextKind
   pub content : List ℕ
 
--- what is construction of a value: its open aggregates, the innermost first, the text being read, and the value once it
+-- what is built of a value: its open aggregates, the innermost first, the text being read, and the value once it
 -- is whole
 pub record Construction : Type 0 where
   pub groups : List Group
@@ -77,7 +77,7 @@ abbrev pub with_events : List Event → Construction → Construction
 with_events [] b = b
 with_events (event ∷ es) b = with_events es (with_event event b)
 
--- what the events without_places of a value build
+-- what the events given of a value build
 abbrev pub built_from : List Event → Construction
 built_from es = with_events es nothing
 

@@ -1,4 +1,4 @@
--- The events that may come of what is construction, of any tree.
+-- The events that may come of what is built, of any tree.
 use Rattle.std.specs.Prelude.{◌≡◌, ℕ, ◌+◌, Option, None, Some, List, [], ◌∷◌, length}
 use Rattle.resp_value.specs.Bytes.{IsLine}
 use Rattle.resp_value.specs.Numbers.{IsKept, zero_if_none}
@@ -37,7 +37,7 @@ abbrev pub MayClose : List Group → Type 0
 MayClose [] = ⊥
 MayClose (g ∷ gs) = IsMemberCount g.kind (length g.members)
 
--- what an event event_weight to the weight
+-- what an event adds to the weight
 abbrev pub end_weight : TextKind → List ℕ → ℕ
 end_weight e.Simple s = 3
 end_weight e.Error s = 3
@@ -62,7 +62,7 @@ event_weight (e.Open kind members) b = 3
 event_weight e.Close b = 0
 event_weight e.Done b = 0
 
--- and so do events, one after another
+-- what events add to it, one after another
 abbrev pub events_weight : List Event → Construction → ℕ
 events_weight [] b = 0
 events_weight (event ∷ es) b = event_weight event b + events_weight es (with_event event b)
@@ -83,7 +83,7 @@ MayCome (e.Open kind members) b = MayBegin b
 MayCome e.Close b = MayBegin b × MayClose b.groups
 MayCome e.Done b = Unit {0}
 
--- and these, one after another
+-- these events may come, one after another
 abbrev pub MayAllCome : List Event → Construction → Type 0
 MayAllCome [] b = Unit {0}
 MayAllCome (event ∷ es) b = MayCome event b × MayAllCome es (with_event event b)

@@ -19,7 +19,7 @@ content_size (d.BulkError s) = length s
 content_size (d.Verbatim format s) = length format + length s
 content_size (d.Big negative digits) = length digits
 
--- of a value
+-- the weight of a value
 abbrev mutual
   pub weight : Datum → ℕ
   weight (scalar s) = content_size s + 3
@@ -29,12 +29,12 @@ abbrev mutual
   weight_of_each none = 0
   weight_of_each (more x xs) = weight x + weight_of_each xs
 
--- of finished members
+-- the weight of finished members
 abbrev pub weight_of_all : List Datum → ℕ
 weight_of_all [] = 0
 weight_of_all (x ∷ xs) = weight x + weight_of_all xs
 
--- of open aggregates with their finished members
+-- the weight of open aggregates with their finished members
 abbrev pub weight_of_groups : List Group → ℕ
 weight_of_groups [] = 0
 weight_of_groups (g ∷ gs) = weight_of_all g.members + 3 + weight_of_groups gs
@@ -48,7 +48,7 @@ format_weight e.BulkError = 0
 format_weight (e.Verbatim format) = length format
 format_weight (e.Big negative) = 0
 
--- of the text being read
+-- the weight of the text that is being read
 abbrev pub weight_of_text : Option Text → ℕ
 weight_of_text None = 0
 weight_of_text (Some t) = format_weight t.kind + length t.content
@@ -57,6 +57,6 @@ abbrev pub weight_of_whole : Option Datum → ℕ
 weight_of_whole None = 0
 weight_of_whole (Some x) = weight x
 
--- of what is construction
+-- the weight of what is built
 abbrev pub weight_of : Construction → ℕ
 weight_of b = weight_of_groups b.groups + weight_of_text b.text + weight_of_whole b.whole
