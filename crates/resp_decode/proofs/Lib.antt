@@ -6,3 +6,5 @@ pub mod HeldLemmas
 pub mod Taking
 pub mod Feeding
 pub mod ReadingInputs
+pub mod EventsElsewhere
+pub mod EqualEvents

@@ -6,3 +6,4 @@ pub mod Holding
 pub mod Hearing
 pub mod Decoding
 pub mod Inputs
+pub mod Laws

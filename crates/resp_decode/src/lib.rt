@@ -9,6 +9,7 @@ pub mod decoder;
 pub mod fed;
 mod group;
 mod held;
+pub mod laws;
 #[cfg(test)]
 mod tests;
 mod text;

@@ -1,0 +1,29 @@
+-- What the events of values tell, as laws.
+use Rattle.std.specs.Prelude.{◌≡◌, ◌≤◌, ℕ, List, length}
+use Rattle.resp_value.specs.Trees.{Tree}
+use Rattle.resp_value.specs.TreeValues.{value}
+use Rattle.resp_value.specs.Rules.{Rules, WithinTotal, Every, IsNoDouble, IsAnyNode}
+use Rattle.resp_value.specs.Spellings.{IsViable}
+use Rattle.resp_fronts.specs.Events.{events, without_places}
+use Rattle.resp_scan.specs.Reading.{BeginDue, Events}
+use Rattle.resp_decode.specs.Builds.{built_from}
+use Rattle.resp_decode.specs.Weights.{weight_of}
+
+-- the tree has no double, of which no event comes
+abbrev pub HasNoDouble : Tree → Type 0
+HasNoDouble tree = Every IsNoDouble IsAnyNode tree
+
+-- trees with equal events have equal values
+abbrev pub EqualEventsGiveEqualValues : Type 0
+EqualEventsGiveEqualValues = (one other : Tree) → HasNoDouble one → HasNoDouble other →
+    without_places (events 0 one) ≡ without_places (events 0 other) → value one ≡ value other
+
+-- where a tree's text begins is seen in the places of its events alone
+abbrev pub EventsAreTheSameElsewhere : Type 0
+EventsAreTheSameElsewhere = (from elsewhere : ℕ) (tree : Tree) →
+    without_places (events from tree) ≡ without_places (events elsewhere tree)
+
+-- what is held of the events given of a viable front weighs no more than its bytes
+abbrev pub WhatIsBuiltIsNoHeavier : Type 0
+WhatIsBuiltIsNoHeavier = (r : Rules) (front : List ℕ) (given : Events) → IsViable r WithinTotal front →
+    BeginDue front given → weight_of (built_from given) ≤ length front
