@@ -8,3 +8,4 @@ pub mod Feeding
 pub mod ReadingInputs
 pub mod EventsElsewhere
 pub mod EqualEvents
+pub mod OneSpelling

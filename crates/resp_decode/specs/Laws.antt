@@ -1,13 +1,17 @@
 -- What the events of values tell, as laws.
-use Rattle.std.specs.Prelude.{◌≡◌, ◌≤◌, ℕ, List, length}
+use Rattle.std.specs.Prelude.{◌≡◌, ◌≤◌, ℕ, List, [], ◌∷◌, length}
 use Rattle.resp_value.specs.Trees.{Tree}
 use Rattle.resp_value.specs.TreeValues.{value}
 use Rattle.resp_value.specs.Rules.{Rules, WithinTotal, Every, IsNoDouble, IsAnyNode}
-use Rattle.resp_value.specs.Spellings.{IsViable}
+use Rattle.resp_value.specs.Data.{Datum}
+use Rattle.resp_value.specs.Spellings.{IsSpelling, AreSpellings, IsViable}
+use Rattle.resp_value.specs.declared.cause.Cause.TheVariants as cause
 use Rattle.resp_fronts.specs.Events.{events, without_places}
 use Rattle.resp_scan.specs.Reading.{BeginDue, Events}
 use Rattle.resp_decode.specs.Builds.{built_from}
+use Rattle.resp_decode.specs.Inputs.{RefusesInput}
 use Rattle.resp_decode.specs.Weights.{weight_of}
+use Rattle.resp_decode.specs.declared.all.AllFault.{AllFault}
 
 -- the tree has no double, of which no event comes
 abbrev pub HasNoDouble : Tree → Type 0
@@ -27,3 +31,13 @@ EventsAreTheSameElsewhere = (from elsewhere : ℕ) (tree : Tree) →
 abbrev pub WhatIsBuiltIsNoHeavier : Type 0
 WhatIsBuiltIsNoHeavier = (r : Rules) (front : List ℕ) (given : Events) → IsViable r WithinTotal front →
     BeginDue front given → weight_of (built_from given) ≤ length front
+
+-- a text that spells a value is read as that value alone
+abbrev pub ASpellingIsReadAsItsValue : Type 0
+ASpellingIsReadAsItsValue = (r : Rules) (x : Datum) (text : List ℕ) (values : List Datum) → IsSpelling r x text →
+    AreSpellings r values text → values ≡ x ∷ []
+
+-- a text that spells a value is refused for want of memory alone
+abbrev pub ASpellingIsRefusedForMemoryAlone : Type 0
+ASpellingIsRefusedForMemoryAlone = (r : Rules) (x : Datum) (text : List ℕ) (refusal : AllFault) → IsSpelling r x text →
+    RefusesInput r text refusal → refusal.fault.cause ≡ cause.OutOfMemory

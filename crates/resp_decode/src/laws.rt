@@ -1,6 +1,8 @@
 //! Laws of the events of values, each the contract of a function with an empty body.
 
-ghost use Rattle.resp_decode.specs.Laws.{EqualEventsGiveEqualValues, EventsAreTheSameElsewhere, WhatIsBuiltIsNoHeavier};
+ghost use Rattle.resp_decode.specs.Laws.{ASpellingIsReadAsItsValue, ASpellingIsRefusedForMemoryAlone, EqualEventsGiveEqualValues, EventsAreTheSameElsewhere, WhatIsBuiltIsNoHeavier};
+
+use resp_value::laws as grammar;
 
 /// Texts whose events are equal have equal values, so a listener that hears the events knows the
 /// value.
@@ -18,3 +20,13 @@ pub fn events_are_the_same_elsewhere()
 pub fn what_is_built_is_no_heavier()
     ensures { WhatIsBuiltIsNoHeavier }
 {}
+
+/// An input that spells one value, such as the text that `encode` writes, is that value alone to
+/// `decode_all`, which refuses it for want of memory alone.
+pub fn a_spelling_is_read_as_its_value()
+    ensures read { ASpellingIsReadAsItsValue }
+    ensures not_refused { ASpellingIsRefusedForMemoryAlone }
+{
+    grammar::no_spelling_begins_another();
+    grammar::no_spelling_is_empty();
+}
