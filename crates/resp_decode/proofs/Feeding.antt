@@ -157,14 +157,21 @@ refused_byte r front piece fault given w =
       no_value = w.no_value;
     }
   where
-    viable_before : (before : List ℕ) (byte : ℕ) (after : List ℕ) → take (fault.at + 1) (front ++ piece) ≡ before ++ byte ∷ after → IsViable r WithinTotal before
+    viable_before : (before : List ℕ) (byte : ℕ) (after : List ℕ) → take (fault.at + 1) (front ++ piece) ≡ before ++ byte ∷ after →
+        IsViable r WithinTotal before
     viable_before before byte after is =
         let text = front ++ piece in
         let n = fault.at in
         let behind = (byte ∷ after) ++ drop (n + 1) text in
-        let whole : text ≡ before ++ behind = sym (take-append-drop (n + 1) text) ∙ ap (λ z. z ++ drop (n + 1) text) is ∙ append_assoc before (byte ∷ after) (drop (n + 1) text) in
+        let whole : text ≡ before ++ behind = sym (take-append-drop (n + 1) text) ∙ ap (λ z. z ++ drop (n + 1) text) is ∙
+        append_assoc before (byte ∷ after) (drop (n + 1) text) in
         let m = n - length before in
-        let at : n ≡ length before + m = omega (arith, length-take-le (n + 1) text (omega (arith, w.before_end)), ap length is, length-append before (byte ∷ after)) in
+        let at : n ≡ length before + m = omega (
+          arith,
+          length-take-le (n + 1) text (omega (arith, w.before_end)),
+          ap length is,
+          length-append before (byte ∷ after),
+        ) in
         let split : take n text ≡ before ++ take m behind = ap (λ k. take k text) at ∙ ap (take (length before + m)) whole ∙ take-append-add before behind m in
         fronts_of_viable_texts_are_viable r WithinTotal before (take m behind) (subst (IsViable r WithinTotal) split w.viable)
 

@@ -40,7 +40,8 @@ pub reads_value : (r : Rules) (bytes : List ℕ) (old new : Decoder) (values mor
     more ≡ values ++ x ∷ [] → behind ≡ drop used rest → IsReadUpTo r bytes new more behind
 reads_value r bytes old new values more x rest behind used w given same is left =
     let spelled : AreSpellings r (map datum_of values ++ datum_of x ∷ []) (w.front ++ take used rest) =
-    are_spellings-more r (map datum_of values) (datum_of x) w.front (take used rest) w.spelled (subst (λ z. IsSpelling z (datum_of x) (take used rest)) w.same_rules given.spelling) in
+    are_spellings-more r (map datum_of values) (datum_of x) w.front (take used rest) w.spelled
+    (subst (λ z. IsSpelling z (datum_of x) (take used rest)) w.same_rules given.spelling) in
     let listed : map datum_of more ≡ map datum_of values ++ datum_of x ∷ [] = ap (map datum_of) is ∙ map-append datum_of values (x ∷ []) in
     record {
       front = w.front ++ take used rest;

@@ -86,7 +86,7 @@ impl Group {
     /// An aggregate without members, and room for so many members or pairs.
     #[inline]
     pub(crate) fn with_room(alloc: Global, kind: OpenKind, room: usize) -> Result<Group, AllocError>
-        ensures { IfOk result (λ made. group_of made ≡ record { kind = kind_of kind; members = [] }) }
+        ensures { IfOk result (λ g. group_of g ≡ record { kind = kind_of kind; members = [] }) }
     {
         match kind {
             OpenKind::Array => Ok(Group::Array(Vec::with_capacity(alloc, room)?)),

@@ -120,7 +120,8 @@ after_event_kept n w (ToClient i k) a = change_matches (with_shown k) (same_alik
 after_event_kept n w (Push i items) a = change_matches (with_message (push_message items)) (push_alike items) w (replay_of n w.order) i a
 after_event_kept n w (Drop i) a = change_matches as_dropped (same_alike _ (λ c. refl) (λ c. refl)) w (replay_of n w.order) i a
 
-step_kept : (limits : Bounds) (n : ℕ) (w : World) (event : WorldEvent) (outcome : Outcome) (next : World) → Step limits w event outcome next → Kept n w → Kept n next
+step_kept : (limits : Bounds) (n : ℕ) (w : World) (event : WorldEvent) (outcome : Outcome) (next : World) → Step limits w event outcome next → Kept n w →
+    Kept n next
 step_kept limits n w event Done next s a = subst (Kept n) (sym s.2) (after_event_kept n w event a)
 step_kept limits n w event (Refused cause) next s a = subst (Kept n) (sym s.2) a
 step_kept limits n w event Gone next s a = subst (Kept n) (sym s.1) a
@@ -142,7 +143,8 @@ alike_maps f h [] (d ∷ ds) a = absurd a
 alike_maps f h (c ∷ cs) [] a = absurd a
 alike_maps f h (c ∷ cs) (d ∷ ds) a = ap (λ x. x ∷ map f cs) (h c d a.0) ∙ ap (λ l. f d ∷ l) (alike_maps f h cs ds a.1)
 
-pub agrees_with_its_order : (limits : Bounds) (n : ℕ) (events : List WorldEvent) (w : World) → Run limits (new_world n) events w → Agrees w (replay_of n w.order)
+pub agrees_with_its_order : (limits : Bounds) (n : ℕ) (events : List WorldEvent) (w : World) → Run limits (new_world n) events w →
+    Agrees w (replay_of n w.order)
 agrees_with_its_order limits n events w r =
     let m = run_kept limits n (new_world n) events w r (record { store = refl; connections = all_alike (new_world n).connections }) in
     record {

@@ -138,7 +138,8 @@ event_read three go_on stay limits w (Push i items) fine held sent all = change_
     (λ c at r. push_read go_on stay limits items (arrived_requests c) c (λ two. fine NotInVersion (ap version_of at ∙ two)) r) all
 event_read three go_on stay limits w (Drop i) fine held sent all = change_read limits _ w i (λ c at r. r) all
 
-step_read : VersionThreeSpellsWhatTwoDoes → ReadingsGoOn → ReadingsStay → (limits : Bounds) (w : World) (event : WorldEvent) (outcome : Outcome) (next : World) →
+step_read : VersionThreeSpellsWhatTwoDoes → ReadingsGoOn → ReadingsStay →
+    (limits : Bounds) (w : World) (event : WorldEvent) (outcome : Outcome) (next : World) →
     Step limits w event outcome next → AllHold w → AllSent limits w → AllRead limits w → AllRead limits next
 step_read three go_on stay limits w event Done next s held sent all =
     subst (AllRead limits) (sym s.2) (event_read three go_on stay limits w event s.1 held sent all)

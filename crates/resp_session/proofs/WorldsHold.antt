@@ -104,7 +104,8 @@ event_holds w (ToClient i k) all = change_holds _ w i (λ j c h. record { part =
 event_holds w (Push i items) all = change_holds _ w i (push_holds items w.order) all
 event_holds w (Drop i) all = change_holds _ w i (λ j c h. record { part = h.part; within = h.within; replies = h.replies }) all
 
-pub step_holds : (limits : Bounds) (w : World) (event : WorldEvent) (outcome : Outcome) (next : World) → Step limits w event outcome next → AllHold w → AllHold next
+pub step_holds : (limits : Bounds) (w : World) (event : WorldEvent) (outcome : Outcome) (next : World) → Step limits w event outcome next → AllHold w →
+    AllHold next
 step_holds limits w event Done next s all = subst AllHold (sym s.2) (event_holds w event all)
 step_holds limits w event (Refused cause) next s all = subst AllHold (sym s.2) all
 step_holds limits w event Gone next s all = subst AllHold (sym s.1) all

@@ -21,7 +21,8 @@ use Rattle.resp_session.specs.Orders.{OneOrder, IsBeginning, part_of_client}
 -- whatever happens, one order of all commands gives the store, the versions and the replies, and each client's part of
 -- it is a beginning of what the client asked
 abbrev pub AWorldHasOneOrder : Type 0
-AWorldHasOneOrder = (limits : Bounds) (n : ℕ) (events : List WorldEvent) (w : World) → Run limits (new_world n) events w →
+AWorldHasOneOrder = (limits : Bounds) (n : ℕ) (events : List WorldEvent) (w : World) →
+    Run limits (new_world n) events w →
     OneOrder n w
 
 -- a run of events and then of more is cut into a run of the events and one of more

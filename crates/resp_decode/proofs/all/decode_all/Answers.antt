@@ -18,8 +18,10 @@ returns-in-Err-clause-refusal c =
     let w = c.loop-rest.invariant in
     let rest = c.loop-rest.rest.now in
     let number : c.len.result ≡ length c.loop-rest.values.items = omega (arith, c.len.ensures, c.loop-rest.values.ok.0) in
-    refuses_input r c.args.bytes.now c.loop-rest.decoder c.loop-rest.values.items rest (record { value = c.len.result + 1; fault = c.in-Err.fault }) w (omega (arith, number))
-    (refuses_rest r rest c.in-Err.fault (subst (λ z. RefusesByte z [] rest c.in-Err.fault ⊎ LacksMemory z [] rest c.in-Err.fault) w.same_rules (c.in-Err.ensures.refusal [] w.takes)))
+    refuses_input r c.args.bytes.now c.loop-rest.decoder c.loop-rest.values.items rest (record { value = c.len.result + 1; fault = c.in-Err.fault }) w
+    (omega (arith, number))
+    (refuses_rest r rest c.in-Err.fault (subst (λ z. RefusesByte z [] rest c.in-Err.fault ⊎ LacksMemory z [] rest c.in-Err.fault) w.same_rules
+    (c.in-Err.ensures.refusal [] w.takes)))
 
 pub returns-in_default-clause-refusal : goal.returns-in_default-clause-refusal
 returns-in_default-clause-refusal c =
@@ -33,7 +35,8 @@ returns-in_default-clause-refusal c =
     let used = subst (λ z. TakesPiece z c.feed.new.self rest rest c.in-Ok.fed.used) w.same_rules (c.in-Ok.ensures.used_up [] w.takes none) in
     let names : fault.cause ≡ cause.Truncated = ap (λ f. let z : Fault = f in z.cause) c.fault_at.ensures in
     let place : fault.at ≡ length rest = ap (λ f. let z : Fault = f in z.at) c.fault_at.ensures ∙ search rules in
-    refuses_input r c.args.bytes.now c.loop-rest.decoder c.loop-rest.values.items rest (record { value = c.len.result + 1; fault = fault }) w (omega (arith, number))
+    refuses_input r c.args.bytes.now c.loop-rest.decoder c.loop-rest.values.items rest (record { value = c.len.result + 1; fault = fault }) w
+    (omega (arith, number))
     (ends_inside r c.feed.new.self rest c.in-Ok.fed.used fault used full names place)
 
 pub returns-then-is_err-clause-refusal : goal.returns-then-is_err-clause-refusal
@@ -44,7 +47,8 @@ returns-then-is_err-clause-refusal c =
     let fault = c.fault_at-then-is_err.result in
     let number : c.len.result ≡ length c.loop-rest.values.items = omega (arith, c.len.ensures, c.loop-rest.values.ok.0) in
     let names : fault.cause ≡ cause.OutOfMemory = ap (λ f. let z : Fault = f in z.cause) c.fault_at-then-is_err.ensures in
-    refuses_input r c.args.bytes.now c.loop-rest.decoder c.loop-rest.values.items rest (record { value = c.len.result + 1; fault = fault }) w (omega (arith, number))
+    refuses_input r c.args.bytes.now c.loop-rest.decoder c.loop-rest.values.items rest (record { value = c.len.result + 1; fault = fault }) w
+    (omega (arith, number))
     (inr (inr names))
 
 pub loop-rest-smaller : goal.loop-rest-smaller
@@ -61,7 +65,9 @@ loop-rest-preserved c =
     let w = c.loop-rest.invariant in
     let rest = c.loop-rest.rest.now in
     reads_value r c.args.bytes.now c.loop-rest.decoder c.feed.new.self c.loop-rest.values.items c.push.new.self.items c.in-Some.value rest _ c.in-Ok.fed.used w
-    (c.in-Ok.ensures.value_whole [] w.takes c.in-Some.value c.in-Some.is) c.in-Ok.ensures.same_rules (search rules) (bytes_behind c.in-Ok.fed.used (length rest) rest refl)
+    (c.in-Ok.ensures.value_whole [] w.takes c.in-Some.value c.in-Some.is) c.in-Ok.ensures.same_rules (search rules)
+    (bytes_behind c.in-Ok.fed.used (length rest) rest refl)
 
 pub returns-clause-whole_input : goal.returns-clause-whole_input
-returns-clause-whole_input c = reads_all (rules_under c.args.version c.args.limits.now) c.args.bytes.now c.loop-rest.decoder c.loop-rest.values.items c.loop-rest.rest.now c.loop-rest.invariant (search rules)
+returns-clause-whole_input c = reads_all (rules_under c.args.version c.args.limits.now) c.args.bytes.now c.loop-rest.decoder c.loop-rest.values.items
+    c.loop-rest.rest.now c.loop-rest.invariant (search rules)
