@@ -13,6 +13,8 @@ use std::alloc::{AllocError, Global};
 use std::process::Abort;
 use std::test::Fail;
 
+mod limits;
+
 fn add(out: &mut Vec<u8>, text: &[u8]) -> Result<(), AllocError> {
     out.extend_from_slice(text)
 }
@@ -22,8 +24,22 @@ fn add_number(alloc: Global, out: &mut Vec<u8>, number: u64) -> Result<(), Alloc
     add(out, text.as_str().as_bytes())
 }
 
+/// A text within brackets, behind a mark of its kind.
+fn add_text(out: &mut Vec<u8>, mark: &[u8], text: &[u8]) -> Result<(), AllocError> {
+    add(out, mark)?;
+    add(out, b"[")?;
+    add(out, text)?;
+    add(out, b"]")
+}
+
 #[cycle(add_value)]
-fn add_members(alloc: Global, out: &mut Vec<u8>, members: &[Value]) -> Result<(), AllocError> {
+fn add_members(
+    alloc: Global,
+    out: &mut Vec<u8>,
+    mark: &[u8],
+    members: &[Value],
+) -> Result<(), AllocError> {
+    add(out, mark)?;
     for member in members {
         add_value(alloc, out, member)?;
     }
@@ -50,54 +66,21 @@ fn add_value(alloc: Global, out: &mut Vec<u8>, value: &Value) -> Result<(), Allo
             let text = format!(in alloc; "{number};")?;
             add(out, text.as_str().as_bytes())
         }
-        Value::Simple(line) => {
-            add(out, b"+[")?;
-            add(out, line.text())?;
-            add(out, b"]")
-        }
-        Value::Error(line) => {
-            add(out, b"-[")?;
-            add(out, line.text())?;
-            add(out, b"]")
-        }
-        Value::Bulk(content) => {
-            add(out, b"$[")?;
-            add(out, content.list())?;
-            add(out, b"]")
-        }
-        Value::BulkError(content) => {
-            add(out, b"![")?;
-            add(out, content.list())?;
-            add(out, b"]")
-        }
+        Value::Simple(line) => add_text(out, b"+", line.text()),
+        Value::Error(line) => add_text(out, b"-", line.text()),
+        Value::Bulk(content) => add_text(out, b"$", content.list()),
+        Value::BulkError(content) => add_text(out, b"!", content.list()),
         Value::Verbatim(format, content) => {
             add(out, b"=")?;
-            add(out, format.as_slice())?;
-            add(out, b"[")?;
-            add(out, content.list())?;
-            add(out, b"]")
+            add_text(out, format.as_slice(), content.list())
         }
         Value::Big(digits) => {
-            if digits.is_negative() {
-                add(out, b"(-[")?;
-            } else {
-                add(out, b"([")?;
-            }
-            add(out, digits.digits())?;
-            add(out, b"]")
+            let sign: &[u8] = if digits.is_negative() { b"(-" } else { b"(" };
+            add_text(out, sign, digits.digits())
         }
-        Value::Array(members) => {
-            add(out, b"*{")?;
-            add_members(alloc, out, members.list())
-        }
-        Value::Set(members) => {
-            add(out, b"~{")?;
-            add_members(alloc, out, members.list())
-        }
-        Value::Push(members) => {
-            add(out, b">{")?;
-            add_members(alloc, out, members.list())
-        }
+        Value::Array(members) => add_members(alloc, out, b"*{", members.list()),
+        Value::Set(members) => add_members(alloc, out, b"~{", members.list()),
+        Value::Push(members) => add_members(alloc, out, b">{", members.list()),
         Value::Map(pairs) => {
             add(out, b"%{")?;
             add_pairs(alloc, out, pairs.list())
@@ -179,7 +162,7 @@ fn spell(
 }
 
 /// Rows of version 3 under the standard limits.
-const ROWS: [(&[u8], &str); 20] = [
+const ROWS: [(&[u8], &str); 21] = [
     (b"", ""),
     (b"+OK\r\n", "+[OK]#5."),
     (b"$0\r\n\r\n", "$[]#6."),
@@ -204,6 +187,10 @@ const ROWS: [(&[u8], &str); 20] = [
         "%{+[a]=*{1;true;}null;=~{-[e]}}#31.",
     ),
     (b">2\r\n%0\r\n!1\r\nx\r\n:7\r\n", ">{%{}![x]}#15.7;#4."),
+    (
+        b"~2\r\n#t\r\n%1\r\n$1\r\n\"\r\n_\r\n",
+        "~{true;%{$[\"]=null;}}#22.",
+    ),
     (b",3", "!Double@0"),
     (b"*2\r\n+a\r\n$5\r\nhel", "!Truncated@15"),
 ];
