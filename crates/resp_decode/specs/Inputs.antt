@@ -1,5 +1,5 @@
 -- What is read of a whole input.
-use Rattle.std.specs.Prelude.{◌≡◌, ◌⊎◌, ℕ, ◌+◌, ◌<◌, List, [], ◌++◌, length, map}
+use Rattle.std.specs.Prelude.{◌≡◌, ◌⊎◌, ℕ, ◌+◌, ◌<◌, ◌≤◌, List, [], ◌++◌, length, take, map}
 use Rattle.resp_value.specs.Data.{Datum}
 use Rattle.resp_value.specs.Rules.{Rules, WithinTotal}
 use Rattle.resp_value.specs.Spellings.{AreSpellings, IsViable}
@@ -21,9 +21,16 @@ pub record EndsInside (r : Rules) (rest : List ℕ) (fault : Fault) : Type 0 whe
   pub viable : IsViable r WithinTotal rest
   pub no_value : HasNoValue rest
 
--- a byte of the rest is refused, or it ends inside a value, or no memory was found
+-- no memory was found for the value that the rest begins, behind bytes that are viable
+pub record WantsMemory (r : Rules) (rest : List ℕ) (fault : Fault) : Type 0 where
+  pub names : fault.cause ≡ cause.OutOfMemory
+  pub begun : 0 < length rest
+  pub within : fault.at ≤ length rest
+  pub viable : IsViable r WithinTotal (take fault.at rest)
+
+-- a byte of the rest is refused, or it ends inside a value, or no memory was found for it
 abbrev pub RefusesRest : Rules → List ℕ → Fault → Type 0
-RefusesRest r rest fault = RefusesByte r [] rest fault ⊎ EndsInside r rest fault ⊎ (fault.cause ≡ cause.OutOfMemory)
+RefusesRest r rest fault = RefusesByte r [] rest fault ⊎ EndsInside r rest fault ⊎ WantsMemory r rest fault
 
 -- the input is spellings of some values, and a rest that is refused as the value behind them
 pub record RefusesInput (r : Rules) (bytes : List ℕ) (refusal : AllFault) : Type 0 where

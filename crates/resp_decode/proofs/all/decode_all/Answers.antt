@@ -1,11 +1,11 @@
-use Rattle.std.proofs.Common.{rules, ◌≡◌, ◌<◌, ◌+◌, None, ◌⊎◌, inr, [], length, subst, ap, refl, ◌∙◌, arith}
+use Rattle.std.proofs.Common.{rules, ◌≡◌, ◌<◌, ◌+◌, None, ◌⊎◌, [], length, take, subst, ap, refl, ◌∙◌, arith}
 use Rattle.std.proofs.lemmas.List.{length-drop}
 use Rattle.resp_value.specs.Rules.{rules_under}
 use Rattle.resp_value.specs.declared.cause.Cause.TheVariants as cause
 use Rattle.resp_scan.specs.declared.event.Fault.{Fault}
 use Rattle.resp_scan.specs.Kinds.{rules_of}
-use Rattle.resp_decode.specs.Decoding.{LacksMemory, RefusesByte, TakesPiece}
-use Rattle.resp_decode.proofs.ReadingInputs.{bytes_behind, ends_inside, reads_all, reads_nothing, reads_value, refuses_input, refuses_rest, value_uses_bytes}
+use Rattle.resp_decode.specs.Decoding.{GivesValue, LacksMemory, RefusesByte, TakesPiece}
+use Rattle.resp_decode.proofs.ReadingInputs.{bytes_behind, ends_inside, lacks_room, reads_all, reads_nothing, reads_value, refuses_input, refuses_rest, value_uses_bytes}
 use Rattle.resp_decode.proofs.all.decode_all.Goals as goal
 
 pub loop-rest-init : goal.loop-rest-init
@@ -20,7 +20,7 @@ returns-in-Err-clause-refusal c =
     let number : c.len.result ≡ length c.loop-rest.values.items = omega (arith, c.len.ensures, c.loop-rest.values.ok.0) in
     refuses_input r c.args.bytes.now c.loop-rest.decoder c.loop-rest.values.items rest (record { value = c.len.result + 1; fault = c.in-Err.fault }) w
     (omega (arith, number))
-    (refuses_rest r rest c.in-Err.fault (subst (λ z. RefusesByte z [] rest c.in-Err.fault ⊎ LacksMemory z [] rest c.in-Err.fault) w.same_rules
+    (refuses_rest r rest c.in-Err.fault (search rules) (subst (λ z. RefusesByte z [] rest c.in-Err.fault ⊎ LacksMemory z [] rest c.in-Err.fault) w.same_rules
     (c.in-Err.ensures.refusal [] w.takes)))
 
 pub returns-in_default-clause-refusal : goal.returns-in_default-clause-refusal
@@ -47,9 +47,12 @@ returns-then-is_err-clause-refusal c =
     let fault = c.fault_at-then-is_err.result in
     let number : c.len.result ≡ length c.loop-rest.values.items = omega (arith, c.len.ensures, c.loop-rest.values.ok.0) in
     let names : fault.cause ≡ cause.OutOfMemory = ap (λ f. let z : Fault = f in z.cause) c.fault_at-then-is_err.ensures in
+    let place : fault.at ≡ c.in-Ok.fed.used = ap (λ f. let z : Fault = f in z.at) c.fault_at-then-is_err.ensures in
+    let given = subst (λ z. GivesValue z c.feed.new.self (take c.in-Ok.fed.used rest) c.in-Some.value) w.same_rules
+        (c.in-Ok.ensures.value_whole [] w.takes c.in-Some.value c.in-Some.is) in
     refuses_input r c.args.bytes.now c.loop-rest.decoder c.loop-rest.values.items rest (record { value = c.len.result + 1; fault = fault }) w
     (omega (arith, number))
-    (inr (inr names))
+    (lacks_room r c.feed.new.self c.in-Some.value rest c.in-Ok.fed.used fault given (search rules) c.in-Ok.ensures.within_piece names place)
 
 pub loop-rest-smaller : goal.loop-rest-smaller
 loop-rest-smaller c =
