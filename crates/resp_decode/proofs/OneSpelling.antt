@@ -1,5 +1,5 @@
 -- A text that spells one value is read as that value, and nothing is left behind it.
-use Rattle.std.proofs.Common.{◌≡◌, ◌⊎◌, inl, inr, ℕ, ◌+◌, ◌<◌, List, [], ◌∷◌, ◌++◌, length, take, refl, sym, ap, subst, ◌∙◌, append_assoc, length-append, arith}
+use Rattle.std.proofs.Common.{◌≡◌, inl, inr, ℕ, List, [], ◌∷◌, ◌++◌, length, refl, sym, ap, subst, ◌∙◌, append_assoc, length-append, arith}
 use Rattle.std.proofs.lemmas.List.{append-nil, take_all}
 use Rattle.resp_value.specs.Data.{Datum}
 use Rattle.resp_value.specs.Laws.{NoSpellingBeginsAnother, NoSpellingIsEmpty}

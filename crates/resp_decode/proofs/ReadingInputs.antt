@@ -78,7 +78,7 @@ viable_spelling : (r : Rules) (x : Datum) (text : List ℕ) → IsSpelling r x t
 viable_spelling r x text s = record {
   rest = [];
   tree = s.tree;
-  spells = subst (Spells s.tree) (append-nil text) s.spells;
+  spells = subst (Spells s.tree) (sym (append-nil text)) s.spells;
   keeps = s.keeps;
 }
 

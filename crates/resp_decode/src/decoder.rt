@@ -71,8 +71,6 @@ impl Decoder {
             Err(stop) => return Err(fault_of(stop)),
         };
         let used = scanned.used;
-        // What was taken is viable, as the scanner says of it here.
-        let _taken = self.scanner.taken();
         if !scanned.is_whole {
             return Ok(Fed { used, value: None });
         }

@@ -1,6 +1,6 @@
 //! Open aggregates, and their finished members.
 
-ghost use Rattle.std.specs.Prelude.{◌≡◌, [], ◌∷◌, ◌++◌, length, OnOk, IfOk, IfSome};
+ghost use Rattle.std.specs.Prelude.{◌≡◌, ◌≤◌, [], ◌∷◌, ◌++◌, length, OnOk, IfOk, IfSome};
 ghost use Rattle.resp_value.specs.Data.{aggregate, data_of_list};
 ghost use Rattle.resp_value.specs.Kinds.{kind_of};
 ghost use Rattle.resp_value.specs.Values.{datum_of};
@@ -86,6 +86,7 @@ impl Group {
     /// An aggregate without members, and room for so many members or pairs.
     #[inline]
     pub(crate) fn with_room(alloc: Global, kind: OpenKind, room: usize) -> Result<Group, AllocError>
+        requires few_at_most { room ≤ 16 }
         ensures { IfOk result (λ g. group_of g ≡ record { kind = kind_of kind; members = [] }) }
     {
         match kind {

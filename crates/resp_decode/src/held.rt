@@ -1,7 +1,7 @@
 //! What has come of a value: the open aggregates with their finished members, and the text that is
 //! being read.
 
-ghost use Rattle.std.specs.Prelude.{◌≡◌, ◌+◌, ◌-◌, ◌^◌, [], ◌∷◌, true, false, None, min, OnOk, OnErr};
+ghost use Rattle.std.specs.Prelude.{◌≡◌, ◌≤◌, ◌+◌, ◌-◌, ◌^◌, [], ◌∷◌, true, false, None, min, OnOk, OnErr};
 ghost use Rattle.resp_fronts.specs.Events as e;
 ghost use Rattle.resp_scan.specs.Kinds.{content_events, text_kind_of};
 ghost use Rattle.resp_scan.specs.Listening.{IsTextOf, whole_text_events};
@@ -251,7 +251,9 @@ impl Listener for Held {
 
 /// How many members or pairs are reserved: a number in a head is never believed beyond a few.
 #[inline]
-fn reserved(count: Option<u64>) -> usize {
+fn reserved(count: Option<u64>) -> usize
+    ensures { result ≤ 16 }
+{
     match count {
         Some(number) => number.min(MOST_RESERVED) as usize,
         None => 0,

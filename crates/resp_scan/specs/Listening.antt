@@ -12,7 +12,7 @@ use Rattle.resp_scan.specs.declared.event.Scanned.{Scanned}
 use Rattle.resp_scan.specs.declared.event.ScanError as error
 use Rattle.resp_scan.specs.declared.event.ScanError.TheVariants as stop
 use Rattle.resp_value.specs.declared.cause.Cause.TheVariants as cause
-use Rattle.resp_scan.specs.Kinds.{content_events, text_kind_of}
+use Rattle.resp_scan.specs.Kinds.{content_events, rules_of, text_kind_of}
 use Rattle.resp_scan.specs.Machine.Tokens.{Place}
 use Rattle.resp_scan.specs.Reading.{AreDue, BeginDue, Events, HasNoValue, HasRead, IsRefused, IsValue}
 
@@ -56,9 +56,10 @@ pub record HearsValue (r : Rules) (s : Place) (HasHeard : Events → Type 0) (wr
   pub has_heard : HasHeard heard
   pub reads : HasRead s [] []
 
--- The piece is used up: no value has ended, and the listener has heard all events that are due.
+-- The piece is used up: what came is viable, no value has ended, and the listener has heard all events that are due.
 pub record HearsPiece (s : Place) (HasHeard : Events → Type 0) (written : List ℕ) : Type 0 where
   pub heard : Events
+  pub viable : IsViable (rules_of s) WithinTotal written
   pub no_value : HasNoValue written
   pub all_due : AreDue written heard
   pub has_heard : HasHeard heard

@@ -12,7 +12,7 @@ use Rattle.resp_scan.specs.declared.event.Step.{Step}
 use Rattle.resp_scan.specs.declared.event.Fault.{Fault}
 use Rattle.resp_scan.specs.Machine.Tokens.{Dead, Place}
 use Rattle.resp_value.specs.Kinds.{kind_of}
-use Rattle.resp_scan.specs.Kinds.{IsRefusedFor, content_events, text_kind_of}
+use Rattle.resp_scan.specs.Kinds.{IsRefusedFor, content_events, rules_of, text_kind_of}
 use Rattle.resp_scan.specs.Machine.Standing.{StandsAfter}
 
 -- the events given since a value began, content byte by byte
@@ -114,9 +114,11 @@ OnOtherEvent (Some event) P = P event
 abbrev pub IfOtherEvent : Result Step Fault → (ℕ → Event → Type 0) → Type 0
 IfOtherEvent result P = IfOk result (λ step. OnOtherEvent step.event (P step.used))
 
--- the piece is used up: no value has ended, all events due were given, and the longer front was read
+-- the piece is used up: what came is viable, no value has ended, all events due were given, and the longer front was
+-- read
 pub record UsesUp (s : Place) (front : List ℕ) (given : Events) (piece : List ℕ) (used : ℕ) : Type 0 where
   pub whole_piece : used ≡ length piece
+  pub viable : IsViable (rules_of s) WithinTotal (front ++ piece)
   pub no_value : HasNoValue (front ++ piece)
   pub all_due : AreDue (front ++ piece) given
   pub reads : HasRead s (front ++ piece) given

@@ -138,6 +138,7 @@ piece_heard s₀ s t H₀ H H' M piece used turned r v more front given w had =
     let all = bytes_all front piece used in
     record {
       heard = given ++ a.told;
+      viable = subst (IsViable (rules_of t) WithinTotal) all b.0.viable;
       no_value = subst HasNoValue all b.0.no_value;
       all_due = subst (λ z. AreDue z (given ++ a.told)) all b.0.all_due;
       has_heard = b.1;

@@ -115,10 +115,11 @@ pub heard_is : (s t : Place) (front : List â„•) (es : List e.Event) (p : List â„
 heard_is s t front es p n None taken fits part h =
     let reads : HasRead t (front ++ p) es = record { stands = h.5; taken = omega (arith, taken, h.1, h.0, length-append front p) } in
     let due = all_due t 0 (front ++ p) es h.2 (looked_on t.token n h.4) h.5 in
+    let viable = followed_is_viable t 0 (front ++ p) es h.2 (omega (arith, reads.taken)) h.5 in
     record {
       whole_piece = h.0;
-      no_value = no_value (rules_of t) (front ++ p) es (followed_is_viable t 0 (front ++ p) es h.2 (omega (arith, reads.taken)) h.5) due
-          (no_done_given t (front ++ p) es h.5);
+      viable = viable;
+      no_value = no_value (rules_of t) (front ++ p) es viable due (no_done_given t (front ++ p) es h.5);
       all_due = due;
       reads = reads;
     }

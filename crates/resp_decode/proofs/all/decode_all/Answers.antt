@@ -49,7 +49,7 @@ returns-then-is_err-clause-refusal c =
     let names : fault.cause ≡ cause.OutOfMemory = ap (λ f. let z : Fault = f in z.cause) c.fault_at-then-is_err.ensures in
     let place : fault.at ≡ c.in-Ok.fed.used = ap (λ f. let z : Fault = f in z.at) c.fault_at-then-is_err.ensures in
     let given = subst (λ z. GivesValue z c.feed.new.self (take c.in-Ok.fed.used rest) c.in-Some.value) w.same_rules
-        (c.in-Ok.ensures.value_whole [] w.takes c.in-Some.value c.in-Some.is) in
+    (c.in-Ok.ensures.value_whole [] w.takes c.in-Some.value c.in-Some.is) in
     refuses_input r c.args.bytes.now c.loop-rest.decoder c.loop-rest.values.items rest (record { value = c.len.result + 1; fault = fault }) w
     (omega (arith, number))
     (lacks_room r c.feed.new.self c.in-Some.value rest c.in-Ok.fed.used fault given (search rules) c.in-Ok.ensures.within_piece names place)
