@@ -1,8 +1,9 @@
-/* How long the reader of hiredis takes the texts of bench_scan, by object functions that build nothing.
+/* How long the reader of hiredis takes the texts of bench_scan, by object functions that build nothing, or with the
+ * argument `trees` by its own, each reply freed.
  *
- * It prints the lines of bench_scan, of the same texts in the same pieces: with no argument of short texts, and with
- * the argument `times` of longer ones, 32 MiB in all for each, with microseconds, or with `once` of these read a single
- * time. Where the counts differ, the two didn't read the same. */
+ * It prints the lines of bench_scan, of the same texts in the same pieces: with no other argument of short texts, and
+ * with `times` of longer ones, 32 MiB in all for each, with microseconds, or with `once` of these read a single time.
+ * With `peak` it reads one array of a million bulk strings. Where the counts differ, the two didn't read the same. */
 
 #include <hiredis/hiredis.h>
 #include <stdio.h>
@@ -85,6 +86,26 @@ static void stop(const char *why)
 	exit(1);
 }
 
+/* Whether replies are built. */
+static int trees;
+
+/* Counts of a reply that was built what lies in itself, and how many members it has, and frees it. */
+static void count_built(redisReply *reply)
+{
+	tally.values += 1 + reply->elements;
+	tally.content += reply->len;
+	tally.sum += reply->integer;
+	freeReplyObject(reply);
+}
+
+static redisReader *new_reader(void)
+{
+	redisReader *reader = trees ? redisReaderCreate() : redisReaderCreateWithFunctions(&functions);
+	if (reader == NULL)
+		stop("no memory");
+	return reader;
+}
+
 static void read_piece(redisReader *reader, const char *piece, size_t length)
 {
 	void *reply;
@@ -95,6 +116,8 @@ static void read_piece(redisReader *reader, const char *piece, size_t length)
 			stop(reader->errstr);
 		if (reply != NULL)
 			tally.replies++;
+		if (reply != NULL && trees)
+			count_built(reply);
 	} while (reply != NULL);
 }
 
@@ -111,9 +134,7 @@ __attribute__((noinline)) static void read_text(redisReader *reader, const char 
 /* Reads the text in pieces of so many bytes, so often, and prints what it counted. */
 static void count(const char *name, const char *text, size_t length, size_t size, int rounds)
 {
-	redisReader *reader = redisReaderCreateWithFunctions(&functions);
-	if (reader == NULL)
-		stop("no memory");
+	redisReader *reader = new_reader();
 	memset(&tally, 0, sizeof tally);
 	clock_t start = clock();
 	for (int round = 0; round < (rounds > 0 ? rounds : 1); round++)
@@ -166,13 +187,35 @@ static void run_members(const char *name, const char *head, const char *member, 
 	run(name, unit, strlen(unit), rounds);
 }
 
+/* Reads one array of a million bulk strings of eight bytes, in pieces of a thousand members. */
+static void read_million(void)
+{
+	static char piece[UNIT_ROOM];
+	redisReader *reader = new_reader();
+	for (int i = 0; i < 1000; i++)
+		strcat(piece, "$8\r\nxxxxxxxx\r\n");
+	read_text(reader, "*1000000\r\n", 10, UNIT_ROOM);
+	for (int i = 0; i < 1000; i++)
+		read_text(reader, piece, strlen(piece), UNIT_ROOM);
+	redisReaderFree(reader);
+	printf("%llu replies, %llu values\n", tally.replies, tally.values);
+}
+
 int main(int argc, char **argv)
 {
 	int rounds = 0;
-	if (argc > 1 && strcmp(argv[1], "times") == 0)
-		rounds = ROUNDS;
-	if (argc > 1 && strcmp(argv[1], "once") == 0)
-		rounds = 1;
+	for (int i = 1; i < argc; i++) {
+		if (strcmp(argv[i], "times") == 0)
+			rounds = ROUNDS;
+		if (strcmp(argv[i], "once") == 0)
+			rounds = 1;
+		if (strcmp(argv[i], "trees") == 0)
+			trees = 1;
+	}
+	if (argc > 1 && strcmp(argv[1], "peak") == 0) {
+		read_million();
+		return 0;
+	}
 	run("simple OK", "+OK\r\n", 5, rounds);
 	run("integers", ":123456\r\n", 9, rounds);
 	run_filled("80-byte lines", "+", 80, rounds);

@@ -1,5 +1,5 @@
-# Of the lines `TEXT: COUNTS; N` of three files, the least number of each text in each file, and the ratios of the first
-# two to the last. Instructions are those for a reply. Stops where two counted differently.
+# Of the lines `TEXT: COUNTS; N` of several files, the least number of each text in each file, and the ratios of each to
+# the last. `names` has a name for each file. Instructions are those for a reply. Stops where two counted differently.
 
 {
     split($0, half, "; ")
@@ -26,10 +26,16 @@
 
 END {
     if (failed) exit 1
-    printf "%-34s %10s %10s %10s %8s %8s\n", unit, "steps", "loop", "hiredis", "steps", "loop"
-    for (i = 1; i <= many; i++) {
-        text = texts[i]
-        printf "%-34s %10d %10d %10d %8.3f %8.3f\n", text, least[1, text], least[2, text], least[3, text],
-               least[1, text] / least[3, text], least[2, text] / least[3, text]
+    sides = split(names, name, " ")
+    printf "%-34s", unit
+    for (i = 1; i <= sides; i++) printf " %10s", name[i]
+    for (i = 1; i < sides; i++) printf " %8s", name[i]
+    printf "\n"
+    for (t = 1; t <= many; t++) {
+        text = texts[t]
+        printf "%-34s", text
+        for (i = 1; i <= sides; i++) printf " %10d", least[i, text]
+        for (i = 1; i < sides; i++) printf " %8.3f", least[i, text] / least[sides, text]
+        printf "\n"
     }
 }

@@ -1,16 +1,19 @@
-//! How long the scanner takes a text, to be laid beside another reader of the same text.
+//! How long the scanner and the decoder take a text, to be laid beside another reader of it.
 //!
-//! With no argument it scans short texts in pieces of several sizes, by steps and by the loop, and
-//! prints what it counted, the same on every run. With the argument `times` it scans longer ones in
-//! pieces of two sizes, 32 MiB in all for each, and prints microseconds too; with `once` it scans
-//! these a single time. Of the two calls it then takes the loop, or with the argument `steps` the
-//! other.
+//! With no argument it reads short texts in pieces of several sizes, by steps, by the loop and by
+//! the decoder, and prints what it counted, the same on every run. With the argument `times` it
+//! reads longer ones in pieces of two sizes, 32 MiB in all for each, and prints microseconds too;
+//! with `once` it reads these a single time. It then takes the scanner's loop, or with the argument
+//! `steps` or `trees` the steps or the decoder. With `peak` it decodes one array of a million bulk
+//! strings and nothing else.
 #![tactic(auto)]
 
 mod tally;
 mod texts;
+mod trees;
 
 use anyhow::Result;
+use resp_decode::Decoder;
 use resp_scan::scanner::Scanner;
 use resp_value::limits::Limits;
 use resp_value::version::Version;
@@ -18,6 +21,7 @@ use std::alloc::Global;
 use std::env::{self, Env};
 use std::time::CpuClock;
 use tally::{Call, Tally, scan_text, step_text};
+use trees::decode_text;
 
 /// The least length of a text that is only counted.
 const SHORT: usize = 4_096;
@@ -29,35 +33,63 @@ const LONG: usize = 262_144;
 /// How often such a text is scanned for its time: 32 MiB in all.
 const ROUNDS: usize = 128;
 
+/// The size of the pieces of a text that is measured for its memory.
+const PIECE: usize = 16_384;
+
 /// What is done with each text.
 #[derive(Clone, Copy)]
 enum Task {
-    /// It is scanned in pieces of several sizes by both calls, and counted.
+    /// It is read in pieces of several sizes by each call, and counted.
     Count,
-    /// It is scanned so often by one call, and timed.
+    /// It is read so often by one call, and timed.
     Measure { call: Call, rounds: usize },
 }
 
-fn read_text(
-    call: Call,
-    scanner: &mut Scanner,
-    text: &[u8],
-    size: usize,
-    tally: &mut Tally,
-) -> Result<()> {
-    match call {
-        Call::Step => step_text(scanner, text, size, tally)?,
-        Call::Scan => scan_text(scanner, text, size, tally)?,
+/// A scanner and a decoder, of which a call takes one.
+#[derive(Drop)]
+struct Readers {
+    scanner: Scanner,
+    decoder: Decoder,
+}
+
+impl Readers {
+    fn new(alloc: Global) -> Readers {
+        let limits = Limits::standard();
+        Readers {
+            scanner: Scanner::new(Version::Three, &limits),
+            decoder: Decoder::new(alloc, Version::Three, &limits),
+        }
     }
-    Ok(())
+
+    fn read(&mut self, call: Call, text: &[u8], size: usize, tally: &mut Tally) -> Result<()> {
+        match call {
+            Call::Step => step_text(&mut self.scanner, text, size, tally)?,
+            Call::Scan => scan_text(&mut self.scanner, text, size, tally)?,
+            Call::Decode => decode_text(&mut self.decoder, text, size, tally)?,
+        }
+        Ok(())
+    }
+
+    fn finish(&self) -> Result<()> {
+        self.scanner.finish()?;
+        self.decoder.finish()?;
+        Ok(())
+    }
 }
 
 /// Prints a line of counts, and with them the events.
-fn count(rt: &impl Print, call: Call, name: &str, text: &[u8], size: usize) -> Result<()> {
-    let mut scanner = Scanner::new(Version::Three, &Limits::standard());
+fn count(
+    rt: &impl Print,
+    alloc: Global,
+    call: Call,
+    name: &str,
+    text: &[u8],
+    size: usize,
+) -> Result<()> {
+    let mut readers = Readers::new(alloc);
     let mut tally = Tally::new();
-    read_text(call, &mut scanner, text, size, &mut tally)?;
-    scanner.finish()?;
+    readers.read(call, text, size, &mut tally)?;
+    readers.finish()?;
     let events = tally.events();
     print_counts(rt, name, size, &tally)?;
     println!(rt; "{events} events")?;
@@ -67,20 +99,21 @@ fn count(rt: &impl Print, call: Call, name: &str, text: &[u8], size: usize) -> R
 /// Prints a line of counts, and with them microseconds of this thread's processor time.
 fn measure(
     rt: &(impl Print + CpuClock),
+    alloc: Global,
     call: Call,
     rounds: usize,
     name: &str,
     text: &[u8],
     size: usize,
 ) -> Result<()> {
-    let mut scanner = Scanner::new(Version::Three, &Limits::standard());
+    let mut readers = Readers::new(alloc);
     let mut tally = Tally::new();
     let start = rt.thread_cpu_time()?.as_nanos();
     for _ in 0..rounds {
-        read_text(call, &mut scanner, text, size, &mut tally)?;
+        readers.read(call, text, size, &mut tally)?;
     }
     let end = rt.thread_cpu_time()?.as_nanos();
-    scanner.finish()?;
+    readers.finish()?;
     let micros = end.saturating_sub(start) / 1_000;
     print_counts(rt, name, size, &tally)?;
     println!(rt; "{micros} us")?;
@@ -97,7 +130,7 @@ fn print_counts(rt: &impl Print, name: &str, size: usize, tally: &Tally) -> Resu
     Ok(())
 }
 
-/// Scans a text that is made of this one, in pieces of each size.
+/// Reads a text that is made of this one, in pieces of each size.
 fn run(
     rt: &(impl Print + CpuClock),
     alloc: Global,
@@ -109,21 +142,45 @@ fn run(
         Task::Measure { call, rounds } => {
             let all = texts::repeated(alloc, text.as_slice(), LONG)?;
             for size in [4_096, 16_384] {
-                measure(rt, call, rounds, name, all.as_slice(), size)?;
+                measure(rt, alloc, call, rounds, name, all.as_slice(), size)?;
             }
         }
         Task::Count => {
             let all = texts::repeated(alloc, text.as_slice(), SHORT)?;
             for size in [1, 7, 1_000, 4_096, 16_384] {
-                count(rt, Call::Step, name, all.as_slice(), size)?;
-                count(rt, Call::Scan, name, all.as_slice(), size)?;
+                count(rt, alloc, Call::Step, name, all.as_slice(), size)?;
+                count(rt, alloc, Call::Scan, name, all.as_slice(), size)?;
+                count(rt, alloc, Call::Decode, name, all.as_slice(), size)?;
             }
         }
     }
     Ok(())
 }
 
-fn asked_for(rt: &(impl Env + Alloc)) -> Result<Task> {
+/// Decodes one array of a million bulk strings of eight bytes, in pieces of a thousand members.
+fn decode_million(rt: &impl Print, alloc: Global) -> Result<()> {
+    let mut piece = Vec::new(alloc);
+    for _ in 0..1_000 {
+        piece.extend_from_slice(b"$8\r\nxxxxxxxx\r\n")?;
+    }
+    let mut decoder = Decoder::new(alloc, Version::Three, &Limits::standard());
+    let mut tally = Tally::new();
+    decode_text(&mut decoder, b"*1000000\r\n", PIECE, &mut tally)?;
+    for _ in 0..1_000 {
+        decode_text(&mut decoder, piece.as_slice(), PIECE, &mut tally)?;
+    }
+    print_counts(rt, "array of a million bulks", PIECE, &tally)?;
+    println!(rt; "one value")?;
+    Ok(())
+}
+
+/// What is done.
+enum Asked {
+    Texts(Task),
+    Peak,
+}
+
+fn asked_for(rt: &(impl Env + Alloc)) -> Result<Asked> {
     let mut call = Call::Scan;
     let mut rounds = 0;
     for word in env::args(rt)? {
@@ -131,18 +188,23 @@ fn asked_for(rt: &(impl Env + Alloc)) -> Result<Task> {
             "times" => rounds = ROUNDS,
             "once" => rounds = 1,
             "steps" => call = Call::Step,
+            "trees" => call = Call::Decode,
+            "peak" => return Ok(Asked::Peak),
             _ => {}
         }
     }
     if rounds == 0 {
-        return Ok(Task::Count);
+        return Ok(Asked::Texts(Task::Count));
     }
-    Ok(Task::Measure { call, rounds })
+    Ok(Asked::Texts(Task::Measure { call, rounds }))
 }
 
 fn main(rt: HostRuntime) -> Result<()> {
     let alloc = rt.alloc();
-    let task = asked_for(&rt)?;
+    let task = match asked_for(&rt)? {
+        Asked::Texts(task) => task,
+        Asked::Peak => return decode_million(&rt, alloc),
+    };
     let bulk_16 = texts::bulk(alloc, b"$16\r\n", 16)?;
     let bulk_1024 = texts::bulk(alloc, b"$1024\r\n", 1_024)?;
     let bulk_65536 = texts::bulk(alloc, b"$65536\r\n", 65_536)?;

@@ -5,11 +5,12 @@ use resp_scan::listener::Listener;
 use resp_scan::scanner::Scanner;
 use resp_value::kind::OpenKind;
 
-/// By which call a text is scanned.
+/// By which call a text is read.
 #[derive(Clone, Copy)]
 pub(crate) enum Call {
     Step,
     Scan,
+    Decode,
 }
 
 #[derive(Drop)]
@@ -49,12 +50,12 @@ impl Tally {
     }
 
     #[inline(always)]
-    fn add_value(&mut self) {
+    pub(crate) fn add_value(&mut self) {
         self.values = self.values.wrapping_add(1);
     }
 
     #[inline(always)]
-    fn add_int(&mut self, number: i64) {
+    pub(crate) fn add_int(&mut self, number: i64) {
         self.add_value();
         self.sum = self.sum.wrapping_add(number);
     }
@@ -71,8 +72,23 @@ impl Tally {
     }
 
     #[inline(always)]
-    fn add_reply(&mut self) {
+    pub(crate) fn add_reply(&mut self) {
         self.replies = self.replies.wrapping_add(1);
+    }
+
+    /// Counts a text of so many bytes.
+    #[inline(always)]
+    pub(crate) fn add_text(&mut self, bytes: &[u8]) {
+        self.add_value();
+        self.add_part(bytes);
+        self.add_end();
+    }
+
+    /// Counts an aggregate with so many members that are looked at no further.
+    #[inline(always)]
+    pub(crate) fn add_members(&mut self, members: usize) {
+        self.values = self.values.wrapping_add(1).wrapping_add(members as u64);
+        self.add_end();
     }
 
     #[inline(always)]

@@ -295,18 +295,30 @@ fn a_value_of_many_levels(rt: HostRuntime) -> Result<(), Fail> {
     for _ in 0..128 {
         text.extend_from_slice(b"*1\r\n")?;
     }
-    let mut deeper = Decoder::new(alloc, Version::Two, &limits);
-    assert_eq!(rt; deeper.feed(text.as_slice())?.value, None);
-    assert_eq!(rt;
-        deeper.feed(b"*1\r\n"),
-        Err(Fault {
-            cause: Cause::Depth,
-            at: 513
-        })
-    );
     let mut decoder = Decoder::new(alloc, Version::Two, &limits);
     text.extend_from_slice(b":1\r\n")?;
     assert_eq!(rt; decoder.feed(text.as_slice())?.value.is_some(), true);
+    Ok(())
+}
+
+/// What is held stays the same, however many heads come behind the deepest.
+#[test]
+fn a_million_levels(rt: HostRuntime) -> Result<(), Fail> {
+    let alloc = rt.alloc();
+    let limits = Limits::new(128, 64, 1_024)?;
+    let mut heads = Vec::new(alloc);
+    for _ in 0..1_000 {
+        heads.extend_from_slice(b"*1\r\n")?;
+    }
+    let too_deep = Fault {
+        cause: Cause::Depth,
+        at: 513,
+    };
+    let mut decoder = Decoder::new(alloc, Version::Two, &limits);
+    for _ in 0..1_000 {
+        assert_eq!(rt; decoder.feed(heads.as_slice()), Err(too_deep));
+        assert_eq!(rt; decoder.weight(), 3 * 128);
+    }
     Ok(())
 }
 
