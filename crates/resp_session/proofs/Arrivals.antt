@@ -11,12 +11,12 @@ use Rattle.resp_session.specs.Arrivals.{HasCome}
 use Rattle.resp_session.specs.Connections.{whole_within}
 use Rattle.resp_session.proofs.TextsInPieces.{Begins, one_begins}
 
-none_of_nothing : NoSpellingIsEmpty → (r : Rules) (x : Datum) (next behind : List ℕ) → IsSpelling r x next → [] ≡ next ++ behind → ⊥
+pub none_of_nothing : NoSpellingIsEmpty → (r : Rules) (x : Datum) (next behind : List ℕ) → IsSpelling r x next → [] ≡ next ++ behind → ⊥
 none_of_nothing full r x [] behind s e = full r x s
 none_of_nothing full r x (c ∷ cs) behind s e = absurd (cc)
 
 -- a front of a spelling that isn't whole begins no value
-none_of_front : NoSpellingBeginsAnother → (r : Rules) (y : Datum) (text p : List ℕ) (c : ℕ) (q : List ℕ) → IsSpelling r y text → text ≡ p ++ c ∷ q →
+pub none_of_front : NoSpellingBeginsAnother → (r : Rules) (y : Datum) (text p : List ℕ) (c : ℕ) (q : List ℕ) → IsSpelling r y text → text ≡ p ++ c ∷ q →
     (x : Datum) (next behind : List ℕ) → IsSpelling r x next → p ≡ next ++ behind → ⊥
 none_of_front apart r y text p c q s e x next behind t f =
     let d = apart r r y x text next [] (behind ++ c ∷ q) s t (append-nil text ∙ e ∙ ap (λ z. z ++ c ∷ q) f ∙ append_assoc next behind (c ∷ q)) in
@@ -24,10 +24,10 @@ none_of_front apart r y text p c q s e x next behind t f =
     let m = length-append behind (c ∷ q) in
     absurd (omega (arith, l, m))
 
-short : (text came : List ℕ) (texts : List (List ℕ)) → length came < length text → whole_within (text ∷ texts) (length came) ≡ 0
+pub short : (text came : List ℕ) (texts : List (List ℕ)) → length came < length text → whole_within (text ∷ texts) (length came) ≡ 0
 short text came texts h = ap (λ b. if b then 0 else (whole_within texts (length came - length text) + 1)) (lt-ltb (length came) (length text) h)
 
-long : (text came behind : List ℕ) (texts : List (List ℕ)) → came ≡ text ++ behind →
+pub long : (text came behind : List ℕ) (texts : List (List ℕ)) → came ≡ text ++ behind →
     whole_within (text ∷ texts) (length came) ≡ whole_within texts (length behind) + 1
 long text came behind texts h =
     let l : length came ≡ length text + length behind = ap length h ∙ length-append text behind in

@@ -31,7 +31,7 @@ words_have_no_depth [] = refl
 words_have_no_depth (word ∷ words) = let h = words_have_no_depth words in omega (arith, h)
 
 -- what isn't too large is within the limit
-within : (n limit : ℕ) → (limit < n → ⊥) → n ≤ limit
+pub within : (n limit : ℕ) → (limit < n → ⊥) → n ≤ limit
 within n limit h = elim (cases_lt limit n) as (λ _. n ≤ limit) [
   | inl l ↦ absurd (h l)
   | inr l ↦ l

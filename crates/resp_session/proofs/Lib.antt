@@ -13,7 +13,17 @@ pub mod WorldsHold
 pub mod WorldLaws
 pub mod InlineCommand
 pub mod FittingWords
+pub mod Elements
 pub mod SentRequests
 pub mod KeptVersions
 pub mod WrittenIsRead
 pub mod WorldsAreRead
+pub mod DigitCounts
+pub mod SpelledWords
+pub mod SmallValues
+pub mod FittingOperations
+pub mod FittingStores
+pub mod FittingReplies
+pub mod PushesFit
+pub mod WorldsFit
+pub mod ShownIsRead

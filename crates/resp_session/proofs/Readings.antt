@@ -20,7 +20,7 @@ readings_go_on limits a b c (x ∷ xs) ys text more m n =
     let (f, g, s, may, t, w) = m in
     (f, g ++ more, s, may, readings_go_on limits (waiting_after a x) b c xs ys g more t n, ap (λ z. z ++ more) w ∙ append_assoc f g more)
 
-push_is : (x : Datum) → is_push x ≡ true → IsPush x
+pub push_is : (x : Datum) → is_push x ≡ true → IsPush x
 push_is (scalar s) e = absurd (cc)
 push_is (aggregate Array xs) e = absurd (cc)
 push_is (aggregate Set xs) e = absurd (cc)

@@ -1,5 +1,5 @@
 -- What the clients of a world have sent: requests that fit, as spellings of commands.
-use Rattle.std.proofs.Common.{◌≡◌, inl, inr, ℕ, ◌<◌, false, List, [], ◌∷◌, ◌++◌, length, map, take, drop, Option, None, Some, refl, sym, subst, arith}
+use Rattle.std.proofs.Common.{◌≡◌, inl, inr, ℕ, ◌<◌, false, List, [], ◌∷◌, length, map, take, drop, Option, None, Some, refl, sym, subst, arith}
 use Rattle.std.proofs.lemmas.Bool.{false_from_ne_true}
 use Rattle.std.proofs.lemmas.List.{take-append-drop}
 use Rattle.std.specs.List.{AllByRecursion}
@@ -17,9 +17,10 @@ use Rattle.resp_session.specs.Arrivals.{SpellEach}
 use Rattle.resp_session.specs.Connections.{Connection, sent_text, new_requests, with_request, with_message, with_shown, with_arrived, push_message, as_dropped}
 use Rattle.resp_session.specs.Requests.{Request, Hello, Command, HasBytes, RefusesRequest, is_unsent, is_unsent_request, request_words, request_text}
 use Rattle.resp_session.specs.Runs.{Outcome, Done, Refused, Gone, Step, Run, RefusesEvent, connection_of, request_count}
-use Rattle.resp_session.specs.WorldLaws.{IsOfBytes, HasName, request_values, WhatArrivesIsCommands}
+use Rattle.resp_session.specs.WorldLaws.{IsPossible, HasName, request_values, WhatArrivesIsCommands}
 use Rattle.resp_session.specs.Worlds.{World, WorldEvent, Send, Greet, ToServer, ToClient, Push, Drop, connection_at, world_with, after_event, after_arrival, commands_for, new_world}
 use Rattle.resp_session.proofs.Changes.{is_changed}
+use Rattle.resp_session.proofs.Elements.{all_and_last}
 use Rattle.resp_session.proofs.FittingWords.{command_is_value, words_fit}
 use Rattle.resp_session.proofs.Parts.{comes_from}
 use Rattle.resp_session.proofs.WorldsHold.{new_at}
@@ -34,10 +35,6 @@ AreSent limits c = AllByRecursion (IsSent limits) c.requests
 
 abbrev pub AllSent : Bounds → World → Type 0
 AllSent limits w = (i : ℕ) (c : Connection) → connection_at w.connections i ≡ Some c → AreSent limits c
-
-one_more : {X : Type 0} (P : X → Type 0) (xs : List X) (x : X) → AllByRecursion P xs → P x → AllByRecursion P (xs ++ x ∷ [])
-one_more P [] x h p = (p, tt)
-one_more P (y ∷ ys) x h p = (h.0, one_more P ys x h.1 p)
 
 -- a change that keeps this of each connection
 change_sent : (limits : Bounds) (f : Connection → Connection) (w : World) (i : ℕ) → ((c : Connection) → AreSent limits c → AreSent limits (f c)) →
@@ -80,31 +77,31 @@ hello_has_bytes (Some Two) = ((omega arith, (omega arith, (omega arith, (omega a
 hello_has_bytes (Some Three) = ((omega arith, (omega arith, (omega arith, (omega arith, (omega arith, tt))))), ((omega arith, tt), tt))
 
 -- an event that isn't refused keeps it
-event_sent : CanonicalTextSpellsWhatFits → (limits : Bounds) → AreBounds limits → (w : World) (event : WorldEvent) → IsOfBytes event →
+event_sent : CanonicalTextSpellsWhatFits → (limits : Bounds) → AreBounds limits → (w : World) (event : WorldEvent) → IsPossible event →
     ((cause : Cause) → RefusesEvent limits (connection_of w event) event cause → ⊥) → AllSent limits w → AllSent limits (after_event w event)
 event_sent spells limits bounds w (Send i words) bytes unrefused all =
     let count = request_count (connection_at w.connections i) in
     let sent : is_unsent words ≡ false = false_from_ne_true (is_unsent words) (λ e. unrefused BadCommand e) in
     let one = request_is_sent spells limits bounds count (Command words) bytes (has_name words sent) sent unrefused in
-    change_sent limits (with_request (Command words)) w i (λ c a. one_more (IsSent limits) c.requests (Command words) a one) all
+    change_sent limits (with_request (Command words)) w i (λ c a. all_and_last (IsSent limits) c.requests (Command words) a one) all
 event_sent spells limits bounds w (Greet i asked) bytes unrefused all =
     let count = request_count (connection_at w.connections i) in
     let one = request_is_sent spells limits bounds count (Hello asked) (hello_has_bytes asked) (hello_has_name asked) refl unrefused in
-    change_sent limits (with_request (Hello asked)) w i (λ c a. one_more (IsSent limits) c.requests (Hello asked) a one) all
+    change_sent limits (with_request (Hello asked)) w i (λ c a. all_and_last (IsSent limits) c.requests (Hello asked) a one) all
 event_sent spells limits bounds w (ToServer i k) bytes unrefused all = arrival_sent limits w i k (connection_at w.connections i) all
 event_sent spells limits bounds w (ToClient i k) bytes unrefused all = change_sent limits (with_shown k) w i (λ c a. a) all
 event_sent spells limits bounds w (Push i items) bytes unrefused all = change_sent limits (with_message (push_message items)) w i (λ c a. a) all
 event_sent spells limits bounds w (Drop i) bytes unrefused all = change_sent limits as_dropped w i (λ c a. a) all
 
 pub step_sent : CanonicalTextSpellsWhatFits → (limits : Bounds) → AreBounds limits → (w : World) (event : WorldEvent) (outcome : Outcome) (next : World) →
-    IsOfBytes event →
+    IsPossible event →
     Step limits w event outcome next → AllSent limits w → AllSent limits next
 step_sent spells limits bounds w event Done next bytes s all = subst (AllSent limits) (sym s.2) (event_sent spells limits bounds w event bytes s.1 all)
 step_sent spells limits bounds w event (Refused cause) next bytes s all = subst (AllSent limits) (sym s.2) all
 step_sent spells limits bounds w event Gone next bytes s all = subst (AllSent limits) (sym s.1) all
 
 run_sent : CanonicalTextSpellsWhatFits → (limits : Bounds) → AreBounds limits → (w : World) (events : List WorldEvent) (last : World) →
-    AllByRecursion IsOfBytes events →
+    AllByRecursion IsPossible events →
     Run limits w events last → AllSent limits w → AllSent limits last
 run_sent spells limits bounds w [] last bytes r all = subst (AllSent limits) (sym r) all
 run_sent spells limits bounds w (event ∷ events) last bytes r all =

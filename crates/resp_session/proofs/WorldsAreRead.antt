@@ -1,5 +1,5 @@
 -- What the sessions of a world have written is what their clients read.
-use Rattle.std.proofs.Common.{◌≡◌, inl, inr, ℕ, zero, suc, ◌+◌, min, false, List, [], ◌∷◌, ◌++◌, length, map, take, drop, Option, None, Some, refl, sym, ap, subst, ◌∙◌, append_assoc, append-nil}
+use Rattle.std.proofs.Common.{◌≡◌, inl, inr, ℕ, zero, suc, ◌+◌, min, false, List, [], ◌∷◌, ◌++◌, length, map, Option, None, Some, refl, sym, ap, subst, ◌∙◌, append_assoc, append-nil}
 use Rattle.std.proofs.lemmas.Bool.{cases_eq}
 use Rattle.std.proofs.lemmas.List.{map-append, take-append-drop}
 use Rattle.std.specs.List.{AllByRecursion}
@@ -14,9 +14,10 @@ use Rattle.resp_session.specs.ReadingLaws.{ReadingsGoOn, ReadingsStay}
 use Rattle.resp_session.specs.Requests.{Request, Hello, Command, is_unsent_request, request_words, request_text, version_asked}
 use Rattle.resp_session.specs.Runs.{Outcome, Done, Refused, Gone, Step, Run, RefusesEvent, connection_of}
 use Rattle.resp_session.specs.Stores.{Effect, effect_of_words}
-use Rattle.resp_session.specs.WorldLaws.{IsOfBytes, WhatIsWrittenIsRead}
+use Rattle.resp_session.specs.WorldLaws.{IsPossible, IsWritten, IsReadByItsClient, EachMessageIsWritten, WhatIsWrittenIsRead}
 use Rattle.resp_session.specs.Worlds.{World, WorldEvent, Send, Greet, ToServer, ToClient, Push, Drop, connection_at, with_change, world_with, version_of, after_command, after_commands, after_event, after_arrival, commands_for, new_world}
 use Rattle.resp_session.proofs.Changes.{is_changed}
+use Rattle.resp_session.proofs.Elements.{all_taken, all_dropped}
 use Rattle.resp_session.proofs.Parts.{AllHold, comes_from, arrived_requests-with_request}
 use Rattle.resp_session.proofs.SentRequests.{IsSent, AllSent, step_sent, new_sent}
 use Rattle.resp_session.proofs.WorldsHold.{arrived_then_new, arrived_of, one_connection, step_holds, new_at, new_world_holds}
@@ -44,18 +45,12 @@ change_read limits f w i keeps all j c e = elim (is_changed f w.connections i j 
   | inr h ↦ all j c h.1
 ]
 
+-- a client sends the request
+abbrev IsUnrefused : Request → Type 0
+IsUnrefused request = is_unsent_request request ≡ false
+
 abbrev AreUnrefused : List Request → Type 0
-AreUnrefused requests = AllByRecursion (λ (r : Request). is_unsent_request r ≡ false) requests
-
-taken : (n : ℕ) (requests : List Request) → AreUnrefused requests → AreUnrefused (take n requests)
-taken zero requests h = tt
-taken (suc n) [] h = tt
-taken (suc n) (r ∷ rs) h = (h.0, taken n rs h.1)
-
-dropped : (n : ℕ) (requests : List Request) → AreUnrefused requests → AreUnrefused (drop n requests)
-dropped zero requests h = h
-dropped (suc n) [] h = tt
-dropped (suc n) (r ∷ rs) h = dropped n rs h.1
+AreUnrefused requests = AllByRecursion IsUnrefused requests
 
 unrefused : (limits : Bounds) (requests : List Request) → AllByRecursion (IsSent limits) requests → AreUnrefused requests
 unrefused limits [] h = tt
@@ -104,8 +99,8 @@ own_read three go_on stay limits w i k own at held sent all c e =
     let w1 : World = world_with (with_arrived k) w i in
     let news = new_requests k own in
     let at1 : connection_at w1.connections i ≡ Some (with_arrived k own) = changed_at (with_arrived k) w.connections i own at in
-    let fine : AreUnrefused news = dropped (length (arrived_requests own)) (arrived_requests (with_arrived k own))
-    (taken (whole_within (map request_text own.requests) (min (own.arrived + k) (length (sent_text own)))) own.requests
+    let fine : AreUnrefused news = all_dropped IsUnrefused (length (arrived_requests own)) (arrived_requests (with_arrived k own))
+    (all_taken IsUnrefused (whole_within (map request_text own.requests) (min (own.arrived + k) (length (sent_text own)))) own.requests
     (unrefused limits own.requests (sent i own at))) in
     let read = commands_read three go_on stay limits w1 i news fine (with_arrived k own) at1 (arrived_requests own) (all i own at) c e in
     let h = comes_from w1 (commands_for i news) i c e in
@@ -147,7 +142,7 @@ step_read three go_on stay limits w event (Refused cause) next s held sent all =
 step_read three go_on stay limits w event Gone next s held sent all = subst (AllRead limits) (sym s.1) all
 
 run_read : CanonicalTextSpellsWhatFits → VersionThreeSpellsWhatTwoDoes → ReadingsGoOn → ReadingsStay → (limits : Bounds) → AreBounds limits → (w : World)
-    (events : List WorldEvent) (last : World) → AllByRecursion IsOfBytes events → Run limits w events last → AllHold w → AllSent limits w → AllRead limits w →
+    (events : List WorldEvent) (last : World) → AllByRecursion IsPossible events → Run limits w events last → AllHold w → AllSent limits w → AllRead limits w →
     AllRead limits last
 run_read spells three go_on stay limits bounds w [] last bytes r held sent all = subst (AllRead limits) (sym r) all
 run_read spells three go_on stay limits bounds w (event ∷ events) last bytes r held sent all =
@@ -158,9 +153,13 @@ run_read spells three go_on stay limits bounds w (event ∷ events) last bytes r
 new_read : (limits : Bounds) (n : ℕ) → AllRead limits (new_world n)
 new_read limits n i c e = subst (λ x. IsRead limits (arrived_requests x) x) (sym (new_at n i c e)) (λ written. (refl, refl))
 
-pub what_is_written_is_read : CanonicalTextSpellsWhatFits → VersionThreeSpellsWhatTwoDoes → ReadingsGoOn → ReadingsStay → WhatIsWrittenIsRead
-what_is_written_is_read spells three go_on stay limits n events w bounds bytes r i c at written =
-    let read = run_read spells three go_on stay limits bounds (new_world n) events w bytes r (new_world_holds n) (new_sent limits n) (new_read limits n) i c
+-- where all messages are within the limits, their text is what the client reads
+what_fits_is_read : CanonicalTextSpellsWhatFits → VersionThreeSpellsWhatTwoDoes → ReadingsGoOn → ReadingsStay →
+    (limits : Bounds) (n : ℕ) (events : List WorldEvent) (w : World) → AreBounds limits → AllByRecursion IsPossible events →
+    Run limits (new_world n) events w → (i : ℕ) (c : Connection) → connection_at w.connections i ≡ Some c →
+    AllByRecursion (IsWritten limits) c.messages → IsReadByItsClient limits c
+what_fits_is_read spells three go_on stay limits n events w bounds possible r i c at written =
+    let read = run_read spells three go_on stay limits bounds (new_world n) events w possible r (new_world_holds n) (new_sent limits n) (new_read limits n) i c
     at written in
     let asks = map version_asked (later_requests c) in
     let more = stay limits (waits Two (map version_asked (arrived_requests c))) (waits c.version []) asks (values_of c.messages) (back_text c) read in
@@ -168,3 +167,8 @@ what_is_written_is_read spells three go_on stay limits n events w bounds bytes r
     let whole : map version_asked (arrived_requests c) ++ asks ≡ map version_asked c.requests =
     sym (map-append version_asked (arrived_requests c) (later_requests c)) ∙ ap (map version_asked) (take-append-drop k c.requests) in
     subst (λ l. ReadsAs limits (waits Two l) (values_of c.messages) (back_text c) (waits c.version asks)) whole more
+
+pub what_is_written_is_read : CanonicalTextSpellsWhatFits → VersionThreeSpellsWhatTwoDoes → ReadingsGoOn → ReadingsStay → EachMessageIsWritten →
+    WhatIsWrittenIsRead
+what_is_written_is_read spells three go_on stay written limits n events w bounds few possible r i c at =
+    what_fits_is_read spells three go_on stay limits n events w bounds possible r i c at (written limits n events w bounds few possible r i c at)

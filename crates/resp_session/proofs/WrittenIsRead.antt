@@ -17,6 +17,7 @@ use Rattle.resp_session.specs.ReadingLaws.{ReadingsGoOn, ReadingsStay}
 use Rattle.resp_session.specs.Requests.{Request, Hello, Command, is_unsent_request, request_words, version_asked}
 use Rattle.resp_session.specs.Stores.{Store, Effect, effect_of_words}
 use Rattle.resp_session.specs.WorldLaws.{IsWritten}
+use Rattle.resp_session.proofs.Elements.{all_but_last}
 use Rattle.resp_session.proofs.KeptVersions.{sent_words_keep}
 use Rattle.resp_session.proofs.Parts.{replies_to_words}
 
@@ -69,10 +70,6 @@ abbrev pub IsRead : Bounds → List Request → Connection → Type 0
 IsRead limits requests c = AllByRecursion (IsWritten limits) c.messages →
     ReadsAs limits (waits Two (map version_asked requests)) (values_of c.messages) (back_text c) (waits c.version [])
 
-all_but_last : {X : Type 0} (P : X → Type 0) (xs : List X) (x : X) → AllByRecursion P (xs ++ x ∷ []) → AllByRecursion P xs × P x
-all_but_last P [] x h = (tt, h.0)
-all_but_last P (y ∷ ys) x h = let (p, q) = all_but_last P ys x h.1 in ((h.0, p), q)
-
 -- a message more is read, whatever was asked for it
 message_read : ReadingsGoOn → ReadingsStay → (limits : Bounds) (requests : List Request) (c : Connection) (m : Message) (asks : List (Option Version))
     (next : Version) → IsRead limits requests c →
@@ -108,7 +105,7 @@ reply_read three go_on stay limits store id requests c request sent read written
     subst (λ l. ReadsAs limits (waits Two l) (values_of (c.messages ++ m ∷ [])) (concat (map message_text (c.messages ++ m ∷ []))) (waits effect.version []))
     (sym (map-append version_asked requests (request ∷ []))) all
 
-three_or_two : (version : Version) → (version ≡ Two → ⊥) → version ≡ Three
+pub three_or_two : (version : Version) → (version ≡ Two → ⊥) → version ≡ Three
 three_or_two Two h = absurd (h refl)
 three_or_two Three h = refl
 

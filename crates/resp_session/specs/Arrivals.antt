@@ -1,10 +1,13 @@
 -- What has come of texts that were sent one behind another.
 use Rattle.std.specs.Prelude.{◌≡◌, ℕ, List, [], ◌∷◌, ◌++◌, length, take}
+use Rattle.resp_value.specs.Bounds.{Bounds}
 use Rattle.resp_value.specs.Data.{Datum}
 use Rattle.resp_value.specs.Rules.{Rules, WithinTotal}
 use Rattle.resp_value.specs.Spellings.{IsSpelling, IsViable, AreSpellings}
+use Rattle.resp_value.specs.declared.cause.Cause.{Cause}
 use Rattle.resp_session.specs.Answers.{BeginsNoValue}
 use Rattle.resp_session.specs.Connections.{whole_within}
+use Rattle.resp_session.specs.Reading.{Waiting, ReadsAs, MayGoOn, ClientFault}
 
 -- each text is a spelling of the value in its place
 abbrev pub SpellEach : Rules → List Datum → List (List ℕ) → Type 0
@@ -20,3 +23,17 @@ pub record HasCome (rules : Rules) (xs : List Datum) (texts : List (List ℕ)) (
   pub whole : came ≡ front ++ rest
   pub no_more : BeginsNoValue rules rest
   pub viable : IsViable rules WithinTotal rest
+
+-- what has come to a client is read as these values, and leaves a rest that may go on
+pub record HasBeenRead (limits : Bounds) (before : Waiting) (xs : List Datum) (came : List ℕ) : Type 0 where
+  pub front : List ℕ
+  pub rest : List ℕ
+  pub after : Waiting
+  pub read : ReadsAs limits before xs front after
+  pub whole : came ≡ front ++ rest
+  pub goes_on : MayGoOn limits after rest
+
+-- whatever values are read of what has come to a client, the rest has no fault
+abbrev pub MeetsNoFault : Bounds → Waiting → List ℕ → Type 0
+MeetsNoFault limits before came = (xs : List Datum) (front rest : List ℕ) (after : Waiting) (cause : Cause) (at : ℕ) →
+    ReadsAs limits before xs front after → came ≡ front ++ rest → ClientFault limits after rest cause at → ⊥

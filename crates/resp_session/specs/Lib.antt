@@ -11,6 +11,7 @@ pub mod Worlds
 pub mod Runs
 pub mod Orders
 pub mod Arrivals
+pub mod Fitting
 pub mod AnswerLaws
 pub mod ReadingLaws
 pub mod WorldLaws

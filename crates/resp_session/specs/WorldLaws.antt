@@ -1,7 +1,8 @@
 -- What must be true of the definitions of worlds.
-use Rattle.std.specs.Prelude.{◌≡◌, ℕ, ◌<◌, ◌≤◌, List, ◌++◌, length, map, take, Some}
+use Rattle.std.specs.Prelude.{◌≡◌, ℕ, ◌^◌, ◌<◌, ◌≤◌, List, ◌++◌, length, map, take, Some}
 use Rattle.std.specs.List.{AllByRecursion}
 use Rattle.resp_value.specs.Bounds.{Bounds, AreBounds}
+use Rattle.resp_value.specs.Canonical.{IsValue}
 use Rattle.resp_value.specs.Data.{Datum}
 use Rattle.resp_value.specs.Rules.{rules_under}
 use Rattle.resp_value.specs.Spellings.{IsSpelling}
@@ -9,12 +10,12 @@ use Rattle.resp_value.specs.Words.{command_of}
 use Rattle.resp_value.specs.declared.version.Version.{Version}
 use Rattle.resp_value.specs.declared.version.Version.TheVariants.{Two}
 use Rattle.resp_session.specs.Answers.{server_rules}
-use Rattle.resp_session.specs.Arrivals.{HasCome}
+use Rattle.resp_session.specs.Arrivals.{HasCome, HasBeenRead, MeetsNoFault}
 use Rattle.resp_session.specs.Heard.{replies_of, pushes_of}
 use Rattle.resp_session.specs.Reading.{Waiting, ReadsAs}
 use Rattle.resp_session.specs.Requests.{version_asked, Request, Command, HasBytes, request_words, request_text}
-use Rattle.resp_session.specs.Connections.{Connection, Message, message_text, back_text, later_requests, sent_text, values_of, shown_replies, shown_pushes}
-use Rattle.resp_session.specs.Worlds.{World, WorldEvent, Send, connection_at, new_world}
+use Rattle.resp_session.specs.Connections.{Connection, Message, message_text, push_message, back_text, later_requests, sent_text, values_of, shown_messages, shown_replies, shown_pushes}
+use Rattle.resp_session.specs.Worlds.{World, WorldEvent, Send, Push, connection_at, new_world}
 use Rattle.resp_session.specs.Runs.{Run}
 use Rattle.resp_session.specs.Orders.{OneOrder, IsBeginning, part_of_client}
 
@@ -46,10 +47,11 @@ abbrev pub WhatIsShownWasSent : Type 0
 WhatIsShownWasSent = (c : Connection) → IsBeginning (shown_replies c) (replies_of (values_of c.messages)) ×
     IsBeginning (shown_pushes c) (pushes_of (values_of c.messages))
 
--- what a program can ask: words of bytes
-abbrev pub IsOfBytes : WorldEvent → Type 0
-IsOfBytes (Send i words) = HasBytes (Command words)
-IsOfBytes _ = Unit {0}
+-- what a program can bring about: words are bytes, and what is pushed is a value
+abbrev pub IsPossible : WorldEvent → Type 0
+IsPossible (Send i words) = HasBytes (Command words)
+IsPossible (Push i items) = IsValue (push_message items).value
+IsPossible _ = Unit {0}
 
 -- the request has a word, so that what is sent for it is a command
 abbrev pub HasName : Request → Type 0
@@ -63,23 +65,44 @@ request_values c = map (λ (request : Request). command_of (request_words reques
 -- world answers a fault
 abbrev pub WhatArrivesIsCommands : Type 0
 WhatArrivesIsCommands = (limits : Bounds) (n : ℕ) (events : List WorldEvent) (w : World) → AreBounds limits →
-    AllByRecursion IsOfBytes events → Run limits (new_world n) events w → (i : ℕ) (c : Connection) →
+    AllByRecursion IsPossible events → Run limits (new_world n) events w → (i : ℕ) (c : Connection) →
     connection_at w.connections i ≡ Some c → AllByRecursion HasName c.requests ×
     HasCome (server_rules limits) (request_values c) (map request_text c.requests) (take c.arrived (sent_text c))
+
+-- whatever happens to fewer than 2^63 clients, this holds of each connection. With more of them HELLO's reply can't be
+-- spelled, since it tells the client's number as an integer
+abbrev pub AlwaysHolds : (Bounds → Connection → Type 0) → Type 0
+AlwaysHolds Holds = (limits : Bounds) (n : ℕ) (events : List WorldEvent) (w : World) → AreBounds limits → n < 2 ^ 63 →
+    AllByRecursion IsPossible events → Run limits (new_world n) events w → (i : ℕ) (c : Connection) →
+    connection_at w.connections i ≡ Some c → Holds limits c
 
 -- the message's text is a spelling of its value, in the version in which it is written
 abbrev pub IsWritten : Bounds → Message → Type 0
 IsWritten limits m = IsSpelling (rules_under m.version limits) m.value (message_text m)
 
+-- all messages of a session are within the limits
+abbrev pub EachMessageIsWritten : Type 0
+EachMessageIsWritten = AlwaysHolds (λ limits c. AllByRecursion (IsWritten limits) c.messages)
+
 -- what a client waits for that has asked these requests and has heard nothing, or is in this version
 abbrev pub waiting_for : Version → List Request → Waiting
 waiting_for version requests = record { version = version; asks = map version_asked requests }
 
--- where all messages of a session are within the limits, their text is what its client reads: each message, and then
--- it waits, in the session's version, for the requests that have not come
-abbrev pub WhatIsWrittenIsRead : Type 0
-WhatIsWrittenIsRead = (limits : Bounds) (n : ℕ) (events : List WorldEvent) (w : World) → AreBounds limits →
-    AllByRecursion IsOfBytes events → Run limits (new_world n) events w → (i : ℕ) (c : Connection) →
-    connection_at w.connections i ≡ Some c → AllByRecursion (IsWritten limits) c.messages →
-    ReadsAs limits (waiting_for Two c.requests) (values_of c.messages) (back_text c)
+-- the text of all messages of a session is what its client reads: each message, and then it waits, in the session's
+-- version, for the requests that have not come
+abbrev pub IsReadByItsClient : Bounds → Connection → Type 0
+IsReadByItsClient limits c = ReadsAs limits (waiting_for Two c.requests) (values_of c.messages) (back_text c)
     (waiting_for c.version (later_requests c))
+
+abbrev pub WhatIsWrittenIsRead : Type 0
+WhatIsWrittenIsRead = AlwaysHolds IsReadByItsClient
+
+-- what has come to a client is the messages that have come whole, and a rest that may go on
+abbrev pub WhatIsShownIsRead : Type 0
+WhatIsShownIsRead = AlwaysHolds (λ limits c. HasBeenRead limits (waiting_for Two c.requests)
+    (values_of (shown_messages c)) (take c.shown (back_text c)))
+
+-- however what has come to a client is read, no fault is met
+abbrev pub NoClientMeetsAFault : Type 0
+NoClientMeetsAFault = AlwaysHolds (λ limits c.
+    MeetsNoFault limits (waiting_for Two c.requests) (take c.shown (back_text c)))

@@ -10,7 +10,8 @@ ghost use Rattle.resp_session.specs.Worlds.{Push, Drop};
 ghost use Rattle.resp_value.specs.declared.cause.Cause.TheVariants.{NotInVersion};
 ghost use Rattle.resp_session.specs.ReadingLaws.{ReadingsGoOn, ReadingsStay, ATextHasOneReading, ARestHasOneClientFault, HearingGoesOn};
 ghost use Rattle.resp_session.specs.Replies.{simple_string, bulk_string, natural, null};
-ghost use Rattle.resp_session.specs.WorldLaws.{AWorldHasOneOrder, ARunIsCut, TheOrderOnlyGrows, ShownRepliesAreOfTheOrder, WhatIsShownWasSent, WhatArrivesIsCommands, WhatIsWrittenIsRead};
+ghost use Rattle.resp_session.specs.WorldLaws.{AWorldHasOneOrder, ARunIsCut, TheOrderOnlyGrows, ShownRepliesAreOfTheOrder, WhatIsShownWasSent, WhatArrivesIsCommands, EachMessageIsWritten, WhatIsWrittenIsRead, WhatIsShownIsRead, NoClientMeetsAFault};
+ghost use Rattle.resp_session.specs.Fitting.{EffectsFit};
 ghost use Rattle.resp_session.specs.Connections.{push_message};
 
 use resp_value::laws as grammar;
@@ -118,15 +119,46 @@ pub fn what_arrives_is_commands()
     grammar::canonical_text_spells_what_fits();
 }
 
-/// Where all messages of a session are within the limits, their text is what its client reads, each
-/// message in the version in which it is written or in version 3 what version 2 spells.
+/// What a command leaves, its reply and the store, is within the limits where its words and the
+/// store before it are. So a server that reads and stores within its limits writes within them.
+pub fn effects_fit()
+    ensures { EffectsFit }
+{}
+
+/// All messages of a session of a world are within the limits.
+pub fn each_message_is_written()
+    ensures { EachMessageIsWritten }
+{
+    effects_fit();
+    grammar::canonical_text_spells_what_fits();
+}
+
+/// The text of all messages of a session is what its client reads, each message in the version in
+/// which it is written or in version 3 what version 2 spells.
 pub fn what_is_written_is_read()
     ensures { WhatIsWrittenIsRead }
 {
+    each_message_is_written();
     readings_go_on();
     readings_stay();
     grammar::canonical_text_spells_what_fits();
     grammar::version_three_spells_what_two_does();
+}
+
+/// What has come to a client of a world is the messages that have come whole, and a rest that may
+/// go on. So no client of a world answers a fault.
+pub fn what_is_shown_is_read()
+    ensures read { WhatIsShownIsRead }
+    ensures no_fault { NoClientMeetsAFault }
+{
+    each_message_is_written();
+    what_is_written_is_read();
+    a_rest_has_one_client_fault();
+    grammar::no_spelling_begins_another();
+    grammar::no_spelling_is_empty();
+    grammar::fronts_of_spellings_are_viable();
+    grammar::the_empty_text_is_viable();
+    grammar::a_push_begins_with_its_byte();
 }
 
 /// What a new session of number 1 answers to commands and to values that are none.
