@@ -11,7 +11,7 @@ use Rattle.resp_scan.specs.Reading.{Events}
 use Rattle.resp_scan.specs.Listening.{Hears, MayBeGiven}
 use Rattle.resp_decode.specs.Builds.{Construction, built_from, nothing, scalar_of, with_value, with_bytes, with_event, with_events}
 use Rattle.resp_decode.specs.Brief.{AreBrief, WantMemory}
-use Rattle.resp_decode.specs.Fits.{MayAllCome, event_weight, events_weight, end_weight}
+use Rattle.resp_decode.specs.Fits.{IsContentAlone, MayAllCome, event_weight, events_weight, end_weight}
 use Rattle.resp_decode.specs.Weights.{format_weight}
 use Rattle.resp_decode.specs.Hearing.{HasHeard, TakesIn, TakesInWhereFit}
 use Rattle.resp_decode.specs.Holding.{construction_of}
@@ -125,6 +125,15 @@ takes_in_text old new kind s goes_on three holds weighs may room goes =
     let b = construction_of old in
     let sum = whole_text_weighs kind s b in
     record { holds = holds goes ∙ sym (whole_text_builds kind s b may.0.0); weighs = omega (arith, weighs, room, sum, three) }
+
+-- a text that is its content alone weighs a node besides
+pub content_alone_weighs : (kind : TextKind) (s : List ℕ) → IsContentAlone kind → format_weight kind + end_weight kind s ≡ 3
+content_alone_weighs e.Simple s alone = refl
+content_alone_weighs e.Error s alone = refl
+content_alone_weighs e.Bulk s alone = refl
+content_alone_weighs e.BulkError s alone = refl
+content_alone_weighs (e.Verbatim format) s alone = absurd alone
+content_alone_weighs (e.Big negative) s alone = absurd alone
 
 -- a part of a text is taken in where its bytes are appended to the text's
 pub takes_in_part : (old new : Held) (part : List ℕ) (goes_on : Bool) →

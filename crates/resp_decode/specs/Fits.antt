@@ -17,6 +17,12 @@ IsContentOf e.BulkError s = Unit {0}
 IsContentOf (e.Verbatim format) s = length format ≡ 3
 IsContentOf (e.Big negative) s = IsKept negative (zero_if_none s)
 
+-- a text of this kind is its content and nothing else
+abbrev pub IsContentAlone : TextKind → Type 0
+IsContentAlone (e.Verbatim format) = ⊥
+IsContentAlone (e.Big negative) = ⊥
+IsContentAlone _ = Unit {0}
+
 -- an aggregate of this kind has so many members: whole pairs in a map, and one more behind them in an attribute
 abbrev pub IsMemberCount : Kind → ℕ → Type 0
 IsMemberCount Array n = Unit {0}

@@ -1,6 +1,6 @@
 //! Open aggregates, and their finished members.
 
-ghost use Rattle.std.specs.Prelude.{◌≡◌, ◌≤◌, [], ◌∷◌, ◌++◌, length, OnOk, IfOk, IfSome};
+ghost use Rattle.std.specs.Prelude.{◌≡◌, ◌≤◌, [], ◌∷◌, ◌++◌, length, IsSome, OnOk, IfOk, IfSome};
 ghost use Rattle.resp_value.specs.Data.{aggregate, data_of_list};
 ghost use Rattle.resp_value.specs.Kinds.{kind_of};
 ghost use Rattle.resp_value.specs.Values.{datum_of};
@@ -8,6 +8,16 @@ ghost use Rattle.resp_value.specs.Values.{datum_of};
 use resp_value::kind::OpenKind;
 use resp_value::value::{Members, PairList, Value};
 use std::alloc::{AllocError, Global};
+
+/// Appends an item. Its place is made first, so that the item is moved only there.
+#[inline(always)]
+fn append<T: Drop>(list: &mut Vec<T>, item: T) -> Result<(), AllocError>
+    ensures { OnOk result (list.new.items ≡ list.old.items ++ item ∷ []) }
+{
+    list.reserve(1)?;
+    list.push_reserved(item);
+    Ok(())
+}
 
 /// Keys and values that come in turn.
 #[derive(Drop)]
@@ -32,13 +42,26 @@ impl Pairs {
     }
 
     /// Adds a key, or the value of the key that waits.
-    #[inline]
+    #[inline(never)]
     fn add(&mut self, value: Value) -> Result<(), AllocError>
         ensures { OnOk result (pairs_data self.new ≡ pairs_data self.old ++ datum_of value ∷ []) }
     {
+        if self.key.is_some() {
+            return self.end_pair(value);
+        }
+        self.key = Some(value);
+        Ok(())
+    }
+
+    /// Adds the value of the key that waits.
+    #[inline(always)]
+    fn end_pair(&mut self, value: Value) -> Result<(), AllocError>
+        ensures { IsSome self.old.key →
+            OnOk result (pairs_data self.new ≡ pairs_data self.old ++ datum_of value ∷ []) }
+    {
         match self.key.take() {
-            None => self.key = Some(value),
-            Some(key) => self.whole.push((key, value))?,
+            Some(key) => append(&mut self.whole, (key, value))?,
+            None => {}
         }
         Ok(())
     }
@@ -99,20 +122,19 @@ impl Group {
     }
 
     /// Adds a finished member.
-    #[inline]
+    #[inline(always)]
     pub(crate) fn add(&mut self, value: Value) -> Result<(), AllocError>
         ensures { OnOk result (group_of self.new ≡ record (group_of self.old) {
           members = (group_of self.old).members ++ datum_of value ∷ [];
         }) }
     {
         match self {
-            Group::Array(members) => members.push(value)?,
-            Group::Set(members) => members.push(value)?,
-            Group::Push(members) => members.push(value)?,
-            Group::Map(pairs) => pairs.add(value)?,
-            Group::Attr(pairs) => pairs.add(value)?,
+            Group::Array(members) => append(members, value),
+            Group::Set(members) => append(members, value),
+            Group::Push(members) => append(members, value),
+            Group::Map(pairs) => pairs.add(value),
+            Group::Attr(pairs) => pairs.add(value),
         }
-        Ok(())
     }
 
     /// The value that has these members; none where there is no memory, or where no member is left

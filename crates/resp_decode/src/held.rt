@@ -6,6 +6,9 @@ ghost use Rattle.resp_fronts.specs.Events as e;
 ghost use Rattle.resp_scan.specs.Kinds.{content_events, text_kind_of};
 ghost use Rattle.resp_scan.specs.Listening.{IsTextOf, whole_text_events};
 ghost use Rattle.resp_decode.specs.Weights.{format_weight};
+ghost use Rattle.resp_decode.specs.Builds.{scalar_of};
+ghost use Rattle.resp_decode.specs.Fits.{IsContentAlone};
+ghost use Rattle.resp_value.specs.Data.{scalar};
 ghost use Rattle.resp_value.specs.Kinds.{kind_of};
 ghost use Rattle.resp_value.specs.Values.{datum_of};
 
@@ -75,7 +78,7 @@ impl Held {
 
     /// Puts a finished value where it belongs: it is a member of the innermost aggregate, or the
     /// whole value. Only a member wants memory.
-    #[inline]
+    #[inline(always)]
     fn put(&mut self, value: Value) -> Result<(), AllocError>
         ensures holds { OnOk result (construction_of self.new ≡
             with_value (datum_of value) (construction_of self.old)) }
@@ -100,7 +103,7 @@ impl Held {
     }
 
     /// Takes in a scalar with so many bytes of content.
-    #[inline]
+    #[inline(always)]
     fn put_scalar(&mut self, value: Value, content: usize) -> bool
         ensures holds { result ≡ true → construction_of self.new ≡
             with_value (datum_of value) (construction_of self.old) }
@@ -168,20 +171,28 @@ impl Held {
         }
     }
 
-    /// Takes in a text that has come whole. A line isn't searched again.
+    /// Takes in a text that has come whole.
     #[inline]
     fn take_text(&mut self, kind: TextKind, bytes: &[u8]) -> bool
         requires { IsTextOf kind bytes.now }
         ensures { TakesInWhereFit self.old self.new (whole_text_events kind bytes.now) result }
     {
-        let Ok(copy) = Vec::from_slice(self.alloc, bytes) else {
-            return false;
-        };
         match kind {
-            TextKind::Simple => self.put_scalar(Value::Simple(Line::of_plain(copy)), bytes.len()),
-            TextKind::Error => self.put_scalar(Value::Error(Line::of_plain(copy)), bytes.len()),
-            TextKind::Bulk => self.put_scalar(Value::Bulk(Content::new(copy)), bytes.len()),
-            _ => self.take_parts(kind, bytes),
+            TextKind::Verbatim(_) | TextKind::Big { .. } => self.take_parts(kind, bytes),
+            _ => self.take_content(kind, bytes),
+        }
+    }
+
+    /// Takes in a text that is its content alone.
+    #[inline(always)]
+    fn take_content(&mut self, kind: TextKind, bytes: &[u8]) -> bool
+        requires content_alone { IsContentAlone (text_kind_of kind) }
+        requires is_text { IsTextOf kind bytes.now }
+        ensures { TakesInWhereFit self.old self.new (whole_text_events kind bytes.now) result }
+    {
+        match Vec::from_slice(self.alloc, bytes) {
+            Ok(copy) => self.put_scalar(content_value(kind, copy), bytes.len()),
+            Err(_) => false,
         }
     }
 
@@ -246,6 +257,21 @@ impl Listener for Held {
     #[inline]
     fn whole_text(&mut self, kind: TextKind, bytes: &[u8]) -> bool {
         self.take_text(kind, bytes)
+    }
+}
+
+/// The value of a whole text that is its content alone. A line isn't searched again.
+#[inline(always)]
+fn content_value(kind: TextKind, bytes: Vec<u8>) -> Value
+    requires content_alone { IsContentAlone (text_kind_of kind) }
+    requires is_text { IsTextOf kind bytes.items }
+    ensures { datum_of result ≡ scalar (scalar_of (text_kind_of kind) bytes.items) }
+{
+    match kind {
+        TextKind::Simple => Value::Simple(Line::of_plain(bytes)),
+        TextKind::Error => Value::Error(Line::of_plain(bytes)),
+        TextKind::BulkError => Value::BulkError(Content::new(bytes)),
+        _ => Value::Bulk(Content::new(bytes)),
     }
 }
 

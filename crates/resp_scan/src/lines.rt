@@ -63,7 +63,7 @@ pub fn line_run(s: &[u8]) -> usize
     ensures run { result ≡ plain_run s.now }
     ensures within { result ≤ length s.now }
 {
-    let near = s.len().min(16);
+    let near = s.len().min(8);
     for i in 0..near {
         let byte = s[i];
         if byte <= b'\r' && (byte == b'\r' || byte == b'\n') {
