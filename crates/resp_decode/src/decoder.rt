@@ -27,6 +27,7 @@ impl Decoder {
     ghost use Rattle.resp_decode.specs.Weights.{weight_of};
     ghost use Rattle.resp_scan.specs.Kinds.{rules_of};
     ghost use Rattle.resp_scan.specs.declared.event.Fault.{Fault};
+    ghost use Rattle.resp_value.specs.Bounds.{AreBounds};
     ghost use Rattle.resp_value.specs.Rules.{WithinTotal, rules_under};
     ghost use Rattle.resp_value.specs.Spellings.{IsViable};
 
@@ -109,6 +110,7 @@ impl Decoder {
         ensures length_of_front { WhereTaken self.now (λ front. result ≡ length front) }
         ensures viable { WhereTaken self.now (IsViable (rules_of self.now.scanner) WithinTotal) }
         ensures at_most_total { result ≤ (rules_of self.now.scanner).limits.total }
+        ensures limits_in_range { AreBounds (rules_of self.now.scanner).limits }
     {
         self.scanner.taken()
     }

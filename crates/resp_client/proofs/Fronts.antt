@@ -1,0 +1,178 @@
+-- What a client takes of the values that come, and in which version.
+use Rattle.std.proofs.Common.{◌≡◌, ◌≢◌, ◌⊎◌, inl, inr, ℕ, ◌≤◌, Bool, true, false, eqb, List, [], ◌∷◌, ◌++◌, length, take, drop, Option, None, Some, refl, sym, ap, subst, ◌∙◌, arith, append_assoc}
+use Rattle.std.proofs.lemmas.Bool.{eqb-true}
+use Rattle.std.proofs.lemmas.List.{append-nil, take-append-drop, take-append-le, take_all}
+use Rattle.resp_value.specs.Bounds.{Bounds}
+use Rattle.resp_value.specs.Data.{Datum, IsPush, scalar, aggregate, Array, Set, Map, Attr, Push}
+use Rattle.resp_value.specs.Rules.{Rules, WithinTotal, rules_under}
+use Rattle.resp_value.specs.Trees.{Spells}
+use Rattle.resp_value.specs.Spellings.{IsSpelling, IsViable, FaultOf}
+use Rattle.resp_value.specs.Laws.{NoSpellingIsEmpty, APushBeginsWithItsByte, LaterTypeBytesWantVersionThree}
+use Rattle.resp_value.specs.declared.version.Version.{Version}
+use Rattle.resp_value.specs.declared.version.Version.TheVariants.{Two, Three}
+use Rattle.resp_scan.specs.Kinds.{rules_of}
+use Rattle.resp_scan.specs.Reading.{HasNoSpelling, HasNoValue}
+use Rattle.resp_scan.specs.declared.event.Fault.{Fault}
+use Rattle.resp_decode.specs.Decoding.{LacksMemory, RefusesByte}
+use Rattle.resp_decode.specs.Decoding as decode
+use Rattle.resp_decode.specs.declared.decoder.Decoder.{Decoder}
+use Rattle.resp_session.specs.Answers.{BeginsNoValue}
+use Rattle.resp_session.specs.Heard.{is_push}
+use Rattle.resp_session.specs.Reading.{ClientFault, IsBroken, IsUnasked, MayBeRead, MayGoOn, ReadsAs, Waiting, reading_rules, waiting_after}
+use Rattle.resp_client.specs.Hearing.{TakesFront}
+
+is_push_byte : (byte : ℕ) (b : Bool) → eqb byte 62 ≡ b → (byte ≢ 62 → ⊥) → byte ≡ 62
+is_push_byte byte true e h = eqb-true byte 62 e
+is_push_byte byte false e h = absurd (h (λ f. let g : eqb 62 62 ≡ false = ap (λ z. eqb z 62) (sym f) ∙ e in absurd (cc)))
+
+-- what begins as a push isn't viable in version 2
+push_is_later : LaterTypeBytesWantVersionThree → (r : Rules) (behind : List ℕ) → r.version ≡ Two → IsViable r WithinTotal (62 ∷ behind) → ⊥
+push_is_later later r behind two v =
+    (later r two).1.1.1.1.1.1.1.1.0.not_viable
+    (record { rest = behind ++ v.rest; tree = v.tree; spells = v.spells; keeps = λ earlier h. v.keeps earlier (omega (arith, h)) })
+
+-- a value that was begun is read in the same version, whatever is asked behind it
+same_version : LaterTypeBytesWantVersionThree → (limits : Bounds) (version : Version) (asks : List (Option Version)) (asked : Option Version) (r : Rules)
+    (front : List ℕ) → r ≡ reading_rules limits (record { version = version; asks = asks }) → IsViable r WithinTotal front →
+    (IsUnasked (record { version = version; asks = asks }) front → ⊥) →
+    (front ≡ []) ⊎ (r ≡ reading_rules limits (record { version = version; asks = asks ++ asked ∷ [] }))
+same_version later limits version (None ∷ asks) asked r front e v u = inr e
+same_version later limits version (Some first ∷ asks) asked r front e v u = inr e
+same_version later limits Three [] None r front e v u = inr e
+same_version later limits Three [] (Some asked) r front e v u = inr e
+same_version later limits Two [] asked r [] e v u = inl refl
+same_version later limits Two [] asked r (first ∷ behind) e v u =
+    let push : first ≡ 62 = is_push_byte first (eqb first 62) refl (λ other. u (refl, (first, behind, other, refl))) in
+    absurd (push_is_later later r behind (ap (λ (z : Rules). z.version) e) (subst (λ z. IsViable r WithinTotal (z ∷ behind)) push v))
+
+-- what was taken stays so, whatever is asked behind it
+pub takes_on : LaterTypeBytesWantVersionThree → (limits : Bounds) (version : Version) (asks : List (Option Version)) (asked : Option Version) (d : Decoder)
+    (fault : Option Fault) (front : List ℕ) → IsViable (rules_of d.scanner) WithinTotal front →
+    TakesFront limits (record { version = version; asks = asks }) d fault front →
+    TakesFront limits (record { version = version; asks = asks ++ asked ∷ [] }) d fault front
+takes_on later limits version asks asked d fault front v t = record {
+  taken = t.taken;
+  same_limits = t.same_limits;
+  read_by = elim t.read_by [ inl none ↦ inl none | inr e ↦ same_version later limits version asks asked (rules_of d.scanner) front e v t.asked ];
+  asked = λ u. none_waits asks u.0;
+  no_fault = t.no_fault;
+} where
+  none_waits : (asks : List (Option Version)) → asks ++ asked ∷ [] ≡ [] → ⊥
+  none_waits [] e = absurd (cc)
+  none_waits (first ∷ others) e = absurd (cc)
+
+front_of : (front behind : List ℕ) → take (length front) (front ++ behind) ≡ front
+front_of front behind = take-append-le (length front) front behind (omega arith) ∙ take_all (length front) front (omega arith)
+
+-- where no front is a spelling no value begins the text
+pub no_value_begins : (r : Rules) (text : List ℕ) → HasNoSpelling r text → BeginsNoValue r text
+no_value_begins r text h x front behind s e =
+    h (length front) (record { tree = s.tree; spells = subst (Spells s.tree) (sym (ap (take (length front)) e ∙ front_of front behind)) s.spells; keeps = s.keeps })
+
+pub no_tree_begins : (r : Rules) (text : List ℕ) → HasNoValue text → BeginsNoValue r text
+no_tree_begins r text h x front behind s e =
+    h (length front) s.tree (subst (Spells s.tree) (sym (ap (take (length front)) e ∙ front_of front behind)) s.spells)
+
+-- a refused byte is the client's fault
+pub is_broken : (limits : Bounds) (w : Waiting) (r : Rules) (front piece : List ℕ) (fault : Fault) → r ≡ reading_rules limits w →
+    (IsUnasked w (front ++ piece) → ⊥) → RefusesByte r front piece fault ⊎ LacksMemory r front piece fault →
+    ClientFault limits w (front ++ piece) fault.cause fault.at ⊎ LacksMemory (reading_rules limits w) front piece fault
+is_broken limits w r front piece fault e asked (inl f) = inl (inr (record {
+  asked = asked;
+  no_more = subst (λ z. BeginsNoValue z (front ++ piece)) e (no_value_begins r (front ++ piece) f.no_value);
+  rule = f.rule;
+  fault = subst (λ z. FaultOf z (front ++ piece) f.rule fault.at) e f.fault_of;
+  named = f.names;
+}))
+is_broken limits w r front piece fault e asked (inr m) = inr (subst (λ z. LacksMemory z front piece fault) e m)
+
+pub may_go_on : (limits : Bounds) (w : Waiting) (r : Rules) (text : List ℕ) → r ≡ reading_rules limits w → (IsUnasked w text → ⊥) → HasNoValue text →
+    IsViable r WithinTotal text → MayGoOn limits w text
+may_go_on limits w r text e asked none v = record {
+  asked = asked;
+  no_more = no_tree_begins (reading_rules limits w) text none;
+  viable = subst (λ z. IsViable z WithinTotal text) e v;
+}
+
+push_by : (x : Datum) → IsPush x → is_push x ≡ true
+push_by (scalar s) h = absurd h
+push_by (aggregate Array xs) h = absurd h
+push_by (aggregate Set xs) h = absurd h
+push_by (aggregate Map xs) h = absurd h
+push_by (aggregate Attr xs) h = absurd h
+push_by (aggregate Push xs) h = refl
+
+-- a value that came while no command waits is a push
+may_be_read : NoSpellingIsEmpty → APushBeginsWithItsByte → (r : Rules) (w : Waiting) (x : Datum) (text : List ℕ) → IsSpelling r x text →
+    (IsUnasked w text → ⊥) → MayBeRead w x
+may_be_read full begins r w x [] s asked e = absurd (full r x s)
+may_be_read full begins r w x (first ∷ rest) s asked e =
+    push_by x ((begins r x (first ∷ rest) s).1
+    (rest, ap (λ z. z ∷ rest) (is_push_byte first (eqb first 62) refl (λ other. asked (e, (first, rest, other, refl))))))
+
+-- what is asked for as a whole is asked for as far as it was used
+asked_front : (w : Waiting) (front piece : List ℕ) (used : ℕ) → (IsUnasked w (front ++ piece) → ⊥) → IsUnasked w (front ++ take used piece) → ⊥
+asked_front w front piece used h (none, (byte, behind, other, e)) =
+    h (
+      none,
+      (
+        byte,
+        behind ++ drop used piece,
+        other,
+        ap (λ z. front ++ z) (sym (take-append-drop used piece)) ∙ sym (append_assoc front (take used piece) (drop used piece)) ∙ ap (λ z. z ++ drop used piece) e,
+      ),
+    )
+
+-- a spelling is read as its value
+pub reads_as : NoSpellingIsEmpty → APushBeginsWithItsByte → (limits : Bounds) (w : Waiting) (r : Rules) (x : Datum) (front piece : List ℕ) (used : ℕ) →
+    r ≡ reading_rules limits w → (IsUnasked w (front ++ piece) → ⊥) → IsSpelling r x (front ++ take used piece) →
+    ReadsAs limits w (x ∷ []) (front ++ take used piece) (waiting_after w x)
+reads_as full begins limits w r x front piece used e asked s =
+    let text = front ++ take used piece in (
+      text,
+      [],
+      subst (λ z. IsSpelling z x text) e s,
+      may_be_read full begins r w x text s (asked_front w front piece used asked),
+      (refl, refl),
+      sym (append-nil text),
+    )
+
+-- nothing is taken of the next value
+pub takes_nothing : (limits : Bounds) (w : Waiting) (d : Decoder) (fault : Option Fault) → decode.HasTaken d [] → (rules_of d.scanner).limits ≡ limits →
+    fault ≡ None → TakesFront limits w d fault []
+takes_nothing limits w d fault t l none = record {
+  taken = t;
+  same_limits = l;
+  read_by = inl refl;
+  asked = λ u. let (e, (byte, behind, other, is)) = u in absurd (cc);
+  no_fault = none;
+}
+
+-- what was taken of a value was begun in its version
+pub begun_version : (limits : Bounds) (w : Waiting) (d : Decoder) (fault : Option Fault) (front : List ℕ) → TakesFront limits w d fault front →
+    (front ≡ [] → ⊥) → rules_of d.scanner ≡ reading_rules limits w
+begun_version limits w d fault front t begun =
+    elim t.read_by as (λ h. rules_of d.scanner ≡ reading_rules limits w) [ inl none ↦ absurd (begun none) | inr e ↦ e ]
+
+-- and it goes on as it was asked for
+pub begun_asked : (w : Waiting) (front piece : List ℕ) → (IsUnasked w front → ⊥) → (front ≡ [] → ⊥) → IsUnasked w (front ++ piece) → ⊥
+begun_asked w [] piece asked begun u = begun refl
+begun_asked w (first ∷ rest) piece asked begun (none, (byte, behind, other, e)) =
+    let same : first ≡ byte = cc in
+    asked (none, (first, rest, (λ is. other (sym same ∙ is)), refl))
+
+pub no_bytes : (front : List ℕ) → length front ≡ 0 → front ≡ []
+no_bytes [] e = refl
+no_bytes (first ∷ rest) e = absurd (omega (arith, e))
+
+-- more is taken of a value
+pub takes_more : (limits : Bounds) (w : Waiting) (old new : Decoder) (fault : Option Fault) (text : List ℕ) →
+    rules_of old.scanner ≡ reading_rules limits w → rules_of new.scanner ≡ rules_of old.scanner → (IsUnasked w text → ⊥) → fault ≡ None →
+    decode.HasTaken new text → TakesFront limits w new fault text
+takes_more limits w old new fault text e same asked none t = record {
+  taken = t;
+  same_limits = ap (λ (r : Rules). r.limits) (same ∙ e);
+  read_by = inr (same ∙ e);
+  asked = asked;
+  no_fault = none;
+}

@@ -1,0 +1,56 @@
+-- What a client shows, and what its calls leave of it.
+use Rattle.std.specs.Prelude.{ℕ, ◌+◌, List, [], ◌∷◌, ◌++◌, length, drop}
+use Rattle.resp_value.specs.Bounds.{Bounds}
+use Rattle.resp_value.specs.Data.{Datum}
+use Rattle.resp_value.specs.declared.version.Version.TheVariants.{Two}
+use Rattle.resp_session.specs.Reading.{Waiting, waiting_after_reply}
+use Rattle.resp_session.specs.Requests.{Request, request_text, version_asked}
+use Rattle.resp_client.specs.declared.client.Client.{Client}
+
+-- what a client has queued, and what it waits for
+pub record ClientState : Type 0 where
+  pub limits : Bounds
+  -- its version, and what each command that waits asks
+  pub waiting : Waiting
+  -- how many commands have a reply
+  pub answered : ℕ
+  -- the texts of the commands, without what was dropped of them
+  pub out : List ℕ
+
+abbrev pub state_of : Client → ClientState
+state_of c = record {
+  limits = c.limits;
+  waiting = record { version = c.version; asks = c.asks.items };
+  answered = c.answered;
+  out = c.out.items;
+}
+
+-- nothing is queued, and the version is 2
+abbrev pub new_state : Bounds → ClientState
+new_state limits = record { limits = limits; waiting = record { version = Two; asks = [] }; answered = 0; out = [] }
+
+-- how many commands were queued
+abbrev pub queued : ClientState → ℕ
+queued s = s.answered + length s.waiting.asks
+
+-- the number of the next reply
+abbrev pub next_number : ClientState → ℕ
+next_number s = s.answered + 1
+
+-- behind a request that was queued
+abbrev pub with_request : Request → ClientState → ClientState
+with_request request s = record s {
+  waiting = record { version = s.waiting.version; asks = s.waiting.asks ++ version_asked request ∷ [] };
+  out = s.out ++ request_text request;
+}
+
+-- behind so many bytes that were sent
+abbrev pub without_front : ℕ → ClientState → ClientState
+without_front count s = record s { out = drop count s.out }
+
+-- behind a reply to the first command that waits
+abbrev pub with_answer : Datum → ClientState → ClientState
+with_answer x s = record s {
+  waiting = waiting_after_reply s.waiting.version s.waiting.asks x;
+  answered = s.answered + 1;
+}

@@ -1,0 +1,100 @@
+-- What a client hears, in words of texts and values.
+use Rattle.std.specs.Prelude.{◌≡◌, ◌⊎◌, ℕ, Option, None, Some, List, [], ◌∷◌, ◌++◌, length, take, Result, Ok, Err}
+use Rattle.resp_value.specs.Bounds.{Bounds}
+use Rattle.resp_value.specs.Data.{Datum}
+use Rattle.resp_value.specs.Values.{datum_of}
+use Rattle.resp_value.specs.declared.value.Value.TheVariants as value
+use Rattle.resp_value.specs.declared.value.Members.{Members}
+use Rattle.resp_scan.specs.Kinds.{rules_of}
+use Rattle.resp_scan.specs.declared.event.Fault.{Fault}
+use Rattle.resp_decode.specs.Decoding.{LacksMemory}
+use Rattle.resp_decode.specs.Decoding as decode
+use Rattle.resp_decode.specs.declared.decoder.Decoder.{Decoder}
+use Rattle.resp_session.specs.Heard.{numbered_replies}
+use Rattle.resp_session.specs.Reading.{ClientFault, IsUnasked, MayGoOn, ReadsAs, Waiting, reading_rules}
+use Rattle.resp_client.specs.Clients.{ClientState, next_number, state_of, with_answer}
+use Rattle.resp_client.specs.declared.client.Client.{Client}
+use Rattle.resp_client.specs.declared.heard.Heard.{Heard}
+use Rattle.resp_client.specs.declared.heard.What.{What}
+use Rattle.resp_client.specs.declared.heard.What.TheVariants.{Reply, Push, Shown, More}
+
+-- What a client has taken of a value: the bytes of this front, in the version in which the value is read, and they were
+-- asked for. How a client stands to them is opaque to callers: `new` establishes this relation, and each call keeps it
+-- until a fault.
+pub record TakesFront (limits : Bounds) (w : Waiting) (d : Decoder) (fault : Option Fault) (front : List ℕ) :
+    Type 0 where
+  pub taken : decode.HasTaken d front
+  pub same_limits : (rules_of d.scanner).limits ≡ limits
+  pub read_by : (front ≡ []) ⊎ (rules_of d.scanner ≡ reading_rules limits w)
+  pub asked : IsUnasked w front → ⊥
+  pub no_fault : fault ≡ None
+
+abbrev pub HasTaken : Client → List ℕ → Type 0
+HasTaken c front = TakesFront c.limits (state_of c).waiting c.decoder c.fault front
+
+-- this holds of every front that the client has taken
+abbrev pub WhereTaken : Client → (List ℕ → Type 0) → Type 0
+WhereTaken c P = (front : List ℕ) → HasTaken c front → P front
+
+-- a fault is answered for good
+abbrev pub HasFault : Client → Fault → Type 0
+HasFault c fault = c.fault ≡ Some fault
+
+-- what was taken of a value and what fault stands are the same
+pub record KeepsReading (old new : Client) : Type 0 where
+  pub same_front : (front : List ℕ) → HasTaken old front → HasTaken new front
+  pub same_fault : (fault : Fault) → HasFault old fault → HasFault new fault
+
+-- the text is read as the reply to the first command that waits, which it answers
+pub record GivesReply (old new : Client) (written : List ℕ) (number : ℕ) (x : Datum) : Type 0 where
+  pub reads : ReadsAs (state_of old).limits (state_of old).waiting (x ∷ []) written (state_of new).waiting
+  pub numbered : numbered_replies (next_number (state_of old)) (x ∷ []) ≡ (number, x) ∷ []
+  pub answered : state_of new ≡ with_answer x (state_of old)
+  pub takes : HasTaken new []
+
+-- the text is read as a push, which answers nothing
+pub record GivesPush (old new : Client) (written : List ℕ) (x : Datum) : Type 0 where
+  pub reads : ReadsAs (state_of old).limits (state_of old).waiting (x ∷ []) written (state_of old).waiting
+  pub takes : HasTaken new []
+
+-- the piece is used up: no value has ended, the text may go on, and it is taken
+pub record TakesPiece (old new : Client) (written piece : List ℕ) (used : ℕ) : Type 0 where
+  pub whole_piece : used ≡ length piece
+  pub may_go_on : MayGoOn (state_of old).limits (state_of old).waiting written
+  pub takes : HasTaken new written
+
+-- what was heard in a piece, of which so many bytes were used
+abbrev pub Hears : Client → Client → List ℕ → List ℕ → ℕ → What → Type 0
+Hears old new front piece used (Reply number x) =
+    GivesReply old new (front ++ take used piece) number (datum_of x)
+Hears old new front piece used (Push items) = GivesPush old new (front ++ take used piece) (datum_of (value.Push items))
+Hears old new front piece used Shown = ⊥
+Hears old new front piece used More = TakesPiece old new (front ++ piece) piece used
+
+-- the same, where pushes are shown to a sink, which was shown these before and behind
+abbrev pub HearsAndShows : Client → Client → List Members → List Members → List ℕ → List ℕ → ℕ → What → Type 0
+HearsAndShows old new before after front piece used (Reply number x) =
+    (after ≡ before) × GivesReply old new (front ++ take used piece) number (datum_of x)
+HearsAndShows old new before after front piece used (Push items) = ⊥
+HearsAndShows old new before after front piece used Shown =
+    (items : Members) × (after ≡ before ++ items ∷ []) ×
+    GivesPush old new (front ++ take used piece) (datum_of (value.Push items))
+HearsAndShows old new before after front piece used More =
+    (after ≡ before) × TakesPiece old new (front ++ piece) piece used
+
+-- where this is no reply
+abbrev pub UnlessReplied : What → Type 0 → Type 0
+UnlessReplied (Reply number x) P = Unit {0}
+UnlessReplied (Push items) P = P
+UnlessReplied Shown P = P
+UnlessReplied More P = P
+
+-- where no reply was heard
+abbrev pub UnlessReply : Result Heard Fault → Type 0 → Type 0
+UnlessReply (Ok heard) P = UnlessReplied heard.what P
+UnlessReply (Err fault) P = P
+
+-- the fault of what came, or want of memory behind bytes that are viable
+abbrev pub Refuses : ClientState → List ℕ → List ℕ → Fault → Type 0
+Refuses s front piece fault = ClientFault s.limits s.waiting (front ++ piece) fault.cause fault.at ⊎
+    LacksMemory (reading_rules s.limits s.waiting) front piece fault

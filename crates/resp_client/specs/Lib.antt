@@ -1,0 +1,6 @@
+-- What a caller reads of the client.
+pub mod Clients
+pub mod Hearing
+pub mod Sending
+-- What the steps of a feed promise one another, which no public clause names.
+pub mod Steps

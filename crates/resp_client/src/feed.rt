@@ -1,0 +1,219 @@
+//! What is heard of the bytes that come.
+
+ghost use Rattle.std.specs.Prelude.{◌≡◌, ◌≢◌, ◌↔◌, ◌≤◌, ◌++◌, [], length, take, Err, IsTrue, OnOk, OnErr, IfOk, IfErr};
+ghost use Rattle.resp_value.specs.Values.{datum_of};
+ghost use Rattle.resp_session.specs.Reading.{IsUnasked, greater_version, is_refusal, reading_version};
+ghost use Rattle.resp_decode.specs.Decoding.{IfNoValue, IfValue};
+ghost use Rattle.resp_client.specs.Clients.{next_number, state_of, with_answer};
+ghost use Rattle.resp_client.specs.Hearing.{HasFault, HasTaken, Hears, HearsAndShows, Refuses, TakesPiece, UnlessReply, WhereTaken};
+ghost use Rattle.resp_client.specs.Steps.{HasBegun, IsUnaskedFault, Knows, SameReading, TakesValue};
+ghost use Rattle.resp_scan.specs.declared.event.Fault.{Fault};
+
+use crate::client::Client;
+use crate::heard::{Heard, What};
+use crate::sink::{PushSink, show_to};
+use resp_decode::fed::Fed;
+use resp_scan::event::Fault;
+use resp_value::cause::Cause;
+use resp_value::laws as grammar;
+use resp_value::value::Value;
+use resp_value::version::Version;
+
+/// The greater of two versions.
+fn greater_version(version: Version, other: Version) -> Version
+    ensures { result ≡ greater_version version other }
+{
+    match version {
+        Version::Two => other,
+        Version::Three => Version::Three,
+    }
+}
+
+/// Whether a reply refuses its command.
+fn is_refusal(value: &Value) -> bool
+    ensures { result ≡ is_refusal (datum_of value.now) }
+{
+    match value.without_attributes() {
+        Value::Error(_) | Value::BulkError(_) => true,
+        _ => false,
+    }
+}
+
+impl Client {
+    /// Takes bytes of the piece until a reply or a push is whole or the piece ends. A value is read
+    /// in the greater of the client's version and the one that the first waiting command asks, and
+    /// that is fixed at its first byte.
+    ///
+    /// Refuses by Unasked the first byte of a value that is no push while no command waits, each
+    /// other byte as the decoder does, and by OutOfMemory where no memory is found for what came.
+    /// Every later call answers the same, and what was queued stays.
+    pub fn feed(&mut self, piece: &[u8]) -> Result<Heard, Fault>
+        ensures heard { WhereTaken self.old (λ front. IfOk result (λ heard.
+            Hears self.old self.new front piece.now heard.used heard.what)) }
+        ensures refusal { WhereTaken self.old (λ front. IfErr result
+            (Refuses (state_of self.old) front piece.now)) }
+        ensures only_replies_answer { UnlessReply result (state_of self.new ≡ state_of self.old) }
+        ensures within_piece { IfOk result (λ heard. heard.used ≤ length piece.now) }
+        ensures fault_is_kept { IfErr result (HasFault self.new) }
+        ensures fault_is_final { (fault : Fault) → HasFault self.old fault → result ≡ Err fault }
+    {
+        if let Some(fault) = self.fault {
+            return Err(fault);
+        }
+        let fed = match self.take(piece) {
+            Ok(fed) => fed,
+            Err(fault) => {
+                self.fault = Some(fault);
+                return Err(fault);
+            }
+        };
+        let used = fed.used;
+        let Some(value) = fed.value else {
+            return Ok(Heard {
+                used,
+                what: What::More,
+            });
+        };
+        let what = self.hear(value);
+        Ok(Heard { used, what })
+    }
+
+    /// As [`Client::feed`], but a push is shown to the sink, and then [`What::Shown`] is answered.
+    ///
+    /// Refuses also by OutOfMemory where the sink does, and then it was shown nothing.
+    pub fn feed_with(&mut self, piece: &[u8], sink: &mut Box<dyn PushSink>) -> Result<Heard, Fault>
+        ensures heard { WhereTaken self.old (λ front. IfOk result (λ heard.
+            HearsAndShows self.old self.new (pushes sink.old) (pushes sink.new) front piece.now
+            heard.used heard.what)) }
+        ensures refusal { WhereTaken self.old (λ front. IfErr result
+            (Refuses (state_of self.old) front piece.now)) }
+        ensures only_replies_answer { UnlessReply result (state_of self.new ≡ state_of self.old) }
+        ensures nothing_shown { OnErr result (pushes sink.new ≡ pushes sink.old) }
+        ensures within_piece { IfOk result (λ heard. heard.used ≤ length piece.now) }
+        ensures fault_is_kept { IfErr result (HasFault self.new) }
+        ensures fault_is_final { (fault : Fault) → HasFault self.old fault → result ≡ Err fault }
+    {
+        grammar::a_push_begins_with_its_byte();
+        grammar::fronts_of_spellings_are_viable();
+        let taken = self.decoder.taken();
+        let heard = match self.feed(piece) {
+            Ok(heard) => heard,
+            Err(fault) => return Err(fault),
+        };
+        let used = heard.used;
+        let items = match heard.what {
+            What::Push(items) => items,
+            what => return Ok(Heard { used, what }),
+        };
+        if show_to(sink, items).is_err() {
+            let fault = Fault {
+                cause: Cause::OutOfMemory,
+                at: taken + used as u64,
+            };
+            self.fault = Some(fault);
+            return Err(fault);
+        }
+        Ok(Heard {
+            used,
+            what: What::Shown,
+        })
+    }
+
+    /// Takes bytes until a value is whole, in the version in which it is read.
+    fn take(&mut self, piece: &[u8]) -> Result<Fed, Fault>
+        ensures value_whole { WhereTaken self.old (λ front. IfValue result (λ used value.
+            TakesValue self.old self.new (front ++ take used piece.now) (datum_of value))) }
+        ensures used_up { WhereTaken self.old (λ front. IfNoValue result
+            (TakesPiece self.old self.new (front ++ piece.now) piece.now)) }
+        ensures refusal { WhereTaken self.old (λ front. IfErr result
+            (Refuses (state_of self.old) front piece.now)) }
+        ensures within_piece { IfOk result (λ fed. fed.used ≤ length piece.now) }
+        ensures same_state { state_of self.new ≡ state_of self.old }
+        ensures same_fault { self.new.fault ≡ self.old.fault }
+    {
+        grammar::no_spelling_is_empty();
+        grammar::a_push_begins_with_its_byte();
+        if let Err(fault) = self.begin(piece) {
+            return Err(fault);
+        }
+        self.decoder.feed(piece)
+    }
+
+    /// Fixes the version of a value whose first byte comes, or refuses that byte.
+    fn begin(&mut self, piece: &[u8]) -> Result<(), Fault>
+        ensures begun { WhereTaken self.old (λ front. OnOk result
+            (HasBegun self.new front piece.now)) }
+        ensures unasked { WhereTaken self.old (λ front. IfErr result
+            (IsUnaskedFault (state_of self.old) front piece.now)) }
+        ensures same_state { state_of self.new ≡ state_of self.old }
+        ensures same_fault { self.new.fault ≡ self.old.fault }
+    {
+        if self.decoder.taken() != 0 {
+            return Ok(());
+        }
+        if self.is_unasked(piece) {
+            return Err(Fault {
+                cause: Cause::Unasked,
+                at: 0,
+            });
+        }
+        let version = self.reading_version();
+        // Nothing is taken of a value, so the decoder takes the version.
+        let _changed = self.decoder.set_version(version);
+        Ok(())
+    }
+
+    /// Whether a value that begins so is asked for by no command, and is no push.
+    fn is_unasked(&self, piece: &[u8]) -> bool
+        ensures { IsTrue result ↔ IsUnasked (state_of self.now).waiting piece.now }
+    {
+        match piece.first() {
+            Some(first) => self.asks.is_empty() && *first != b'>',
+            None => false,
+        }
+    }
+
+    /// The version of a value that begins now.
+    fn reading_version(&self) -> Version
+        ensures { result ≡ reading_version (state_of self.now).waiting.version
+            (state_of self.now).waiting.asks }
+    {
+        match self.asks.front() {
+            Some(Some(asked)) => greater_version(self.version, *asked),
+            _ => self.version,
+        }
+    }
+
+    /// Tells a value that was read: a push, or the reply to the first command that waits.
+    fn hear(&mut self, value: Value) -> What
+        ensures known { Knows (state_of self.old) (state_of self.new) (datum_of value) result }
+        ensures same_reading { SameReading self.old self.new }
+    {
+        match value {
+            Value::Push(items) => What::Push(items),
+            value => {
+                let number = self.answer(&value);
+                What::Reply { number, value }
+            }
+        }
+    }
+
+    /// Answers the first command that waits, and gives its number.
+    fn answer(&mut self, value: &Value) -> u64
+        ensures answered { (state_of self.old).waiting.asks ≢ [] →
+            state_of self.new ≡ with_answer (datum_of value.now) (state_of self.old) }
+        ensures number { (state_of self.old).waiting.asks ≢ [] →
+            result ≡ next_number (state_of self.old) }
+        ensures same_reading { SameReading self.old self.new }
+    {
+        if let Some(asked) = self.asks.pop_front() {
+            self.answered += 1;
+            if let Some(version) = asked {
+                if !is_refusal(value) {
+                    self.version = version;
+                }
+            }
+        }
+        self.answered
+    }
+}

@@ -1,0 +1,30 @@
+//! What a client heard.
+
+use resp_value::value::{Members, Value};
+
+/// What a client heard in a piece.
+#[derive(Debug, PartialEq, Eq, Drop)]
+pub struct Heard {
+    /// The number of bytes taken from the front of the piece; the whole piece at [`What::More`].
+    pub used: usize,
+    /// What ends with them.
+    pub what: What,
+}
+
+/// What ended with the bytes that were taken.
+#[derive(Debug, PartialEq, Eq, Drop)]
+pub enum What {
+    /// The reply to a command.
+    Reply {
+        /// The number of the command.
+        number: u64,
+        /// The reply.
+        value: Value,
+    },
+    /// A push, which answers no command.
+    Push(Members),
+    /// A push that was shown to the sink.
+    Shown,
+    /// Nothing: more bytes have to come.
+    More,
+}
