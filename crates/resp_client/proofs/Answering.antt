@@ -1,19 +1,17 @@
 -- How a value that was read is told, and what it answers.
-use Rattle.std.proofs.Common.{◌≡◌, ◌≢◌, ◌⊎◌, inl, inr, ℕ, ◌+◌, ◌≤◌, Bool, true, false, eqb, List, [], ◌∷◌, ◌++◌, length, take, drop, Option, None, Some, refl, sym, ap, subst, ◌∙◌, arith, append_assoc}
+use Rattle.std.proofs.Common.{◌≡◌, ◌≢◌, inl, inr, ℕ, zero, suc, ◌+◌, ◌<◌, ◌≤◌, true, false, eqb, List, [], ◌∷◌, ◌++◌, length, take, drop, Option, refl, sym, ap, subst, ◌∙◌, arith, append_assoc}
 use Rattle.std.proofs.Math.Seq.{take-append-add}
-use Rattle.std.proofs.lemmas.List.{append-nil, length-append, take-append-drop}
+use Rattle.std.proofs.lemmas.List.{append-nil, length-append, take-append-drop, take_all}
 use Rattle.std.specs.Str.{byte}
 use Rattle.resp_value.specs.Bounds.{Bounds}
 use Rattle.resp_value.specs.Data.{Datum, IsPush}
-use Rattle.resp_value.specs.Data as d
 use Rattle.resp_value.specs.Laws.{APushBeginsWithItsByte, FrontsOfSpellingsAreViable}
-use Rattle.resp_value.specs.Rules.{Rules, WithinTotal}
+use Rattle.resp_value.specs.Rules.{WithinTotal}
 use Rattle.resp_value.specs.Spellings.{IsSpelling, IsViable}
+use Rattle.resp_value.specs.Trees.{Spells}
 use Rattle.resp_value.specs.Values.{datum_of}
 use Rattle.resp_value.specs.declared.cause.Cause.TheVariants as cause
-use Rattle.resp_value.specs.declared.value.Members.{Members}
 use Rattle.resp_value.specs.declared.value.Value.TheVariants as value
-use Rattle.resp_value.specs.declared.version.Version.{Version}
 use Rattle.resp_scan.specs.declared.event.Fault.{Fault}
 use Rattle.resp_decode.specs.Brief.{BeginsBrief, IsBriefByte}
 use Rattle.resp_decode.specs.Decoding.{LacksMemory}
@@ -22,7 +20,7 @@ use Rattle.resp_decode.specs.declared.decoder.Decoder.{Decoder}
 use Rattle.resp_session.specs.Heard.{is_push, numbered_replies}
 use Rattle.resp_session.specs.Reading.{MayBeRead, ReadsAs, Waiting, reading_rules, waiting_after, waiting_after_reply}
 use Rattle.resp_client.specs.Clients.{ClientState, next_number, state_of, with_answer}
-use Rattle.resp_client.specs.Hearing.{GivesPush, GivesReply, HasTaken, Hears, TakesFront, UnlessReplied}
+use Rattle.resp_client.specs.Hearing.{GivesPush, GivesReply, Hears, TakesFront, UnlessReplied}
 use Rattle.resp_client.specs.Steps.{Knows, SameReading, TakesValue}
 use Rattle.resp_client.specs.declared.client.Client.{Client}
 use Rattle.resp_client.specs.declared.heard.What.{What}
@@ -141,3 +139,11 @@ lacks_memory begins viable limits w after x front piece used at push reads h e =
           (viable r x text [] (subst (IsSpelling r x) (sym (append-nil text)) s) WithinTotal);
       not_brief = λ b. not_brief (subst BeginsBrief whole b);
     }
+
+-- a value that ends in a piece uses bytes of it, since none has ended before
+pub value_uses : (limits : Bounds) (w after : Waiting) (d : Decoder) (x : Datum) (front piece : List ℕ) (used : ℕ) → decode.HasTaken d front →
+    ReadsAs limits w (x ∷ []) (front ++ take used piece) after → 0 < used
+value_uses limits w after d x front piece (suc used) h reads = omega arith
+value_uses limits w after d x front piece zero h reads =
+    let is = spelling_of limits w after x (front ++ []) reads in
+    absurd (h.no_value (length front) is.tree (subst (Spells is.tree) (append-nil front ∙ sym (take_all (length front) front (omega arith))) is.spells))

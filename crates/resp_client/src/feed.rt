@@ -1,6 +1,6 @@
 //! What is heard of the bytes that come.
 
-ghost use Rattle.std.specs.Prelude.{◌≡◌, ◌≢◌, ◌↔◌, ◌≤◌, ◌++◌, [], length, take, Err, IsTrue, OnOk, OnErr, IfOk, IfErr};
+ghost use Rattle.std.specs.Prelude.{◌≡◌, ◌≢◌, ◌↔◌, ◌<◌, ◌≤◌, ◌++◌, [], length, take, Err, IsTrue, OnOk, OnErr, IfOk, IfErr};
 ghost use Rattle.resp_value.specs.Values.{datum_of};
 ghost use Rattle.resp_session.specs.Reading.{IsUnasked, greater_version, is_refusal, reading_version};
 ghost use Rattle.resp_decode.specs.Decoding.{IfNoValue, IfValue};
@@ -54,6 +54,8 @@ impl Client {
             (Refuses (state_of self.old) front piece.now)) }
         ensures only_replies_answer { UnlessReply result (state_of self.new ≡ state_of self.old) }
         ensures within_piece { IfOk result (λ heard. heard.used ≤ length piece.now) }
+        ensures uses_bytes { WhereTaken self.old (λ front. IfOk result (λ heard.
+            0 < length piece.now → 0 < heard.used)) }
         ensures fault_is_kept { IfErr result (HasFault self.new) }
         ensures fault_is_final { (fault : Fault) → HasFault self.old fault → result ≡ Err fault }
     {

@@ -1,8 +1,9 @@
-use Rattle.std.proofs.Common.{sym, subst}
+use Rattle.std.proofs.Common.{subst}
 use Rattle.resp_value.specs.Values.{datum_of}
-use Rattle.resp_client.specs.Clients.{state_of}
+use Rattle.resp_session.specs.Reading.{waiting_after}
+use Rattle.resp_client.specs.Clients.{ClientState, state_of}
 use Rattle.resp_client.specs.Steps.{Knows}
-use Rattle.resp_client.proofs.Answering.{tells, unless_replied}
+use Rattle.resp_client.proofs.Answering.{tells, unless_replied, value_uses}
 use Rattle.resp_client.proofs.client.Client.feed.Goals as goal
 
 pub returns-clause-heard : goal.returns-clause-heard
@@ -17,3 +18,10 @@ pub returns-clause-only_replies_answer : goal.returns-clause-only_replies_answer
 returns-clause-only_replies_answer c =
     unless_replied (state_of c.args.self.now) (state_of c.take.new.self) (state_of c.hear-what.new.self) _ c.hear-what.result
     c.in-Ok.ensures.same_state c.hear-what.ensures.known
+
+pub returns-clause-uses_bytes : goal.returns-clause-uses_bytes
+returns-clause-uses_bytes c = λ front h some.
+    let s : ClientState = state_of c.args.self.now in
+    let x = datum_of c.in-Some-value.value in
+    value_uses s.limits s.waiting (waiting_after s.waiting x) c.args.self.now.decoder x front c.args.piece.now c.in-Ok.fed.used h.taken
+    (c.in-Ok.ensures.value_whole front h c.in-Some-value.value c.in-Some-value.is).reads
