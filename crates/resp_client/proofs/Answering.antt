@@ -1,28 +1,24 @@
 -- How a value that was read is told, and what it answers.
-use Rattle.std.proofs.Common.{◌≡◌, ◌≢◌, ◌⊎◌, inl, inr, ℕ, ◌+◌, ◌≤◌, Bool, true, false, eqb, List, [], ◌∷◌, ◌++◌, length, take, drop, Option, None, Some, refl, sym, ap, subst, ◌∙◌, arith, append_assoc}
+use Rattle.std.proofs.Common.{◌≡◌, ◌≢◌, inl, inr, ℕ, ◌+◌, ◌≤◌, true, false, eqb, List, [], ◌∷◌, ◌++◌, length, take, drop, Option, refl, sym, ap, subst, ◌∙◌, arith, append_assoc}
 use Rattle.std.proofs.Math.Seq.{take-append-add}
 use Rattle.std.proofs.lemmas.List.{append-nil, length-append, take-append-drop}
 use Rattle.std.specs.Str.{byte}
 use Rattle.resp_value.specs.Bounds.{Bounds}
 use Rattle.resp_value.specs.Data.{Datum, IsPush}
-use Rattle.resp_value.specs.Data as d
 use Rattle.resp_value.specs.Laws.{APushBeginsWithItsByte, FrontsOfSpellingsAreViable}
-use Rattle.resp_value.specs.Rules.{Rules, WithinTotal}
+use Rattle.resp_value.specs.Rules.{WithinTotal}
 use Rattle.resp_value.specs.Spellings.{IsSpelling, IsViable}
 use Rattle.resp_value.specs.Values.{datum_of}
 use Rattle.resp_value.specs.declared.cause.Cause.TheVariants as cause
-use Rattle.resp_value.specs.declared.value.Members.{Members}
 use Rattle.resp_value.specs.declared.value.Value.TheVariants as value
-use Rattle.resp_value.specs.declared.version.Version.{Version}
 use Rattle.resp_scan.specs.declared.event.Fault.{Fault}
 use Rattle.resp_decode.specs.Brief.{BeginsBrief, IsBriefByte}
 use Rattle.resp_decode.specs.Decoding.{LacksMemory}
-use Rattle.resp_decode.specs.Decoding as decode
 use Rattle.resp_decode.specs.declared.decoder.Decoder.{Decoder}
 use Rattle.resp_session.specs.Heard.{is_push, numbered_replies}
 use Rattle.resp_session.specs.Reading.{MayBeRead, ReadsAs, Waiting, reading_rules, waiting_after, waiting_after_reply}
 use Rattle.resp_client.specs.Clients.{ClientState, next_number, state_of, with_answer}
-use Rattle.resp_client.specs.Hearing.{GivesPush, GivesReply, HasTaken, Hears, TakesFront, UnlessReplied}
+use Rattle.resp_client.specs.Hearing.{GivesPush, GivesReply, Hears, TakesFront, UnlessReplied}
 use Rattle.resp_client.specs.Steps.{Knows, SameReading, TakesValue}
 use Rattle.resp_client.specs.declared.client.Client.{Client}
 use Rattle.resp_client.specs.declared.heard.What.{What}

@@ -1,10 +1,10 @@
 -- What a client takes of the values that come, and in which version.
-use Rattle.std.proofs.Common.{◌≡◌, ◌≢◌, ◌⊎◌, inl, inr, ℕ, ◌≤◌, Bool, true, false, eqb, List, [], ◌∷◌, ◌++◌, length, take, drop, Option, None, Some, refl, sym, ap, subst, ◌∙◌, arith, append_assoc}
+use Rattle.std.proofs.Common.{◌≡◌, ◌≢◌, ◌⊎◌, inl, inr, ℕ, Bool, true, false, eqb, List, [], ◌∷◌, ◌++◌, length, take, drop, Option, None, Some, refl, sym, ap, subst, ◌∙◌, arith, append_assoc}
 use Rattle.std.proofs.lemmas.Bool.{eqb-true}
 use Rattle.std.proofs.lemmas.List.{append-nil, take-append-drop, take-append-le, take_all}
 use Rattle.resp_value.specs.Bounds.{Bounds}
 use Rattle.resp_value.specs.Data.{Datum, IsPush, scalar, aggregate, Array, Set, Map, Attr, Push}
-use Rattle.resp_value.specs.Rules.{Rules, WithinTotal, rules_under}
+use Rattle.resp_value.specs.Rules.{Rules, WithinTotal}
 use Rattle.resp_value.specs.Trees.{Spells}
 use Rattle.resp_value.specs.Spellings.{IsSpelling, IsViable, FaultOf}
 use Rattle.resp_value.specs.Laws.{NoSpellingIsEmpty, APushBeginsWithItsByte, LaterTypeBytesWantVersionThree}
@@ -18,7 +18,7 @@ use Rattle.resp_decode.specs.Decoding as decode
 use Rattle.resp_decode.specs.declared.decoder.Decoder.{Decoder}
 use Rattle.resp_session.specs.Answers.{BeginsNoValue}
 use Rattle.resp_session.specs.Heard.{is_push}
-use Rattle.resp_session.specs.Reading.{ClientFault, IsBroken, IsUnasked, MayBeRead, MayGoOn, ReadsAs, Waiting, reading_rules, waiting_after}
+use Rattle.resp_session.specs.Reading.{ClientFault, IsUnasked, MayBeRead, MayGoOn, ReadsAs, Waiting, reading_rules, waiting_after}
 use Rattle.resp_client.specs.Hearing.{TakesFront}
 
 is_push_byte : (byte : ℕ) (b : Bool) → eqb byte 62 ≡ b → (byte ≢ 62 → ⊥) → byte ≡ 62

@@ -1,4 +1,4 @@
-use Rattle.std.proofs.Common.{rules, ◌≡◌, ◌++◌, [], length, ap, sym, subst, ◌∙◌, refl, arith}
+use Rattle.std.proofs.Common.{◌≡◌, ◌++◌, [], length, ap, sym, subst, ◌∙◌, refl, arith}
 use Rattle.resp_session.specs.Reading.{IsUnasked}
 use Rattle.resp_client.specs.Clients.{state_of}
 use Rattle.resp_client.proofs.Fronts.{begun_asked, begun_version, no_bytes}

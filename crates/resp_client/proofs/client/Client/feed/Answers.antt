@@ -1,4 +1,4 @@
-use Rattle.std.proofs.Common.{sym, subst}
+use Rattle.std.proofs.Common.{subst}
 use Rattle.resp_value.specs.Values.{datum_of}
 use Rattle.resp_client.specs.Clients.{state_of}
 use Rattle.resp_client.specs.Steps.{Knows}

@@ -1,9 +1,8 @@
-use Rattle.std.proofs.Common.{◌≡◌, ◌⊎◌, inl, inr, ◌++◌, take, ap, sym, subst, ◌∙◌, [], ◌∷◌}
+use Rattle.std.proofs.Common.{inl, ◌++◌, take, ap, subst, ◌∙◌, [], ◌∷◌}
 use Rattle.resp_value.specs.Rules.{Rules}
 use Rattle.resp_value.specs.Values.{datum_of}
 use Rattle.resp_scan.specs.Kinds.{rules_of}
 use Rattle.resp_session.specs.Reading.{MayGoOn, ReadsAs, waiting_after}
-use Rattle.resp_decode.specs.Decoding as decode
 use Rattle.resp_client.specs.Clients.{ClientState, state_of}
 use Rattle.resp_client.specs.Hearing.{Refuses}
 use Rattle.resp_client.proofs.Fronts.{is_broken, may_go_on, reads_as, takes_more, takes_nothing}
