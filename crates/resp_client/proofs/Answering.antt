@@ -1,7 +1,7 @@
 -- How a value that was read is told, and what it answers.
-use Rattle.std.proofs.Common.{◌≡◌, ◌≢◌, inl, inr, ℕ, ◌+◌, ◌≤◌, true, false, eqb, List, [], ◌∷◌, ◌++◌, length, take, drop, Option, refl, sym, ap, subst, ◌∙◌, arith, append_assoc}
+use Rattle.std.proofs.Common.{◌≡◌, ◌≢◌, inl, inr, ℕ, ◌+◌, ◌≤◌, true, false, eqb, List, [], ◌∷◌, ◌++◌, length, take, drop, Option, refl, sym, ap, subst, ◌∙◌, arith}
 use Rattle.std.proofs.Math.Seq.{take-append-add}
-use Rattle.std.proofs.lemmas.List.{append-nil, length-append, take-append-drop}
+use Rattle.std.proofs.lemmas.List.{append-nil, length-append}
 use Rattle.std.specs.Str.{byte}
 use Rattle.resp_value.specs.Bounds.{Bounds}
 use Rattle.resp_value.specs.Data.{Datum, IsPush}
@@ -23,7 +23,7 @@ use Rattle.resp_client.specs.Steps.{Knows, SameReading, TakesValue}
 use Rattle.resp_client.specs.declared.client.Client.{Client}
 use Rattle.resp_client.specs.declared.heard.What.{What}
 use Rattle.resp_client.specs.declared.heard.What.TheVariants.{Reply, Push, Shown, More}
-use Rattle.resp_client.proofs.Fronts.{takes_nothing}
+use Rattle.resp_client.proofs.Fronts.{as_used, takes_nothing}
 
 -- what a value leaves, by whether it is a push
 after_reply : (w : Waiting) (x : Datum) → is_push x ≡ false → waiting_after w x ≡ waiting_after_reply w.version w.asks x
@@ -118,8 +118,8 @@ not_brief (inr (inl e)) = no_other (byte "#") refl refl e
 not_brief (inr (inr e)) = no_other (byte "_") refl refl e
 
 -- a sink may find no memory for a push that was read
-pub lacks_memory : APushBeginsWithItsByte → FrontsOfSpellingsAreViable → (limits : Bounds) (w after : Waiting) (x : Datum) (front piece : List ℕ) (used at : ℕ) →
-    IsPush x → ReadsAs limits w (x ∷ []) (front ++ take used piece) after → used ≤ length piece → at ≡ length front + used →
+pub lacks_memory : APushBeginsWithItsByte → FrontsOfSpellingsAreViable → (limits : Bounds) (w after : Waiting) (x : Datum) (front piece : List ℕ)
+    (used at : ℕ) → IsPush x → ReadsAs limits w (x ∷ []) (front ++ take used piece) after → used ≤ length piece → at ≡ length front + used →
     LacksMemory (reading_rules limits w) front piece (record { cause = cause.OutOfMemory; at = at })
 lacks_memory begins viable limits w after x front piece used at push reads h e =
     let r = reading_rules limits w in
@@ -127,8 +127,7 @@ lacks_memory begins viable limits w after x front piece used at push reads h e =
     let s = spelling_of limits w after x text reads in
     let lengths : length (front ++ piece) ≡ length front + length piece = length-append front piece in
     let (rest, first) = (begins r x text s).0 push in
-    let whole : front ++ piece ≡ 62 ∷ (rest ++ drop used piece) =
-    ap (λ z. front ++ z) (sym (take-append-drop used piece)) ∙ sym (append_assoc front (take used piece) (drop used piece)) ∙ ap (λ z. z ++ drop used piece) first in
+    let whole : front ++ piece ≡ 62 ∷ (rest ++ drop used piece) = as_used front piece used ∙ ap (λ z. z ++ drop used piece) first in
     record {
       names = refl;
       in_piece = omega (arith, e);
