@@ -13,9 +13,9 @@ use Rattle.resp_value.specs.Values.{datum_of}
 use Rattle.resp_value.specs.declared.cause.Cause.TheVariants as cause
 use Rattle.resp_value.specs.declared.value.Value.TheVariants as value
 use Rattle.resp_scan.specs.declared.event.Fault.{Fault}
+use Rattle.resp_decode.specs.Decoding as decode
 use Rattle.resp_decode.specs.Brief.{BeginsBrief, IsBriefByte}
 use Rattle.resp_decode.specs.Decoding.{LacksMemory}
-use Rattle.resp_decode.specs.Decoding as decode
 use Rattle.resp_decode.specs.declared.decoder.Decoder.{Decoder}
 use Rattle.resp_session.specs.Heard.{is_push, numbered_replies}
 use Rattle.resp_session.specs.Reading.{MayBeRead, ReadsAs, Waiting, reading_rules, waiting_after, waiting_after_reply}
@@ -25,7 +25,7 @@ use Rattle.resp_client.specs.Steps.{Knows, SameReading, TakesValue}
 use Rattle.resp_client.specs.declared.client.Client.{Client}
 use Rattle.resp_client.specs.declared.heard.What.{What}
 use Rattle.resp_client.specs.declared.heard.What.TheVariants.{Reply, Push, Shown, More}
-use Rattle.resp_client.proofs.Fronts.{takes_nothing}
+use Rattle.resp_client.proofs.Fronts.{as_used, takes_nothing}
 
 -- what a value leaves, by whether it is a push
 after_reply : (w : Waiting) (x : Datum) → is_push x ≡ false → waiting_after w x ≡ waiting_after_reply w.version w.asks x
@@ -120,8 +120,8 @@ not_brief (inr (inl e)) = no_other (byte "#") refl refl e
 not_brief (inr (inr e)) = no_other (byte "_") refl refl e
 
 -- a sink may find no memory for a push that was read
-pub lacks_memory : APushBeginsWithItsByte → FrontsOfSpellingsAreViable → (limits : Bounds) (w after : Waiting) (x : Datum) (front piece : List ℕ) (used at : ℕ) →
-    IsPush x → ReadsAs limits w (x ∷ []) (front ++ take used piece) after → used ≤ length piece → at ≡ length front + used →
+pub lacks_memory : APushBeginsWithItsByte → FrontsOfSpellingsAreViable → (limits : Bounds) (w after : Waiting) (x : Datum) (front piece : List ℕ)
+    (used at : ℕ) → IsPush x → ReadsAs limits w (x ∷ []) (front ++ take used piece) after → used ≤ length piece → at ≡ length front + used →
     LacksMemory (reading_rules limits w) front piece (record { cause = cause.OutOfMemory; at = at })
 lacks_memory begins viable limits w after x front piece used at push reads h e =
     let r = reading_rules limits w in
@@ -129,8 +129,7 @@ lacks_memory begins viable limits w after x front piece used at push reads h e =
     let s = spelling_of limits w after x text reads in
     let lengths : length (front ++ piece) ≡ length front + length piece = length-append front piece in
     let (rest, first) = (begins r x text s).0 push in
-    let whole : front ++ piece ≡ 62 ∷ (rest ++ drop used piece) =
-    ap (λ z. front ++ z) (sym (take-append-drop used piece)) ∙ sym (append_assoc front (take used piece) (drop used piece)) ∙ ap (λ z. z ++ drop used piece) first in
+    let whole : front ++ piece ≡ 62 ∷ (rest ++ drop used piece) = as_used front piece used ∙ ap (λ z. z ++ drop used piece) first in
     record {
       names = refl;
       in_piece = omega (arith, e);

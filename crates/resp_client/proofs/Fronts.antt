@@ -65,13 +65,10 @@ front_of : (front behind : List ℕ) → take (length front) (front ++ behind) �
 front_of front behind = take-append-le (length front) front behind (omega arith) ∙ take_all (length front) front (omega arith)
 
 -- where no front is a spelling no value begins the text
-pub no_value_begins : (r : Rules) (text : List ℕ) → HasNoSpelling r text → BeginsNoValue r text
+no_value_begins : (r : Rules) (text : List ℕ) → HasNoSpelling r text → BeginsNoValue r text
 no_value_begins r text h x front behind s e =
-    h (length front) (record { tree = s.tree; spells = subst (Spells s.tree) (sym (ap (take (length front)) e ∙ front_of front behind)) s.spells; keeps = s.keeps })
-
-pub no_tree_begins : (r : Rules) (text : List ℕ) → HasNoValue text → BeginsNoValue r text
-no_tree_begins r text h x front behind s e =
-    h (length front) s.tree (subst (Spells s.tree) (sym (ap (take (length front)) e ∙ front_of front behind)) s.spells)
+    let same : take (length front) text ≡ front = ap (take (length front)) e ∙ front_of front behind in
+    h (length front) (record { tree = s.tree; spells = subst (Spells s.tree) (sym same) s.spells; keeps = s.keeps })
 
 -- a refused byte is the client's fault
 pub is_broken : (limits : Bounds) (w : Waiting) (r : Rules) (front piece : List ℕ) (fault : Fault) → r ≡ reading_rules limits w →
@@ -90,7 +87,7 @@ pub may_go_on : (limits : Bounds) (w : Waiting) (r : Rules) (text : List ℕ) �
     IsViable r WithinTotal text → MayGoOn limits w text
 may_go_on limits w r text e asked none v = record {
   asked = asked;
-  no_more = no_tree_begins (reading_rules limits w) text none;
+  no_more = no_value_begins (reading_rules limits w) text (λ n s. none n s.tree s.spells);
   viable = subst (λ z. IsViable z WithinTotal text) e v;
 }
 
@@ -110,18 +107,15 @@ may_be_read full begins r w x (first ∷ rest) s asked e =
     push_by x ((begins r x (first ∷ rest) s).1
     (rest, ap (λ z. z ∷ rest) (is_push_byte first (eqb first 62) refl (λ other. asked (e, (first, rest, other, refl))))))
 
+-- what came, where so many bytes of the piece were used
+pub as_used : (front piece : List ℕ) (used : ℕ) → front ++ piece ≡ (front ++ take used piece) ++ drop used piece
+as_used front piece used =
+    ap (λ z. front ++ z) (sym (take-append-drop used piece)) ∙ sym (append_assoc front (take used piece) (drop used piece))
+
 -- what is asked for as a whole is asked for as far as it was used
 asked_front : (w : Waiting) (front piece : List ℕ) (used : ℕ) → (IsUnasked w (front ++ piece) → ⊥) → IsUnasked w (front ++ take used piece) → ⊥
 asked_front w front piece used h (none, (byte, behind, other, e)) =
-    h (
-      none,
-      (
-        byte,
-        behind ++ drop used piece,
-        other,
-        ap (λ z. front ++ z) (sym (take-append-drop used piece)) ∙ sym (append_assoc front (take used piece) (drop used piece)) ∙ ap (λ z. z ++ drop used piece) e,
-      ),
-    )
+    h (none, (byte, behind ++ drop used piece, other, as_used front piece used ∙ ap (λ z. z ++ drop used piece) e))
 
 -- a spelling is read as its value
 pub reads_as : NoSpellingIsEmpty → APushBeginsWithItsByte → (limits : Bounds) (w : Waiting) (r : Rules) (x : Datum) (front piece : List ℕ) (used : ℕ) →

@@ -18,9 +18,7 @@ use Rattle.resp_client.specs.declared.heard.Heard.{Heard}
 use Rattle.resp_client.specs.declared.heard.What.{What}
 use Rattle.resp_client.specs.declared.heard.What.TheVariants.{Reply, Push, Shown, More}
 
--- What a client has taken of a value: the bytes of this front, in the version in which the value is read, and they were
--- asked for. How a client stands to them is opaque to callers: `new` establishes this relation, and each call keeps it
--- until a fault.
+-- the decoder has taken the bytes of this front, under the rules by which the value is read, and they were asked for
 pub record TakesFront (limits : Bounds) (w : Waiting) (d : Decoder) (fault : Option Fault) (front : List ℕ) :
     Type 0 where
   pub taken : decode.HasTaken d front
@@ -29,6 +27,8 @@ pub record TakesFront (limits : Bounds) (w : Waiting) (d : Decoder) (fault : Opt
   pub asked : IsUnasked w front → ⊥
   pub no_fault : fault ≡ None
 
+-- What a client has taken of a value: the bytes of this front, in the version in which the value is read. How a client
+-- stands to them is opaque to callers: `new` establishes this relation, and each call keeps it until a fault.
 abbrev pub HasTaken : Client → List ℕ → Type 0
 HasTaken c front = TakesFront c.limits (state_of c).waiting c.decoder c.fault front
 

@@ -2,5 +2,6 @@
 pub mod Clients
 pub mod Hearing
 pub mod Sending
+pub mod PushLists
 -- What the steps of a feed promise one another, which no public clause names.
 pub mod Steps

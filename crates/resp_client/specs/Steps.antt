@@ -46,7 +46,8 @@ pub record IsUnaskedFault (s : ClientState) (front piece : List ℕ) (fault : Fa
 
 -- the text is read as this value, and nothing is taken of the next
 pub record TakesValue (old new : Client) (written : List ℕ) (x : Datum) : Type 0 where
-  pub reads : ReadsAs (state_of old).limits (state_of old).waiting (x ∷ []) written (waiting_after (state_of old).waiting x)
+  pub reads :
+      ReadsAs (state_of old).limits (state_of old).waiting (x ∷ []) written (waiting_after (state_of old).waiting x)
   pub takes : HasTaken new []
 
 -- how a value is told: a push as it is, and a reply with the number of the first command that waits

@@ -1,6 +1,6 @@
 //! The client, and what it shows.
 
-ghost use Rattle.std.specs.Prelude.{◌≡◌, ◌+◌, ◌≤◌, ◌^◌, [], length, drop};
+ghost use Rattle.std.specs.Prelude.{◌≡◌, ◌+◌, ◌≤◌, ◌^◌, [], length};
 
 use bytes::BytesMut;
 use resp_decode::decoder::Decoder;

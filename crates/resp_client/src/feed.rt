@@ -5,7 +5,7 @@ ghost use Rattle.resp_value.specs.Values.{datum_of};
 ghost use Rattle.resp_session.specs.Reading.{IsUnasked, greater_version, is_refusal, reading_version};
 ghost use Rattle.resp_decode.specs.Decoding.{IfNoValue, IfValue};
 ghost use Rattle.resp_client.specs.Clients.{next_number, state_of, with_answer};
-ghost use Rattle.resp_client.specs.Hearing.{HasFault, HasTaken, Hears, HearsAndShows, Refuses, TakesPiece, UnlessReply, WhereTaken};
+ghost use Rattle.resp_client.specs.Hearing.{HasFault, Hears, HearsAndShows, Refuses, TakesPiece, UnlessReply, WhereTaken};
 ghost use Rattle.resp_client.specs.Steps.{HasBegun, IsUnaskedFault, Knows, SameReading, TakesValue};
 ghost use Rattle.resp_scan.specs.declared.event.Fault.{Fault};
 

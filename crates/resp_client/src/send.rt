@@ -1,11 +1,7 @@
 //! Commands that are queued.
 
-ghost use Rattle.std.specs.Prelude.{◌≡◌, ◌+◌, ◌<◌, ◌^◌, ◌∷◌, [], ◌++◌, None, length, take, OnOk, OnErr, IfOk, IfErr};
-ghost use Rattle.resp_value.specs.Canonical.{Fits};
+ghost use Rattle.std.specs.Prelude.{◌≡◌, ◌+◌, ◌<◌, ◌^◌, length, take, OnOk, OnErr, IfOk, IfErr};
 ghost use Rattle.resp_value.specs.Commands.{words_of};
-ghost use Rattle.resp_value.specs.Rules.{rules_under};
-ghost use Rattle.resp_value.specs.Words.{command_of, texts_of};
-ghost use Rattle.resp_value.specs.declared.version.Version.TheVariants.{Two};
 ghost use Rattle.resp_session.specs.Requests.{FitsRequest, Hello, request_text};
 ghost use Rattle.resp_session.specs.Requests as request;
 ghost use Rattle.resp_client.specs.Steps.{send_error};

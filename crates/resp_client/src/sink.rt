@@ -35,9 +35,11 @@ pub struct PushList {
 }
 
 impl PushList {
+    ghost use Rattle.resp_client.specs.PushLists.{list_shown};
+
     /// A list that was shown nothing. Takes no memory.
     pub fn new(alloc: Global) -> PushList
-        ensures { result.list.items ≡ [] }
+        ensures { list_shown result ≡ [] }
     {
         PushList {
             list: Vec::new(alloc),
@@ -46,7 +48,9 @@ impl PushList {
 }
 
 impl PushSink for PushList {
-    ghost pushes = { λ s. s.list.items };
+    ghost use Rattle.resp_client.specs.PushLists.{list_shown};
+
+    ghost pushes = { list_shown };
 
     fn show(&mut self, items: Members) -> Result<(), OutOfMemory> {
         match self.list.push(items) {
