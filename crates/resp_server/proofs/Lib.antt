@@ -1,0 +1,4 @@
+pub mod StoreEntries
+pub mod Numbers
+pub mod Seats
+pub mod PushVerdicts
