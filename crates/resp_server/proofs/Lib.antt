@@ -2,3 +2,8 @@ pub mod StoreEntries
 pub mod Numbers
 pub mod Seats
 pub mod PushVerdicts
+pub mod FaultLines
+pub mod ValueAnswers
+pub mod Turns
+pub mod AnsweredPieces
+pub mod AnsweredHubs

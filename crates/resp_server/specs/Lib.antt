@@ -4,3 +4,5 @@ pub mod Greetings
 pub mod Running
 pub mod Hubs
 pub mod PushRefusals
+pub mod Answering
+pub mod Handling

@@ -42,3 +42,18 @@ pub enum PushError {
     #[error("out of memory")]
     OutOfMemory,
 }
+
+/// Why a piece was not answered whole.
+#[derive(Clone, Copy, Debug, PartialEq, Eq, Error)]
+pub enum HubError {
+    /// No session has this id. The hub is as before.
+    #[error("no session has this id")]
+    NoSession,
+    /// A growth was refused, in a command, in reading one or in the line for a protocol error. What
+    /// was done before stands, nothing of what comes behind was done, and the session is closing.
+    #[error("out of memory behind {commands} commands")]
+    OutOfMemory {
+        /// How many commands of the call were run before.
+        commands: u64,
+    },
+}

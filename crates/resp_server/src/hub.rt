@@ -1,15 +1,18 @@
 //! Sessions over one store.
 
-ghost use Rattle.std.specs.Prelude.{◌≡◌, ◌≢◌, ◌+◌, ◌≤◌, ◌++◌, ◌↔◌, [], length, drop, None, Some, IfSome, IsOk, IsErr, IsErrOf, IfOk, IfErr, OnOk, OnErr};
+ghost use Rattle.std.specs.Prelude.{◌≡◌, ◌≢◌, ◌+◌, ◌≤◌, ◌++◌, ◌↔◌, [], length, drop, true, None, Some, Ok, Err, IfSome, IsOk, IsErr, IsErrOf, IfOk, IfErr, OnOk, OnErr};
 ghost use Rattle.std.specs.Option.{option_map};
 ghost use Rattle.resp_value.specs.Canonical.{canonical_text};
 ghost use Rattle.resp_value.specs.declared.version.Version.TheVariants.{Three};
 ghost use Rattle.resp_encode.specs.Pushes.{push_of};
 ghost use Rattle.resp_session.specs.Stores.{value_at};
 ghost use Rattle.resp_server.specs.PushRefusals.{IsPushVerdict};
+ghost use Rattle.resp_server.specs.Handling.{WhereOpen, HasAnswered, HasCutShort, IfOutOfMemory};
+ghost use Rattle.resp_server.specs.declared.error.HubError.{HubError};
 ghost use Rattle.resp_server.specs.declared.error.OpenError.{OpenError};
 
-use crate::error::{NoSession, OpenError, PushError};
+use crate::answer::answer;
+use crate::error::{HubError, NoSession, OpenError, PushError};
 use crate::push::queue_push;
 use crate::session::Session;
 use crate::store::Store;
@@ -20,6 +23,13 @@ use resp_value::version::Version;
 use std::alloc::Global;
 use std::hash::BuildHasher;
 use std::marker::Model;
+
+/// What a piece did.
+#[derive(Clone, Copy, Debug, PartialEq, Eq)]
+pub struct Handled {
+    /// How many commands were run.
+    pub commands: u64,
+}
 
 /// Sessions over one store. Each reads the commands of one client, and what it replies waits until
 /// it is sent. `S` makes the hashes of the store's keys.
@@ -161,6 +171,44 @@ impl<S: BuildHasher> Hub<S> {
             return Err(NoSession);
         };
         Ok(())
+    }
+
+    /// Takes a piece of what a session's client sends: runs all commands that came whole with it, in
+    /// order, and queues their replies. Pieces may be cut anywhere. A protocol error queues a line
+    /// that names it and closes the session, which then takes pieces and runs nothing.
+    pub fn bytes(&mut self, id: u64, piece: &[u8]) -> Result<Handled, HubError>
+        // What is queued, and the store, version and closing, are those of the answers to the bytes
+        // taken before of a value and the piece.
+        ensures answered { WhereOpen self.old id (λ s front. IfOk result (λ handled.
+            HasAnswered self.old self.new id s (front ++ piece.now) handled.commands)) }
+        // At want of memory they are those of the answers to a front of them.
+        ensures cut_short { WhereOpen self.old id (λ s front. IfErr result (λ error.
+            IfOutOfMemory error (HasCutShort self.old self.new id s (front ++ piece.now)))) }
+        ensures closing { IfSome (seat_at self.old id) (λ (s : Seat). s.closing ≡ true →
+            (result ≡ Ok (record { commands = 0 })) × (self.new ≡ self.old)) }
+        ensures no_session { seat_at self.old id ≡ None → result ≡ Err HubError.NoSession }
+        ensures none { IsErrOf result HubError.NoSession → seat_at self.old id ≡ None }
+        ensures unchanged { IsErrOf result HubError.NoSession → self.new ≡ self.old }
+    {
+        let Some(session) = self.sessions.get_mut(&id) else {
+            return Err(HubError::NoSession);
+        };
+        if session.closing {
+            return Ok(Handled { commands: 0 });
+        }
+        let answered = answer(
+            &mut self.store,
+            session,
+            id,
+            &self.limits,
+            self.alloc,
+            piece,
+        );
+        let commands = match answered {
+            Ok(commands) => commands,
+            Err(commands) => return Err(HubError::OutOfMemory { commands }),
+        };
+        Ok(Handled { commands })
     }
 
     /// Queues a push of these items behind what waits.

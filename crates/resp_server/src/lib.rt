@@ -1,7 +1,10 @@
 //! Sessions over one store: what clients send, byte by byte, and what they are answered.
 #![tactic(auto)]
 
+mod answer;
+mod answer_value;
 mod error;
+mod fault_line;
 mod hub;
 mod operation;
 mod push;
@@ -11,6 +14,7 @@ mod run;
 mod session;
 mod store;
 mod stored;
+mod turn;
 
-pub use error::{NoSession, OpenError, PushError};
-pub use hub::Hub;
+pub use error::{HubError, NoSession, OpenError, PushError};
+pub use hub::{Handled, Hub};
