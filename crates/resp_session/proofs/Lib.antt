@@ -1,4 +1,5 @@
 pub mod CommandWords
+pub mod BulkMembers
 pub mod TextsInPieces
 pub mod Arrivals
 pub mod Readings

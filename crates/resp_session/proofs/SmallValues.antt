@@ -10,6 +10,7 @@ use Rattle.resp_value.specs.Numbers.{decimal}
 use Rattle.resp_value.specs.Rules.{rules_under}
 use Rattle.resp_value.specs.declared.version.Version.{Version}
 use Rattle.resp_value.specs.declared.version.Version.TheVariants.{Two, Three}
+use Rattle.resp_session.specs.Fitting.{NumbersAreShort}
 use Rattle.resp_session.specs.Replies.{simple_string, error, bulk_string, natural, null, version_number, hello_pairs, hello_reply}
 use Rattle.resp_session.proofs.DigitCounts.{length-decimal}
 
@@ -110,6 +111,9 @@ small_null version = record {
 pub length-decimal-63 : (n : ℕ) → n < 2 ^ 63 → length (decimal n) ≤ 19
 length-decimal-63 n h = length-decimal 19 n (omega arith) (omega (arith, h))
 
+pub numbers_are_short : NumbersAreShort
+numbers_are_short version n h = omega (arith, length-decimal-63 n h, length-append (decimal n) (crlf []))
+
 pub small_natural : (version : Version) (n : ℕ) → n < 2 ^ 63 → IsSmall version (natural n)
 small_natural version n h = record {
   value = (omega (arith, ints), omega (arith, ints, h));
@@ -118,7 +122,7 @@ small_natural version n h = record {
   depth_at_most = omega arith;
   length_at_most = omega arith;
   items_at_most = omega arith;
-  total_at_most = omega (arith, length-decimal-63 n h, length-append (decimal n) (crlf []));
+  total_at_most = omega (arith, numbers_are_short version n h);
 }
 
 -- the members of HELLO's reply

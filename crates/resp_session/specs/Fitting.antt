@@ -1,18 +1,18 @@
 -- What is within the limits: contents, the store, and what a command leaves.
-use Rattle.std.specs.Prelude.{ℕ, ◌<◌, ◌^◌, List}
+use Rattle.std.specs.Prelude.{ℕ, ◌<◌, ◌≤◌, ◌^◌, List, length}
 use Rattle.std.specs.List.{AllByRecursion, IsDistinct}
 use Rattle.std.specs.Map.{keys_of}
 use Rattle.std.specs.Str.{bytes_eq}
 use Rattle.resp_value.specs.Bounds.{Bounds, AreBounds}
 use Rattle.resp_value.specs.Bytes.{IsText}
-use Rattle.resp_value.specs.Canonical.{IsValue, Fits}
+use Rattle.resp_value.specs.Canonical.{canonical_text, IsValue, Fits}
 use Rattle.resp_value.specs.Rules.{rules_under}
 use Rattle.resp_value.specs.Spellings.{IsSpelling}
 use Rattle.resp_value.specs.Words.{command_of}
 use Rattle.resp_value.specs.declared.version.Version.{Version}
 use Rattle.resp_value.specs.declared.version.Version.TheVariants.{Two}
 use Rattle.resp_session.specs.Answers.{server_rules}
-use Rattle.resp_session.specs.Replies.{bulk_string}
+use Rattle.resp_session.specs.Replies.{bulk_string, natural}
 use Rattle.resp_session.specs.Stores.{Store, Effect, effect_of_words}
 
 -- the content is bytes, and as a bulk string it is within the limits
@@ -36,3 +36,7 @@ EffectsFit = (limits : Bounds) (store : Store) (version : Version) (id : ℕ) (w
     AreBounds limits → FitsStore limits store → id < 2 ^ 63 →
     IsSpelling (server_rules limits) (command_of words) text →
     FitsEffect limits (effect_of_words store version id words)
+
+-- what is replied by a number has at most 22 bytes
+abbrev pub NumbersAreShort : Type 0
+NumbersAreShort = (version : Version) (n : ℕ) → n < 2 ^ 63 → length (canonical_text version (natural n)) ≤ 22

@@ -1,4 +1,6 @@
 pub mod Commands
+pub mod Bulks
+pub mod Asked
 pub mod Operations
 pub mod Replies
 pub mod Stores

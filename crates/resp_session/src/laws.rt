@@ -11,7 +11,7 @@ ghost use Rattle.resp_value.specs.declared.cause.Cause.TheVariants.{NotInVersion
 ghost use Rattle.resp_session.specs.ReadingLaws.{ReadingsGoOn, ReadingsStay, ATextHasOneReading, ARestHasOneClientFault, HearingGoesOn};
 ghost use Rattle.resp_session.specs.Replies.{simple_string, bulk_string, natural, null};
 ghost use Rattle.resp_session.specs.WorldLaws.{AWorldHasOneOrder, ARunIsCut, TheOrderOnlyGrows, ShownRepliesAreOfTheOrder, WhatIsShownWasSent, WhatArrivesIsCommands, EachMessageIsWritten, WhatIsWrittenIsRead, WhatIsShownIsRead, NoClientMeetsAFault};
-ghost use Rattle.resp_session.specs.Fitting.{EffectsFit};
+ghost use Rattle.resp_session.specs.Fitting.{EffectsFit, NumbersAreShort};
 ghost use Rattle.resp_session.specs.Connections.{push_message};
 
 use resp_value::laws as grammar;
@@ -123,6 +123,11 @@ pub fn what_arrives_is_commands()
 /// store before it are. So a server that reads and stores within its limits writes within them.
 pub fn effects_fit()
     ensures { EffectsFit }
+{}
+
+/// What is replied by a number is short, so that room for it can be made before it is known.
+pub fn numbers_are_short()
+    ensures { NumbersAreShort }
 {}
 
 /// All messages of a session of a world are within the limits.

@@ -1,0 +1,108 @@
+-- What a hub does with a piece, in words of its state.
+use Rattle.std.proofs.Common.{◌≡◌, ℕ, ◌==◌, true, false, Option, None, Some, List, ◌++◌, IfSome, sym, ap, subst, ◌∙◌}
+use Rattle.std.specs.Map.{lookup, set_value}
+use Rattle.std.specs.Option.{option_map}
+use Rattle.std.proofs.lemmas.Bool.{false≢true}
+use Rattle.resp_value.specs.Bounds.{Bounds}
+use Rattle.resp_scan.specs.Kinds.{rules_of}
+use Rattle.resp_decode.specs.Decoding.{HasTaken}
+use Rattle.resp_session.specs.Answers.{server_rules}
+use Rattle.resp_session.specs.Fitting.{FitsStore}
+use Rattle.resp_session.specs.Stores.{Store}
+use Rattle.resp_server.specs.Answering.{IsAnswered, IsCutShort}
+use Rattle.resp_server.specs.Handling.{WhereOpen, HasAnswered, HasCutShort}
+use Rattle.resp_server.specs.Hubs.{HubState, Seat, AreSound, HubIsSound, seat_of, seats_of, seat_at, with_seat}
+use Rattle.resp_server.specs.declared.session.Session.{Session}
+use Rattle.resp_server.proofs.Seats.{state_of, seats-lookup, seats-set, sound_set}
+
+-- what holds of the session that was found, and of the hub as its fields are
+at_found : (limits : Bounds) (es : List (ℕ × Session)) (store : Store) (last : ℕ) (hub : HubState) → state_of limits es store last ≡ hub → (id : ℕ)
+    (old : Session) → Some old ≡ lookup (λ other. id == other) es → (P : HubState → Seat → Type 0) → P (state_of limits es store last) (seat_of old) →
+    IfSome (seat_at hub id) (P hub)
+at_found limits es store last hub view id old found P p =
+    let there : seat_at (state_of limits es store last) id ≡ Some (seat_of old) = sym (seats-lookup es id) ∙ ap (option_map seat_of) (sym found) in
+    subst (λ h. IfSome (seat_at h id) (P h)) view (subst (λ o. IfSome o (P (state_of limits es store last))) (sym there) p)
+
+pub hub_answered : (limits : Bounds) (es : List (ℕ × Session)) (store : Store) (last : ℕ) (hub : HubState) → state_of limits es store last ≡ hub →
+    (ns : List (ℕ × Session)) (store' : Store) (id : ℕ) (old new : Session) → ns ≡ set_value (λ other. id == other) es new →
+    Some old ≡ lookup (λ other. id == other) es → (piece : List ℕ) (k : ℕ) →
+    ((front : List ℕ) → HasTaken old.decoder front → IsAnswered limits id store store' old new (front ++ piece) k) →
+    WhereOpen hub id (λ s front. HasAnswered hub (state_of limits ns store' last) id s (front ++ piece) k)
+hub_answered limits es store last hub view ns store' id old new written found piece k answered =
+    at_found limits es store last hub view id old found (λ h s. s.closing ≡ false → (front : List ℕ) → HasTaken s.decoder front →
+    HasAnswered h (state_of limits ns store' last) id s (front ++ piece) k) (λ is_open front taken.
+    let a = answered front taken in
+    let seat : seat_of new ≡ record { version = new.version; out = old.out.items ++ a.reply; closing = new.closing; decoder = new.decoder } =
+    ap (λ items. record { version = new.version; out = items; closing = new.closing; decoder = new.decoder }) a.replied in
+    record {
+      reply = a.reply;
+      store = store';
+      version = new.version;
+      closing = new.closing;
+      decoder = new.decoder;
+      rest = a.rest;
+      answers = a.answers;
+      state = ap (λ seats. record { limits = limits; sessions = seats; store = store'; last = last })
+          (ap seats_of written ∙ seats-set es id new ∙ ap (with_seat (seats_of es) id) seat);
+      taking = a.taking;
+    })
+
+pub hub_cut_short : (limits : Bounds) (es : List (ℕ × Session)) (store : Store) (last : ℕ) (hub : HubState) → state_of limits es store last ≡ hub →
+    (ns : List (ℕ × Session)) (store' : Store) (id : ℕ) (old new : Session) → ns ≡ set_value (λ other. id == other) es new →
+    Some old ≡ lookup (λ other. id == other) es → (piece : List ℕ) (k : ℕ) →
+    ((front : List ℕ) → HasTaken old.decoder front → IsCutShort limits id store store' old new (front ++ piece) k) →
+    WhereOpen hub id (λ s front. HasCutShort hub (state_of limits ns store' last) id s (front ++ piece) k)
+hub_cut_short limits es store last hub view ns store' id old new written found piece k cut =
+    at_found limits es store last hub view id old found (λ h s. s.closing ≡ false → (front : List ℕ) → HasTaken s.decoder front →
+    HasCutShort h (state_of limits ns store' last) id s (front ++ piece) k) (λ is_open front taken.
+    let a = cut front taken in
+    let seat : seat_of new ≡ record { version = new.version; out = old.out.items ++ a.reply; closing = true; decoder = new.decoder } =
+    ap (λ items. record { version = new.version; out = items; closing = new.closing; decoder = new.decoder }) a.replied ∙
+    ap (λ b. record { version = new.version; out = old.out.items ++ a.reply; closing = b; decoder = new.decoder }) a.closes in
+    record {
+      front = a.front;
+      behind = a.behind;
+      whole = a.whole;
+      reply = a.reply;
+      store = store';
+      version = new.version;
+      decoder = new.decoder;
+      rest = a.rest;
+      answers = a.answers;
+      state = ap (λ seats. record { limits = limits; sessions = seats; store = store'; last = last })
+          (ap seats_of written ∙ seats-set es id new ∙ ap (with_seat (seats_of es) id) seat);
+    })
+
+-- the hub stays sound behind what was answered
+pub answered_sound : (limits : Bounds) (es : List (ℕ × Session)) (store : Store) (last : ℕ) → HubIsSound limits es store last →
+    (ns : List (ℕ × Session)) (store' : Store) (id : ℕ) (old new : Session) → ns ≡ set_value (λ other. id == other) es new →
+    Some old ≡ lookup (λ other. id == other) es → FitsStore limits store' → rules_of new.decoder.scanner ≡ server_rules limits →
+    (new.closing ≡ false → (front : List ℕ) × HasTaken new.decoder front) → HubIsSound limits ns store' last
+answered_sound limits es store last h ns store' id old new written found stored reading taking = record {
+  stored = stored;
+  few = h.few;
+  sound = subst (AreSound limits last) (sym written) (sound_set limits last es id old new found
+      (λ other s. record { numbered = s.numbered; reading = reading; taking = taking }) h.sound);
+}
+
+-- a session that was found is closing, or isn't, as its seat is
+pub not_closing : (limits : Bounds) (es : List (ℕ × Session)) (store : Store) (last : ℕ) (hub : HubState) → state_of limits es store last ≡ hub → (id : ℕ)
+    (old : Session) → Some old ≡ lookup (λ other. id == other) es → old.closing ≡ false → (Q : Type 0) →
+    IfSome (seat_at hub id) (λ s. s.closing ≡ true → Q)
+not_closing limits es store last hub view id old found is_open Q =
+    at_found limits es store last hub view id old found (λ h s. s.closing ≡ true → Q) (λ closes. absurd (false≢true (sym is_open ∙ closes)))
+
+pub if_closing : (limits : Bounds) (es : List (ℕ × Session)) (store : Store) (last : ℕ) (hub : HubState) → state_of limits es store last ≡ hub → (id : ℕ)
+    (old : Session) → Some old ≡ lookup (λ other. id == other) es → (Q : Type 0) → Q → IfSome (seat_at hub id) (λ s. s.closing ≡ true → Q)
+if_closing limits es store last hub view id old found Q q = at_found limits es store last hub view id old found (λ h s. s.closing ≡ true → Q) (λ closes. q)
+
+-- an open session is not there where it is closing
+pub not_open : (limits : Bounds) (es : List (ℕ × Session)) (store : Store) (last : ℕ) (hub : HubState) → state_of limits es store last ≡ hub → (id : ℕ)
+    (old : Session) → Some old ≡ lookup (λ other. id == other) es → old.closing ≡ true → (P : Seat → List ℕ → Type 0) → WhereOpen hub id P
+not_open limits es store last hub view id old found closes P =
+    at_found limits es store last hub view id old found (λ h s. s.closing ≡ false → (front : List ℕ) → HasTaken s.decoder front → P s front)
+    (λ is_open. absurd (false≢true (sym is_open ∙ closes)))
+
+-- nothing is said of a session that isn't there
+pub if_none : (o : Option Seat) (P : Seat → Type 0) → o ≡ None → IfSome o P
+if_none o P none = subst (λ x. IfSome x P) (sym none) tt

@@ -1,0 +1,94 @@
+-- What a session answers, turn by turn.
+use Rattle.std.proofs.Common.{◌≡◌, ℕ, ◌+◌, ◌-◌, true, false, List, [], ◌++◌, length, take, drop, refl, sym, ap, subst, ◌∙◌, append_assoc, append-nil, take-add}
+use Rattle.std.proofs.lemmas.Bool.{false≢true}
+use Rattle.std.proofs.lemmas.List.{take-append-drop, take_rest}
+use Rattle.resp_value.specs.Bounds.{Bounds}
+use Rattle.resp_value.specs.Rules.{Rules, WithinTotal}
+use Rattle.resp_value.specs.Spellings.{IsViable}
+use Rattle.resp_decode.specs.Decoding.{HasTaken}
+use Rattle.resp_session.specs.Answers.{Answers, server_rules}
+use Rattle.resp_session.specs.AnswerLaws.{AnswersGoOn, AnswersEnd}
+use Rattle.resp_session.specs.Stores.{Store}
+use Rattle.resp_server.specs.Answering.{IsTurn, IsAnswered, IsCutShort, state_with}
+use Rattle.resp_server.specs.Running.{IsAsBefore}
+use Rattle.resp_server.specs.declared.session.Session.{Session}
+use Rattle.resp_server.proofs.Turns.{waits_on}
+
+-- before a piece nothing is answered
+pub none_answered : (limits : Bounds) (id : ℕ) (store : Store) (session : Session) (r : Rules) (front : List ℕ) → r ≡ server_rules limits →
+    HasTaken session.decoder front → IsViable r WithinTotal front → session.closing ≡ false →
+    IsAnswered limits id store store session session (front ++ []) 0
+none_answered limits id store session r front same taken viable is_open = record {
+  reply = [];
+  rest = front;
+  replied = sym (append-nil session.out.items);
+  answers = subst (λ t. Answers limits id (state_with store session.version [] false 0) t (state_with store session.version [] session.closing 0) front)
+      (sym (append-nil front))
+      (waits_on limits id (state_with store session.version [] false 0) (state_with store session.version [] session.closing 0) front refl
+      (ap (λ b. state_with store session.version [] b 0) is_open) taken.no_value (subst (λ s. IsViable s WithinTotal front) same viable));
+  taking = λ open_now. taken;
+}
+
+-- a turn more
+pub turn_answered : AnswersGoOn → (limits : Bounds) (id : ℕ) (store store' store'' : Store) (before middle after : Session) (front piece : List ℕ)
+    (n used k commands : ℕ) → middle.closing ≡ false → (a : IsAnswered limits id store store' before middle (front ++ take n piece) k) →
+    IsTurn limits id store' store'' middle after a.rest (take (length piece - n) (drop n piece)) used commands →
+    IsAnswered limits id store store'' before after (front ++ take (n + used) piece) (k + commands)
+turn_answered go_on limits id store store' store'' before middle after front piece n used k commands is_open a turn =
+    let t : IsTurn limits id store' store'' middle after a.rest (drop n piece) used commands =
+    subst (λ p. IsTurn limits id store' store'' middle after a.rest p used commands) (take_rest piece n) turn in
+    let start = state_with store before.version [] false 0 in
+    let more = take used (drop n piece) in
+    let now = state_with store' middle.version a.reply false k in
+    let last = state_with store'' after.version (a.reply ++ t.reply) after.closing (k + commands) in
+    let first : Answers limits id start (front ++ take n piece) now a.rest =
+    subst (λ b. Answers limits id start (front ++ take n piece) (state_with store' middle.version a.reply b k) a.rest) is_open a.answers in
+    let both = go_on limits id start now last (front ++ take n piece) more a.rest t.rest first refl (t.answers a.reply k) in
+    let whole : (front ++ take n piece) ++ more ≡ front ++ take (n + used) piece =
+    append_assoc front (take n piece) more ∙ ap (λ l. front ++ l) (sym (take-add n used piece)) in
+    record {
+      reply = a.reply ++ t.reply;
+      rest = t.rest;
+      replied = t.replied ∙ ap (λ l. l ++ t.reply) a.replied ∙ append_assoc before.out.items a.reply t.reply;
+      answers = subst (λ text. Answers limits id start text last t.rest) whole both;
+      taking = t.taking;
+    }
+
+-- a closing session answers nothing of what is left
+pub closed_answered : AnswersEnd → (limits : Bounds) (id : ℕ) (store store' : Store) (before after : Session) (front piece : List ℕ) (n k : ℕ) →
+    after.closing ≡ true → IsAnswered limits id store store' before after (front ++ take n piece) k →
+    IsAnswered limits id store store' before after (front ++ piece) k
+closed_answered ends limits id store store' before after front piece n k closes a =
+    let start = state_with store before.version [] false 0 in
+    let last = state_with store' after.version a.reply after.closing k in
+    let all = ends limits id start last (front ++ take n piece) (drop n piece) a.rest a.answers closes in
+    let whole : (front ++ take n piece) ++ drop n piece ≡ front ++ piece =
+    append_assoc front (take n piece) (drop n piece) ∙ ap (λ l. front ++ l) (take-append-drop n piece) in
+    record {
+      reply = a.reply;
+      rest = a.rest ++ drop n piece;
+      replied = a.replied;
+      answers = subst (λ text. Answers limits id start text last (a.rest ++ drop n piece)) whole all;
+      taking = λ is_open. absurd (false≢true (sym is_open ∙ closes));
+    }
+
+-- where memory is wanting, what was answered before stands
+pub cut_short : (limits : Bounds) (id : ℕ) (store store' store'' : Store) (before middle after last : Session) (front piece : List ℕ) (n k : ℕ) →
+    middle.closing ≡ false → IsAnswered limits id store store' before middle (front ++ take n piece) k → IsAsBefore store' store'' middle after →
+    last.version ≡ after.version → last.out.items ≡ after.out.items → last.closing ≡ true →
+    IsCutShort limits id store store'' before last (front ++ piece) k
+cut_short limits id store store' store'' before middle after last front piece n k is_open a same version out closes =
+    let start = state_with store before.version [] false 0 in
+    let text = front ++ take n piece in
+    record {
+      front = text;
+      behind = drop n piece;
+      whole = sym (append_assoc front (take n piece) (drop n piece) ∙ ap (λ l. front ++ l) (take-append-drop n piece));
+      reply = a.reply;
+      rest = a.rest;
+      replied = out ∙ same.same_out ∙ a.replied;
+      answers = subst (λ s. Answers limits id start text (state_with s last.version a.reply false k) a.rest) (sym same.same_store)
+          (subst (λ v. Answers limits id start text (state_with store' v a.reply false k) a.rest) (sym (version ∙ same.same_version))
+          (subst (λ b. Answers limits id start text (state_with store' middle.version a.reply b k) a.rest) is_open a.answers));
+      closes = closes;
+    }

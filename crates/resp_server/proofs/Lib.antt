@@ -1,0 +1,9 @@
+pub mod StoreEntries
+pub mod Numbers
+pub mod Seats
+pub mod PushVerdicts
+pub mod FaultLines
+pub mod ValueAnswers
+pub mod Turns
+pub mod AnsweredPieces
+pub mod AnsweredHubs

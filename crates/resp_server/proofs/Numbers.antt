@@ -1,0 +1,40 @@
+-- What is replied by a number, and HELLO's reply around one.
+use Rattle.std.proofs.Common.{◌≡◌, ℕ, ◌^◌, ◌<◌, ◌≤◌, ◌++◌, length, ℤ, sym, ap, ◌∙◌, arith, append_assoc, append-nil, w64, to_z}
+use Rattle.std.proofs.lemmas.Int.{to_z_pos}
+use Rattle.resp_value.specs.Bounds.{Bounds}
+use Rattle.resp_value.specs.Canonical.{canonical_text, HasTypes, Fits}
+use Rattle.resp_value.specs.Data.{Datum, scalar}
+use Rattle.resp_value.specs.Data as d
+use Rattle.resp_value.specs.Rules.{rules_under}
+use Rattle.resp_value.specs.declared.version.Version.{Version}
+use Rattle.resp_value.specs.declared.version.Version.TheVariants.{Two, Three}
+use Rattle.resp_session.specs.Replies.{natural, hello_reply}
+use Rattle.resp_server.specs.Greetings.{greeting_begin, greeting_end}
+
+-- a number of 63 bits as a signed one
+pub number_datum : (n : ℕ) → n < 2 ^ 63 → scalar (d.Int (to_z w64 n)) ≡ natural n
+number_datum n small = ap (λ (i : ℤ). scalar (d.Int i)) (to_z_pos w64 n (omega (arith, small)))
+
+number_types : (version : Version) (n : ℕ) → HasTypes version (natural n)
+number_types Two n = tt
+number_types Three n = tt
+
+-- a number whose text is short is within every limits
+pub number_fits : (limits : Bounds) (version : Version) (n : ℕ) → 256 ≤ limits.total → length (canonical_text version (natural n)) ≤ 22 →
+    Fits (rules_under version limits) (natural n)
+number_fits limits version n least short = record {
+  has_types = number_types version n;
+  push_at_top = tt;
+  within_depth = omega arith;
+  within_length = omega arith;
+  within_items = omega arith;
+  within_total = omega (arith, least, short);
+}
+
+-- HELLO's reply is what stands before the number, what is replied by the number, and what stands behind it
+pub greeting_text : (version : Version) (n : ℕ) →
+    (greeting_begin version ++ canonical_text version (natural n)) ++ greeting_end ≡ canonical_text version (hello_reply version n)
+greeting_text Two n = append_assoc (greeting_begin Two) (canonical_text Two (natural n)) greeting_end ∙
+    ap (λ l. greeting_begin Two ++ l) (sym (append-nil (canonical_text Two (natural n) ++ greeting_end)))
+greeting_text Three n = append_assoc (greeting_begin Three) (canonical_text Three (natural n)) greeting_end ∙
+    ap (λ l. greeting_begin Three ++ l) (sym (append-nil (canonical_text Three (natural n) ++ greeting_end)))

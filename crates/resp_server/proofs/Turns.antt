@@ -1,0 +1,237 @@
+-- One turn of a session's reading, in words of answers.
+use Rattle.std.proofs.Common.{◌≡◌, ◌⊎◌, inl, inr, ℕ, zero, suc, ◌+◌, ◌-◌, ◌<◌, ◌≤◌, Bool, true, false, List, [], ◌∷◌, ◌++◌, length, take, codes, refl, sym, ap, subst, ◌∙◌, arith, append-nil, length-append, take_all, take_at}
+use Rattle.std.proofs.lemmas.Bool.{false≢true}
+use Rattle.resp_value.specs.Bounds.{Bounds, AreBounds}
+use Rattle.resp_value.specs.Canonical.{canonical_text}
+use Rattle.resp_value.specs.Causes.{cause_of, name_of}
+use Rattle.resp_value.specs.Data.{Datum}
+use Rattle.resp_value.specs.Laws.{NoSpellingIsEmpty, TheEmptyTextIsViable}
+use Rattle.resp_value.specs.Numbers.{decimal}
+use Rattle.resp_value.specs.Rules.{Rules, Rule, Grammar, NoDouble, InVersion, PushAtTop, InRange, NotStreamed, WithinDepth, WithinLength, WithinItems, WithinTotal}
+use Rattle.resp_value.specs.Spellings.{IsSpelling, IsViable}
+use Rattle.resp_value.specs.Trees.{Spells}
+use Rattle.resp_value.specs.Values.{datum_of}
+use Rattle.resp_value.specs.declared.value.Value.{Value}
+use Rattle.resp_value.specs.declared.version.Version.{Version}
+use Rattle.resp_value.specs.declared.cause.Cause.TheVariants.{OutOfMemory}
+use Rattle.resp_scan.specs.Reading.{HasNoValue, HasNoSpelling}
+use Rattle.resp_scan.specs.declared.event.Fault.{Fault}
+use Rattle.resp_decode.specs.Decoding.{HasTaken, GivesValue, TakesPiece, RefusesByte, LacksMemory}
+use Rattle.resp_decode.specs.declared.decoder.Decoder.{Decoder}
+use Rattle.resp_session.specs.Answers.{SessionState, Answers, BeginsNoValue, Ends, server_rules, after_value, after_error}
+use Rattle.resp_session.specs.Replies.{error}
+use Rattle.resp_session.specs.Stores.{Store}
+use Rattle.resp_server.specs.Answering.{IsAnswerTo, IsTurn, IsNamedFault, state_with}
+use Rattle.resp_server.specs.declared.session.Session.{Session}
+
+-- no front of the text is a spelling
+no_value_begins : (r : Rules) (text : List ℕ) → HasNoValue text → BeginsNoValue r text
+no_value_begins r text none x front behind s e =
+    none (length front) s.tree (subst (λ t. Spells s.tree t) (sym (ap (take (length front)) e ∙ take_at front behind (length front) refl)) s.spells)
+
+no_spelling_begins : (r : Rules) (text : List ℕ) → HasNoSpelling r text → BeginsNoValue r text
+no_spelling_begins r text none x front behind s e =
+    none (length front) (record {
+      tree = s.tree;
+      spells = subst (λ t. Spells s.tree t) (sym (ap (take (length front)) e ∙ take_at front behind (length front) refl)) s.spells;
+      keeps = s.keeps;
+    })
+
+nothing_begins : NoSpellingIsEmpty → (r : Rules) → BeginsNoValue r []
+nothing_begins full r x [] behind s e = full r x s
+nothing_begins full r x (b ∷ bs) behind s e = absurd (cc)
+
+-- what is waited on
+pub waits_on : (limits : Bounds) (id : ℕ) (s t : SessionState) (text : List ℕ) → s.closing ≡ false → t ≡ s → HasNoValue text →
+    IsViable (server_rules limits) WithinTotal text → Answers limits id s text t text
+waits_on limits id s t text is_open same none viable = record {
+  values = [];
+  front = [];
+  spelled = refl;
+  whole = refl;
+  ends = inl (record { is_open = is_open; no_more = no_value_begins (server_rules limits) text none; viable = viable; same = same });
+}
+
+ends_of : NoSpellingIsEmpty → TheEmptyTextIsViable → (limits : Bounds) → AreBounds limits → (s t : SessionState) (closing : Bool) → s ≡ t →
+    t.closing ≡ closing → Ends (server_rules limits) [] s t
+ends_of full empty limits bounds s t false same is = inl (record {
+  is_open = ap (λ (z : SessionState). z.closing) same ∙ is;
+  no_more = nothing_begins full (server_rules limits);
+  viable = empty (server_rules limits) bounds WithinTotal;
+  same = sym same;
+})
+ends_of full empty limits bounds s t true same is = inr (inr (record { closed = ap (λ (z : SessionState). z.closing) same ∙ is; same = sym same }))
+
+-- a value that was answered
+pub value_answers : NoSpellingIsEmpty → TheEmptyTextIsViable → (limits : Bounds) → AreBounds limits → (id : ℕ) (s t : SessionState) (x : Datum)
+    (written : List ℕ) → IsSpelling (server_rules limits) x written → after_value id s x ≡ t → Answers limits id s written t []
+value_answers full empty limits bounds id s t x written spelled same = record {
+  values = x ∷ [];
+  front = written;
+  spelled = (written, [], spelled, refl, sym (append-nil written));
+  whole = sym (append-nil written);
+  ends = ends_of full empty limits bounds (after_value id s x) t t.closing same refl;
+}
+
+-- a byte that was refused
+pub fault_answers : (limits : Bounds) (id : ℕ) (s : SessionState) (front piece : List ℕ) (fault : Fault) → s.closing ≡ false →
+    (r : RefusesByte (server_rules limits) front piece fault) → Answers limits id s (front ++ piece) (after_error (name_of fault.cause) fault.at s) (front ++ piece)
+fault_answers limits id s front piece fault is_open r = record {
+  values = [];
+  front = [];
+  spelled = refl;
+  whole = refl;
+  ends = inr (inl (record {
+    is_open = is_open;
+    no_more = no_spelling_begins (server_rules limits) (front ++ piece) r.no_value;
+    rule = r.rule;
+    at = fault.at;
+    fault = r.fault_of;
+    line = ap (λ cause. after_error (name_of cause) fault.at s) r.names;
+  }));
+}
+
+-- the names of the causes by which bytes are refused are short
+short_name : (rule : Rule) → length (name_of (cause_of rule)) ≤ 16
+short_name Grammar = omega arith
+short_name NoDouble = omega arith
+short_name InVersion = omega arith
+short_name PushAtTop = omega arith
+short_name InRange = omega arith
+short_name NotStreamed = omega arith
+short_name WithinDepth = omega arith
+short_name WithinLength = omega arith
+short_name WithinItems = omega arith
+short_name WithinTotal = omega arith
+
+-- what is viable is no longer than the limit of total
+viable_is_short : (r : Rules) (front : List ℕ) → IsViable r WithinTotal front → length front ≤ r.limits.total
+viable_is_short r front v =
+    let total = v.keeps WithinTotal (omega arith) in
+    let written = ap length v.spells.spelled in
+    let whole = length-append front v.rest in
+    omega (arith, total, written, whole)
+
+last_byte : (at : ℕ) (front : List ℕ) → at + 1 ≡ length front →
+    (before : List ℕ) × (byte : ℕ) × (front ≡ before ++ byte ∷ []) × (length before ≡ at)
+last_byte at [] e = absurd (omega (arith, e))
+last_byte at (b ∷ []) e = ([], b, refl, omega (arith, e))
+last_byte at (b ∷ c ∷ bs) e =
+    let (before, byte, whole, size) = last_byte (at - 1) (c ∷ bs) (omega (arith, e)) in
+    (b ∷ before, byte, ap (λ l. b ∷ l) whole, omega (arith, size, e))
+
+-- a refused byte has a short name, and stands within the limit of total
+refused_is_named : (limits : Bounds) → AreBounds limits → (front piece : List ℕ) (fault : Fault) → RefusesByte (server_rules limits) front piece fault →
+    IsNamedFault fault
+refused_is_named limits bounds front piece fault r =
+    let g = r.fault_of in
+    let (before, byte, whole, size) = last_byte fault.at g.front g.place in
+    let near = viable_is_short (server_rules limits) before (g.first before byte [] whole) in
+    let most = bounds.total_in_range.1 in
+    record {
+      short = subst (λ cause. length (name_of cause) ≤ 16) (sym r.names) (short_name r.rule);
+      near = omega (arith, near, most, size);
+    }
+
+-- a fault that isn't want of memory has a short name, and stands within the limit of total
+pub fault_is_named : (limits : Bounds) → AreBounds limits → (r : Rules) → r ≡ server_rules limits → (front piece : List ℕ) (fault : Fault) →
+    RefusesByte r front piece fault ⊎ LacksMemory r front piece fault → (fault.cause ≡ OutOfMemory → ⊥) → IsNamedFault fault
+fault_is_named limits bounds r same front piece fault (inl refused) other =
+    refused_is_named limits bounds front piece fault (subst (λ s. RefusesByte s front piece fault) same refused)
+fault_is_named limits bounds r same front piece fault (inr lacks) other = absurd (other lacks.names)
+
+pub refused_by : (limits : Bounds) (r : Rules) → r ≡ server_rules limits → (front piece : List ℕ) (fault : Fault) →
+    RefusesByte r front piece fault ⊎ LacksMemory r front piece fault → (fault.cause ≡ OutOfMemory → ⊥) → RefusesByte (server_rules limits) front piece fault
+refused_by limits r same front piece fault (inl refused) other = subst (λ s. RefusesByte s front piece fault) same refused
+refused_by limits r same front piece fault (inr lacks) other = absurd (other lacks.names)
+
+-- no value ends before a byte more has come
+pub some_used : (decoder : Decoder) (front piece : List ℕ) (r : Rules) (x : Datum) (used : ℕ) → HasTaken decoder front →
+    IsSpelling r x (front ++ take used piece) → 0 < used
+some_used decoder front piece r x zero taken s =
+    let whole : take (length front) front ≡ front ++ [] = take_all (length front) front (omega arith) ∙ sym (append-nil front) in
+    absurd (taken.no_value (length front) s.tree (subst (λ t. Spells s.tree t) (sym whole) s.spells))
+some_used decoder front piece r x (suc n) taken s = omega arith
+
+-- a state behind which nothing was run
+state_same : (store : Store) (version version' : Version) (text : List ℕ) (closing closing' : Bool) (count : ℕ) → version' ≡ version → closing' ≡ closing →
+    state_with store version text closing count ≡ state_with store version' text closing' (count + 0)
+state_same store version version' text closing closing' count v b =
+    ap (λ w. state_with store w text closing count) (sym v) ∙ ap (λ c. state_with store version' text c count) (sym b) ∙
+    (let e : count ≡ count + 0 = omega arith in ap (λ n. state_with store version' text closing' n) e)
+
+-- the turn of a byte that was refused
+pub refused_turn : (limits : Bounds) (id : ℕ) (store : Store) (before after : Session) (front piece : List ℕ) (fault : Fault) →
+    RefusesByte (server_rules limits) front piece fault → after.version ≡ before.version → after.closing ≡ true →
+    after.out.items ≡ before.out.items ++ canonical_text before.version
+    (error (codes "ERR Protocol error: " ++ name_of fault.cause ++ codes " at byte " ++ decimal fault.at)) →
+    IsTurn limits id store store before after front piece (length piece) 0
+refused_turn limits id store before after front piece fault refused version closes line =
+    let reply = canonical_text before.version (error (codes "ERR Protocol error: " ++ name_of fault.cause ++ codes " at byte " ++ decimal fault.at)) in
+    let whole : front ++ take (length piece) piece ≡ front ++ piece = ap (λ p. front ++ p) (take_all (length piece) piece (omega arith)) in
+    record {
+      reply = reply;
+      rest = front ++ piece;
+      replied = line;
+      answers = λ text count. subst (λ t. Answers limits id (state_with store before.version text false count) t
+          (state_with store after.version (text ++ reply) after.closing (count + 0)) (front ++ piece)) (sym whole)
+          (subst (λ s. Answers limits id (state_with store before.version text false count) (front ++ piece) s (front ++ piece))
+          (state_same store before.version after.version (text ++ reply) true after.closing count version closes)
+          (fault_answers limits id (state_with store before.version text false count) front piece fault refl refused));
+      taking = λ is_open. absurd (false≢true (sym is_open ∙ closes));
+      within = omega arith;
+      onward = λ is_open full. absurd (false≢true (sym is_open ∙ closes));
+    }
+
+-- the turn of a piece in which no value ended
+pub waiting_turn : (limits : Bounds) (id : ℕ) (store : Store) (before after : Session) (front piece : List ℕ) (r : Rules) (used : ℕ) →
+    r ≡ server_rules limits → TakesPiece r after.decoder (front ++ piece) piece used → after.version ≡ before.version → after.closing ≡ false →
+    after.out.items ≡ before.out.items → IsTurn limits id store store before after front piece used 0
+waiting_turn limits id store before after front piece r used same taken version is_open out =
+    let is = taken.whole_piece in
+    let whole : front ++ take used piece ≡ front ++ piece = ap (λ p. front ++ p) (take_all used piece (omega (arith, is))) in
+    record {
+      reply = [];
+      rest = front ++ piece;
+      replied = out ∙ sym (append-nil before.out.items);
+      answers = λ text count. subst (λ t. Answers limits id (state_with store before.version text false count) t
+          (state_with store after.version (text ++ []) after.closing (count + 0)) (front ++ piece)) (sym whole)
+          (waits_on limits id (state_with store before.version text false count) (state_with store after.version (text ++ []) after.closing (count + 0))
+          (front ++ piece) refl
+          (sym (ap (λ t. state_with store before.version t false count) (sym (append-nil text)) ∙
+          state_same store before.version after.version (text ++ []) false after.closing count version is_open)) taken.no_value
+          (subst (λ s. IsViable s WithinTotal (front ++ piece)) same taken.viable));
+      taking = λ open_now. taken.takes;
+      within = omega (arith, is);
+      onward = λ open_now full. omega (arith, is, full);
+    }
+
+-- the turn of a value
+pub value_turn : NoSpellingIsEmpty → TheEmptyTextIsViable → (limits : Bounds) → AreBounds limits → (id : ℕ) (store store' : Store)
+    (before after : Session) (front piece : List ℕ) (r : Rules) (decoder : Decoder) (value : Value) (used commands : ℕ) → r ≡ server_rules limits →
+    HasTaken before.decoder front → GivesValue r decoder (front ++ take used piece) value → used ≤ length piece → after.decoder ≡ decoder →
+    IsAnswerTo id (datum_of value) store store' before after commands → IsTurn limits id store store' before after front piece used commands
+value_turn full empty limits bounds id store store' before after front piece r decoder value used commands same taken given within kept answered =
+    let spelled : IsSpelling (server_rules limits) (datum_of value) (front ++ take used piece) =
+    subst (λ s. IsSpelling s (datum_of value) (front ++ take used piece)) same given.spelling in
+    record {
+      reply = answered.reply;
+      rest = [];
+      replied = answered.replied;
+      answers = λ text count. value_answers full empty limits bounds id (state_with store before.version text false count)
+          (state_with store' after.version (text ++ answered.reply) after.closing (count + commands)) (datum_of value) (front ++ take used piece) spelled
+          (answered.state text count);
+      taking = λ open_now. subst (λ d. HasTaken d []) (sym kept) given.takes;
+      within = within;
+      onward = λ open_now some. some_used before.decoder front piece r (datum_of value) used taken given.spelling;
+    }
+
+-- it makes no difference to an answer with what the session reads
+pub same_answer : (id : ℕ) (x : Datum) (store store' : Store) (before middle after : Session) (commands : ℕ) → middle.version ≡ before.version →
+    middle.out.items ≡ before.out.items → IsAnswerTo id x store store' middle after commands → IsAnswerTo id x store store' before after commands
+same_answer id x store store' before middle after commands version out answered = record {
+  reply = answered.reply;
+  replied = answered.replied ∙ ap (λ l. l ++ answered.reply) out;
+  state = λ text count. subst (λ v. after_value id (state_with store v text false count) x ≡
+      state_with store' after.version (text ++ answered.reply) after.closing (count + commands)) version (answered.state text count);
+}

@@ -1,0 +1,29 @@
+use Rattle.std.proofs.Common.{arith, codes, ap, ◌∙◌, ◌++◌, ◌-◌, length, take, drop}
+use Rattle.resp_value.specs.Canonical.{canonical_text}
+use Rattle.resp_value.specs.Numbers.{decimal}
+use Rattle.resp_value.specs.declared.version.Version.TheVariants.{Two}
+use Rattle.resp_session.specs.Replies.{natural}
+use Rattle.resp_server.proofs.FaultLines.{digits_line, fault_text}
+use Rattle.resp_server.proofs.fault_line.append_fault.Goals as goal
+
+pub extend_reserved-requires-4 : goal.extend_reserved-requires-4
+extend_reserved-requires-4 c =
+    let number = c.as_slice.ensures ∙ c.reply_number.ensures.appended ∙
+    ap (λ l. l ++ canonical_text Two (natural c.args.at)) (c.in_ok-reserve.ensures.items ∙ c.new-number.ensures.items) in
+    let size = ap length (digits_line c.args.at c.as_slice.result.now number) in
+    let short = c.numbers_are_short.ensures Two c.args.at c.requires.small in
+    let room = c.in_ok-reserve-2.ensures.spare.1 in
+    let name = c.requires.short in
+    omega (arith, size, short, room, name, c.extend_reserved.ensures.spare, c.extend_reserved-2.ensures.spare, c.extend_reserved-3.ensures.spare)
+
+pub returns-clause-appended : goal.returns-clause-appended
+returns-clause-appended c =
+    let old = c.args.out.now.items in
+    let name = c.args.name.now in
+    let A = codes "-ERR Protocol error: " in
+    let B = codes " at byte " in
+    let number = c.as_slice.ensures ∙ c.reply_number.ensures.appended ∙
+    ap (λ l. l ++ canonical_text Two (natural c.args.at)) (c.in_ok-reserve.ensures.items ∙ c.new-number.ensures.items) in
+    c.extend_reserved-4.ensures.items ∙ ap (λ l. l ++ take (length c.as_slice.result.now - 1) (drop 1 c.as_slice.result.now)) (c.extend_reserved-3.ensures.items ∙ ap (λ l. l ++ B) (c.extend_reserved-2.ensures.items ∙
+    ap (λ l. l ++ name) (c.extend_reserved.ensures.items ∙ ap (λ l. l ++ A) c.in_ok-reserve-2.ensures.items))) ∙
+    ap (λ d. (((old ++ A) ++ name) ++ B) ++ d) (digits_line c.args.at c.as_slice.result.now number) ∙ fault_text old name (decimal c.args.at)

@@ -1,0 +1,41 @@
+use Rattle.std.proofs.Common.{◌+◌, false, [], subst, sym, ap, ◌∙◌, arith, ◌++◌, ◌∷◌}
+use Rattle.resp_value.specs.declared.version.Version.TheVariants.{Two}
+use Rattle.resp_server.specs.Hubs.{HubState, AreSound, seats_of}
+use Rattle.resp_server.proofs.Seats.{insert_last, seats-append, sound_append, new_seat}
+use Rattle.resp_server.proofs.hub.Hub.open.Goals as goal
+
+pub invariant_of-self-2 : goal.invariant_of-self-2
+invariant_of-self-2 g c =
+    let i = c.self.inside in
+    let h = c.self.invariant in
+    let session = c.new-session.result in
+    record {
+      stored = h.stored;
+      few = omega (arith, c.if-self-ge9223372036854775807.false);
+      sound = subst (AreSound i.limits (i.last + 1))
+          (sym (c.in_default.ensures.entries ∙ insert_last i.limits i.last i.sessions.entries session h.sound))
+          (sound_append i.limits i.last i.sessions.entries session h.sound (record {
+            numbered = omega arith;
+            reading = c.new-session.ensures.reading;
+            taking = λ open_now. ([], c.new-session.ensures.nothing_taken);
+          }));
+    }
+
+pub returns-clause-opened : goal.returns-clause-opened
+returns-clause-opened g c =
+    let i = c.self.inside in
+    let session = c.new-session.result in
+    let seat = new_seat session c.new-session.ensures.version c.new-session.ensures.out c.new-session.ensures.open in
+    record {
+      next = ap (λ (hub : HubState). hub.last + 1) c.self.view_is;
+      decoder = session.decoder;
+      nothing_taken = c.new-session.ensures.nothing_taken;
+      state = ap (λ sessions. record { limits = i.limits; sessions = sessions; store = i.store; last = i.last + 1 })
+          (ap seats_of (c.in_default.ensures.entries ∙ insert_last i.limits i.last i.sessions.entries session c.self.invariant.sound) ∙
+          seats-append i.sessions.entries ((i.last + 1, session) ∷ []) ∙
+          ap (λ s. seats_of i.sessions.entries ++ (i.last + 1, s) ∷ []) seat) ∙
+          ap (λ (hub : HubState). record hub {
+            sessions = hub.sessions ++ (i.last + 1, record { version = Two; out = []; closing = false; decoder = session.decoder }) ∷ [];
+            last = i.last + 1;
+          }) c.self.view_is;
+    }

@@ -1,0 +1,76 @@
+-- What a session answers, in words of its state.
+use Rattle.std.specs.Prelude.{◌≡◌, ℕ, ◌+◌, ◌<◌, ◌≤◌, ◌^◌, Bool, true, false, List, [], ◌++◌, length, take, codes}
+use Rattle.resp_value.specs.Bounds.{Bounds}
+use Rattle.resp_value.specs.Canonical.{canonical_text}
+use Rattle.resp_value.specs.Causes.{name_of}
+use Rattle.resp_value.specs.Data.{Datum}
+use Rattle.resp_value.specs.Numbers.{decimal}
+use Rattle.resp_value.specs.declared.cause.Cause.TheVariants.{OutOfMemory}
+use Rattle.resp_value.specs.declared.version.Version.{Version}
+use Rattle.resp_scan.specs.declared.event.Fault.{Fault}
+use Rattle.resp_decode.specs.Decoding.{HasTaken}
+use Rattle.resp_session.specs.Answers.{SessionState, Answers, after_value}
+use Rattle.resp_session.specs.Replies.{error}
+use Rattle.resp_session.specs.Stores.{Store}
+use Rattle.resp_server.specs.declared.session.Session.{Session}
+
+-- a session over this store that has written this text and run so many commands
+abbrev pub state_with : Store → Version → List ℕ → Bool → ℕ → SessionState
+state_with store version text closing count =
+    record { store = store; version = version; text = text; closing = closing; count = count }
+
+-- behind a value, whatever was written and run before it
+pub record IsAnswerTo (id : ℕ) (x : Datum) (store store' : Store) (before after : Session) (commands : ℕ) : Type 0 where
+  pub reply : List ℕ
+  pub replied : after.out.items ≡ before.out.items ++ reply
+  pub state : (text : List ℕ) (count : ℕ) → after_value id (state_with store before.version text false count) x ≡
+      state_with store' after.version (text ++ reply) after.closing (count + commands)
+
+-- so many bytes of the piece were answered, behind the front that was read, whatever was written and run before them
+pub record IsTurn (limits : Bounds) (id : ℕ) (store store' : Store) (before after : Session) (front piece : List ℕ)
+    (used commands : ℕ) : Type 0 where
+  pub reply : List ℕ
+  pub rest : List ℕ
+  pub replied : after.out.items ≡ before.out.items ++ reply
+  pub answers : (text : List ℕ) (count : ℕ) → Answers limits id (state_with store before.version text false count)
+      (front ++ take used piece) (state_with store' after.version (text ++ reply) after.closing (count + commands)) rest
+  pub taking : after.closing ≡ false → HasTaken after.decoder rest
+  pub within : used ≤ length piece
+  -- an open session uses a byte at least, where there is one
+  pub onward : after.closing ≡ false → 0 < length piece → 0 < used
+
+-- the text was answered: the reply waits behind what waited, and of an open session the rest was taken
+pub record IsAnswered (limits : Bounds) (id : ℕ) (store store' : Store) (before after : Session) (text : List ℕ)
+    (commands : ℕ) : Type 0 where
+  pub reply : List ℕ
+  pub rest : List ℕ
+  pub replied : after.out.items ≡ before.out.items ++ reply
+  pub answers : Answers limits id (state_with store before.version [] false 0) text
+      (state_with store' after.version reply after.closing commands) rest
+  pub taking : after.closing ≡ false → HasTaken after.decoder rest
+
+-- memory was wanting behind a front of the text, which was answered: nothing of what stands behind it was done, and the
+-- session is closing
+pub record IsCutShort (limits : Bounds) (id : ℕ) (store store' : Store) (before after : Session) (text : List ℕ)
+    (commands : ℕ) : Type 0 where
+  pub front : List ℕ
+  pub behind : List ℕ
+  pub whole : text ≡ front ++ behind
+  pub reply : List ℕ
+  pub rest : List ℕ
+  pub replied : after.out.items ≡ before.out.items ++ reply
+  pub answers : Answers limits id (state_with store before.version [] false 0) front
+      (state_with store' after.version reply false commands) rest
+  pub closes : after.closing ≡ true
+
+-- the fault has a short name, and stands within 63 bits
+pub record IsNamedFault (fault : Fault) : Type 0 where
+  pub short : length (name_of fault.cause) ≤ 16
+  pub near : fault.at < 2 ^ 63
+
+-- the line for the fault is queued, and the session is closing
+pub record IsRefused (before after : Session) (fault : Fault) : Type 0 where
+  pub caused : fault.cause ≡ OutOfMemory → ⊥
+  pub closes : after.closing ≡ true
+  pub line : after.out.items ≡ before.out.items ++ canonical_text before.version
+      (error (codes "ERR Protocol error: " ++ name_of fault.cause ++ codes " at byte " ++ decimal fault.at))

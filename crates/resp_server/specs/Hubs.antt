@@ -1,0 +1,87 @@
+-- A hub apart from memory: its sessions and the store.
+use Rattle.std.specs.Prelude.{◌≡◌, ◌⊎◌, ℕ, ◌==◌, ◌+◌, ◌<◌, ◌≤◌, ◌^◌, Bool, false, List, [], ◌∷◌, ◌++◌, length, Option, map, cond}
+use Rattle.std.specs.List.{AllByRecursion}
+use Rattle.std.specs.Map.{lookup}
+use Rattle.resp_value.specs.Bounds.{Bounds}
+use Rattle.resp_value.specs.Rules.{rules_under}
+use Rattle.resp_value.specs.declared.version.Version.{Version}
+use Rattle.resp_value.specs.declared.version.Version.TheVariants.{Two}
+use Rattle.resp_scan.specs.Kinds.{rules_of}
+use Rattle.resp_decode.specs.Decoding.{HasTaken}
+use Rattle.resp_decode.specs.declared.decoder.Decoder.{Decoder}
+use Rattle.resp_session.specs.Fitting.{FitsStore}
+use Rattle.resp_session.specs.Stores.{Store}
+use Rattle.resp_server.specs.declared.session.Session.{Session}
+
+-- a session: the version in which it answers, what waits to be sent, whether it is closing, and what it reads with
+pub record Seat : Type 0 where
+  pub version : Version
+  pub out : List ℕ
+  pub closing : Bool
+  pub decoder : Decoder
+
+-- sessions by their ids, in the order in which they were opened, and the store
+pub record HubState : Type 0 where
+  pub limits : Bounds
+  pub sessions : List (ℕ × Seat)
+  pub store : Store
+  -- the last id that was given
+  pub last : ℕ
+
+abbrev pub seat_of : Session → Seat
+seat_of s = record { version = s.version; out = s.out.items; closing = s.closing; decoder = s.decoder }
+
+abbrev pub seats_of : List (ℕ × Session) → List (ℕ × Seat)
+seats_of entries = map (λ (e : ℕ × Session). (e.0, seat_of e.1)) entries
+
+-- the session of this id
+abbrev pub seat_at : HubState → ℕ → Option Seat
+seat_at hub id = lookup (λ other. id == other) hub.sessions
+
+abbrev pub with_seat : List (ℕ × Seat) → ℕ → Seat → List (ℕ × Seat)
+with_seat [] id seat = []
+with_seat (e ∷ es) id seat = cond (id == e.0) ((e.0, seat) ∷ es) (e ∷ with_seat es id seat)
+
+-- the hub with this session in the place of the one of this id, and nothing else changed
+abbrev pub seated : HubState → ℕ → Seat → HubState
+seated hub id seat = record hub { sessions = with_seat hub.sessions id seat }
+
+-- the hub with this store, and nothing else changed
+abbrev pub stocked : HubState → Store → HubState
+stocked hub store = record hub { store = store }
+
+-- the sessions without the one of this id
+abbrev pub without_seat : List (ℕ × Seat) → ℕ → List (ℕ × Seat)
+without_seat [] id = []
+without_seat (e ∷ es) id = cond (id == e.0) es (e ∷ without_seat es id)
+
+-- a session reads version 2 within the hub's limits, and while it is open it has taken a front of a value
+pub record SessionIsSound (limits : Bounds) (last : ℕ) (id : ℕ) (decoder : Decoder) (closing : Bool) : Type 0 where
+  pub numbered : id ≤ last
+  pub reading : rules_of decoder.scanner ≡ rules_under Two limits
+  pub taking : closing ≡ false → (front : List ℕ) × HasTaken decoder front
+
+abbrev pub AreSound : Bounds → ℕ → List (ℕ × Session) → Type 0
+AreSound limits last sessions =
+    AllByRecursion (λ (e : ℕ × Session). SessionIsSound limits last e.0 e.1.decoder e.1.closing) sessions
+
+-- what stands of every hub
+pub record HubIsSound (limits : Bounds) (sessions : List (ℕ × Session)) (store : Store) (last : ℕ) : Type 0 where
+  -- each value in the store is within the limits, so that each reply is
+  pub stored : FitsStore limits store
+  pub few : last < 2 ^ 63
+  pub sound : AreSound limits last sessions
+
+-- a session is opened with the next id, behind the others: nothing was read, and nothing waits
+pub record IsOpened (old new : HubState) (id : ℕ) : Type 0 where
+  pub next : id ≡ old.last + 1
+  pub decoder : Decoder
+  pub nothing_taken : HasTaken decoder []
+  pub state : new ≡ record old {
+    sessions = old.sessions ++ (id, record { version = Two; out = []; closing = false; decoder = decoder }) ∷ [];
+    last = id;
+  }
+
+-- as many sessions are open as can be, or the ids are used up
+abbrev pub IsFull : HubState → Type 0
+IsFull hub = (65536 ≤ length hub.sessions) ⊎ (9223372036854775807 ≤ hub.last)

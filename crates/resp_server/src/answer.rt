@@ -1,0 +1,61 @@
+//! What a session answers to a piece.
+
+ghost use Rattle.std.specs.Prelude.{◌≡◌, ◌<◌, ◌^◌, ◌++◌, List, ℕ, false, IfOk, IfErr};
+ghost use Rattle.resp_scan.specs.Kinds.{rules_of};
+ghost use Rattle.resp_decode.specs.Decoding.{HasTaken, WhereTaken};
+ghost use Rattle.resp_session.specs.Answers.{server_rules};
+ghost use Rattle.resp_session.specs.Fitting.{FitsStore};
+ghost use Rattle.resp_server.specs.Answering.{IsAnswered, IsCutShort};
+
+use crate::session::Session;
+use crate::store::Store;
+use crate::turn::take_turn;
+use resp_session::laws;
+use resp_value::limits::Limits;
+use std::alloc::Global;
+use std::hash::BuildHasher;
+
+/// Answers all that came whole with a piece, and tells how many commands were run. Where memory is
+/// wanting, the session is closing, and the number is that of the commands run before.
+pub(crate) fn answer<S: BuildHasher>(
+    store: &mut Store<S>,
+    session: &mut Session,
+    id: u64,
+    limits: &Limits,
+    alloc: Global,
+    piece: &[u8],
+) -> Result<u64, u64>
+    requires is_open { session.old.closing ≡ false }
+    requires stored { FitsStore limits.now store.old }
+    requires small { id < 2 ^ 63 }
+    requires reading { rules_of session.old.decoder.scanner ≡ server_rules limits.now }
+    requires taking { (front : List ℕ) × HasTaken session.old.decoder front }
+    ensures answered { WhereTaken session.old.decoder (λ front. IfOk result
+        (IsAnswered limits.now id store.old store.new session.old session.new (front ++ piece.now))) }
+    ensures cut_short { WhereTaken session.old.decoder (λ front. IfErr result
+        (IsCutShort limits.now id store.old store.new session.old session.new (front ++ piece.now))) }
+    ensures stored { FitsStore limits.now store.new }
+    ensures reading { rules_of session.new.decoder.scanner ≡ server_rules limits.now }
+{
+    laws::answers_go_on();
+    laws::answers_end();
+    // What was taken is viable, as the decoder says of it here.
+    let _taken = session.decoder.taken();
+    let mut used = 0;
+    let mut commands = 0;
+    while used < piece.len() {
+        let turn = match take_turn(store, session, id, limits, alloc, &piece[used..]) {
+            Ok(turn) => turn,
+            Err(_) => {
+                session.closing = true;
+                return Err(commands);
+            }
+        };
+        used += turn.used;
+        commands += turn.commands;
+        if session.closing {
+            return Ok(commands);
+        }
+    }
+    Ok(commands)
+}

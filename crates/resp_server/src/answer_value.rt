@@ -1,0 +1,103 @@
+//! What a value that came whole leaves.
+
+ghost use Rattle.std.specs.Prelude.{◌≡◌, ◌<◌, ◌≤◌, ◌^◌, List, ℕ, false, length, IfOk, OnOk, OnErr};
+ghost use Rattle.resp_value.specs.Bounds.{AreBounds};
+ghost use Rattle.resp_value.specs.Spellings.{IsSpelling};
+ghost use Rattle.resp_value.specs.Values.{datum_of};
+ghost use Rattle.resp_value.specs.Words.{command_of};
+ghost use Rattle.resp_session.specs.Answers.{server_rules};
+ghost use Rattle.resp_session.specs.Fitting.{FitsStore};
+ghost use Rattle.resp_session.specs.Stores.{effect_of_words};
+ghost use Rattle.resp_server.specs.Answering.{IsAnswerTo};
+ghost use Rattle.resp_server.specs.Running.{HasEffect, IsAsBefore, HasSameRest};
+
+use crate::fault_line::append_fault;
+use crate::operation::operation_of;
+use crate::run::run;
+use crate::session::Session;
+use crate::store::Store;
+use resp_session::laws;
+use resp_session::words::{Asked, Words, asked_by};
+use resp_value::limits::Limits;
+use resp_value::value::Value;
+use std::alloc::{AllocError, Global};
+use std::hash::BuildHasher;
+
+/// The numbers of these limits are within their ranges.
+pub(crate) fn in_range(limits: &Limits)
+    ensures { AreBounds limits.now }
+{
+    let _depth = limits.depth();
+    let _length = limits.length();
+    let _total = limits.total();
+    let _items = limits.items();
+}
+
+/// Runs a command of these words, and queues the reply. Where memory is wanting, the store, the
+/// session's version and what waits are as before.
+fn run_words<S: BuildHasher>(
+    words: Words,
+    store: &mut Store<S>,
+    session: &mut Session,
+    id: u64,
+    limits: &Limits,
+) -> Result<(), AllocError>
+    requires stored { FitsStore limits.now store.old }
+    requires small { id < 2 ^ 63 }
+    requires named { 0 < length words }
+    requires spelled { (written : List ℕ) ×
+        IsSpelling (server_rules limits.now) (command_of words) written }
+    ensures done { OnOk result (HasEffect store.new session.old session.new
+        (effect_of_words store.old session.old.version id words)) }
+    ensures unchanged { OnErr result (IsAsBefore store.old store.new session.old session.new) }
+    ensures stored { FitsStore limits.now store.new }
+    ensures rest { HasSameRest session.old session.new }
+{
+    laws::effects_fit();
+    in_range(limits);
+    run(operation_of(words), store, session, id, limits)
+}
+
+/// Answers a value that was read, and tells how many commands that were run: one or none. Where
+/// memory is wanting, the store, the session's version and what waits are as before.
+pub(crate) fn answer_value<S: BuildHasher>(
+    value: Value,
+    store: &mut Store<S>,
+    session: &mut Session,
+    id: u64,
+    limits: &Limits,
+    alloc: Global,
+) -> Result<u64, AllocError>
+    requires is_open { session.old.closing ≡ false }
+    requires stored { FitsStore limits.now store.old }
+    requires small { id < 2 ^ 63 }
+    requires spelled { (written : List ℕ) ×
+        IsSpelling (server_rules limits.now) (datum_of value) written }
+    ensures answered { IfOk result (IsAnswerTo id (datum_of value) store.old store.new session.old
+        session.new) }
+    ensures unchanged { OnErr result (IsAsBefore store.old store.new session.old session.new) }
+    ensures stored { FitsStore limits.now store.new }
+    ensures same_decoder { session.new.decoder ≡ session.old.decoder }
+    ensures at_most_one { IfOk result (λ commands. commands ≤ 1) }
+{
+    laws::a_command_is_its_words();
+    match asked_by(value) {
+        Asked::Command(words) => {
+            run_words(words, store, session, id, limits)?;
+            Ok(1)
+        }
+        Asked::Nothing => Ok(0),
+        Asked::NoCommand => {
+            append_fault(
+                &mut session.out,
+                session.version,
+                limits,
+                alloc,
+                b"NotCommand",
+                0,
+            )?;
+            session.closing = true;
+            Ok(0)
+        }
+    }
+}

@@ -1,0 +1,20 @@
+//! Sessions over one store: what clients send, byte by byte, and what they are answered.
+#![tactic(auto)]
+
+mod answer;
+mod answer_value;
+mod error;
+mod fault_line;
+mod hub;
+mod operation;
+mod push;
+mod refusal;
+mod reply;
+mod run;
+mod session;
+mod store;
+mod stored;
+mod turn;
+
+pub use error::{HubError, NoSession, OpenError, PushError};
+pub use hub::{Handled, Hub};

@@ -1,0 +1,158 @@
+//! One command: its growths come first, and then what can't be refused.
+
+ghost use Rattle.std.specs.Prelude.{◌≡◌, ◌<◌, ◌^◌, ℕ, List, Option, drop, OnOk, OnErr};
+ghost use Rattle.std.specs.Option.{is_some};
+ghost use Rattle.resp_value.specs.Values.{content_bytes};
+ghost use Rattle.resp_session.specs.Fitting.{FitsEffect};
+ghost use Rattle.resp_session.specs.Operations as spec;
+ghost use Rattle.resp_session.specs.Stores.{effect_of};
+ghost use Rattle.resp_session.specs.Stores as stores;
+ghost use Rattle.resp_server.specs.Operations.{operation_in, condition_in};
+ghost use Rattle.resp_server.specs.Running.{HasEffect, IsAsBefore, HasSameRest};
+
+use crate::operation::{Condition, Operation};
+use crate::reply::{NUMBER_ROOM, reply, reply_greeting, reply_number};
+use crate::session::Session;
+use crate::store::Store;
+use resp_session::words::Words;
+use resp_value::content::Content;
+use resp_value::limits::Limits;
+use resp_value::value::Value;
+use resp_value::version::Version;
+use std::alloc::AllocError;
+use std::hash::BuildHasher;
+
+/// Does what a command asks in the session of this number, and queues the reply. Where memory is
+/// wanting, the store, the session's version and what waits are as before.
+pub(crate) fn run<S: BuildHasher>(
+    operation: Operation,
+    store: &mut Store<S>,
+    session: &mut Session,
+    id: u64,
+    limits: &Limits,
+) -> Result<(), AllocError>
+    requires fits { FitsEffect limits.now
+        (effect_of store.old session.old.version id (operation_in operation)) }
+    requires small { id < 2 ^ 63 }
+    ensures done { OnOk result (HasEffect store.new session.old session.new
+        (effect_of store.old session.old.version id (operation_in operation))) }
+    ensures unchanged { OnErr result (IsAsBefore store.old store.new session.old session.new) }
+    ensures rest { HasSameRest session.old session.new }
+{
+    match operation {
+        Operation::Ping => session.out.extend_from_slice(b"+PONG\r\n"),
+        Operation::Echo(word) => {
+            reply(
+                &mut session.out,
+                session.version,
+                limits,
+                &Value::Bulk(word),
+            )
+        }
+        Operation::Get(key) => get(key.list(), store, session, limits),
+        Operation::Set(condition, key, value) => {
+            set(condition, key, value, store, session, limits)
+        }
+        Operation::Del(words) => del(&words, store, session, limits),
+        Operation::Hello(asked) => hello(asked, session, id, limits),
+        Operation::Refused(refusal) => session.out.extend_from_slice(refusal.line()),
+    }
+}
+
+/// Replies the value of a key.
+fn get<S: BuildHasher>(
+    key: &[u8],
+    store: &Store<S>,
+    session: &mut Session,
+    limits: &Limits,
+) -> Result<(), AllocError>
+    requires { FitsEffect limits.now (effect_of store.now session.old.version 0 (spec.Get key.now)) }
+    ensures done { OnOk result (HasEffect store.now session.old session.new
+        (effect_of store.now session.old.version 0 (spec.Get key.now))) }
+    ensures unchanged { OnErr result (IsAsBefore store.now store.now session.old session.new) }
+    ensures rest { HasSameRest session.old session.new }
+{
+    match store.get(key) {
+        Some(stored) => reply(&mut session.out, session.version, limits, stored.reply()),
+        None => reply(&mut session.out, session.version, limits, &Value::Null),
+    }
+}
+
+/// Whether a SET under this condition sets a key that is there, or isn't.
+fn is_met(condition: Condition, there: bool) -> bool
+    ensures { (value : Option (List ℕ)) → is_some value ≡ there →
+        result ≡ stores.is_met (condition_in condition) value }
+{
+    match condition {
+        Condition::Always => true,
+        Condition::IfAbsent => !there,
+        Condition::IfPresent => there,
+    }
+}
+
+/// Sets a key where its condition is met, and replies whether it was.
+fn set<S: BuildHasher>(
+    condition: Condition,
+    key: Content,
+    value: Content,
+    store: &mut Store<S>,
+    session: &mut Session,
+    limits: &Limits,
+) -> Result<(), AllocError>
+    requires { FitsEffect limits.now (effect_of store.old session.old.version 0
+        (spec.Set (condition_in condition) (content_bytes key) (content_bytes value))) }
+    ensures done { OnOk result (HasEffect store.new session.old session.new
+        (effect_of store.old session.old.version 0
+        (spec.Set (condition_in condition) (content_bytes key) (content_bytes value)))) }
+    ensures unchanged { OnErr result (IsAsBefore store.old store.new session.old session.new) }
+    ensures rest { HasSameRest session.old session.new }
+{
+    let there = store.get(key.list()).is_some();
+    if !is_met(condition, there) {
+        return reply(&mut session.out, session.version, limits, &Value::Null);
+    }
+    session.out.reserve(5)?;
+    store.set(key, value)?;
+    session.out.extend_reserved(b"+OK\r\n");
+    Ok(())
+}
+
+/// Removes the keys behind the name, and replies how many were there.
+fn del<S: BuildHasher>(
+    words: &Words,
+    store: &mut Store<S>,
+    session: &mut Session,
+    limits: &Limits,
+) -> Result<(), AllocError>
+    requires { FitsEffect limits.now (effect_of store.old session.old.version 0
+        (spec.Del (drop 1 words.now))) }
+    ensures done { OnOk result (HasEffect store.new session.old session.new
+        (effect_of store.old session.old.version 0 (spec.Del (drop 1 words.now)))) }
+    ensures unchanged { OnErr result (IsAsBefore store.old store.new session.old session.new) }
+    ensures rest { HasSameRest session.old session.new }
+{
+    session.out.reserve(NUMBER_ROOM)?;
+    let removed = store.remove(words);
+    reply_number(&mut session.out, session.version, limits, removed);
+    Ok(())
+}
+
+/// Changes the version, where one is asked, and replies in it what the session is.
+fn hello(
+    asked: Option<Version>,
+    session: &mut Session,
+    id: u64,
+    limits: &Limits,
+) -> Result<(), AllocError>
+    requires { id < 2 ^ 63 }
+    ensures done { (store : List (List ℕ × List ℕ)) → OnOk result (HasEffect store session.old
+        session.new (effect_of store session.old.version id (spec.Hello asked))) }
+    ensures unchanged { (store : List (List ℕ × List ℕ)) →
+        OnErr result (IsAsBefore store store session.old session.new) }
+    ensures rest { HasSameRest session.old session.new }
+{
+    let next = asked.unwrap_or(session.version);
+    reply_greeting(&mut session.out, next, limits, id)?;
+    session.version = next;
+    Ok(())
+}

@@ -1,0 +1,104 @@
+//! One turn of a session's reading: a value that comes whole, or the end of the piece.
+
+ghost use Rattle.std.specs.Prelude.{◌≡◌, ◌<◌, ◌≤◌, ◌^◌, List, ℕ, false, IfOk, OnOk, OnErr};
+ghost use Rattle.resp_value.specs.declared.cause.Cause.TheVariants.{OutOfMemory};
+ghost use Rattle.resp_scan.specs.Kinds.{rules_of};
+ghost use Rattle.resp_decode.specs.Decoding.{HasTaken, WhereTaken};
+ghost use Rattle.resp_session.specs.Answers.{server_rules};
+ghost use Rattle.resp_session.specs.Fitting.{FitsStore};
+ghost use Rattle.resp_server.specs.Answering.{IsTurn, IsRefused, IsNamedFault};
+ghost use Rattle.resp_server.specs.Running.{IsAsBefore};
+
+use crate::answer_value::{answer_value, in_range};
+use crate::fault_line::append_fault;
+use crate::session::Session;
+use crate::store::Store;
+use resp_scan::event::Fault;
+use resp_value::cause::Cause;
+use resp_value::laws as grammar;
+use resp_value::limits::Limits;
+use std::alloc::{AllocError, Global};
+use std::hash::BuildHasher;
+
+/// What a turn did.
+#[derive(Clone, Copy, Debug, PartialEq, Eq)]
+pub(crate) struct Turn {
+    /// How many bytes of the piece were used.
+    pub(crate) used: usize,
+    /// How many commands were run: one or none.
+    pub(crate) commands: u64,
+}
+
+/// Reads up to the end of a value or of the piece, and answers the value or a fault. Where memory is
+/// wanting, the store, the session's version and what waits are as before.
+pub(crate) fn take_turn<S: BuildHasher>(
+    store: &mut Store<S>,
+    session: &mut Session,
+    id: u64,
+    limits: &Limits,
+    alloc: Global,
+    piece: &[u8],
+) -> Result<Turn, AllocError>
+    requires is_open { session.old.closing ≡ false }
+    requires stored { FitsStore limits.now store.old }
+    requires small { id < 2 ^ 63 }
+    requires reading { rules_of session.old.decoder.scanner ≡ server_rules limits.now }
+    requires taking { (front : List ℕ) × HasTaken session.old.decoder front }
+    ensures answered { WhereTaken session.old.decoder (λ front. IfOk result (λ turn.
+        IsTurn limits.now id store.old store.new session.old session.new front piece.now turn.used
+        turn.commands)) }
+    ensures unchanged { OnErr result (IsAsBefore store.old store.new session.old session.new) }
+    ensures stored { FitsStore limits.now store.new }
+    ensures reading { rules_of session.new.decoder.scanner ≡ server_rules limits.now }
+    ensures at_most_one { IfOk result (λ turn. turn.commands ≤ 1) }
+{
+    grammar::no_spelling_is_empty();
+    grammar::the_empty_text_is_viable();
+    in_range(limits);
+    let fed = match session.decoder.feed(piece) {
+        Ok(fed) => fed,
+        Err(fault) => {
+            refuse(session, limits, alloc, fault)?;
+            return Ok(Turn {
+                used: piece.len(),
+                commands: 0,
+            });
+        }
+    };
+    let used = fed.used;
+    let Some(value) = fed.value else {
+        return Ok(Turn { used, commands: 0 });
+    };
+    let commands = answer_value(value, store, session, id, limits, alloc)?;
+    Ok(Turn { used, commands })
+}
+
+/// Queues the line for a fault, and closes the session; or finds no memory, for the line or as the
+/// fault says.
+fn refuse(
+    session: &mut Session,
+    limits: &Limits,
+    alloc: Global,
+    fault: Fault,
+) -> Result<(), AllocError>
+    requires { (fault.cause ≡ OutOfMemory → ⊥) → IsNamedFault fault }
+    ensures refused { OnOk result (IsRefused session.old session.new fault) }
+    ensures unchanged { OnErr result (session.new.out.items ≡ session.old.out.items) }
+    ensures same_version { session.new.version ≡ session.old.version }
+    ensures same_decoder { session.new.decoder ≡ session.old.decoder }
+{
+    if let Cause::OutOfMemory = fault.cause {
+        return Err(AllocError);
+    }
+    let name = fault.cause.name().as_bytes();
+    append_fault(
+        &mut session.out,
+        session.version,
+        limits,
+        alloc,
+        name,
+        fault.at,
+    )?;
+    session.closing = true;
+    Ok(())
+}

@@ -1,0 +1,192 @@
+//! What a value asks of a server, in memory.
+
+ghost use Rattle.std.specs.Prelude.{◌≡◌, ◌<◌, [], ◌∷◌, ◌++◌, ◌↔◌, length, slice_index_or, map, None, IsSome, IfSome};
+ghost use Rattle.std.specs.Bool.{MatchBool};
+ghost use Rattle.std.specs.List.{AllByRecursion};
+ghost use Rattle.resp_value.specs.Data.{data_of_list};
+ghost use Rattle.resp_value.specs.Values.{datum_of, content_bytes};
+ghost use Rattle.resp_session.specs.Commands.{meaning_of, array_meaning, bulk_contents};
+ghost use Rattle.resp_session.specs.Bulks.{IsBulk};
+
+use resp_value::content::Content;
+use resp_value::value::Value;
+use std::marker::Model;
+
+/// The words of a command: the bulk strings of an array, as they were read. The name is the first.
+#[derive(Drop)]
+pub struct Words {
+    members: Vec<Value>,
+}
+
+impl Model for Words {
+    ghost use Rattle.std.specs.Prelude.{ℕ, List, map};
+    ghost use Rattle.std.specs.List.{AllByRecursion};
+    ghost use Rattle.resp_session.specs.Bulks.{bulk_bytes, IsBulk};
+
+    ghost Value = { List (List ℕ) };
+
+    ghost view = { λ words. map bulk_bytes words.members.items };
+
+    ghost invariant = { λ words. AllByRecursion IsBulk words.members.items };
+}
+
+/// What a value asks of a server.
+#[derive(Drop)]
+pub enum Asked {
+    /// A command of these words, of which there is one at least.
+    Command(Words),
+    /// Nothing: an empty array or a null, which is passed over.
+    Nothing,
+    /// It is no command.
+    NoCommand,
+}
+
+ghost use Rattle.resp_session.specs.Asked.{meaning_in, IfCommand};
+
+/// What a value asks: a command where it is an array of bulk strings alone and of one at least.
+/// Takes no memory.
+pub fn asked_by(value: Value) -> Asked
+    ensures meaning { meaning_in result ≡ meaning_of (datum_of value) }
+    ensures has_name { IfCommand result (λ words. 0 < length words) }
+{
+    match value {
+        Value::Null => Asked::Nothing,
+        Value::Array(members) => asked_by_members(members.into_vec()),
+        Value::Bool(_)
+        | Value::Int(_)
+        | Value::Simple(_)
+        | Value::Error(_)
+        | Value::Bulk(_)
+        | Value::BulkError(_)
+        | Value::Verbatim(_, _)
+        | Value::Big(_)
+        | Value::Set(_)
+        | Value::Map(_)
+        | Value::Attr(_, _)
+        | Value::Push(_) => Asked::NoCommand,
+    }
+}
+
+/// What an array of these members asks.
+fn asked_by_members(members: Vec<Value>) -> Asked
+    ensures meaning { meaning_in result ≡
+        array_meaning (bulk_contents (data_of_list (map datum_of members.items))) }
+    ensures has_name { IfCommand result (λ words. 0 < length words) }
+{
+    if members.is_empty() {
+        return Asked::Nothing;
+    }
+    if are_bulks(members.as_slice()) {
+        Asked::Command(Words { members })
+    } else {
+        Asked::NoCommand
+    }
+}
+
+/// Whether each member is a bulk string.
+fn are_bulks(members: &[Value]) -> bool
+    ensures { MatchBool result (AllByRecursion IsBulk members.now)
+        (bulk_contents (data_of_list (map datum_of members.now)) ≡ None) }
+{
+    for member in members {
+        match member {
+            Value::Bulk(_) => {}
+            _ => return false,
+        }
+    }
+    true
+}
+
+impl Words {
+    /// How many words there are.
+    pub fn len(&self) -> usize
+        ensures { result ≡ length self.now }
+    {
+        self.members.len()
+    }
+
+    /// The word at this index, lent.
+    pub fn word(&self, index: usize) -> &[u8]
+        requires { index < length self.now }
+        ensures { result.now ≡ slice_index_or self.now index [] }
+    {
+        match &self.members[index] {
+            Value::Bulk(content) => content.list(),
+            _ => &[],
+        }
+    }
+
+    /// Takes the last word away, where there is one. Takes no memory.
+    pub fn pop(&mut self) -> Option<Content>
+        ensures last { IfSome result (λ content.
+            self.old ≡ self.new ++ content_bytes content ∷ []) }
+        ensures some { IsSome result ↔ (0 < length self.old) }
+    {
+        let Some(last) = self.members.pop() else {
+            return None;
+        };
+        match last {
+            Value::Bulk(content) => Some(content),
+            _ => unreachable!(),
+        }
+    }
+}
+
+#[cfg(test)]
+mod tests {
+    use super::{Asked, asked_by};
+    use resp_value::content::Content;
+    use resp_value::line::Line;
+    use resp_value::value::{Members, Value};
+    use std::alloc::Global;
+    use std::test::Fail;
+
+    fn bulk(alloc: Global, bytes: &[u8]) -> Result<Value, Fail> {
+        Ok(Value::Bulk(Content::new(bytes.to_vec(alloc)?)))
+    }
+
+    #[test]
+    fn a_command_has_its_words(rt: HostRuntime) -> Result<(), Fail> {
+        let alloc = rt.alloc();
+        let members = vec![in alloc; bulk(alloc, b"GET")?, bulk(alloc, b"a\r\n")?]?;
+        let asked = asked_by(Value::Array(Members::new(members)));
+        let Asked::Command(mut words) = asked else {
+            panic!(rt; "no command");
+        };
+        assert_eq!(rt; words.len(), 2);
+        assert!(rt; words.len() == 2 && words.word(0) == b"GET".as_slice());
+        assert!(rt; words.len() == 2 && words.word(1) == b"a\r\n".as_slice());
+        let last = words.pop();
+        assert_eq!(rt; last, Some(Content::new(b"a\r\n".to_vec(alloc)?)));
+        let first = words.pop();
+        assert_eq!(rt; first, Some(Content::new(b"GET".to_vec(alloc)?)));
+        let none = words.pop();
+        assert_eq!(rt; none, None);
+        Ok(())
+    }
+
+    #[test]
+    fn nulls_and_empty_arrays_ask_nothing(rt: HostRuntime) -> Result<(), Fail> {
+        let empty = Value::Array(Members::new(Vec::new(rt.alloc())));
+        assert!(rt; matches!(asked_by(empty), Asked::Nothing));
+        assert!(rt; matches!(asked_by(Value::Null), Asked::Nothing));
+        Ok(())
+    }
+
+    #[test]
+    fn other_values_are_no_command(rt: HostRuntime) -> Result<(), Fail> {
+        let alloc = rt.alloc();
+        assert!(rt; matches!(asked_by(Value::Int(1)), Asked::NoCommand));
+        assert!(rt; matches!(asked_by(bulk(alloc, b"PING")?), Asked::NoCommand));
+        let line = Line::new(b"PING".to_vec(alloc)?)?;
+        assert!(rt; matches!(asked_by(Value::Simple(line)), Asked::NoCommand));
+        let mixed = vec![in alloc; bulk(alloc, b"GET")?, Value::Int(1)]?;
+        assert!(rt;
+            matches!(
+                asked_by(Value::Array(Members::new(mixed))),
+                Asked::NoCommand
+            )
+        );
+        Ok(())
+    }
+}
