@@ -1,43 +1,48 @@
 -- What was read so far.
-use Rattle.std.proofs.Common.{◌≡◌, ℕ, zero, suc, ◌+◌, ◌<◌, ◌≤◌, List, [], ◌++◌, length, take, drop, Option, None, Some, Ok, refl, sym, ap, ◌∙◌, arith, append_assoc, append-nil, take-append-drop}
+use Rattle.std.proofs.Common.{◌≡◌, ℕ, zero, suc, ◌+◌, ◌*◌, ◌<◌, ◌≤◌, List, [], ◌++◌, length, take, drop, Option, None, Some, Ok, Err, refl, sym, ap, subst, ◌∙◌, arith, append_assoc, append-nil, take-append-drop}
+use Rattle.std.specs.Option.{IfSome}
 use Rattle.std.proofs.lemmas.List.{take-take, take-append-le}
 use Rattle.resp_value.specs.Devices.{Reads, count_after}
-use Rattle.resp_tool.specs.Reads.{ReadsAll}
-
--- so many bytes were read, and the rest is left
-abbrev pub HasRead : Option (List ℕ) → Option (List ℕ) → List ℕ → Type 0
-HasRead None after bytes = Unit {0}
-HasRead (Some left) after bytes = (rest : List ℕ) × (left ≡ bytes ++ rest) × (after ≡ Some rest)
+use Rattle.resp_value.specs.declared.device.DeviceFault.{DeviceFault}
+use Rattle.resp_tool.specs.Streams.{AreRead}
 
 -- nothing was read yet
-pub nothing_read : (left : Option (List ℕ)) → HasRead left left []
+pub nothing_read : (left : Option (List ℕ)) → AreRead left left []
 nothing_read None = tt
 nothing_read (Some left) = (left, refl, refl)
 
 -- one read more
-pub reads_on : (before mid after : Option (List ℕ)) (bytes into : List ℕ) (n : ℕ) → HasRead before mid bytes → Reads mid after into (Ok n) →
-    HasRead before after (bytes ++ take n into)
+pub reads_on : (before mid after : Option (List ℕ)) (bytes into : List ℕ) (n : ℕ) → AreRead before mid bytes → Reads mid after into (Ok n) →
+    AreRead before after (bytes ++ take n into)
 reads_on None mid after bytes into n so_far read = tt
-reads_on (Some left) None after bytes into n (rest, e, is) read = absurd (cc)
-reads_on (Some left) (Some now) after bytes into n (rest, e, is) read =
+reads_on (Some left) None after bytes into n (rest, is, e) read = absurd (cc)
+reads_on (Some left) (Some now) after bytes into n (rest, is, e) read =
     let same : now ≡ rest = cc in (
       drop n now,
+      read.behind,
       e ∙ ap (λ more. bytes ++ more) (sym same ∙ sym (take-append-drop n now) ∙ ap (λ front. front ++ drop n now) (sym read.bytes)) ∙
           sym (append_assoc bytes (take n into) (drop n now)),
-      read.behind,
     )
 
+-- a read of nothing
+pub reads_none : (before mid after : Option (List ℕ)) (bytes into : List ℕ) (n : ℕ) → n ≡ 0 → AreRead before mid bytes → Reads mid after into (Ok n) →
+    AreRead before after bytes
+reads_none before mid after bytes into n none so_far read =
+    subst (AreRead before after) (ap (λ k. bytes ++ take k into) none ∙ append-nil bytes) (reads_on before mid after bytes into n so_far read)
+
+-- a read that fails takes nothing
+pub reads_fail : (before mid after : Option (List ℕ)) (bytes into : List ℕ) (fault : DeviceFault) → AreRead before mid bytes → Reads mid after into (Err fault) →
+    AreRead before after bytes
+reads_fail None mid after bytes into fault so_far read = tt
+reads_fail (Some left) None after bytes into fault (rest, is, e) read = absurd (cc)
+reads_fail (Some left) (Some now) after bytes into fault (rest, is, e) read = (rest, read ∙ is, e)
+
 -- a read of no byte is the end
-pub reads_to_end : (before mid after : Option (List ℕ)) (bytes into : List ℕ) → 0 < length into → HasRead before mid bytes → Reads mid after into (Ok 0) →
-    ReadsAll before after bytes
+pub reads_to_end : (before mid after : Option (List ℕ)) (bytes into : List ℕ) → 0 < length into → AreRead before mid bytes → Reads mid after into (Ok 0) →
+    IfSome before (λ _. after ≡ Some [])
 reads_to_end None mid after bytes into room so_far read = tt
-reads_to_end (Some left) None after bytes into room (rest, e, is) read = absurd (cc)
-reads_to_end (Some left) (Some now) after bytes into room (rest, e, is) read =
-    let same : now ≡ rest = cc in
-    let none : now ≡ [] = read.at_end refl room in (
-      sym (e ∙ ap (λ more. bytes ++ more) (sym same ∙ none) ∙ append-nil bytes),
-      read.behind ∙ ap Some none,
-    )
+reads_to_end (Some left) None after bytes into room (rest, is, e) read = absurd (cc)
+reads_to_end (Some left) (Some now) after bytes into room (rest, is, e) read = read.behind ∙ ap Some (read.at_end refl room)
 
 -- how many calls were made, since a count was this
 pub record HasCalled (n before after : ℕ) : Type 0 where
@@ -64,3 +69,8 @@ pub take-into : (into buffer : List ℕ) (size n : ℕ) → n ≤ length into �
     take n into
 take-into into buffer size n within room =
     take-take n size (into ++ drop (length into) buffer) (omega arith) ∙ take-append-le n into (drop (length into) buffer) within
+
+-- one more of so many
+pub one_more : (n each : ℕ) → (n + 1) * each ≡ n * each + each
+one_more zero each = omega arith
+one_more (suc n) each = omega arith

@@ -1,5 +1,5 @@
 -- What was written, piece after piece.
-use Rattle.std.proofs.Common.{◌≡◌, ℕ, List, ◌++◌, take, drop, Option, None, Some, Result, Ok, Err, sym, ap, subst, ◌∙◌, append_assoc, take-append-drop}
+use Rattle.std.proofs.Common.{◌≡◌, ℕ, List, [], ◌++◌, take, drop, Option, None, Some, Result, Ok, Err, sym, ap, subst, ◌∙◌, codes, append_assoc, append-nil, take-append-drop}
 use Rattle.std.specs.Result.{OnOk, IfErr, IsErr}
 use Rattle.resp_value.specs.Devices.{Appends, HasRisen}
 use Rattle.resp_value.specs.declared.device.WriteFault.{WriteFault}
@@ -52,3 +52,18 @@ writes_part (Err e) before after failures failures' text next is_err written = (
 pub line_parts : (first second before number behind : List ℕ) → (((first ++ second) ++ before) ++ number) ++ behind ≡ first ++
     (second ++ ((before ++ number) ++ behind))
 line_parts first second before number behind = simp append_assoc
+
+-- appending nothing changes nothing
+pub Appends-none : (held : Option (List ℕ)) → Appends held held []
+Appends-none None = tt
+Appends-none (Some held) = ap Some (sym (append-nil held))
+
+-- the line of counts, number by number
+pub counts_parts : (values bytes : List ℕ) → codes "values " ++ values ++ codes " bytes " ++ bytes ++ codes "\n" ≡
+    (codes "values " ++ values ++ codes " ") ++ (codes "bytes " ++ bytes ++ codes "\n")
+counts_parts values bytes =
+    let first = codes "values " ++ values in
+    let behind = first ++ codes " " in
+    ap (λ z. (z ++ bytes) ++ codes "\n") (sym (append_assoc first (codes " ") (codes "bytes ")))
+    ∙ ap (λ z. z ++ codes "\n") (append_assoc behind (codes "bytes ") bytes)
+    ∙ append_assoc behind (codes "bytes " ++ bytes) (codes "\n")

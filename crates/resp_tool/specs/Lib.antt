@@ -1,8 +1,13 @@
 pub mod Shown
 pub mod Written
-pub mod Scalars
 pub mod Faults
-pub mod Reads
-pub mod Renders
-pub mod Runs
+pub mod Stops
+pub mod Takings
+pub mod Streams
+pub mod Pages
+pub mod Lines
+pub mod Scans
 pub mod Canons
+pub mod Counts
+pub mod Laws
+pub mod Runs

@@ -1,47 +1,34 @@
--- What a run of the program writes for its stream.
-use Rattle.std.specs.Prelude.{ℕ, true, List, Option}
-use Rattle.std.specs.Option.{IfSome}
-use Rattle.resp_value.specs.Data.{Datum}
-use Rattle.resp_value.specs.Canonical.{canonical_text}
+-- What a run of the program does with its stream.
+use Rattle.std.specs.Prelude.{◌≡◌, ℕ, List, Option, Result, Ok, Err}
+use Rattle.resp_value.specs.Canonical.{canonical_text, Fits}
 use Rattle.resp_value.specs.Rules.{Rules}
-use Rattle.resp_value.specs.declared.version.Version.TheVariants.{Two}
-use Rattle.resp_tool.specs.declared.command_line.Task.{Task}
-use Rattle.resp_tool.specs.declared.command_line.Task.TheVariants.{Show, Canon}
+use Rattle.resp_tool.specs.Counts.{Counts, IsAny, LeavesNothing}
+use Rattle.resp_tool.specs.Faults.{status_of}
+use Rattle.resp_tool.specs.Scans.{IsShownIn, IsShownOf}
 use Rattle.resp_tool.specs.Shown.{shown_text}
-use Rattle.resp_tool.specs.Renders.{RendersAll, RendersFront, IsSomeRest}
+use Rattle.resp_tool.specs.Streams.{AreRead, Renders}
+use Rattle.resp_tool.specs.declared.options.Task.{Task}
+use Rattle.resp_tool.specs.declared.options.Task.TheVariants.{Show, Check, Canon}
+use Rattle.resp_tool.specs.declared.tool_error.ToolError.{ToolError}
 
--- version 2 under the default limits, which a run of the program has
-abbrev pub default_rules : Rules
-default_rules = record {
-  version = Two;
-  limits = record {
-    depth = 32;
-    length = 536870912;
-    total = 1073741824;
-    items = 1099511627776;
-    streamed = true;
-  };
-}
+-- what a task has written of bytes that were read, by how it ended
+abbrev pub RunsTo : Task → Rules → List ℕ → Option (List ℕ) → Option (List ℕ) → Result (Unit {0}) ToolError → Type 0
+RunsTo Show r bytes before after result = Renders r shown_text IsAny IsShownOf (IsShownIn r) bytes before after result
+RunsTo Check r bytes before after result = Counts r bytes before after result
+RunsTo Canon r bytes before after result =
+    Renders r (canonical_text r.version) (Fits r) LeavesNothing LeavesNothing bytes before after result
 
--- the text of a value
-abbrev pub text_of : Task → Datum → List ℕ
-text_of Show = shown_text
-text_of Canon = canonical_text Two
+-- the status of a task that ended so
+abbrev pub status_of_run : Result (Unit {0}) ToolError → ℕ
+status_of_run (Ok x) = 0
+status_of_run (Err e) = status_of e
 
--- the texts of the whole stream were written, where the reader tells it
-abbrev pub RendersOfTask : Task → Option (List ℕ) → Option (List ℕ) → Option (List ℕ) → Type 0
-RendersOfTask task stream before after = IfSome stream
-    (λ input. RendersAll (text_of task) default_rules input before after)
-
--- the texts of the values before one with some number were written, where the reader tells the stream
-abbrev pub RendersFrontOfTask : Task → Option (List ℕ) → Option (List ℕ) → Option (List ℕ) → Type 0
-RendersFrontOfTask task stream before after = IfSome stream (λ input. (number : ℕ) ×
-    RendersFront (text_of task) default_rules input before after number IsSomeRest)
-
--- the texts of the whole stream were written, by one of the tasks
-abbrev pub RendersStream : Option (List ℕ) → Option (List ℕ) → Option (List ℕ) → Type 0
-RendersStream stream before after = (task : Task) × RendersOfTask task stream before after
-
--- the texts of the values before one with some number were written, by one of the tasks
-abbrev pub RendersStreamFront : Option (List ℕ) → Option (List ℕ) → Option (List ℕ) → Type 0
-RendersStreamFront stream before after = (task : Task) × RendersFrontOfTask task stream before after
+-- one of the tasks ran, under some version and limits, and ended with this status
+pub record HasRun (left left' before after : Option (List ℕ)) (status : ℕ) : Type 0 where
+  pub task : Task
+  pub rules : Rules
+  pub bytes : List ℕ
+  pub result : Result (Unit {0}) ToolError
+  pub read : AreRead left left' bytes
+  pub ran : RunsTo task rules bytes before after result
+  pub ended : status_of_run result ≡ status

@@ -1,64 +1,114 @@
 //! `canon`: each value of a stream again, in its one canonical spelling.
 
-ghost use Rattle.std.specs.Prelude.{◌≡◌, ◌+◌, ◌≤◌, [], Some, OnOk, IfErr, IfSome, IsErrOf};
-ghost use Rattle.resp_value.specs.Canonical.{canonical_text};
+ghost use Rattle.std.specs.Prelude.{◌≡◌, ◌+◌, ◌≤◌, ℕ, List, [], Some, IfSome, IsErrOf};
+ghost use Rattle.resp_tool.specs.Canons.{stop_at, stop_of};
+ghost use Rattle.resp_tool.specs.Counts.{LeavesNothing};
+ghost use Rattle.resp_tool.specs.Streams.{AreRead, AtEnd, Renders};
+ghost use Rattle.resp_value.specs.Canonical.{canonical_text, Fits};
 ghost use Rattle.resp_value.specs.Devices.{count_after, HasRisen};
-ghost use Rattle.resp_tool.specs.Canons.{DoesNotFit, render_error_of};
 ghost use Rattle.resp_value.specs.Rules.{rules_under};
-ghost use Rattle.resp_tool.specs.Renders.{Renders, OnUnreadInput};
 
-use crate::input::{MOST_READS, read_all};
-use crate::render::{RenderError, Rendering, render_all};
-use crate::scalar_reader::Scalar;
-use crate::scalar_value::to_value;
+use crate::rendering::{Rendering, Stop, Taken};
+use crate::stream::{MOST_READS, render_stream};
 use crate::tool_error::ToolError;
+use resp_decode::Decoder;
 use resp_encode::{EncodeError, EncodeToError, encode_to};
+use resp_scan::event::Fault;
+use resp_value::cause::Cause;
 use resp_value::device::{Sink, Source};
 use resp_value::limits::Limits;
 use resp_value::version::Version;
 use std::alloc::Global;
 
 /// Each value in its canonical spelling in a version, under limits.
-#[derive(Clone, Copy)]
+#[derive(Drop)]
 struct Canonical<'a> {
     alloc: Global,
     version: Version,
     limits: &'a Limits,
+    decoder: Decoder,
 }
 
 impl Rendering for Canonical<'_> {
-    ghost text = { λ canonical. canonical_text canonical.version };
+    ghost use Rattle.resp_tool.specs.Canons.{HasDecoded};
 
-    ghost refuses = { λ canonical.
-        DoesNotFit (rules_under canonical.version canonical.limits.now) };
+    ghost rules = { λ c. rules_under c.version c.limits.now };
 
-    ghost takes_memory = { λ _. Unit {0} };
+    ghost has_taken = { λ c.
+        HasDecoded (rules_under c.version c.limits.now) c.decoder };
 
-    fn write<W: Sink>(&self, writer: &mut W, scalar: &Scalar<'_>) -> Result<(), RenderError> {
-        let value = to_value(self.alloc, scalar)?;
-        encode_to(self.alloc, self.version, self.limits, &value, writer)?;
-        Ok(())
+    ghost text = { λ rules. canonical_text rules.version };
+
+    ghost is_written = { Fits };
+
+    ghost is_left = { λ _. LeavesNothing };
+
+    ghost is_begun = { λ _. LeavesNothing };
+
+    ghost takes_memory = { Unit {0} };
+
+    ghost writes = { Unit {0} };
+
+    fn take<W: Sink>(&mut self, piece: &[u8], writer: &mut W) -> Result<Taken, Stop> {
+        let fed = match self.decoder.feed(piece) {
+            Ok(fed) => fed,
+            Err(fault) => return Err(stop_at(fault)),
+        };
+        let used = fed.used;
+        let Some(value) = fed.value else {
+            return Ok(Taken {
+                used,
+                is_whole: false,
+            });
+        };
+        match encode_to(self.alloc, self.version, self.limits, &value, writer) {
+            Ok(_) => Ok(Taken {
+                used,
+                is_whole: true,
+            }),
+            Err(error) => Err(stop_of(error)),
+        }
     }
-}
 
-impl From<EncodeToError> for RenderError {
-    ghost from_gives = { λ error converted. converted ≡ render_error_of error };
+    fn part_stands(&self) {}
 
-    fn from(error: EncodeToError) -> RenderError {
-        match error {
-            EncodeToError::Refused(EncodeError::OutOfMemory) => RenderError::Memory,
-            EncodeToError::Refused(_) => RenderError::OverLimits,
-            EncodeToError::Write { .. } => RenderError::Write,
+    fn finish<W: Sink>(&mut self, _writer: &mut W) -> Result<(), Stop> {
+        // What was taken is viable, as the decoder says of it here.
+        let _viable = self.decoder.taken();
+        match self.decoder.finish() {
+            Ok(()) => Ok(()),
+            Err(fault) => Err(stop_at(fault)),
         }
     }
 }
 
-/// Reads the whole input by reads of at most `piece` bytes, from 1 to 65,536, and writes the
-/// canonical text of each value in the same version.
+/// Want of memory, or the fault of a byte.
+fn stop_at(fault: Fault) -> Stop
+    ensures { result ≡ stop_at fault }
+{
+    match fault.cause {
+        Cause::OutOfMemory => Stop::Memory,
+        _ => Stop::Fault(fault),
+    }
+}
+
+/// Why a text was not written.
+fn stop_of(error: EncodeToError) -> Stop
+    ensures { result ≡ stop_of error }
+{
+    match error {
+        EncodeToError::Refused(EncodeError::OutOfMemory) => Stop::Memory,
+        EncodeToError::Refused(_) => Stop::OverLimits,
+        EncodeToError::Write { .. } => Stop::Write,
+    }
+}
+
+/// Reads the stream by reads of at most `piece` bytes, from 1 to 65,536, and writes the canonical
+/// text of each value in the same version.
 ///
-/// A refused value's number is that of the first value that can't be read, or whose canonical text
-/// is over the limits; the texts of the values before it have been written. Where reading fails,
-/// nothing was written; where writing fails or memory is refused, a first part of the texts was.
+/// Refuses a stream at its first byte behind which nothing can follow, where it ends inside a value,
+/// or at the first value whose canonical text is over the limits; the texts of the values before
+/// have been written. Where a device or memory fails, a first part of the texts was.
 pub fn canon<R: Source, W: Sink>(
     alloc: Global,
     version: Version,
@@ -68,31 +118,32 @@ pub fn canon<R: Source, W: Sink>(
     writer: &mut W,
 ) -> Result<(), ToolError>
     requires { (1 ≤ piece) × (piece ≤ 65536) }
-    // Where the reader tells its bytes: the text of each value at Ok; where a value is refused or
-    // over the limits, or is one too many, the texts of those before it; and where writing fails or
-    // memory is refused, a first part of them.
-    ensures texts_written { IfSome (R.remaining reader.old) (λ input.
-        Renders (canonical_text version) (rules_under version limits.now)
-        (DoesNotFit (rules_under version limits.now)) input
-        (W.written writer.old) (W.written writer.new) result) }
-    ensures read_to_its_end { OnOk result (IfSome (R.remaining reader.old) (λ input.
+    // Of the bytes that were read: the text of each value, each of which fits the limits, and what
+    // is refused.
+    ensures written { (bytes : List ℕ) × AreRead (R.remaining reader.old) (R.remaining reader.new)
+        bytes × Renders (rules_under version limits.now) (canonical_text version)
+        (Fits (rules_under version limits.now)) LeavesNothing LeavesNothing bytes
+        (W.written writer.old) (W.written writer.new) result }
+    ensures read_to_its_end { AtEnd result (IfSome (R.remaining reader.old) (λ _.
         R.remaining reader.new ≡ Some [])) }
 
-    // A device that failed.
+    // A device or memory that failed.
+    ensures reads_bounded { R.calls reader.new ≤ R.calls reader.old + MOST_READS }
     ensures reader_failed { IsErrOf result ToolError.Read →
         HasRisen (R.failures reader.old) (R.failures reader.new) }
     ensures reads_used_up { IsErrOf result ToolError.TooManyTurns →
         R.calls reader.new ≡ count_after MOST_READS (R.calls reader.old) }
     ensures writer_failed { IsErrOf result ToolError.Write →
         HasRisen (W.failures writer.old) (W.failures writer.new) }
-    ensures unread_writes_nothing { IfErr result (λ error.
-        OnUnreadInput error (writer.new ≡ writer.old)) }
 {
-    let input = read_all(alloc, piece, reader)?;
-    let canonical = Canonical {
+    let mut canonical = Canonical {
         alloc,
         version,
         limits,
+        decoder: Decoder::new(alloc, version, limits),
     };
-    render_all(&canonical, version, limits, input.as_slice(), writer)
+    match render_stream(alloc, &mut canonical, piece, reader, writer) {
+        Ok(_) => Ok(()),
+        Err(error) => Err(error),
+    }
 }

@@ -1,67 +1,25 @@
 //! The command line of the program.
 
-ghost use Rattle.std.specs.Prelude.{◌≡◌, ◌≢◌, ◌⊎◌, ◌≤◌, ◌<◌, ℕ, OnOk, IfErr};
+ghost use Rattle.std.specs.Prelude.{◌≡◌, ◌≢◌, ◌⊎◌, ◌≤◌, ℕ, List};
 ghost use Rattle.resp_tool.specs.Faults.{status_of};
-ghost use Rattle.resp_tool.specs.Runs.{text_of, RendersStream, RendersStreamFront, RendersOfTask, RendersFrontOfTask};
+ghost use Rattle.resp_tool.specs.Runs.{HasRun, RunsTo};
+ghost use Rattle.resp_tool.specs.Streams.{AreRead};
+ghost use Rattle.resp_value.specs.Rules.{rules_under};
 
 use crate::canon::canon;
+use crate::check::check;
+use crate::options::{Options, Task, parse};
 use crate::show::show;
 use crate::text::write_text;
 use crate::tool_error::ToolError;
 use clap::error::ErrorKind;
-use clap::{Arg, ArgMatches, Command};
 use resp_value::device::{Sink, Source};
-use resp_value::laws;
-use resp_value::limits::Limits;
-use resp_value::version::Version;
 use std::alloc::Global;
 use std::convert::AsStr;
 use std::io::ErrorKind as IoErrorKind;
 
-/// How many bytes one read asks for.
-const PIECE: usize = 4_096;
-
 /// The status of bad arguments.
 const BAD_ARGUMENTS: u8 = 2;
-
-/// What is written for each value.
-#[derive(Clone, Copy, Debug, PartialEq, Eq)]
-pub enum Task {
-    /// Its line of text.
-    Show,
-    /// Its canonical spelling.
-    Canon,
-}
-
-fn proto<'a>(alloc: Global) -> Arg<'a> {
-    Arg::new(alloc, "proto")
-        .long("proto")
-        .value_name("VERSION")
-        .help("The version of the protocol")
-        .value_parser(["2"].as_slice())
-        .default_value("2")
-}
-
-fn parse<'a, S: AsStr>(alloc: Global, words: &'a [S]) -> Result<Task, clap::Error> {
-    let show = Command::new(alloc, "show")
-        .about("Prints each value of the stream on standard input as a line of text")
-        .arg(proto(alloc))?;
-    let canon = Command::new(alloc, "canon")
-        .about("Writes each value of the stream on standard input in its canonical spelling")
-        .arg(proto(alloc))?;
-    let matches = Command::new(alloc, "resp")
-        .bin_name("resp")?
-        .about("Reads streams of the Redis wire protocol")
-        .subcommand_required(true)
-        .subcommand(show)?
-        .subcommand(canon)?
-        .try_get_matches_from(words)?;
-    if matches.subcommand_name() == Some("canon") {
-        Ok(Task::Canon)
-    } else {
-        Ok(Task::Show)
-    }
-}
 
 /// Says what is wrong with the words, or helps, and answers the status.
 fn explain<W: Sink, F: Sink>(
@@ -90,7 +48,7 @@ fn explain<W: Sink, F: Sink>(
 }
 
 /// Says why the program stops, and answers the status.
-fn stop<F: Sink>(error: &ToolError, faults: &mut F) -> u8
+pub fn stop<F: Sink>(error: &ToolError, faults: &mut F) -> u8
     ensures { result ≡ status_of error.now }
 {
     let _ = error.line(faults);
@@ -112,25 +70,25 @@ pub fn refuse_words<F: Sink>(kind: IoErrorKind, faults: &mut F) -> u8
     }
 }
 
-/// Writes what the task wants of each value of the stream, of version 2 under the default limits.
+/// Does what the options ask for.
 fn run<R: Source, W: Sink>(
     alloc: Global,
-    task: Task,
+    options: &Options,
     reader: &mut R,
     writer: &mut W,
 ) -> Result<(), ToolError>
-    ensures stream_written { OnOk result (RendersOfTask task (R.remaining reader.old)
-        (W.written writer.old) (W.written writer.new)) }
-    ensures front_written { IfErr result (λ error. status_of error ≡ 1 →
-        RendersFrontOfTask task (R.remaining reader.old) (W.written writer.old)
-        (W.written writer.new)) }
+    requires { (1 ≤ options.now.piece) × (options.now.piece ≤ 65536) }
+    ensures { (bytes : List ℕ) × AreRead (R.remaining reader.old) (R.remaining reader.new) bytes ×
+        RunsTo options.now.task (rules_under options.now.version options.now.limits) bytes
+        (W.written writer.old) (W.written writer.new) result }
 {
-    // What begins with a value isn't the end.
-    laws::no_spelling_is_empty();
-    let limits = Limits::standard();
-    match task {
-        Task::Show => show(alloc, Version::Two, &limits, PIECE, reader, writer),
-        Task::Canon => canon(alloc, Version::Two, &limits, PIECE, reader, writer),
+    let version = options.version;
+    let limits = options.limits;
+    let piece = options.piece;
+    match options.task {
+        Task::Show => show(alloc, version, &limits, piece, reader, writer),
+        Task::Check => check(alloc, version, &limits, piece, reader, writer),
+        Task::Canon => canon(alloc, version, &limits, piece, reader, writer),
     }
 }
 
@@ -146,18 +104,20 @@ pub fn command<S: AsStr, R: Source, W: Sink, F: Sink>(
     faults: &mut F,
 ) -> u8
     ensures at_most_three { result ≤ 3 }
-    ensures all_at_zero { result ≡ 0 → (reader.new ≡ reader.old) ⊎
-        RendersStream (R.remaining reader.old) (W.written writer.old) (W.written writer.new) }
-    ensures front_at_one { result ≡ 1 → RendersStreamFront (R.remaining reader.old)
-        (W.written writer.old) (W.written writer.new) }
+    ensures ran { (reader.new ≡ reader.old) ⊎ HasRun (R.remaining reader.old)
+        (R.remaining reader.new) (W.written writer.old) (W.written writer.new) result }
     ensures nothing_at_two { result ≡ 2 →
         (reader.new ≡ reader.old) × (writer.new ≡ writer.old) }
 {
-    let task = match parse(alloc, words) {
-        Ok(task) => task,
+    let options = match parse(alloc, words) {
+        Ok(Some(options)) => options,
+        Ok(None) => {
+            let _ = write_text(faults, b"error: a number is outside its range\n");
+            return BAD_ARGUMENTS;
+        }
         Err(error) => return explain(alloc, &error, writer, faults),
     };
-    match run(alloc, task, reader, writer) {
+    match run(alloc, &options, reader, writer) {
         Ok(()) => 0,
         Err(error) => stop(&error, faults),
     }

@@ -1,39 +1,59 @@
-//! The program `resp`: shows streams of the Redis wire protocol.
+//! The program `resp`: shows, checks and rewrites streams of the Redis wire protocol.
 #![tactic(auto)]
 
 mod canon;
+mod check;
 mod command_line;
-mod input;
-mod render;
-mod scalar_reader;
-mod scalar_value;
+mod laws;
+mod lines;
+mod options;
+mod rendering;
 mod show;
-mod shown;
+mod stream;
 #[cfg(test)]
 mod tests;
 mod text;
 mod tool_error;
 
-use resp_value::device::Device;
+use resp_value::device::{Device, MemorySink};
+use std::alloc::AllocError;
 use std::env;
-use std::io::{self, BufWriter, Write};
+use std::io::{BufWriter, Write};
 use std::process::ExitCode;
 
-/// The status of a failed device.
+/// The status of a failed device, and of want of memory.
 const DEVICE_FAILED: u8 = 3;
 
-fn main(rt: HostRuntime) -> io::Result<ExitCode> {
+/// The most bytes that are said of what is wrong.
+const MOST_FAULTS: usize = 16_384;
+
+fn main(rt: HostRuntime) -> ExitCode {
+    match run(&rt) {
+        Ok(status) => ExitCode::from(status),
+        Err(AllocError) => {
+            let _ = rt.stderr().write_all(b"out of memory\n");
+            ExitCode::from(DEVICE_FAILED)
+        }
+    }
+}
+
+/// Runs the program's words, and answers the status. What is wrong is said behind what was shown.
+fn run(rt: &HostRuntime) -> Result<u8, AllocError> {
     let alloc = rt.alloc();
-    let mut faults = Device::new(rt.stderr());
-    let words: Vec<String> = match env::args(&rt) {
+    let mut faults = MemorySink::new(alloc, MOST_FAULTS, MOST_FAULTS)?;
+    let words: Vec<String> = match env::args(rt) {
         Ok(words) => words.collect(alloc)?,
         Err(error) => {
             let status = command_line::refuse_words(error.kind(), &mut faults);
-            return Ok(ExitCode::from(status));
+            let _ = rt.stderr().write_all(faults.bytes());
+            return Ok(status);
         }
     };
+    let Ok(buffered) = BufWriter::new(alloc, rt.stdout()) else {
+        return Err(AllocError);
+    };
     let mut reader = Device::new(rt.stdin());
-    let mut writer = Device::new(BufWriter::new(alloc, rt.stdout())?);
+    let mut writer = Device::new(buffered);
     let status = command_line::command(
         alloc,
         words.as_slice(),
@@ -41,10 +61,11 @@ fn main(rt: HostRuntime) -> io::Result<ExitCode> {
         &mut writer,
         &mut faults,
     );
-    let mut output = writer.into_inner();
-    if output.flush().is_err() {
-        let _ = faults.into_inner().write_all(b"write failed\n");
-        return Ok(ExitCode::from(DEVICE_FAILED));
+    // Where a device failed before, that has been said.
+    if writer.into_inner().flush().is_err() && status != DEVICE_FAILED {
+        let _ = rt.stderr().write_all(b"write failed\n");
+        return Ok(DEVICE_FAILED);
     }
-    Ok(ExitCode::from(status))
+    let _ = rt.stderr().write_all(faults.bytes());
+    Ok(status)
 }

@@ -1,43 +1,124 @@
-//! `show`: each value of a stream as a line of text.
+//! `show`: each value of a stream as lines of text.
 
-ghost use Rattle.std.specs.Prelude.{◌≡◌, ◌+◌, ◌≤◌, [], Some, OnOk, IfErr, IfSome, IsErrOf};
-ghost use Rattle.resp_value.specs.Devices.{count_after, HasRisen};
+ghost use Rattle.std.specs.Prelude.{◌≡◌, ◌+◌, ◌≤◌, ℕ, List, [], Some, IfErr, IfSome, IsErrOf};
+ghost use Rattle.resp_tool.specs.Counts.{IsAny};
+ghost use Rattle.resp_tool.specs.Scans.{IsShownIn, IsShownOf, is_done};
 ghost use Rattle.resp_tool.specs.Shown.{shown_text};
+ghost use Rattle.resp_tool.specs.Streams.{AreRead, AtEnd, IsNeverOver, Renders};
+ghost use Rattle.resp_value.specs.Devices.{count_after, HasRisen};
 ghost use Rattle.resp_value.specs.Rules.{rules_under};
-ghost use Rattle.resp_tool.specs.Renders.{Renders, OnUnreadInput, IsShowError};
 
-use crate::input::{MOST_READS, read_all};
-use crate::render::{RenderError, Rendering, render_all};
-use crate::scalar_reader::Scalar;
-use crate::shown::write_scalar;
+use crate::lines::Lines;
+use crate::rendering::{Rendering, Stop, Taken};
+use crate::stream::{MOST_READS, render_stream};
 use crate::tool_error::ToolError;
+use resp_scan::event::Event;
+use resp_scan::scanner::Scanner;
 use resp_value::device::{Sink, Source};
+use resp_value::laws;
 use resp_value::limits::Limits;
 use resp_value::version::Version;
 use std::alloc::Global;
 
-/// Each value as a line of text.
-struct Lines;
+/// Each value as lines of text.
+#[derive(Drop)]
+struct Shown {
+    scanner: Scanner,
+    lines: Lines,
+}
 
-impl Rendering for Lines {
+impl Rendering for Shown {
+    ghost use Rattle.resp_scan.specs.Kinds.{rules_of};
+    ghost use Rattle.resp_tool.specs.Scans.{HasShown};
+
+    ghost rules = { λ s. rules_of s.scanner };
+
+    ghost has_taken = { λ s. HasShown s.scanner s.lines };
+
     ghost text = { λ _. shown_text };
 
-    ghost refuses = { λ _ _. ⊥ };
+    ghost is_written = { λ _. IsAny };
 
-    ghost takes_memory = { λ _. ⊥ };
+    ghost is_left = { λ _. IsShownOf };
 
-    fn write<W: Sink>(&self, writer: &mut W, scalar: &Scalar<'_>) -> Result<(), RenderError> {
-        write_scalar(writer, scalar)?;
-        Ok(())
+    ghost is_begun = { IsShownIn };
+
+    ghost takes_memory = { ⊥ };
+
+    ghost writes = { Unit {0} };
+
+    fn take<W: Sink>(&mut self, piece: &[u8], writer: &mut W) -> Result<Taken, Stop> {
+        laws::fronts_of_viable_texts_are_viable();
+        let mut used = 0;
+        for _ in 0..u64::MAX {
+            // What is due so far was given, as the scanner says of it here.
+            let _before = self.scanner.taken();
+            let step = match self.scanner.step(&piece[used..]) {
+                Ok(step) => step,
+                Err(fault) => {
+                    return match self.lines.end_line(writer) {
+                        Ok(()) => Err(Stop::Fault(fault)),
+                        Err(_) => Err(Stop::Write),
+                    };
+                }
+            };
+            used += step.used;
+            // What was scanned is viable, and no deeper than the limit, as the scanner says here.
+            let _taken = self.scanner.taken();
+            let _depth = self.scanner.depth();
+            let Some(event) = step.event else {
+                return Ok(Taken {
+                    used,
+                    is_whole: false,
+                });
+            };
+            if is_done(&event) {
+                return Ok(Taken {
+                    used,
+                    is_whole: true,
+                });
+            }
+            match self.lines.write(&event, writer) {
+                Ok(()) => {}
+                Err(_) => return Err(Stop::Write),
+            }
+        }
+        // No value has so many events.
+        let _last = self.scanner.taken();
+        unreachable!()
+    }
+
+    fn part_stands(&self) {
+        // What was scanned is viable, as the scanner says of it here.
+        let _taken = self.scanner.taken();
+    }
+
+    fn finish<W: Sink>(&mut self, writer: &mut W) -> Result<(), Stop> {
+        // What was scanned is viable, as the scanner says of it here.
+        let _viable = self.scanner.taken();
+        match self.scanner.finish() {
+            Ok(()) => Ok(()),
+            Err(fault) => match self.lines.end_line(writer) {
+                Ok(()) => Err(Stop::Fault(fault)),
+                Err(_) => Err(Stop::Write),
+            },
+        }
     }
 }
 
-/// Reads the whole input by reads of at most `piece` bytes, from 1 to 65,536, and writes the line
-/// of each value.
+/// Whether the value has ended.
+fn is_done(event: &Event<'_>) -> bool
+    ensures { result ≡ is_done event.now }
+{
+    matches!(event, Event::Done)
+}
+
+/// Reads the stream by reads of at most `piece` bytes, from 1 to 65,536, and writes the lines of
+/// each value as its bytes come. It takes memory for the bytes of one read alone.
 ///
-/// A refused value's number is that of the first value that can't be read; the lines of the values
-/// before it have been written. Where reading fails or memory is refused, nothing was written;
-/// where writing fails, a first part of the lines was.
+/// Refuses a stream at its first byte behind which nothing can follow, or where it ends inside a
+/// value; the lines of the values before and of what came of that one have been written. Where a
+/// device fails, a first part of the lines was.
 pub fn show<R: Source, W: Sink>(
     alloc: Global,
     version: Version,
@@ -47,27 +128,32 @@ pub fn show<R: Source, W: Sink>(
     writer: &mut W,
 ) -> Result<(), ToolError>
     requires { (1 ≤ piece) × (piece ≤ 65536) }
-    // Where the reader tells its bytes: the line of each value at Ok; where a value is refused, or
-    // is one too many, the lines of those before it; where writing fails, a first part of them.
-    ensures lines_written { IfSome (R.remaining reader.old) (λ input.
-        Renders shown_text (rules_under version limits.now) (λ _. ⊥) input
-        (W.written writer.old) (W.written writer.new) result) }
-    ensures read_to_its_end { OnOk result (IfSome (R.remaining reader.old) (λ input.
+    // Of the bytes that were read: the lines of each value, and what is refused.
+    ensures written { (bytes : List ℕ) × AreRead (R.remaining reader.old) (R.remaining reader.new)
+        bytes × Renders (rules_under version limits.now) shown_text IsAny IsShownOf
+        (IsShownIn (rules_under version limits.now)) bytes (W.written writer.old)
+        (W.written writer.new) result }
+    ensures read_to_its_end { AtEnd result (IfSome (R.remaining reader.old) (λ _.
         R.remaining reader.new ≡ Some [])) }
-    ensures never_over_limits { IfErr result IsShowError }
+    ensures never_over_limits { IfErr result IsNeverOver }
 
     // A device or memory that failed.
+    ensures reads_bounded { R.calls reader.new ≤ R.calls reader.old + MOST_READS }
     ensures reader_failed { IsErrOf result ToolError.Read →
         HasRisen (R.failures reader.old) (R.failures reader.new) }
     ensures reads_used_up { IsErrOf result ToolError.TooManyTurns →
         R.calls reader.new ≡ count_after MOST_READS (R.calls reader.old) }
     ensures writer_failed { IsErrOf result ToolError.Write →
         HasRisen (W.failures writer.old) (W.failures writer.new) }
-    ensures unread_writes_nothing { IfErr result (λ error.
-        OnUnreadInput error (writer.new ≡ writer.old)) }
-    ensures no_memory_writes_nothing { IsErrOf result ToolError.Memory →
-        writer.new ≡ writer.old }
+    ensures no_buffer { IsErrOf result ToolError.Memory →
+        (writer.new ≡ writer.old) × (reader.new ≡ reader.old) }
 {
-    let input = read_all(alloc, piece, reader)?;
-    render_all(&Lines, version, limits, input.as_slice(), writer)
+    let mut shown = Shown {
+        scanner: Scanner::new(version, limits),
+        lines: Lines::new(),
+    };
+    match render_stream(alloc, &mut shown, piece, reader, writer) {
+        Ok(_) => Ok(()),
+        Err(error) => Err(error),
+    }
 }

@@ -3,6 +3,7 @@
 ghost use Rattle.std.specs.Prelude.{◌≤◌};
 
 use crate::canon::canon;
+use crate::check::check;
 use crate::command_line::command;
 use crate::show::show;
 use crate::tool_error::ToolError;
@@ -80,18 +81,18 @@ fn shows_what_came_before_a_refused_value(rt: HostRuntime) -> Result<(), Fail> {
         at: 3,
     };
     assert_eq!(rt; shown, Err(refused));
-    assert_eq!(rt; writer.bytes(), b"int 1\n".as_slice());
+    assert_eq!(rt; writer.bytes(), b"int 1\nsimple \"a\n".as_slice());
     Ok(())
 }
 
 #[test]
 fn stops_where_the_reader_fails(rt: HostRuntime) -> Result<(), Fail> {
-    for byte in [0, 7] {
+    for (byte, written) in [(0, b"".as_slice()), (7, b"simple \"OK\" 2\n")] {
         let mut reader = MemorySource::new(STREAM, 2).failing_from(byte);
         let mut writer = MemorySink::new(rt.alloc(), 4_096, 256)?;
         let shown = show_default(rt.alloc(), 4_096, &mut reader, &mut writer);
         assert_eq!(rt; shown, Err(ToolError::Read), "at byte {byte}");
-        assert_eq!(rt; writer.bytes(), b"".as_slice(), "at byte {byte}");
+        assert_eq!(rt; writer.bytes(), written, "at byte {byte}");
     }
     Ok(())
 }
@@ -232,7 +233,7 @@ fn answers_the_status_of_a_run(rt: HostRuntime) -> Result<(), Fail> {
         (
             ["resp", "show", "--proto", "2"],
             b"+a".as_slice(),
-            "",
+            "simple \"a\n",
             "value 1: Truncated at byte 2\n",
             1,
         ),
@@ -264,7 +265,7 @@ fn answers_the_status_of_a_run(rt: HostRuntime) -> Result<(), Fail> {
 
 #[test]
 fn answers_the_status_though_nothing_can_be_said(rt: HostRuntime) -> Result<(), Fail> {
-    for (word, status) in [("show", 1), ("play", 2)] {
+    for (word, status) in [("check", 1), ("show", 3), ("play", 2)] {
         let mut reader = MemorySource::new(b"+a", 4_096);
         let mut writer = MemorySink::new(rt.alloc(), 4_096, 0)?;
         let mut faults = MemorySink::new(rt.alloc(), 4_096, 0)?;
@@ -278,5 +279,145 @@ fn answers_the_status_though_nothing_can_be_said(rt: HostRuntime) -> Result<(), 
         );
         assert_eq!(rt; got, status, "{word}");
     }
+    Ok(())
+}
+
+/// A stream of version 3 with each kind of value.
+const ALL_KINDS: &[u8] =
+    b"~2\r\n#t\r\n%1\r\n$1\r\n\"\r\n_\r\n(-0012\r\n(0\r\n!2\r\nno\r\n=6\r\ntxt:hi\r\n*?\r\n#f\r\n.\r\n$?\r\n;2\r\nab\r\n;0\r\n|1\r\n+ttl\r\n:3600\r\n:3\r\n>1\r\n*-1\r\n";
+
+const ALL_LINES: &[u8] =
+    b"set\n  true\n  map\n    bulk \"\\\"\" 1\n    null\n  end 1\nend 2\nbig -12\nbig 0\nbulkerror \"no\" 2\nverbatim \"txt\" \"hi\" 2\narray\n  false\nend 1\nbulk \"ab\" 2\nattr\n  simple \"ttl\" 3\n  int 3600\nof\n  int 3\nend 1\npush\n  null\nend 1\n";
+
+const ALL_CANONICAL: &[u8] =
+    b"~2\r\n#t\r\n%1\r\n$1\r\n\"\r\n_\r\n(-12\r\n(0\r\n!2\r\nno\r\n=6\r\ntxt:hi\r\n*1\r\n#f\r\n$2\r\nab\r\n|1\r\n+ttl\r\n:3600\r\n:3\r\n>1\r\n_\r\n";
+
+#[test]
+fn writes_the_same_at_each_cut(rt: HostRuntime) -> Result<(), Fail> {
+    let alloc = rt.alloc();
+    let limits = Limits::standard();
+    for piece in [1, 2, 3, 4_096] {
+        for most in [1, 2, 3, 4_096] {
+            let mut reader = MemorySource::new(ALL_KINDS, most);
+            let mut writer = MemorySink::new(alloc, 4_096, 512)?;
+            let shown = show(
+                alloc,
+                Version::Three,
+                &limits,
+                piece,
+                &mut reader,
+                &mut writer,
+            );
+            assert_eq!(rt; shown, Ok(()), "by reads of {piece} of {most}");
+            assert_eq!(rt; writer.bytes(), ALL_LINES, "by reads of {piece} of {most}");
+            let mut reader = MemorySource::new(ALL_KINDS, most);
+            let mut writer = MemorySink::new(alloc, 4_096, 512)?;
+            let done = canon(
+                alloc,
+                Version::Three,
+                &limits,
+                piece,
+                &mut reader,
+                &mut writer,
+            );
+            assert_eq!(rt; done, Ok(()), "by reads of {piece} of {most}");
+            assert_eq!(rt;
+                writer.bytes(),
+                ALL_CANONICAL,
+                "by reads of {piece} of {most}"
+            );
+            let mut reader = MemorySource::new(ALL_KINDS, most);
+            let mut writer = MemorySink::new(alloc, 4_096, 512)?;
+            let checked = check(
+                alloc,
+                Version::Three,
+                &limits,
+                piece,
+                &mut reader,
+                &mut writer,
+            );
+            assert_eq!(rt; checked, Ok(()), "by reads of {piece} of {most}");
+            assert_eq!(rt; writer.bytes(), b"values 9 bytes 111\n".as_slice());
+        }
+    }
+    Ok(())
+}
+
+#[test]
+fn ends_the_line_of_a_refused_value(rt: HostRuntime) -> Result<(), Fail> {
+    let alloc = rt.alloc();
+    for (stream, lines, cause, at) in [
+        (
+            b"$5\r\nhel".as_slice(),
+            b"bulk \"hel\n".as_slice(),
+            Cause::Truncated,
+            7,
+        ),
+        (b"*2\r\n+a", b"array\n  simple \"a\n", Cause::Truncated, 6),
+        (b"+a\nb", b"simple \"a\n", Cause::Syntax, 2),
+        (
+            b"|1\r\n+ttl\r\n:3600\r\n",
+            b"attr\n  simple \"ttl\" 3\n  int 3600\n",
+            Cause::Truncated,
+            17,
+        ),
+    ] {
+        for piece in [1, 2, 3, 4_096] {
+            let mut reader = MemorySource::new(stream, 4_096);
+            let mut writer = MemorySink::new(alloc, 1, 256)?;
+            let limits = Limits::standard();
+            let shown = show(
+                alloc,
+                Version::Three,
+                &limits,
+                piece,
+                &mut reader,
+                &mut writer,
+            );
+            let refused = ToolError::Refused {
+                value: 1,
+                cause,
+                at,
+            };
+            assert_eq!(rt; shown, Err(refused));
+            assert_eq!(rt; writer.bytes(), lines);
+        }
+    }
+    Ok(())
+}
+
+#[test]
+fn canon_refuses_a_text_over_the_limits(rt: HostRuntime) -> Result<(), Fail> {
+    let alloc = rt.alloc();
+    let mut stream = Vec::from_slice(alloc, b"+OK\r\n*?\r\n")?;
+    for _ in 0..10_000 {
+        stream.extend_from_slice(b"+\r\n")?;
+    }
+    stream.extend_from_slice(b".\r\n")?;
+    let limits = Limits::new(32, 536_870_912, 30_007)?;
+    let mut reader = MemorySource::new(stream.as_slice(), 4_096);
+    let mut writer = MemorySink::new(alloc, 4_096, 64)?;
+    let done = canon(
+        alloc,
+        Version::Three,
+        &limits,
+        4_096,
+        &mut reader,
+        &mut writer,
+    );
+    assert_eq!(rt; done, Err(ToolError::OverLimits { value: 2 }));
+    assert_eq!(rt; writer.bytes(), b"+OK\r\n".as_slice());
+    let mut reader = MemorySource::new(stream.as_slice(), 4_096);
+    let mut writer = MemorySink::new(alloc, 4_096, 64)?;
+    let checked = check(
+        alloc,
+        Version::Three,
+        &limits,
+        4_096,
+        &mut reader,
+        &mut writer,
+    );
+    assert_eq!(rt; checked, Ok(()));
+    assert_eq!(rt; writer.bytes(), b"values 2 bytes 30012\n".as_slice());
     Ok(())
 }

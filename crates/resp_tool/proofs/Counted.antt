@@ -1,0 +1,59 @@
+-- What `check` writes, behind a stream of which nothing was written.
+use Rattle.std.proofs.Common.{◌≡◌, ℕ, List, [], ◌∷◌, length, flat_map, Option, Err, refl, sym, ap, subst, ◌∙◌}
+use Rattle.resp_value.specs.Data.{Datum}
+use Rattle.resp_value.specs.Devices.{Appends}
+use Rattle.resp_value.specs.Rules.{Rules}
+use Rattle.resp_tool.specs.Counts.{Counts, CountsAll, CountsPart, IsAny, LeavesNothing, counts_line, no_text}
+use Rattle.resp_tool.specs.Streams.{RendersCounted, RendersStopped}
+use Rattle.resp_tool.specs.Written.{AppendsPart}
+use Rattle.resp_tool.specs.declared.stream.Totals.{Totals}
+use Rattle.resp_tool.specs.declared.tool_error.ToolError.{ToolError}
+use Rattle.resp_tool.specs.declared.tool_error.ToolError.TheVariants as e
+use Rattle.resp_tool.proofs.WrittenLemmas.{Appends-append}
+
+-- values without texts
+no_texts : (xs : List Datum) → flat_map no_text xs ≡ []
+no_texts [] = refl
+no_texts (x ∷ xs) = no_texts xs
+
+-- the line of the counts
+same_line : (r : Rules) (bytes : List ℕ) (before after : Option (List ℕ)) (totals : Totals) (s : RendersCounted r no_text IsAny bytes before after totals) →
+    counts_line totals.values totals.bytes ≡ counts_line (length s.values) (length bytes)
+same_line r bytes before after totals s = ap (λ n. counts_line n totals.bytes) s.value_count ∙ ap (λ n. counts_line (length s.values) n) s.byte_count
+
+nothing_before : (r : Rules) (bytes : List ℕ) (before mid : Option (List ℕ)) (totals : Totals) → RendersCounted r no_text IsAny bytes before mid totals →
+    Appends before mid []
+nothing_before r bytes before mid totals s = subst (Appends before mid) (no_texts s.values) s.all.appended
+
+pub counts_all : (r : Rules) (bytes : List ℕ) (before mid after : Option (List ℕ)) (totals : Totals) → RendersCounted r no_text IsAny bytes before mid totals →
+    Appends mid after (counts_line totals.values totals.bytes) → CountsAll r bytes before after
+counts_all r bytes before mid after totals s line = record {
+  values = s.values;
+  cut = s.all.cut;
+  appended = Appends-append before mid after [] (counts_line (length s.values) (length bytes)) (nothing_before r bytes before mid totals s)
+      (subst (Appends mid after) (same_line r bytes before mid totals s) line);
+}
+
+pub counts_part : (r : Rules) (bytes : List ℕ) (before mid after : Option (List ℕ)) (totals : Totals) → RendersCounted r no_text IsAny bytes before mid totals →
+    AppendsPart mid after (counts_line totals.values totals.bytes) → CountsPart r bytes before after
+counts_part r bytes before mid after totals s line = record {
+  values = s.values;
+  cut = s.all.cut;
+  appended = record {
+    part = line.part;
+    behind = line.behind;
+    whole = sym (same_line r bytes before mid totals s) ∙ line.whole;
+    appended = Appends-append before mid after [] line.part (nothing_before r bytes before mid totals s) line.appended;
+  };
+}
+
+-- what comes of a stop: a writer that wasn't written to doesn't fail
+pub counts_stopped : (r : Rules) (bytes : List ℕ) (before after : Option (List ℕ)) (error : ToolError) → (error ≡ e.Write → ⊥) →
+    RendersStopped r no_text IsAny LeavesNothing LeavesNothing bytes before after error → Counts r bytes before after (Err error)
+counts_stopped r bytes before after (e.Refused number c at) other s = s
+counts_stopped r bytes before after (e.OverLimits number) other s = s
+counts_stopped r bytes before after e.TooManyValues other s = s
+counts_stopped r bytes before after e.Read other s = s
+counts_stopped r bytes before after e.Write other s = absurd (other refl)
+counts_stopped r bytes before after e.TooManyTurns other s = s
+counts_stopped r bytes before after e.Memory other s = s

@@ -1,0 +1,190 @@
+-- What a scanner has read of a value, from what its calls say.
+use Rattle.std.proofs.Common.{◌≡◌, inl, inr, ℕ, zero, suc, ◌+◌, ◌-◌, ◌<◌, Bool, true, false, cond, ltb, List, [], ◌∷◌, ◌++◌, length, take, drop, MatchBool, Option, refl, sym, ap, subst, ◌∙◌, arith, append_assoc, append-nil, length-append, take-append-drop}
+use Rattle.std.proofs.lemmas.Bool.{ltb-true}
+use Rattle.std.proofs.lemmas.List.{length-take-le, take_all}
+use Rattle.std.proofs.Math.Seq.{take-append-add, take-nil}
+use Rattle.resp_value.specs.Bytes.{crlf}
+use Rattle.resp_value.specs.Trees.{Tree, Spells, leaf, node, null, PlainNull, leaf_line, leaf_rest, text}
+use Rattle.resp_value.specs.TreeValues.{value}
+use Rattle.resp_value.specs.Rules.{Rules, WithinTotal}
+use Rattle.resp_value.specs.Spellings.{IsViable}
+use Rattle.resp_value.specs.Laws.{FrontsOfViableTextsAreViable}
+use Rattle.resp_value.specs.declared.cause.Cause.{Cause}
+use Rattle.resp_value.specs.declared.cause.Cause.TheVariants as cause
+use Rattle.resp_fronts.specs.Events.{Timed, all_events, events_due}
+use Rattle.resp_scan.specs.Listening.{HearsPiece, HearsRefusal, HearsValue}
+use Rattle.resp_scan.specs.Machine.Tokens.{Place}
+use Rattle.resp_scan.specs.Reading.{AreDue, Events, HasNoSpelling, HasNoValue, HasRead, IsRefused, MayEnd}
+use Rattle.resp_scan.specs.declared.event.Fault.{Fault}
+use Rattle.resp_scan.specs.declared.event.Scanned.{Scanned}
+use Rattle.resp_tool.specs.Counts.{IsAny, LeavesNothing, no_text}
+use Rattle.resp_tool.specs.Scans.{HasLookedAt, HasScanned}
+use Rattle.resp_tool.specs.Takings.{IsByteFault, IsEndFault, Refuses, TakesFront, TakesValue}
+use Rattle.resp_tool.proofs.WrittenLemmas.{Appends-none}
+
+-- nothing is due of no byte
+due_at_start : (xs : List Timed) → events_due 0 xs ≡ []
+due_at_start [] = refl
+due_at_start (x ∷ xs) = case (ltb x.at 0) refl (due_at_start xs)
+  where
+    case : (early : Bool) → ltb x.at 0 ≡ early → events_due 0 xs ≡ [] → cond early (x.event ∷ events_due 0 xs) (events_due 0 xs) ≡ []
+    case true is others = let early : x.at < 0 = ltb-true x.at 0 is in absurd (omega arith)
+    case false is others = others
+
+-- no text is empty
+some_text : (t : Tree) → text t ≡ [] → ⊥
+some_text (leaf l) is = absurd (omega (arith, ap length is, length-append (leaf_line l) (crlf (leaf_rest l))))
+some_text (node k form ts) is = absurd (cc)
+
+-- no text has no value
+pub no_value_at_start : HasNoValue []
+no_value_at_start n tree spells = some_text tree (spells.spelled ∙ take-nil n)
+
+-- what was given of no byte is nothing
+pub nothing_given : (given : Events) → AreDue [] given → given ≡ []
+nothing_given given due =
+    let whole : Tree = leaf (null PlainNull) in
+    sym (due (text whole) whole (record { is_tree = tt; spelled = refl })) ∙ due_at_start (all_events whole)
+
+-- between two values nothing was scanned
+pub scanned_nothing : (s : Place) → HasRead s [] [] → HasScanned s [] []
+scanned_nothing s reads = record {
+  reads = reads;
+  all_due = λ rest whole spells. due_at_start (all_events whole);
+  no_value = no_value_at_start;
+}
+
+-- a front without a value is no text
+pub no_whole_text : (front : List ℕ) → HasNoValue front → (tree : Tree) → Spells tree front → ⊥
+no_whole_text front none tree spells =
+    none (length front) tree (subst (Spells tree) (sym (take_all (length front) front (omega arith))) spells)
+
+-- so a value that ends behind it uses bytes
+pub value_uses_some : (front piece : List ℕ) (used : ℕ) (tree : Tree) → HasNoValue front → Spells tree (front ++ take used piece) → 0 < used
+value_uses_some front piece zero tree none spells = absurd (no_whole_text front none tree (subst (Spells tree) (append-nil front) spells))
+value_uses_some front piece (suc used) tree none spells = omega arith
+
+-- the byte that is refused is the first behind which nothing can follow
+pub byte_fault : (r : Rules) (front piece : List ℕ) (fault : Fault) (given : Events) → FrontsOfViableTextsAreViable → IsRefused r front given piece fault →
+    IsByteFault r (front ++ piece) fault.cause fault.at
+byte_fault r front piece fault given law w =
+    let whole = front ++ piece in
+    let n = fault.at in
+    record {
+      rule = w.refused.rule;
+      names = w.refused.names;
+      fault_of = record {
+        front = take (n + 1) whole;
+        behind = drop (n + 1) whole;
+        whole = sym (take-append-drop (n + 1) whole);
+        place = sym (length-take-le (n + 1) whole (omega (arith, w.before_end)));
+        cause = w.refused.cause;
+        first = viable_before;
+      };
+    }
+  where
+    viable_before : (before : List ℕ) (byte : ℕ) (after : List ℕ) → take (fault.at + 1) (front ++ piece) ≡ before ++ byte ∷ after →
+        IsViable r WithinTotal before
+    viable_before before byte after is =
+        let whole = front ++ piece in
+        let n = fault.at in
+        let behind = (byte ∷ after) ++ drop (n + 1) whole in
+        let parts : whole ≡ before ++ behind = sym (take-append-drop (n + 1) whole) ∙ ap (λ z. z ++ drop (n + 1) whole) is ∙
+        append_assoc before (byte ∷ after) (drop (n + 1) whole) in
+        let m = n - length before in
+        let at : n ≡ length before + m = omega (
+          arith,
+          length-take-le (n + 1) whole (omega (arith, w.before_end)),
+          ap length is,
+          length-append before (byte ∷ after),
+        ) in
+        let split : take n whole ≡ before ++ take m behind = ap (λ k. take k whole) at ∙ ap (take (length before + m)) parts ∙ take-append-add before behind m in
+        law r WithinTotal before (take m behind) (subst (IsViable r WithinTotal) split w.viable)
+
+-- no front of a text without a value is a spelling
+pub no_spelling_without_value : (r : Rules) (front : List ℕ) → HasNoValue front → HasNoSpelling r front
+no_spelling_without_value r front none n spelled = none n spelled.tree spelled.spells
+
+-- an input that ends between two values
+pub ends_between : (r : Rules) (front : List ℕ) → HasNoValue front → MayEnd r front → front ≡ []
+ends_between r front none (inl is) = is
+ends_between r front none (inr s) = absurd (no_whole_text front none s.tree s.spells)
+
+-- an input that ends inside one
+pub ends_inside : (r : Rules) (front : List ℕ) (c : Cause) (at : ℕ) → IsViable r WithinTotal front → c ≡ cause.Truncated → at ≡ length front →
+    (front ≡ [] → ⊥) → IsEndFault r front c at
+ends_inside r front c at viable names place begun = record { names = names; place = place; begun = some front begun; viable = viable }
+  where
+    some : (xs : List ℕ) → (xs ≡ [] → ⊥) → 0 < length xs
+    some [] h = absurd (h refl)
+    some (x ∷ xs) h = omega arith
+
+-- What comes of a piece that is only looked at.
+
+pub looks_on : (r : Rules) (s s' : Place) (H : Events → Type 0) (front piece so_far : List ℕ) (held : Option (List ℕ)) (scanned : Scanned) →
+    HasLookedAt s front so_far →
+    ((given : Events) → HasRead s front given → scanned.is_whole ≡ true → HearsValue r s' H (front ++ take scanned.used piece)) →
+    ((given : Events) → HasRead s front given → scanned.is_whole ≡ false → HearsPiece s' H (front ++ piece)) →
+    (scanned.is_whole ≡ false → scanned.used ≡ length piece) →
+    ((bytes : List ℕ) (given : Events) → HasRead s' bytes given → IsViable r WithinTotal bytes) →
+    MatchBool scanned.is_whole
+    ((0 < scanned.used) × TakesValue r no_text IsAny (HasLookedAt s') (front ++ take scanned.used piece) so_far held held)
+    ((scanned.used ≡ length piece) × TakesFront r (HasLookedAt s') (front ++ piece) so_far held held)
+looks_on r s s' H front piece so_far held scanned looked whole part all viable = case scanned.is_whole refl
+  where
+    case : (b : Bool) → scanned.is_whole ≡ b → MatchBool b
+        ((0 < scanned.used) × TakesValue r no_text IsAny (HasLookedAt s') (front ++ take scanned.used piece) so_far held held)
+        ((scanned.used ≡ length piece) × TakesFront r (HasLookedAt s') (front ++ piece) so_far held held)
+    case true is =
+        let ((given, scanned_so), nothing) = looked in
+        let h = whole given scanned_so.reads is in (
+          value_uses_some front piece scanned.used h.is_value.tree scanned_so.no_value h.is_value.spells,
+          record {
+            value = value h.is_value.tree;
+            spelling = record { tree = h.is_value.tree; spells = h.is_value.spells; keeps = h.is_value.keeps; valued = refl };
+            written = tt;
+            more = [];
+            appended = Appends-none held;
+            whole = sym (append-nil so_far ∙ nothing);
+            takes = (([], scanned_nothing s' h.reads), refl);
+          },
+        )
+    case false is =
+        let ((given, scanned_so), nothing) = looked in
+        let h = part given scanned_so.reads is in (
+          all is,
+          record {
+            no_value = h.no_value;
+            viable = viable (front ++ piece) h.heard h.reads;
+            more = [];
+            appended = Appends-none held;
+            takes = ((h.heard, record { reads = h.reads; all_due = h.all_due; no_value = h.no_value }), append-nil so_far ∙ nothing);
+          },
+        )
+
+pub looks_refused : (r : Rules) (s : Place) (H : Events → Type 0) (front piece so_far : List ℕ) (held : Option (List ℕ)) (fault : Fault) →
+    FrontsOfViableTextsAreViable → HasLookedAt s front so_far →
+    ((given : Events) → HasRead s front given → HearsRefusal r H front piece fault) →
+    Refuses r (IsByteFault r) LeavesNothing (front ++ piece) so_far held held fault.cause fault.at
+looks_refused r s H front piece so_far held fault law looked refusal =
+    let ((given, scanned_so), nothing) = looked in
+    let h = refusal given scanned_so.reads in
+    record {
+      fault = byte_fault r front piece fault h.heard law h.refused;
+      no_spelling = h.refused.no_value;
+      more = [];
+      appended = Appends-none held;
+      is_left = append-nil so_far ∙ nothing;
+    }
+
+-- the end of the input inside a value
+pub looks_truncated : (r : Rules) (front so_far : List ℕ) (held : Option (List ℕ)) (c : Cause) (at : ℕ) → HasNoValue front → IsViable r WithinTotal front →
+    c ≡ cause.Truncated → at ≡ length front → (front ≡ [] → ⊥) → so_far ≡ [] →
+    Refuses r (IsEndFault r) LeavesNothing front so_far held held c at
+looks_truncated r front so_far held c at none viable names place begun nothing = record {
+  fault = ends_inside r front c at viable names place begun;
+  no_spelling = no_spelling_without_value r front none;
+  more = [];
+  appended = Appends-none held;
+  is_left = append-nil so_far ∙ nothing;
+}

@@ -1,0 +1,140 @@
+use Rattle.std.proofs.Common.{◌≡◌, ◌+◌, ◌≤◌, ◌++◌, ℕ, List, [], Ok, Err, length, take, vec_len, refl, sym, ap, subst, ◌∙◌, arith, length-append}
+use Rattle.std.proofs.lemmas.List.{length-take-le}
+use Rattle.resp_tool.specs.Streams.{HasRendered, RendersStopped, RendersStream}
+use Rattle.resp_tool.specs.declared.tool_error.ToolError.TheVariants.{Memory}
+use Rattle.resp_tool.proofs.Outcomes.{is_that_error}
+use Rattle.resp_tool.proofs.ReadLemmas.{called_again, never_called, nothing_read, one_more, reads_fail, reads_none, reads_on, take-into}
+use Rattle.resp_tool.proofs.Rendered.{EndsOf, ended_stop, nothing_rendered, renders_counted, renders_so_far}
+use Rattle.resp_tool.proofs.stream.render_stream.Goals as goal
+
+pub returns-in_err-buffer-clause-rendered : goal.returns-in_err-buffer-clause-rendered
+returns-in_err-buffer-clause-rendered g c =
+    let r = g.T.Rendering.rules c.args.rendering.now in
+    let held = g.W.Sink.written c.args.writer.now in (
+      [],
+      nothing_read (g.R.Source.remaining c.args.reader.now),
+      subst (RendersStream r (g.T.Rendering.text r) (g.T.Rendering.is_written r) (g.T.Rendering.is_left r) (g.T.Rendering.is_begun r) [] held held)
+          (sym (is_that_error c.from_residual.result Memory c.from_residual.ensures.1))
+          (renders_so_far r (g.T.Rendering.text r) (g.T.Rendering.is_written r) (g.T.Rendering.is_begun r) (g.T.Rendering.has_taken c.args.rendering.now) []
+          held held 0 c.part_stands.ensures
+          (nothing_rendered r (g.T.Rendering.text r) (g.T.Rendering.is_written r) (g.T.Rendering.has_taken c.args.rendering.now) held c.requires.nothing_taken)),
+    )
+
+pub loop-init : goal.loop-init
+loop-init g c =
+    let r = g.T.Rendering.rules c.args.rendering.now in
+    record {
+      bytes = [];
+      read = nothing_read (g.R.Source.remaining c.args.reader.now);
+      size = refl;
+      bounded = omega arith;
+      stands = nothing_rendered r (g.T.Rendering.text r) (g.T.Rendering.is_written r) (g.T.Rendering.has_taken c.args.rendering.now)
+          (g.W.Sink.written c.args.writer.now) c.requires.nothing_taken;
+      few = omega arith;
+      same_rules = refl;
+      calls = never_called (g.R.Source.calls c.args.reader.now);
+      unfailing = refl;
+      none_failed = refl;
+      room = c.in_ok-buffer.ensures.len;
+    }
+
+pub returns-in-Err-clause-rendered : goal.returns-in-Err-clause-rendered
+returns-in-Err-clause-rendered g c =
+    let r = g.T.Rendering.rules c.args.rendering.now in
+    let w = c.loop.invariant in
+    let stands = subst (λ r. (front so_far : List ℕ) → g.T.Rendering.has_taken c.loop.rendering front so_far →
+    (later : List ℕ) × g.T.Rendering.is_begun r front (so_far ++ later)) w.same_rules c.part_stands-in-Err.ensures in (
+      w.bytes,
+      reads_fail _ _ _ w.bytes _ c.in-Err.field-0 w.read c.in-Err.ensures.bytes,
+      renders_so_far r (g.T.Rendering.text r) (g.T.Rendering.is_written r) (g.T.Rendering.is_begun r) (g.T.Rendering.has_taken c.loop.rendering) w.bytes
+          (g.W.Sink.written c.args.writer.now) (g.W.Sink.written c.loop.writer) c.loop.totals.values stands w.stands,
+    )
+
+pub returns-in-Err-finish-clause-rendered : goal.returns-in-Err-finish-clause-rendered
+returns-in-Err-finish-clause-rendered g c =
+    let r = g.T.Rendering.rules c.args.rendering.now in
+    let w = c.loop.invariant in
+    let ends = subst (λ r. EndsOf r (g.T.Rendering.text r) (g.T.Rendering.is_left r) (g.T.Rendering.is_begun r) (g.T.Rendering.has_taken c.loop.rendering)
+    (g.W.Sink.written c.loop.writer) (g.W.Sink.written c.finish.new.writer) (Err c.in-Err-finish.stop)) w.same_rules c.in-Err-finish.ensures.ends in (
+      w.bytes,
+      reads_none _ _ _ w.bytes _ c.in-Ok.count c.if-count-eq0.true w.read c.in-Ok.ensures.bytes,
+      subst (RendersStopped r (g.T.Rendering.text r) (g.T.Rendering.is_written r) (g.T.Rendering.is_left r) (g.T.Rendering.is_begun r) w.bytes
+          (g.W.Sink.written c.args.writer.now) (g.W.Sink.written c.finish.new.writer)) (sym c.of_value.ensures)
+          (ended_stop r (g.T.Rendering.text r) (g.T.Rendering.is_written r) (g.T.Rendering.is_left r) (g.T.Rendering.is_begun r)
+          (g.T.Rendering.has_taken c.loop.rendering) w.bytes (g.W.Sink.written c.args.writer.now) (g.W.Sink.written c.loop.writer)
+          (g.W.Sink.written c.finish.new.writer) c.loop.totals.values c.in-Err-finish.stop ends w.stands),
+    )
+
+pub returns-then-count-eq0-clause-rendered : goal.returns-then-count-eq0-clause-rendered
+returns-then-count-eq0-clause-rendered g c =
+    let r = g.T.Rendering.rules c.args.rendering.now in
+    let w = c.loop.invariant in
+    let ends = subst (λ r. EndsOf r (g.T.Rendering.text r) (g.T.Rendering.is_left r) (g.T.Rendering.is_begun r) (g.T.Rendering.has_taken c.loop.rendering)
+    (g.W.Sink.written c.loop.writer) (g.W.Sink.written c.finish.new.writer) (Ok c.in_default.field-0)) w.same_rules c.in_default.ensures.ends in (
+      w.bytes,
+      reads_none _ _ _ w.bytes _ c.in-Ok.count c.if-count-eq0.true w.read c.in-Ok.ensures.bytes,
+      renders_counted r (g.T.Rendering.text r) (g.T.Rendering.is_written r) (g.T.Rendering.is_left r) (g.T.Rendering.is_begun r)
+          (g.T.Rendering.has_taken c.loop.rendering) w.bytes (g.W.Sink.written c.args.writer.now) (g.W.Sink.written c.loop.writer)
+          (g.W.Sink.written c.finish.new.writer) c.loop.totals c.in_default.field-0 c.no_spelling_is_empty.ensures ends w.stands w.size,
+    )
+
+pub returns-in-Err-render_piece-clause-rendered : goal.returns-in-Err-render_piece-clause-rendered
+returns-in-Err-render_piece-clause-rendered g c =
+    let r = g.T.Rendering.rules c.args.rendering.now in
+    let w = c.loop.invariant in
+    let start = g.W.Sink.written c.args.writer.now in
+    let room : length c.read.new.into ≡ vec_len c.loop.buffer = c.read.auto.into ∙ c.as_mut_slice.ensures.len in
+    let within : c.in-Ok.count ≤ length c.read.new.into = omega (arith, c.in-Ok.ensures.within, c.as_mut_slice.ensures.len) in
+    let same = take-into c.read.new.into c.loop.buffer.items c.loop.buffer.len c.in-Ok.count within (omega (arith, room)) in
+    let piece : take c.in-Ok.count c.deref.result.now ≡ take c.in-Ok.count c.read.new.into = ap (take c.in-Ok.count) c.deref.ensures.value ∙ same in
+    let stops = subst (λ r. HasRendered r (g.T.Rendering.text r) (g.T.Rendering.is_written r) (g.T.Rendering.has_taken c.loop.rendering) w.bytes start
+    (g.W.Sink.written c.loop.writer) c.loop.totals.values → RendersStopped r (g.T.Rendering.text r) (g.T.Rendering.is_written r) (g.T.Rendering.is_left r)
+    (g.T.Rendering.is_begun r) (w.bytes ++ take c.in-Ok.count c.deref.result.now) start (g.W.Sink.written c.render_piece.new.writer) c.in-Err-render_piece.error) w.same_rules
+    (c.in-Err-render_piece.ensures.stops w.bytes start) in (
+      w.bytes ++ take c.in-Ok.count c.read.new.into,
+      reads_on _ _ _ w.bytes c.read.new.into c.in-Ok.count w.read c.in-Ok.ensures.bytes,
+      subst (λ z. RendersStopped r (g.T.Rendering.text r) (g.T.Rendering.is_written r) (g.T.Rendering.is_left r) (g.T.Rendering.is_begun r) (w.bytes ++ z)
+          start (g.W.Sink.written c.render_piece.new.writer) c.in-Err-render_piece.error) piece (stops w.stands),
+    )
+
+pub loop-preserved : goal.loop-preserved
+loop-preserved g c =
+    let r = g.T.Rendering.rules c.args.rendering.now in
+    let w = c.loop.invariant in
+    let start = g.W.Sink.written c.args.writer.now in
+    let room : length c.read.new.into ≡ vec_len c.loop.buffer = c.read.auto.into ∙ c.as_mut_slice.ensures.len in
+    let within : c.in-Ok.count ≤ length c.read.new.into = omega (arith, c.in-Ok.ensures.within, c.as_mut_slice.ensures.len) in
+    let same = take-into c.read.new.into c.loop.buffer.items c.loop.buffer.len c.in-Ok.count within (omega (arith, room)) in
+    let piece : take c.in-Ok.count c.deref.result.now ≡ take c.in-Ok.count c.read.new.into = ap (take c.in-Ok.count) c.deref.ensures.value ∙ same in
+    let goes_on = subst (λ r. HasRendered r (g.T.Rendering.text r) (g.T.Rendering.is_written r) (g.T.Rendering.has_taken c.loop.rendering) w.bytes start
+    (g.W.Sink.written c.loop.writer) c.loop.totals.values → HasRendered r (g.T.Rendering.text r) (g.T.Rendering.is_written r)
+    (g.T.Rendering.has_taken c.render_piece.new.rendering) (w.bytes ++ take c.in-Ok.count c.deref.result.now) start (g.W.Sink.written c.render_piece.new.writer)
+    c.in-Ok-render_piece.values) w.same_rules (c.in-Ok-render_piece.ensures.goes_on w.bytes start) in
+    let size : length (w.bytes ++ take c.in-Ok.count c.read.new.into) ≡ length w.bytes + c.in-Ok.count =
+    length-append w.bytes (take c.in-Ok.count c.read.new.into) ∙ ap (λ n. length w.bytes + n) (length-take-le c.in-Ok.count c.read.new.into within) in
+    record {
+      bytes = w.bytes ++ take c.in-Ok.count c.read.new.into;
+      read = reads_on _ _ _ w.bytes c.read.new.into c.in-Ok.count w.read c.in-Ok.ensures.bytes;
+      size = omega (arith, size, w.size);
+      bounded = omega (arith, one_more c.loop.counter c.args.piece, size, w.bounded, within, room, w.room);
+      stands = subst (λ z. HasRendered r (g.T.Rendering.text r) (g.T.Rendering.is_written r) (g.T.Rendering.has_taken c.render_piece.new.rendering)
+          (w.bytes ++ z) start (g.W.Sink.written c.render_piece.new.writer) c.in-Ok-render_piece.values) piece (goes_on w.stands);
+      few = c.in-Ok-render_piece.ensures.few;
+      same_rules = c.in-Ok-render_piece.ensures.same_rules ∙ w.same_rules;
+      calls = called_again c.loop.counter _ (g.R.Source.calls c.loop.reader) _ w.calls c.read.ensures.calls;
+      unfailing = c.in-Ok.ensures.failures ∙ w.unfailing;
+      none_failed = c.in-Ok-render_piece.ensures.none_failed ∙ w.none_failed;
+      room = w.room;
+    }
+
+pub returns-clause-rendered : goal.returns-clause-rendered
+returns-clause-rendered g c =
+    let r = g.T.Rendering.rules c.args.rendering.now in
+    let w = c.loop.invariant in
+    let stands = subst (λ r. (front so_far : List ℕ) → g.T.Rendering.has_taken c.loop.rendering front so_far →
+    (later : List ℕ) × g.T.Rendering.is_begun r front (so_far ++ later)) w.same_rules c.part_stands-2.ensures in (
+      w.bytes,
+      w.read,
+      renders_so_far r (g.T.Rendering.text r) (g.T.Rendering.is_written r) (g.T.Rendering.is_begun r) (g.T.Rendering.has_taken c.loop.rendering) w.bytes
+          (g.W.Sink.written c.args.writer.now) (g.W.Sink.written c.loop.writer) c.loop.totals.values stands w.stands,
+    )

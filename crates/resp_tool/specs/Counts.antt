@@ -1,0 +1,45 @@
+-- What `check` writes of a stream.
+use Rattle.std.specs.Prelude.{ℕ, List, [], ◌++◌, length, codes, decimal, Option, Result, Ok, Err}
+use Rattle.resp_value.specs.Data.{Datum}
+use Rattle.resp_value.specs.Devices.{Appends}
+use Rattle.resp_value.specs.Rules.{Rules}
+use Rattle.resp_value.specs.Spellings.{Cut}
+use Rattle.resp_tool.specs.Streams.{RendersStopped}
+use Rattle.resp_tool.specs.Scans.{IsNothing}
+use Rattle.resp_tool.specs.Written.{AppendsPart}
+use Rattle.resp_tool.specs.declared.tool_error.ToolError.{ToolError}
+use Rattle.resp_tool.specs.declared.tool_error.ToolError.TheVariants.{Write}
+
+-- the line of counts
+abbrev pub counts_line : ℕ → ℕ → List ℕ
+counts_line values bytes = codes "values " ++ decimal values ++ codes " bytes " ++ decimal bytes ++ codes "\n"
+
+-- the bytes are values and nothing more, and the line of their counts was appended
+pub record CountsAll (r : Rules) (bytes : List ℕ) (before after : Option (List ℕ)) : Type 0 where
+  pub values : List Datum
+  pub cut : Cut r bytes values []
+  pub appended : Appends before after (counts_line (length values) (length bytes))
+
+-- the bytes are values and nothing more, and a first part of the line was appended
+pub record CountsPart (r : Rules) (bytes : List ℕ) (before after : Option (List ℕ)) : Type 0 where
+  pub values : List Datum
+  pub cut : Cut r bytes values []
+  pub appended : AppendsPart before after (counts_line (length values) (length bytes))
+
+-- nothing is written for a value
+abbrev pub no_text : Datum → List ℕ
+no_text x = []
+
+-- each value is looked at
+abbrev pub IsAny : Datum → Type 0
+IsAny x = Unit {0}
+
+-- nothing stands of a value that goes no further
+abbrev pub LeavesNothing : List ℕ → List ℕ → Type 0
+LeavesNothing front text = IsNothing text
+
+-- what comes of bytes that were read: the line of counts, or nothing and the reason to stop
+abbrev pub Counts : Rules → List ℕ → Option (List ℕ) → Option (List ℕ) → Result (Unit {0}) ToolError → Type 0
+Counts r bytes before after (Ok x) = CountsAll r bytes before after
+Counts r bytes before after (Err Write) = CountsPart r bytes before after
+Counts r bytes before after (Err e) = RendersStopped r no_text IsAny LeavesNothing LeavesNothing bytes before after e

@@ -1,0 +1,45 @@
+-- What the program keeps of the lines so far.
+use Rattle.std.specs.Prelude.{ℕ, ◌+◌, ◌-◌, ◌<◌, ◌^◌, List, [], ◌∷◌, min, reverse, map, Option, None, Some}
+use Rattle.std.specs.List.{AllByRecursion}
+use Rattle.resp_value.specs.Kinds.{kind_of}
+use Rattle.resp_tool.specs.Pages.{OpenLine, OpenText, Page}
+use Rattle.resp_tool.specs.declared.lines.Lines.{Lines}
+use Rattle.resp_tool.specs.declared.lines.OpenLine as line
+use Rattle.resp_tool.specs.declared.lines.OpenText as text
+
+-- an open aggregate
+abbrev pub line_of : line.OpenLine → OpenLine
+line_of l = record { kind = kind_of l.kind; count = l.count; members = l.members }
+
+-- a text that was begun
+abbrev pub text_of : Option text.OpenText → Option OpenText
+text_of None = None
+text_of (Some t) = Some (record { is_big = t.is_big; size = t.size })
+
+-- what is open
+abbrev pub page_of : Lines → Page
+page_of lines = record { open_lines = map line_of (reverse lines.aggregates.items); text = text_of lines.text }
+
+-- one member more of the innermost aggregate
+abbrev pub with_added : List line.OpenLine → List line.OpenLine
+with_added [] = []
+with_added (l ∷ ls) = record l { members = min (l.members + 1) (2 ^ 64 - 1) } ∷ ls
+
+-- the innermost aggregate, if one is open
+abbrev pub innermost : List line.OpenLine → Option line.OpenLine
+innermost [] = None
+innermost (l ∷ ls) = Some l
+
+-- the aggregates around the innermost one
+abbrev pub around : List line.OpenLine → List line.OpenLine
+around [] = []
+around (l ∷ ls) = ls
+
+abbrev pub size_of_text : Option OpenText → ℕ
+size_of_text None = 0
+size_of_text (Some t) = t.size
+
+-- so many more members and bytes can be counted in 64 bits
+pub record HasRoomFor (n : ℕ) (p : Page) : Type 0 where
+  pub members : AllByRecursion (λ l. l.members + n < 2 ^ 64) p.open_lines
+  pub size : size_of_text p.text + n < 2 ^ 64

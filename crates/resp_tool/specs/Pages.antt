@@ -1,0 +1,143 @@
+-- The text of events as they come: each gives a piece, which hangs on it and on the events before it.
+use Rattle.std.specs.Prelude.{ℕ, ◌+◌, ◌==◌, Bool, true, false, cond, List, [], ◌∷◌, ◌++◌, length, codes, decimal, Option, None, Some}
+use Rattle.std.specs.Fmt.{signed_decimal}
+use Rattle.resp_value.specs.Data.{Kind, Attr, items_of}
+use Rattle.resp_value.specs.Numbers.{sign_text}
+use Rattle.resp_value.specs.Canonical.{sign_of}
+use Rattle.resp_fronts.specs.Events.{Event, TextKind}
+use Rattle.resp_fronts.specs.Events as e
+use Rattle.resp_tool.specs.Shown.{indentation, kind_word, quoted_byte, quoted_text, truth_word}
+
+-- an aggregate whose first line was written and whose last wasn't: its kind, the number in its head, and how many of its
+-- members were written
+pub record OpenLine : Type 0 where
+  pub kind : Kind
+  pub count : Option ℕ
+  pub members : ℕ
+
+-- a text that was begun: whether it is a big number, and how many of its bytes were written
+pub record OpenText : Type 0 where
+  pub is_big : Bool
+  pub size : ℕ
+
+-- what is open in the lines so far: the aggregates, the innermost first, and the text that was begun
+pub record Page : Type 0 where
+  pub open_lines : List OpenLine
+  pub text : Option OpenText
+
+-- nothing has been written of a value
+abbrev pub blank : Page
+blank = record { open_lines = []; text = None }
+
+-- an attribute has all its pairs, so that the value comes which it annotates
+abbrev pub has_all_pairs : Kind → Option ℕ → ℕ → Bool
+has_all_pairs Attr (Some pairs) members = members == pairs + pairs
+has_all_pairs _ _ _ = false
+
+-- the line `of` before the value that an attribute annotates
+abbrev pub of_line : List OpenLine → List ℕ
+of_line [] = []
+of_line (line ∷ lines) =
+    cond (has_all_pairs line.kind line.count line.members) (indentation (length lines) ++ codes "of\n") []
+
+-- what stands before a value on its line, and the line `of`
+abbrev pub beginning : Page → List ℕ
+beginning p = of_line p.open_lines ++ indentation (length p.open_lines)
+
+-- the words up to a text's content
+abbrev pub text_words : TextKind → List ℕ
+text_words e.Simple = codes "simple \""
+text_words e.Error = codes "error \""
+text_words e.Bulk = codes "bulk \""
+text_words e.BulkError = codes "bulkerror \""
+text_words (e.Verbatim format) = codes "verbatim \"" ++ quoted_text format ++ codes "\" \""
+text_words (e.Big negative) = codes "big " ++ sign_text (sign_of negative)
+
+abbrev pub is_big : TextKind → Bool
+is_big (e.Big negative) = true
+is_big _ = false
+
+-- what ends the line of a text: a big number's digit where it is zero, and else the number of its bytes
+abbrev pub end_of_text : Option OpenText → List ℕ
+end_of_text None = []
+end_of_text (Some text) = cond text.is_big (cond (text.size == 0) (codes "0\n") (codes "\n"))
+    (codes "\" " ++ decimal text.size ++ codes "\n")
+
+-- the last line of the innermost aggregate
+abbrev pub last_line : List OpenLine → List ℕ
+last_line [] = []
+last_line (line ∷ lines) =
+    indentation (length lines) ++ (codes "end " ++ decimal (items_of line.kind line.members) ++ codes "\n")
+
+-- the piece that an event gives
+abbrev pub piece_of : Event → Page → List ℕ
+piece_of e.Null p = beginning p ++ codes "null\n"
+piece_of (e.Bool truth) p = beginning p ++ (truth_word truth ++ codes "\n")
+piece_of (e.Int number) p = beginning p ++ (codes "int " ++ signed_decimal number ++ codes "\n")
+piece_of (e.Text kind) p = beginning p ++ text_words kind
+piece_of (e.Byte byte) p = quoted_byte byte
+piece_of e.TextEnd p = end_of_text p.text
+piece_of (e.Open kind count) p = beginning p ++ (kind_word kind ++ codes "\n")
+piece_of e.Close p = last_line p.open_lines
+piece_of e.Done p = []
+
+-- one member more was written of the innermost aggregate
+abbrev pub with_member : List OpenLine → List OpenLine
+with_member [] = []
+with_member (line ∷ lines) = record line { members = line.members + 1 } ∷ lines
+
+-- the innermost aggregate has ended
+abbrev pub without_last : List OpenLine → List OpenLine
+without_last [] = []
+without_last (line ∷ lines) = lines
+
+-- one byte more was written of the text
+abbrev pub with_byte : Option OpenText → Option OpenText
+with_byte None = None
+with_byte (Some text) = Some (record text { size = text.size + 1 })
+
+-- so many bytes more
+abbrev pub with_bytes : ℕ → Option OpenText → Option OpenText
+with_bytes n None = None
+with_bytes n (Some text) = Some (record text { size = text.size + n })
+
+-- a value was written whole
+abbrev pub with_value : Page → Page
+with_value p = record p { open_lines = with_member p.open_lines }
+
+-- what is open behind an event
+abbrev pub page_behind : Event → Page → Page
+page_behind e.Null p = with_value p
+page_behind (e.Bool truth) p = with_value p
+page_behind (e.Int number) p = with_value p
+page_behind (e.Text kind) p = record p { text = Some (record { is_big = is_big kind; size = 0 }) }
+page_behind (e.Byte byte) p = record p { text = with_byte p.text }
+page_behind e.TextEnd p = record { open_lines = with_member p.open_lines; text = None }
+page_behind (e.Open kind count) p = record p {
+  open_lines = record { kind = kind; count = count; members = 0 } ∷ p.open_lines;
+}
+page_behind e.Close p = record p { open_lines = with_member (without_last p.open_lines) }
+page_behind e.Done p = p
+
+-- what is open behind some events
+abbrev pub page_after : List Event → Page → Page
+page_after [] p = p
+page_after (event ∷ es) p = page_after es (page_behind event p)
+
+-- the text of events, behind others that have left a page so
+abbrev pub shown_on : Page → List Event → List ℕ
+shown_on p [] = []
+shown_on p (event ∷ es) = piece_of event p ++ shown_on (page_behind event p) es
+
+-- the text of the events of a value, as far as they have come
+abbrev pub shown : List Event → List ℕ
+shown es = shown_on blank es
+
+-- what ends a line that is open
+abbrev pub end_of_line : Option OpenText → List ℕ
+end_of_line None = []
+end_of_line (Some text) = codes "\n"
+
+-- the text of the events of a value that goes no further, whose last line ends
+abbrev pub left_text : List Event → List ℕ
+left_text es = shown es ++ end_of_line (page_after es blank).text

@@ -1,0 +1,57 @@
+-- What the renderings have taken of a value.
+use Rattle.std.specs.Prelude.{◌≡◌, ℕ, ◌+◌, Bool, true, false, List, [], length, take}
+use Rattle.resp_value.specs.Rules.{Rules, WithinTotal}
+use Rattle.resp_value.specs.Spellings.{IsViable}
+use Rattle.resp_scan.specs.Counts.{close_count, open_count}
+use Rattle.resp_scan.specs.Machine.Tokens.{Place}
+use Rattle.resp_scan.specs.declared.event.Event.{Event}
+use Rattle.resp_scan.specs.declared.event.Event.TheVariants as event
+use Rattle.resp_scan.specs.Reading.{AreDue, BeginDue, Events, HasNoValue, HasRead}
+use Rattle.resp_tool.specs.Lines.{page_of}
+use Rattle.resp_tool.specs.Pages.{blank, left_text, page_after, shown}
+use Rattle.resp_tool.specs.declared.lines.Lines.{Lines}
+
+-- a scanner has read a front in which no value has ended, and given the events that are due of it
+pub record HasScanned (s : Place) (front : List ℕ) (given : Events) : Type 0 where
+  pub reads : HasRead s front given
+  pub all_due : AreDue front given
+  pub no_value : HasNoValue front
+
+-- a front was looked at, and nothing was written
+abbrev pub HasLookedAt : Place → List ℕ → List ℕ → Type 0
+HasLookedAt s front so_far = ((given : Events) × HasScanned s front given) × (so_far ≡ [])
+
+-- nothing stands written
+abbrev pub IsNothing : List ℕ → Type 0
+IsNothing text = text ≡ []
+
+-- the lines are those of these events, and as many are open as their aggregates
+pub record AreLinesOf (lines : Lines) (given : Events) : Type 0 where
+  pub page : page_of lines ≡ page_after given blank
+  pub deep : length (page_after given blank).open_lines + close_count given ≡ open_count given
+
+-- a front was scanned, and the text of its events was written
+pub record HasShown (s : Place) (lines : Lines) (front so_far : List ℕ) : Type 0 where
+  pub given : Events
+  pub scanned : HasScanned s front given
+  pub shown_lines : AreLinesOf lines given
+  pub written : so_far ≡ shown given
+
+-- the text of the events due of a front that goes no further
+pub record IsShownOf (front left : List ℕ) : Type 0 where
+  pub given : Events
+  pub all_due : AreDue front given
+  pub is_text : left ≡ left_text given
+
+-- the text of the first events due of a viable front of the bytes
+pub record IsShownIn (r : Rules) (bytes begun : List ℕ) : Type 0 where
+  pub size : ℕ
+  pub given : Events
+  pub viable : IsViable r WithinTotal (take size bytes)
+  pub first_due : BeginDue (take size bytes) given
+  pub is_text : begun ≡ left_text given
+
+-- whether an event is the end of a value
+abbrev pub is_done : Event → Bool
+is_done event.Done = true
+is_done _ = false

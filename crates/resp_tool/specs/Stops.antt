@@ -1,0 +1,13 @@
+-- Why the program stops, where a value is not read and written to its end.
+use Rattle.std.specs.Prelude.{ℕ}
+use Rattle.resp_tool.specs.declared.rendering.Stop.{Stop}
+use Rattle.resp_tool.specs.declared.rendering.Stop.TheVariants as stop
+use Rattle.resp_tool.specs.declared.tool_error.ToolError.{ToolError}
+use Rattle.resp_tool.specs.declared.tool_error.ToolError.TheVariants.{Refused, OverLimits, Write, Memory}
+
+-- why the program stops at the value with this number
+abbrev pub error_of : ℕ → Stop → ToolError
+error_of value (stop.Fault fault) = Refused value fault.cause fault.at
+error_of value stop.OverLimits = OverLimits value
+error_of value stop.Write = Write
+error_of value stop.Memory = Memory

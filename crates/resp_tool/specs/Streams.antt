@@ -1,0 +1,162 @@
+-- What a call has read of its stream, and what it has written for that.
+use Rattle.std.specs.Prelude.{◌≡◌, ◌⊎◌, ℕ, ◌+◌, ◌<◌, List, [], ◌++◌, length, take, flat_map, Option, None, Some, Result, Ok, Err}
+use Rattle.std.specs.List.{AllByRecursion}
+use Rattle.resp_value.specs.Data.{Datum}
+use Rattle.resp_value.specs.Rules.{Rules}
+use Rattle.resp_value.specs.Spellings.{AreSpellings, Cut, IsSpelling}
+use Rattle.resp_value.specs.Devices.{Appends}
+use Rattle.resp_value.specs.declared.cause.Cause.{Cause}
+use Rattle.resp_value.specs.declared.cause.Cause.TheVariants as cause
+use Rattle.resp_tool.specs.Takings.{IsByteFault, IsEndFault}
+use Rattle.resp_tool.specs.declared.stream.Totals.{Totals}
+use Rattle.resp_tool.specs.declared.tool_error.ToolError.{ToolError}
+use Rattle.resp_tool.specs.declared.tool_error.ToolError.TheVariants.{Refused, OverLimits, TooManyValues, Read, TooManyTurns}
+
+-- these bytes were read of those that were left, where the reader tells them
+abbrev pub AreRead : Option (List ℕ) → Option (List ℕ) → List ℕ → Type 0
+AreRead None after bytes = Unit {0}
+AreRead (Some left) after bytes = (rest : List ℕ) × (after ≡ Some rest) × (left ≡ bytes ++ rest)
+
+-- the most values of one run
+abbrev pub most_values : ℕ
+most_values = 1000000000
+
+-- the bytes are values that are written and nothing more, and their texts were appended, in order
+pub record RendersAll (r : Rules) (text : Datum → List ℕ) (IsWritten : Datum → Type 0) (bytes : List ℕ)
+    (before after : Option (List ℕ)) (values : List Datum) : Type 0 where
+  pub cut : Cut r bytes values []
+  pub all_written : AllByRecursion IsWritten values
+  pub appended : Appends before after (flat_map text values)
+
+-- The bytes are the values before the one with this number and a rest that is refused so. The texts of these values
+-- were appended, and what stands of the rest.
+pub record RendersFront (r : Rules) (text : Datum → List ℕ) (IsWritten : Datum → Type 0)
+    (IsLeft : List ℕ → List ℕ → Type 0) (bytes : List ℕ) (before after : Option (List ℕ)) (number : ℕ) (c : Cause)
+    (at : ℕ) : Type 0 where
+  pub values : List Datum
+  pub rest : List ℕ
+  pub cut : Cut r bytes values rest
+  pub counted : length values + 1 ≡ number
+  pub fault : IsByteFault r rest c at ⊎ IsEndFault r rest c at
+  pub all_written : AllByRecursion IsWritten values
+  pub left : List ℕ
+  pub is_left : IsLeft (take at rest) left
+  pub appended : Appends before after (flat_map text values ++ left)
+
+-- the bytes begin with the values before the one with this number and with that one, which isn't written; the texts of
+-- the values before it were appended
+pub record RendersUpTo (r : Rules) (text : Datum → List ℕ) (IsWritten : Datum → Type 0) (bytes : List ℕ)
+    (before after : Option (List ℕ)) (number : ℕ) : Type 0 where
+  pub values : List Datum
+  pub front : List ℕ
+  pub value : Datum
+  pub next : List ℕ
+  pub behind : List ℕ
+  pub spelled : AreSpellings r values front
+  pub whole : bytes ≡ front ++ (next ++ behind)
+  pub counted : length values + 1 ≡ number
+  pub all_written : AllByRecursion IsWritten values
+  pub spelling : IsSpelling r value next
+  pub not_written : IsWritten value → ⊥
+  pub appended : Appends before after (flat_map text values)
+
+-- the bytes are the most values of one run and more, and the texts of these values were appended
+pub record RendersMost (r : Rules) (text : Datum → List ℕ) (IsWritten : Datum → Type 0) (bytes : List ℕ)
+    (before after : Option (List ℕ)) : Type 0 where
+  pub values : List Datum
+  pub front : List ℕ
+  pub rest : List ℕ
+  pub spelled : AreSpellings r values front
+  pub whole : bytes ≡ front ++ rest
+  pub some_rest : 0 < length rest
+  pub counted : length values ≡ most_values
+  pub all_written : AllByRecursion IsWritten values
+  pub appended : Appends before after (flat_map text values)
+
+-- the bytes begin with values and with bytes for which this may be written, and a first part of the texts of the values
+-- and of that was appended
+pub record RendersPart (r : Rules) (text : Datum → List ℕ) (IsBegun : List ℕ → List ℕ → Type 0) (bytes : List ℕ)
+    (before after : Option (List ℕ)) : Type 0 where
+  pub values : List Datum
+  pub front : List ℕ
+  pub rest : List ℕ
+  pub spelled : AreSpellings r values front
+  pub whole : bytes ≡ front ++ rest
+  pub begun : List ℕ
+  pub is_begun : IsBegun rest begun
+  pub part : List ℕ
+  pub later : List ℕ
+  pub parts : flat_map text values ++ begun ≡ part ++ later
+  pub appended : Appends before after part
+
+-- what was written for bytes that were read, where the call stops for this reason
+abbrev pub RendersStopped : Rules → (Datum → List ℕ) → (Datum → Type 0) → (List ℕ → List ℕ → Type 0) →
+    (List ℕ → List ℕ → Type 0) → List ℕ → Option (List ℕ) → Option (List ℕ) → ToolError → Type 0
+RendersStopped r text IsWritten IsLeft IsBegun bytes before after (Refused number c at) =
+    RendersFront r text IsWritten IsLeft bytes before after number c at
+RendersStopped r text IsWritten IsLeft IsBegun bytes before after (OverLimits number) =
+    RendersUpTo r text IsWritten bytes before after number
+RendersStopped r text IsWritten IsLeft IsBegun bytes before after TooManyValues =
+    RendersMost r text IsWritten bytes before after
+RendersStopped r text IsWritten IsLeft IsBegun bytes before after e = RendersPart r text IsBegun bytes before after
+
+-- a fact of the end of the input: the call read it to its end
+abbrev pub AtEnd : {X : Type 0} → Result X ToolError → Type 0 → Type 0
+AtEnd (Ok x) P = P
+AtEnd (Err (Refused number cause.Truncated at)) P = P
+AtEnd (Err e) P = Unit {0}
+
+-- What was written of bytes so far: the texts of the values in them, and what is called for by the bytes of the next
+-- that were taken. Behind the most values of one run none were.
+pub record HasRendered (r : Rules) (text : Datum → List ℕ) (IsWritten : Datum → Type 0)
+    (HasTaken : List ℕ → List ℕ → Type 0) (bytes : List ℕ) (before after : Option (List ℕ)) (number : ℕ) : Type 0 where
+  pub values : List Datum
+  pub front : List ℕ
+  pub begun : List ℕ
+  pub so_far : List ℕ
+  pub spelled : AreSpellings r values front
+  pub whole : bytes ≡ front ++ begun
+  pub counted : length values ≡ number
+  pub all_written : AllByRecursion IsWritten values
+  pub takes : HasTaken begun so_far
+  pub appended : Appends before after (flat_map text values ++ so_far)
+  pub at_most : number ≡ most_values → so_far ≡ []
+
+-- what was written for a stream whose bytes were read, and their counts at its end
+pub record RendersCounted (r : Rules) (text : Datum → List ℕ) (IsWritten : Datum → Type 0) (bytes : List ℕ)
+    (before after : Option (List ℕ)) (totals : Totals) : Type 0 where
+  pub values : List Datum
+  pub all : RendersAll r text IsWritten bytes before after values
+  pub value_count : totals.values ≡ length values
+  pub byte_count : totals.bytes ≡ length bytes
+
+abbrev pub RendersStream : Rules → (Datum → List ℕ) → (Datum → Type 0) → (List ℕ → List ℕ → Type 0) →
+    (List ℕ → List ℕ → Type 0) → List ℕ → Option (List ℕ) → Option (List ℕ) → Result Totals ToolError → Type 0
+RendersStream r text IsWritten IsLeft IsBegun bytes before after (Ok totals) =
+    RendersCounted r text IsWritten bytes before after totals
+RendersStream r text IsWritten IsLeft IsBegun bytes before after (Err e) =
+    RendersStopped r text IsWritten IsLeft IsBegun bytes before after e
+
+-- a reason to stop before the end of the input
+abbrev pub IsBeforeEnd : ToolError → Type 0
+IsBeforeEnd (Refused number cause.Truncated at) = ⊥
+IsBeforeEnd _ = Unit {0}
+
+-- a reason to stop that doesn't come of reading
+abbrev pub IsRenderingError : ToolError → Type 0
+IsRenderingError Read = ⊥
+IsRenderingError TooManyTurns = ⊥
+IsRenderingError _ = Unit {0}
+
+-- a reason to stop that a call has which encodes nothing
+abbrev pub IsNeverOver : ToolError → Type 0
+IsNeverOver (OverLimits number) = ⊥
+IsNeverOver _ = Unit {0}
+
+-- what was written for bytes that were read, by how the call ended
+abbrev pub Renders : Rules → (Datum → List ℕ) → (Datum → Type 0) → (List ℕ → List ℕ → Type 0) →
+    (List ℕ → List ℕ → Type 0) → List ℕ → Option (List ℕ) → Option (List ℕ) → Result (Unit {0}) ToolError → Type 0
+Renders r text IsWritten IsLeft IsBegun bytes before after (Ok x) =
+    (values : List Datum) × RendersAll r text IsWritten bytes before after values
+Renders r text IsWritten IsLeft IsBegun bytes before after (Err e) =
+    RendersStopped r text IsWritten IsLeft IsBegun bytes before after e

@@ -1,0 +1,108 @@
+-- What comes of bytes that are given to a rendering: what is read of them, and what is written for that.
+use Rattle.std.specs.Prelude.{◌≡◌, ℕ, ◌<◌, List, [], ◌++◌, length, take, flat_map, MatchBool, Option, Result, Ok, Err}
+use Rattle.resp_value.specs.Data.{Datum}
+use Rattle.resp_value.specs.Rules.{Rules, Rule, WithinTotal}
+use Rattle.resp_value.specs.Spellings.{AreSpellings, FaultOf, IsSpelling, IsViable}
+use Rattle.resp_value.specs.Causes.{cause_of}
+use Rattle.resp_value.specs.Devices.{Appends}
+use Rattle.resp_value.specs.declared.cause.Cause.{Cause}
+use Rattle.resp_value.specs.declared.cause.Cause.TheVariants as cause
+use Rattle.resp_scan.specs.Reading.{HasNoSpelling, HasNoValue}
+use Rattle.resp_tool.specs.declared.rendering.Taken.{Taken}
+use Rattle.resp_tool.specs.declared.rendering.Stop.{Stop}
+use Rattle.resp_tool.specs.declared.rendering.Stop.TheVariants as stop
+
+-- the bytes stop being viable at this one, for the rule of this cause
+pub record IsByteFault (r : Rules) (bytes : List ℕ) (c : Cause) (at : ℕ) : Type 0 where
+  pub rule : Rule
+  pub names : c ≡ cause_of rule
+  pub fault_of : FaultOf r bytes rule at
+
+-- the bytes end inside a value that they begin
+pub record IsEndFault (r : Rules) (bytes : List ℕ) (c : Cause) (at : ℕ) : Type 0 where
+  pub names : c ≡ cause.Truncated
+  pub place : at ≡ length bytes
+  pub begun : 0 < length bytes
+  pub viable : IsViable r WithinTotal bytes
+
+-- the bytes are a spelling of a value that is written, the rest of its text was appended, and nothing is taken of the
+-- next
+pub record TakesValue (r : Rules) (text : Datum → List ℕ) (IsWritten : Datum → Type 0)
+    (HasTaken : List ℕ → List ℕ → Type 0) (bytes so_far : List ℕ) (before after : Option (List ℕ)) : Type 0 where
+  pub value : Datum
+  pub spelling : IsSpelling r value bytes
+  pub written : IsWritten value
+  pub more : List ℕ
+  pub appended : Appends before after more
+  pub whole : text value ≡ so_far ++ more
+  pub takes : HasTaken [] []
+
+-- no value has ended in the bytes, they are viable, and were taken
+pub record TakesFront (r : Rules) (HasTaken : List ℕ → List ℕ → Type 0) (bytes so_far : List ℕ)
+    (before after : Option (List ℕ)) : Type 0 where
+  pub no_value : HasNoValue bytes
+  pub viable : IsViable r WithinTotal bytes
+  pub more : List ℕ
+  pub appended : Appends before after more
+  pub takes : HasTaken bytes (so_far ++ more)
+
+-- the bytes are refused, no front of them is a spelling, and what stands of them was written
+pub record Refuses (r : Rules) (IsFault : List ℕ → Cause → ℕ → Type 0) (IsLeft : List ℕ → List ℕ → Type 0)
+    (bytes so_far : List ℕ) (before after : Option (List ℕ)) (c : Cause) (at : ℕ) : Type 0 where
+  pub fault : IsFault bytes c at
+  pub no_spelling : HasNoSpelling r bytes
+  pub more : List ℕ
+  pub appended : Appends before after more
+  pub is_left : IsLeft (take at bytes) (so_far ++ more)
+
+-- the bytes begin with a spelling of a value that isn't written, and nothing of it was
+pub record Declines (r : Rules) (IsWritten : Datum → Type 0) (bytes so_far : List ℕ) (before after : Option (List ℕ)) :
+    Type 0 where
+  pub value : Datum
+  pub front : List ℕ
+  pub behind : List ℕ
+  pub split : bytes ≡ front ++ behind
+  pub spelling : IsSpelling r value front
+  pub not_written : IsWritten value → ⊥
+  pub nothing : so_far ≡ []
+  pub appended : Appends before after []
+
+-- the bytes begin with some values, or none, and then with bytes for which this may be written; a first part of that
+-- was
+pub record WritesPart (r : Rules) (text : Datum → List ℕ) (IsBegun : List ℕ → List ℕ → Type 0) (bytes so_far : List ℕ)
+    (before after : Option (List ℕ)) : Type 0 where
+  pub values : List Datum
+  pub front : List ℕ
+  pub behind : List ℕ
+  pub split : bytes ≡ front ++ behind
+  pub spelled : AreSpellings r values front
+  pub begun : List ℕ
+  pub is_begun : IsBegun behind begun
+  pub more : List ℕ
+  pub later : List ℕ
+  pub parts : flat_map text values ++ begun ≡ so_far ++ (more ++ later)
+  pub appended : Appends before after more
+
+-- what comes of a piece behind a front
+abbrev pub Takes : Rules → (Datum → List ℕ) → (Datum → Type 0) → (List ℕ → List ℕ → Type 0) →
+    (List ℕ → List ℕ → Type 0) → (List ℕ → List ℕ → Type 0) → List ℕ → List ℕ → List ℕ → Option (List ℕ) →
+    Option (List ℕ) → Result Taken Stop → Type 0
+Takes r text IsWritten IsLeft IsBegun HasTaken front piece so_far before after (Ok taken) =
+    MatchBool taken.is_whole
+    ((0 < taken.used) × TakesValue r text IsWritten HasTaken (front ++ take taken.used piece) so_far before after)
+    ((taken.used ≡ length piece) × TakesFront r HasTaken (front ++ piece) so_far before after)
+Takes r text IsWritten IsLeft IsBegun HasTaken front piece so_far before after (Err (stop.Fault fault)) =
+    Refuses r (IsByteFault r) IsLeft (front ++ piece) so_far before after fault.cause fault.at
+Takes r text IsWritten IsLeft IsBegun HasTaken front piece so_far before after (Err stop.OverLimits) =
+    Declines r IsWritten (front ++ piece) so_far before after
+Takes r text IsWritten IsLeft IsBegun HasTaken front piece so_far before after (Err e) =
+    WritesPart r text IsBegun (front ++ piece) so_far before after
+
+-- what comes of the input's end behind a front
+abbrev pub Ends : Rules → (Datum → List ℕ) → (List ℕ → List ℕ → Type 0) → (List ℕ → List ℕ → Type 0) → List ℕ →
+    List ℕ → Option (List ℕ) → Option (List ℕ) → Result (Unit {0}) Stop → Type 0
+Ends r text IsLeft IsBegun front so_far before after (Ok x) = (front ≡ []) × (so_far ≡ []) × Appends before after []
+Ends r text IsLeft IsBegun front so_far before after (Err (stop.Fault fault)) =
+    Refuses r (IsEndFault r) IsLeft front so_far before after fault.cause fault.at
+Ends r text IsLeft IsBegun front so_far before after (Err stop.OverLimits) = ⊥
+Ends r text IsLeft IsBegun front so_far before after (Err e) = WritesPart r text IsBegun front so_far before after

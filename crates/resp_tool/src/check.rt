@@ -1,0 +1,188 @@
+//! `check`: how many values a stream has, and in how many bytes.
+
+ghost use Rattle.std.specs.Prelude.{◌≡◌, ◌+◌, ◌≤◌, ℕ, List, [], Some, IfErr, IfSome, IsErrOf};
+ghost use Rattle.resp_tool.specs.Counts.{Counts, counts_line};
+ghost use Rattle.resp_tool.specs.Streams.{AreRead, AtEnd, IsNeverOver};
+ghost use Rattle.resp_tool.specs.Written.{WritesText};
+ghost use Rattle.resp_value.specs.Devices.{count_after, HasRisen};
+ghost use Rattle.resp_value.specs.Rules.{rules_under};
+
+use crate::rendering::{Rendering, Stop, Taken};
+use crate::stream::{MOST_READS, Totals, render_stream};
+use crate::text::write_number;
+use crate::tool_error::ToolError;
+use resp_scan::event::{ScanError, TextKind};
+use resp_scan::listener::Listener;
+use resp_scan::scanner::Scanner;
+use resp_value::device::{Sink, Source, WriteFault};
+use resp_value::kind::OpenKind;
+use resp_value::laws;
+use resp_value::limits::Limits;
+use resp_value::version::Version;
+use std::alloc::Global;
+
+/// Hears nothing, and never stops.
+#[derive(Clone, Copy)]
+struct Nobody;
+
+impl Listener for Nobody {
+    ghost has_heard = { λ _ _. Unit {0} };
+
+    ghost may_stop = { λ _. ⊥ };
+
+    #[inline]
+    fn null(&mut self) -> bool {
+        true
+    }
+
+    #[inline]
+    fn truth(&mut self, _truth: bool) -> bool {
+        true
+    }
+
+    #[inline]
+    fn int(&mut self, _number: i64) -> bool {
+        true
+    }
+
+    #[inline]
+    fn text(&mut self, _kind: TextKind) -> bool {
+        true
+    }
+
+    #[inline]
+    fn part(&mut self, _part: &[u8]) -> bool {
+        true
+    }
+
+    #[inline]
+    fn text_end(&mut self) -> bool {
+        true
+    }
+
+    #[inline]
+    fn open(&mut self, _kind: OpenKind, _count: Option<u64>) -> bool {
+        true
+    }
+
+    #[inline]
+    fn close(&mut self) -> bool {
+        true
+    }
+
+    #[inline]
+    fn whole_text(&mut self, _kind: TextKind, _bytes: &[u8]) -> bool {
+        true
+    }
+}
+
+/// Nothing for each value, which is only looked at.
+#[derive(Drop)]
+struct Unwritten {
+    scanner: Scanner,
+}
+
+impl Rendering for Unwritten {
+    ghost use Rattle.resp_scan.specs.Kinds.{rules_of};
+    ghost use Rattle.resp_tool.specs.Counts.{IsAny, LeavesNothing, no_text};
+    ghost use Rattle.resp_tool.specs.Scans.{HasLookedAt};
+
+    ghost rules = { λ u. rules_of u.scanner };
+
+    ghost has_taken = { λ u. HasLookedAt u.scanner };
+
+    ghost text = { λ _. no_text };
+
+    ghost is_written = { λ _. IsAny };
+
+    ghost is_left = { λ _. LeavesNothing };
+
+    ghost is_begun = { λ _. LeavesNothing };
+
+    ghost takes_memory = { ⊥ };
+
+    ghost writes = { ⊥ };
+
+    fn take<W: Sink>(&mut self, piece: &[u8], _writer: &mut W) -> Result<Taken, Stop> {
+        laws::fronts_of_viable_texts_are_viable();
+        match self.scanner.scan(piece, &mut Nobody) {
+            Ok(scanned) => {
+                // What was taken is viable, as the scanner says of it here.
+                let _viable = self.scanner.taken();
+                Ok(Taken {
+                    used: scanned.used,
+                    is_whole: scanned.is_whole,
+                })
+            }
+            Err(ScanError::Fault(fault)) => Err(Stop::Fault(fault)),
+            // Nobody stops.
+            Err(ScanError::Stopped { .. }) => unreachable!(),
+        }
+    }
+
+    fn part_stands(&self) {}
+
+    fn finish<W: Sink>(&mut self, _writer: &mut W) -> Result<(), Stop> {
+        // What was taken is viable, as the scanner says of it here.
+        let _viable = self.scanner.taken();
+        match self.scanner.finish() {
+            Ok(()) => Ok(()),
+            Err(fault) => Err(Stop::Fault(fault)),
+        }
+    }
+}
+
+/// Reads the stream by reads of at most `piece` bytes, from 1 to 65,536, and writes the line of its
+/// counts once it is read whole. It takes memory for the bytes of one read alone.
+///
+/// Refuses a stream at its first byte behind which nothing can follow, or where it ends inside a
+/// value, and then nothing was written. Where writing fails a first part of the line was.
+pub fn check<R: Source, W: Sink>(
+    alloc: Global,
+    version: Version,
+    limits: &Limits,
+    piece: usize,
+    reader: &mut R,
+    writer: &mut W,
+) -> Result<(), ToolError>
+    requires { (1 ≤ piece) × (piece ≤ 65536) }
+    // Of the bytes that were read: the line of their counts at Ok, and what is refused.
+    ensures counted { (bytes : List ℕ) × AreRead (R.remaining reader.old) (R.remaining reader.new)
+        bytes × Counts (rules_under version limits.now) bytes (W.written writer.old)
+        (W.written writer.new) result }
+    ensures read_to_its_end { AtEnd result (IfSome (R.remaining reader.old) (λ _.
+        R.remaining reader.new ≡ Some [])) }
+    ensures never_over_limits { IfErr result IsNeverOver }
+
+    // A device or memory that failed.
+    ensures reads_bounded { R.calls reader.new ≤ R.calls reader.old + MOST_READS }
+    ensures reader_failed { IsErrOf result ToolError.Read →
+        HasRisen (R.failures reader.old) (R.failures reader.new) }
+    ensures reads_used_up { IsErrOf result ToolError.TooManyTurns →
+        R.calls reader.new ≡ count_after MOST_READS (R.calls reader.old) }
+    ensures writer_failed { IsErrOf result ToolError.Write →
+        HasRisen (W.failures writer.old) (W.failures writer.new) }
+    ensures no_buffer { IsErrOf result ToolError.Memory →
+        (writer.new ≡ writer.old) × (reader.new ≡ reader.old) }
+{
+    let mut unwritten = Unwritten {
+        scanner: Scanner::new(version, limits),
+    };
+    let totals = match render_stream(alloc, &mut unwritten, piece, reader, writer) {
+        Ok(totals) => totals,
+        Err(error) => return Err(error),
+    };
+    match write_counts(writer, totals) {
+        Ok(()) => Ok(()),
+        Err(_) => Err(ToolError::Write),
+    }
+}
+
+/// Writes the line of counts.
+fn write_counts<W: Sink>(writer: &mut W, totals: Totals) -> Result<(), WriteFault>
+    ensures { WritesText (W.written writer.old) (W.written writer.new) (W.failures writer.old)
+        (W.failures writer.new) result (counts_line totals.values totals.bytes) }
+{
+    write_number(writer, b"values ", totals.values, b" ")?;
+    write_number(writer, b"bytes ", totals.bytes, b"\n")
+}

@@ -1,0 +1,485 @@
+//! The lines that `show` writes for events as they come.
+
+ghost use Rattle.std.specs.Prelude.{◌≡◌, ◌≤◌, ◌<◌, ◌+◌, ◌^◌, ◌==◌, ◌++◌, [], ◌∷◌, length, reverse, codes, OnOk};
+ghost use Rattle.std.specs.Fmt.{signed_decimal};
+ghost use Rattle.resp_fronts.specs.Events as e;
+ghost use Rattle.resp_value.specs.Data.{items_of};
+ghost use Rattle.resp_value.specs.Kinds.{kind_of};
+ghost use Rattle.resp_scan.specs.Counts.{open_count};
+ghost use Rattle.resp_scan.specs.Kinds.{content_events, text_kind_of};
+ghost use Rattle.resp_tool.specs.Lines.{size_of_text, text_of};
+ghost use Rattle.resp_tool.specs.Pages.{end_of_text, is_big, last_line, of_line, text_words, with_bytes};
+ghost use Rattle.resp_tool.specs.Shown.{indentation, kind_word, quoted_text, truth_word};
+ghost use Rattle.resp_tool.specs.Written.{WritesText};
+
+use crate::text::{write_number, write_quoted, write_text};
+use arrayvec::ArrayVec;
+use resp_scan::event::{Event, TextKind};
+use resp_value::device::{Sink, WriteFault};
+use resp_value::kind::OpenKind;
+
+/// Two spaces for each level.
+const SPACES: [u8; 256] = [b' '; 256];
+
+/// An aggregate whose first line was written, and whose last wasn't.
+#[derive(Clone, Copy, Debug, PartialEq, Eq)]
+struct OpenLine {
+    kind: OpenKind,
+    /// The number in its head.
+    count: Option<u64>,
+    /// The number of its members that were written whole.
+    members: u64,
+}
+
+/// A text that was begun on a line.
+#[derive(Clone, Copy, Debug, PartialEq, Eq)]
+struct OpenText {
+    is_big: bool,
+    /// The number of its bytes that were written.
+    size: u64,
+}
+
+/// What has to be known of the lines so far: the aggregates that are open, and the text that was
+/// begun.
+#[derive(Debug, Drop)]
+pub struct Lines {
+    /// The open aggregates, the innermost last: no more than the greatest limit of depth.
+    aggregates: ArrayVec<OpenLine, 128>,
+    text: Option<OpenText>,
+}
+
+impl Default for OpenLine {
+    fn default() -> OpenLine {
+        OpenLine {
+            kind: OpenKind::Array,
+            count: None,
+            members: 0,
+        }
+    }
+}
+
+impl Lines {
+    ghost use Rattle.resp_scan.specs.Reading.{events_of};
+    ghost use Rattle.resp_tool.specs.Lines.{HasRoomFor, around, innermost, page_of, with_added};
+    ghost use Rattle.resp_tool.specs.Pages.{beginning, blank, end_of_line, page_after, shown_on, with_value};
+
+    /// Nothing has been written of a value.
+    pub fn new() -> Lines
+        ensures { page_of result ≡ blank }
+    {
+        Lines {
+            aggregates: ArrayVec::new(),
+            text: None,
+        }
+    }
+
+    /// Writes what an event calls for.
+    pub fn write<W: Sink>(&mut self, event: &Event<'_>, writer: &mut W) -> Result<(), WriteFault>
+        ensures written { WritesText (W.written writer.old) (W.written writer.new)
+            (W.failures writer.old) (W.failures writer.new) result
+            (shown_on (page_of self.old) (events_of event.now)) }
+        // Where the counts have room, the page is that behind the event.
+        ensures page { OnOk result (HasRoomFor (length (events_of event.now)) (page_of self.old) →
+            (1 ≤ open_count (events_of event.now) → length (page_of self.old).open_lines < 128) →
+            page_of self.new ≡ page_after (events_of event.now) (page_of self.old)) }
+    {
+        match event {
+            Event::Null => self.null(writer),
+            Event::Bool(truth) => self.truth(*truth, writer),
+            Event::Int(number) => self.int(*number, writer),
+            Event::Text(kind) => self.text(*kind, writer),
+            Event::Part(part) => self.part(part, writer),
+            Event::TextEnd => self.text_end(writer),
+            Event::Open(kind, count) => self.open(*kind, *count, writer),
+            Event::Close => self.close(writer),
+            Event::Done => Ok(()),
+        }
+    }
+
+    /// Writes an LF where a line is open.
+    pub fn end_line<W: Sink>(&self, writer: &mut W) -> Result<(), WriteFault>
+        ensures { WritesText (W.written writer.old) (W.written writer.new)
+            (W.failures writer.old) (W.failures writer.new) result
+            (end_of_line (page_of self.now).text) }
+    {
+        match self.text {
+            Some(_) => write_text(writer, b"\n"),
+            None => write_text(writer, b""),
+        }
+    }
+
+    /// Writes what stands before a value on its line, and `of` where an attribute annotates it, and
+    /// then these words.
+    fn begin<W: Sink>(&self, words: &[u8], writer: &mut W) -> Result<(), WriteFault>
+        ensures { WritesText (W.written writer.old) (W.written writer.new)
+            (W.failures writer.old) (W.failures writer.new) result
+            (beginning (page_of self.now) ++ words.now) }
+    {
+        self.begin_line(writer)?;
+        write_text(writer, words)
+    }
+
+    /// Writes what stands before a value on its line, and `of` where an attribute annotates it.
+    fn begin_line<W: Sink>(&self, writer: &mut W) -> Result<(), WriteFault>
+        ensures { WritesText (W.written writer.old) (W.written writer.new)
+            (W.failures writer.old) (W.failures writer.new) result (beginning (page_of self.now)) }
+    {
+        let level = self.level();
+        self.write_of(writer)?;
+        write_indentation(writer, level)
+    }
+
+    /// The innermost open aggregate.
+    fn innermost(&self) -> Option<OpenLine>
+        ensures { result ≡ innermost (reverse self.now.aggregates.items) }
+    {
+        match self.aggregates.as_slice().last() {
+            Some(line) => Some(*line),
+            None => None,
+        }
+    }
+
+    /// The number of open aggregates.
+    fn level(&self) -> usize
+        ensures value { result ≡ length (page_of self.now).open_lines }
+        ensures few { result ≤ 128 }
+    {
+        self.aggregates.len()
+    }
+
+    /// Writes `of` where an attribute has all its pairs.
+    fn write_of<W: Sink>(&self, writer: &mut W) -> Result<(), WriteFault>
+        ensures { WritesText (W.written writer.old) (W.written writer.new)
+            (W.failures writer.old) (W.failures writer.new) result
+            (of_line (page_of self.now).open_lines) }
+    {
+        let level = self.level().saturating_sub(1);
+        match self.innermost() {
+            Some(line) => {
+                if line.is_full() {
+                    write_indented(writer, level, b"of\n")
+                } else {
+                    write_text(writer, b"")
+                }
+            }
+            None => write_text(writer, b""),
+        }
+    }
+
+    /// One member more was written of the innermost aggregate.
+    fn add_member(&mut self)
+        ensures items { reverse self.new.aggregates.items ≡ with_added (reverse self.old.aggregates.items) }
+        ensures rest { self.new ≡ record self.old { aggregates = self.new.aggregates } }
+    {
+        if !self.aggregates.is_empty() {
+            let last = self.aggregates.len() - 1;
+            let members = self.aggregates.as_slice()[last].members.saturating_add(1);
+            self.aggregates.as_mut_slice()[last].members = members;
+        }
+    }
+
+    /// A value was written whole.
+    fn end(&mut self)
+        ensures { HasRoomFor 1 (page_of self.old) →
+            page_of self.new ≡ with_value (page_of self.old) }
+    {
+        self.add_member();
+    }
+
+    fn null<W: Sink>(&mut self, writer: &mut W) -> Result<(), WriteFault>
+        ensures written { WritesText (W.written writer.old) (W.written writer.new)
+            (W.failures writer.old) (W.failures writer.new) result
+            (shown_on (page_of self.old) (e.Null ∷ [])) }
+        ensures page { OnOk result (HasRoomFor 1 (page_of self.old) →
+            page_of self.new ≡ page_after (e.Null ∷ []) (page_of self.old)) }
+    {
+        self.begin(b"null\n", writer)?;
+        self.end();
+        Ok(())
+    }
+
+    fn truth<W: Sink>(&mut self, truth: bool, writer: &mut W) -> Result<(), WriteFault>
+        ensures written { WritesText (W.written writer.old) (W.written writer.new)
+            (W.failures writer.old) (W.failures writer.new) result
+            (shown_on (page_of self.old) (e.Bool truth ∷ [])) }
+        ensures page { OnOk result (HasRoomFor 1 (page_of self.old) →
+            page_of self.new ≡ page_after (e.Bool truth ∷ []) (page_of self.old)) }
+    {
+        self.begin(truth_line(truth), writer)?;
+        self.end();
+        Ok(())
+    }
+
+    fn int<W: Sink>(&mut self, number: i64, writer: &mut W) -> Result<(), WriteFault>
+        ensures written { WritesText (W.written writer.old) (W.written writer.new)
+            (W.failures writer.old) (W.failures writer.new) result
+            (shown_on (page_of self.old) (e.Int number ∷ [])) }
+        ensures page { OnOk result (HasRoomFor 1 (page_of self.old) →
+            page_of self.new ≡ page_after (e.Int number ∷ []) (page_of self.old)) }
+    {
+        self.begin_line(writer)?;
+        write_int(writer, number)?;
+        self.end();
+        Ok(())
+    }
+
+    fn text<W: Sink>(&mut self, kind: TextKind, writer: &mut W) -> Result<(), WriteFault>
+        ensures written { WritesText (W.written writer.old) (W.written writer.new)
+            (W.failures writer.old) (W.failures writer.new) result
+            (shown_on (page_of self.old) (e.Text (text_kind_of kind) ∷ [])) }
+        ensures page { OnOk result (page_of self.new ≡
+            page_after (e.Text (text_kind_of kind) ∷ []) (page_of self.old)) }
+    {
+        self.begin_line(writer)?;
+        write_head(writer, kind)?;
+        self.text = Some(OpenText {
+            is_big: is_big(kind),
+            size: 0,
+        });
+        Ok(())
+    }
+
+    fn part<W: Sink>(&mut self, part: &[u8], writer: &mut W) -> Result<(), WriteFault>
+        ensures written { WritesText (W.written writer.old) (W.written writer.new)
+            (W.failures writer.old) (W.failures writer.new) result
+            (shown_on (page_of self.old) (content_events part.now)) }
+        ensures page { OnOk result (HasRoomFor (length part.now) (page_of self.old) →
+            page_of self.new ≡ page_after (content_events part.now) (page_of self.old)) }
+    {
+        write_quoted(writer, part)?;
+        self.text = longer(self.text, part.len() as u64);
+        Ok(())
+    }
+
+    fn text_end<W: Sink>(&mut self, writer: &mut W) -> Result<(), WriteFault>
+        ensures written { WritesText (W.written writer.old) (W.written writer.new)
+            (W.failures writer.old) (W.failures writer.new) result
+            (shown_on (page_of self.old) (e.TextEnd ∷ [])) }
+        ensures page { OnOk result (HasRoomFor 1 (page_of self.old) →
+            page_of self.new ≡ page_after (e.TextEnd ∷ []) (page_of self.old)) }
+    {
+        write_end(writer, self.text)?;
+        self.text = None;
+        self.end();
+        Ok(())
+    }
+
+    fn open<W: Sink>(
+        &mut self,
+        kind: OpenKind,
+        count: Option<u64>,
+        writer: &mut W,
+    ) -> Result<(), WriteFault>
+        ensures written { WritesText (W.written writer.old) (W.written writer.new)
+            (W.failures writer.old) (W.failures writer.new) result
+            (shown_on (page_of self.old) (e.Open (kind_of kind) count ∷ [])) }
+        ensures page { OnOk result (length (page_of self.old).open_lines < 128 →
+            page_of self.new ≡
+            page_after (e.Open (kind_of kind) count ∷ []) (page_of self.old)) }
+    {
+        self.begin(kind_line(kind), writer)?;
+        self.push(OpenLine {
+            kind,
+            count,
+            members: 0,
+        });
+        Ok(())
+    }
+
+    /// One aggregate more is open, where there is room for it: no value has more than that.
+    fn push(&mut self, line: OpenLine)
+        ensures items { length self.old.aggregates.items < 128 →
+            reverse self.new.aggregates.items ≡ line ∷ reverse self.old.aggregates.items }
+        ensures rest { self.new ≡ record self.old { aggregates = self.new.aggregates } }
+    {
+        let _ = self.aggregates.try_push(line);
+    }
+
+    /// The innermost aggregate isn't open any more.
+    fn pop(&mut self)
+        ensures items { reverse self.new.aggregates.items ≡ around (reverse self.old.aggregates.items) }
+        ensures rest { self.new ≡ record self.old { aggregates = self.new.aggregates } }
+    {
+        let _ = self.aggregates.pop();
+    }
+
+    fn close<W: Sink>(&mut self, writer: &mut W) -> Result<(), WriteFault>
+        ensures written { WritesText (W.written writer.old) (W.written writer.new)
+            (W.failures writer.old) (W.failures writer.new) result
+            (shown_on (page_of self.old) (e.Close ∷ [])) }
+        ensures page { OnOk result (HasRoomFor 1 (page_of self.old) →
+            page_of self.new ≡ page_after (e.Close ∷ []) (page_of self.old)) }
+    {
+        self.write_last(writer)?;
+        self.pop();
+        self.end();
+        Ok(())
+    }
+
+    /// Writes the last line of the innermost aggregate.
+    fn write_last<W: Sink>(&self, writer: &mut W) -> Result<(), WriteFault>
+        ensures { WritesText (W.written writer.old) (W.written writer.new)
+            (W.failures writer.old) (W.failures writer.new) result
+            (last_line (page_of self.now).open_lines) }
+    {
+        let level = self.level().saturating_sub(1);
+        match self.innermost() {
+            Some(line) => {
+                write_indentation(writer, level)?;
+                write_number(writer, b"end ", line.items(), b"\n")
+            }
+            None => write_text(writer, b""),
+        }
+    }
+}
+
+impl OpenLine {
+    ghost use Rattle.resp_tool.specs.Pages.{has_all_pairs};
+
+    /// Whether an attribute has all its pairs, so that the value comes which it annotates.
+    fn is_full(&self) -> bool
+        ensures { result ≡ has_all_pairs (kind_of self.now.kind) self.now.count self.now.members }
+    {
+        let Some(pairs) = self.count else {
+            return false;
+        };
+        match self.kind {
+            OpenKind::Attr => is_double(self.members, pairs),
+            _ => false,
+        }
+    }
+
+    /// The number of members, or of pairs.
+    fn items(&self) -> u64
+        ensures { result ≡ items_of (kind_of self.now.kind) self.now.members }
+    {
+        match self.kind {
+            OpenKind::Map | OpenKind::Attr => self.members / 2,
+            OpenKind::Array | OpenKind::Set | OpenKind::Push => self.members,
+        }
+    }
+}
+
+/// Writes two spaces for each level.
+fn write_indentation<W: Sink>(writer: &mut W, level: usize) -> Result<(), WriteFault>
+    requires { level ≤ 128 }
+    ensures { WritesText (W.written writer.old) (W.written writer.new) (W.failures writer.old)
+        (W.failures writer.new) result (indentation level) }
+{
+    write_text(writer, &SPACES[..2 * level])
+}
+
+/// Writes the words up to a text's content.
+fn write_head<W: Sink>(writer: &mut W, kind: TextKind) -> Result<(), WriteFault>
+    ensures { WritesText (W.written writer.old) (W.written writer.new) (W.failures writer.old)
+        (W.failures writer.new) result (text_words (text_kind_of kind)) }
+{
+    match kind {
+        TextKind::Simple => write_text(writer, b"simple \""),
+        TextKind::Error => write_text(writer, b"error \""),
+        TextKind::Bulk => write_text(writer, b"bulk \""),
+        TextKind::BulkError => write_text(writer, b"bulkerror \""),
+        TextKind::Verbatim(format) => write_format(writer, &format),
+        TextKind::Big { negative: true } => write_text(writer, b"big -"),
+        TextKind::Big { negative: false } => write_text(writer, b"big "),
+    }
+}
+
+/// Writes the line of an integer.
+fn write_int<W: Sink>(writer: &mut W, number: i64) -> Result<(), WriteFault>
+    ensures { WritesText (W.written writer.old) (W.written writer.new) (W.failures writer.old)
+        (W.failures writer.new) result (codes "int " ++ signed_decimal number ++ codes "\n") }
+{
+    write_number(writer, b"int ", number, b"\n")
+}
+
+/// Writes the words up to a verbatim string's content.
+fn write_format<W: Sink>(writer: &mut W, format: &[u8]) -> Result<(), WriteFault>
+    ensures { WritesText (W.written writer.old) (W.written writer.new) (W.failures writer.old)
+        (W.failures writer.new) result
+        (codes "verbatim \"" ++ quoted_text format.now ++ codes "\" \"") }
+{
+    write_text(writer, b"verbatim \"")?;
+    write_quoted(writer, format)?;
+    write_text(writer, b"\" \"")
+}
+
+/// Writes two spaces for each level, and a line.
+fn write_indented<W: Sink>(writer: &mut W, level: usize, line: &[u8]) -> Result<(), WriteFault>
+    requires { level ≤ 128 }
+    ensures { WritesText (W.written writer.old) (W.written writer.new) (W.failures writer.old)
+        (W.failures writer.new) result (indentation level ++ line.now) }
+{
+    write_indentation(writer, level)?;
+    write_text(writer, line)
+}
+
+/// Whether the text is a big number.
+fn is_big(kind: TextKind) -> bool
+    ensures { result ≡ is_big (text_kind_of kind) }
+{
+    matches!(kind, TextKind::Big { .. })
+}
+
+/// The first line of an aggregate.
+fn kind_line(kind: OpenKind) -> &'static [u8]
+    ensures { result.now ≡ kind_word (kind_of kind) ++ codes "\n" }
+{
+    match kind {
+        OpenKind::Array => b"array\n",
+        OpenKind::Set => b"set\n",
+        OpenKind::Map => b"map\n",
+        OpenKind::Attr => b"attr\n",
+        OpenKind::Push => b"push\n",
+    }
+}
+
+/// The line of a truth value.
+fn truth_line(truth: bool) -> &'static [u8]
+    ensures { result.now ≡ truth_word truth ++ codes "\n" }
+{
+    if truth { b"true\n" } else { b"false\n" }
+}
+
+/// Whether the number is twice the other.
+fn is_double(number: u64, half: u64) -> bool
+    ensures { result ≡ (number == half + half) }
+{
+    if number < half {
+        return false;
+    }
+    number - half == half
+}
+
+/// The text with so many bytes more.
+fn longer(text: Option<OpenText>, bytes: u64) -> Option<OpenText>
+    ensures { size_of_text (text_of text) + bytes < 2 ^ 64 →
+        text_of result ≡ with_bytes bytes (text_of text) }
+{
+    match text {
+        Some(text) => Some(OpenText {
+            is_big: text.is_big,
+            size: text.size.saturating_add(bytes),
+        }),
+        None => None,
+    }
+}
+
+/// Writes what ends the line of a text.
+fn write_end<W: Sink>(writer: &mut W, text: Option<OpenText>) -> Result<(), WriteFault>
+    ensures { WritesText (W.written writer.old) (W.written writer.new) (W.failures writer.old)
+        (W.failures writer.new) result (end_of_text (text_of text)) }
+{
+    match text {
+        Some(text) => {
+            if !text.is_big {
+                write_number(writer, b"\" ", text.size, b"\n")
+            } else if text.size == 0 {
+                write_text(writer, b"0\n")
+            } else {
+                write_text(writer, b"\n")
+            }
+        }
+        None => write_text(writer, b""),
+    }
+}

@@ -1,0 +1,143 @@
+//! The loop that reads a stream, which all calls of the program share.
+
+ghost use Rattle.std.specs.Prelude.{◌≡◌, ◌⊎◌, ◌+◌, ◌≤◌, ◌++◌, ℕ, List, [], Option, Some, IfErr, IfOk, IfSome, IsErrOf, OnOk};
+ghost use Rattle.resp_tool.specs.Streams.{AreRead, AtEnd, HasRendered, IsBeforeEnd, IsRenderingError, RendersStopped, RendersStream};
+ghost use Rattle.resp_value.specs.Devices.{count_after, HasRisen};
+
+use crate::rendering::Rendering;
+use crate::tool_error::{MOST_VALUES, ToolError};
+use resp_value::device::{Sink, Source};
+use resp_value::laws;
+use std::alloc::Global;
+
+/// The most reads of one run.
+pub const MOST_READS: u64 = 4_000_000_000;
+
+/// How much was read.
+#[derive(Clone, Copy, Debug, PartialEq, Eq)]
+pub struct Totals {
+    pub values: u64,
+    pub bytes: u64,
+}
+
+/// Reads the stream to its end by reads of at most `piece` bytes, and writes what each value calls
+/// for.
+pub fn render_stream<T: Rendering, R: Source, W: Sink>(
+    alloc: Global,
+    rendering: &mut T,
+    piece: usize,
+    reader: &mut R,
+    writer: &mut W,
+) -> Result<Totals, ToolError>
+    requires piece_in_range { (1 ≤ piece) × (piece ≤ 65536) }
+    requires nothing_taken { T.has_taken rendering.old [] [] }
+    // Some bytes were read, which the result is of.
+    ensures rendered { (bytes : List ℕ) × AreRead (R.remaining reader.old) (R.remaining reader.new)
+        bytes × RendersStream (T.rules rendering.old) (T.text (T.rules rendering.old))
+        (T.is_written (T.rules rendering.old)) (T.is_left (T.rules rendering.old))
+        (T.is_begun (T.rules rendering.old)) bytes (W.written writer.old) (W.written writer.new)
+        result }
+    ensures read_to_its_end { AtEnd result (IfSome (R.remaining reader.old) (λ _.
+        R.remaining reader.new ≡ Some [])) }
+
+    // A device or memory that failed.
+    ensures reads_bounded { R.calls reader.new ≤ R.calls reader.old + MOST_READS }
+    ensures reader_failed { IsErrOf result ToolError.Read →
+        HasRisen (R.failures reader.old) (R.failures reader.new) }
+    ensures reads_used_up { IsErrOf result ToolError.TooManyTurns →
+        R.calls reader.new ≡ count_after MOST_READS (R.calls reader.old) }
+    ensures writer_failed { IsErrOf result ToolError.Write →
+        HasRisen (W.failures writer.old) (W.failures writer.new) }
+    ensures writes { IsErrOf result ToolError.Write → T.writes }
+    ensures no_buffer { IsErrOf result ToolError.Memory →
+        T.takes_memory ⊎ (writer.new ≡ writer.old) × (reader.new ≡ reader.old) }
+    ensures none_failed { OnOk result (W.failures writer.new ≡ W.failures writer.old) }
+{
+    laws::no_spelling_is_empty();
+    rendering.part_stands();
+    let mut buffer = vec![in alloc; 0u8; piece]?;
+    let mut totals = Totals {
+        values: 0,
+        bytes: 0,
+    };
+    for _ in 0..MOST_READS {
+        let count = match reader.read(buffer.as_mut_slice()) {
+            Ok(count) => count,
+            Err(_) => {
+                rendering.part_stands();
+                return Err(ToolError::Read);
+            }
+        };
+        if count == 0 {
+            if let Err(stop) = rendering.finish(writer) {
+                return Err(stop.of_value(totals.values + 1));
+            }
+            return Ok(totals);
+        }
+        totals.values = match render_piece(rendering, totals.values, &buffer[..count], writer) {
+            Ok(values) => values,
+            Err(error) => return Err(error),
+        };
+        totals.bytes += count as u64;
+    }
+    rendering.part_stands();
+    Err(ToolError::TooManyTurns)
+}
+
+/// Writes what the values call for that a piece goes on with, behind so many, and answers the
+/// number of all that are whole.
+fn render_piece<T: Rendering, W: Sink>(
+    rendering: &mut T,
+    before: u64,
+    piece: &[u8],
+    writer: &mut W,
+) -> Result<u64, ToolError>
+    requires few { before ≤ 1000000000 }
+    requires stands { (bytes : List ℕ) × (start : Option (List ℕ)) ×
+        HasRendered (T.rules rendering.old) (T.text (T.rules rendering.old))
+        (T.is_written (T.rules rendering.old)) (T.has_taken rendering.old) bytes start
+        (W.written writer.old) before }
+    ensures goes_on { (bytes : List ℕ) (start : Option (List ℕ)) →
+        HasRendered (T.rules rendering.old) (T.text (T.rules rendering.old))
+        (T.is_written (T.rules rendering.old)) (T.has_taken rendering.old) bytes start
+        (W.written writer.old) before →
+        IfOk result (HasRendered (T.rules rendering.old) (T.text (T.rules rendering.old))
+        (T.is_written (T.rules rendering.old)) (T.has_taken rendering.new)
+        (bytes ++ piece.now) start (W.written writer.new)) }
+    ensures stops { (bytes : List ℕ) (start : Option (List ℕ)) →
+        HasRendered (T.rules rendering.old) (T.text (T.rules rendering.old))
+        (T.is_written (T.rules rendering.old)) (T.has_taken rendering.old) bytes start
+        (W.written writer.old) before →
+        IfErr result (RendersStopped (T.rules rendering.old) (T.text (T.rules rendering.old))
+        (T.is_written (T.rules rendering.old)) (T.is_left (T.rules rendering.old))
+        (T.is_begun (T.rules rendering.old)) (bytes ++ piece.now) start (W.written writer.new)) }
+    ensures few { IfOk result (λ count. count ≤ 1000000000) }
+    ensures same_rules { T.rules rendering.new ≡ T.rules rendering.old }
+    ensures before_end { IfErr result IsBeforeEnd }
+    ensures not_reading { IfErr result IsRenderingError }
+    ensures memory_taken { IsErrOf result ToolError.Memory → T.takes_memory }
+    ensures writes { IsErrOf result ToolError.Write → T.writes }
+    ensures writer_failed { IsErrOf result ToolError.Write →
+        HasRisen (W.failures writer.old) (W.failures writer.new) }
+    ensures none_failed { OnOk result (W.failures writer.new ≡ W.failures writer.old) }
+{
+    // No value is empty, so each leaves less.
+    laws::no_spelling_is_empty();
+    let mut values = before;
+    let mut rest = piece;
+    while !rest.is_empty() {
+        if values == MOST_VALUES {
+            return Err(ToolError::TooManyValues);
+        }
+        match rendering.take(rest, writer) {
+            Ok(taken) => {
+                rest = &rest[taken.used..];
+                if taken.is_whole {
+                    values += 1;
+                }
+            }
+            Err(stop) => return Err(stop.of_value(values + 1)),
+        }
+    }
+    Ok(values)
+}
