@@ -106,9 +106,9 @@ fn stop_of(error: EncodeToError) -> Stop
 /// Reads the stream by reads of at most `piece` bytes, from 1 to 65,536, and writes the canonical
 /// text of each value in the same version.
 ///
-/// Refuses a stream at its first byte behind which nothing can follow, where it ends inside a value,
-/// or at the first value whose canonical text is over the limits; the texts of the values before
-/// have been written. Where a device or memory fails, a first part of the texts was.
+/// Refuses a stream at its first byte behind which nothing can follow, where it ends inside a
+/// value, or at the first value whose canonical text is over the limits; the texts of the values
+/// before have been written. Where a device or memory fails, a first part of the texts was.
 pub fn canon<R: Source, W: Sink>(
     alloc: Global,
     version: Version,

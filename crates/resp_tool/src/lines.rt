@@ -168,7 +168,8 @@ impl Lines {
 
     /// One member more was written of the innermost aggregate.
     fn add_member(&mut self)
-        ensures items { reverse self.new.aggregates.items ≡ with_added (reverse self.old.aggregates.items) }
+        ensures items { reverse self.new.aggregates.items ≡
+            with_added (reverse self.old.aggregates.items) }
         ensures rest { self.new ≡ record self.old { aggregates = self.new.aggregates } }
     {
         if !self.aggregates.is_empty() {
@@ -297,7 +298,8 @@ impl Lines {
 
     /// The innermost aggregate isn't open any more.
     fn pop(&mut self)
-        ensures items { reverse self.new.aggregates.items ≡ around (reverse self.old.aggregates.items) }
+        ensures items { reverse self.new.aggregates.items ≡
+            around (reverse self.old.aggregates.items) }
         ensures rest { self.new ≡ record self.old { aggregates = self.new.aggregates } }
     {
         let _ = self.aggregates.pop();
