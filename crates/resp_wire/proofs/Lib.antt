@@ -1,0 +1,4 @@
+pub mod Listening
+pub mod Turning
+pub mod Queueing
+pub mod Exchanges

@@ -1,0 +1,326 @@
+-- What has been heard of a piece, a value at a time.
+use Rattle.std.specs.Prelude.{not}
+use Rattle.std.proofs.Common.{◌≡◌, inl, inr, ℕ, ◌+◌, ◌<◌, ◌≤◌, Bool, true, false, List, [], ◌∷◌, ◌++◌, length, take, drop, Option, refl, sym, ap, subst, ◌∙◌, arith, append_assoc}
+use Rattle.std.proofs.lemmas.List.{append-nil, length-append, length-take, take-append-drop, take_all}
+use Rattle.std.proofs.lemmas.List.Elements.{filter-append}
+use Rattle.resp_value.specs.Bounds.{Bounds}
+use Rattle.resp_value.specs.Data.{Datum}
+use Rattle.resp_value.specs.Values.{datum_of}
+use Rattle.resp_value.specs.declared.value.Value.TheVariants as value
+use Rattle.resp_session.specs.Heard.{is_push, numbered_replies, pushes_of, replies_of}
+use Rattle.resp_value.specs.declared.cause.Cause.{Cause}
+use Rattle.resp_value.specs.declared.cause.Cause.TheVariants as cause
+use Rattle.resp_scan.specs.declared.event.Fault.{Fault}
+use Rattle.resp_session.specs.Reading.{ClientFault, ReadsAs, Waiting}
+use Rattle.resp_session.specs.ReadingLaws.{HearingGoesOn, ReadingsGoOn}
+use Rattle.resp_client.specs.Clients.{ClientState, next_number, state_of, with_answer}
+use Rattle.resp_client.specs.Hearing.{HasTaken, Hears, Refuses, UnlessReplied}
+use Rattle.resp_client.specs.declared.client.Client.{Client}
+use Rattle.resp_client.specs.declared.heard.What.{What}
+use Rattle.resp_client.specs.declared.heard.What.TheVariants.{Reply, Push, Shown, More}
+use Rattle.resp_wire.specs.Hearing.{Adds, AddsHeard, HearsAll, HearsFault, HearsSome, ReadsFrom, pushes_in, replies_in}
+use Rattle.resp_wire.specs.Stops.{FailsReading, StopsClient, StopsHearing, StopsListening, error_by, error_of}
+use Rattle.resp_wire.specs.declared.error.AskError.{AskError}
+use Rattle.resp_wire.specs.declared.error.AskError.TheVariants as error
+use Rattle.resp_wire.specs.declared.asked.Asked.{Asked}
+
+-- What has been heard behind so many turns: the bytes before the rest, of which each turn used one at least.
+pub record HearsUpTo (s : ClientState) (c : Client) (before after : Asked) (front piece rest : List ℕ) (turns : ℕ) : Type 0 where
+  pub done : List ℕ
+  pub parts : piece ≡ done ++ rest
+  pub few : turns ≤ length done
+  pub hears : HearsAll s c before after (front ++ done)
+
+-- nothing is added
+adds_nothing : (before : Asked) → Adds before before [] []
+adds_nothing before = (sym (append-nil (replies_in before)), sym (append-nil (pushes_in before)))
+
+-- nothing has come
+pub hears_no_bytes : (c : Client) (before : Asked) (front : List ℕ) → HasTaken c front → HearsAll (state_of c) c before before (front ++ [])
+hears_no_bytes c before front h = record {
+  values = [];
+  rest = front;
+  reads = record { text = []; reads = (refl, refl); whole = append-nil front };
+  heard = adds_nothing before;
+  takes = h;
+  answered = omega arith;
+  same_limits = refl;
+  same_out = refl;
+}
+
+pub hears_nothing : (c : Client) (before : Asked) (front piece : List ℕ) → HasTaken c front → HearsUpTo (state_of c) c before before front piece piece 0
+hears_nothing c before front piece h = record { done = []; parts = refl; few = omega arith; hears = hears_no_bytes c before front h }
+
+-- The bytes of one turn behind those of the turns before.
+bytes_on : (front done piece rest : List ℕ) (used : ℕ) → piece ≡ done ++ rest → piece ≡ (done ++ take used rest) ++ drop used rest
+bytes_on front done piece rest used parts = parts ∙ ap (λ z. done ++ z) (sym (take-append-drop used rest)) ∙ sym (append_assoc done (take used rest) (drop used rest))
+
+-- what comes behind a rest that was taken
+read_on : (front done text f : List ℕ) (more : List ℕ) → front ++ done ≡ text ++ f → front ++ (done ++ more) ≡ text ++ (f ++ more)
+read_on front done text f more whole = sym (append_assoc front done more) ∙ ap (λ z. z ++ more) whole ∙ append_assoc text f more
+
+-- one reply is no push
+one_reply : (n : ℕ) (x : Datum) (number : ℕ) (y : Datum) → numbered_replies n (x ∷ []) ≡ (number, y) ∷ [] →
+    (pushes_of (x ∷ []) ≡ []) × (length (replies_of (x ∷ [])) ≡ 1)
+one_reply n x number y e = by (is_push x) refl
+  where
+    by : (b : Bool) → is_push x ≡ b → (pushes_of (x ∷ []) ≡ []) × (length (replies_of (x ∷ [])) ≡ 1)
+    by true is = absurd (let z : numbered_replies n (x ∷ []) ≡ [] = rw is refl in let w : (number, y) ∷ [] ≡ [] = sym e ∙ z in cc)
+    by false is = rw is (refl, refl)
+
+-- more values were read
+reads_more : ReadingsGoOn → (s : ClientState) (values others : List Datum) (front done f more : List ℕ) (limits : Bounds) (w after : Waiting) →
+    limits ≡ s.limits → ReadsFrom s values (front ++ done) w f → (text rest : List ℕ) → ReadsAs limits w others text after → f ++ more ≡ text ++ rest →
+    ReadsFrom s (values ++ others) (front ++ (done ++ more)) after rest
+reads_more go_on s values others front done f more limits w after same r text rest given parts = record {
+  text = r.text ++ text;
+  reads = go_on s.limits s.waiting w after values others r.text text r.reads (subst (λ l. ReadsAs l w others text after) same given);
+  whole = read_on front done r.text f more r.whole ∙ ap (λ z. r.text ++ z) parts ∙ sym (append_assoc r.text text rest);
+}
+
+-- what was added, and then more
+adds_more : (before mid after : Asked) (rs qs : List (ℕ × Datum)) (ps os : List Datum) → Adds before mid rs ps → Adds mid after qs os →
+    Adds before after (rs ++ qs) (ps ++ os)
+adds_more before mid after rs qs ps os a b =
+    (b.0 ∙ ap (λ z. z ++ qs) a.0 ∙ append_assoc (replies_in before) rs qs, b.1 ∙ ap (λ z. z ++ os) a.1 ∙ append_assoc (pushes_in before) ps os)
+
+-- the number of the reply behind these values
+numbered_on : (s : ClientState) (c : ClientState) (values : List Datum) → c.answered ≡ s.answered + length (replies_of values) →
+    next_number c ≡ next_number s + length (replies_of values)
+numbered_on s c values e = omega (arith, e)
+
+-- more values were heard
+hears_values : HearingGoesOn → (s c : ClientState) (before mid after : Asked) (values others : List Datum) (qs : List (ℕ × Datum)) (os : List Datum) →
+    c.answered ≡ s.answered + length (replies_of values) → numbered_replies (next_number c) others ≡ qs → pushes_of others ≡ os →
+    Adds before mid (numbered_replies (next_number s) values) (pushes_of values) → Adds mid after qs os →
+    Adds before after (numbered_replies (next_number s) (values ++ others)) (pushes_of (values ++ others))
+hears_values goes_on s c before mid after values others qs os answered numbered pushed a b =
+    let (replies, pushes) = goes_on (next_number s) values others in
+    let same : numbered_replies (next_number s + length (replies_of values)) others ≡ qs =
+    ap (λ n. numbered_replies n others) (sym (numbered_on s c values answered)) ∙ numbered in
+    let added = adds_more before mid after (numbered_replies (next_number s) values) qs (pushes_of values) os a b in (
+      added.0 ∙ ap (λ z. replies_in before ++ z) (sym (replies ∙ ap (λ z. numbered_replies (next_number s) values ++ z) same)),
+      added.1 ∙ ap (λ z. pushes_in before ++ z) (sym (pushes ∙ ap (λ z. pushes_of values ++ z) pushed)),
+    )
+
+-- so many replies are among values and more of them
+replies_more : (values others : List Datum) → length (replies_of (values ++ others)) ≡ length (replies_of values) + length (replies_of others)
+replies_more values others = ap length (filter-append (λ y. not (is_push y)) values others) ∙ length-append (replies_of values) (replies_of others)
+
+-- What one feed heard, behind what was heard before.
+hears_on : ReadingsGoOn → HearingGoesOn → (s : ClientState) (c new : Client) (before mid after : Asked) (front done rest : List ℕ) (used : ℕ) (what : What) →
+    (h : HearsAll s c before mid (front ++ done)) → Hears c new h.rest rest used what → UnlessReplied what (state_of new ≡ state_of c) →
+    AddsHeard mid after what → HearsAll s new before after (front ++ (done ++ take used rest))
+hears_on go_on goes_on s c new before mid after front done rest used (Reply number x) h given stays added =
+    let old : ClientState = state_of c in
+    let one = one_reply (next_number old) (datum_of x) number (datum_of x) given.numbered in
+    let same : state_of new ≡ with_answer (datum_of x) old = given.answered in
+    record {
+      values = h.values ++ datum_of x ∷ [];
+      rest = [];
+      reads = reads_more go_on s h.values (datum_of x ∷ []) front done h.rest (take used rest) old.limits old.waiting (state_of new).waiting h.same_limits
+          h.reads (h.rest ++ take used rest) [] given.reads (sym (append-nil (h.rest ++ take used rest)));
+      heard = hears_values goes_on s old before mid after h.values (datum_of x ∷ []) ((number, datum_of x) ∷ []) [] h.answered given.numbered one.0
+          h.heard added;
+      takes = given.takes;
+      answered = ap (λ z. let t : ClientState = z in t.answered) same ∙ omega (arith, h.answered, one.1, replies_more h.values (datum_of x ∷ []));
+      same_limits = ap (λ z. let t : ClientState = z in t.limits) same ∙ h.same_limits;
+      same_out = ap (λ z. let t : ClientState = z in t.out) same ∙ h.same_out;
+    }
+hears_on go_on goes_on s c new before mid after front done rest used (Push items) h given stays added =
+    let old : ClientState = state_of c in
+    let x = datum_of (value.Push items) in
+    let same : state_of new ≡ old = stays in
+    record {
+      values = h.values ++ x ∷ [];
+      rest = [];
+      reads = subst (λ (z : ClientState). ReadsFrom s (h.values ++ x ∷ []) (front ++ (done ++ take used rest)) z.waiting []) (sym same)
+          (reads_more go_on s h.values (x ∷ []) front done h.rest (take used rest) old.limits old.waiting old.waiting h.same_limits h.reads
+          (h.rest ++ take used rest) [] given.reads (sym (append-nil (h.rest ++ take used rest))));
+      heard = hears_values goes_on s old before mid after h.values (x ∷ []) [] (x ∷ []) h.answered refl refl h.heard added;
+      takes = given.takes;
+      answered = ap (λ z. let t : ClientState = z in t.answered) same ∙ omega (arith, h.answered, replies_more h.values (x ∷ []));
+      same_limits = ap (λ z. let t : ClientState = z in t.limits) same ∙ h.same_limits;
+      same_out = ap (λ z. let t : ClientState = z in t.out) same ∙ h.same_out;
+    }
+hears_on go_on goes_on s c new before mid after front done rest used Shown h given stays added = absurd given
+hears_on go_on goes_on s c new before mid after front done rest used More h given stays added =
+    let same : state_of new ≡ state_of c = stays in
+    let all : take used rest ≡ rest = take_all used rest (omega (arith, given.whole_piece)) in
+    record {
+      values = h.values;
+      rest = h.rest ++ take used rest;
+      reads = record {
+        text = h.reads.text;
+        reads = subst (λ (z : ClientState). ReadsAs s.limits s.waiting h.values h.reads.text z.waiting) (sym same) h.reads.reads;
+        whole = read_on front done h.reads.text h.rest (take used rest) h.reads.whole;
+      };
+      heard = (added.0 ∙ append-nil (replies_in mid) ∙ h.heard.0, added.1 ∙ append-nil (pushes_in mid) ∙ h.heard.1);
+      takes = subst (λ z. HasTaken new (h.rest ++ z)) (sym all) given.takes;
+      answered = ap (λ z. let t : ClientState = z in t.answered) same ∙ h.answered;
+      same_limits = ap (λ z. let t : ClientState = z in t.limits) same ∙ h.same_limits;
+      same_out = ap (λ z. let t : ClientState = z in t.out) same ∙ h.same_out;
+    }
+
+-- a turn more
+pub hears_more : ReadingsGoOn → HearingGoesOn → (s : ClientState) (c new : Client) (before mid after : Asked) (front piece rest behind : List ℕ)
+    (turns used : ℕ) (what : What) → (w : HearsUpTo s c before mid front piece rest turns) → Hears c new w.hears.rest rest used what →
+    UnlessReplied what (state_of new ≡ state_of c) → 0 < used → used ≤ length rest → AddsHeard mid after what → behind ≡ drop used rest →
+    HearsUpTo s new before after front piece behind (turns + 1)
+hears_more go_on goes_on s c new before mid after front piece rest behind turns used what w given stays some within added left = record {
+  done = w.done ++ take used rest;
+  parts = bytes_on front w.done piece rest used w.parts ∙ ap (λ z. (w.done ++ take used rest) ++ z) (sym left);
+  few = omega (arith, w.few, some, within, length-append w.done (take used rest), length-take used rest);
+  hears = hears_on go_on goes_on s c new before mid after front w.done rest used what w.hears given stays added;
+}
+
+-- nothing is left of the piece
+pub hears_whole : (s : ClientState) (c : Client) (before after : Asked) (front piece rest : List ℕ) (turns : ℕ) →
+    HearsUpTo s c before after front piece rest turns → length rest ≡ 0 → HearsAll s c before after (front ++ piece)
+hears_whole s c before after front piece [] turns w none =
+    subst (λ z. HearsAll s c before after (front ++ z)) (sym (w.parts ∙ append-nil w.done)) w.hears
+hears_whole s c before after front piece (byte ∷ rest) turns w none = absurd (omega (arith, none))
+
+-- as many turns as there are bytes leave nothing
+pub hears_in_turns : (s : ClientState) (c : Client) (before after : Asked) (front piece rest : List ℕ) (turns : ℕ) →
+    HearsUpTo s c before after front piece rest turns → length piece ≤ turns → length rest ≡ 0
+hears_in_turns s c before after front piece rest turns w all =
+    omega (arith, w.few, all, ap length w.parts, length-append w.done rest)
+
+-- all that came is the values, and behind them what was taken and the rest
+reads_before : (s : ClientState) (c : Client) (before after : Asked) (front piece rest : List ℕ) (turns : ℕ) →
+    (w : HearsUpTo s c before after front piece rest turns) →
+    ReadsFrom s w.hears.values (front ++ piece) (state_of c).waiting (w.hears.rest ++ rest)
+reads_before s c before after front piece rest turns w = record {
+  text = w.hears.reads.text;
+  reads = w.hears.reads.reads;
+  whole = ap (λ z. front ++ z) w.parts ∙ read_on front w.done w.hears.reads.text w.hears.rest rest w.hears.reads.whole;
+}
+
+-- no memory was found
+pub hears_some : (s : ClientState) (c : Client) (before after : Asked) (front piece rest : List ℕ) (turns : ℕ) →
+    HearsUpTo s c before after front piece rest turns → HearsSome s before after (front ++ piece)
+hears_some s c before after front piece rest turns w = record {
+  values = w.hears.values;
+  waiting = (state_of c).waiting;
+  rest = w.hears.rest ++ rest;
+  reads = reads_before s c before after front piece rest turns w;
+  heard = w.hears.heard;
+}
+
+-- a byte is refused
+hears_fault : (s : ClientState) (c : Client) (before after : Asked) (front piece rest : List ℕ) (turns : ℕ) (fault : Fault) →
+    (w : HearsUpTo s c before after front piece rest turns) → (fault.cause ≡ cause.OutOfMemory → ⊥) → Refuses (state_of c) w.hears.rest rest fault →
+    HearsFault s before after (front ++ piece) fault
+hears_fault s c before after front piece rest turns fault w other (inr lacks) = absurd (other lacks.names)
+hears_fault s c before after front piece rest turns fault w other (inl is) = record {
+  values = w.hears.values;
+  waiting = (state_of c).waiting;
+  rest = w.hears.rest ++ rest;
+  reads = reads_before s c before after front piece rest turns w;
+  heard = w.hears.heard;
+  fault_of = subst (λ limits. ClientFault limits (state_of c).waiting (w.hears.rest ++ rest) fault.cause fault.at) w.hears.same_limits is;
+}
+
+-- the client stopped
+stops_by : (k : Cause) (s : ClientState) (c : Client) (before after : Asked) (front piece rest : List ℕ) (turns : ℕ) (fault : Fault) → fault.cause ≡ k →
+    (w : HearsUpTo s c before after front piece rest turns) → Refuses (state_of c) w.hears.rest rest fault →
+    StopsHearing s before after (front ++ piece) (error_by k fault)
+stops_by cause.OutOfMemory s c before after front piece rest turns fault is w refused = hears_some s c before after front piece rest turns w
+stops_by k s c before after front piece rest turns fault is w refused =
+    hears_fault s c before after front piece rest turns fault w (λ memory. let z : k ≡ cause.OutOfMemory = sym is ∙ memory in absurd (cc)) refused
+
+pub stops_hearing : (s : ClientState) (c : Client) (before after : Asked) (front piece rest : List ℕ) (turns : ℕ) (fault : Fault) (error : AskError) →
+    error ≡ error_of fault → (w : HearsUpTo s c before after front piece rest turns) → Refuses (state_of c) w.hears.rest rest fault →
+    StopsHearing s before after (front ++ piece) error
+stops_hearing s c before after front piece rest turns fault error is w refused = subst (StopsHearing s before after (front ++ piece)) (sym is)
+    (stops_by fault.cause s c before after front piece rest turns fault refl w refused)
+
+-- what isn't added stays
+pub hears_none_more : (s : ClientState) (c : Client) (before mid after : Asked) (front piece rest : List ℕ) (turns : ℕ) →
+    HearsUpTo s c before mid front piece rest turns → replies_in after ≡ replies_in mid → pushes_in after ≡ pushes_in mid →
+    HearsSome s before after (front ++ piece)
+hears_none_more s c before mid after front piece rest turns w replies pushes =
+    let some = hears_some s c before mid front piece rest turns w in
+    record {
+      values = some.values;
+      waiting = some.waiting;
+      rest = some.rest;
+      reads = some.reads;
+      heard = (replies ∙ some.heard.0, pushes ∙ some.heard.1);
+    }
+
+-- What a piece told, behind what was heard before.
+
+reads_on : ReadingsGoOn → (s : ClientState) (c : Client) (values others : List Datum) (front came piece f rest : List ℕ) (after : Waiting) →
+    (state_of c).limits ≡ s.limits → ReadsFrom s values (front ++ came) (state_of c).waiting f → ReadsFrom (state_of c) others (f ++ piece) after rest →
+    ReadsFrom s (values ++ others) (front ++ (came ++ piece)) after rest
+reads_on go_on s c values others front came piece f rest after same first second =
+    reads_more go_on s values others front came f piece (state_of c).limits (state_of c).waiting after same first second.text rest second.reads second.whole
+
+pub hears_piece : ReadingsGoOn → HearingGoesOn → (s : ClientState) (c new : Client) (before mid after : Asked) (front came piece : List ℕ) →
+    (h : HearsAll s c before mid (front ++ came)) → HearsAll (state_of c) new mid after (h.rest ++ piece) → HearsAll s new before after (front ++ (came ++ piece))
+hears_piece go_on goes_on s c new before mid after front came piece h p = record {
+  values = h.values ++ p.values;
+  rest = p.rest;
+  reads = reads_on go_on s c h.values p.values front came piece h.rest p.rest (state_of new).waiting h.same_limits h.reads p.reads;
+  heard = hears_values goes_on s (state_of c) before mid after h.values p.values _ _ h.answered refl refl h.heard p.heard;
+  takes = p.takes;
+  answered = omega (arith, p.answered, h.answered, replies_more h.values p.values);
+  same_limits = p.same_limits ∙ h.same_limits;
+  same_out = p.same_out ∙ h.same_out;
+}
+
+pub stops_piece : ReadingsGoOn → HearingGoesOn → (s : ClientState) (c : Client) (before mid after : Asked) (front came piece : List ℕ) (error : AskError) →
+    (h : HearsAll s c before mid (front ++ came)) → StopsHearing (state_of c) mid after (h.rest ++ piece) error →
+    StopsHearing s before after (front ++ (came ++ piece)) error
+stops_piece go_on goes_on s c before mid after front came piece (error.Fault fault) h p = record {
+  values = h.values ++ p.values;
+  waiting = p.waiting;
+  rest = p.rest;
+  reads = reads_on go_on s c h.values p.values front came piece h.rest p.rest p.waiting h.same_limits h.reads p.reads;
+  heard = hears_values goes_on s (state_of c) before mid after h.values p.values _ _ h.answered refl refl h.heard p.heard;
+  fault_of = subst (λ limits. ClientFault limits p.waiting p.rest fault.cause fault.at) h.same_limits p.fault_of;
+}
+stops_piece go_on goes_on s c before mid after front came piece error.OutOfMemory h p = record {
+  values = h.values ++ p.values;
+  waiting = p.waiting;
+  rest = p.rest;
+  reads = reads_on go_on s c h.values p.values front came piece h.rest p.rest p.waiting h.same_limits h.reads p.reads;
+  heard = hears_values goes_on s (state_of c) before mid after h.values p.values _ _ h.answered refl refl h.heard p.heard;
+}
+stops_piece go_on goes_on s c before mid after front came piece (error.Refused index refusal) h p = absurd p
+stops_piece go_on goes_on s c before mid after front came piece error.Read h p = absurd p
+stops_piece go_on goes_on s c before mid after front came piece error.Write h p = absurd p
+stops_piece go_on goes_on s c before mid after front came piece error.TooManyTurns h p = absurd p
+stops_piece go_on goes_on s c before mid after front came piece error.Ended h p = absurd p
+
+-- what a client's stop says of all that was read
+pub stops_listening : (s : ClientState) (c : Client) (before after : Asked) (came : List ℕ) (error : AskError) → StopsHearing s before after came error →
+    StopsListening s c before after came error
+stops_listening s c before after came (error.Fault fault) h = h
+stops_listening s c before after came error.OutOfMemory h = h
+stops_listening s c before after came (error.Refused index refusal) h = absurd h
+stops_listening s c before after came error.Read h = absurd h
+stops_listening s c before after came error.Write h = absurd h
+stops_listening s c before after came error.TooManyTurns h = absurd h
+stops_listening s c before after came error.Ended h = absurd h
+
+-- a client stops by a fault or for want of memory
+stops_client : (k : Cause) (fault : Fault) → StopsClient (error_by k fault)
+stops_client cause.OutOfMemory fault = tt
+stops_client k fault = tt
+
+pub client_stops : (fault : Fault) (error : AskError) → error ≡ error_of fault → StopsClient error
+client_stops fault error is = subst StopsClient (sym is) (stops_client fault.cause fault)
+
+-- then there is no other reason why no more is read
+pub fails_reading : (failures failures' : ℕ) (left left' : Option (List ℕ)) (s : ClientState) (error : AskError) → StopsClient error →
+    FailsReading failures failures' left left' s error
+fails_reading failures failures' left left' s (error.Fault fault) h = tt
+fails_reading failures failures' left left' s error.OutOfMemory h = tt
+fails_reading failures failures' left left' s (error.Refused index refusal) h = absurd h
+fails_reading failures failures' left left' s error.Read h = absurd h
+fails_reading failures failures' left left' s error.Write h = absurd h
+fails_reading failures failures' left left' s error.TooManyTurns h = absurd h
+fails_reading failures failures' left left' s error.Ended h = absurd h

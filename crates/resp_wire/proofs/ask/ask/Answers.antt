@@ -1,0 +1,59 @@
+use Rattle.std.proofs.Common.{◌++◌, inr, refl, subst}
+use Rattle.resp_wire.specs.Hearing.{HearsAll}
+use Rattle.resp_wire.specs.Stops.{StopsListening}
+use Rattle.resp_wire.proofs.Exchanges.{all_sent, queue_takes_no_turn, sends_all, spends_no_turns, spends_writes}
+use Rattle.resp_wire.proofs.ask.ask.Goals as goal
+
+pub returns-in-Err-clause-turns : goal.returns-in-Err-clause-turns
+returns-in-Err-clause-turns g c = (
+  c.args.turns,
+  spends_no_turns (g.W.Sink.calls c.args.writer.now) (g.R.Source.calls c.args.reader.now) c.args.turns,
+  λ is. absurd (queue_takes_no_turn c.args.client.now c.queue.new.client c.args.requests.now _ c.in-Err.error refl c.in-Err.ensures.refusal is),
+)
+
+pub returns-in-Err-send_all-clause-turns : goal.returns-in-Err-send_all-clause-turns
+returns-in-Err-send_all-clause-turns g c = (
+  c.send_all.new.turns,
+  spends_writes (g.W.Sink.calls c.args.writer.now) (g.W.Sink.calls c.send_all.new.writer) (g.R.Source.calls c.args.reader.now) c.args.turns
+      c.send_all.new.turns c.send_all.ensures.turns,
+  c.in-Err-send_all.ensures.no_turn_left,
+)
+
+pub returns-in-Err-hear_all-clause-refusal : goal.returns-in-Err-hear_all-clause-refusal
+returns-in-Err-hear_all-clause-refusal g c =
+    let old = c.args.client.now in
+    let mid = c.queue.new.client in
+    let new = c.send_all.new.client in
+    let requests = c.args.requests.now in
+    let held = g.W.Sink.written c.args.writer.now in
+    let held' = g.W.Sink.written c.send_all.new.writer in
+    let q = c.in_default.ensures.all_queued in
+    let (came, read, heard) = c.in-Err-hear_all.ensures.heard in
+    inr (inr (
+      sends_all old mid new requests held held' q c.send_all.ensures.sent c.in_default-send_all.ensures.all,
+      c.in-Err-hear_all.ensures.refusal,
+      (
+        came,
+        read,
+        λ front h. subst
+            (λ s. StopsListening s c.hear_all.new.client c.args.heard.now c.hear_all.new.heard (front ++ came) c.in-Err-hear_all.error)
+            (all_sent old mid new requests held held' q c.send_all.ensures.sent c.in_default-send_all.ensures.all)
+            (heard front (c.send_all.ensures.same_reading.same_front front (c.queue.ensures.same_reading.same_front front h))).1,
+      ),
+    ))
+
+pub returns-clause-sent : goal.returns-clause-sent
+returns-clause-sent g c = sends_all c.args.client.now c.queue.new.client c.send_all.new.client c.args.requests.now (g.W.Sink.written c.args.writer.now)
+    (g.W.Sink.written c.send_all.new.writer) c.in_default.ensures.all_queued c.send_all.ensures.sent c.in_default-send_all.ensures.all
+
+pub returns-clause-heard : goal.returns-clause-heard
+returns-clause-heard g c =
+    let (came, read, heard) = c.in_default-hear_all.ensures.heard in (
+      came,
+      read,
+      λ front h. subst
+          (λ s. HearsAll s c.hear_all.new.client c.args.heard.now c.hear_all.new.heard (front ++ came))
+          (all_sent c.args.client.now c.queue.new.client c.send_all.new.client c.args.requests.now (g.W.Sink.written c.args.writer.now)
+          (g.W.Sink.written c.send_all.new.writer) c.in_default.ensures.all_queued c.send_all.ensures.sent c.in_default-send_all.ensures.all)
+          (heard front (c.send_all.ensures.same_reading.same_front front (c.queue.ensures.same_reading.same_front front h))).0,
+    )

@@ -1,0 +1,35 @@
+-- What a client's requests and their replies come to.
+use Rattle.std.specs.Prelude.{◌≡◌, ℕ, ◌≤◌, List, [], length, take, Option}
+use Rattle.resp_value.specs.Devices.{Appends}
+use Rattle.resp_client.specs.Clients.{ClientState, state_of, without_front}
+use Rattle.resp_client.specs.declared.client.Client.{Client}
+use Rattle.resp_wire.specs.Requests.{MayAllBeSent, with_requests}
+use Rattle.resp_wire.specs.Turns.{Spends}
+use Rattle.resp_wire.specs.declared.asked.Request.{Request}
+
+-- what the client shows once all requests are queued
+abbrev pub asked : Client → List Request → ClientState
+asked c requests = with_requests requests (state_of c)
+
+-- and once all that waited was written
+abbrev pub sent : Client → List Request → ClientState
+sent c requests = record (asked c requests) { out = [] }
+
+-- all requests were queued, and what then waited was written
+pub record SendsAll (c : Client) (requests : List Request) (held held' : Option (List ℕ)) : Type 0 where
+  pub may_be_sent : MayAllBeSent requests (state_of c)
+  pub appended : Appends held held' (asked c requests).out
+
+-- all requests were queued, and the first bytes of what then waited were written; the others wait
+pub record SendsPart (old new : Client) (requests : List Request) (held held' : Option (List ℕ)) : Type 0 where
+  pub may_be_sent : MayAllBeSent requests (state_of old)
+  pub count : ℕ
+  pub within : count ≤ length (asked old requests).out
+  pub appended : Appends held held' (take count (asked old requests).out)
+  pub waits : state_of new ≡ without_front count (asked old requests)
+
+-- writes and then reads were made, so many that these turns are left
+pub record SpendsTurns (writes writes' reads reads' turns left : ℕ) : Type 0 where
+  pub between : ℕ
+  pub written : Spends writes writes' turns between
+  pub read : Spends reads reads' between left

@@ -1,0 +1,71 @@
+-- What is heard of a connection's other end, in words of texts and values.
+use Rattle.std.specs.Prelude.{◌≡◌, ℕ, ◌+◌, List, [], ◌∷◌, ◌++◌, length, map}
+use Rattle.resp_value.specs.Data.{Datum}
+use Rattle.resp_value.specs.Values.{datum_of}
+use Rattle.resp_value.specs.declared.value.Value.{Value}
+use Rattle.resp_value.specs.declared.value.Value.TheVariants as value
+use Rattle.resp_value.specs.declared.value.Members.{Members}
+use Rattle.resp_scan.specs.declared.event.Fault.{Fault}
+use Rattle.resp_session.specs.Heard.{numbered_replies, pushes_of, replies_of}
+use Rattle.resp_session.specs.Reading.{ClientFault, ReadsAs, Waiting}
+use Rattle.resp_client.specs.Clients.{ClientState, next_number, state_of}
+use Rattle.resp_client.specs.Hearing.{HasTaken}
+use Rattle.resp_client.specs.declared.client.Client.{Client}
+use Rattle.resp_client.specs.declared.heard.What.{What}
+use Rattle.resp_client.specs.declared.heard.What.TheVariants.{Reply, Push, Shown, More}
+use Rattle.resp_wire.specs.declared.asked.Asked.{Asked}
+
+-- the replies that were heard, with their numbers
+abbrev pub replies_in : Asked → List (ℕ × Datum)
+replies_in asked = map (λ (reply : ℕ × Value). (reply.0, datum_of reply.1)) asked.replies.items
+
+-- the pushes that were heard
+abbrev pub pushes_in : Asked → List Datum
+pushes_in asked = map (λ (items : Members). datum_of (value.Push items)) asked.pushes.items
+
+-- these replies and pushes were added
+abbrev pub Adds : Asked → Asked → List (ℕ × Datum) → List Datum → Type 0
+Adds before after replies pushes = (replies_in after ≡ replies_in before ++ replies) ×
+    (pushes_in after ≡ pushes_in before ++ pushes)
+
+-- what was heard was added
+abbrev pub AddsHeard : Asked → Asked → What → Type 0
+AddsHeard before after (Reply number x) = Adds before after ((number, datum_of x) ∷ []) []
+AddsHeard before after (Push items) = Adds before after [] (datum_of (value.Push items) ∷ [])
+AddsHeard before after Shown = Adds before after [] []
+AddsHeard before after More = Adds before after [] []
+
+-- Of a front and what came behind it these values were read, by what was waited for, and a rest is left.
+pub record ReadsFrom (s : ClientState) (values : List Datum) (came : List ℕ) (waiting : Waiting) (rest : List ℕ) :
+    Type 0 where
+  pub text : List ℕ
+  pub reads : ReadsAs s.limits s.waiting values text waiting
+  pub whole : came ≡ text ++ rest
+
+-- All that came is read: the values are heard, and the client has taken the rest.
+pub record HearsAll (s : ClientState) (c : Client) (before after : Asked) (came : List ℕ) : Type 0 where
+  pub values : List Datum
+  pub rest : List ℕ
+  pub reads : ReadsFrom s values came (state_of c).waiting rest
+  pub heard : Adds before after (numbered_replies (next_number s) values) (pushes_of values)
+  pub takes : HasTaken c rest
+  pub answered : (state_of c).answered ≡ s.answered + length (replies_of values)
+  pub same_limits : (state_of c).limits ≡ s.limits
+  pub same_out : (state_of c).out ≡ s.out
+
+-- A byte of what came is refused: the values before are heard.
+pub record HearsFault (s : ClientState) (before after : Asked) (came : List ℕ) (fault : Fault) : Type 0 where
+  pub values : List Datum
+  pub waiting : Waiting
+  pub rest : List ℕ
+  pub reads : ReadsFrom s values came waiting rest
+  pub heard : Adds before after (numbered_replies (next_number s) values) (pushes_of values)
+  pub fault_of : ClientFault s.limits waiting rest fault.cause fault.at
+
+-- No memory was found: the first of the values are heard.
+pub record HearsSome (s : ClientState) (before after : Asked) (came : List ℕ) : Type 0 where
+  pub values : List Datum
+  pub waiting : Waiting
+  pub rest : List ℕ
+  pub reads : ReadsFrom s values came waiting rest
+  pub heard : Adds before after (numbered_replies (next_number s) values) (pushes_of values)

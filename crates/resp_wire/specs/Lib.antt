@@ -1,0 +1,6 @@
+-- What a caller reads of the engines.
+pub mod Hearing
+pub mod Turns
+pub mod Requests
+pub mod Stops
+pub mod Asking

@@ -1,0 +1,87 @@
+-- Why an engine stops, and what was heard by then.
+use Rattle.std.specs.Prelude.{◌≡◌, ◌≢◌, ◌≤◌, ℕ, List, [], ◌∷◌, length, take, drop, Option}
+use Rattle.resp_value.specs.Devices.{HasRisen}
+use Rattle.resp_value.specs.declared.cause.Cause.{Cause}
+use Rattle.resp_value.specs.declared.cause.Cause.TheVariants as cause
+use Rattle.resp_scan.specs.declared.event as event
+use Rattle.resp_client.specs.Clients.{ClientState, state_of}
+use Rattle.resp_client.specs.Sending.{DeclinesRequest}
+use Rattle.resp_client.specs.declared.client.Client.{Client}
+use Rattle.resp_client.specs.declared.send_error.SendError.{SendError}
+use Rattle.resp_client.specs.declared.send_error.SendError.TheVariants as send
+use Rattle.resp_wire.specs.Hearing.{HearsAll, HearsFault, HearsSome}
+use Rattle.resp_wire.specs.Requests.{MayAllBeSent, request_of, with_requests}
+use Rattle.resp_wire.specs.Turns.{TellsEnd}
+use Rattle.resp_wire.specs.declared.asked.Asked.{Asked}
+use Rattle.resp_wire.specs.declared.asked.Request.{Request}
+use Rattle.resp_wire.specs.declared.error.AskError.{AskError}
+use Rattle.resp_wire.specs.declared.error.AskError.TheVariants.{Ended, Fault, OutOfMemory, Read, Refused, TooManyTurns, Write}
+
+-- want of memory is told apart from the other faults of a client
+abbrev pub error_by : Cause → event.Fault.Fault → AskError
+error_by cause.OutOfMemory fault = OutOfMemory
+error_by _ fault = Fault fault
+
+abbrev pub error_of : event.Fault.Fault → AskError
+error_of fault = error_by fault.cause fault
+
+-- want of memory is told apart from the other refusals of a request
+abbrev pub error_at : ℕ → SendError → AskError
+error_at index send.OutOfMemory = OutOfMemory
+error_at index error = Refused index error
+
+-- so many of the first requests were queued, each of which may be sent
+pub record QueuesFirst (old new : Client) (requests : List Request) (count : ℕ) : Type 0 where
+  pub within : count ≤ length requests
+  pub may_be_sent : MayAllBeSent (take count requests) (state_of old)
+  pub queued : state_of new ≡ with_requests (take count requests) (state_of old)
+
+-- the requests before this one were queued, and it is refused
+pub record DeclinesAt (old new : Client) (requests : List Request) (index : ℕ) (error : SendError) : Type 0 where
+  pub before : QueuesFirst old new requests index
+  pub request : Request
+  pub later : List Request
+  pub here : drop index requests ≡ request ∷ later
+  pub declined : DeclinesRequest (state_of new) (request_of request) error
+
+-- a request is refused, or no memory is found for one
+abbrev pub StopsQueueing : Client → Client → List Request → AskError → Type 0
+StopsQueueing old new requests (Refused index error) = DeclinesAt old new requests index error
+StopsQueueing old new requests OutOfMemory = (index : ℕ) × DeclinesAt old new requests index send.OutOfMemory
+StopsQueueing old new requests _ = ⊥
+
+-- a client stops by a fault or for want of memory
+abbrev pub StopsClient : AskError → Type 0
+StopsClient (Fault fault) = Unit {0}
+StopsClient OutOfMemory = Unit {0}
+StopsClient _ = ⊥
+
+-- what was heard of a piece in which the client stopped
+abbrev pub StopsHearing : ClientState → Asked → Asked → List ℕ → AskError → Type 0
+StopsHearing s before after came (Fault fault) = HearsFault s before after came fault
+StopsHearing s before after came OutOfMemory = HearsSome s before after came
+StopsHearing s before after came _ = ⊥
+
+-- why what waits isn't written: a write failed, or no turn is left
+abbrev pub FailsWriting : ℕ → ℕ → AskError → Type 0
+FailsWriting failures failures' Write = HasRisen failures failures'
+FailsWriting failures failures' TooManyTurns = Unit {0}
+FailsWriting failures failures' _ = ⊥
+
+-- What was heard of all that was read, where a call stopped: where no byte was refused and memory was found it is all.
+abbrev pub StopsListening : ClientState → Client → Asked → Asked → List ℕ → AskError → Type 0
+StopsListening s c before after came (Fault fault) = HearsFault s before after came fault
+StopsListening s c before after came OutOfMemory = HearsSome s before after came
+StopsListening s c before after came Read = HearsAll s c before after came
+StopsListening s c before after came TooManyTurns = HearsAll s c before after came
+StopsListening s c before after came Ended = HearsAll s c before after came
+StopsListening s c before after came _ = ⊥
+
+-- why no more is heard: a read failed, no turn is left, the input ended while a request waited, or the client stopped
+abbrev pub FailsReading : ℕ → ℕ → Option (List ℕ) → Option (List ℕ) → ClientState → AskError → Type 0
+FailsReading failures failures' left left' s Read = HasRisen failures failures'
+FailsReading failures failures' left left' s TooManyTurns = Unit {0}
+FailsReading failures failures' left left' s Ended = TellsEnd left left' × (s.waiting.asks ≢ [])
+FailsReading failures failures' left left' s (Fault fault) = Unit {0}
+FailsReading failures failures' left left' s OutOfMemory = Unit {0}
+FailsReading failures failures' left left' s _ = ⊥

@@ -1,0 +1,20 @@
+-- What an engine's reads and writes come to.
+use Rattle.std.specs.Prelude.{◌≡◌, ℕ, ◌+◌, ◌<◌, List, [], ◌++◌, Option, None, Some}
+use Rattle.resp_value.specs.Devices.{count_after}
+
+-- Bytes were read: of those that were left, where the device tells them, these are the first.
+abbrev pub HasRead : Option (List ℕ) → Option (List ℕ) → List ℕ → Type 0
+HasRead None after came = Unit {0}
+HasRead (Some left) after came = (rest : List ℕ) × (left ≡ came ++ rest) × (after ≡ Some rest)
+
+-- A count of calls has risen by so many, which were spent of the turns that were left.
+pub record Spends (calls calls' turns turns' : ℕ) : Type 0 where
+  pub count : ℕ
+  pub none : count ≡ 0 → calls' ≡ calls
+  pub some : 0 < count → calls' ≡ count_after count calls
+  pub spent : turns ≡ turns' + count
+
+-- a device that told its bytes before tells that none is left
+abbrev pub TellsEnd : Option (List ℕ) → Option (List ℕ) → Type 0
+TellsEnd None after = Unit {0}
+TellsEnd (Some left) after = after ≡ Some []

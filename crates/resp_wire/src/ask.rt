@@ -1,0 +1,239 @@
+//! A client's end of a connection.
+
+ghost use Rattle.std.specs.Prelude.{◌≡◌, ◌⊎◌, ◌≤◌, ◌++◌, ℕ, List, [], drop, length, take, IsErrOf, OnOk, OnErr, IfOk, IfErr};
+ghost use Rattle.resp_client.specs.Clients.{state_of, with_request, without_front};
+ghost use Rattle.resp_client.specs.Sending.{AnswersRequest};
+ghost use Rattle.resp_wire.specs.Requests.{request_of};
+ghost use Rattle.resp_client.specs.Hearing.{KeepsReading, WhereTaken};
+ghost use Rattle.resp_value.specs.Devices.{Appends};
+ghost use Rattle.resp_wire.specs.Hearing.{HearsAll};
+ghost use Rattle.resp_wire.specs.Asking.{SendsAll, SendsPart, SpendsTurns, sent};
+ghost use Rattle.resp_wire.specs.Stops.{FailsReading, FailsWriting, QueuesFirst, StopsClient, StopsHearing, StopsListening, StopsQueueing, error_at, error_of};
+ghost use Rattle.resp_wire.specs.Turns.{HasRead, Spends};
+
+use crate::asked::{Asked, Request};
+use crate::error::AskError;
+use resp_client::{Client, SendError};
+use resp_scan::event::Fault;
+use resp_session::laws;
+use resp_value::cause::Cause;
+use resp_value::device::{Sink, Source};
+
+/// How many bytes one read asks for.
+const PIECE: usize = 4_096;
+
+/// Queues the requests, writes all that waits, and reads until no command waits; the last piece
+/// that is read is heard whole. What is heard is added, whatever is answered.
+///
+/// Each read and each write is a turn. A refused request is answered before anything is written,
+/// and those before it stay queued. Where a write fails, or no turn is left for one, the rest waits
+/// in the client. Behind want of memory bytes that were read may be lost, and the connection is
+/// to be given up.
+pub fn ask<R: Source, W: Sink>(
+    reader: &mut R,
+    writer: &mut W,
+    client: &mut Client,
+    requests: &[Request],
+    heard: &mut Asked,
+    turns: u64,
+) -> Result<(), AskError>
+    // All requests and what waited before were written, and all that came is heard.
+    ensures sent { OnOk result (SendsAll client.old requests.now (W.written writer.old)
+        (W.written writer.new)) }
+    ensures heard { OnOk result ((came : List ℕ) ×
+        HasRead (R.remaining reader.old) (R.remaining reader.new) came ×
+        WhereTaken client.old (λ front. HearsAll (sent client.old requests.now) client.new
+        heard.old heard.new (front ++ came))) }
+    ensures all_answered { OnOk result ((state_of client.new).waiting.asks ≡ []) }
+    ensures turns { (left : ℕ) × SpendsTurns (W.calls writer.old) (W.calls writer.new)
+        (R.calls reader.old) (R.calls reader.new) turns left ×
+        (IsErrOf result AskError.TooManyTurns → left ≡ 0) }
+
+    // A request is refused before anything is written, or a write fails before anything is read, or
+    // all was written, and what came before the stop is heard.
+    ensures refusal { IfErr result (λ error.
+        (StopsQueueing client.old client.new requests.now error × (writer.new ≡ writer.old) ×
+        (reader.new ≡ reader.old) × (heard.new ≡ heard.old)) ⊎
+        (SendsPart client.old client.new requests.now (W.written writer.old)
+        (W.written writer.new) × FailsWriting (W.failures writer.old) (W.failures writer.new) error
+        × (reader.new ≡ reader.old) × (heard.new ≡ heard.old)) ⊎
+        (SendsAll client.old requests.now (W.written writer.old) (W.written writer.new) ×
+        FailsReading (R.failures reader.old) (R.failures reader.new) (R.remaining reader.old)
+        (R.remaining reader.new) (state_of client.new) error × ((came : List ℕ) ×
+        HasRead (R.remaining reader.old) (R.remaining reader.new) came ×
+        WhereTaken client.old (λ front. StopsListening (sent client.old requests.now) client.new
+        heard.old heard.new (front ++ came) error)))) }
+{
+    if let Err(error) = queue(client, requests) {
+        return Err(error);
+    }
+    let mut left = turns;
+    if let Err(error) = send_all(writer, client, &mut left) {
+        return Err(error);
+    }
+    if let Err(error) = hear_all(reader, client, heard, &mut left) {
+        return Err(error);
+    }
+    Ok(())
+}
+
+/// Why a client's fault stops the call.
+fn stop(fault: Fault) -> AskError
+    ensures { result ≡ error_of fault }
+{
+    match fault.cause {
+        Cause::OutOfMemory => AskError::OutOfMemory,
+        _ => AskError::Fault(fault),
+    }
+}
+
+/// Gives the client a whole piece, and adds what it hears.
+fn hear_piece(client: &mut Client, piece: &[u8], heard: &mut Asked) -> Result<(), AskError>
+    ensures heard { WhereTaken client.old (λ front. OnOk result
+        (HearsAll (state_of client.old) client.new heard.old heard.new (front ++ piece.now))) }
+    ensures refusal { WhereTaken client.old (λ front. IfErr result
+        (StopsHearing (state_of client.old) heard.old heard.new (front ++ piece.now))) }
+    ensures fault_or_memory { IfErr result StopsClient }
+{
+    laws::readings_go_on();
+    laws::hearing_goes_on();
+    let mut rest = piece;
+    // Each turn uses a byte at least.
+    for turn in 0..piece.len() {
+        if rest.is_empty() {
+            return Ok(());
+        }
+        let given = match client.feed(rest) {
+            Ok(given) => given,
+            Err(fault) => return Err(stop(fault)),
+        };
+        let used = given.used;
+        if heard.add(given.what).is_err() {
+            return Err(AskError::OutOfMemory);
+        }
+        rest = behind(rest, used);
+    }
+    Ok(())
+}
+
+/// Queues the requests in order, up to the first that is refused.
+fn queue(client: &mut Client, requests: &[Request]) -> Result<(), AskError>
+    ensures all_queued { OnOk result (QueuesFirst client.old client.new requests.now
+        (length requests.now)) }
+    ensures refusal { IfErr result (StopsQueueing client.old client.new requests.now) }
+    ensures same_reading { KeepsReading client.old client.new }
+{
+    for index in 0..requests.len() {
+        if let Err(error) = queue_one(client, &requests[index]) {
+            return Err(refused(index, error));
+        }
+    }
+    Ok(())
+}
+
+/// Queues one request.
+fn queue_one(client: &mut Client, request: &Request) -> Result<u64, SendError>
+    ensures answer { AnswersRequest (state_of client.old) (request_of request.now) result }
+    ensures queued { OnOk result (state_of client.new ≡
+        with_request (request_of request.now) (state_of client.old)) }
+    ensures unchanged { OnErr result (state_of client.new ≡ state_of client.old) }
+    ensures same_reading { KeepsReading client.old client.new }
+{
+    match request {
+        Request::Hello(asked) => client.hello(*asked),
+        Request::Command(command) => client.send(command),
+    }
+}
+
+/// Why a refused request stops the call.
+fn refused(index: usize, error: SendError) -> AskError
+    ensures { result ≡ error_at index error }
+{
+    match error {
+        SendError::OutOfMemory => AskError::OutOfMemory,
+        error => AskError::Refused { index, error },
+    }
+}
+
+/// Writes what waits to be sent, by one write after another.
+fn send_all<W: Sink>(writer: &mut W, client: &mut Client, turns: &mut u64) -> Result<(), AskError>
+    ensures sent { (count : ℕ) × (count ≤ length (state_of client.old).out) ×
+        Appends (W.written writer.old) (W.written writer.new)
+        (take count (state_of client.old).out) ×
+        (state_of client.new ≡ without_front count (state_of client.old)) }
+    ensures all { OnOk result ((state_of client.new).out ≡ []) }
+    ensures same_reading { KeepsReading client.old client.new }
+    ensures turns { Spends (W.calls writer.old) (W.calls writer.new) turns.old turns.new }
+    ensures refusal { IfErr result (FailsWriting (W.failures writer.old)
+        (W.failures writer.new)) }
+    ensures no_turn_left { IsErrOf result AskError.TooManyTurns → turns.new ≡ 0 }
+{
+    while !client.out().is_empty() {
+        if *turns == 0 {
+            return Err(AskError::TooManyTurns);
+        }
+        *turns -= 1;
+        match writer.write(client.out()) {
+            Ok(0) | Err(_) => return Err(AskError::Write),
+            Ok(count) => client.sent(count),
+        }
+    }
+    Ok(())
+}
+
+/// Reads until no command waits, and adds what is heard.
+fn hear_all<R: Source>(
+    reader: &mut R,
+    client: &mut Client,
+    heard: &mut Asked,
+    turns: &mut u64,
+) -> Result<(), AskError>
+    ensures heard { (came : List ℕ) ×
+        HasRead (R.remaining reader.old) (R.remaining reader.new) came ×
+        WhereTaken client.old (λ front.
+        OnOk result (HearsAll (state_of client.old) client.new heard.old heard.new
+        (front ++ came)) × IfErr result (StopsListening (state_of client.old) client.new heard.old
+        heard.new (front ++ came))) }
+    ensures all_answered { OnOk result ((state_of client.new).waiting.asks ≡ []) }
+    ensures turns { Spends (R.calls reader.old) (R.calls reader.new) turns.old turns.new }
+    ensures refusal { IfErr result (FailsReading (R.failures reader.old) (R.failures reader.new)
+        (R.remaining reader.old) (R.remaining reader.new) (state_of client.new)) }
+    ensures no_turn_left { IsErrOf result AskError.TooManyTurns → turns.new ≡ 0 }
+{
+    laws::readings_go_on();
+    laws::hearing_goes_on();
+    let mut piece = [0; PIECE];
+    while client.waiting() > 0 {
+        if *turns == 0 {
+            return Err(AskError::TooManyTurns);
+        }
+        *turns -= 1;
+        let count = match reader.read(&mut piece) {
+            Ok(0) => return Err(AskError::Ended),
+            Ok(count) => count,
+            Err(_) => return Err(AskError::Read),
+        };
+        if let Err(error) = hear_piece(client, front(&piece, count), heard) {
+            return Err(error);
+        }
+    }
+    Ok(())
+}
+
+/// The bytes from this index on.
+#[inline]
+fn behind(piece: &[u8], from: usize) -> &[u8]
+    requires { from ≤ length piece.now }
+    ensures { result.now ≡ drop from piece.now }
+{
+    &piece[from..]
+}
+
+/// So many of the first bytes.
+#[inline]
+fn front(piece: &[u8], count: usize) -> &[u8]
+    requires { count ≤ length piece.now }
+    ensures { result.now ≡ take count piece.now }
+{
+    &piece[..count]
+}

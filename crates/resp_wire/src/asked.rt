@@ -1,0 +1,56 @@
+//! What is asked, and what is heard.
+
+ghost use Rattle.std.specs.Prelude.{◌≡◌, [], OnOk, OnErr};
+
+use resp_client::What;
+use resp_value::command::Command;
+use resp_value::value::{Members, Value};
+use resp_value::version::Version;
+use std::alloc::{AllocError, Global};
+
+/// What a client asks.
+#[derive(Debug, PartialEq, Eq, Drop)]
+pub enum Request {
+    /// HELLO with the version that it asks, if it asks one.
+    Hello(Option<Version>),
+    /// Another command.
+    Command(Command),
+}
+
+/// What was heard, in order.
+#[derive(Debug, PartialEq, Eq, Drop)]
+pub struct Asked {
+    /// The replies, each with the number of its command.
+    pub replies: Vec<(u64, Value)>,
+    /// The members of each push.
+    pub pushes: Vec<Members>,
+}
+
+impl Asked {
+    ghost use Rattle.resp_wire.specs.Hearing.{AddsHeard, pushes_in, replies_in};
+
+    /// Nothing was heard. Takes no memory.
+    pub fn new(alloc: Global) -> Asked
+        ensures replies { replies_in result ≡ [] }
+        ensures pushes { pushes_in result ≡ [] }
+    {
+        Asked {
+            replies: Vec::new(alloc),
+            pushes: Vec::new(alloc),
+        }
+    }
+
+    /// Adds what a client heard. Where there is no memory nothing is added.
+    pub(crate) fn add(&mut self, what: What) -> Result<(), AllocError>
+        ensures added { OnOk result (AddsHeard self.old self.new what) }
+        ensures replies_stay { OnErr result (replies_in self.new ≡ replies_in self.old) }
+        ensures pushes_stay { OnErr result (pushes_in self.new ≡ pushes_in self.old) }
+    {
+        match what {
+            What::Reply { number, value } => self.replies.push((number, value))?,
+            What::Push(items) => self.pushes.push(items)?,
+            What::Shown | What::More => {}
+        }
+        Ok(())
+    }
+}
