@@ -128,7 +128,7 @@ impl Held {
     {
         self.add_weight(part.len() as u64);
         match &mut self.text {
-            Some(text) => text.extend(part).is_ok(),
+            Some(text) => text.extend(self.alloc, part).is_ok(),
             None => false,
         }
     }

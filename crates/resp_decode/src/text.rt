@@ -13,6 +13,9 @@ use resp_value::line::Line;
 use resp_value::value::Value;
 use std::alloc::{AllocError, Global};
 
+/// The most bytes of a block that the C library, once it is freed, keeps at hand for the next one.
+const AT_HAND: usize = 1_032;
+
 /// A text whose end hasn't come.
 #[derive(Drop)]
 pub(crate) struct Text {
@@ -36,14 +39,24 @@ impl Text {
         }
     }
 
-    /// Appends these bytes of the content.
+    /// Appends these bytes of the content. Small content that has no room moves to a block of its
+    /// own, since the C library grows none from those that it keeps at hand.
     #[inline]
-    pub(crate) fn extend(&mut self, part: &[u8]) -> Result<(), AllocError>
+    pub(crate) fn extend(&mut self, alloc: Global, part: &[u8]) -> Result<(), AllocError>
         ensures { OnOk result (text_held self.new ≡ record (text_held self.old) {
           content = (text_held self.old).content ++ part.now;
         }) }
     {
-        self.bytes.extend_from_slice(part)
+        let length = self.bytes.len().saturating_add(part.len());
+        if length <= self.bytes.capacity() || length > AT_HAND {
+            return self.bytes.extend_from_slice(part);
+        }
+        let room = length.saturating_mul(2).min(AT_HAND);
+        let mut moved = Vec::with_capacity(alloc, room)?;
+        moved.extend_from_slice(self.bytes.as_slice())?;
+        moved.extend_from_slice(part)?;
+        self.bytes = moved;
+        Ok(())
     }
 
     /// What its end adds to the weight: a node, and the digit of a big zero.
