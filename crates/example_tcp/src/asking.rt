@@ -1,0 +1,113 @@
+//! One pipeline, asked of a server and checked.
+
+use anyhow::{Result, bail};
+use resp_client::Client;
+use resp_value::command::Command;
+use resp_value::device::Device;
+use resp_value::limits::Limits;
+use resp_value::value::Value;
+use resp_value::version::Version;
+use resp_wire::ask::ask;
+use resp_wire::{Asked, Request};
+use std::alloc::Global;
+use std::net::{Net, TcpStream};
+
+/// How many commands the pipeline has.
+const COMMANDS: usize = 10_000;
+
+/// The index of HELLO 3 among them; the next one turns tracking on.
+const HELLO: usize = 5_000;
+
+/// Each so many commands behind it a key is read and then written, so that a push comes.
+const TRACKED: usize = 100;
+
+/// How many reads and writes are allowed.
+const TURNS: u64 = 1_000_000;
+
+fn command(alloc: Global, words: &[&[u8]]) -> Result<Request> {
+    let mut owned = Vec::new(alloc);
+    for word in words {
+        owned.push(word.to_vec(alloc)?)?;
+    }
+    Ok(Request::Command(Command::new(owned)?))
+}
+
+/// Whether this command reads, or the one behind it writes, a key that is tracked.
+fn is_tracked(index: usize) -> bool {
+    index > HELLO && index % TRACKED == 2
+}
+
+fn is_written(index: usize) -> bool {
+    index > HELLO && index % TRACKED == 3
+}
+
+/// The command of this index: what isn't said otherwise is to be echoed, the index itself.
+fn request(alloc: Global, index: usize) -> Result<Request> {
+    if index == HELLO {
+        return Ok(Request::Hello(Some(Version::Three)));
+    }
+    if index == HELLO + 1 {
+        return command(alloc, &[b"CLIENT", b"TRACKING", b"ON"]);
+    }
+    if is_tracked(index) {
+        return command(alloc, &[b"GET", b"tracked"]);
+    }
+    let text = format!(in alloc; "{index}")?;
+    if is_written(index) {
+        return command(alloc, &[b"SET", b"tracked", text.as_bytes()]);
+    }
+    command(alloc, &[b"ECHO", text.as_bytes()])
+}
+
+/// Whether the reply is one to the command of this index.
+fn is_reply(alloc: Global, index: usize, reply: &Value) -> Result<bool> {
+    if index == HELLO {
+        return Ok(matches!(reply, Value::Map(_)));
+    }
+    if index == HELLO + 1 || is_written(index) {
+        return Ok(matches!(reply, Value::Simple(line) if line.text() == b"OK".as_slice()));
+    }
+    if is_tracked(index) {
+        return Ok(matches!(reply, Value::Null | Value::Bulk(_)));
+    }
+    let text = format!(in alloc; "{index}")?;
+    Ok(matches!(reply, Value::Bulk(content) if content.list() == text.as_bytes()))
+}
+
+/// Asks the server on this port, and answers how many replies and pushes came.
+pub(crate) fn ask_server(
+    net: &impl Net<Stream = TcpStream>,
+    alloc: Global,
+    port: u16,
+) -> Result<(usize, usize)> {
+    let mut requests = Vec::new(alloc);
+    for index in 0..COMMANDS {
+        requests.push(request(alloc, index)?)?;
+    }
+    let stream = TcpStream::connect(net, ("127.0.0.1", port))?;
+    let mut client = Client::new(alloc, &Limits::standard());
+    let mut heard = Asked::new(alloc);
+    ask(
+        &mut Device::new(&stream),
+        &mut Device::new(&stream),
+        &mut client,
+        requests.as_slice(),
+        &mut heard,
+        TURNS,
+    )?;
+    check(alloc, &heard)?;
+    Ok((heard.replies.len(), heard.pushes.len()))
+}
+
+/// Each command has its reply.
+fn check(alloc: Global, heard: &Asked) -> Result<()> {
+    if heard.replies.len() != COMMANDS {
+        bail!("{} replies to {COMMANDS} commands", heard.replies.len());
+    }
+    for (index, (number, reply)) in heard.replies.iter().enumerate() {
+        if *number != index as u64 + 1 || !is_reply(alloc, index, reply)? {
+            bail!("reply {number} is another command's: {reply:?}");
+        }
+    }
+    Ok(())
+}

@@ -1,0 +1,47 @@
+//! Talks to Redis over TCP.
+//!
+//! `ask PORT` asks a server on this machine 10,000 commands in one pipeline, with HELLO 3 in its
+//! midst and pushes behind it, and says how many replies and pushes came. It fails where a reply is
+//! another command's. `serve PORT` is a server for clients on this machine, until it is stopped.
+//! Without words it says how it is called.
+#![tactic(auto)]
+
+mod asking;
+mod serving;
+
+use anyhow::Result;
+use std::env::{self, Env};
+use std::hash::RandomState;
+
+/// What the words of the command line ask for.
+enum Task {
+    Usage,
+    Ask(u16),
+    Serve(u16),
+}
+
+fn asked_for(rt: &(impl Env + Alloc)) -> Result<Task> {
+    let mut words = env::args(rt)?.skip(1);
+    let (Some(name), Some(port)) = (words.next(), words.next()) else {
+        return Ok(Task::Usage);
+    };
+    let port = port.parse()?;
+    Ok(match name.as_str() {
+        "ask" => Task::Ask(port),
+        "serve" => Task::Serve(port),
+        _ => Task::Usage,
+    })
+}
+
+fn main(rt: HostRuntime) -> Result<()> {
+    let alloc = rt.alloc();
+    match asked_for(&rt)? {
+        Task::Usage => println!(rt; "usage: example_tcp ask PORT | serve PORT")?,
+        Task::Ask(port) => {
+            let (replies, pushes) = asking::ask_server(&rt, alloc, port)?;
+            println!(rt; "{replies} replies, each its command's, and {pushes} pushes")?;
+        }
+        Task::Serve(port) => serving::serve_clients(&rt, alloc, RandomState::new(&rt)?, port)?,
+    }
+    Ok(())
+}
