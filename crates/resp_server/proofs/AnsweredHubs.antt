@@ -1,19 +1,22 @@
 -- What a hub does with a piece, in words of its state.
-use Rattle.std.proofs.Common.{◌≡◌, ℕ, ◌==◌, true, false, Option, None, Some, List, ◌++◌, IfSome, sym, ap, subst, ◌∙◌}
+use Rattle.std.proofs.Common.{◌≡◌, ℕ, ◌==◌, true, false, Option, None, Some, List, [], ◌++◌, IfSome, append-nil, refl, sym, ap, subst, ◌∙◌}
 use Rattle.std.specs.Map.{lookup, set_value}
 use Rattle.std.specs.Option.{option_map}
 use Rattle.std.proofs.lemmas.Bool.{false≢true}
 use Rattle.resp_value.specs.Bounds.{Bounds}
+use Rattle.resp_value.specs.Rules.{WithinTotal}
+use Rattle.resp_value.specs.Spellings.{IsViable}
 use Rattle.resp_scan.specs.Kinds.{rules_of}
 use Rattle.resp_decode.specs.Decoding.{HasTaken}
 use Rattle.resp_session.specs.Answers.{server_rules}
 use Rattle.resp_session.specs.Fitting.{FitsStore}
 use Rattle.resp_session.specs.Stores.{Store}
-use Rattle.resp_server.specs.Answering.{IsAnswered, IsCutShort}
+use Rattle.resp_server.specs.Answering.{IsAnswered, IsCutShort, state_with}
 use Rattle.resp_server.specs.Handling.{WhereOpen, HasAnswered, HasCutShort}
 use Rattle.resp_server.specs.Hubs.{HubState, Seat, AreSound, HubIsSound, seat_of, seats_of, seat_at, with_seat}
 use Rattle.resp_server.specs.declared.session.Session.{Session}
-use Rattle.resp_server.proofs.Seats.{state_of, seats-lookup, seats-set, sound_set}
+use Rattle.resp_server.proofs.Seats.{state_of, seats-lookup, seats-set, sound_set, with_same}
+use Rattle.resp_server.proofs.Turns.{waits_on}
 
 -- what holds of the session that was found, and of the hub as its fields are
 at_found : (limits : Bounds) (es : List (ℕ × Session)) (store : Store) (last : ℕ) (hub : HubState) → state_of limits es store last ≡ hub → (id : ℕ)
@@ -50,17 +53,17 @@ hub_answered limits es store last hub view ns store' id old new written found pi
 pub hub_cut_short : (limits : Bounds) (es : List (ℕ × Session)) (store : Store) (last : ℕ) (hub : HubState) → state_of limits es store last ≡ hub →
     (ns : List (ℕ × Session)) (store' : Store) (id : ℕ) (old new : Session) → ns ≡ set_value (λ other. id == other) es new →
     Some old ≡ lookup (λ other. id == other) es → (piece : List ℕ) (k : ℕ) →
-    ((front : List ℕ) → HasTaken old.decoder front → IsCutShort limits id store store' old new (front ++ piece) k) →
-    WhereOpen hub id (λ s front. HasCutShort hub (state_of limits ns store' last) id s (front ++ piece) k)
+    ((front : List ℕ) → HasTaken old.decoder front → IsCutShort limits id store store' old new front piece k) →
+    WhereOpen hub id (λ s front. HasCutShort hub (state_of limits ns store' last) id s front piece k)
 hub_cut_short limits es store last hub view ns store' id old new written found piece k cut =
     at_found limits es store last hub view id old found (λ h s. s.closing ≡ false → (front : List ℕ) → HasTaken s.decoder front →
-    HasCutShort h (state_of limits ns store' last) id s (front ++ piece) k) (λ is_open front taken.
+    HasCutShort h (state_of limits ns store' last) id s front piece k) (λ is_open front taken.
     let a = cut front taken in
     let seat : seat_of new ≡ record { version = new.version; out = old.out.items ++ a.reply; closing = true; decoder = new.decoder } =
     ap (λ items. record { version = new.version; out = items; closing = new.closing; decoder = new.decoder }) a.replied ∙
     ap (λ b. record { version = new.version; out = old.out.items ++ a.reply; closing = b; decoder = new.decoder }) a.closes in
     record {
-      front = a.front;
+      answered = a.answered;
       behind = a.behind;
       whole = a.whole;
       reply = a.reply;
@@ -106,3 +109,39 @@ not_open limits es store last hub view id old found closes P =
 -- nothing is said of a session that isn't there
 pub if_none : (o : Option Seat) (P : Seat → Type 0) → o ≡ None → IfSome o P
 if_none o P none = subst (λ x. IfSome x P) (sym none) tt
+
+-- a session whose front is waited on has answered it
+waits_in : (limits : Bounds) (es : List (ℕ × Session)) (store : Store) (last : ℕ) (id : ℕ) (old : Session) → Some old ≡ lookup (λ other. id == other) es →
+    (front : List ℕ) → HasTaken old.decoder front → old.closing ≡ false → IsViable (server_rules limits) WithinTotal front →
+    HasAnswered (state_of limits es store last) (state_of limits es store last) id (seat_of old) front 0
+waits_in limits es store last id old found front taken is_open viable =
+    let there : lookup (λ other. id == other) (seats_of es) ≡ Some (seat_of old) = sym (seats-lookup es id) ∙ ap (option_map seat_of) (sym found) in
+    let seat : seat_of old ≡ record { version = old.version; out = old.out.items ++ []; closing = false; decoder = old.decoder } =
+    ap (λ items. record { version = old.version; out = items; closing = old.closing; decoder = old.decoder }) (sym (append-nil old.out.items)) ∙
+    ap (λ b. record { version = old.version; out = old.out.items ++ []; closing = b; decoder = old.decoder }) is_open in
+    record {
+      reply = [];
+      store = store;
+      version = old.version;
+      closing = false;
+      decoder = old.decoder;
+      rest = front;
+      answers = waits_on limits id (state_with store old.version [] false 0) (state_with store old.version [] false 0) front refl refl taken.no_value viable;
+      state = ap (λ seats. record { limits = limits; sessions = seats; store = store; last = last })
+          (sym (with_same (seats_of es) id (seat_of old) there) ∙ ap (with_seat (seats_of es) id) seat);
+      taking = λ open_now. taken;
+    }
+
+pub hub_waits : (limits : Bounds) (es : List (ℕ × Session)) (store : Store) (last : ℕ) (hub : HubState) → state_of limits es store last ≡ hub → (id : ℕ)
+    (old : Session) → Some old ≡ lookup (λ other. id == other) es → rules_of old.decoder.scanner ≡ server_rules limits →
+    ((front : List ℕ) → HasTaken old.decoder front → IsViable (rules_of old.decoder.scanner) WithinTotal front) →
+    WhereOpen hub id (λ s front. HasAnswered hub hub id s front 0)
+hub_waits limits es store last hub view id old found reading viable =
+    at_found limits es store last hub view id old found (λ h s. s.closing ≡ false → (front : List ℕ) → HasTaken s.decoder front →
+    HasAnswered h h id s front 0) (λ is_open front taken. waits_in limits es store last id old found front taken is_open
+    (subst (λ r. IsViable r WithinTotal front) reading (viable front taken)))
+
+-- what holds of the session that was found holds of its seat
+pub found_seat : (limits : Bounds) (es : List (ℕ × Session)) (store : Store) (last : ℕ) (hub : HubState) → state_of limits es store last ≡ hub → (id : ℕ)
+    (old : Session) → Some old ≡ lookup (λ other. id == other) es → (P : Seat → Type 0) → P (seat_of old) → IfSome (seat_at hub id) P
+found_seat limits es store last hub view id old found P p = at_found limits es store last hub view id old found (λ h s. P s) p

@@ -76,14 +76,14 @@ closed_answered ends limits id store store' before after front piece n k closes 
 pub cut_short : (limits : Bounds) (id : ℕ) (store store' store'' : Store) (before middle after last : Session) (front piece : List ℕ) (n k : ℕ) →
     middle.closing ≡ false → IsAnswered limits id store store' before middle (front ++ take n piece) k → IsAsBefore store' store'' middle after →
     last.version ≡ after.version → last.out.items ≡ after.out.items → last.closing ≡ true →
-    IsCutShort limits id store store'' before last (front ++ piece) k
+    IsCutShort limits id store store'' before last front piece k
 cut_short limits id store store' store'' before middle after last front piece n k is_open a same version out closes =
     let start = state_with store before.version [] false 0 in
     let text = front ++ take n piece in
     record {
-      front = text;
+      answered = take n piece;
       behind = drop n piece;
-      whole = sym (append_assoc front (take n piece) (drop n piece) ∙ ap (λ l. front ++ l) (take-append-drop n piece));
+      whole = sym (take-append-drop n piece);
       reply = a.reply;
       rest = a.rest;
       replied = out ∙ same.same_out ∙ a.replied;

@@ -119,7 +119,7 @@ put_same true id e es seat found later =
     ap (λ s. (e.0, s) ∷ es) (sym same)
 put_same false id e es seat found later = ap (λ l. e ∷ l) (later found)
 
-with_same : (es : List (ℕ × Seat)) (id : ℕ) (seat : Seat) → lookup (λ other. id == other) es ≡ Some seat → with_seat es id seat ≡ es
+pub with_same : (es : List (ℕ × Seat)) (id : ℕ) (seat : Seat) → lookup (λ other. id == other) es ≡ Some seat → with_seat es id seat ≡ es
 with_same [] id seat found = refl
 with_same (e ∷ es) id seat found = put_same (id == e.0) id e es seat found (with_same es id seat)
 

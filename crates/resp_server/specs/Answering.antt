@@ -49,17 +49,17 @@ pub record IsAnswered (limits : Bounds) (id : ℕ) (store store' : Store) (befor
       (state_with store' after.version reply after.closing commands) rest
   pub taking : after.closing ≡ false → HasTaken after.decoder rest
 
--- memory was wanting behind a front of the text, which was answered: nothing of what stands behind it was done, and the
--- session is closing
-pub record IsCutShort (limits : Bounds) (id : ℕ) (store store' : Store) (before after : Session) (text : List ℕ)
+-- memory was wanting behind the front and the first bytes of the piece, which were answered: nothing of what stands
+-- behind them was done, and the session is closing
+pub record IsCutShort (limits : Bounds) (id : ℕ) (store store' : Store) (before after : Session) (front piece : List ℕ)
     (commands : ℕ) : Type 0 where
-  pub front : List ℕ
+  pub answered : List ℕ
   pub behind : List ℕ
-  pub whole : text ≡ front ++ behind
+  pub whole : piece ≡ answered ++ behind
   pub reply : List ℕ
   pub rest : List ℕ
   pub replied : after.out.items ≡ before.out.items ++ reply
-  pub answers : Answers limits id (state_with store before.version [] false 0) front
+  pub answers : Answers limits id (state_with store before.version [] false 0) (front ++ answered)
       (state_with store' after.version reply false commands) rest
   pub closes : after.closing ≡ true
 

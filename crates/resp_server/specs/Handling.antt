@@ -30,17 +30,18 @@ pub record HasAnswered (old new : HubState) (id : ℕ) (s : Seat) (text : List �
   -- an open session has taken the rest
   pub taking : closing ≡ false → HasTaken decoder rest
 
--- a front of the text was answered, the session is closing, and nothing else of the hub is changed
-pub record HasCutShort (old new : HubState) (id : ℕ) (s : Seat) (text : List ℕ) (commands : ℕ) : Type 0 where
-  pub front : List ℕ
+-- the front and the first bytes of the piece were answered, the session is closing, and nothing else of the hub is
+-- changed
+pub record HasCutShort (old new : HubState) (id : ℕ) (s : Seat) (front piece : List ℕ) (commands : ℕ) : Type 0 where
+  pub answered : List ℕ
   pub behind : List ℕ
-  pub whole : text ≡ front ++ behind
+  pub whole : piece ≡ answered ++ behind
   pub reply : List ℕ
   pub store : Store
   pub version : Version
   pub decoder : Decoder
   pub rest : List ℕ
-  pub answers : Answers old.limits id (state_with old.store s.version [] false 0) front
+  pub answers : Answers old.limits id (state_with old.store s.version [] false 0) (front ++ answered)
       (state_with store version reply false commands) rest
   pub state : new ≡ stocked (seated old id
       (record { version = version; out = s.out ++ reply; closing = true; decoder = decoder })) store

@@ -1,10 +1,11 @@
 //! Sessions over one store.
 
-ghost use Rattle.std.specs.Prelude.{◌≡◌, ◌≢◌, ◌+◌, ◌≤◌, ◌++◌, ◌↔◌, [], length, drop, true, None, Some, Ok, Err, IfSome, IsOk, IsErr, IsErrOf, IfOk, IfErr, OnOk, OnErr};
+ghost use Rattle.std.specs.Prelude.{◌≡◌, ◌≢◌, ◌+◌, ◌≤◌, ◌++◌, ◌↔◌, [], length, drop, true, false, ℕ, List, None, Some, Ok, Err, IfSome, IsOk, IsErr, IsErrOf, IfOk, IfErr, OnOk, OnErr};
 ghost use Rattle.std.specs.Option.{option_map};
 ghost use Rattle.resp_value.specs.Canonical.{canonical_text};
 ghost use Rattle.resp_value.specs.declared.version.Version.TheVariants.{Three};
 ghost use Rattle.resp_encode.specs.Pushes.{push_of};
+ghost use Rattle.resp_decode.specs.Decoding.{HasTaken};
 ghost use Rattle.resp_session.specs.Stores.{value_at};
 ghost use Rattle.resp_server.specs.PushRefusals.{IsPushVerdict};
 ghost use Rattle.resp_server.specs.Handling.{WhereOpen, HasAnswered, HasCutShort, IfOutOfMemory};
@@ -121,11 +122,18 @@ impl<S: BuildHasher> Hub<S> {
         ensures closing { IfOk result (λ closing.
             option_map (λ (s : Seat). s.closing) (seat_at self.now id) ≡ Some closing) }
         ensures none { OnErr result (seat_at self.now id ≡ None) }
+        // An open session has taken a front of a value, which is answered by nothing yet.
+        ensures taking { IfSome (seat_at self.now id) (λ (s : Seat). s.closing ≡ false →
+            (front : List ℕ) × HasTaken s.decoder front) }
+        ensures waiting { WhereOpen self.now id (λ s front.
+            HasAnswered self.now self.now id s front 0) }
     {
-        match self.sessions.get(&id) {
-            Some(session) => Ok(session.closing),
-            None => Err(NoSession),
-        }
+        let Some(session) = self.sessions.get(&id) else {
+            return Err(NoSession);
+        };
+        // What was taken is viable, as the decoder says of it here.
+        let _taken = session.decoder.taken();
+        Ok(session.closing)
     }
 
     /// The version in which a session answers.
@@ -181,9 +189,10 @@ impl<S: BuildHasher> Hub<S> {
         // taken before of a value and the piece.
         ensures answered { WhereOpen self.old id (λ s front. IfOk result (λ handled.
             HasAnswered self.old self.new id s (front ++ piece.now) handled.commands)) }
-        // At want of memory they are those of the answers to a front of them.
+        // At want of memory they are those of the answers to the bytes taken before and the first of
+        // the piece.
         ensures cut_short { WhereOpen self.old id (λ s front. IfErr result (λ error.
-            IfOutOfMemory error (HasCutShort self.old self.new id s (front ++ piece.now)))) }
+            IfOutOfMemory error (HasCutShort self.old self.new id s front piece.now))) }
         ensures closing { IfSome (seat_at self.old id) (λ (s : Seat). s.closing ≡ true →
             (result ≡ Ok (record { commands = 0 })) × (self.new ≡ self.old)) }
         ensures no_session { seat_at self.old id ≡ None → result ≡ Err HubError.NoSession }

@@ -1,6 +1,7 @@
 pub mod CommandWords
 pub mod BulkMembers
 pub mod TextsInPieces
+pub mod AddedAnswers
 pub mod Arrivals
 pub mod Readings
 pub mod ClientFaults

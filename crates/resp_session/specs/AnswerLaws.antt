@@ -1,5 +1,5 @@
 -- What must be true of the definitions of commands and of a server's answers.
-use Rattle.std.specs.Prelude.{◌≡◌, ◌↔◌, ℕ, true, false, List, ◌∷◌, ◌++◌}
+use Rattle.std.specs.Prelude.{◌≡◌, ◌↔◌, ℕ, ◌+◌, true, false, List, ◌∷◌, ◌++◌}
 use Rattle.std.specs.List.{concat}
 use Rattle.resp_value.specs.Bounds.{Bounds, AreBounds}
 use Rattle.resp_value.specs.Data.{Datum}
@@ -25,6 +25,16 @@ AnswersGoOn = (limits : Bounds) (id : ℕ) (a b c : SessionState) (text more res
 abbrev pub AnswersEnd : Type 0
 AnswersEnd = (limits : Bounds) (id : ℕ) (a b : SessionState) (text more rest : List ℕ) →
     Answers limits id a text b rest → b.closing ≡ true → Answers limits id a (text ++ more) b (rest ++ more)
+
+-- a session behind other commands, of which so many were run, and to which this text was written
+abbrev pub behind_others : List ℕ → ℕ → SessionState → SessionState
+behind_others written count s = record s { text = written ++ s.text; count = count + s.count }
+
+-- what is answered doesn't hang on what was written and run before it
+abbrev pub AnswersAreAdded : Type 0
+AnswersAreAdded = (limits : Bounds) (id : ℕ) (a b : SessionState) (text rest written : List ℕ) (count : ℕ) →
+    Answers limits id a text b rest →
+    Answers limits id (behind_others written count a) text (behind_others written count b) rest
 
 -- a text has one answer
 abbrev pub ATextHasOneAnswer : Type 0

@@ -4,7 +4,7 @@
 ghost use Rattle.std.specs.Prelude.{◌≡◌, [], ◌∷◌, ◌++◌, codes, length, true};
 ghost use Rattle.resp_value.specs.Words.{command_of};
 ghost use Rattle.resp_session.specs.Answers.{after_values};
-ghost use Rattle.resp_session.specs.AnswerLaws.{ACommandIsItsWords, AnswersGoOn, AnswersEnd, ATextHasOneAnswer, AnswersAreOfTheCut, WhatComesIsWholeTexts};
+ghost use Rattle.resp_session.specs.AnswerLaws.{ACommandIsItsWords, AnswersGoOn, AnswersEnd, AnswersAreAdded, ATextHasOneAnswer, AnswersAreOfTheCut, WhatComesIsWholeTexts};
 ghost use Rattle.resp_session.specs.Examples.{new_session, answers_to, set_a, get_a, AnInlineCommandIsRefused, get_before_set, hello_in_two, hello_in_three, push_after_hello, clients_of, replies_to, pushes_to, RefusesEventFor, IsOfNobody};
 ghost use Rattle.resp_session.specs.Worlds.{Push, Drop};
 ghost use Rattle.resp_value.specs.declared.cause.Cause.TheVariants.{NotInVersion};
@@ -32,6 +32,11 @@ pub fn answers_end()
 {
     grammar::fronts_of_spellings_are_viable();
 }
+
+/// What is answered doesn't hang on what was written and run before it.
+pub fn answers_are_added()
+    ensures { AnswersAreAdded }
+{}
 
 /// A text has one answer, and where it has a cut, that is the answer to the cut's values and rest.
 pub fn a_text_has_one_answer()

@@ -1,16 +1,43 @@
 use Rattle.std.proofs.Common.{None, Some, ap}
 use Rattle.std.specs.Option.{option_map}
-use Rattle.resp_server.specs.Hubs.{Seat}
-use Rattle.resp_server.proofs.Seats.{seat_is}
+use Rattle.resp_server.specs.Hubs.{Seat, seat_at}
+use Rattle.resp_server.proofs.AnsweredHubs.{found_seat, hub_waits, if_none}
+use Rattle.resp_server.proofs.Seats.{seat_is, sound_at}
 use Rattle.resp_server.proofs.hub.Hub.is_closing.Goals as goal
 
-pub returns-in-Some-clause-closing : goal.returns-in-Some-clause-closing
-returns-in-Some-clause-closing g c =
+pub returns-in_default-clause-none : goal.returns-in_default-clause-none
+returns-in_default-clause-none g c =
+    let i = c.self.inside in
+    seat_is i.limits i.sessions.entries i.store i.last c.args.self.now c.self.view_is c.args.id None c.in_default.ensures.value
+
+pub returns-in_default-clause-taking : goal.returns-in_default-clause-taking
+returns-in_default-clause-taking g c =
+    let i = c.self.inside in
+    if_none (seat_at c.args.self.now c.args.id) _
+    (seat_is i.limits i.sessions.entries i.store i.last c.args.self.now c.self.view_is c.args.id None c.in_default.ensures.value)
+
+pub returns-in_default-clause-waiting : goal.returns-in_default-clause-waiting
+returns-in_default-clause-waiting g c =
+    let i = c.self.inside in
+    if_none (seat_at c.args.self.now c.args.id) _
+    (seat_is i.limits i.sessions.entries i.store i.last c.args.self.now c.self.view_is c.args.id None c.in_default.ensures.value)
+
+pub returns-clause-closing : goal.returns-clause-closing
+returns-clause-closing g c =
     let i = c.self.inside in
     ap (option_map (λ (s : Seat). s.closing)) (seat_is i.limits i.sessions.entries i.store i.last c.args.self.now c.self.view_is c.args.id
     (Some c.in-Some.session.now) c.in-Some.ensures.value)
 
-pub returns-in-None-clause-none : goal.returns-in-None-clause-none
-returns-in-None-clause-none g c =
+pub returns-clause-taking : goal.returns-clause-taking
+returns-clause-taking g c =
     let i = c.self.inside in
-    seat_is i.limits i.sessions.entries i.store i.last c.args.self.now c.self.view_is c.args.id None c.in-None.ensures.value
+    let session = c.in-Some.session.now in
+    found_seat i.limits i.sessions.entries i.store i.last c.args.self.now c.self.view_is c.args.id session c.in-Some.ensures.value _
+    (sound_at i.limits i.last i.sessions.entries c.args.id session c.in-Some.ensures.value c.self.invariant.sound).taking
+
+pub returns-clause-waiting : goal.returns-clause-waiting
+returns-clause-waiting g c =
+    let i = c.self.inside in
+    let session = c.in-Some.session.now in
+    hub_waits i.limits i.sessions.entries i.store i.last c.args.self.now c.self.view_is c.args.id session c.in-Some.ensures.value
+    (sound_at i.limits i.last i.sessions.entries c.args.id session c.in-Some.ensures.value c.self.invariant.sound).reading c.taken-taken.ensures.viable
