@@ -16,4 +16,5 @@ fault_text old name digits =
     let A = codes "-ERR Protocol error: " in
     let B = codes " at byte " in
     append_assoc ((old ++ A) ++ name) B (digits ++ crlf []) ∙ append_assoc (old ++ A) name (B ++ (digits ++ crlf [])) ∙
-    append_assoc old A (name ++ (B ++ (digits ++ crlf []))) ∙ ap (λ l. old ++ (A ++ l)) (sym (append_assoc (name ++ B) digits (crlf []) ∙ append_assoc name B (digits ++ crlf [])))
+    append_assoc old A (name ++ (B ++ (digits ++ crlf []))) ∙ ap (λ l. old ++ (A ++ l))
+    (sym (append_assoc (name ++ B) digits (crlf []) ∙ append_assoc name B (digits ++ crlf [])))

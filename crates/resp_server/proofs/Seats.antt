@@ -130,7 +130,8 @@ pub same_state : (limits : Bounds) (es : List (ℕ × Session)) (store : Store) 
 same_state limits es store last hub view ns id old new written found same =
     let with : List (ℕ × Seat) → HubState = λ seats. record { limits = limits; sessions = seats; store = store; last = last } in
     let there : lookup (λ other. id == other) (seats_of es) ≡ Some (seat_of old) = sym (seats-lookup es id) ∙ ap (option_map seat_of) (sym found) in
-    ap (λ xs. with (seats_of xs)) written ∙ ap with (seats-set es id new ∙ ap (with_seat (seats_of es) id) same ∙ with_same (seats_of es) id (seat_of old) there) ∙
+    ap (λ xs. with (seats_of xs)) written ∙ ap with (seats-set es id new ∙ ap (with_seat (seats_of es) id) same ∙ with_same (seats_of es) id
+    (seat_of old) there) ∙
     view
 
 -- a session that is taken away
@@ -148,7 +149,8 @@ pub sound_remove : (limits : Bounds) (last : ℕ) (es : List (ℕ × Session)) (
     AreSound limits last (remove_entry (λ other. id == other) es)
 sound_remove limits last [] id h = tt
 sound_remove limits last (e ∷ es) id h =
-    cond_both (id == e.0) es (e ∷ remove_entry (λ other. id == other) es) (AreSound limits last) (λ here. h.1) (λ other. (h.0, sound_remove limits last es id h.1))
+    cond_both (id == e.0) es (e ∷ remove_entry (λ other. id == other) es) (AreSound limits last) (λ here. h.1)
+    (λ other. (h.0, sound_remove limits last es id h.1))
 
 -- a session with a new id goes last
 pub insert_last : (limits : Bounds) (last : ℕ) (es : List (ℕ × Session)) (new : Session) → AreSound limits last es →

@@ -75,7 +75,8 @@ value_answers full empty limits bounds id s t x written spelled same = record {
 
 -- a byte that was refused
 pub fault_answers : (limits : Bounds) (id : ℕ) (s : SessionState) (front piece : List ℕ) (fault : Fault) → s.closing ≡ false →
-    (r : RefusesByte (server_rules limits) front piece fault) → Answers limits id s (front ++ piece) (after_error (name_of fault.cause) fault.at s) (front ++ piece)
+    (r : RefusesByte (server_rules limits) front piece fault) → Answers limits id s (front ++ piece)
+    (after_error (name_of fault.cause) fault.at s) (front ++ piece)
 fault_answers limits id s front piece fault is_open r = record {
   values = [];
   front = [];

@@ -1,12 +1,16 @@
 -- The text of HELLO's reply around the session's number.
-use Rattle.std.specs.Prelude.{ℕ, List, codes}
+use Rattle.std.specs.Prelude.{ℕ, List, ◌++◌, codes}
 use Rattle.resp_value.specs.declared.version.Version.{Version}
 use Rattle.resp_value.specs.declared.version.Version.TheVariants.{Two, Three}
 
+-- the server's name and version
+abbrev pub server_fields : List ℕ
+server_fields = codes "$6\r\nserver\r\n$9\r\nresp_loop\r\n$7\r\nversion\r\n$5\r\n1.0.0\r\n"
+
 -- what stands before the number
 abbrev pub greeting_begin : Version → List ℕ
-greeting_begin Two = codes "*14\r\n$6\r\nserver\r\n$9\r\nresp_loop\r\n$7\r\nversion\r\n$5\r\n1.0.0\r\n$5\r\nproto\r\n:2\r\n$2\r\nid\r\n"
-greeting_begin Three = codes "%7\r\n$6\r\nserver\r\n$9\r\nresp_loop\r\n$7\r\nversion\r\n$5\r\n1.0.0\r\n$5\r\nproto\r\n:3\r\n$2\r\nid\r\n"
+greeting_begin Two = codes "*14\r\n" ++ server_fields ++ codes "$5\r\nproto\r\n:2\r\n$2\r\nid\r\n"
+greeting_begin Three = codes "%7\r\n" ++ server_fields ++ codes "$5\r\nproto\r\n:3\r\n$2\r\nid\r\n"
 
 -- what stands behind it
 abbrev pub greeting_end : List ℕ

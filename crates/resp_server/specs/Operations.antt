@@ -47,7 +47,8 @@ abbrev pub operation_in : Operation → spec.Operation
 operation_in operation.Ping = spec.Ping
 operation_in (operation.Echo word) = spec.Echo (content_bytes word)
 operation_in (operation.Get key) = spec.Get (content_bytes key)
-operation_in (operation.Set condition key value) = spec.Set (condition_in condition) (content_bytes key) (content_bytes value)
+operation_in (operation.Set condition key value) =
+    spec.Set (condition_in condition) (content_bytes key) (content_bytes value)
 operation_in (operation.Del words) = spec.Del (drop 1 words)
 operation_in (operation.Hello asked) = spec.Hello asked
 operation_in (operation.Refused refusal) = spec.Refused (refusal_text refusal)

@@ -30,10 +30,10 @@ pub(crate) fn answer<S: BuildHasher>(
     requires small { id < 2 ^ 63 }
     requires reading { rules_of session.old.decoder.scanner ≡ server_rules limits.now }
     requires taking { (front : List ℕ) × HasTaken session.old.decoder front }
-    ensures answered { WhereTaken session.old.decoder (λ front. IfOk result
-        (IsAnswered limits.now id store.old store.new session.old session.new (front ++ piece.now))) }
-    ensures cut_short { WhereTaken session.old.decoder (λ front. IfErr result
-        (IsCutShort limits.now id store.old store.new session.old session.new front piece.now)) }
+    ensures answered { WhereTaken session.old.decoder (λ front. IfOk result (IsAnswered limits.now
+        id store.old store.new session.old session.new (front ++ piece.now))) }
+    ensures cut_short { WhereTaken session.old.decoder (λ front. IfErr result (IsCutShort limits.now
+        id store.old store.new session.old session.new front piece.now)) }
     ensures stored { FitsStore limits.now store.new }
     ensures reading { rules_of session.new.decoder.scanner ≡ server_rules limits.now }
 {

@@ -13,6 +13,7 @@ ghost use Rattle.resp_server.specs.declared.error.HubError.{HubError};
 ghost use Rattle.resp_server.specs.declared.error.OpenError.{OpenError};
 
 use crate::answer::answer;
+use crate::entries::Entries;
 use crate::error::{HubError, NoSession, OpenError, PushError};
 use crate::push::queue_push;
 use crate::session::Session;
@@ -88,6 +89,14 @@ impl<S: BuildHasher> Hub<S> {
         }
     }
 
+    /// The keys of the store and their values, in the order in which the keys came: a new key
+    /// stands last, and one that is set again keeps its place.
+    pub fn entries(&self) -> Entries<'_>
+        ensures { result ≡ self.now.store }
+    {
+        self.store.entries()
+    }
+
     /// What waits to be sent to a session's client.
     pub fn out(&self, id: u64) -> Result<&[u8], NoSession>
         ensures waiting { IfOk result (λ text. option_map (λ (s : Seat). s.out) (seat_at self.now id)
@@ -148,8 +157,8 @@ impl<S: BuildHasher> Hub<S> {
         }
     }
 
-    /// Opens a session, which answers in version 2 first. The ids are 1, 2, 3 and so on, and none is
-    /// given twice.
+    /// Opens a session, which answers in version 2 first. The ids are 1, 2, 3 and so on, and none
+    /// is given twice.
     pub fn open(&mut self) -> Result<u64, OpenError>
         ensures opened { IfOk result (IsOpened self.old self.new) }
         ensures too_many { IsErrOf result OpenError.TooManySessions ↔ IsFull self.old }
@@ -181,9 +190,9 @@ impl<S: BuildHasher> Hub<S> {
         Ok(())
     }
 
-    /// Takes a piece of what a session's client sends: runs all commands that came whole with it, in
-    /// order, and queues their replies. Pieces may be cut anywhere. A protocol error queues a line
-    /// that names it and closes the session, which then takes pieces and runs nothing.
+    /// Takes a piece of what a session's client sends: runs all commands that came whole with it,
+    /// in order, and queues their replies. Pieces may be cut anywhere. A protocol error queues a
+    /// line that names it and closes the session, which then takes pieces and runs nothing.
     pub fn bytes(&mut self, id: u64, piece: &[u8]) -> Result<Handled, HubError>
         // What is queued, and the store, version and closing, are those of the answers to the bytes
         // taken before of a value and the piece.

@@ -3,6 +3,7 @@
 
 mod answer;
 mod answer_value;
+mod entries;
 mod error;
 mod fault_line;
 mod hub;
@@ -16,5 +17,6 @@ mod store;
 mod stored;
 mod turn;
 
+pub use entries::Entries;
 pub use error::{HubError, NoSession, OpenError, PushError};
 pub use hub::{Handled, Hub};

@@ -65,9 +65,11 @@ fn greeting_begin(version: Version) -> &'static [u8]
 {
     match version {
         Version::Two =>
-            b"*14\r\n$6\r\nserver\r\n$9\r\nresp_loop\r\n$7\r\nversion\r\n$5\r\n1.0.0\r\n$5\r\nproto\r\n:2\r\n$2\r\nid\r\n",
+            b"*14\r\n$6\r\nserver\r\n$9\r\nresp_loop\r\n$7\r\nversion\r\n$5\r\n1.0.0\r\n\
+            $5\r\nproto\r\n:2\r\n$2\r\nid\r\n",
         Version::Three =>
-            b"%7\r\n$6\r\nserver\r\n$9\r\nresp_loop\r\n$7\r\nversion\r\n$5\r\n1.0.0\r\n$5\r\nproto\r\n:3\r\n$2\r\nid\r\n",
+            b"%7\r\n$6\r\nserver\r\n$9\r\nresp_loop\r\n$7\r\nversion\r\n$5\r\n1.0.0\r\n\
+            $5\r\nproto\r\n:3\r\n$2\r\nid\r\n",
     }
 }
 

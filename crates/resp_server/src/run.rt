@@ -66,7 +66,8 @@ fn get<S: BuildHasher>(
     session: &mut Session,
     limits: &Limits,
 ) -> Result<(), AllocError>
-    requires { FitsEffect limits.now (effect_of store.now session.old.version 0 (spec.Get key.now)) }
+    requires { FitsEffect limits.now
+        (effect_of store.now session.old.version 0 (spec.Get key.now)) }
     ensures done { OnOk result (HasEffect store.now session.old session.new
         (effect_of store.now session.old.version 0 (spec.Get key.now))) }
     ensures unchanged { OnErr result (IsAsBefore store.now store.now session.old session.new) }

@@ -5,6 +5,7 @@ ghost use Rattle.std.specs.Option.{option_map};
 ghost use Rattle.resp_value.specs.Values.{content_bytes};
 ghost use Rattle.resp_session.specs.Stores.{value_at, store_with, store_without};
 
+use crate::entries::Entries;
 use crate::stored::Stored;
 use indexmap::IndexMap;
 use resp_session::words::Words;
@@ -43,6 +44,13 @@ impl<S: BuildHasher> Store<S> {
         ensures { option_map (λ stored. stored.now) result ≡ value_at self.now key.now }
     {
         self.entries.get(key)
+    }
+
+    /// The keys and their values, in order.
+    pub(crate) fn entries(&self) -> Entries<'_>
+        ensures { result ≡ self.now }
+    {
+        Entries::new(self.entries.iter())
     }
 
     /// Sets the value of a key. Want of memory changes nothing.

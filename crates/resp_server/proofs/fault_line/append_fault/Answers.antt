@@ -24,6 +24,7 @@ returns-clause-appended c =
     let B = codes " at byte " in
     let number = c.as_slice.ensures ∙ c.reply_number.ensures.appended ∙
     ap (λ l. l ++ canonical_text Two (natural c.args.at)) (c.in_ok-reserve.ensures.items ∙ c.new-number.ensures.items) in
-    c.extend_reserved-4.ensures.items ∙ ap (λ l. l ++ take (length c.as_slice.result.now - 1) (drop 1 c.as_slice.result.now)) (c.extend_reserved-3.ensures.items ∙ ap (λ l. l ++ B) (c.extend_reserved-2.ensures.items ∙
+    c.extend_reserved-4.ensures.items ∙ ap (λ l. l ++ take (length c.as_slice.result.now - 1) (drop 1 c.as_slice.result.now))
+    (c.extend_reserved-3.ensures.items ∙ ap (λ l. l ++ B) (c.extend_reserved-2.ensures.items ∙
     ap (λ l. l ++ name) (c.extend_reserved.ensures.items ∙ ap (λ l. l ++ A) c.in_ok-reserve-2.ensures.items))) ∙
     ap (λ d. (((old ++ A) ++ name) ++ B) ++ d) (digits_line c.args.at c.as_slice.result.now number) ∙ fault_text old name (decimal c.args.at)

@@ -8,7 +8,8 @@ use Rattle.resp_server.proofs.hub.Hub.bytes.Goals as goal
 pub returns-in_default-clause-closing : goal.returns-in_default-clause-closing
 returns-in_default-clause-closing g c =
     let i = c.self.inside in
-    if_none (seat_at c.args.self.now c.args.id) _ (seat_is i.limits i.sessions.entries i.store i.last c.args.self.now c.self.view_is c.args.id None c.in_default.ensures.value)
+    if_none (seat_at c.args.self.now c.args.id) _ (seat_is i.limits i.sessions.entries i.store i.last c.args.self.now c.self.view_is
+    c.args.id None c.in_default.ensures.value)
 
 pub returns-in_default-clause-none : goal.returns-in_default-clause-none
 returns-in_default-clause-none g c refused =
@@ -18,22 +19,30 @@ returns-in_default-clause-none g c refused =
 pub invariant_of-self-then-session : goal.invariant_of-self-then-session
 invariant_of-self-then-session g c =
     let i = c.self.inside in
-    sound_with i.limits i.sessions.entries i.store i.last c.self.invariant _ c.args.id c.in-Some.session.now _ (c.get_mut.follows.holds _).0 c.in-Some.ensures.value refl refl
+    sound_with i.limits i.sessions.entries i.store i.last c.self.invariant _ c.args.id c.in-Some.session.now _ (c.get_mut.follows.holds _).0
+    c.in-Some.ensures.value refl refl
 
 pub returns-then-session-clause-answered : goal.returns-then-session-clause-answered
 returns-then-session-clause-answered g c =
     let i = c.self.inside in
-    not_open i.limits i.sessions.entries i.store i.last c.args.self.now c.self.view_is c.args.id c.in-Some.session.now c.in-Some.ensures.value c.if-session.true _
+    not_open i.limits i.sessions.entries i.store i.last c.args.self.now c.self.view_is c.args.id c.in-Some.session.now
+    c.in-Some.ensures.value c.if-session.true _
 
 pub returns-then-session-clause-closing : goal.returns-then-session-clause-closing
 returns-then-session-clause-closing g c =
     let i = c.self.inside in
-    if_closing i.limits i.sessions.entries i.store i.last c.args.self.now c.self.view_is c.args.id c.in-Some.session.now c.in-Some.ensures.value _ (refl, same_state i.limits i.sessions.entries i.store i.last c.args.self.now c.self.view_is _ c.args.id c.in-Some.session.now _ (c.get_mut.follows.holds _).0 c.in-Some.ensures.value refl)
+    if_closing i.limits i.sessions.entries i.store i.last c.args.self.now c.self.view_is c.args.id c.in-Some.session.now
+    c.in-Some.ensures.value _ (
+      refl,
+      same_state i.limits i.sessions.entries i.store i.last c.args.self.now c.self.view_is _ c.args.id
+          c.in-Some.session.now _ (c.get_mut.follows.holds _).0 c.in-Some.ensures.value refl,
+    )
 
 pub returns-then-session-clause-no_session : goal.returns-then-session-clause-no_session
 returns-then-session-clause-no_session g c none =
     let i = c.self.inside in
-    absurd (seat_is_there i.limits i.sessions.entries i.store i.last c.args.self.now c.self.view_is c.args.id c.in-Some.session.now c.in-Some.ensures.value none)
+    absurd (seat_is_there i.limits i.sessions.entries i.store i.last c.args.self.now c.self.view_is c.args.id c.in-Some.session.now
+    c.in-Some.ensures.value none)
 
 pub answer-answered-requires-clause-small : goal.answer-answered-requires-clause-small
 answer-answered-requires-clause-small g c =
@@ -56,47 +65,57 @@ answer-answered-requires-clause-taking g c =
 pub invariant_of-self-in-Err : goal.invariant_of-self-in-Err
 invariant_of-self-in-Err g c =
     let i = c.self.inside in
-    let (front, taken) = (sound_at i.limits i.last i.sessions.entries c.args.id c.in-Some.session.now c.in-Some.ensures.value c.self.invariant.sound).taking c.if-session.false in
-    answered_sound i.limits i.sessions.entries i.store i.last c.self.invariant _ c.answer-answered.new.store c.args.id c.in-Some.session.now c.answer-answered.new.session (c.get_mut.follows.holds _).0 c.in-Some.ensures.value
+    let (front, taken) = (sound_at i.limits i.last i.sessions.entries c.args.id c.in-Some.session.now c.in-Some.ensures.value
+    c.self.invariant.sound).taking c.if-session.false in
+    answered_sound i.limits i.sessions.entries i.store i.last c.self.invariant _ c.answer-answered.new.store c.args.id c.in-Some.session.now
+    c.answer-answered.new.session (c.get_mut.follows.holds _).0 c.in-Some.ensures.value
     c.answer-answered.ensures.stored c.answer-answered.ensures.reading
     (λ is_open. absurd (false≢true (sym is_open ∙ (c.in-Err.ensures.cut_short front taken).closes)))
 
 pub returns-in-Err-clause-cut_short : goal.returns-in-Err-clause-cut_short
 returns-in-Err-clause-cut_short g c =
     let i = c.self.inside in
-    hub_cut_short i.limits i.sessions.entries i.store i.last c.args.self.now c.self.view_is _ c.answer-answered.new.store c.args.id c.in-Some.session.now c.answer-answered.new.session (c.get_mut.follows.holds _).0 c.in-Some.ensures.value c.args.piece.now c.in-Err.commands
+    hub_cut_short i.limits i.sessions.entries i.store i.last c.args.self.now c.self.view_is _ c.answer-answered.new.store c.args.id
+    c.in-Some.session.now c.answer-answered.new.session (c.get_mut.follows.holds _).0 c.in-Some.ensures.value c.args.piece.now c.in-Err.commands
     c.in-Err.ensures.cut_short
 
 pub returns-in-Err-clause-closing : goal.returns-in-Err-clause-closing
 returns-in-Err-clause-closing g c =
     let i = c.self.inside in
-    not_closing i.limits i.sessions.entries i.store i.last c.args.self.now c.self.view_is c.args.id c.in-Some.session.now c.in-Some.ensures.value c.if-session.false _
+    not_closing i.limits i.sessions.entries i.store i.last c.args.self.now c.self.view_is c.args.id c.in-Some.session.now
+    c.in-Some.ensures.value c.if-session.false _
 
 pub returns-in-Err-clause-no_session : goal.returns-in-Err-clause-no_session
 returns-in-Err-clause-no_session g c none =
     let i = c.self.inside in
-    absurd (seat_is_there i.limits i.sessions.entries i.store i.last c.args.self.now c.self.view_is c.args.id c.in-Some.session.now c.in-Some.ensures.value none)
+    absurd (seat_is_there i.limits i.sessions.entries i.store i.last c.args.self.now c.self.view_is c.args.id c.in-Some.session.now
+    c.in-Some.ensures.value none)
 
 pub invariant_of-self-2 : goal.invariant_of-self-2
 invariant_of-self-2 g c =
     let i = c.self.inside in
-    let (front, taken) = (sound_at i.limits i.last i.sessions.entries c.args.id c.in-Some.session.now c.in-Some.ensures.value c.self.invariant.sound).taking c.if-session.false in
+    let (front, taken) = (sound_at i.limits i.last i.sessions.entries c.args.id c.in-Some.session.now c.in-Some.ensures.value
+    c.self.invariant.sound).taking c.if-session.false in
     let answered = c.in-Ok.ensures.answered front taken in
-    answered_sound i.limits i.sessions.entries i.store i.last c.self.invariant _ c.answer-answered.new.store c.args.id c.in-Some.session.now c.answer-answered.new.session (c.get_mut.follows.holds _).0 c.in-Some.ensures.value
+    answered_sound i.limits i.sessions.entries i.store i.last c.self.invariant _ c.answer-answered.new.store c.args.id c.in-Some.session.now
+    c.answer-answered.new.session (c.get_mut.follows.holds _).0 c.in-Some.ensures.value
     c.answer-answered.ensures.stored c.answer-answered.ensures.reading (λ is_open. (answered.rest, answered.taking is_open))
 
 pub returns-clause-answered : goal.returns-clause-answered
 returns-clause-answered g c =
     let i = c.self.inside in
-    hub_answered i.limits i.sessions.entries i.store i.last c.args.self.now c.self.view_is _ c.answer-answered.new.store c.args.id c.in-Some.session.now c.answer-answered.new.session (c.get_mut.follows.holds _).0 c.in-Some.ensures.value c.args.piece.now c.in-Ok.commands
+    hub_answered i.limits i.sessions.entries i.store i.last c.args.self.now c.self.view_is _ c.answer-answered.new.store c.args.id
+    c.in-Some.session.now c.answer-answered.new.session (c.get_mut.follows.holds _).0 c.in-Some.ensures.value c.args.piece.now c.in-Ok.commands
     c.in-Ok.ensures.answered
 
 pub returns-clause-closing : goal.returns-clause-closing
 returns-clause-closing g c =
     let i = c.self.inside in
-    not_closing i.limits i.sessions.entries i.store i.last c.args.self.now c.self.view_is c.args.id c.in-Some.session.now c.in-Some.ensures.value c.if-session.false _
+    not_closing i.limits i.sessions.entries i.store i.last c.args.self.now c.self.view_is c.args.id c.in-Some.session.now
+    c.in-Some.ensures.value c.if-session.false _
 
 pub returns-clause-no_session : goal.returns-clause-no_session
 returns-clause-no_session g c none =
     let i = c.self.inside in
-    absurd (seat_is_there i.limits i.sessions.entries i.store i.last c.args.self.now c.self.view_is c.args.id c.in-Some.session.now c.in-Some.ensures.value none)
+    absurd (seat_is_there i.limits i.sessions.entries i.store i.last c.args.self.now c.self.view_is c.args.id c.in-Some.session.now
+    c.in-Some.ensures.value none)

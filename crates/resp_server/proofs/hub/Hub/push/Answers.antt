@@ -17,13 +17,15 @@ returns-in_default-clause-verdict g c =
 pub invariant_of-self-in-Err : goal.invariant_of-self-in-Err
 invariant_of-self-in-Err g c =
     let i = c.self.inside in
-    sound_with i.limits i.sessions.entries i.store i.last c.self.invariant _ c.args.id c.in-Some.session.now _ (c.get_mut.follows.holds _).0 c.in-Some.ensures.value
+    sound_with i.limits i.sessions.entries i.store i.last c.self.invariant _ c.args.id c.in-Some.session.now _ (c.get_mut.follows.holds _).0
+    c.in-Some.ensures.value
     c.queue_push.ensures.rest.same_decoder c.queue_push.ensures.rest.same_closing
 
 pub returns-in-Err-clause-unchanged : goal.returns-in-Err-clause-unchanged
 returns-in-Err-clause-unchanged g c =
     let i = c.self.inside in
-    same_state i.limits i.sessions.entries i.store i.last c.args.self.now c.self.view_is _ c.args.id c.in-Some.session.now _ (c.get_mut.follows.holds _).0 c.in-Some.ensures.value
+    same_state i.limits i.sessions.entries i.store i.last c.args.self.now c.self.view_is _ c.args.id c.in-Some.session.now _
+    (c.get_mut.follows.holds _).0 c.in-Some.ensures.value
     (same_seat c.queue_push.new.session c.in-Some.session.now c.in-Some.session.now.out.items c.queue_push.ensures.same_version c.in-Err.ensures.unchanged
     c.queue_push.ensures.rest.same_closing c.queue_push.ensures.rest.same_decoder)
 
@@ -33,21 +35,25 @@ returns-in-Err-clause-verdict g c =
     subst (λ limits. IsPushVerdict limits (seat_at c.args.self.now c.args.id) (push_of c.args.items.now) (Err c.in-Err.error))
     (ap (λ (hub : HubState). hub.limits) c.self.view_is)
     (subst (λ seat. IsPushVerdict i.limits seat (push_of c.args.items.now) (Err c.in-Err.error))
-    (sym (seat_is i.limits i.sessions.entries i.store i.last c.args.self.now c.self.view_is c.args.id (Some c.in-Some.session.now) c.in-Some.ensures.value)) c.in-Err.ensures.verdict)
+    (sym (seat_is i.limits i.sessions.entries i.store i.last c.args.self.now c.self.view_is c.args.id (Some c.in-Some.session.now)
+    c.in-Some.ensures.value)) c.in-Err.ensures.verdict)
 
 pub invariant_of-self-2 : goal.invariant_of-self-2
 invariant_of-self-2 g c =
     let i = c.self.inside in
-    sound_with i.limits i.sessions.entries i.store i.last c.self.invariant _ c.args.id c.in-Some.session.now _ (c.get_mut.follows.holds _).0 c.in-Some.ensures.value
+    sound_with i.limits i.sessions.entries i.store i.last c.self.invariant _ c.args.id c.in-Some.session.now _ (c.get_mut.follows.holds _).0
+    c.in-Some.ensures.value
     c.queue_push.ensures.rest.same_decoder c.queue_push.ensures.rest.same_closing
 
 pub returns-clause-queued : goal.returns-clause-queued
 returns-clause-queued g c =
     let i = c.self.inside in
     let push = canonical_text Three (push_of c.args.items.now) in
-    seated_is i.limits i.sessions.entries i.store i.last c.args.self.now c.self.view_is _ c.args.id c.in-Some.session.now _ (c.get_mut.follows.holds _).0 c.in-Some.ensures.value
+    seated_is i.limits i.sessions.entries i.store i.last c.args.self.now c.self.view_is _ c.args.id c.in-Some.session.now _
+    (c.get_mut.follows.holds _).0 c.in-Some.ensures.value
     (λ (s : Seat). record s { out = s.out ++ push })
-    (same_seat c.queue_push.new.session c.in-Some.session.now (c.in-Some.session.now.out.items ++ push) c.queue_push.ensures.same_version c.in_default-queue_push.ensures.queued
+    (same_seat c.queue_push.new.session c.in-Some.session.now (c.in-Some.session.now.out.items ++ push) c.queue_push.ensures.same_version
+    c.in_default-queue_push.ensures.queued
     c.queue_push.ensures.rest.same_closing c.queue_push.ensures.rest.same_decoder)
 
 pub returns-clause-verdict : goal.returns-clause-verdict
@@ -56,4 +62,5 @@ returns-clause-verdict g c =
     subst (λ limits. IsPushVerdict limits (seat_at c.args.self.now c.args.id) (push_of c.args.items.now) (Ok tt))
     (ap (λ (hub : HubState). hub.limits) c.self.view_is)
     (subst (λ seat. IsPushVerdict i.limits seat (push_of c.args.items.now) (Ok tt))
-    (sym (seat_is i.limits i.sessions.entries i.store i.last c.args.self.now c.self.view_is c.args.id (Some c.in-Some.session.now) c.in-Some.ensures.value)) c.in_default-queue_push.ensures.verdict)
+    (sym (seat_is i.limits i.sessions.entries i.store i.last c.args.self.now c.self.view_is c.args.id (Some c.in-Some.session.now)
+    c.in-Some.ensures.value)) c.in_default-queue_push.ensures.verdict)
