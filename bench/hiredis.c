@@ -3,13 +3,15 @@
  *
  * It prints the lines of bench_scan, of the same texts in the same pieces: with no other argument of short texts, and
  * with `times` of longer ones, 32 MiB in all for each, with microseconds, or with `once` of these read a single time.
- * With `peak` it reads one array of a million bulk strings. Where the counts differ, the two didn't read the same. */
+ * With `peak` it reads one array of a million bulk strings. Where the counts differ, the two didn't read the same. With
+ * `stdin` and a number it reads standard input in pieces of so many bytes, and prints the number of replies. */
 
 #include <hiredis/hiredis.h>
 #include <stdio.h>
 #include <stdlib.h>
 #include <string.h>
 #include <time.h>
+#include <unistd.h>
 
 #if HIREDIS_MAJOR >= 1
 typedef size_t member_count;
@@ -201,6 +203,18 @@ static void read_million(void)
 	printf("%llu replies, %llu values\n", tally.replies, tally.values);
 }
 
+/* Reads standard input in pieces of so many bytes. */
+static void read_input(size_t size)
+{
+	static char piece[UNIT_ROOM];
+	redisReader *reader = new_reader();
+	ssize_t count;
+	while ((count = read(0, piece, size < UNIT_ROOM ? size : UNIT_ROOM)) > 0)
+		read_piece(reader, piece, (size_t)count);
+	redisReaderFree(reader);
+	printf("%llu replies\n", tally.replies);
+}
+
 int main(int argc, char **argv)
 {
 	int rounds = 0;
@@ -214,6 +228,10 @@ int main(int argc, char **argv)
 	}
 	if (argc > 1 && strcmp(argv[1], "peak") == 0) {
 		read_million();
+		return 0;
+	}
+	if (argc > 2 && strcmp(argv[1], "stdin") == 0) {
+		read_input(strtoul(argv[2], NULL, 10));
 		return 0;
 	}
 	run("simple OK", "+OK\r\n", 5, rounds);

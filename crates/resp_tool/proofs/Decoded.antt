@@ -183,7 +183,8 @@ decoder_stops r H front piece so_far held fault nothing (inr w) =
     (no_part r (front ++ piece) so_far held nothing)
 
 -- the end of the input inside a value
-pub decoder_ends : (r : Rules) (front so_far : List ℕ) (held : Option (List ℕ)) (fault : Fault) → so_far ≡ [] → HasNoValue front → IsViable r WithinTotal front →
+pub decoder_ends : (r : Rules) (front so_far : List ℕ) (held : Option (List ℕ)) (fault : Fault) → so_far ≡ [] → HasNoValue front →
+    IsViable r WithinTotal front →
     fault.cause ≡ cause.Truncated → fault.at ≡ length front → (front ≡ [] → ⊥) →
     Ends r (canonical_text r.version) LeavesNothing LeavesNothing front so_far held held (Err (stop_at fault))
 decoder_ends r front so_far held fault nothing none viable names place begun =

@@ -33,7 +33,8 @@ pub of_line_is : (ls : List line.OpenLine) (l : line.OpenLine) (b : Bool) → in
 of_line_is [] l b is all = absurd (cc)
 of_line_is (x ∷ ls) l b is all =
     let same : x ≡ l = cc in
-    let test : has_all_pairs (kind_of x.kind) x.count x.members ≡ b = ap (λ z. let y : line.OpenLine = z in has_all_pairs (kind_of y.kind) y.count y.members) same ∙ all in
+    let test : has_all_pairs (kind_of x.kind) x.count x.members ≡ b =
+    ap (λ z. let y : line.OpenLine = z in has_all_pairs (kind_of y.kind) y.count y.members) same ∙ all in
     let level : length (map line_of ls) ≡ suc (length (map line_of ls)) - 1 = omega arith in
     ap (λ z. cond z (indentation (length (map line_of ls)) ++ codes "of\n") []) test ∙ ap (λ n. cond b (indentation n ++ codes "of\n") []) level
 
@@ -44,7 +45,8 @@ last_line_is [] l is = absurd (cc)
 last_line_is (x ∷ ls) l is =
     let same : x ≡ l = cc in
     let level : length (map line_of ls) ≡ suc (length (map line_of ls)) - 1 = omega arith in
-    ap (λ z. let y : line.OpenLine = z in indentation (length (map line_of ls)) ++ (codes "end " ++ decimal (items_of (kind_of y.kind) y.members) ++ codes "\n")) same ∙
+    ap (λ z. let y : line.OpenLine = z in indentation (length (map line_of ls)) ++
+    (codes "end " ++ decimal (items_of (kind_of y.kind) y.members) ++ codes "\n")) same ∙
     ap (λ n. indentation n ++ (codes "end " ++ decimal (items_of (kind_of l.kind) l.members) ++ codes "\n")) level
 
 -- content on a page

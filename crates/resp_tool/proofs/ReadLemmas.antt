@@ -31,7 +31,8 @@ reads_none before mid after bytes into n none so_far read =
     subst (AreRead before after) (ap (λ k. bytes ++ take k into) none ∙ append-nil bytes) (reads_on before mid after bytes into n so_far read)
 
 -- a read that fails takes nothing
-pub reads_fail : (before mid after : Option (List ℕ)) (bytes into : List ℕ) (fault : DeviceFault) → AreRead before mid bytes → Reads mid after into (Err fault) →
+pub reads_fail : (before mid after : Option (List ℕ)) (bytes into : List ℕ) (fault : DeviceFault) → AreRead before mid bytes →
+    Reads mid after into (Err fault) →
     AreRead before after bytes
 reads_fail None mid after bytes into fault so_far read = tt
 reads_fail (Some left) None after bytes into fault (rest, is, e) read = absurd (cc)

@@ -333,7 +333,8 @@ pub ended_stop : (r : Rules) (text : Datum → List ℕ) (W : Datum → Type 0) 
     (start mid after : Option (List ℕ)) (n : ℕ) (why : Stop) → EndsOf r text L B H mid after (Err why) → HasRendered r text W H bytes start mid n →
     RendersStopped r text W L B bytes start after (error_of (n + 1) why)
 ended_stop r text W L B H bytes start mid after n (stop.Fault fault) ends s =
-    let refused = subst (λ z. Refuses r (IsEndFault r) L z s.so_far mid after fault.cause fault.at) (sym (append-nil s.begun)) (ends s.begun s.so_far s.takes) in
+    let refused = subst (λ z. Refuses r (IsEndFault r) L z s.so_far mid after fault.cause fault.at) (sym (append-nil s.begun))
+    (ends s.begun s.so_far s.takes) in
     subst (λ z. RendersFront r text W L z start after (n + 1) fault.cause fault.at) (append-nil bytes)
     (renders_refused r text W (IsEndFault r) L H bytes [] start mid after n fault.cause fault.at s (λ rest f. inr f) refused)
 ended_stop r text W L B H bytes start mid after n stop.OverLimits ends s = absurd (ends s.begun s.so_far s.takes)

@@ -98,7 +98,8 @@ byte_fault r front piece fault given law w =
           ap length is,
           length-append before (byte ∷ after),
         ) in
-        let split : take n whole ≡ before ++ take m behind = ap (λ k. take k whole) at ∙ ap (take (length before + m)) parts ∙ take-append-add before behind m in
+        let split : take n whole ≡ before ++ take m behind = ap (λ k. take k whole) at ∙ ap (take (length before + m)) parts ∙
+        take-append-add before behind m in
         law r WithinTotal before (take m behind) (subst (IsViable r WithinTotal) split w.viable)
 
 -- no front of a text without a value is a spelling

@@ -92,12 +92,17 @@ bounded_behind n (e.Text k) p h = record { members = more_members n p.open_lines
 bounded_behind n (e.Byte c) p h = record { members = more_members n p.open_lines h.members; size = byte_added n p.text h.size }
 bounded_behind n e.TextEnd p h = record { members = member_added n p.open_lines h.members; size = omega arith }
 bounded_behind n (e.Open k m) p h = record { members = (omega arith, more_members n p.open_lines h.members); size = omega (arith, h.size) }
-bounded_behind n e.Close p h = record { members = member_added n (without_last p.open_lines) (last_closed n p.open_lines h.members); size = omega (arith, h.size) }
+bounded_behind n e.Close p h = record {
+  members = member_added n (without_last p.open_lines) (last_closed n p.open_lines h.members);
+  size =
+      omega (arith, h.size);
+}
 bounded_behind n e.Done p h = record { members = more_members n p.open_lines h.members; size = omega (arith, h.size) }
 
 bounded_after : (es : Events) (n : ℕ) (p : Page) → IsBounded n p → IsBounded (n + length es) (page_after es p)
 bounded_after [] n p h = subst (λ m. IsBounded m p) (omega arith) h
-bounded_after (x ∷ es) n p h = subst (λ m. IsBounded m (page_after es (page_behind x p))) (omega arith) (bounded_after es (n + 1) (page_behind x p) (bounded_behind n x p h))
+bounded_after (x ∷ es) n p h = subst (λ m. IsBounded m (page_after es (page_behind x p))) (omega arith)
+    (bounded_after es (n + 1) (page_behind x p) (bounded_behind n x p h))
 
 room_of : (n k : ℕ) (ls : List OpenLine) → n + k < 2 ^ 64 → AllByRecursion (λ l. l.members ≤ n) ls → AllByRecursion (λ l. l.members + k < 2 ^ 64) ls
 room_of n k [] few h = tt
@@ -193,7 +198,8 @@ done_event event.Close P live h = absurd (cc)
 done_event event.Done P live h = h
 
 -- one event more was shown
-pub shows_on : (s s' : Place) (lines lines' : Lines) (front piece : List ℕ) (used n : ℕ) (so_far : List ℕ) (before now after : Option (List ℕ)) (steps depth : ℕ)
+pub shows_on : (s s' : Place) (lines lines' : Lines) (front piece : List ℕ) (used n : ℕ) (so_far : List ℕ) (before now after : Option (List ℕ))
+    (steps depth : ℕ)
     (x : Event) (w : IsShowing s lines front piece used so_far before now steps) → is_done x ≡ false → IsPartOf (drop used piece) n (Some x) →
     HasRead s' ((front ++ take used piece) ++ take n (drop used piece)) (w.given ++ events_of x) →
     open_count (w.given ++ events_of x) ≡ depth + close_count (w.given ++ events_of x) → depth ≤ 128 →
@@ -245,7 +251,8 @@ no_double : (r : Rules) (given : Events) (front : List ℕ) (w : IsValue r front
 no_double r given front w = w.keeps NoDouble (omega arith)
 
 -- a value that was shown whole
-pub shows_value : (r : Rules) (s s' : Place) (lines : Lines) (front piece so_far : List ℕ) (used n : ℕ) (before now : Option (List ℕ)) (steps : ℕ) → HasNoValue front →
+pub shows_value : (r : Rules) (s s' : Place) (lines : Lines) (front piece so_far : List ℕ) (used n : ℕ) (before now : Option (List ℕ)) (steps : ℕ) →
+    HasNoValue front →
     (w : IsShowing s lines front piece used so_far before now steps) → EndsValue r s' (front ++ take used piece) w.given n →
     (0 < used + n) × TakesValue r shown_text IsAny (HasShown s' lines) (front ++ take (used + n) piece) so_far before now
 shows_value r s s' lines front piece so_far used n before now steps none w ends =
@@ -295,7 +302,8 @@ shows_front r s s' lines front piece so_far used n before now steps within w up 
     )
 
 -- a refused byte, behind which an open line was ended
-pub shows_refused : (r : Rules) (s : Place) (lines : Lines) (front piece so_far : List ℕ) (used : ℕ) (before now after : Option (List ℕ)) (steps : ℕ) (fault : Fault) →
+pub shows_refused : (r : Rules) (s : Place) (lines : Lines) (front piece so_far : List ℕ) (used : ℕ) (before now after : Option (List ℕ)) (steps : ℕ)
+    (fault : Fault) →
     FrontsOfViableTextsAreViable → (w : IsShowing s lines front piece used so_far before now steps) →
     IsRefused r (front ++ take used piece) w.given (drop used piece) fault → Appends now after (end_of_line (page_of lines).text) →
     Refuses r (IsByteFault r) IsShownOf (front ++ piece) so_far before after fault.cause fault.at
@@ -337,7 +345,8 @@ part_shown r whole so_far size given before now after more text rest viable due 
     regroup a b c d = ap (λ z. a ++ z) (append_assoc b c d) ∙ sym (append_assoc a b (c ++ d))
 
 -- the write of an event's text failed
-pub shows_part : (r : Rules) (s s' : Place) (lines : Lines) (front piece so_far : List ℕ) (used n : ℕ) (before now after : Option (List ℕ)) (steps : ℕ) (x : Event) →
+pub shows_part : (r : Rules) (s s' : Place) (lines : Lines) (front piece so_far : List ℕ) (used n : ℕ) (before now after : Option (List ℕ)) (steps : ℕ)
+    (x : Event) →
     (w : IsShowing s lines front piece used so_far before now steps) →
     HasRead s' ((front ++ take used piece) ++ take n (drop used piece)) (w.given ++ events_of x) →
     ((bytes : List ℕ) (given : Events) → HasRead s' bytes given → IsViable r WithinTotal bytes) →
@@ -351,7 +360,8 @@ shows_part r s s' lines front piece so_far used n before now after steps x w rea
     let text = shown_on (page_of lines) es in
     let ending = end_of_line (page_after (w.given ++ es) blank).text in
     part_shown r (front ++ piece) so_far (length front + (used + n)) (w.given ++ es) before now after w.more text ending
-    (viable (take (length front + (used + n)) (front ++ piece)) (w.given ++ es) read) (due (take (length front + (used + n)) (front ++ piece)) (w.given ++ es) read)
+    (viable (take (length front + (used + n)) (front ++ piece)) (w.given ++ es) read)
+    (due (take (length front + (used + n)) (front ++ piece)) (w.given ++ es) read)
     w.appended part
     (ap (λ z. z ++ ending) (shown-append w.given es blank) ∙ ap (λ p. (shown w.given ++ shown_on p es) ++ ending) (sym w.shown_lines.page) ∙
     ap (λ z. (z ++ text) ++ ending) (sym w.written) ∙ append_assoc (so_far ++ w.more) text ending ∙ append_assoc so_far w.more (text ++ ending))

@@ -62,12 +62,14 @@ gives-content lines big size from (c ∷ s) =
     record { page = rest.page ∙ ap (in_text lines big) (omega arith); text = ap (λ z. quoted_byte c ++ z) rest.text }
 
 -- content from a text's beginning
-gives-whole : (lines : List OpenLine) (big : Bool) (size : ℕ) (es : List Event) (shown : List ℕ) → Gives (in_text lines big 0) es (in_text lines big (0 + size)) shown →
+gives-whole : (lines : List OpenLine) (big : Bool) (size : ℕ) (es : List Event) (shown : List ℕ) →
+    Gives (in_text lines big 0) es (in_text lines big (0 + size)) shown →
     Gives (in_text lines big 0) es (in_text lines big size) shown
 gives-whole lines big size es shown given = record { page = given.page ∙ ap (in_text lines big) (omega arith); text = given.text }
 
 gives-chunks : (lines : List OpenLine) (big : Bool) (size at : ℕ) (cs : List Chunk) →
-    Gives (in_text lines big size) (without_places (chunk_events at cs)) (in_text lines big (size + length (joined_content cs))) (quoted_text (joined_content cs))
+    Gives (in_text lines big size) (without_places (chunk_events at cs)) (in_text lines big (size + length (joined_content cs)))
+    (quoted_text (joined_content cs))
 gives-chunks lines big size at [] = record { page = ap (in_text lines big) (omega arith); text = refl }
 gives-chunks lines big size at (c ∷ cs) =
     let first = bytes_from (at + length c.digits + 3) c.content in
@@ -144,7 +146,8 @@ digit_is_plain byte h =
 
 quoted_digits : (s : List ℕ) → AllByRecursion IsDigit s → quoted_text s ≡ s
 quoted_digits [] h = refl
-quoted_digits (c ∷ s) h = quoted-append (c ∷ []) s ∙ ap (λ z. z ++ quoted_text s) (quoted-plain c (digit_is_plain c h.0)) ∙ ap (λ z. c ∷ z) (quoted_digits s h.1)
+quoted_digits (c ∷ s) h = quoted-append (c ∷ []) s ∙ ap (λ z. z ++ quoted_text s) (quoted-plain c (digit_is_plain c h.0)) ∙
+    ap (λ z. c ∷ z) (quoted_digits s h.1)
 
 -- digits without leading zeros are digits
 significant_are_digits : (digits : List ℕ) → AllByRecursion IsDigit digits → AllByRecursion IsDigit (significant_digits digits)
@@ -194,11 +197,13 @@ truth_parts : (of ind word ending : List ℕ) → ((of ++ ind) ++ (word ++ endin
 truth_parts of ind word ending = simp (append_assoc, append-nil)
 
 -- a leaf
-gives-leaf : (lines : List OpenLine) (from : ℕ) (l : Leaf) → IsLeaf l → IsNoDouble l → GivesValue lines (without_places (leaf_events from l)) (scalar (leaf_value l))
+gives-leaf : (lines : List OpenLine) (from : ℕ) (l : Leaf) → IsLeaf l → IsNoDouble l →
+    GivesValue lines (without_places (leaf_events from l)) (scalar (leaf_value l))
 gives-leaf lines from (line t.Simple s) is p = gives-counted lines e.Simple s (d.Simple s) from (from + 1) _ refl refl
 gives-leaf lines from (line t.Error s) is p = gives-counted lines e.Error s (d.Error s) from (from + 1) _ refl refl
 gives-leaf lines from (line t.Double s) is p = absurd p
-gives-leaf lines from (numeral t.Int sign digits) is p = record { page = refl; text = number_parts (of_line lines) (indentation (length lines)) (codes "int ") _ (codes "\n") }
+gives-leaf lines from (numeral t.Int sign digits) is p =
+    record { page = refl; text = number_parts (of_line lines) (indentation (length lines)) (codes "int ") _ (codes "\n") }
 gives-leaf lines from (numeral t.Big sign digits) is p =
     gives-big lines (is_below_zero sign digits) (significant_digits digits) (last_of from (leaf_text (numeral t.Big sign digits)))
     (significant_are_digits digits is.1)
@@ -275,7 +280,8 @@ plain-node lines from k form us inner is =
     (record { page = inner.page ∙ ap (λ z. on (the_line k (declared_count form) z ∷ lines)) (omega arith); text = inner.text }) is)
 
 mutual
-  gives-tree : (lines : List OpenLine) (from : ℕ) (u : Tree) → IsTree u → Every IsNoDouble IsAnyNode u → GivesValue lines (without_places (events from u)) (value u)
+  gives-tree : (lines : List OpenLine) (from : ℕ) (u : Tree) → IsTree u → Every IsNoDouble IsAnyNode u →
+      GivesValue lines (without_places (events from u)) (value u)
   gives-tree lines from (leaf l) is p = gives-leaf lines from l is p
   gives-tree lines from (node Array form us) is p = plain-node lines from Array form us
       (gives-members lines (from + length (form_line form) + 3) Array (declared_count form) 0 us (λ n m. refl) is.1 p.1) refl
@@ -293,7 +299,8 @@ mutual
       (gives-node lines Attr (declared_count (Counted digits)) us (without_places (events_each at us)) (annotating_lines (length lines) (values us))
       (let inner = gives-annotated lines at (number digits) 0 us (omega (arith, is.0.1)) is.1 p.1 in
       record { page = inner.page ∙ ap (λ z. on (the_line Attr (declared_count (Counted digits)) z ∷ lines)) (omega arith); text = inner.text })
-      (ap (λ z. z ++ annotating_lines (length lines) (values us) ++ indentation (length lines) ++ codes "end " ++ decimal (items_of Attr (d.count (values us))) ++
+      (ap (λ z. z ++ annotating_lines (length lines) (values us) ++ indentation (length lines) ++ codes "end " ++
+      decimal (items_of Attr (d.count (values us))) ++
       codes "\n") (append_assoc (indentation (length lines)) (codes "attr") (codes "\n"))))
   gives-tree lines from (node Attr Streamed us) is p = absurd is.0
 
@@ -328,7 +335,8 @@ mutual
       let one = gives-tree (the_line Attr (Some pairs) m ∷ lines) from u are.0 p.0 in
       let due : of_line (the_line Attr (Some pairs) m ∷ lines) ≡ of = ap (λ b. cond b of []) (no_pairs_missing pairs m (omega (arith, is))) in
       record {
-        page = ap (λ es. page_after es (on (the_line Attr (Some pairs) m ∷ lines))) (places-append (events from u) [] ∙ append-nil (without_places (events from u))) ∙
+        page = ap (λ es. page_after es (on (the_line Attr (Some pairs) m ∷ lines))) (places-append (events from u) [] ∙
+            append-nil (without_places (events from u))) ∙
             one.page ∙ ap (λ z. on (the_line Attr (Some pairs) z ∷ lines)) (omega arith);
         text = ap (shown_on (on (the_line Attr (Some pairs) m ∷ lines))) (places-append (events from u) [] ∙ append-nil (without_places (events from u))) ∙
             one.text ∙ ap (λ z. z ++ lines_on level (value u)) due;

@@ -8,8 +8,8 @@ use Rattle.resp_fronts.specs.Events.{Event, TextKind}
 use Rattle.resp_fronts.specs.Events as e
 use Rattle.resp_tool.specs.Shown.{indentation, kind_word, quoted_byte, quoted_text, truth_word}
 
--- an aggregate whose first line was written and whose last wasn't: its kind, the number in its head, and how many of its
--- members were written
+-- an aggregate whose first line was written and whose last wasn't: its kind, the number in its head, and how many of
+-- its members were written
 pub record OpenLine : Type 0 where
   pub kind : Kind
   pub count : Option ℕ

@@ -11,6 +11,67 @@ use std::convert::AsStr;
 /// The greatest limit of total and of items.
 const MOST_TOTAL: i64 = 1_099_511_627_776;
 
+/// An option with a number in a range.
+#[derive(Clone, Copy)]
+struct NumberOption {
+    name: &'static str,
+    help: &'static str,
+    least: i64,
+    most: i64,
+    default: &'static str,
+}
+
+const DEPTH: NumberOption = NumberOption {
+    name: "depth",
+    help: "The most aggregates inside one another",
+    least: 4,
+    most: 128,
+    default: "32",
+};
+
+const LENGTH: NumberOption = NumberOption {
+    name: "length",
+    help: "The most bytes of one string",
+    least: 64,
+    most: 1_073_741_824,
+    default: "536870912",
+};
+
+const TOTAL: NumberOption = NumberOption {
+    name: "total",
+    help: "The most bytes of one value",
+    least: 256,
+    most: MOST_TOTAL,
+    default: "1073741824",
+};
+
+const ITEMS: NumberOption = NumberOption {
+    name: "items",
+    help: "The most members or pairs of one aggregate",
+    least: 16,
+    most: MOST_TOTAL,
+    default: "1099511627776",
+};
+
+const PIECE: NumberOption = NumberOption {
+    name: "piece",
+    help: "The most bytes of one read",
+    least: 1,
+    most: 65_536,
+    default: "4096",
+};
+
+impl NumberOption {
+    fn option<'a>(self, alloc: Global) -> Arg<'a> {
+        Arg::new(alloc, self.name)
+            .long(self.name)
+            .value_name("N")
+            .help(self.help)
+            .value_parser(clap::value_parser!(u64).range(self.least..=self.most))
+            .default_value(self.default)
+    }
+}
+
 /// What is done with the values of the stream.
 #[derive(Clone, Copy, Debug, PartialEq, Eq)]
 pub enum Task {
@@ -77,77 +138,20 @@ fn with_options<'a>(alloc: Global, command: Command<'a>) -> Result<Command<'a>, 
         .help("The version of the protocol")
         .value_parser(["2", "3"].as_slice())
         .default_value("2");
-    let depth = limit(
-        alloc,
-        "depth",
-        "The most aggregates inside one another",
-        4,
-        128,
-        "32",
-    );
-    let length = limit(
-        alloc,
-        "length",
-        "The most bytes of one string",
-        64,
-        1_073_741_824,
-        "536870912",
-    );
-    let total = limit(
-        alloc,
-        "total",
-        "The most bytes of one value",
-        256,
-        MOST_TOTAL,
-        "1073741824",
-    );
-    let items = limit(
-        alloc,
-        "items",
-        "The most members or pairs of one aggregate",
-        16,
-        MOST_TOTAL,
-        "1099511627776",
-    );
     let no_streamed = Arg::new(alloc, "no-streamed")
         .long("no-streamed")
         .help("Refuses streamed strings and aggregates")
         .action(ArgAction::SetTrue);
-    let piece = limit(
-        alloc,
-        "piece",
-        "The most bytes of one read",
-        1,
-        65_536,
-        "4096",
-    );
     Ok(
         command
             .arg(proto)?
-            .arg(depth)?
-            .arg(length)?
-            .arg(total)?
-            .arg(items)?
+            .arg(DEPTH.option(alloc))?
+            .arg(LENGTH.option(alloc))?
+            .arg(TOTAL.option(alloc))?
+            .arg(ITEMS.option(alloc))?
             .arg(no_streamed)?
-            .arg(piece)?,
+            .arg(PIECE.option(alloc))?,
     )
-}
-
-/// An option with a number in a range.
-fn limit<'a>(
-    alloc: Global,
-    name: &'a str,
-    help: &'a str,
-    least: i64,
-    most: i64,
-    default: &'a str,
-) -> Arg<'a> {
-    Arg::new(alloc, name)
-        .long(name)
-        .value_name("N")
-        .help(help)
-        .value_parser(clap::value_parser!(u64).range(least..=most))
-        .default_value(default)
 }
 
 /// The options of a subcommand; none where a number is outside its range.

@@ -5,13 +5,14 @@ ghost use Rattle.std.specs.Prelude.{◌≤◌};
 use crate::canon::canon;
 use crate::check::check;
 use crate::command_line::command;
+use crate::options::Task;
 use crate::show::show;
 use crate::tool_error::ToolError;
 use resp_value::cause::Cause;
 use resp_value::device::{MemorySink, MemorySource};
 use resp_value::limits::Limits;
 use resp_value::version::Version;
-use std::alloc::Global;
+use std::alloc::{AllocError, Global};
 use std::test::Fail;
 
 const STREAM: &[u8] = b"+OK\r\n:+007\r\n$3\r\nfoo\r\n$-1\r\n-ERR no\r\n";
@@ -284,60 +285,57 @@ fn answers_the_status_though_nothing_can_be_said(rt: HostRuntime) -> Result<(), 
 
 /// A stream of version 3 with each kind of value.
 const ALL_KINDS: &[u8] =
-    b"~2\r\n#t\r\n%1\r\n$1\r\n\"\r\n_\r\n(-0012\r\n(0\r\n!2\r\nno\r\n=6\r\ntxt:hi\r\n*?\r\n#f\r\n.\r\n$?\r\n;2\r\nab\r\n;0\r\n|1\r\n+ttl\r\n:3600\r\n:3\r\n>1\r\n*-1\r\n";
+    b"~2\r\n#t\r\n%1\r\n$1\r\n\"\r\n_\r\n(-0012\r\n(0\r\n!2\r\nno\r\n=6\r\ntxt:hi\r\n\
+        *?\r\n#f\r\n.\r\n$?\r\n;2\r\nab\r\n;0\r\n|1\r\n+ttl\r\n:3600\r\n:3\r\n>1\r\n*-1\r\n";
 
 const ALL_LINES: &[u8] =
-    b"set\n  true\n  map\n    bulk \"\\\"\" 1\n    null\n  end 1\nend 2\nbig -12\nbig 0\nbulkerror \"no\" 2\nverbatim \"txt\" \"hi\" 2\narray\n  false\nend 1\nbulk \"ab\" 2\nattr\n  simple \"ttl\" 3\n  int 3600\nof\n  int 3\nend 1\npush\n  null\nend 1\n";
+    b"set\n  true\n  map\n    bulk \"\\\"\" 1\n    null\n  end 1\nend 2\nbig -12\nbig 0\n\
+        bulkerror \"no\" 2\nverbatim \"txt\" \"hi\" 2\narray\n  false\nend 1\nbulk \"ab\" 2\n\
+        attr\n  simple \"ttl\" 3\n  int 3600\nof\n  int 3\nend 1\npush\n  null\nend 1\n";
 
 const ALL_CANONICAL: &[u8] =
-    b"~2\r\n#t\r\n%1\r\n$1\r\n\"\r\n_\r\n(-12\r\n(0\r\n!2\r\nno\r\n=6\r\ntxt:hi\r\n*1\r\n#f\r\n$2\r\nab\r\n|1\r\n+ttl\r\n:3600\r\n:3\r\n>1\r\n_\r\n";
+    b"~2\r\n#t\r\n%1\r\n$1\r\n\"\r\n_\r\n(-12\r\n(0\r\n!2\r\nno\r\n=6\r\ntxt:hi\r\n*1\r\n#f\r\n\
+        $2\r\nab\r\n|1\r\n+ttl\r\n:3600\r\n:3\r\n>1\r\n_\r\n";
+
+/// What a task answers over the stream of all kinds in version 3, and what it writes.
+fn run_over_all_kinds(
+    alloc: Global,
+    task: Task,
+    piece: usize,
+    most: usize,
+) -> Result<(Result<(), ToolError>, MemorySink), AllocError>
+    requires piece_in_range { (1 ≤ piece) × (piece ≤ 65536) }
+    requires some { 1 ≤ most }
+{
+    let version = Version::Three;
+    let limits = Limits::standard();
+    let mut reader = MemorySource::new(ALL_KINDS, most);
+    let mut writer = MemorySink::new(alloc, 4_096, 512)?;
+    let done = match task {
+        Task::Show => show(alloc, version, &limits, piece, &mut reader, &mut writer),
+        Task::Check => check(alloc, version, &limits, piece, &mut reader, &mut writer),
+        Task::Canon => canon(alloc, version, &limits, piece, &mut reader, &mut writer),
+    };
+    Ok((done, writer))
+}
 
 #[test]
 fn writes_the_same_at_each_cut(rt: HostRuntime) -> Result<(), Fail> {
-    let alloc = rt.alloc();
-    let limits = Limits::standard();
-    for piece in [1, 2, 3, 4_096] {
-        for most in [1, 2, 3, 4_096] {
-            let mut reader = MemorySource::new(ALL_KINDS, most);
-            let mut writer = MemorySink::new(alloc, 4_096, 512)?;
-            let shown = show(
-                alloc,
-                Version::Three,
-                &limits,
-                piece,
-                &mut reader,
-                &mut writer,
-            );
-            assert_eq!(rt; shown, Ok(()), "by reads of {piece} of {most}");
-            assert_eq!(rt; writer.bytes(), ALL_LINES, "by reads of {piece} of {most}");
-            let mut reader = MemorySource::new(ALL_KINDS, most);
-            let mut writer = MemorySink::new(alloc, 4_096, 512)?;
-            let done = canon(
-                alloc,
-                Version::Three,
-                &limits,
-                piece,
-                &mut reader,
-                &mut writer,
-            );
-            assert_eq!(rt; done, Ok(()), "by reads of {piece} of {most}");
-            assert_eq!(rt;
-                writer.bytes(),
-                ALL_CANONICAL,
-                "by reads of {piece} of {most}"
-            );
-            let mut reader = MemorySource::new(ALL_KINDS, most);
-            let mut writer = MemorySink::new(alloc, 4_096, 512)?;
-            let checked = check(
-                alloc,
-                Version::Three,
-                &limits,
-                piece,
-                &mut reader,
-                &mut writer,
-            );
-            assert_eq!(rt; checked, Ok(()), "by reads of {piece} of {most}");
-            assert_eq!(rt; writer.bytes(), b"values 9 bytes 111\n".as_slice());
+    for (task, written) in [
+        (Task::Show, ALL_LINES),
+        (Task::Check, b"values 9 bytes 111\n"),
+        (Task::Canon, ALL_CANONICAL),
+    ] {
+        for piece in [1, 2, 3, 4_096] {
+            for most in [1, 2, 3, 4_096] {
+                let (done, writer) = run_over_all_kinds(rt.alloc(), task, piece, most)?;
+                assert_eq!(rt; done, Ok(()), "{task:?} by reads of {piece} of {most}");
+                assert_eq!(rt;
+                    writer.bytes(),
+                    written,
+                    "{task:?} by reads of {piece} of {most}"
+                );
+            }
         }
     }
     Ok(())

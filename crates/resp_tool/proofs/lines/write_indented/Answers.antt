@@ -8,4 +8,5 @@ returns-in_err-write_indentation g c =
     first_fails c.from_residual.result _ _ _ _ (indentation c.args.level) c.args.line.now _ c.from_residual.ensures.0 refl c.in_err-write_indentation.ensures
 
 pub returns : goal.returns
-returns g c = both_written c.write_text.result _ _ _ _ _ _ (indentation c.args.level) c.args.line.now _ refl c.in_ok-write_indentation.ensures c.write_text.ensures
+returns g c = both_written c.write_text.result _ _ _ _ _ _ (indentation c.args.level) c.args.line.now _ refl c.in_ok-write_indentation.ensures
+    c.write_text.ensures

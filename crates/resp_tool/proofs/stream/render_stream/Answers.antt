@@ -17,7 +17,8 @@ returns-in_err-buffer-clause-rendered g c =
           (sym (is_that_error c.from_residual.result Memory c.from_residual.ensures.1))
           (renders_so_far r (g.T.Rendering.text r) (g.T.Rendering.is_written r) (g.T.Rendering.is_begun r) (g.T.Rendering.has_taken c.args.rendering.now) []
           held held 0 c.part_stands.ensures
-          (nothing_rendered r (g.T.Rendering.text r) (g.T.Rendering.is_written r) (g.T.Rendering.has_taken c.args.rendering.now) held c.requires.nothing_taken)),
+          (nothing_rendered r (g.T.Rendering.text r) (g.T.Rendering.is_written r) (g.T.Rendering.has_taken c.args.rendering.now) held
+          c.requires.nothing_taken)),
     )
 
 pub loop-init : goal.loop-init
@@ -89,7 +90,8 @@ returns-in-Err-render_piece-clause-rendered g c =
     let piece : take c.in-Ok.count c.deref.result.now ≡ take c.in-Ok.count c.read.new.into = ap (take c.in-Ok.count) c.deref.ensures.value ∙ same in
     let stops = subst (λ r. HasRendered r (g.T.Rendering.text r) (g.T.Rendering.is_written r) (g.T.Rendering.has_taken c.loop.rendering) w.bytes start
     (g.W.Sink.written c.loop.writer) c.loop.totals.values → RendersStopped r (g.T.Rendering.text r) (g.T.Rendering.is_written r) (g.T.Rendering.is_left r)
-    (g.T.Rendering.is_begun r) (w.bytes ++ take c.in-Ok.count c.deref.result.now) start (g.W.Sink.written c.render_piece.new.writer) c.in-Err-render_piece.error) w.same_rules
+    (g.T.Rendering.is_begun r) (w.bytes ++ take c.in-Ok.count c.deref.result.now) start (g.W.Sink.written c.render_piece.new.writer)
+    c.in-Err-render_piece.error) w.same_rules
     (c.in-Err-render_piece.ensures.stops w.bytes start) in (
       w.bytes ++ take c.in-Ok.count c.read.new.into,
       reads_on _ _ _ w.bytes c.read.new.into c.in-Ok.count w.read c.in-Ok.ensures.bytes,

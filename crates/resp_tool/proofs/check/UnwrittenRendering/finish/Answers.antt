@@ -6,8 +6,11 @@ use Rattle.resp_tool.proofs.check.UnwrittenRendering.finish.Goals as goal
 
 pub returns-in-Ok-clause-ends : goal.returns-in-Ok-clause-ends
 returns-in-Ok-clause-ends g c = λ front so_far looked.
-    let ((given, scanned), nothing) = looked in
-    (ends_between (rules_of c.args.self.now.scanner) front scanned.no_value ((c.in-Ok.ensures.may_end front given scanned.reads).0 refl), nothing, Appends-none (g.W.Sink.written c.args._writer.now))
+    let ((given, scanned), nothing) = looked in (
+      ends_between (rules_of c.args.self.now.scanner) front scanned.no_value ((c.in-Ok.ensures.may_end front given scanned.reads).0 refl),
+      nothing,
+      Appends-none (g.W.Sink.written c.args._writer.now),
+    )
 
 pub returns-in-Err-clause-ends : goal.returns-in-Err-clause-ends
 returns-in-Err-clause-ends g c = λ front so_far looked.

@@ -6,7 +6,8 @@ use Rattle.resp_tool.proofs.lines.Lines.begin.Goals as goal
 
 pub returns-in_err-begin_line : goal.returns-in_err-begin_line
 returns-in_err-begin_line g c =
-    first_fails c.from_residual.result _ _ _ _ (beginning (page_of c.args.self.now)) c.args.words.now _ c.from_residual.ensures.0 refl c.in_err-begin_line.ensures
+    first_fails c.from_residual.result _ _ _ _ (beginning (page_of c.args.self.now)) c.args.words.now _ c.from_residual.ensures.0 refl
+    c.in_err-begin_line.ensures
 
 pub returns : goal.returns
 returns g c =

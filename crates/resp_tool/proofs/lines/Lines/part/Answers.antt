@@ -14,7 +14,8 @@ returns-in_err-write_quoted-clause-written g c =
 
 pub returns-clause-written : goal.returns-clause-written
 returns-clause-written g c = (
-  subst (Appends (g.W.Sink.written c.args.writer.now) (g.W.Sink.written c.write_quoted.new.writer)) (sym (content_shown (page_of c.args.self.now) c.args.part.now))
+  subst (Appends (g.W.Sink.written c.args.writer.now) (g.W.Sink.written c.write_quoted.new.writer))
+      (sym (content_shown (page_of c.args.self.now) c.args.part.now))
       c.in_ok-write_quoted.ensures.0,
   c.in_ok-write_quoted.ensures.1,
 )

@@ -74,10 +74,12 @@ returns-in-Err-write-clause-takes g c = λ front so_far h.
     let live : is_done c.in-Some.event ≡ false = sym c.is_done.ensures ∙ c.if-is_done.false in
     let whole = behind_used used (length piece) piece refl in
     let Q = λ (event : Event). HasRead c.step.new.self ((front ++ take used piece) ++ take n (drop used piece)) (w.given ++ events_of event) in
-    let other = subst (λ z. OnOtherEvent c.in-Ok.step.event (λ event. HasRead c.step.new.self ((front ++ take used piece) ++ take n z) (w.given ++ events_of event)))
+    let other = subst (λ z. OnOtherEvent c.in-Ok.step.event (λ event. HasRead c.step.new.self ((front ++ take used piece) ++ take n z) (w.given ++
+    events_of event)))
     whole (c.in-Ok.ensures.another_event (front ++ take used piece) w.given w.reads) in
     let reads = other_event c.in-Some.event Q live (subst (λ ev. OnOtherEvent ev Q) c.in-Some.is other) in
-    shows_part r c.loop.self.scanner c.step.new.self c.loop.self.lines front piece so_far used n (g.W.Sink.written c.args.writer.now) (g.W.Sink.written c.loop.writer)
+    shows_part r c.loop.self.scanner c.step.new.self c.loop.self.lines front piece so_far used n (g.W.Sink.written c.args.writer.now)
+    (g.W.Sink.written c.loop.writer)
     (g.W.Sink.written c.write.new.writer) c.loop.counter c.in-Some.event w reads
     (subst (λ q. (bytes : List ℕ) (given : Events) → HasRead c.step.new.self bytes given → IsViable q WithinTotal bytes)
     (c.in-Ok.ensures.same_rules ∙ c.loop.invariant.same_rules) c.taken-taken.ensures.viable) c.taken-taken.ensures.first_of_those_due
@@ -101,7 +103,8 @@ loop-preserved g c =
           (w.given ++ events_of event))) whole (c.in-Ok.ensures.another_event (front ++ take used piece) w.given w.reads) in
           let reads = other_event c.in-Some.event Q live (subst (λ ev. OnOtherEvent ev Q) c.in-Some.is other) in
           let bytes = (front ++ take used piece) ++ take n (drop used piece) in
-          let part = subst (λ ev. IsPartOf (drop used piece) n ev) c.in-Some.is (subst (λ z. IsPartOf z n c.in-Ok.step.event) whole c.in-Ok.ensures.part_of_piece) in
+          let part = subst (λ ev. IsPartOf (drop used piece) n ev) c.in-Some.is
+          (subst (λ z. IsPartOf z n c.in-Ok.step.event) whole c.in-Ok.ensures.part_of_piece) in
           let few = c.taken-taken.ensures.no_more_events_than_bytes bytes (w.given ++ events_of c.in-Some.event) reads in
           let bounds = c.taken-taken.ensures.limits_in_range in
           shows_on c.loop.self.scanner c.step.new.self c.loop.self.lines c.write.new.self front piece used n so_far (g.W.Sink.written c.args.writer.now)
