@@ -29,3 +29,6 @@ pub mod FittingReplies
 pub mod PushesFit
 pub mod WorldsFit
 pub mod ShownIsRead
+pub mod ServedCommands
+pub mod ArrivedTexts
+pub mod ArrivalsAnswered

@@ -100,7 +100,7 @@ step_sent spells limits bounds w event Done next bytes s all = subst (AllSent li
 step_sent spells limits bounds w event (Refused cause) next bytes s all = subst (AllSent limits) (sym s.2) all
 step_sent spells limits bounds w event Gone next bytes s all = subst (AllSent limits) (sym s.1) all
 
-run_sent : CanonicalTextSpellsWhatFits → (limits : Bounds) → AreBounds limits → (w : World) (events : List WorldEvent) (last : World) →
+pub run_sent : CanonicalTextSpellsWhatFits → (limits : Bounds) → AreBounds limits → (w : World) (events : List WorldEvent) (last : World) →
     AllByRecursion IsPossible events →
     Run limits w events last → AllSent limits w → AllSent limits last
 run_sent spells limits bounds w [] last bytes r all = subst (AllSent limits) (sym r) all
@@ -111,11 +111,11 @@ run_sent spells limits bounds w (event ∷ events) last bytes r all =
 pub new_sent : (limits : Bounds) (n : ℕ) → AllSent limits (new_world n)
 new_sent limits n i c e = subst (AreSent limits) (sym (new_at n i c e)) tt
 
-names_of : (limits : Bounds) (requests : List Request) → AllByRecursion (IsSent limits) requests → AllByRecursion HasName requests
+pub names_of : (limits : Bounds) (requests : List Request) → AllByRecursion (IsSent limits) requests → AllByRecursion HasName requests
 names_of limits [] h = tt
 names_of limits (r ∷ rs) h = (h.0.0, names_of limits rs h.1)
 
-texts_spell : (limits : Bounds) (requests : List Request) → AllByRecursion (IsSent limits) requests →
+pub texts_spell : (limits : Bounds) (requests : List Request) → AllByRecursion (IsSent limits) requests →
     SpellEach (server_rules limits) (map (λ (r : Request). command_of (request_words r)) requests) (map request_text requests)
 texts_spell limits [] h = tt
 texts_spell limits (r ∷ rs) h = (h.0.2, texts_spell limits rs h.1)

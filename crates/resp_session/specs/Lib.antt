@@ -18,3 +18,4 @@ pub mod AnswerLaws
 pub mod ReadingLaws
 pub mod WorldLaws
 pub mod Examples
+pub mod Serving

@@ -13,6 +13,7 @@ ghost use Rattle.resp_session.specs.Replies.{simple_string, bulk_string, natural
 ghost use Rattle.resp_session.specs.WorldLaws.{AWorldHasOneOrder, ARunIsCut, TheOrderOnlyGrows, ShownRepliesAreOfTheOrder, WhatIsShownWasSent, WhatArrivesIsCommands, EachMessageIsWritten, WhatIsWrittenIsRead, WhatIsShownIsRead, NoClientMeetsAFault};
 ghost use Rattle.resp_session.specs.Fitting.{EffectsFit, NumbersAreShort};
 ghost use Rattle.resp_session.specs.Connections.{push_message};
+ghost use Rattle.resp_session.specs.Serving.{WhatArrivesIsAnswered};
 
 use resp_value::laws as grammar;
 
@@ -121,6 +122,17 @@ pub fn what_arrives_is_commands()
     ensures { WhatArrivesIsCommands }
 {
     what_comes_is_whole_texts();
+    grammar::canonical_text_spells_what_fits();
+}
+
+/// What a session of a world answers to the bytes that come to it is what they leave in the world.
+pub fn what_arrives_is_answered()
+    ensures { WhatArrivesIsAnswered }
+{
+    what_comes_is_whole_texts();
+    a_text_has_one_answer();
+    grammar::a_text_has_one_cut();
+    grammar::no_spelling_begins_another();
     grammar::canonical_text_spells_what_fits();
 }
 

@@ -1,0 +1,48 @@
+-- What a session of a world answers to the bytes that come to it.
+use Rattle.std.specs.Prelude.{◌≡◌, ℕ, ◌+◌, ◌<◌, ◌^◌, false, List, [], ◌++◌, length, map, take, drop, Some}
+use Rattle.std.specs.List.{AllByRecursion}
+use Rattle.resp_value.specs.Bounds.{Bounds, AreBounds}
+use Rattle.resp_value.specs.Spellings.{AreSpellings}
+use Rattle.resp_value.specs.Words.{command_of}
+use Rattle.resp_session.specs.Answers.{SessionState, Answers, server_rules}
+use Rattle.resp_session.specs.Connections.{Connection, arrived_requests, back_text, sent_text}
+use Rattle.resp_session.specs.Requests.{Request, request_words}
+use Rattle.resp_session.specs.Runs.{Run}
+use Rattle.resp_session.specs.WorldLaws.{IsPossible}
+use Rattle.resp_session.specs.Worlds.{World, WorldEvent, ToServer, after_event, connection_at, new_world}
+
+-- a connection's session as it stands, of which nothing was counted yet
+abbrev pub session_of : World → Connection → SessionState
+session_of w c = record { store = w.store; version = c.version; text = []; closing = false; count = 0 }
+
+-- the rest of what has come to a session, behind the requests that have come whole
+pub record IsUnfinished (limits : Bounds) (c : Connection) (rest : List ℕ) : Type 0 where
+  pub front : List ℕ
+  pub spelled : AreSpellings (server_rules limits)
+      (map (λ (request : Request). command_of (request_words request)) (arrived_requests c)) front
+  pub whole : take c.arrived (sent_text c) ≡ front ++ rest
+
+-- so many bytes more of what was sent
+abbrev pub coming : ℕ → Connection → List ℕ
+coming k c = take k (drop c.arrived (sent_text c))
+
+-- a session's answer is what these bytes leave in the world: its store, its version, its messages, and the order
+pub record IsLeftBy (limits : Bounds) (i : ℕ) (w left : World) (c : Connection) (after : SessionState) (rest : List ℕ) :
+    Type 0 where
+  pub next : Connection
+  pub there : connection_at left.connections i ≡ Some next
+  pub unfinished : IsUnfinished limits next rest
+  pub store : after.store ≡ left.store
+  pub version : after.version ≡ next.version
+  pub text : back_text next ≡ back_text c ++ after.text
+  pub is_open : after.closing ≡ false
+  pub count : length left.order ≡ length w.order + after.count
+
+-- whatever is answered to what comes to a session of a world, by its unfinished rest and these bytes, is what the world
+-- is left with
+abbrev pub WhatArrivesIsAnswered : Type 0
+WhatArrivesIsAnswered = (limits : Bounds) (n : ℕ) (events : List WorldEvent) (w : World) → AreBounds limits →
+    AllByRecursion IsPossible events → Run limits (new_world n) events w → (i k : ℕ) (c : Connection) →
+    connection_at w.connections i ≡ Some c → (rest rest' : List ℕ) (after : SessionState) →
+    IsUnfinished limits c rest → Answers limits i (session_of w c) (rest ++ coming k c) after rest' →
+    IsLeftBy limits i w (after_event w (ToServer i k)) c after rest'
