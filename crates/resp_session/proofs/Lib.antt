@@ -32,3 +32,4 @@ pub mod ShownIsRead
 pub mod ServedCommands
 pub mod ArrivedTexts
 pub mod ArrivalsAnswered
+pub mod ArrivalsGoOn

@@ -9,7 +9,7 @@ use Rattle.resp_session.specs.Connections.{Connection, arrived_requests, back_te
 use Rattle.resp_session.specs.Requests.{Request, request_words}
 use Rattle.resp_session.specs.Runs.{Run}
 use Rattle.resp_session.specs.WorldLaws.{IsPossible}
-use Rattle.resp_session.specs.Worlds.{World, WorldEvent, ToServer, after_event, connection_at, new_world}
+use Rattle.resp_session.specs.Worlds.{World, WorldEvent, ToServer, ToClient, after_event, connection_at, new_world}
 
 -- a connection's session as it stands, of which nothing was counted yet
 abbrev pub session_of : World → Connection → SessionState
@@ -46,3 +46,10 @@ WhatArrivesIsAnswered = (limits : Bounds) (n : ℕ) (events : List WorldEvent) (
     connection_at w.connections i ≡ Some c → (rest rest' : List ℕ) (after : SessionState) →
     IsUnfinished limits c rest → Answers limits i (session_of w c) (rest ++ coming k c) after rest' →
     IsLeftBy limits i w (after_event w (ToServer i k)) c after rest'
+
+-- bytes that come in two parts, to a session or to a client, leave what they leave together
+abbrev pub ArrivalsGoOn : Type 0
+ArrivalsGoOn = (limits : Bounds) (n : ℕ) (events : List WorldEvent) (w : World) → Run limits (new_world n) events w →
+    (i j k : ℕ) →
+    (after_event (after_event w (ToServer i j)) (ToServer i k) ≡ after_event w (ToServer i (j + k))) ×
+    (after_event (after_event w (ToClient i j)) (ToClient i k) ≡ after_event w (ToClient i (j + k)))

@@ -13,7 +13,7 @@ ghost use Rattle.resp_session.specs.Replies.{simple_string, bulk_string, natural
 ghost use Rattle.resp_session.specs.WorldLaws.{AWorldHasOneOrder, ARunIsCut, TheOrderOnlyGrows, ShownRepliesAreOfTheOrder, WhatIsShownWasSent, WhatArrivesIsCommands, EachMessageIsWritten, WhatIsWrittenIsRead, WhatIsShownIsRead, NoClientMeetsAFault};
 ghost use Rattle.resp_session.specs.Fitting.{EffectsFit, NumbersAreShort};
 ghost use Rattle.resp_session.specs.Connections.{push_message};
-ghost use Rattle.resp_session.specs.Serving.{WhatArrivesIsAnswered};
+ghost use Rattle.resp_session.specs.Serving.{ArrivalsGoOn, WhatArrivesIsAnswered};
 
 use resp_value::laws as grammar;
 
@@ -124,6 +124,11 @@ pub fn what_arrives_is_commands()
     what_comes_is_whole_texts();
     grammar::canonical_text_spells_what_fits();
 }
+
+/// Bytes that come in two parts leave what they leave together.
+pub fn arrivals_go_on()
+    ensures { ArrivalsGoOn }
+{}
 
 /// What a session of a world answers to the bytes that come to it is what they leave in the world.
 pub fn what_arrives_is_answered()
