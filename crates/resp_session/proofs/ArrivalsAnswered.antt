@@ -19,9 +19,10 @@ use Rattle.resp_session.specs.Serving.{IsLeftBy, IsUnfinished, WhatArrivesIsAnsw
 use Rattle.resp_session.specs.WorldLaws.{HasName, IsPossible}
 use Rattle.resp_session.specs.Worlds.{World, WorldEvent, ToServer, after_arrival, after_commands, after_event, commands_for, connection_at, new_world, world_with}
 use Rattle.resp_session.proofs.ArrivedTexts.{all_drop, all_take, same_front, spell_all, whole_within-add}
+use Rattle.resp_session.proofs.Changes.{changed_at}
 use Rattle.resp_session.proofs.OrdersGoOn.{after_commands-order}
 use Rattle.resp_session.proofs.SentRequests.{IsSent, names_of, new_sent, run_sent, texts_spell}
-use Rattle.resp_session.proofs.ServedCommands.{IsServed, changed_at, command_value, served}
+use Rattle.resp_session.proofs.ServedCommands.{IsServed, command_value, served}
 use Rattle.resp_session.proofs.TextsInPieces.{spellings-append}
 use Rattle.resp_session.proofs.WholeTexts.{whole_within-most}
 use Rattle.resp_session.proofs.WorldsHold.{arrived_then_new, new_world_holds, run_holds}

@@ -8,7 +8,7 @@ use Rattle.resp_session.specs.Requests.{Request, request_text, request_words}
 use Rattle.resp_session.specs.Serving.{ArrivalsGoOn}
 use Rattle.resp_session.specs.Stores.{Effect, effect_of_words}
 use Rattle.resp_session.specs.Worlds.{World, WorldEvent, ToServer, ToClient, after_arrival, after_command, after_commands, after_event, commands_for, connection_at, version_of, with_change, world_with, new_world}
-use Rattle.resp_session.proofs.ServedCommands.{changed_at}
+use Rattle.resp_session.proofs.Changes.{changed_at}
 use Rattle.resp_session.proofs.WorldsHold.{arrived_then_new, new_world_holds, run_holds}
 
 -- two changes of one connection are one

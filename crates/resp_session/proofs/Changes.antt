@@ -25,3 +25,11 @@ is_changed f (first ∷ cs) (suc zero) (suc (suc j)) c e = inr (λ h. omega (ari
 is_changed f (first ∷ cs) (suc (suc i)) zero c e = absurd (cc)
 is_changed f (first ∷ cs) (suc (suc i)) (suc zero) c e = inr (λ h. omega (arith, h), e)
 is_changed f (first ∷ cs) (suc (suc i)) (suc (suc j)) c e = further f first cs i j c (is_changed f cs (suc i) (suc j) c e)
+
+-- the connection that was changed
+pub changed_at : (f : Connection → Connection) (cs : List Connection) (i : ℕ) (c : Connection) → connection_at cs i ≡ Some c →
+    connection_at (with_change f cs i) i ≡ Some (f c)
+changed_at f [] i c e = absurd (cc)
+changed_at f (d ∷ cs) zero c e = absurd (cc)
+changed_at f (d ∷ cs) (suc zero) c e = let h : d ≡ c = cc in ap (λ x. Some (f x)) h
+changed_at f (d ∷ cs) (suc (suc i)) c e = changed_at f cs (suc i) c e

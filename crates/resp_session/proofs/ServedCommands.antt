@@ -12,15 +12,8 @@ use Rattle.resp_session.specs.Requests.{Request, request_words}
 use Rattle.resp_session.specs.Stores.{Effect, effect_of}
 use Rattle.resp_session.specs.WorldLaws.{HasName}
 use Rattle.resp_session.specs.Worlds.{World, after_command, after_commands, commands_for, connection_at, version_of, with_change}
+use Rattle.resp_session.proofs.Changes.{changed_at}
 use Rattle.resp_session.proofs.CommandWords.{meaning_of-command_of}
-
--- the connection that was changed
-pub changed_at : (f : Connection → Connection) (cs : List Connection) (i : ℕ) (c : Connection) → connection_at cs i ≡ Some c →
-    connection_at (with_change f cs i) i ≡ Some (f c)
-changed_at f [] i c e = absurd (cc)
-changed_at f (d ∷ cs) zero c e = absurd (cc)
-changed_at f (d ∷ cs) (suc zero) c e = let h : d ≡ c = cc in ap (λ x. Some (f x)) h
-changed_at f (d ∷ cs) (suc (suc i)) c e = changed_at f cs (suc i) c e
 
 abbrev pub command_value : Request → Datum
 command_value request = command_of (request_words request)

@@ -11,10 +11,10 @@ use Rattle.resp_value.specs.Spellings.{IsSpelling}
 use Rattle.resp_value.specs.declared.cause.Cause.{Cause}
 use Rattle.resp_value.specs.declared.version.Version.TheVariants.{Two}
 use Rattle.resp_session.specs.Arrivals.{HasBeenRead}
-use Rattle.resp_session.specs.Connections.{Message, message_text, values_of, back_text, whole_within}
+use Rattle.resp_session.specs.Connections.{Message, message_text, values_of, back_text, shown_messages, whole_within}
 use Rattle.resp_session.specs.Reading.{Waiting, ReadsAs, MayBeRead, MayGoOn, IsUnasked, ClientFault, reading_rules, waiting_after}
-use Rattle.resp_session.specs.ReadingLaws.{ARestHasOneClientFault}
-use Rattle.resp_session.specs.WorldLaws.{IsWritten, EachMessageIsWritten, WhatIsWrittenIsRead, WhatIsShownIsRead, NoClientMeetsAFault, waiting_for}
+use Rattle.resp_session.specs.ReadingLaws.{ARestHasOneClientFault, ATextHasOneReading}
+use Rattle.resp_session.specs.WorldLaws.{IsWritten, EachMessageIsWritten, WhatIsWrittenIsRead, WhatIsShownIsRead, WhatIsReadIsShown, NoClientMeetsAFault, waiting_for}
 use Rattle.resp_session.proofs.Arrivals.{none_of_nothing, none_of_front, short, long}
 use Rattle.resp_session.proofs.Readings.{push_is}
 use Rattle.resp_session.proofs.TextsInPieces.{Begins, one_begins}
@@ -191,3 +191,10 @@ no_client_meets_a_fault apart begins one shown limits n events w bounds few poss
     let h = shown limits n events w bounds few possible r i c at in
     one_reading_faultless apart begins one limits (waiting_for Two c.requests) h.after after (values_of (whole_messages c.messages c.shown)) xs h.front front
     h.rest rest cause place h.read read (sym h.whole ∙ whole) h.goes_on fault
+
+-- what is read is those messages: a text has one reading
+pub what_is_read_is_shown : ATextHasOneReading → WhatIsShownIsRead → WhatIsReadIsShown
+what_is_read_is_shown one shown limits n events w bounds few bytes r i c at xs front rest after read whole goes_on =
+    let h = shown limits n events w bounds few bytes r i c at in
+    (one limits (waiting_for Two c.requests) after h.after xs (values_of (shown_messages c)) front h.front rest h.rest read h.read (sym whole ∙ h.whole) goes_on
+    h.goes_on).0

@@ -16,7 +16,7 @@ use Rattle.resp_session.specs.Runs.{Outcome, Done, Refused, Gone, Step, Run, Ref
 use Rattle.resp_session.specs.Stores.{Effect, effect_of_words}
 use Rattle.resp_session.specs.WorldLaws.{IsPossible, IsWritten, IsReadByItsClient, EachMessageIsWritten, WhatIsWrittenIsRead}
 use Rattle.resp_session.specs.Worlds.{World, WorldEvent, Send, Greet, ToServer, ToClient, Push, Drop, connection_at, with_change, world_with, version_of, after_command, after_commands, after_event, after_arrival, commands_for, new_world}
-use Rattle.resp_session.proofs.Changes.{is_changed}
+use Rattle.resp_session.proofs.Changes.{changed_at, is_changed}
 use Rattle.resp_session.proofs.Elements.{all_taken, all_dropped}
 use Rattle.resp_session.proofs.Parts.{AllHold, comes_from, arrived_requests-with_request}
 use Rattle.resp_session.proofs.SentRequests.{IsSent, AllSent, step_sent, new_sent}
@@ -25,14 +25,6 @@ use Rattle.resp_session.proofs.WrittenIsRead.{IsRead, reply_read, push_read, wai
 
 abbrev AllRead : Bounds → World → Type 0
 AllRead limits w = (i : ℕ) (c : Connection) → connection_at w.connections i ≡ Some c → IsRead limits (arrived_requests c) c
-
--- the connection that was changed
-changed_at : (f : Connection → Connection) (cs : List Connection) (i : ℕ) (c : Connection) → connection_at cs i ≡ Some c →
-    connection_at (with_change f cs i) i ≡ Some (f c)
-changed_at f [] i c e = absurd (cc)
-changed_at f (first ∷ cs) zero c e = absurd (cc)
-changed_at f (first ∷ cs) (suc zero) c e = let h : first ≡ c = cc in ap (λ x. Some (f x)) h
-changed_at f (first ∷ cs) (suc (suc i)) c e = changed_at f cs (suc i) c e
 
 -- a change of a connection that keeps it
 change_read : (limits : Bounds) (f : Connection → Connection) (w : World) (i : ℕ) →

@@ -12,7 +12,7 @@ use Rattle.resp_value.specs.declared.version.Version.TheVariants.{Two}
 use Rattle.resp_session.specs.Answers.{server_rules}
 use Rattle.resp_session.specs.Arrivals.{HasCome, HasBeenRead, MeetsNoFault}
 use Rattle.resp_session.specs.Heard.{replies_of, pushes_of}
-use Rattle.resp_session.specs.Reading.{Waiting, ReadsAs}
+use Rattle.resp_session.specs.Reading.{Waiting, MayGoOn, ReadsAs}
 use Rattle.resp_session.specs.Requests.{version_asked, Request, Command, HasBytes, request_words, request_text}
 use Rattle.resp_session.specs.Connections.{Connection, Message, message_text, push_message, back_text, later_requests, sent_text, values_of, shown_messages, shown_replies, shown_pushes}
 use Rattle.resp_session.specs.Worlds.{World, WorldEvent, Send, Push, connection_at, new_world}
@@ -106,3 +106,9 @@ WhatIsShownIsRead = AlwaysHolds (λ limits c. HasBeenRead limits (waiting_for Tw
 abbrev pub NoClientMeetsAFault : Type 0
 NoClientMeetsAFault = AlwaysHolds (λ limits c.
     MeetsNoFault limits (waiting_for Two c.requests) (take c.shown (back_text c)))
+
+-- whatever is read of what has come to a client, up to a rest that may go on, is the messages that have come whole
+abbrev pub WhatIsReadIsShown : Type 0
+WhatIsReadIsShown = AlwaysHolds (λ limits c. (xs : List Datum) (front rest : List ℕ) (after : Waiting) →
+    ReadsAs limits (waiting_for Two c.requests) xs front after → take c.shown (back_text c) ≡ front ++ rest →
+    MayGoOn limits after rest → xs ≡ values_of (shown_messages c))

@@ -10,7 +10,7 @@ ghost use Rattle.resp_session.specs.Worlds.{Push, Drop};
 ghost use Rattle.resp_value.specs.declared.cause.Cause.TheVariants.{NotInVersion};
 ghost use Rattle.resp_session.specs.ReadingLaws.{ReadingsGoOn, ReadingsStay, ATextHasOneReading, ARestHasOneClientFault, HearingGoesOn};
 ghost use Rattle.resp_session.specs.Replies.{simple_string, bulk_string, natural, null};
-ghost use Rattle.resp_session.specs.WorldLaws.{AWorldHasOneOrder, ARunIsCut, TheOrderOnlyGrows, ShownRepliesAreOfTheOrder, WhatIsShownWasSent, WhatArrivesIsCommands, EachMessageIsWritten, WhatIsWrittenIsRead, WhatIsShownIsRead, NoClientMeetsAFault};
+ghost use Rattle.resp_session.specs.WorldLaws.{AWorldHasOneOrder, ARunIsCut, TheOrderOnlyGrows, ShownRepliesAreOfTheOrder, WhatIsShownWasSent, WhatArrivesIsCommands, EachMessageIsWritten, WhatIsWrittenIsRead, WhatIsShownIsRead, WhatIsReadIsShown, NoClientMeetsAFault};
 ghost use Rattle.resp_session.specs.Fitting.{EffectsFit, NumbersAreShort};
 ghost use Rattle.resp_session.specs.Connections.{push_message};
 ghost use Rattle.resp_session.specs.Serving.{ArrivalsGoOn, WhatArrivesIsAnswered};
@@ -176,8 +176,10 @@ pub fn what_is_written_is_read()
 /// go on. So no client of a world answers a fault.
 pub fn what_is_shown_is_read()
     ensures read { WhatIsShownIsRead }
+    ensures nothing_else { WhatIsReadIsShown }
     ensures no_fault { NoClientMeetsAFault }
 {
+    a_text_has_one_reading();
     each_message_is_written();
     what_is_written_is_read();
     a_rest_has_one_client_fault();

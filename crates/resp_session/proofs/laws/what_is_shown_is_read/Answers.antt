@@ -1,4 +1,4 @@
-use Rattle.resp_session.proofs.ShownIsRead.{what_is_shown_is_read, no_client_meets_a_fault}
+use Rattle.resp_session.proofs.ShownIsRead.{what_is_shown_is_read, what_is_read_is_shown, no_client_meets_a_fault}
 use Rattle.resp_session.proofs.laws.what_is_shown_is_read.Goals as goal
 
 pub returns-clause-read : goal.returns-clause-read
@@ -8,3 +8,6 @@ returns-clause-read c = what_is_shown_is_read c.no_spelling_begins_another.ensur
 pub returns-clause-no_fault : goal.returns-clause-no_fault
 returns-clause-no_fault c = no_client_meets_a_fault c.no_spelling_begins_another.ensures c.a_push_begins_with_its_byte.ensures
     c.a_rest_has_one_client_fault.ensures (returns-clause-read c)
+
+pub returns-clause-nothing_else : goal.returns-clause-nothing_else
+returns-clause-nothing_else c = what_is_read_is_shown c.a_text_has_one_reading.ensures (returns-clause-read c)
