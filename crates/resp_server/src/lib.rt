@@ -15,6 +15,8 @@ mod run;
 mod session;
 mod store;
 mod stored;
+#[cfg(test)]
+mod tests;
 mod turn;
 
 pub use entries::Entries;
