@@ -1,12 +1,11 @@
 -- Reads and writes one after another.
-use Rattle.std.proofs.Common.{◌≡◌, ℕ, zero, suc, ◌+◌, ◌≤◌, ◌<◌, List, [], ◌++◌, length, take, drop, Option, None, Some, Ok, Err, refl, sym, ap, subst, ◌∙◌, arith, append_assoc, drop-drop}
-use Rattle.std.proofs.lemmas.List.{append-nil, length-drop, take-append-drop}
+use Rattle.std.proofs.Common.{◌≡◌, ℕ, zero, suc, ◌+◌, ◌<◌, List, [], ◌++◌, length, take, drop, Option, None, Some, Ok, Err, refl, sym, ap, subst, ◌∙◌, arith, append_assoc}
+use Rattle.std.specs.Prelude.{IfErr, IfOk, Result}
+use Rattle.std.proofs.lemmas.List.{append-nil, take-append-drop}
 use Rattle.std.proofs.Math.Seq.{take-add}
 use Rattle.resp_value.specs.Devices.{Appends, Reads, ReadsFront, count_after}
 use Rattle.resp_value.specs.declared.device.DeviceFault.{DeviceFault}
-use Rattle.resp_client.specs.Clients.{ClientState, state_of, without_front}
-use Rattle.resp_client.specs.Hearing.{KeepsReading}
-use Rattle.resp_client.specs.declared.client.Client.{Client}
+use Rattle.resp_wire.specs.Asking.{SpendsTurns}
 use Rattle.resp_wire.specs.Turns.{HasRead, Spends, TellsEnd}
 
 -- Turns.
@@ -14,86 +13,105 @@ use Rattle.resp_wire.specs.Turns.{HasRead, Spends, TellsEnd}
 pub spends_nothing : (calls turns : ℕ) → Spends calls calls turns turns
 spends_nothing calls turns = record { count = 0; none = λ e. refl; some = λ h. absurd (omega (arith, h)); spent = omega arith }
 
--- one call more
-called_again : (count calls calls' calls'' : ℕ) → (count ≡ 0 → calls' ≡ calls) → (0 < count → calls' ≡ count_after count calls) →
-    calls'' ≡ count_after 1 calls' → calls'' ≡ count_after (count + 1) calls
-called_again zero calls calls' calls'' none some one = one ∙ ap (count_after 1) (none refl)
-called_again (suc count) calls calls' calls'' none some one =
-    let so_far : calls' ≡ count_after (suc count) calls = some (omega arith) in
-    omega (arith, so_far, one)
+-- one call
+one_spent : (calls calls' turns turns' : ℕ) → calls' ≡ count_after 1 calls → turns ≡ turns' + 1 → Spends calls calls' turns turns'
+one_spent calls calls' turns turns' one left =
+    record { count = 1; none = λ e. absurd (omega (arith, e)); some = λ h. one; spent = left }
+
+-- so many calls, and then more
+called_more : (m n calls calls' calls'' : ℕ) → (m ≡ 0 → calls' ≡ calls) → (0 < m → calls' ≡ count_after m calls) → (n ≡ 0 → calls'' ≡ calls') →
+    (0 < n → calls'' ≡ count_after n calls') → 0 < m + n → calls'' ≡ count_after (m + n) calls
+called_more zero zero calls calls' calls'' none some none' some' any = absurd (omega (arith, any))
+called_more zero (suc n) calls calls' calls'' none some none' some' any =
+    let first = none refl in
+    let second = some' (omega arith) in
+    omega (arith, first, second)
+called_more (suc m) zero calls calls' calls'' none some none' some' any =
+    let first = some (omega arith) in
+    let second = none' refl in
+    omega (arith, first, second)
+called_more (suc m) (suc n) calls calls' calls'' none some none' some' any =
+    let first = some (omega arith) in
+    let second = some' (omega arith) in
+    omega (arith, first, second)
+
+pub spends_more : (calls calls' calls'' turns turns' turns'' : ℕ) → Spends calls calls' turns turns' → Spends calls' calls'' turns' turns'' →
+    Spends calls calls'' turns turns''
+spends_more calls calls' calls'' turns turns' turns'' s t = record {
+  count = s.count + t.count;
+  none = λ e. t.none (omega (arith, e)) ∙ s.none (omega (arith, e));
+  some = λ any. called_more s.count t.count calls calls' calls'' s.none s.some t.none t.some any;
+  spent = omega (arith, s.spent, t.spent);
+}
 
 pub spends_one : (calls calls' calls'' turns turns' turns'' : ℕ) → Spends calls calls' turns turns' → calls'' ≡ count_after 1 calls' → turns' ≡ turns'' + 1 →
     Spends calls calls'' turns turns''
-spends_one calls calls' calls'' turns turns' turns'' s one left = record {
-  count = s.count + 1;
-  none = λ e. absurd (omega (arith, e));
-  some = λ h. called_again s.count calls calls' calls'' s.none s.some one;
-  spent = omega (arith, s.spent, left);
-}
+spends_one calls calls' calls'' turns turns' turns'' s one left =
+    spends_more calls calls' calls'' turns turns' turns'' s (one_spent calls' calls'' turns' turns'' one left)
+
+-- reads and then writes more
+pub spends_both : (writes writes' writes'' reads reads' reads'' turns turns' turns'' left : ℕ) → SpendsTurns writes writes' reads reads' turns turns' →
+    Spends reads' reads'' turns' turns'' → Spends writes' writes'' turns'' left → SpendsTurns writes writes'' reads reads'' turns left
+spends_both writes writes' writes'' reads reads' reads'' turns turns' turns'' left s r w =
+    let read = s.read.count + r.count in
+    let written = s.written.count + w.count in
+    record {
+      between = left + read;
+      written = record {
+        count = written;
+        none = λ e. w.none (omega (arith, e)) ∙ s.written.none (omega (arith, e));
+        some = λ any. called_more s.written.count w.count writes writes' writes'' s.written.none s.written.some w.none w.some any;
+        spent = omega (arith, s.written.spent, s.read.spent, r.spent, w.spent);
+      };
+      read = record {
+        count = read;
+        none = λ e. r.none (omega (arith, e)) ∙ s.read.none (omega (arith, e));
+        some = λ any. called_more s.read.count r.count reads reads' reads'' s.read.none s.read.some r.none r.some any;
+        spent = omega arith;
+      };
+    }
 
 -- Writes.
 
 -- one text was appended, and then another
-appends_more : (a b c : Option (List ℕ)) (xs ys : List ℕ) → Appends a b xs → Appends b c ys → Appends a c (xs ++ ys)
+pub appends_more : (a b c : Option (List ℕ)) (xs ys : List ℕ) → Appends a b xs → Appends b c ys → Appends a c (xs ++ ys)
 appends_more None b c xs ys first second = tt
 appends_more (Some held) b c xs ys first second =
     let then_second : Appends (Some (held ++ xs)) c ys = subst (λ v. Appends v c ys) first second in
     then_second ∙ ap Some (append_assoc held xs ys)
 
--- What has been written of what waited: so many bytes, which the client dropped.
-pub record SendsUpTo (old new : Client) (held held' : Option (List ℕ)) : Type 0 where
-  pub count : ℕ
-  pub within : count ≤ length (state_of old).out
-  pub appended : Appends held held' (take count (state_of old).out)
-  pub dropped : state_of new ≡ without_front count (state_of old)
-  pub same_reading : KeepsReading old new
+pub appends_nothing : (held : Option (List ℕ)) → Appends held held []
+appends_nothing None = tt
+appends_nothing (Some held) = ap Some (sym (append-nil held))
 
--- nothing was written
-pub sends_nothing : (c : Client) (held : Option (List ℕ)) → SendsUpTo c c held held
-sends_nothing c None = record {
-  count = 0;
-  within = omega arith;
-  appended = tt;
-  dropped = refl;
-  same_reading = record { same_front = λ front h. h; same_fault = λ fault h. h };
-}
-sends_nothing c (Some held) = record {
-  count = 0;
-  within = omega arith;
-  appended = ap Some (sym (append-nil held));
-  dropped = refl;
-  same_reading = record { same_front = λ front h. h; same_fault = λ fault h. h };
-}
-
--- bytes were dropped, and then more
-dropped_twice : (s : ClientState) (count n : ℕ) → without_front n (without_front count s) ≡ without_front (count + n) s
-dropped_twice s count n = ap (λ (z : List ℕ). let t : ClientState = record { limits = s.limits; waiting = s.waiting; answered = s.answered; out = z } in t)
-    (drop-drop n count s.out)
-
--- more was written
-pub sends_more : (old mid new : Client) (held held' held'' : Option (List ℕ)) (text : List ℕ) (n : ℕ) → SendsUpTo old mid held held' →
-    text ≡ (state_of mid).out → n ≤ length text → Appends held' held'' (take n text) → state_of new ≡ without_front n (state_of mid) → KeepsReading mid new →
-    SendsUpTo old new held held''
-sends_more old mid new held held' held'' text n s same within appended dropped keeps =
-    let out = (state_of old).out in
-    let rest : text ≡ drop s.count out = same ∙ ap (λ z. let t : ClientState = z in t.out) s.dropped in
-    record {
-      count = s.count + n;
-      within = omega (arith, s.within, within, ap length rest, length-drop s.count out);
-      appended = subst (Appends held held'') (sym (take-add s.count n out))
-          (appends_more held held' held'' (take s.count out) (take n (drop s.count out)) s.appended (subst (λ z. Appends held' held'' (take n z)) rest appended));
-      dropped = dropped ∙ ap (λ z. without_front n z) s.dropped ∙ dropped_twice (state_of old) s.count n;
-      same_reading = record {
-        same_front = λ front h. keeps.same_front front (s.same_reading.same_front front h);
-        same_fault = λ fault h. keeps.same_fault fault (s.same_reading.same_fault fault h);
-      };
-    }
+-- so many bytes of a text, and then more of it
+pub appends_part : (a b c : Option (List ℕ)) (text : List ℕ) (count n : ℕ) → Appends a b (take count text) → Appends b c (take n (drop count text)) →
+    Appends a c (take (count + n) text)
+appends_part a b c text count n first second =
+    subst (Appends a c) (sym (take-add count n text)) (appends_more a b c (take count text) (take n (drop count text)) first second)
 
 -- Reads.
 
 pub reads_none : (left : Option (List ℕ)) → HasRead left left []
 reads_none None = tt
 reads_none (Some left) = (left, refl, refl)
+
+-- bytes were read, and then more
+pub has_read_more : (a b c : Option (List ℕ)) (came more : List ℕ) → HasRead a b came → HasRead b c more → HasRead a c (came ++ more)
+has_read_more None b c came more first second = tt
+has_read_more (Some left) b c came more (rest, parts, behind) second =
+    let (last, parts', behind') : HasRead (Some rest) c more = subst (λ z. HasRead z c more) behind second in
+    (last, parts ∙ ap (λ z. came ++ z) parts' ∙ sym (append_assoc came more last), behind')
+
+-- no byte more was read
+pub has_read_same : (a b c : Option (List ℕ)) (came more : List ℕ) → more ≡ [] → HasRead a b came → HasRead b c more → HasRead a c came
+has_read_same a b c came more none first second =
+    subst (HasRead a c) (ap (λ z. came ++ z) none ∙ append-nil came) (has_read_more a b c came more first second)
+
+-- the end is told behind what was read
+pub end_behind : (a b c : Option (List ℕ)) (came : List ℕ) → HasRead a b came → TellsEnd b c → TellsEnd a c
+end_behind None b c came first second = tt
+end_behind (Some left) b c came (rest, parts, behind) second = subst (λ z. TellsEnd z c) behind second
 
 -- more was read
 pub reads_more : (a b c : Option (List ℕ)) (came into : List ℕ) (n : ℕ) → HasRead a b came → Reads b c into (Ok n) → HasRead a c (came ++ take n into)
@@ -122,3 +140,10 @@ reads_end (Some left) b c came into zero (rest, parts, behind) second none room 
     let over : rest ≡ [] = read.at_end refl room in
     ((rest, parts, read.behind), read.behind ∙ ap Some over)
 reads_end (Some left) b c came into (suc n) first second none room = absurd (omega (arith, none))
+
+-- what holds at an answer
+pub if_ok : {A : Type 0} → {E : Type 0} → (r : Result A E) (x : A) → r ≡ Ok x → (P : A → Type 0) → IfOk r P → P x
+if_ok r x is P p = subst (λ z. IfOk z P) is p
+
+pub if_err : {A : Type 0} → {E : Type 0} → (r : Result A E) (e : E) → r ≡ Err e → (P : E → Type 0) → IfErr r P → P e
+if_err r e is P p = subst (λ z. IfErr z P) is p

@@ -4,3 +4,4 @@ pub mod Turns
 pub mod Requests
 pub mod Stops
 pub mod Asking
+pub mod Serving

@@ -1,6 +1,8 @@
 -- What an engine's reads and writes come to.
 use Rattle.std.specs.Prelude.{◌≡◌, ℕ, ◌+◌, ◌<◌, List, [], ◌++◌, Option, None, Some}
-use Rattle.resp_value.specs.Devices.{count_after}
+use Rattle.resp_value.specs.Devices.{HasRisen, count_after}
+use Rattle.resp_wire.specs.declared.turns.Halt.{Halt}
+use Rattle.resp_wire.specs.declared.turns.Halt.TheVariants.{Failed, NoTurn}
 
 -- Bytes were read: of those that were left, where the device tells them, these are the first.
 abbrev pub HasRead : Option (List ℕ) → Option (List ℕ) → List ℕ → Type 0
@@ -13,6 +15,11 @@ pub record Spends (calls calls' turns turns' : ℕ) : Type 0 where
   pub none : count ≡ 0 → calls' ≡ calls
   pub some : 0 < count → calls' ≡ count_after count calls
   pub spent : turns ≡ turns' + count
+
+-- why no byte is moved: the device's count of failures has risen, or no turn is left
+abbrev pub Halts : ℕ → ℕ → ℕ → Halt → Type 0
+Halts failures failures' left Failed = HasRisen failures failures'
+Halts failures failures' left NoTurn = left ≡ 0
 
 -- a device that told its bytes before tells that none is left
 abbrev pub TellsEnd : Option (List ℕ) → Option (List ℕ) → Type 0

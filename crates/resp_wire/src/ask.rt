@@ -9,18 +9,16 @@ ghost use Rattle.resp_value.specs.Devices.{Appends};
 ghost use Rattle.resp_wire.specs.Hearing.{HearsAll};
 ghost use Rattle.resp_wire.specs.Asking.{SendsAll, SendsPart, SpendsTurns, sent};
 ghost use Rattle.resp_wire.specs.Stops.{FailsReading, FailsWriting, QueuesFirst, StopsClient, StopsHearing, StopsListening, StopsQueueing, error_at, error_of};
-ghost use Rattle.resp_wire.specs.Turns.{HasRead, Spends};
+ghost use Rattle.resp_wire.specs.Turns.{Halts, HasRead, Spends};
 
 use crate::asked::{Asked, Request};
 use crate::error::AskError;
+use crate::turns::{Halt, PIECE, behind, front, write_text};
 use resp_client::{Client, SendError};
 use resp_scan::event::Fault;
 use resp_session::laws;
 use resp_value::cause::Cause;
 use resp_value::device::{Sink, Source};
-
-/// How many bytes one read asks for.
-const PIECE: usize = 4_096;
 
 /// Queues the requests, writes all that waits, and reads until no command waits; the last piece
 /// that is read is heard whole. What is heard is added, whatever is answered.
@@ -155,7 +153,7 @@ fn refused(index: usize, error: SendError) -> AskError
     }
 }
 
-/// Writes what waits to be sent, by one write after another.
+/// Writes what waits to be sent.
 fn send_all<W: Sink>(writer: &mut W, client: &mut Client, turns: &mut u64) -> Result<(), AskError>
     ensures sent { (count : ℕ) × (count ≤ length (state_of client.old).out) ×
         Appends (W.written writer.old) (W.written writer.new)
@@ -168,17 +166,25 @@ fn send_all<W: Sink>(writer: &mut W, client: &mut Client, turns: &mut u64) -> Re
         (W.failures writer.new)) }
     ensures no_turn_left { IsErrOf result AskError.TooManyTurns → turns.new ≡ 0 }
 {
-    while !client.out().is_empty() {
-        if *turns == 0 {
-            return Err(AskError::TooManyTurns);
-        }
-        *turns -= 1;
-        match writer.write(client.out()) {
-            Ok(0) | Err(_) => return Err(AskError::Write),
-            Ok(count) => client.sent(count),
-        }
+    let written = write_text(writer, client.out(), turns);
+    client.sent(written.count);
+    match written.end {
+        Ok(()) => Ok(()),
+        Err(halt) => Err(unwritten(halt)),
     }
-    Ok(())
+}
+
+/// Why a write that moved no byte stops the call.
+fn unwritten(halt: Halt) -> AskError
+    ensures reason { (failures failures' left : ℕ) → Halts failures failures' left halt →
+        FailsWriting failures failures' result }
+    ensures no_turn_left { (failures failures' left : ℕ) → Halts failures failures' left halt →
+        result ≡ AskError.TooManyTurns → left ≡ 0 }
+{
+    match halt {
+        Halt::Failed => AskError::Write,
+        Halt::NoTurn => AskError::TooManyTurns,
+    }
 }
 
 /// Reads until no command waits, and adds what is heard.
@@ -218,22 +224,4 @@ fn hear_all<R: Source>(
         }
     }
     Ok(())
-}
-
-/// The bytes from this index on.
-#[inline]
-fn behind(piece: &[u8], from: usize) -> &[u8]
-    requires { from ≤ length piece.now }
-    ensures { result.now ≡ drop from piece.now }
-{
-    &piece[from..]
-}
-
-/// So many of the first bytes.
-#[inline]
-fn front(piece: &[u8], count: usize) -> &[u8]
-    requires { count ≤ length piece.now }
-    ensures { result.now ≡ take count piece.now }
-{
-    &piece[..count]
 }

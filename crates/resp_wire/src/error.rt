@@ -34,3 +34,23 @@ pub enum AskError {
     #[error("the input ended")]
     Ended,
 }
+
+/// Why [`crate::serve::serve`] stopped.
+#[derive(Clone, Copy, Debug, PartialEq, Eq, Error)]
+pub enum ServeError {
+    /// No session has this id. Nothing was done.
+    #[error("no session has this id")]
+    NoSession,
+    /// A growth was refused. What was done before stands, and the session is closing.
+    #[error("out of memory")]
+    OutOfMemory,
+    /// A read failed. All that was answered before is written.
+    #[error("the reader failed")]
+    Read,
+    /// A write failed, or took no byte.
+    #[error("the writer failed")]
+    Write,
+    /// As many reads and writes were made as were allowed.
+    #[error("too many turns")]
+    TooManyTurns,
+}

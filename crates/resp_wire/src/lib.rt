@@ -1,13 +1,17 @@
-//! A client's end of a connection over any reader and writer.
+//! Both ends of a connection over any reader and writer.
 //!
-//! [`ask::ask`] sends requests to the other end and hears the replies.
+//! [`ask::ask`] sends requests to the other end and hears the replies; [`serve::serve`] hears
+//! requests and sends the replies.
 #![tactic(auto)]
 
 pub mod ask;
 pub mod asked;
 pub mod error;
+pub mod serve;
 #[cfg(test)]
 mod tests;
+mod turns;
 
 pub use asked::{Asked, Request};
-pub use error::AskError;
+pub use error::{AskError, ServeError};
+pub use serve::Served;

@@ -1,5 +1,7 @@
 //! A client's requests and their replies over memory, and what stands at each refusal.
 
+mod serves;
+
 use crate::ask::ask;
 use crate::asked::{Asked, Request};
 use crate::error::AskError;

@@ -1,0 +1,128 @@
+-- A hub with another session in the place of one.
+use Rattle.std.proofs.Common.{arith, length, take, drop, ◌≤◌, ◌≡◌, ℕ, ◌==◌, Bool, true, false, cond, Option, None, Some, List, [], ◌∷◌, IfSome, refl, sym, ap, subst, ◌∙◌}
+use Rattle.std.specs.Map.{lookup}
+use Rattle.std.specs.Option.{option_map}
+use Rattle.std.proofs.lemmas.List.{drop_all, take-append-drop}
+use Rattle.resp_value.specs.Devices.{Appends}
+use Rattle.resp_decode.specs.Decoding.{HasTaken}
+use Rattle.resp_server.specs.Handling.{WhereOpen}
+use Rattle.resp_server.specs.Hubs.{HubState, Seat, seat_at, seated, with_seat}
+use Rattle.resp_wire.specs.Serving.{HasSent, IsClosing, IsOpen, IsThere}
+
+found_by : (id : ℕ) (e : ℕ × Seat) (es : List (ℕ × Seat)) (old new : Seat) (here : Bool) → (id == e.0) ≡ here →
+    cond here (Some e.1) (lookup (λ other. id == other) es) ≡ Some old →
+    (lookup (λ other. id == other) es ≡ Some old → lookup (λ other. id == other) (with_seat es id new) ≡ Some new) →
+    lookup (λ other. id == other) (cond here ((e.0, new) ∷ es) (e ∷ with_seat es id new)) ≡ Some new
+found_by id e es old new true is found later = ap (λ b. cond b (Some new) (lookup (λ other. id == other) es)) is
+found_by id e es old new false is found later =
+    ap (λ b. cond b (Some e.1) (lookup (λ other. id == other) (with_seat es id new))) is ∙ later found
+
+found_in : (id : ℕ) (es : List (ℕ × Seat)) (old new : Seat) → lookup (λ other. id == other) es ≡ Some old →
+    lookup (λ other. id == other) (with_seat es id new) ≡ Some new
+found_in id [] old new found = absurd (cc)
+found_in id (e ∷ es) old new found = found_by id e es old new (id == e.0) refl found (found_in id es old new)
+
+-- there stands then the new session
+pub seat_here : (hub : HubState) (id : ℕ) (old new : Seat) → seat_at hub id ≡ Some old → seat_at (seated hub id new) id ≡ Some new
+seat_here hub id old new found = found_in id hub.sessions old new found
+
+twice_by : (id : ℕ) (e : ℕ × Seat) (es : List (ℕ × Seat)) (a b : Seat) (here : Bool) → (id == e.0) ≡ here →
+    with_seat (with_seat es id a) id b ≡ with_seat es id b →
+    with_seat (cond here ((e.0, a) ∷ es) (e ∷ with_seat es id a)) id b ≡ cond here ((e.0, b) ∷ es) (e ∷ with_seat es id b)
+twice_by id e es a b true is later = ap (λ c. cond c ((e.0, b) ∷ es) ((e.0, a) ∷ with_seat es id b)) is
+twice_by id e es a b false is later =
+    ap (λ c. cond c ((e.0, b) ∷ with_seat es id a) (e ∷ with_seat (with_seat es id a) id b)) is ∙ ap (λ l. e ∷ l) later
+
+twice_in : (id : ℕ) (es : List (ℕ × Seat)) (a b : Seat) → with_seat (with_seat es id a) id b ≡ with_seat es id b
+twice_in id [] a b = refl
+twice_in id (e ∷ es) a b = twice_by id e es a b (id == e.0) refl (twice_in id es a b)
+
+-- of two changes of a session the last one counts
+pub seated_twice : (hub : HubState) (id : ℕ) (a b : Seat) → seated (seated hub id a) id b ≡ seated hub id b
+seated_twice hub id a b =
+    ap (λ sessions. record { limits = hub.limits; sessions = sessions; store = hub.store; last = hub.last }) (twice_in id hub.sessions a b)
+
+-- one session stands there
+pub one_seat : (o : Option Seat) (a b : Seat) → o ≡ Some a → o ≡ Some b → a ≡ b
+one_seat o a b x y = let z = sym x ∙ y in cc
+
+-- what holds of every front of a session that is open
+where_by : (hub : HubState) (id : ℕ) (P : Seat → List ℕ → Type 0) (o : Option Seat) → seat_at hub id ≡ o →
+    ((s : Seat) → seat_at hub id ≡ Some s → s.closing ≡ false → (front : List ℕ) → HasTaken s.decoder front → P s front) →
+    IfSome o (λ s. s.closing ≡ false → (front : List ℕ) → HasTaken s.decoder front → P s front)
+where_by hub id P None is all = tt
+where_by hub id P (Some s) is all = all s is
+
+pub where_open : (hub : HubState) (id : ℕ) (P : Seat → List ℕ → Type 0) →
+    ((s : Seat) → seat_at hub id ≡ Some s → s.closing ≡ false → (front : List ℕ) → HasTaken s.decoder front → P s front) → WhereOpen hub id P
+where_open hub id P all = where_by hub id P (seat_at hub id) refl all
+
+pub at_open : (hub : HubState) (id : ℕ) (P : Seat → List ℕ → Type 0) (s : Seat) (front : List ℕ) → WhereOpen hub id P → seat_at hub id ≡ Some s →
+    s.closing ≡ false → HasTaken s.decoder front → P s front
+at_open hub id P s front w here is_open taken =
+    let all : s.closing ≡ false → (front : List ℕ) → HasTaken s.decoder front → P s front =
+    subst (λ o. IfSome o (λ (t : Seat). t.closing ≡ false → (front : List ℕ) → HasTaken t.decoder front → P t front)) here w in
+    all is_open front taken
+
+-- a session that is open is there
+pub open_is_there : (hub : HubState) (id : ℕ) → IsOpen hub id → IsThere hub id
+open_is_there hub id o = (o.seat, o.here)
+
+pub not_there : (hub : HubState) (id : ℕ) → IsThere hub id → seat_at hub id ≡ None → ⊥
+not_there hub id (s, here) none = let e : Some s ≡ None = sym here ∙ none in absurd (cc)
+
+-- a session that isn't closing is open
+open_by : (hub : HubState) (id : ℕ) (o : Option Seat) → seat_at hub id ≡ o → option_map (λ (s : Seat). s.closing) o ≡ Some false →
+    IfSome o (λ s. s.closing ≡ false → (front : List ℕ) × HasTaken s.decoder front) → IsOpen hub id
+open_by hub id None is closing taking = absurd (cc)
+open_by hub id (Some s) is closing taking =
+    let not_closing : s.closing ≡ false = cc in
+    let (front, taken) = taking not_closing in
+    record { seat = s; here = is; not_closing = not_closing; front = front; taken = taken }
+
+pub is_open : (hub : HubState) (id : ℕ) (closing : Bool) → IsClosing hub id closing → closing ≡ false →
+    IfSome (seat_at hub id) (λ s. s.closing ≡ false → (front : List ℕ) × HasTaken s.decoder front) → IsOpen hub id
+is_open hub id closing is not taking = open_by hub id (seat_at hub id) refl (is ∙ ap Some not) taking
+
+there_by : (hub : HubState) (id : ℕ) (closing : Bool) (o : Option Seat) → seat_at hub id ≡ o → option_map (λ (s : Seat). s.closing) o ≡ Some closing →
+    IsThere hub id
+there_by hub id closing None is e = absurd (cc)
+there_by hub id closing (Some s) is e = (s, is)
+
+pub closing_is_there : (hub : HubState) (id : ℕ) (closing : Bool) → IsClosing hub id closing → IsThere hub id
+closing_is_there hub id closing is = there_by hub id closing (seat_at hub id) refl is
+
+-- what was dropped of what waits in a session
+sent_by : (old new : HubState) (id : ℕ) (text : List ℕ) (count : ℕ) (held held' : Option (List ℕ)) (o : Option Seat) → seat_at old id ≡ o →
+    option_map (λ (s : Seat). s.out) o ≡ Some text → IfSome o (λ s. new ≡ seated old id (record s { out = drop count s.out })) →
+    Appends held held' (take count text) → HasSent old new id held held' (drop count text)
+sent_by old new id text count held held' None is out dropped appended = absurd (cc)
+sent_by old new id text count held held' (Some s) is out dropped appended =
+    let same : s.out ≡ text = cc in
+    record {
+      seat = s;
+      here = is;
+      text = take count text;
+      parts = same ∙ sym (take-append-drop count text);
+      appended = appended;
+      state = dropped ∙
+          ap (λ z. seated old id (record { version = s.version; out = drop count z; closing = s.closing; decoder = s.decoder })) same;
+    }
+
+pub sent_part : (old new : HubState) (id : ℕ) (text : List ℕ) (count : ℕ) (held held' : Option (List ℕ)) →
+    option_map (λ (s : Seat). s.out) (seat_at old id) ≡ Some text → count ≤ length text →
+    IfSome (seat_at old id) (λ s. new ≡ seated old id (record s { out = drop count s.out })) →
+    Appends held held' (take count text) → HasSent old new id held held' (drop count text)
+sent_part old new id text count held held' out within dropped appended =
+    sent_by old new id text count held held' (seat_at old id) refl out dropped appended
+
+pub all_dropped : (count : ℕ) (text : List ℕ) → count ≡ length text → drop count text ≡ []
+all_dropped count text whole = drop_all count text (omega (arith, whole))
+
+-- of a session that is closing or isn't there nothing is said
+pub not_open : (hub : HubState) (id : ℕ) (P : Seat → List ℕ → Type 0) → IsClosing hub id true → WhereOpen hub id P
+not_open hub id P is = where_open hub id P (λ s here not_closing front taken.
+    let e : Some s.closing ≡ Some true = sym (ap (option_map (λ (t : Seat). t.closing)) here) ∙ is in absurd (cc))
+
+pub nowhere : (hub : HubState) (id : ℕ) (P : Seat → List ℕ → Type 0) → seat_at hub id ≡ None → WhereOpen hub id P
+nowhere hub id P none = where_open hub id P (λ s here not_closing front taken. absurd (not_there hub id (s, here) none))

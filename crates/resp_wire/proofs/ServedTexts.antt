@@ -1,0 +1,383 @@
+-- Texts that are answered and written, one behind another.
+use Rattle.std.specs.Prelude.{⊤}
+use Rattle.std.proofs.Common.{◌≡◌, ℕ, ◌+◌, ◌≤◌, Bool, true, false, Option, Some, List, [], ◌++◌, length, refl, sym, ap, subst, ◌∙◌, arith, append_assoc}
+use Rattle.std.proofs.lemmas.List.{append-nil}
+use Rattle.std.specs.Option.{option_map}
+use Rattle.resp_value.specs.Devices.{Appends}
+use Rattle.resp_value.specs.declared.version.Version.{Version}
+use Rattle.resp_decode.specs.Decoding.{HasTaken}
+use Rattle.resp_decode.specs.declared.decoder.Decoder.{Decoder}
+use Rattle.resp_session.specs.AnswerLaws.{AnswersAreAdded, AnswersGoOn}
+use Rattle.resp_session.specs.Answers.{Answers}
+use Rattle.resp_session.specs.Stores.{Store}
+use Rattle.resp_server.specs.Answering.{state_with}
+use Rattle.resp_server.specs.Handling.{HasAnswered, HasCutShort, WhereOpen}
+use Rattle.resp_server.specs.Hubs.{HubState, Seat, seat_at, seated, stocked}
+use Rattle.resp_wire.specs.Serving.{HasSent, IsClosing, IsNotAhead, IsOpen, IsThere, Serves, ServesFirst, StopsServing}
+use Rattle.resp_wire.specs.declared.error.ServeError.{ServeError}
+use Rattle.resp_wire.specs.declared.error.ServeError.TheVariants.{NoSession, OutOfMemory, Read, Write, TooManyTurns}
+use Rattle.resp_wire.proofs.Seated.{at_open, where_open, one_seat, seat_here, seated_twice}
+use Rattle.resp_wire.proofs.Turning.{appends_more, appends_nothing}
+
+abbrev pub seat_with : Version → List ℕ → Bool → Decoder → Seat
+seat_with version out closing decoder = record { version = version; out = out; closing = closing; decoder = decoder }
+
+-- the session behind a change, and its text and its hub behind a write of what waited
+pub seat_given : (old given : HubState) (id : ℕ) (s seat : Seat) (store : Store) → seat_at old id ≡ Some s →
+    given ≡ stocked (seated old id seat) store → seat_at given id ≡ Some seat
+seat_given old given id s seat store here is = ap (λ h. seat_at h id) is ∙ seat_here old id s seat here
+
+pub text_sent : (old given new : HubState) (id : ℕ) (s : Seat) (version : Version) (out : List ℕ) (closing : Bool) (decoder : Decoder) (store : Store)
+    (held held' : Option (List ℕ)) (waits : List ℕ) → seat_at old id ≡ Some s → given ≡ stocked (seated old id (seat_with version out closing decoder)) store →
+    (h : HasSent given new id held held' waits) → out ≡ h.text ++ waits
+text_sent old given new id s version out closing decoder store held held' waits here is h =
+    let seat = seat_with version out closing decoder in
+    let same : h.seat ≡ seat = one_seat (seat_at given id) h.seat seat h.here (seat_given old given id s seat store here is) in
+    sym (ap (λ (t : Seat). t.out) same) ∙ h.parts
+
+pub hub_sent : (old given new : HubState) (id : ℕ) (s : Seat) (version : Version) (out : List ℕ) (closing : Bool) (decoder : Decoder) (store : Store)
+    (held held' : Option (List ℕ)) (waits : List ℕ) → seat_at old id ≡ Some s → given ≡ stocked (seated old id (seat_with version out closing decoder)) store →
+    HasSent given new id held held' waits → new ≡ stocked (seated old id (seat_with version waits closing decoder)) store
+hub_sent old given new id s version out closing decoder store held held' waits here is h =
+    let seat = seat_with version out closing decoder in
+    let last = seat_with version waits closing decoder in
+    let same : h.seat ≡ seat = one_seat (seat_at given id) h.seat seat h.here (seat_given old given id s seat store here is) in
+    h.state ∙ ap (λ (t : Seat). seated given id (seat_with t.version waits t.closing t.decoder)) same ∙ ap (λ g. seated g id last) is ∙
+    ap (λ g. stocked g store) (seated_twice old id seat last)
+
+-- What stands behind a text that was answered and whose replies were all written, in a session that is open.
+pub record Stands (old cur : HubState) (id : ℕ) (s : Seat) (text : List ℕ) (held held' : Option (List ℕ)) : Type 0 where
+  pub reply : List ℕ
+  pub store : Store
+  pub version : Version
+  pub decoder : Decoder
+  pub rest : List ℕ
+  pub commands : ℕ
+  pub answers : Answers old.limits id (state_with old.store s.version [] false 0) text (state_with store version reply false commands) rest
+  pub state : cur ≡ stocked (seated old id (seat_with version [] false decoder)) store
+  pub taken : HasTaken decoder rest
+  pub appended : Appends held held' (s.out ++ reply)
+
+pub stands : (old cur : HubState) (id : ℕ) (s : Seat) (text : List ℕ) (held held' : Option (List ℕ)) → seat_at old id ≡ Some s →
+    Serves old cur id s text held held' [] → IsOpen cur id → Stands old cur id s text held held'
+stands old cur id s text held held' here v o =
+    let a = v.answered in
+    let out = s.out ++ a.reply in
+    let parts = text_sent old v.given cur id s a.version out a.closing a.decoder a.store held held' [] here a.state v.sent in
+    let state = hub_sent old v.given cur id s a.version out a.closing a.decoder a.store held held' [] here a.state v.sent in
+    let seat = seat_with a.version [] a.closing a.decoder in
+    let not_closing : a.closing ≡ false =
+    ap (λ (t : Seat). t.closing) (one_seat (seat_at cur id) seat o.seat (seat_given old cur id s seat a.store here state) o.here) ∙ o.not_closing in
+    let start = state_with old.store s.version [] false 0 in
+    record {
+      reply = a.reply;
+      store = a.store;
+      version = a.version;
+      decoder = a.decoder;
+      rest = a.rest;
+      commands = v.commands;
+      answers = subst (λ b. Answers old.limits id start text (state_with a.store a.version a.reply b v.commands) a.rest) not_closing a.answers;
+      state = subst (λ b. cur ≡ stocked (seated old id (seat_with a.version [] b a.decoder)) a.store) not_closing state;
+      taken = a.taking not_closing;
+      appended = subst (Appends held held') (sym (parts ∙ append-nil v.sent.text)) v.sent.appended;
+    }
+
+-- the session then
+abbrev pub seat_of : (old cur : HubState) (id : ℕ) (s : Seat) (text : List ℕ) (held held' : Option (List ℕ)) → Stands old cur id s text held held' → Seat
+seat_of old cur id s text held held' st = seat_with st.version [] false st.decoder
+
+-- what is answered behind it is answered to the whole
+answers_on : AnswersGoOn → AnswersAreAdded → (old cur : HubState) (id : ℕ) (s : Seat) (text : List ℕ) (held held' : Option (List ℕ))
+    (st : Stands old cur id s text held held') (piece rest reply : List ℕ) (store : Store) (version : Version) (closing : Bool) (commands : ℕ) →
+    Answers cur.limits id (state_with cur.store st.version [] false 0) (st.rest ++ piece) (state_with store version reply closing commands) rest →
+    Answers old.limits id (state_with old.store s.version [] false 0) (text ++ piece)
+    (state_with store version (st.reply ++ reply) closing (st.commands + commands)) rest
+answers_on go_on added old cur id s text held held' st piece rest reply store version closing commands given =
+    let last = state_with store version reply closing commands in
+    let whole = state_with store version (st.reply ++ reply) closing (st.commands + commands) in
+    let here : Answers old.limits id (state_with st.store st.version [] false 0) (st.rest ++ piece) last rest =
+    subst (λ (h : HubState). Answers h.limits id (state_with h.store st.version [] false 0) (st.rest ++ piece) last rest) st.state given in
+    let behind = added old.limits id (state_with st.store st.version [] false 0) last (st.rest ++ piece) rest st.reply st.commands here in
+    let behind_text : Answers old.limits id (state_with st.store st.version st.reply false (st.commands + 0)) (st.rest ++ piece) whole rest =
+    subst (λ z. Answers old.limits id (state_with st.store st.version z false (st.commands + 0)) (st.rest ++ piece) whole rest) (append-nil st.reply) behind in
+    let none : st.commands + 0 ≡ st.commands = omega arith in
+    go_on old.limits id (state_with old.store s.version [] false 0) (state_with st.store st.version st.reply false st.commands) whole text piece st.rest rest
+    st.answers refl
+    (subst (λ n. Answers old.limits id (state_with st.store st.version st.reply false n) (st.rest ++ piece) whole rest) none behind_text)
+
+-- what is written behind it is written behind the whole
+sent_on : (old cur given new : HubState) (id : ℕ) (s : Seat) (text : List ℕ) (held held' held'' : Option (List ℕ)) → seat_at old id ≡ Some s →
+    (st : Stands old cur id s text held held') (reply : List ℕ) (store : Store) (version : Version) (closing : Bool) (decoder : Decoder) (waits : List ℕ) →
+    given ≡ stocked (seated cur id (seat_with version reply closing decoder)) store → HasSent given new id held' held'' waits →
+    HasSent (stocked (seated old id (seat_with version (s.out ++ (st.reply ++ reply)) closing decoder)) store) new id held held'' waits
+sent_on old cur given new id s text held held' held'' here st reply store version closing decoder waits is h =
+    let now = seat_with st.version [] false st.decoder in
+    let here_now : seat_at cur id ≡ Some now = seat_given old cur id s now st.store here st.state in
+    let all = seat_with version (s.out ++ (st.reply ++ reply)) closing decoder in
+    let last = seat_with version waits closing decoder in
+    record {
+      seat = all;
+      here = seat_here old id s all here;
+      text = (s.out ++ st.reply) ++ h.text;
+      parts = sym (append_assoc s.out st.reply reply) ∙
+          ap (λ z. (s.out ++ st.reply) ++ z) (text_sent cur given new id now version reply closing decoder store held' held'' waits here_now is h) ∙
+          sym (append_assoc (s.out ++ st.reply) h.text waits);
+      appended = appends_more held held' held'' (s.out ++ st.reply) h.text st.appended h.appended;
+      state = hub_sent cur given new id now version reply closing decoder store held' held'' waits here_now is h ∙
+          ap (λ g. stocked (seated g id last) store) st.state ∙ ap (λ g. stocked g store) (seated_twice old id now last) ∙
+          sym (ap (λ g. stocked g store) (seated_twice old id all last));
+    }
+
+-- what is served behind it is served behind the whole
+pub serves_on : AnswersGoOn → AnswersAreAdded → (old cur new : HubState) (id : ℕ) (s : Seat) (text piece : List ℕ) (held held' held'' : Option (List ℕ))
+    (waits : List ℕ) → seat_at old id ≡ Some s → (st : Stands old cur id s text held held') →
+    Serves cur new id (seat_of old cur id s text held held' st) (st.rest ++ piece) held' held'' waits → Serves old new id s (text ++ piece) held held'' waits
+serves_on go_on added old cur new id s text piece held held' held'' waits here st v =
+    let a = v.answered in
+    record {
+      given = stocked (seated old id (seat_with a.version (s.out ++ (st.reply ++ a.reply)) a.closing a.decoder)) a.store;
+      commands = st.commands + v.commands;
+      answered = record {
+        reply = st.reply ++ a.reply;
+        store = a.store;
+        version = a.version;
+        closing = a.closing;
+        decoder = a.decoder;
+        rest = a.rest;
+        answers = answers_on go_on added old cur id s text held held' st piece a.rest a.reply a.store a.version a.closing v.commands a.answers;
+        state = refl;
+        taking = a.taking;
+      };
+      sent = sent_on old cur v.given new id s text held held' held'' here st a.reply a.store a.version a.closing a.decoder waits a.state v.sent;
+    }
+
+-- so is what was served of a piece for which memory was wanting
+pub serves_first_on : AnswersGoOn → AnswersAreAdded → (old cur new : HubState) (id : ℕ) (s : Seat) (front came piece : List ℕ)
+    (held held' held'' : Option (List ℕ)) (waits : List ℕ) → seat_at old id ≡ Some s → (st : Stands old cur id s (front ++ came) held held') →
+    ServesFirst cur new id (seat_of old cur id s (front ++ came) held held' st) st.rest piece held' held'' waits →
+    ServesFirst old new id s front (came ++ piece) held held'' waits
+serves_first_on go_on added old cur new id s front came piece held held' held'' waits here st v =
+    let a = v.cut_short in
+    let text = front ++ came in
+    let start = state_with old.store s.version [] false 0 in
+    let last = state_with a.store a.version (st.reply ++ a.reply) false (st.commands + v.commands) in
+    record {
+      given = stocked (seated old id (seat_with a.version (s.out ++ (st.reply ++ a.reply)) true a.decoder)) a.store;
+      commands = st.commands + v.commands;
+      cut_short = record {
+        answered = came ++ a.answered;
+        behind = a.behind;
+        whole = ap (λ z. came ++ z) a.whole ∙ sym (append_assoc came a.answered a.behind);
+        reply = st.reply ++ a.reply;
+        store = a.store;
+        version = a.version;
+        decoder = a.decoder;
+        rest = a.rest;
+        answers = subst (λ z. Answers old.limits id start z last a.rest) (append_assoc front came a.answered)
+            (answers_on go_on added old cur id s text held held' st a.answered a.rest a.reply a.store a.version false v.commands a.answers);
+        state = refl;
+      };
+      sent = sent_on old cur v.given new id s text held held' held'' here st a.reply a.store a.version true a.decoder waits a.state v.sent;
+    }
+
+serves_whole : (old new : HubState) (id : ℕ) (s : Seat) (front came piece : List ℕ) (held held' : Option (List ℕ)) (waits : List ℕ) →
+    Serves old new id s ((front ++ came) ++ piece) held held' waits → Serves old new id s (front ++ (came ++ piece)) held held' waits
+serves_whole old new id s front came piece held held' waits v = subst (λ z. Serves old new id s z held held' waits) (append_assoc front came piece) v
+
+-- a piece more
+pub serves_piece : AnswersGoOn → AnswersAreAdded → (old cur new : HubState) (id : ℕ) (s : Seat) (front came piece : List ℕ)
+    (held held' held'' : Option (List ℕ)) (waits : List ℕ) → seat_at old id ≡ Some s → (st : Stands old cur id s (front ++ came) held held') →
+    Serves cur new id (seat_of old cur id s (front ++ came) held held' st) (st.rest ++ piece) held' held'' waits →
+    Serves old new id s (front ++ (came ++ piece)) held held'' waits
+serves_piece go_on added old cur new id s front came piece held held' held'' waits here st v =
+    serves_whole old new id s front came piece held held'' waits
+    (serves_on go_on added old cur new id s (front ++ came) piece held held' held'' waits here st v)
+
+-- and where that stopped
+pub stops_piece : AnswersGoOn → AnswersAreAdded → (old cur new : HubState) (id : ℕ) (s : Seat) (front came piece : List ℕ)
+    (held held' held'' : Option (List ℕ)) (error : ServeError) → seat_at old id ≡ Some s → (st : Stands old cur id s (front ++ came) held held') →
+    StopsServing cur new id (seat_of old cur id s (front ++ came) held held' st) st.rest piece held' held'' error →
+    StopsServing old new id s front (came ++ piece) held held'' error
+stops_piece go_on added old cur new id s front came piece held held' held'' NoSession here st v = v
+stops_piece go_on added old cur new id s front came piece held held' held'' OutOfMemory here st (waits, v) =
+    (waits, serves_first_on go_on added old cur new id s front came piece held held' held'' waits here st v)
+stops_piece go_on added old cur new id s front came piece held held' held'' Read here st v =
+    serves_piece go_on added old cur new id s front came piece held held' held'' [] here st v
+stops_piece go_on added old cur new id s front came piece held held' held'' Write here st (waits, v) =
+    (waits, serves_piece go_on added old cur new id s front came piece held held' held'' waits here st v)
+stops_piece go_on added old cur new id s front came piece held held' held'' TooManyTurns here st (waits, v) =
+    (waits, serves_piece go_on added old cur new id s front came piece held held' held'' waits here st v)
+
+-- Where nothing was read yet.
+
+pub serves_nothing : (old new : HubState) (id : ℕ) (s : Seat) (front : List ℕ) (held held' : Option (List ℕ)) (waits : List ℕ) →
+    HasAnswered old old id s front 0 → HasSent old new id held held' waits → Serves old new id s (front ++ []) held held' waits
+serves_nothing old new id s front held held' waits a h = record {
+  given = old;
+  commands = 0;
+  answered = subst (λ z. HasAnswered old old id s z 0) (sym (append-nil front)) a;
+  sent = h;
+}
+
+-- What was answered and then written, or the first of it.
+pub serves_given : (old given new : HubState) (id : ℕ) (s : Seat) (text : List ℕ) (held held' : Option (List ℕ)) (waits : List ℕ) (commands : ℕ) →
+    HasAnswered old given id s text commands → HasSent given new id held held' waits → Serves old new id s text held held' waits
+serves_given old given new id s text held held' waits commands a h = record { given = given; commands = commands; answered = a; sent = h }
+
+-- what was answered to a piece behind a front
+pub answered_at : (old given : HubState) (id : ℕ) (piece : List ℕ) (commands : ℕ) →
+    WhereOpen old id (λ s front. HasAnswered old given id s (front ++ piece) commands) → (s : Seat) (front : List ℕ) → seat_at old id ≡ Some s →
+    s.closing ≡ false → HasTaken s.decoder front → HasAnswered old given id s (front ++ piece) commands
+answered_at old given id piece commands all s front here not_closing taken =
+    at_open old id (λ t f. HasAnswered old given id t (f ++ piece) commands) s front all here not_closing taken
+
+-- a session that has answered is there
+pub answered_is_there : (old given : HubState) (id : ℕ) (s : Seat) (text : List ℕ) (commands : ℕ) → seat_at old id ≡ Some s →
+    HasAnswered old given id s text commands → IsThere given id
+answered_is_there old given id s text commands here a =
+    let seat = seat_with a.version (s.out ++ a.reply) a.closing a.decoder in (seat, seat_given old given id s seat a.store here a.state)
+
+-- so is one of which something was written, and it stays open
+pub sent_is_there : (old new : HubState) (id : ℕ) (held held' : Option (List ℕ)) (waits : List ℕ) → HasSent old new id held held' waits → IsThere new id
+sent_is_there old new id held held' waits h =
+    let seat = seat_with h.seat.version waits h.seat.closing h.seat.decoder in
+    (seat, ap (λ g. seat_at g id) h.state ∙ seat_here old id h.seat seat h.here)
+
+pub sent_is_open : (old new : HubState) (id : ℕ) (held held' : Option (List ℕ)) (waits : List ℕ) → IsOpen old id → HasSent old new id held held' waits →
+    IsOpen new id
+sent_is_open old new id held held' waits o h =
+    let seat = seat_with h.seat.version waits h.seat.closing h.seat.decoder in
+    let same : h.seat ≡ o.seat = one_seat (seat_at old id) h.seat o.seat h.here o.here in
+    record {
+      seat = seat;
+      here = ap (λ g. seat_at g id) h.state ∙ seat_here old id h.seat seat h.here;
+      not_closing = ap (λ (t : Seat). t.closing) same ∙ o.not_closing;
+      front = o.front;
+      taken = subst (λ (t : Seat). HasTaken t.decoder o.front) (sym same) o.taken;
+    }
+
+-- Where memory was wanting all that is answered waits.
+pub first_waits : (old new : HubState) (id : ℕ) (s : Seat) (front piece : List ℕ) (held : Option (List ℕ)) (commands : ℕ) → seat_at old id ≡ Some s →
+    HasCutShort old new id s front piece commands → (waits : List ℕ) × ServesFirst old new id s front piece held held waits
+first_waits old new id s front piece held commands here a =
+    let out = s.out ++ a.reply in
+    let seat = seat_with a.version out true a.decoder in (
+      out,
+      record {
+        given = new;
+        commands = commands;
+        cut_short = a;
+        sent = record {
+          seat = seat;
+          here = seat_given old new id s seat a.store here a.state;
+          text = [];
+          parts = refl;
+          appended = appends_nothing held;
+          state = a.state ∙ ap (λ g. stocked g a.store) (sym (seated_twice old id seat seat)) ∙ sym (ap (λ g. seated g id seat) a.state);
+        };
+      },
+    )
+
+-- Nothing is read ahead.
+
+-- nothing came
+pub none_ahead : (old : HubState) (id : ℕ) (s : Seat) (front : List ℕ) (held held' : Option (List ℕ)) (text : List ℕ) → Appends held held' text →
+    IsNotAhead old id s front [] held held'
+none_ahead old id s front held held' text appended = record {
+  before = [];
+  last = [];
+  parts = refl;
+  short = omega arith;
+  between = old;
+  held_before = held;
+  written = λ some. absurd (omega (arith, some));
+  later = text;
+  appended = appended;
+}
+
+-- all that came is answered and written
+pub all_written : (old cur : HubState) (id : ℕ) (s : Seat) (front came : List ℕ) (held held' : Option (List ℕ)) →
+    Serves old cur id s (front ++ came) held held' [] → IsNotAhead old id s front came held held'
+all_written old cur id s front came held held' v = record {
+  before = came;
+  last = [];
+  parts = sym (append-nil came);
+  short = omega arith;
+  between = cur;
+  held_before = held';
+  written = λ some. v;
+  later = [];
+  appended = appends_nothing held';
+}
+
+-- all but the last piece was
+pub piece_ahead : (old cur : HubState) (id : ℕ) (s : Seat) (front came piece : List ℕ) (held held' held'' : Option (List ℕ)) (text : List ℕ) →
+    Serves old cur id s (front ++ came) held held' [] → length piece ≤ 4096 → Appends held' held'' text →
+    IsNotAhead old id s front (came ++ piece) held held''
+piece_ahead old cur id s front came piece held held' held'' text v short appended = record {
+  before = came;
+  last = piece;
+  parts = refl;
+  short = short;
+  between = cur;
+  held_before = held';
+  written = λ some. v;
+  later = text;
+  appended = appended;
+}
+
+-- what was written of a piece where that stopped
+pub stop_appends : (old new : HubState) (id : ℕ) (s : Seat) (front came : List ℕ) (held held' : Option (List ℕ)) (error : ServeError) →
+    StopsServing old new id s front came held held' error → (text : List ℕ) × Appends held held' text
+stop_appends old new id s front came held held' NoSession v = absurd v
+stop_appends old new id s front came held held' OutOfMemory (waits, v) = (v.sent.text, v.sent.appended)
+stop_appends old new id s front came held held' Read v = (v.sent.text, v.sent.appended)
+stop_appends old new id s front came held held' Write (waits, v) = (v.sent.text, v.sent.appended)
+stop_appends old new id s front came held held' TooManyTurns (waits, v) = (v.sent.text, v.sent.appended)
+
+-- The same of every front of a session.
+
+-- what is served of a piece behind what came
+pub piece_serves : AnswersGoOn → AnswersAreAdded → (old cur new : HubState) (id : ℕ) (came piece : List ℕ) (held held' held'' : Option (List ℕ)) →
+    length piece ≤ 4096 → WhereOpen old id (λ s front. Serves old cur id s (front ++ came) held held' []) → IsOpen cur id →
+    WhereOpen cur id (λ s front. Serves cur new id s (front ++ piece) held' held'' [] × ⊤) →
+    WhereOpen old id (λ s front. Serves old new id s (front ++ (came ++ piece)) held held'' [] × ⊤ ×
+    IsNotAhead old id s front (came ++ piece) held held'')
+piece_serves go_on added old cur new id came piece held held' held'' short before o answered =
+    where_open old id _ (λ s here not_closing front taken.
+    let v = at_open old id (λ t f. Serves old cur id t (f ++ came) held held' []) s front before here not_closing taken in
+    let st = stands old cur id s (front ++ came) held held' here v o in
+    let now = seat_of old cur id s (front ++ came) held held' st in
+    let (w, _) = at_open cur id (λ t f. Serves cur new id t (f ++ piece) held' held'' [] × ⊤) now st.rest answered
+    (seat_given old cur id s now st.store here st.state) refl st.taken in (
+      serves_piece go_on added old cur new id s front came piece held held' held'' [] here st w,
+      tt,
+      piece_ahead old cur id s front came piece held held' held'' w.sent.text v short w.sent.appended,
+    ))
+
+-- and where that stops
+pub piece_stops : AnswersGoOn → AnswersAreAdded → (old cur new : HubState) (id : ℕ) (came piece : List ℕ) (held held' held'' : Option (List ℕ))
+    (error : ServeError) → length piece ≤ 4096 → WhereOpen old id (λ s front. Serves old cur id s (front ++ came) held held' []) → IsOpen cur id →
+    WhereOpen cur id (λ s front. ⊤ × StopsServing cur new id s front piece held' held'' error) →
+    WhereOpen old id (λ s front. ⊤ × StopsServing old new id s front (came ++ piece) held held'' error ×
+    IsNotAhead old id s front (came ++ piece) held held'')
+piece_stops go_on added old cur new id came piece held held' held'' error short before o answered =
+    where_open old id _ (λ s here not_closing front taken.
+    let v = at_open old id (λ t f. Serves old cur id t (f ++ came) held held' []) s front before here not_closing taken in
+    let st = stands old cur id s (front ++ came) held held' here v o in
+    let now = seat_of old cur id s (front ++ came) held held' st in
+    let (_, w) = at_open cur id (λ t f. ⊤ × StopsServing cur new id t f piece held' held'' error) now st.rest answered
+    (seat_given old cur id s now st.store here st.state) refl st.taken in
+    let (text, appended) = stop_appends cur new id now st.rest piece held' held'' error w in (
+      tt,
+      stops_piece go_on added old cur new id s front came piece held held' held'' error here st w,
+      piece_ahead old cur id s front came piece held held' held'' text v short appended,
+    ))
+
+-- it is closing where it was
+pub sent_is_closing : (old new : HubState) (id : ℕ) (held held' : Option (List ℕ)) (waits : List ℕ) (closing : Bool) → HasSent old new id held held' waits →
+    IsClosing old id closing → IsClosing new id closing
+sent_is_closing old new id held held' waits closing h is =
+    let seat = seat_with h.seat.version waits h.seat.closing h.seat.decoder in
+    ap (option_map (λ (s : Seat). s.closing)) (ap (λ g. seat_at g id) h.state ∙ seat_here old id h.seat seat h.here) ∙
+    sym (ap (option_map (λ (s : Seat). s.closing)) h.here) ∙ is

@@ -1,0 +1,63 @@
+use Rattle.std.proofs.Common.{rules, refl, [], subst, true}
+use Rattle.resp_wire.specs.Serving.{IsClosing}
+use Rattle.resp_wire.proofs.Exchanges.{spends_no_turns, spends_writes}
+use Rattle.resp_wire.proofs.Seated.{closing_is_there, is_open, not_open, nowhere}
+use Rattle.resp_wire.proofs.ServedTexts.{sent_is_closing}
+use Rattle.resp_wire.proofs.ServeStops.{answering, no_turn_to_answer}
+use Rattle.resp_wire.proofs.Turning.{reads_none}
+use Rattle.resp_wire.proofs.serve.serve.Goals as goal
+
+pub returns-in_default-clause-served : goal.returns-in_default-clause-served
+returns-in_default-clause-served g c =
+    ([], reads_none (g.R.Source.remaining c.args.reader.now), nowhere c.args.hub.now c.args.id _ c.in_default.ensures.none)
+
+pub returns-in_default-clause-turns : goal.returns-in_default-clause-turns
+returns-in_default-clause-turns g c = (
+  c.args.turns,
+  spends_no_turns (g.W.Sink.calls c.args.writer.now) (g.R.Source.calls c.args.reader.now) c.args.turns,
+  λ is. absurd (cc),
+)
+
+pub serve_open-requires-clause-is_open : goal.serve_open-requires-clause-is_open
+serve_open-requires-clause-is_open g c =
+    is_open c.args.hub.now c.args.id c.in-Ok.closing c.in-Ok.ensures.closing (search rules) c.is_closing.ensures.taking
+
+pub write_out-requires : goal.write_out-requires
+write_out-requires g c = closing_is_there c.args.hub.now c.args.id c.in-Ok.closing c.in-Ok.ensures.closing
+
+pub returns-in-Err-clause-served : goal.returns-in-Err-clause-served
+returns-in-Err-clause-served g c = (
+  [],
+  reads_none (g.R.Source.remaining c.args.reader.now),
+  not_open c.args.hub.now c.args.id _ (subst (IsClosing c.args.hub.now c.args.id) {y = true} (search rules) c.in-Ok.ensures.closing),
+)
+
+pub returns-in-Err-clause-turns : goal.returns-in-Err-clause-turns
+returns-in-Err-clause-turns g c = (
+  c.write_out.new.turns,
+  spends_writes (g.W.Sink.calls c.args.writer.now) (g.W.Sink.calls c.write_out.new.writer) (g.R.Source.calls c.args.reader.now) c.args.turns
+      c.write_out.new.turns c.write_out.ensures.turns,
+  no_turn_to_answer _ _ (g.W.Sink.failures c.args.writer.now) (g.W.Sink.failures c.write_out.new.writer) c.write_out.new.turns c.in-Err.error refl
+      (answering (g.W.Sink.failures c.args.writer.now) (g.W.Sink.failures c.write_out.new.writer) c.write_out.new.turns c.in-Err.error
+      c.in-Err.ensures.refusal),
+)
+
+pub returns-clause-served : goal.returns-clause-served
+returns-clause-served g c = (
+  [],
+  reads_none (g.R.Source.remaining c.args.reader.now),
+  not_open c.args.hub.now c.args.id _ (subst (IsClosing c.args.hub.now c.args.id) {y = true} (search rules) c.in-Ok.ensures.closing),
+)
+
+pub returns-clause-end : goal.returns-clause-end
+returns-clause-end g c = sent_is_closing c.args.hub.now c.write_out.new.hub c.args.id (g.W.Sink.written c.args.writer.now)
+    (g.W.Sink.written c.write_out.new.writer) [] true c.in_default-write_out.ensures.sent
+    (subst (IsClosing c.args.hub.now c.args.id) {y = true} (search rules) c.in-Ok.ensures.closing)
+
+pub returns-clause-turns : goal.returns-clause-turns
+returns-clause-turns g c = (
+  c.write_out.new.turns,
+  spends_writes (g.W.Sink.calls c.args.writer.now) (g.W.Sink.calls c.write_out.new.writer) (g.R.Source.calls c.args.reader.now) c.args.turns
+      c.write_out.new.turns c.write_out.ensures.turns,
+  λ is. absurd (cc),
+)

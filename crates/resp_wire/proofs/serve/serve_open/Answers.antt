@@ -1,0 +1,195 @@
+use Rattle.std.specs.Prelude.{⊤}
+use Rattle.std.proofs.Common.{rules, refl, [], ◌++◌, ◌≡◌, ap, subst, take, ◌∙◌}
+use Rattle.resp_server.specs.Handling.{HasAnswered, WhereOpen}
+use Rattle.resp_wire.specs.Serving.{FailsServing, IsNotAhead, Serves, StopsServing}
+use Rattle.resp_wire.proofs.Seated.{at_open, where_open}
+use Rattle.resp_wire.proofs.ServedTexts.{all_written, none_ahead, piece_serves, piece_stops, sent_is_open, serves_nothing}
+use Rattle.resp_wire.proofs.ServeStops.{fails_reading, no_turn_to_read, stops_reading, stops_writing}
+use Rattle.resp_wire.proofs.Exchanges.{spends_writes}
+use Rattle.resp_wire.proofs.Turning.{has_read_more, has_read_same, reads_none, spends_both, spends_nothing}
+use Rattle.resp_wire.proofs.serve.serve_open.Goals as goal
+
+pub returns-in-Err-clause-served : goal.returns-in-Err-clause-served
+returns-in-Err-clause-served g c =
+    let old = c.args.hub.now in
+    let new = c.write_out.new.hub in
+    let id = c.args.id in
+    let held = g.W.Sink.written c.args.writer.now in
+    let held' = g.W.Sink.written c.write_out.new.writer in
+    let (waits, sent) = c.in-Err.ensures.part in (
+      [],
+      reads_none (g.R.Source.remaining c.args.reader.now),
+      where_open old id _ (λ s here not_closing front taken. (
+        tt,
+        stops_writing old old new id s front [] held held' waits (g.W.Sink.failures c.args.writer.now) (g.W.Sink.failures c.write_out.new.writer)
+            c.write_out.new.turns c.in-Err.error c.in-Err.ensures.refusal
+            (serves_nothing old new id s front held held' waits
+            (at_open old id (λ t f. HasAnswered old old id t f 0) s front c.requires.waiting here not_closing taken) sent),
+        none_ahead old id s front held held' sent.text sent.appended,
+      )),
+    )
+
+pub loop-count-init : goal.loop-count-init
+loop-count-init g c =
+    let old = c.args.hub.now in
+    let new = c.write_out.new.hub in
+    let id = c.args.id in
+    let held = g.W.Sink.written c.args.writer.now in
+    let held' = g.W.Sink.written c.write_out.new.writer in
+    let sent = c.in_default.ensures.sent in
+    record {
+      served = (
+        [],
+        reads_none (g.R.Source.remaining c.args.reader.now),
+        where_open old id _ (λ s here not_closing front taken. serves_nothing old new id s front held held' []
+            (at_open old id (λ t f. HasAnswered old old id t f 0) s front c.requires.waiting here not_closing taken) sent),
+      );
+      is_open = sent_is_open old new id held held' [] c.requires.is_open sent;
+      spends = spends_writes (g.W.Sink.calls c.args.writer.now) (g.W.Sink.calls c.write_out.new.writer) (g.R.Source.calls c.args.reader.now) c.args.turns.now
+          c.write_out.new.turns c.write_out.ensures.turns;
+      writes = c.in_default.ensures.none_failed;
+      reads = refl;
+    }
+
+pub returns-in-Ok-eq0-clause-served : goal.returns-in-Ok-eq0-clause-served
+returns-in-Ok-eq0-clause-served g c =
+    let old = c.args.hub.now in
+    let cur = c.loop-count.hub in
+    let id = c.args.id in
+    let held = g.W.Sink.written c.args.writer.now in
+    let held' = g.W.Sink.written c.loop-count.writer in
+    let none : c.in-Ok-eq0.field-0 ≡ 0 = search rules in
+    let (came, read, served) = c.loop-count.invariant.served in (
+      came,
+      has_read_same (g.R.Source.remaining c.args.reader.now) (g.R.Source.remaining c.loop-count.reader) (g.R.Source.remaining c.read_some.new.reader) came
+          (take c.in-Ok-eq0.field-0 c.read_some.new.into) (ap (λ n. take n c.read_some.new.into) none) read c.in-Ok-eq0.ensures.read,
+      where_open old id _ (λ s here not_closing front taken.
+          let v = at_open old id (λ t f. Serves old cur id t (f ++ came) held held' []) s front served here not_closing taken in
+          (v, tt, all_written old cur id s front came held held' v)),
+    )
+
+pub returns-in-Ok-eq0-clause-turns : goal.returns-in-Ok-eq0-clause-turns
+returns-in-Ok-eq0-clause-turns g c = spends_both (g.W.Sink.calls c.args.writer.now) (g.W.Sink.calls c.loop-count.writer) (g.W.Sink.calls c.loop-count.writer)
+    (g.R.Source.calls c.args.reader.now) (g.R.Source.calls c.loop-count.reader) (g.R.Source.calls c.read_some.new.reader) c.args.turns.now c.loop-count.turns
+    c.read_some.new.turns c.read_some.new.turns c.loop-count.invariant.spends c.read_some.ensures.turns
+    (spends_nothing (g.W.Sink.calls c.loop-count.writer) c.read_some.new.turns)
+
+pub returns-in-Err-read_some-clause-served : goal.returns-in-Err-read_some-clause-served
+returns-in-Err-read_some-clause-served g c =
+    let old = c.args.hub.now in
+    let cur = c.loop-count.hub in
+    let id = c.args.id in
+    let held = g.W.Sink.written c.args.writer.now in
+    let held' = g.W.Sink.written c.loop-count.writer in
+    let (came, read, served) = c.loop-count.invariant.served in (
+      came,
+      has_read_same (g.R.Source.remaining c.args.reader.now) (g.R.Source.remaining c.loop-count.reader) (g.R.Source.remaining c.read_some.new.reader) came
+          [] refl read c.in-Err-read_some.ensures.unread,
+      where_open old id _ (λ s here not_closing front taken.
+          let v = at_open old id (λ t f. Serves old cur id t (f ++ came) held held' []) s front served here not_closing taken in (
+            tt,
+            stops_reading old cur id s front came held held' (g.R.Source.failures c.loop-count.reader) (g.R.Source.failures c.read_some.new.reader)
+                c.read_some.new.turns c.unread.result (c.unread.ensures _ _ _ c.in-Err-read_some.ensures.halted) v,
+            all_written old cur id s front came held held' v,
+          )),
+    )
+
+pub returns-in-Err-read_some-clause-refusal : goal.returns-in-Err-read_some-clause-refusal
+returns-in-Err-read_some-clause-refusal g c =
+    subst (λ n. FailsServing c.args.hub.now c.args.id (g.W.Sink.failures c.args.writer.now) (g.W.Sink.failures c.loop-count.writer) n
+    (g.R.Source.failures c.read_some.new.reader) c.unread.result) c.loop-count.invariant.reads
+    (fails_reading c.args.hub.now c.args.id (g.W.Sink.failures c.args.writer.now) (g.W.Sink.failures c.loop-count.writer)
+    (g.R.Source.failures c.loop-count.reader) (g.R.Source.failures c.read_some.new.reader) c.read_some.new.turns c.unread.result
+    (c.unread.ensures _ _ _ c.in-Err-read_some.ensures.halted))
+
+pub returns-in-Err-read_some-clause-turns : goal.returns-in-Err-read_some-clause-turns
+returns-in-Err-read_some-clause-turns g c = spends_both (g.W.Sink.calls c.args.writer.now) (g.W.Sink.calls c.loop-count.writer)
+    (g.W.Sink.calls c.loop-count.writer) (g.R.Source.calls c.args.reader.now) (g.R.Source.calls c.loop-count.reader) (g.R.Source.calls c.read_some.new.reader)
+    c.args.turns.now c.loop-count.turns c.read_some.new.turns c.read_some.new.turns c.loop-count.invariant.spends c.read_some.ensures.turns
+    (spends_nothing (g.W.Sink.calls c.loop-count.writer) c.read_some.new.turns)
+
+pub returns-in-Err-read_some-clause-no_turn_left :
+    goal.returns-in-Err-read_some-clause-no_turn_left
+returns-in-Err-read_some-clause-no_turn_left g c is =
+    no_turn_to_read _ _ (g.R.Source.failures c.loop-count.reader) (g.R.Source.failures c.read_some.new.reader) c.read_some.new.turns c.unread.result refl
+    (c.unread.ensures _ _ _ c.in-Err-read_some.ensures.halted) is
+
+pub returns-in-Err-answer-clause-served : goal.returns-in-Err-answer-clause-served
+returns-in-Err-answer-clause-served g c =
+    let id = c.args.id in
+    let (came, read, served) = c.loop-count.invariant.served in
+    let into = c.read_some.new.into in
+    let n = c.in-Ok.count in
+    let error = c.in-Err-answer.error in
+    let held' = g.W.Sink.written c.loop-count.writer in
+    let held'' = g.W.Sink.written c.answer.new.writer in
+    let cur = c.loop-count.hub in
+    let new = c.answer.new.hub in (
+      came ++ take n into,
+      has_read_more (g.R.Source.remaining c.args.reader.now) (g.R.Source.remaining c.loop-count.reader) (g.R.Source.remaining c.read_some.new.reader) came
+          (take n into) read c.in-Ok.ensures.read,
+      piece_stops c.answers_go_on.ensures c.answers_are_added.ensures c.args.hub.now cur new id came (take n into)
+          (g.W.Sink.written c.args.writer.now) held' held'' error (search rules) served c.loop-count.invariant.is_open
+          (subst (λ z. WhereOpen cur id (λ s front. ⊤ × StopsServing cur new id s front z held' held'' error)) c.front.ensures
+          c.in-Err-answer.ensures.answered),
+    )
+
+pub returns-in-Err-answer-clause-turns : goal.returns-in-Err-answer-clause-turns
+returns-in-Err-answer-clause-turns g c = spends_both (g.W.Sink.calls c.args.writer.now) (g.W.Sink.calls c.loop-count.writer)
+    (g.W.Sink.calls c.answer.new.writer) (g.R.Source.calls c.args.reader.now) (g.R.Source.calls c.loop-count.reader) (g.R.Source.calls c.read_some.new.reader)
+    c.args.turns.now c.loop-count.turns c.read_some.new.turns c.answer.new.turns c.loop-count.invariant.spends c.read_some.ensures.turns c.answer.ensures.turns
+
+pub returns-then-closing-clause-served : goal.returns-then-closing-clause-served
+returns-then-closing-clause-served g c =
+    let id = c.args.id in
+    let (came, read, served) = c.loop-count.invariant.served in
+    let into = c.read_some.new.into in
+    let n = c.in-Ok.count in
+    let held' = g.W.Sink.written c.loop-count.writer in
+    let held'' = g.W.Sink.written c.answer.new.writer in
+    let cur = c.loop-count.hub in
+    let new = c.answer.new.hub in (
+      came ++ take n into,
+      has_read_more (g.R.Source.remaining c.args.reader.now) (g.R.Source.remaining c.loop-count.reader) (g.R.Source.remaining c.read_some.new.reader) came
+          (take n into) read c.in-Ok.ensures.read,
+      piece_serves c.answers_go_on.ensures c.answers_are_added.ensures c.args.hub.now cur new id came (take n into)
+          (g.W.Sink.written c.args.writer.now) held' held'' (search rules) served c.loop-count.invariant.is_open
+          (subst (λ z. WhereOpen cur id (λ s front. Serves cur new id s (front ++ z) held' held'' [] × ⊤)) c.front.ensures
+          c.in-Ok-answer.ensures.answered),
+    )
+
+pub returns-then-closing-clause-turns : goal.returns-then-closing-clause-turns
+returns-then-closing-clause-turns g c = spends_both (g.W.Sink.calls c.args.writer.now) (g.W.Sink.calls c.loop-count.writer)
+    (g.W.Sink.calls c.answer.new.writer) (g.R.Source.calls c.args.reader.now) (g.R.Source.calls c.loop-count.reader) (g.R.Source.calls c.read_some.new.reader)
+    c.args.turns.now c.loop-count.turns c.read_some.new.turns c.answer.new.turns c.loop-count.invariant.spends c.read_some.ensures.turns c.answer.ensures.turns
+
+pub loop-count-preserved : goal.loop-count-preserved
+loop-count-preserved g c =
+    let old = c.args.hub.now in
+    let id = c.args.id in
+    let (came, read, served) = c.loop-count.invariant.served in
+    let into = c.read_some.new.into in
+    let n = c.in-Ok.count in
+    let held = g.W.Sink.written c.args.writer.now in
+    let held' = g.W.Sink.written c.loop-count.writer in
+    let held'' = g.W.Sink.written c.answer.new.writer in
+    let cur = c.loop-count.hub in
+    let new = c.answer.new.hub in
+    let all = piece_serves c.answers_go_on.ensures c.answers_are_added.ensures old cur new id came (take n into) held held' held'' (search rules) served
+    c.loop-count.invariant.is_open
+    (subst (λ z. WhereOpen cur id (λ s front. Serves cur new id s (front ++ z) held' held'' [] × ⊤)) c.front.ensures c.in-Ok-answer.ensures.answered) in
+    record {
+      served = (
+        came ++ take n into,
+        has_read_more (g.R.Source.remaining c.args.reader.now) (g.R.Source.remaining c.loop-count.reader) (g.R.Source.remaining c.read_some.new.reader) came
+            (take n into) read c.in-Ok.ensures.read,
+        where_open old id _ (λ s here not_closing front taken. (at_open old id (λ t f. Serves old new id t (f ++ (came ++ take n into)) held held'' [] × ⊤ ×
+            IsNotAhead old id t f (came ++ take n into) held held'') s front all here not_closing taken).0),
+      );
+      is_open = c.in-Ok-answer.ensures.is_open c.if-closing.false;
+      spends = spends_both (g.W.Sink.calls c.args.writer.now) (g.W.Sink.calls c.loop-count.writer) (g.W.Sink.calls c.answer.new.writer)
+          (g.R.Source.calls c.args.reader.now) (g.R.Source.calls c.loop-count.reader) (g.R.Source.calls c.read_some.new.reader) c.args.turns.now
+          c.loop-count.turns c.read_some.new.turns c.answer.new.turns c.loop-count.invariant.spends c.read_some.ensures.turns c.answer.ensures.turns;
+      writes = c.in-Ok-answer.ensures.none_failed ∙ c.loop-count.invariant.writes;
+      reads = c.in-Ok.ensures.none_failed ∙ c.loop-count.invariant.reads;
+    }

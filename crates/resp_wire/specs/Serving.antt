@@ -1,0 +1,117 @@
+-- What a server's end comes to, in words of its hub and of what was written.
+use Rattle.std.specs.Prelude.{◌≡◌, ℕ, ◌<◌, ◌≤◌, Bool, true, false, List, [], ◌++◌, length, Option, Some, None, Result, Ok, Err}
+use Rattle.std.specs.Option.{option_map}
+use Rattle.resp_value.specs.Devices.{Appends, HasRisen}
+use Rattle.resp_decode.specs.Decoding.{HasTaken}
+use Rattle.resp_server.specs.Handling.{HasAnswered, HasCutShort}
+use Rattle.resp_server.specs.Hubs.{HubState, Seat, seat_at, seated}
+use Rattle.resp_wire.specs.Turns.{TellsEnd}
+use Rattle.resp_wire.specs.declared.error.ServeError.{ServeError}
+use Rattle.resp_wire.specs.declared.error.ServeError.TheVariants.{NoSession, OutOfMemory, Read, Write, TooManyTurns}
+use Rattle.resp_wire.specs.declared.serve.Served.{Served}
+use Rattle.resp_wire.specs.declared.serve.Served.TheVariants.{Ended, Closed}
+
+-- there is a session of this id
+abbrev pub IsThere : HubState → ℕ → Type 0
+IsThere hub id = (s : Seat) × (seat_at hub id ≡ Some s)
+
+-- it is open, and has taken a front of a value
+pub record IsOpen (hub : HubState) (id : ℕ) : Type 0 where
+  pub seat : Seat
+  pub here : seat_at hub id ≡ Some seat
+  pub not_closing : seat.closing ≡ false
+  pub front : List ℕ
+  pub taken : HasTaken seat.decoder front
+
+-- whether it is closing
+abbrev pub IsClosing : HubState → ℕ → Bool → Type 0
+IsClosing hub id closing = option_map (λ (s : Seat). s.closing) (seat_at hub id) ≡ Some closing
+
+-- of what waited in a session all but this rest was written, and nothing else of the hub is changed
+pub record HasSent (old new : HubState) (id : ℕ) (held held' : Option (List ℕ)) (waits : List ℕ) : Type 0 where
+  pub seat : Seat
+  pub here : seat_at old id ≡ Some seat
+  pub text : List ℕ
+  pub parts : seat.out ≡ text ++ waits
+  pub appended : Appends held held' text
+  pub state : new ≡ seated old id (record seat { out = waits })
+
+-- Behind a text: as a hub that was given it whole, and of whose replies all but this rest was then written.
+pub record Serves (old new : HubState) (id : ℕ) (s : Seat) (text : List ℕ) (held held' : Option (List ℕ))
+    (waits : List ℕ) : Type 0 where
+  pub given : HubState
+  pub commands : ℕ
+  pub answered : HasAnswered old given id s text commands
+  pub sent : HasSent given new id held held' waits
+
+-- Behind what came, where memory was wanting: as a hub that answered the first bytes of it.
+pub record ServesFirst (old new : HubState) (id : ℕ) (s : Seat) (front came : List ℕ) (held held' : Option (List ℕ))
+    (waits : List ℕ) : Type 0 where
+  pub given : HubState
+  pub commands : ℕ
+  pub cut_short : HasCutShort old given id s front came commands
+  pub sent : HasSent given new id held held' waits
+
+-- What stands where serving stopped: behind a failed read nothing waits.
+abbrev pub StopsServing : HubState → HubState → ℕ → Seat → List ℕ → List ℕ → Option (List ℕ) → Option (List ℕ) →
+    ServeError → Type 0
+StopsServing old new id s front came held held' NoSession = ⊥
+StopsServing old new id s front came held held' OutOfMemory =
+    (waits : List ℕ) × ServesFirst old new id s front came held held' waits
+StopsServing old new id s front came held held' Read = Serves old new id s (front ++ came) held held' []
+StopsServing old new id s front came held held' Write =
+    (waits : List ℕ) × Serves old new id s (front ++ came) held held' waits
+StopsServing old new id s front came held held' TooManyTurns =
+    (waits : List ℕ) × Serves old new id s (front ++ came) held held' waits
+
+-- Where bytes came, all that was answered before the last piece of them was written before that was read.
+pub record IsNotAhead (old : HubState) (id : ℕ) (s : Seat) (front came : List ℕ) (held held' : Option (List ℕ)) :
+    Type 0 where
+  pub before : List ℕ
+  pub last : List ℕ
+  pub parts : came ≡ before ++ last
+  pub short : length last ≤ 4096
+  pub between : HubState
+  pub held_before : Option (List ℕ)
+  pub written : 0 < length came → Serves old between id s (front ++ before) held held_before []
+  pub later : List ℕ
+  pub appended : Appends held_before held' later
+
+-- what each end tells: of the input that none is left, or of the session that it is closing
+abbrev pub EndsBy : HubState → ℕ → Option (List ℕ) → Option (List ℕ) → Served → Type 0
+EndsBy hub id left left' Ended = TellsEnd left left'
+EndsBy hub id left left' Closed = IsClosing hub id true
+
+-- what waited in a session that is closing was written, or the first of it
+abbrev pub ServesClosing : HubState → HubState → ℕ → Option (List ℕ) → Option (List ℕ) → Result Served ServeError →
+    Type 0
+ServesClosing old new id held held' (Ok Ended) = ⊥
+ServesClosing old new id held held' (Ok Closed) = HasSent old new id held held' []
+ServesClosing old new id held held' (Err Write) = (waits : List ℕ) × HasSent old new id held held' waits
+ServesClosing old new id held held' (Err TooManyTurns) = (waits : List ℕ) × HasSent old new id held held' waits
+ServesClosing old new id held held' (Err error) = ⊥
+
+-- what each refusal tells: that there is no session, or that the device's count of failures has risen
+abbrev pub FailsServing : HubState → ℕ → ℕ → ℕ → ℕ → ℕ → ServeError → Type 0
+FailsServing hub id writes writes' reads reads' NoSession = seat_at hub id ≡ None
+FailsServing hub id writes writes' reads reads' OutOfMemory = Unit {0}
+FailsServing hub id writes writes' reads reads' Read = HasRisen reads reads'
+FailsServing hub id writes writes' reads reads' Write = HasRisen writes writes'
+FailsServing hub id writes writes' reads reads' TooManyTurns = Unit {0}
+
+-- why a write stops, with so many turns left
+abbrev pub StopsWriting : ℕ → ℕ → ℕ → ServeError → Type 0
+StopsWriting failures failures' left Write = HasRisen failures failures'
+StopsWriting failures failures' left TooManyTurns = left ≡ 0
+StopsWriting failures failures' left _ = ⊥
+
+-- why an answer stops: memory was wanting, or a write stopped
+abbrev pub StopsAnswering : ℕ → ℕ → ℕ → ServeError → Type 0
+StopsAnswering failures failures' left OutOfMemory = Unit {0}
+StopsAnswering failures failures' left error = StopsWriting failures failures' left error
+
+-- why a read stops
+abbrev pub StopsReading : ℕ → ℕ → ℕ → ServeError → Type 0
+StopsReading failures failures' left Read = HasRisen failures failures'
+StopsReading failures failures' left TooManyTurns = left ≡ 0
+StopsReading failures failures' left _ = ⊥

@@ -1,0 +1,221 @@
+//! A server's end of a connection.
+
+ghost use Rattle.std.specs.Prelude.{◌≡◌, ◌≢◌, ◌≤◌, ◌++◌, ℕ, List, [], length, true, false, None, Err, IfSome, IfOk, IfErr, IsErrOf, OnOk, OnErr};
+ghost use Rattle.resp_server.specs.Hubs.{Seat, seat_at};
+ghost use Rattle.resp_server.specs.Handling.{HasAnswered, WhereOpen};
+ghost use Rattle.resp_wire.specs.Asking.{SpendsTurns};
+ghost use Rattle.resp_wire.specs.Serving.{EndsBy, FailsServing, HasSent, IsClosing, IsNotAhead, IsOpen, IsThere, Serves, ServesClosing, StopsAnswering, StopsReading, StopsServing, StopsWriting};
+ghost use Rattle.resp_wire.specs.Turns.{Halts, HasRead, Spends};
+
+use crate::error::ServeError;
+use crate::turns::{Halt, PIECE, front, read_some, write_text};
+use resp_server::{Hub, HubError};
+use resp_session::laws;
+use resp_value::device::{Sink, Source};
+use std::hash::BuildHasher;
+
+/// How a connection ended.
+#[derive(Clone, Copy, Debug, PartialEq, Eq)]
+pub enum Served {
+    /// The input ended.
+    Ended,
+    /// The session is closing.
+    Closed,
+}
+
+/// Reads a piece of at most 4,096 bytes, gives it to the session, and writes all that waits, until
+/// the input ends or the session is closing. What waits is written first; of a session that is
+/// closing nothing is read.
+///
+/// Each read and each write is a turn. Where a write fails, or no turn is left for one, the rest
+/// waits in the hub. Where memory was wanting the session is closing, and what waits is still to be
+/// written.
+pub fn serve<R: Source, W: Sink, S: BuildHasher>(
+    reader: &mut R,
+    writer: &mut W,
+    hub: &mut Hub<S>,
+    id: u64,
+    turns: u64,
+) -> Result<Served, ServeError>
+    // What was written and what still waits, joined, are what waited before and the answer to the
+    // front that the session had taken and what came, and the hub is as that answer leaves it.
+    ensures served { (came : List ℕ) ×
+        HasRead (R.remaining reader.old) (R.remaining reader.new) came ×
+        WhereOpen hub.old id (λ s front.
+        OnOk result (Serves hub.old hub.new id s (front ++ came) (W.written writer.old)
+        (W.written writer.new) []) ×
+        IfErr result (StopsServing hub.old hub.new id s front came (W.written writer.old)
+        (W.written writer.new)) ×
+        IsNotAhead hub.old id s front came (W.written writer.old) (W.written writer.new)) }
+    ensures end { IfOk result (EndsBy hub.new id (R.remaining reader.old)
+        (R.remaining reader.new)) }
+
+    // Of a session that is closing nothing is read, and what waits is written.
+    ensures closing { IfSome (seat_at hub.old id) (λ (s : Seat). s.closing ≡ true →
+        (reader.new ≡ reader.old) × ServesClosing hub.old hub.new id (W.written writer.old)
+        (W.written writer.new) result) }
+    ensures refusal { IfErr result (FailsServing hub.old id (W.failures writer.old)
+        (W.failures writer.new) (R.failures reader.old) (R.failures reader.new)) }
+    ensures no_session { seat_at hub.old id ≡ None → (result ≡ Err ServeError.NoSession) ×
+        (hub.new ≡ hub.old) × (reader.new ≡ reader.old) × (writer.new ≡ writer.old) }
+    ensures turns { (left : ℕ) × SpendsTurns (W.calls writer.old) (W.calls writer.new)
+        (R.calls reader.old) (R.calls reader.new) turns left ×
+        (IsErrOf result ServeError.TooManyTurns → left ≡ 0) }
+{
+    let Ok(closing) = hub.is_closing(id) else {
+        return Err(ServeError::NoSession);
+    };
+    let mut left = turns;
+    if !closing {
+        return serve_open(reader, writer, hub, id, &mut left);
+    }
+    if let Err(error) = write_out(writer, hub, id, &mut left) {
+        return Err(error);
+    }
+    Ok(Served::Closed)
+}
+
+/// Serves a session that is open.
+fn serve_open<R: Source, W: Sink, S: BuildHasher>(
+    reader: &mut R,
+    writer: &mut W,
+    hub: &mut Hub<S>,
+    id: u64,
+    turns: &mut u64,
+) -> Result<Served, ServeError>
+    requires is_open { IsOpen hub.old id }
+    requires waiting { WhereOpen hub.old id (λ s front.
+        HasAnswered hub.old hub.old id s front 0) }
+    ensures served { (came : List ℕ) ×
+        HasRead (R.remaining reader.old) (R.remaining reader.new) came ×
+        WhereOpen hub.old id (λ s front.
+        OnOk result (Serves hub.old hub.new id s (front ++ came) (W.written writer.old)
+        (W.written writer.new) []) ×
+        IfErr result (StopsServing hub.old hub.new id s front came (W.written writer.old)
+        (W.written writer.new)) ×
+        IsNotAhead hub.old id s front came (W.written writer.old) (W.written writer.new)) }
+    ensures end { IfOk result (EndsBy hub.new id (R.remaining reader.old)
+        (R.remaining reader.new)) }
+    ensures refusal { IfErr result (FailsServing hub.old id (W.failures writer.old)
+        (W.failures writer.new) (R.failures reader.old) (R.failures reader.new)) }
+    ensures turns { SpendsTurns (W.calls writer.old) (W.calls writer.new)
+        (R.calls reader.old) (R.calls reader.new) turns.old turns.new }
+    ensures no_turn_left { IsErrOf result ServeError.TooManyTurns → turns.new ≡ 0 }
+{
+    laws::answers_go_on();
+    laws::answers_are_added();
+    if let Err(error) = write_out(writer, hub, id, turns) {
+        return Err(error);
+    }
+    let mut piece = [0; PIECE];
+    loop {
+        let count = match read_some(reader, &mut piece, turns) {
+            Ok(0) => return Ok(Served::Ended),
+            Ok(count) => count,
+            Err(halt) => return Err(unread(halt)),
+        };
+        let closing = match answer(writer, hub, id, front(&piece, count), turns) {
+            Ok(closing) => closing,
+            Err(error) => return Err(error),
+        };
+        if closing {
+            return Ok(Served::Closed);
+        }
+    }
+}
+
+/// Gives the session a piece, and writes all that waits. Tells whether the session is closing.
+fn answer<W: Sink, S: BuildHasher>(
+    writer: &mut W,
+    hub: &mut Hub<S>,
+    id: u64,
+    piece: &[u8],
+    turns: &mut u64,
+) -> Result<bool, ServeError>
+    requires { IsOpen hub.old id }
+    ensures answered { WhereOpen hub.old id (λ s front.
+        OnOk result (Serves hub.old hub.new id s (front ++ piece.now) (W.written writer.old)
+        (W.written writer.new) []) ×
+        IfErr result (StopsServing hub.old hub.new id s front piece.now (W.written writer.old)
+        (W.written writer.new))) }
+    ensures closing { IfOk result (IsClosing hub.new id) }
+    ensures is_open { IfOk result (λ closing. closing ≡ false → IsOpen hub.new id) }
+    ensures none_failed { OnOk result (W.failures writer.new ≡ W.failures writer.old) }
+    ensures refusal { IfErr result (StopsAnswering (W.failures writer.old)
+        (W.failures writer.new) turns.new) }
+    ensures turns { Spends (W.calls writer.old) (W.calls writer.new) turns.old turns.new }
+{
+    if let Err(error) = hub.bytes(id, piece) {
+        return Err(unanswered(error));
+    }
+    if let Err(error) = write_out(writer, hub, id, turns) {
+        return Err(error);
+    }
+    let Ok(closing) = hub.is_closing(id) else {
+        return Err(ServeError::NoSession);
+    };
+    Ok(closing)
+}
+
+/// Writes all that waits in the session.
+fn write_out<W: Sink, S: BuildHasher>(
+    writer: &mut W,
+    hub: &mut Hub<S>,
+    id: u64,
+    turns: &mut u64,
+) -> Result<(), ServeError>
+    requires { IsThere hub.old id }
+    ensures sent { OnOk result (HasSent hub.old hub.new id (W.written writer.old)
+        (W.written writer.new) []) }
+    ensures part { OnErr result ((waits : List ℕ) × HasSent hub.old hub.new id
+        (W.written writer.old) (W.written writer.new) waits) }
+    ensures none_failed { OnOk result (W.failures writer.new ≡ W.failures writer.old) }
+    ensures refusal { IfErr result (StopsWriting (W.failures writer.old) (W.failures writer.new)
+        turns.new) }
+    ensures turns { Spends (W.calls writer.old) (W.calls writer.new) turns.old turns.new }
+{
+    let Ok(out) = hub.out(id) else {
+        return Err(ServeError::NoSession);
+    };
+    let written = write_text(writer, out, turns);
+    let Ok(()) = hub.sent(id, written.count) else {
+        return Err(ServeError::NoSession);
+    };
+    match written.end {
+        Ok(()) => Ok(()),
+        Err(halt) => Err(unwritten(halt)),
+    }
+}
+
+/// Why a piece that wasn't answered whole stops the call.
+fn unanswered(error: HubError) -> ServeError
+    requires { error ≢ HubError.NoSession }
+    ensures { result ≡ ServeError.OutOfMemory }
+{
+    match error {
+        HubError::NoSession => ServeError::NoSession,
+        HubError::OutOfMemory { .. } => ServeError::OutOfMemory,
+    }
+}
+
+/// Why a read that moved no byte stops the call.
+fn unread(halt: Halt) -> ServeError
+    ensures { (failures failures' left : ℕ) → Halts failures failures' left halt →
+        StopsReading failures failures' left result }
+{
+    match halt {
+        Halt::Failed => ServeError::Read,
+        Halt::NoTurn => ServeError::TooManyTurns,
+    }
+}
+
+/// Why a write that moved no byte stops the call.
+fn unwritten(halt: Halt) -> ServeError
+    ensures { (failures failures' left : ℕ) → Halts failures failures' left halt →
+        StopsWriting failures failures' left result }
+{
+    match halt {
+        Halt::Failed => ServeError::Write,
+        Halt::NoTurn => ServeError::TooManyTurns,
+    }
+}

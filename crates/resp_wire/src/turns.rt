@@ -1,0 +1,107 @@
+//! Reads and writes as turns, of which a call may take so many.
+
+ghost use Rattle.std.specs.Prelude.{◌≡◌, ◌<◌, ◌≤◌, [], drop, length, take, IfOk, IfErr, OnOk, OnErr};
+ghost use Rattle.resp_value.specs.Devices.{Appends};
+ghost use Rattle.resp_wire.specs.Turns.{Halts, HasRead, Spends, TellsEnd};
+
+use resp_value::device::{Sink, Source};
+
+/// How many bytes one read asks for.
+pub(crate) const PIECE: usize = 4_096;
+
+/// Why a read or a write moved no byte.
+#[derive(Clone, Copy, Debug, PartialEq, Eq)]
+pub(crate) enum Halt {
+    /// It failed, or a write took no byte.
+    Failed,
+    /// No turn was left for it.
+    NoTurn,
+}
+
+/// How much of a text was written.
+#[derive(Clone, Copy, Debug, PartialEq, Eq)]
+pub(crate) struct Written {
+    /// So many of the first bytes.
+    pub(crate) count: usize,
+    /// Why no more than these, unless they are all.
+    pub(crate) end: Result<(), Halt>,
+}
+
+/// Writes a text, by one write after another.
+pub(crate) fn write_text<W: Sink>(writer: &mut W, text: &[u8], turns: &mut u64) -> Written
+    ensures within { result.count ≤ length text.now }
+    ensures appended { Appends (W.written writer.old) (W.written writer.new)
+        (take result.count text.now) }
+    ensures whole { OnOk result.end (result.count ≡ length text.now) }
+    ensures none_failed { OnOk result.end (W.failures writer.new ≡ W.failures writer.old) }
+    ensures turns { Spends (W.calls writer.old) (W.calls writer.new) turns.old turns.new }
+    ensures halted { IfErr result.end (Halts (W.failures writer.old) (W.failures writer.new)
+        turns.new) }
+{
+    let mut count = 0;
+    while count < text.len() {
+        if *turns == 0 {
+            return Written {
+                count,
+                end: Err(Halt::NoTurn),
+            };
+        }
+        *turns -= 1;
+        match writer.write(behind(text, count)) {
+            Ok(0) | Err(_) => {
+                return Written {
+                    count,
+                    end: Err(Halt::Failed),
+                };
+            }
+            Ok(more) => count += more,
+        }
+    }
+    Written { count, end: Ok(()) }
+}
+
+/// Reads some bytes, by one read: none only at the end, or where there is no room.
+pub(crate) fn read_some<R: Source>(
+    reader: &mut R,
+    into: &mut [u8],
+    turns: &mut u64,
+) -> Result<usize, Halt>
+    ensures within { IfOk result (λ count. count ≤ length into.new) }
+    ensures read { IfOk result (λ count. HasRead (R.remaining reader.old) (R.remaining reader.new)
+        (take count into.new)) }
+    ensures end { 0 < length into.old → IfOk result (λ count. count ≡ 0 →
+        TellsEnd (R.remaining reader.old) (R.remaining reader.new)) }
+    ensures unread { OnErr result (HasRead (R.remaining reader.old) (R.remaining reader.new) []) }
+    ensures none_failed { OnOk result (R.failures reader.new ≡ R.failures reader.old) }
+    ensures turns { Spends (R.calls reader.old) (R.calls reader.new) turns.old turns.new }
+    ensures onward { OnOk result (turns.new < turns.old) }
+    ensures halted { IfErr result (Halts (R.failures reader.old) (R.failures reader.new)
+        turns.new) }
+{
+    if *turns == 0 {
+        return Err(Halt::NoTurn);
+    }
+    *turns -= 1;
+    match reader.read(into) {
+        Ok(count) => Ok(count),
+        Err(_) => Err(Halt::Failed),
+    }
+}
+
+/// The bytes from this index on.
+#[inline]
+pub(crate) fn behind(piece: &[u8], from: usize) -> &[u8]
+    requires { from ≤ length piece.now }
+    ensures { result.now ≡ drop from piece.now }
+{
+    &piece[from..]
+}
+
+/// So many of the first bytes.
+#[inline]
+pub(crate) fn front(piece: &[u8], count: usize) -> &[u8]
+    requires { count ≤ length piece.now }
+    ensures { result.now ≡ take count piece.now }
+{
+    &piece[..count]
+}
