@@ -1,7 +1,7 @@
 -- Quoted text.
-use Rattle.std.proofs.Common.{◌≡◌, ℕ, ◌+◌, ◌<◌, false, true, cond, List, [], ◌∷◌, ◌++◌, length, take, get_or, refl, sym, ap, ◌∙◌, add-one, append-nil, arith}
+use Rattle.std.proofs.Common.{◌≡◌, ℕ, ◌+◌, ◌<◌, false, true, cond, List, [], ◌∷◌, ◌++◌, length, take, drop, get_or, refl, sym, ap, ◌∙◌, add-one, append-nil, arith}
 use Rattle.std.proofs.lemmas.Grind.{flat_map-append}
-use Rattle.std.proofs.Math.Seq.{take-suc}
+use Rattle.std.proofs.Math.Seq.{take-add, take-suc}
 use Rattle.resp_tool.specs.Shown.{is_plain, escape_of, quoted_byte, quoted_text}
 
 -- what is quoted is quoted part by part
@@ -22,6 +22,14 @@ quoted-take text n h e plain =
     let more : take (n + 1) text ≡ take n text ++ get_or text n 0 ∷ [] = ap (λ k. take k text) (add-one n) ∙ take-suc text n 0 h in
     ap quoted_text more ∙ quoted-append (take n text) (get_or text n 0 ∷ []) ∙ ap (λ front. front ++ quoted_text (get_or text n 0 ∷ [])) e ∙
     ap (λ last. take n text ++ last) (quoted-plain (get_or text n 0) plain) ∙ sym more
+
+-- plain bytes more
+pub quoted-front : (text : List ℕ) (n m : ℕ) → quoted_text (take n text) ≡ take n text → quoted_text (take m (drop n text)) ≡ take m (drop n text) →
+    quoted_text (take (n + m) text) ≡ take (n + m) text
+quoted-front text n m front more =
+    let parts : take (n + m) text ≡ take n text ++ take m (drop n text) = take-add n m text in
+    ap quoted_text parts ∙ quoted-append (take n text) (take m (drop n text)) ∙ ap (λ xs. xs ++ quoted_text (take m (drop n text))) front ∙
+    ap (λ xs. take n text ++ xs) more ∙ sym parts
 
 -- the first byte doesn't stand for itself, where no byte before it does
 pub escaped_first : (rest behind : List ℕ) (byte n : ℕ) → rest ≡ byte ∷ behind → n ≡ 0 → (n < length rest → is_plain (get_or rest n 0) ≡ false) →

@@ -1,32 +1,39 @@
 //! `canon`: each value of a stream again, in its one canonical spelling.
 
-ghost use Rattle.std.specs.Prelude.{◌≡◌, ◌+◌, ◌≤◌, ℕ, List, [], Some, IfSome, IsErrOf};
+ghost use Rattle.std.specs.Prelude.{◌≡◌, ◌+◌, ◌≤◌, ℕ, List, [], Some, IfErr, IfOk, IfSome, IsErrOf, OnOk};
+ghost use Rattle.resp_encode.specs.Encodings.{WritesPart, WritesWhole};
+ghost use Rattle.resp_encode.specs.Refusals.{IfWrite, IsFirstRefusal};
+ghost use Rattle.resp_encode.specs.declared.error.EncodeError.{EncodeError};
 ghost use Rattle.resp_tool.specs.Canons.{stop_at, stop_of};
 ghost use Rattle.resp_tool.specs.Counts.{LeavesNothing};
 ghost use Rattle.resp_tool.specs.Streams.{AreRead, AtEnd, Renders};
 ghost use Rattle.resp_value.specs.Canonical.{canonical_text, Fits};
 ghost use Rattle.resp_value.specs.Devices.{count_after, HasRisen};
 ghost use Rattle.resp_value.specs.Rules.{rules_under};
+ghost use Rattle.resp_value.specs.Values.{datum_of};
 
 use crate::rendering::{Rendering, Stop, Taken};
 use crate::stream::{MOST_READS, render_stream};
 use crate::tool_error::ToolError;
+use bytes::BytesMut;
 use resp_decode::Decoder;
-use resp_encode::{EncodeError, EncodeToError, encode_to};
+use resp_encode::{EncodeError, EncodeToError, encode};
 use resp_scan::event::Fault;
 use resp_value::cause::Cause;
-use resp_value::device::{Sink, Source};
+use resp_value::device::{Sink, Source, write_all};
 use resp_value::limits::Limits;
+use resp_value::value::Value;
 use resp_value::version::Version;
 use std::alloc::Global;
 
 /// Each value in its canonical spelling in a version, under limits.
 #[derive(Drop)]
 struct Canonical<'a> {
-    alloc: Global,
     version: Version,
     limits: &'a Limits,
     decoder: Decoder,
+    /// Where each text is made before it is written.
+    text: BytesMut,
 }
 
 impl Rendering for Canonical<'_> {
@@ -61,7 +68,7 @@ impl Rendering for Canonical<'_> {
                 is_whole: false,
             });
         };
-        match encode_to(self.alloc, self.version, self.limits, &value, writer) {
+        match write_canonical(self.version, self.limits, &value, &mut self.text, writer) {
             Ok(_) => Ok(Taken {
                 used,
                 is_whole: true,
@@ -79,6 +86,39 @@ impl Rendering for Canonical<'_> {
             Ok(()) => Ok(()),
             Err(fault) => Err(stop_at(fault)),
         }
+    }
+}
+
+/// Writes the canonical text of a value, which is first made in `text` in the place of what stands
+/// there, so that one room serves for all values. Its refusals are those of `encode`, before
+/// anything is written; or a write fails, and the first bytes were written.
+fn write_canonical<W: Sink>(
+    version: Version,
+    limits: &Limits,
+    value: &Value,
+    text: &mut BytesMut,
+    writer: &mut W,
+) -> Result<u64, EncodeToError>
+    ensures whole { IfOk result (WritesWhole (W.written writer.old) (W.written writer.new)
+        (W.failures writer.old) (W.failures writer.new)
+        (canonical_text version (datum_of value.now))) }
+    ensures fits { OnOk result (Fits (rules_under version limits.now) (datum_of value.now)) }
+    ensures first_fault { IfErr result (IsFirstRefusal (rules_under version limits.now)
+        (datum_of value.now)) }
+    ensures nothing_written { (error : EncodeError) →
+        IsErrOf result (EncodeToError.Refused error) → writer.new ≡ writer.old }
+    ensures part { IfErr result (IfWrite (WritesPart (W.written writer.old) (W.written writer.new)
+        (W.failures writer.old) (W.failures writer.new)
+        (canonical_text version (datum_of value.now)))) }
+{
+    text.clear();
+    encode(version, limits, value, text)?;
+    let length = text.len() as u64;
+    match write_all(writer, text.as_slice()) {
+        Ok(()) => Ok(length),
+        Err(fault) => Err(EncodeToError::Write {
+            written: fault.written as u64,
+        }),
     }
 }
 
@@ -137,10 +177,10 @@ pub fn canon<R: Source, W: Sink>(
         HasRisen (W.failures writer.old) (W.failures writer.new) }
 {
     let mut canonical = Canonical {
-        alloc,
         version,
         limits,
         decoder: Decoder::new(alloc, version, limits),
+        text: BytesMut::new(alloc),
     };
     match render_stream(alloc, &mut canonical, piece, reader, writer) {
         Ok(_) => Ok(()),

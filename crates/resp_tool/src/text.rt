@@ -1,21 +1,56 @@
 //! Text to a writer: plain pieces, numbers, and quoted bytes.
 
-ghost use Rattle.std.specs.Prelude.{◌≡◌, ◌++◌, ◌<◌, ◌≤◌, false, length, take, slice_index};
+ghost use Rattle.std.specs.Prelude.{◌≡◌, ◌++◌, ◌<◌, ◌≤◌, false, true, length, drop, take, slice_index};
 ghost use Rattle.resp_tool.specs.Shown.{is_plain, hex_digit, escape_of, quoted_text};
 ghost use Rattle.resp_tool.specs.Written.{WritesText};
 
 use itoa::{Buffer, Integer};
-use resp_value::device::{Sink, WriteFault, write_all};
+use resp_value::device::{DeviceFault, Sink, WriteFault, write_all};
 
-/// Writes a text.
+/// How many bytes are looked at together.
+const RUN: usize = 64;
+
+/// Writes a text, mostly by one write: small texts that are known here then need no call to copy.
+#[inline(always)]
 pub fn write_text<W: Sink>(writer: &mut W, text: &[u8]) -> Result<(), WriteFault>
     ensures { WritesText (W.written writer.old) (W.written writer.new) (W.failures writer.old)
         (W.failures writer.new) result text.now }
 {
-    write_all(writer, text)
+    if text.is_empty() {
+        return Ok(());
+    }
+    match writer.write(text) {
+        Ok(count) => {
+            if count == text.len() {
+                return Ok(());
+            }
+            if count == 0 {
+                return Err(WriteFault { written: 0 });
+            }
+            write_rest(writer, text, count)
+        }
+        Err(DeviceFault) => Err(WriteFault { written: 0 }),
+    }
+}
+
+/// Writes what is left of a text behind its first bytes.
+#[cold]
+#[inline(never)]
+fn write_rest<W: Sink>(writer: &mut W, text: &[u8], written: usize) -> Result<(), WriteFault>
+    requires { written ≤ length text.now }
+    ensures { WritesText (W.written writer.old) (W.written writer.new) (W.failures writer.old)
+        (W.failures writer.new) result (drop written text.now) }
+{
+    match write_all(writer, &text[written..]) {
+        Ok(()) => Ok(()),
+        Err(fault) => Err(WriteFault {
+            written: written + fault.written,
+        }),
+    }
 }
 
 /// Writes a text, an integer, and another text.
+#[inline(always)]
 pub fn write_number<W: Sink, N: Integer + Drop>(
     writer: &mut W,
     before: &[u8],
@@ -62,18 +97,32 @@ fn write_escaped<W: Sink>(writer: &mut W, byte: u8) -> Result<(), WriteFault>
     }
 }
 
+/// Whether all bytes stand for themselves inside quotes. It looks at each, whatever the others are,
+/// so that many are looked at together.
+fn is_all_plain(text: &[u8]) -> bool
+    ensures { result ≡ true → quoted_text text.now ≡ text.now }
+{
+    let mut is_plain_so_far = true;
+    for byte in text {
+        is_plain_so_far &= is_plain(*byte);
+    }
+    is_plain_so_far
+}
+
 /// How many bytes stand before the first that doesn't stand for itself inside quotes.
 fn plain_length(text: &[u8]) -> usize
     ensures within { result ≤ length text.now }
     ensures plain { quoted_text (take result text.now) ≡ take result text.now }
     ensures whole { result < length text.now → is_plain (slice_index text.now result) ≡ false }
 {
-    for (index, byte) in text.iter().enumerate() {
-        if !is_plain(*byte) {
-            return index;
-        }
+    let mut length = 0;
+    while text.len() - length >= RUN && is_all_plain(&text[length..length + RUN]) {
+        length += RUN;
     }
-    text.len()
+    while length < text.len() && is_plain(text[length]) {
+        length += 1;
+    }
+    length
 }
 
 /// Writes a text as it stands inside quotes.

@@ -21,31 +21,31 @@ returns-in-Err-clause-takes g c = λ front so_far w.
     subst (λ z. Takes r (canonical_text r.version) (Fits r) LeavesNothing LeavesNothing H front piece so_far held held (Err z)) (sym c.stop_at.ensures)
     (decoder_stops r H front piece so_far held fault w.nothing refused)
 
-pub returns-in-Ok-encode_to-clause-takes : goal.returns-in-Ok-encode_to-clause-takes
-returns-in-Ok-encode_to-clause-takes g c = λ front so_far w.
+pub returns-in-Ok-write_canonical-clause-takes : goal.returns-in-Ok-write_canonical-clause-takes
+returns-in-Ok-write_canonical-clause-takes g c = λ front so_far w.
     let r = rules_under c.args.self.now.version c.args.self.now.limits.now in
     let used = c.in-Ok.fed.used in
     let value = c.in-Some.value in
     let given = subst (λ z. GivesValue z c.feed.new.self (front ++ take used c.args.piece.now) value) w.same_rules
     (c.in-Ok.ensures.value_whole front w.takes value c.in-Some.is) in
-    decodes_value r c.feed.new.self front c.args.piece.now so_far (g.W.Sink.written c.args.writer.now) (g.W.Sink.written c.encode_to.new.writer) used value _
+    decodes_value r c.feed.new.self front c.args.piece.now so_far (g.W.Sink.written c.args.writer.now) (g.W.Sink.written c.write_canonical.new.writer) used value _
     (search rules)
-    w.no_value w.nothing given (c.in-Ok.ensures.same_rules ∙ w.same_rules) c.in-Ok-encode_to.ensures.fits c.in-Ok-encode_to.ensures.whole.appended
+    w.no_value w.nothing given (c.in-Ok.ensures.same_rules ∙ w.same_rules) c.in-Ok-write_canonical.ensures.fits c.in-Ok-write_canonical.ensures.whole.appended
 
 pub returns-clause-takes : goal.returns-clause-takes
 returns-clause-takes g c = λ front so_far w.
     let r = rules_under c.args.self.now.version c.args.self.now.limits.now in
     let before = g.W.Sink.written c.args.writer.now in
-    let after = g.W.Sink.written c.encode_to.new.writer in
+    let after = g.W.Sink.written c.write_canonical.new.writer in
     let piece = c.args.piece.now in
     let used = c.in-Ok.fed.used in
     let value = c.in-Some.value in
-    let error = c.in-Err-encode_to.error in
+    let error = c.in-Err-write_canonical.error in
     let H = HasDecoded r c.feed.new.self in
     let given = subst (λ z. GivesValue z c.feed.new.self (front ++ take used piece) value) w.same_rules
     (c.in-Ok.ensures.value_whole front w.takes value c.in-Some.is) in
     subst (λ z. Takes r (canonical_text r.version) (Fits r) LeavesNothing LeavesNothing H front piece so_far before after (Err z)) (sym c.stop_of.ensures)
-    (encoder_stops_at r H value _ front piece so_far used before after (g.W.Sink.failures c.args.writer.now) (g.W.Sink.failures c.encode_to.new.writer)
-    error (search rules) w.nothing given.spelling c.in-Err-encode_to.ensures.first_fault
-    (λ e is. subst (λ z. Appends before (g.W.Sink.written z) []) (sym (c.in-Err-encode_to.ensures.nothing_written e (ap Err is))) (Appends-none before))
-    c.in-Err-encode_to.ensures.part)
+    (encoder_stops_at r H value _ front piece so_far used before after (g.W.Sink.failures c.args.writer.now) (g.W.Sink.failures c.write_canonical.new.writer)
+    error (search rules) w.nothing given.spelling c.in-Err-write_canonical.ensures.first_fault
+    (λ e is. subst (λ z. Appends before (g.W.Sink.written z) []) (sym (c.in-Err-write_canonical.ensures.nothing_written e (ap Err is))) (Appends-none before))
+    c.in-Err-write_canonical.ensures.part)
