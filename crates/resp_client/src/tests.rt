@@ -473,6 +473,10 @@ fn feed_with(
     }
 }
 
+fn ended(used: usize, what: What) -> Heard {
+    Heard { used, what }
+}
+
 #[test]
 fn pushes_are_shown(rt: HostRuntime) -> Result<(), Fail> {
     let alloc = rt.alloc();
@@ -480,39 +484,15 @@ fn pushes_are_shown(rt: HostRuntime) -> Result<(), Fail> {
     let mut sink: Box<dyn PushSink> = Box::new(alloc, PushList::new(alloc))?;
     assert_eq!(rt; send(&rt, alloc, &mut client, &[b"PING"])?, Ok(2));
     let shown = feed_with(&rt, &mut client, b">1\r\n:1\r\n:7\r\n", &mut sink)?;
-    assert_eq!(rt;
-        shown,
-        Heard {
-            used: 8,
-            what: What::Shown
-        }
-    );
+    assert_eq!(rt; shown, ended(8, What::Shown));
     assert_eq!(rt; sink.shown().len(), 1);
     let heard = feed_with(&rt, &mut client, b":7\r\n", &mut sink)?;
-    assert_eq!(rt;
-        heard,
-        Heard {
-            used: 4,
-            what: reply(2, Value::Int(7))
-        }
-    );
+    assert_eq!(rt; heard, ended(4, reply(2, Value::Int(7))));
     let more = feed_with(&rt, &mut client, b">2\r\n", &mut sink)?;
-    assert_eq!(rt;
-        more,
-        Heard {
-            used: 4,
-            what: What::More
-        }
-    );
+    assert_eq!(rt; more, ended(4, What::More));
     assert_eq!(rt; sink.shown().len(), 1);
     let shown = feed_with(&rt, &mut client, b"_\r\n#t\r\n", &mut sink)?;
-    assert_eq!(rt;
-        shown,
-        Heard {
-            used: 7,
-            what: What::Shown
-        }
-    );
+    assert_eq!(rt; shown, ended(7, What::Shown));
     let one = Members::new(vec![in alloc; Value::Int(1)]?);
     let two = Members::new(vec![in alloc; Value::Null, Value::Bool(true)]?);
     assert_eq!(rt; sink.shown(), [one, two].as_slice());

@@ -99,8 +99,8 @@ impl<S: BuildHasher> Hub<S> {
 
     /// What waits to be sent to a session's client.
     pub fn out(&self, id: u64) -> Result<&[u8], NoSession>
-        ensures waiting { IfOk result (λ text. option_map (λ (s : Seat). s.out) (seat_at self.now id)
-            ≡ Some text.now) }
+        ensures waiting { IfOk result (λ text.
+            option_map (λ (s : Seat). s.out) (seat_at self.now id) ≡ Some text.now) }
         ensures none { OnErr result (seat_at self.now id ≡ None) }
     {
         match self.sessions.get(&id) {
@@ -198,8 +198,8 @@ impl<S: BuildHasher> Hub<S> {
         // taken before of a value and the piece.
         ensures answered { WhereOpen self.old id (λ s front. IfOk result (λ handled.
             HasAnswered self.old self.new id s (front ++ piece.now) handled.commands)) }
-        // At want of memory they are those of the answers to the bytes taken before and the first of
-        // the piece.
+        // At want of memory they are those of the answers to the bytes taken before and the first
+        // of the piece.
         ensures cut_short { WhereOpen self.old id (λ s front. IfErr result (λ error.
             IfOutOfMemory error (HasCutShort self.old self.new id s front piece.now))) }
         ensures closing { IfSome (seat_at self.old id) (λ (s : Seat). s.closing ≡ true →

@@ -117,11 +117,13 @@ new_are apart limits c k rest h =
     let whole : whole_within texts (arrived_with k c) ≡ p + new_count k c rest =
     ap (whole_within texts) (counted apart limits c k rest h ∙ ap (λ z. length z + j) (sym front)) ∙ whole_within-add texts p j few ∙
     ap (λ z. p + whole_within z j) later in
-    ap (λ n. drop (length (old_of c)) (take n c.requests)) whole ∙ ap (λ n. drop n (take (p + new_count k c rest) c.requests)) (length-take-le p c.requests fewer) ∙
+    ap (λ n. drop (length (old_of c)) (take n c.requests)) whole ∙
+    ap (λ n. drop n (take (p + new_count k c rest) c.requests)) (length-take-le p c.requests fewer) ∙
     drop-take p (new_count k c rest) c.requests
 
 -- what has come of the later requests
-come : NoSpellingBeginsAnother → WhatComesIsWholeTexts → (limits : Bounds) → AreBounds limits → (c : Connection) (k : ℕ) (rest : List ℕ) (h : Coming limits c k rest) →
+come : NoSpellingBeginsAnother → WhatComesIsWholeTexts → (limits : Bounds) → AreBounds limits → (c : Connection) (k : ℕ) (rest : List ℕ)
+    (h : Coming limits c k rest) →
     HasCome (server_rules limits) (map command_value (later_of c)) (map request_text (later_of c)) (rest ++ coming k c)
 come apart comes limits bounds c k rest h =
     let behind : List ℕ = drop c.arrived (sent_text c) in
@@ -226,7 +228,8 @@ answered : NoSpellingBeginsAnother → ATextHasOneCut → WhatComesIsWholeTexts 
 answered apart one_cut comes one limits bounds w i k c rest rest' after at h m =
     let r = server_rules limits in
     let came = come apart comes limits bounds c k rest h in
-    let named = names_of limits (news_of k c rest) (all_take (IsSent limits) (new_count k c rest) (later_of c) (all_drop (IsSent limits) (count_of c) c.requests h.sent)) in
+    let later = all_drop (IsSent limits) (count_of c) c.requests h.sent in
+    let named = names_of limits (news_of k c rest) (all_take (IsSent limits) (new_count k c rest) (later_of c) later) in
     let v = news_served limits w i k c (news_of k c rest) at named in
     let spelled = news_spelled limits k c rest came in
     let n = news_answered limits w i k c rest came v.is_open in

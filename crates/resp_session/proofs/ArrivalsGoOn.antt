@@ -123,7 +123,8 @@ abbrev second_news : ℕ → ℕ → List Request → ℕ → List Request
 second_news j k requests arrived =
     let all : ℕ = length (concat (map request_text requests)) in
     let next : ℕ = min (arrived + j) all in
-    drop (length (take (whole_within (map request_text requests) next) requests)) (take (whole_within (map request_text requests) (min (next + k) all)) requests)
+    let texts = map request_text requests in
+    drop (length (take (whole_within texts next) requests)) (take (whole_within texts (min (next + k) all)) requests)
 
 -- at the connection's session: the commands of the first bytes run before the others come, or behind them
 at_session : (w : World) (i j k : ℕ) (c : Connection) → connection_at w.connections i ≡ Some c → c.arrived ≤ length (sent_text c) →

@@ -109,9 +109,10 @@ served i (request ∷ requests) named s w c at store version is_open =
     let h = served i requests named.1 (after_effect o.effect s) (left_by o.effect w i (request_words request)) (with_effect o.effect c)
     (changed_at (with_effect o.effect) w.connections i c at) refl refl is_open in
     let both = one_more i request requests s w c o.effect h in
-    let first : IsServed i (request ∷ requests) s (after_values i (after_effect o.effect s) (map command_value requests)) w
+    let rest = map command_value requests in
+    let first : IsServed i (request ∷ requests) s (after_values i (after_effect o.effect s) rest) w
     (after_commands (after_command w (i, request_words request)) (commands_for i requests)) c =
-    subst (λ v. IsServed i (request ∷ requests) s (after_values i (after_effect o.effect s) (map command_value requests)) w (after_commands v (commands_for i requests)) c)
+    subst (λ v. IsServed i (request ∷ requests) s (after_values i (after_effect o.effect s) rest) w (after_commands v (commands_for i requests)) c)
     (sym o.world) both in
-    subst (λ t. IsServed i (request ∷ requests) s (after_values i t (map command_value requests)) w (after_commands (after_command w (i, request_words request)) (commands_for i requests)) c)
-    (sym o.session) first
+    let left : World = after_commands (after_command w (i, request_words request)) (commands_for i requests) in
+    subst (λ t. IsServed i (request ∷ requests) s (after_values i t rest) w left c) (sym o.session) first

@@ -1,4 +1,4 @@
-//! Both ends of a connection over any reader and writer.
+//! Both ends of a connection over any reader and writer, and links between a client and its session.
 //!
 //! [`ask::ask`] sends requests to the other end and hears the replies; [`serve::serve`] hears
 //! requests and sends the replies.
@@ -7,6 +7,7 @@
 pub mod ask;
 pub mod asked;
 pub mod error;
+pub mod link;
 pub mod serve;
 #[cfg(test)]
 mod tests;
@@ -14,4 +15,5 @@ mod turns;
 
 pub use asked::{Asked, Request};
 pub use error::{AskError, ServeError};
+pub use link::{Direction, Link, LinkFault, MemoryLink, TcpLink};
 pub use serve::Served;

@@ -1,5 +1,6 @@
 //! A client's requests and their replies over memory, and what stands at each refusal.
 
+mod links;
 mod serves;
 
 use crate::ask::ask;

@@ -1,0 +1,54 @@
+//! Links, which carry bytes between a client and its session.
+
+ghost use Rattle.std.specs.Prelude.{◌≡◌, ◌≤◌, ℕ, length, is_err, OnOk};
+ghost use Rattle.resp_value.specs.Devices.{failures_after};
+
+use resp_value::cause::Cause;
+use thiserror::Error;
+
+mod memory;
+mod tcp;
+
+pub use memory::MemoryLink;
+pub use tcp::TcpLink;
+
+/// Which way bytes go.
+#[derive(Clone, Copy, Debug, PartialEq, Eq)]
+pub enum Direction {
+    /// From the client to its session.
+    ToServer,
+    /// From the session to its client.
+    ToClient,
+}
+
+/// The refusal of a link.
+#[derive(Clone, Copy, Debug, PartialEq, Eq, Error)]
+#[error("the link failed")]
+pub struct LinkFault {
+    /// Why: Read, Write or TooManyTurns.
+    pub cause: Cause,
+}
+
+/// What carries bytes both ways between a client and its session.
+pub trait Link: Drop {
+    /// It gives the bytes that it takes. Where this doesn't hold the link claims nothing of them.
+    ghost is_honest: { Self → Type 0 };
+
+    /// How many calls failed.
+    ghost failures: { Self → ℕ };
+
+    /// Carries a piece of at most 1,024 bytes to the room for it at the other end. Behind a refusal
+    /// nothing is known of what was carried.
+    fn carry(
+        &mut self,
+        direction: Direction,
+        piece: &[u8],
+        into: &mut [u8],
+    ) -> Result<(), LinkFault>
+        requires same_length { length piece.now ≡ length into.old }
+        requires short { length piece.now ≤ 1_024 }
+        ensures carried { is_honest self.old → OnOk result (into.new ≡ piece.now) }
+        ensures honest { is_honest self.old → is_honest self.new }
+        ensures failures { failures self.new ≡
+            failures_after (is_err result) (failures self.old) };
+}

@@ -1,0 +1,30 @@
+//! A link over memory.
+
+ghost use Rattle.std.specs.Prelude.{◌≡◌, ◌≤◌, length, IsOk};
+
+use super::{Direction, Link, LinkFault};
+
+/// A link over memory, which never fails and takes no memory.
+#[derive(Clone, Copy, Debug, Default, PartialEq, Eq, Drop)]
+pub struct MemoryLink;
+
+impl Link for MemoryLink {
+    ghost is_honest = { λ _. Unit {0} };
+
+    ghost failures = { λ _. 0 };
+
+    fn carry(
+        &mut self,
+        _direction: Direction,
+        piece: &[u8],
+        into: &mut [u8],
+    ) -> Result<(), LinkFault>
+        requires same_length { length piece.now ≡ length into.old }
+        requires short { length piece.now ≤ 1_024 }
+        ensures carried { into.new ≡ piece.now }
+        ensures always { IsOk result }
+    {
+        into.copy_from_slice(piece);
+        Ok(())
+    }
+}

@@ -1,0 +1,104 @@
+//! A link over TCP.
+
+ghost use Rattle.std.specs.Prelude.{◌≡◌, IfErr};
+
+use super::{Direction, Link, LinkFault};
+use crate::turns::{Halt, read_some, write_text};
+use resp_value::cause::Cause;
+use resp_value::device::Device;
+use std::io;
+use std::net::{Net, TcpListener, TcpStream};
+
+/// How many reads and writes one carry may take.
+const TURNS: u64 = 65_536;
+
+/// Both ends of a connection of this machine to itself, in one thread. It claims nothing of its
+/// bytes: that they come as they were written is for the machine to keep.
+///
+/// It carries by at most 65,536 reads and writes, and refuses by TooManyTurns where these are used
+/// up, by Write where a write fails or takes no byte, and by Read where a read fails or the input
+/// ends before the piece has come.
+#[derive(Debug, Drop)]
+pub struct TcpLink {
+    client_end: TcpStream,
+    server_end: TcpStream,
+    failures: u64,
+}
+
+impl TcpLink {
+    /// Opens a connection to 127.0.0.1 at a port that the machine picks. Refuses by Read where that
+    /// fails.
+    pub fn open(
+        net: &impl Net<Listener = TcpListener, Stream = TcpStream>,
+    ) -> Result<Self, LinkFault>
+        ensures refusal { IfErr result (λ fault. fault.cause ≡ Cause.Read) }
+    {
+        match connect(net) {
+            Ok((client_end, server_end)) => Ok(TcpLink {
+                client_end,
+                server_end,
+                failures: 0,
+            }),
+            Err(_) => Err(LinkFault { cause: Cause::Read }),
+        }
+    }
+}
+
+/// The end that connects, and the end that is connected to.
+fn connect(
+    net: &impl Net<Listener = TcpListener, Stream = TcpStream>,
+) -> io::Result<(TcpStream, TcpStream)> {
+    let listener = TcpListener::bind(net, ("127.0.0.1", 0))?;
+    let client_end = TcpStream::connect(net, listener.local_addr()?)?;
+    let (server_end, _) = listener.accept()?;
+    Ok((client_end, server_end))
+}
+
+impl Link for TcpLink {
+    ghost is_honest = { λ _. ⊥ };
+
+    ghost failures = { λ link. link.failures };
+
+    fn carry(
+        &mut self,
+        direction: Direction,
+        piece: &[u8],
+        into: &mut [u8],
+    ) -> Result<(), LinkFault> {
+        let passed = match direction {
+            Direction::ToServer => pass(&self.client_end, &self.server_end, piece, into),
+            Direction::ToClient => pass(&self.server_end, &self.client_end, piece, into),
+        };
+        if passed.is_err() {
+            self.failures = self.failures.saturating_add(1);
+        }
+        passed
+    }
+}
+
+/// Writes a piece at one end, and reads as many bytes at the other as there is room for.
+fn pass(from: &TcpStream, to: &TcpStream, piece: &[u8], into: &mut [u8]) -> Result<(), LinkFault> {
+    let mut turns = TURNS;
+    if let Err(halt) = write_text(&mut Device::new(from), piece, &mut turns).end {
+        return Err(stop(halt, Cause::Write));
+    }
+    let mut reader = Device::new(to);
+    let mut count = 0;
+    while count < into.len() {
+        match read_some(&mut reader, &mut into[count..], &mut turns) {
+            Ok(0) => return Err(LinkFault { cause: Cause::Read }),
+            Ok(more) => count += more,
+            Err(halt) => return Err(stop(halt, Cause::Read)),
+        }
+    }
+    Ok(())
+}
+
+/// Why a link stops, where a read or a write moved no byte.
+fn stop(halt: Halt, failed: Cause) -> LinkFault {
+    let cause = match halt {
+        Halt::Failed => failed,
+        Halt::NoTurn => Cause::TooManyTurns,
+    };
+    LinkFault { cause }
+}
