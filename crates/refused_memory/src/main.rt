@@ -8,6 +8,7 @@
 mod decoding;
 mod encoding;
 mod outcome;
+mod serving;
 
 use anyhow::Result;
 use outcome::Outcome;
@@ -57,5 +58,12 @@ fn main(rt: HostRuntime) -> Result<()> {
     print(&rt, "encode_push", encoding::of_push(alloc))?;
     print(&rt, "encode_words", encoding::of_words(alloc))?;
     print(&rt, "encode_to", encoding::to_writer(alloc))?;
-    print(&rt, "command", encoding::of_command(alloc))
+    print(&rt, "command", encoding::of_command(alloc))?;
+    print(&rt, "hub open", serving::of_open(alloc))?;
+    print(&rt, "hub set", serving::of_set(alloc))?;
+    print(&rt, "hub get", serving::of_get(alloc))?;
+    print(&rt, "hub del", serving::of_del(alloc))?;
+    print(&rt, "hub hello", serving::of_hello(alloc))?;
+    print(&rt, "hub protocol error", serving::of_protocol_error(alloc))?;
+    print(&rt, "hub push", serving::of_push(alloc))
 }
