@@ -9,6 +9,7 @@ mod decoding;
 mod encoding;
 mod outcome;
 mod pipelining;
+mod serving;
 
 use anyhow::Result;
 use outcome::Outcome;
@@ -63,5 +64,12 @@ fn main(rt: HostRuntime) -> Result<()> {
     print(&rt, "hello", pipelining::of_hello(alloc))?;
     print(&rt, "client feed", pipelining::of_feed(alloc))?;
     print(&rt, "client feed_with", pipelining::of_feed_with(alloc))?;
-    print(&rt, "client integer", pipelining::of_integer(alloc))
+    print(&rt, "client integer", pipelining::of_integer(alloc))?;
+    print(&rt, "hub open", serving::of_open(alloc))?;
+    print(&rt, "hub set", serving::of_set(alloc))?;
+    print(&rt, "hub get", serving::of_get(alloc))?;
+    print(&rt, "hub del", serving::of_del(alloc))?;
+    print(&rt, "hub hello", serving::of_hello(alloc))?;
+    print(&rt, "hub protocol error", serving::of_protocol_error(alloc))?;
+    print(&rt, "hub push", serving::of_push(alloc))
 }
