@@ -8,6 +8,7 @@
 mod decoding;
 mod encoding;
 mod outcome;
+mod pipelining;
 
 use anyhow::Result;
 use outcome::Outcome;
@@ -57,5 +58,10 @@ fn main(rt: HostRuntime) -> Result<()> {
     print(&rt, "encode_push", encoding::of_push(alloc))?;
     print(&rt, "encode_words", encoding::of_words(alloc))?;
     print(&rt, "encode_to", encoding::to_writer(alloc))?;
-    print(&rt, "command", encoding::of_command(alloc))
+    print(&rt, "command", encoding::of_command(alloc))?;
+    print(&rt, "send", pipelining::of_send(alloc))?;
+    print(&rt, "hello", pipelining::of_hello(alloc))?;
+    print(&rt, "client feed", pipelining::of_feed(alloc))?;
+    print(&rt, "client feed_with", pipelining::of_feed_with(alloc))?;
+    print(&rt, "client integer", pipelining::of_integer(alloc))
 }
