@@ -1,5 +1,7 @@
 //! A client's requests and their replies over memory, and what stands at each refusal.
 
+mod asks;
+mod exchanges;
 mod links;
 mod serves;
 

@@ -8,7 +8,6 @@ use resp_value::limits::Limits;
 use resp_value::version::Version;
 use std::alloc::Global;
 use std::hash::{BuildHasherDefault, FoldHasher};
-use std::process::Abort;
 use std::test::Fail;
 
 /// HELLO 3, 22 bytes, and PING.
@@ -19,132 +18,161 @@ const REPLIES: &[u8] = b"%7\r\n$6\r\nserver\r\n$9\r\nresp_loop\r\n$7\r\nversion\
     $5\r\nproto\r\n:3\r\n$2\r\nid\r\n:1\r\n$4\r\nmode\r\n$10\r\nstandalone\r\n$4\r\nrole\r\n\
     $6\r\nmaster\r\n$7\r\nmodules\r\n*0\r\n+PONG\r\n";
 
-type Store = Hub<BuildHasherDefault<FoldHasher>>;
+/// What came of serving session 1.
+#[derive(Drop)]
+struct Outcome {
+    answer: Result<Served, ServeError>,
+    reads: u64,
+    writes: u64,
+    version: Version,
+    written: Vec<u8>,
+    waits: Vec<u8>,
+}
 
-/// A hub with the session 1.
-fn new_hub(alloc: Global) -> Result<Store, Fail> {
-    let mut hub = Hub::new(alloc, Limits::standard(), BuildHasherDefault::new());
-    hub.open()?;
-    Ok(hub)
+/// Serves a new session, to a writer that takes so many bytes a call and fails from a byte on.
+fn serve_once(
+    alloc: Global,
+    mut reader: MemorySource,
+    most: usize,
+    fails_from: usize,
+    turns: u64,
+) -> Result<Outcome, Fail> {
+    let mut writer = MemorySink::new(alloc, most, fails_from)?;
+    let mut hub: Hub<BuildHasherDefault<FoldHasher>> = Hub::new(
+        alloc,
+        Limits::standard(),
+        BuildHasherDefault::new(),
+    );
+    let id = hub.open()?;
+    let answer = serve(&mut reader, &mut writer, &mut hub, id, turns);
+    Ok(Outcome {
+        answer,
+        reads: reader.calls(),
+        writes: writer.calls(),
+        version: hub.version(id)?,
+        written: Vec::from_slice(alloc, writer.bytes())?,
+        waits: Vec::from_slice(alloc, hub.out(id)?)?,
+    })
 }
 
 #[test]
 fn hello_and_ping(rt: HostRuntime) -> Result<(), Fail> {
-    let alloc = rt.alloc();
     for most in [1, 2, 3, 4_096] {
-        let mut reader = MemorySource::new(HELLO_PING, most);
-        let mut writer = MemorySink::new(alloc, 1, 4_096)?;
-        let mut hub = new_hub(alloc)?;
-        let served = serve(&mut reader, &mut writer, &mut hub, 1, 1_000);
-        assert_eq!(rt; served, Ok(Served::Ended));
-        assert_eq!(rt; writer.bytes(), REPLIES);
+        let reader = MemorySource::new(HELLO_PING, most);
+        let outcome = serve_once(rt.alloc(), reader, 1, 4_096, 1_000)?;
+        assert_eq!(rt; outcome.answer, Ok(Served::Ended));
+        assert_eq!(rt; outcome.written.as_slice(), REPLIES);
     }
     Ok(())
 }
 
 #[test]
 fn no_turns(rt: HostRuntime) -> Result<(), Fail> {
-    let alloc = rt.alloc();
-    let mut reader = MemorySource::new(HELLO_PING, 4_096);
-    let mut writer = MemorySink::new(alloc, 4_096, 4_096)?;
-    let mut hub = new_hub(alloc)?;
-    let served = serve(&mut reader, &mut writer, &mut hub, 1, 0);
-    assert_eq!(rt; served, Err(ServeError::TooManyTurns));
-    assert_eq!(rt; (reader.calls(), writer.calls()), (0, 0));
+    let reader = MemorySource::new(HELLO_PING, 4_096);
+    let outcome = serve_once(rt.alloc(), reader, 4_096, 4_096, 0)?;
+    assert_eq!(rt; outcome.answer, Err(ServeError::TooManyTurns));
+    assert_eq!(rt; (outcome.reads, outcome.writes), (0, 0));
     Ok(())
 }
 
 #[test]
 fn an_inline_command(rt: HostRuntime) -> Result<(), Fail> {
-    let alloc = rt.alloc();
-    let mut reader = MemorySource::new(b"PING\r\n", 1);
-    let mut writer = MemorySink::new(alloc, 4_096, 4_096)?;
-    let mut hub = new_hub(alloc)?;
-    let served = serve(&mut reader, &mut writer, &mut hub, 1, 100);
-    assert_eq!(rt; served, Ok(Served::Closed));
+    let reader = MemorySource::new(b"PING\r\n", 1);
+    let outcome = serve_once(rt.alloc(), reader, 4_096, 4_096, 100)?;
+    assert_eq!(rt; outcome.answer, Ok(Served::Closed));
+    assert_eq!(rt; outcome.reads, 1);
     assert_eq!(rt;
-        writer.bytes(),
+        outcome.written.as_slice(),
         b"-ERR Protocol error: Syntax at byte 0\r\n".as_slice()
     );
-    // Of a session that is closing nothing is read.
-    assert_eq!(rt; reader.calls(), 1);
-    let served = serve(&mut reader, &mut writer, &mut hub, 1, 0);
-    assert_eq!(rt; served, Ok(Served::Closed));
-    assert_eq!(rt; reader.calls(), 1);
     Ok(())
-}
-
-/// What is answered where a write fails from this byte on: the first bytes were written, and the
-/// others wait.
-fn a_failed_write(rt: &impl Abort, alloc: Global, most: usize, byte: usize) -> Result<(), Fail> {
-    let mut reader = MemorySource::new(HELLO_PING, 4_096);
-    let mut writer = MemorySink::new(alloc, most, byte)?;
-    let mut hub = new_hub(alloc)?;
-    let served = serve(&mut reader, &mut writer, &mut hub, 1, 1_000);
-    assert_eq!(rt; served, Err(ServeError::Write));
-    let mut text = Vec::from_slice(alloc, writer.bytes())?;
-    text.extend_from_slice(hub.out(1)?)?;
-    assert_eq!(rt; text.as_slice(), REPLIES);
-    Ok(())
-}
-
-#[test]
-fn a_writer_that_fails(rt: HostRuntime) -> Result<(), Fail> {
-    for byte in 0..REPLIES.len() {
-        a_failed_write(&rt, rt.alloc(), 4_096, byte)?;
-    }
-    a_failed_write(&rt, rt.alloc(), 0, 4_096)
 }
 
 #[test]
 fn a_writer_that_takes_five_bytes(rt: HostRuntime) -> Result<(), Fail> {
-    let alloc = rt.alloc();
-    let mut reader = MemorySource::new(HELLO_PING, 4_096);
-    let mut writer = MemorySink::new(alloc, 4_096, 5)?;
-    let mut hub = new_hub(alloc)?;
-    let served = serve(&mut reader, &mut writer, &mut hub, 1, 100);
-    assert_eq!(rt; served, Err(ServeError::Write));
-    assert_eq!(rt; writer.bytes(), b"%7\r\n$".as_slice());
-    assert_eq!(rt; hub.out(1)?.len(), 150);
+    let reader = MemorySource::new(HELLO_PING, 4_096);
+    let outcome = serve_once(rt.alloc(), reader, 4_096, 5, 100)?;
+    assert_eq!(rt; outcome.answer, Err(ServeError::Write));
+    assert_eq!(rt; outcome.written.as_slice(), b"%7\r\n$".as_slice());
+    assert_eq!(rt; outcome.waits.len(), 150);
+    Ok(())
+}
+
+#[test]
+fn a_writer_that_takes_no_byte(rt: HostRuntime) -> Result<(), Fail> {
+    let reader = MemorySource::new(HELLO_PING, 4_096);
+    let outcome = serve_once(rt.alloc(), reader, 0, 4_096, 100)?;
+    assert_eq!(rt; outcome.answer, Err(ServeError::Write));
+    assert_eq!(rt; outcome.waits.as_slice(), REPLIES);
     Ok(())
 }
 
 #[test]
 fn a_reader_that_fails(rt: HostRuntime) -> Result<(), Fail> {
-    let alloc = rt.alloc();
-    let mut reader = MemorySource::new(HELLO_PING, 4_096).failing_from(22);
-    let mut writer = MemorySink::new(alloc, 4_096, 4_096)?;
-    let mut hub = new_hub(alloc)?;
-    let served = serve(&mut reader, &mut writer, &mut hub, 1, 100);
-    assert_eq!(rt; served, Err(ServeError::Read));
-    assert_eq!(rt; writer.bytes().len(), 148);
-    assert_eq!(rt; hub.version(1)?, Version::Three);
+    let reader = MemorySource::new(HELLO_PING, 4_096).failing_from(22);
+    let outcome = serve_once(rt.alloc(), reader, 4_096, 4_096, 100)?;
+    assert_eq!(rt; outcome.answer, Err(ServeError::Read));
+    assert_eq!(rt; outcome.written.len(), 148);
+    assert_eq!(rt; outcome.version, Version::Three);
     Ok(())
 }
 
+/// What was written and what waits is a text: the beginning of all replies.
 #[test]
-fn each_read_failed_in_turn(rt: HostRuntime) -> Result<(), Fail> {
-    let alloc = rt.alloc();
-    for byte in 0..HELLO_PING.len() {
-        let mut reader = MemorySource::new(HELLO_PING, 1).failing_from(byte);
-        let mut writer = MemorySink::new(alloc, 4_096, 4_096)?;
-        let mut hub = new_hub(alloc)?;
-        let served = serve(&mut reader, &mut writer, &mut hub, 1, 100);
-        assert_eq!(rt; served, Err(ServeError::Read));
-        let wanted = if byte < 22 { 0 } else { 148 };
-        assert_eq!(rt; writer.bytes().len(), wanted);
+fn each_write_fails_in_turn(rt: HostRuntime) -> Result<(), Fail> {
+    for byte in 0..REPLIES.len() {
+        let reader = MemorySource::new(HELLO_PING, 4_096);
+        let mut outcome = serve_once(rt.alloc(), reader, 4_096, byte, 1_000)?;
+        assert_eq!(rt; outcome.answer, Err(ServeError::Write));
+        outcome.written.extend_from_slice(outcome.waits.as_slice())?;
+        assert_eq!(rt; outcome.written.as_slice(), REPLIES);
     }
     Ok(())
 }
 
 #[test]
-fn no_session(rt: HostRuntime) -> Result<(), Fail> {
+fn each_read_fails_in_turn(rt: HostRuntime) -> Result<(), Fail> {
+    for byte in 0..HELLO_PING.len() {
+        let reader = MemorySource::new(HELLO_PING, 1).failing_from(byte);
+        let outcome = serve_once(rt.alloc(), reader, 4_096, 4_096, 1_000)?;
+        assert_eq!(rt; outcome.answer, Err(ServeError::Read));
+        let wanted = if byte < 22 { 0 } else { 148 };
+        assert_eq!(rt; outcome.written.len(), wanted);
+    }
+    Ok(())
+}
+
+#[test]
+fn each_number_of_turns_in_turn(rt: HostRuntime) -> Result<(), Fail> {
+    // 36 reads of a byte each, one at the end, and a write behind each of the two commands.
+    for turns in 0..39 {
+        let reader = MemorySource::new(HELLO_PING, 1);
+        let outcome = serve_once(rt.alloc(), reader, 4_096, 4_096, turns)?;
+        assert_eq!(rt; outcome.answer, Err(ServeError::TooManyTurns));
+        assert_eq!(rt; outcome.reads.saturating_add(outcome.writes), turns);
+    }
+    Ok(())
+}
+
+#[test]
+fn no_session_and_one_that_is_closing(rt: HostRuntime) -> Result<(), Fail> {
     let alloc = rt.alloc();
     let mut reader = MemorySource::new(HELLO_PING, 4_096);
     let mut writer = MemorySink::new(alloc, 4_096, 4_096)?;
-    let mut hub = new_hub(alloc)?;
-    let served = serve(&mut reader, &mut writer, &mut hub, 2, 100);
-    assert_eq!(rt; served, Err(ServeError::NoSession));
-    assert_eq!(rt; (reader.calls(), writer.calls()), (0, 0));
+    let mut hub: Hub<BuildHasherDefault<FoldHasher>> = Hub::new(
+        alloc,
+        Limits::standard(),
+        BuildHasherDefault::new(),
+    );
+    let id = hub.open()?;
+    hub.bytes(id, b"PING\r\n")?;
+    let nobody = serve(&mut reader, &mut writer, &mut hub, 2, 100);
+    let closed = serve(&mut reader, &mut writer, &mut hub, id, 100);
+    assert_eq!(rt;
+        (nobody, closed),
+        (Err(ServeError::NoSession), Ok(Served::Closed))
+    );
+    // The line is written by one write, and nothing is read.
+    assert_eq!(rt; (reader.calls(), writer.calls()), (0, 1));
     Ok(())
 }
