@@ -1,6 +1,6 @@
 //! What stands of sessions by their ids, and what is refused.
 //!
-//! Each call of a hub stands in a function without a contract, so that a test is proved in a moment.
+//! A call of a hub stands in a function without a contract, so that tests are proved in a moment.
 
 use crate::error::{HubError, OpenError, PushError};
 use crate::tests::{TestHub, commands, hub};
