@@ -64,7 +64,8 @@ impl<S: BuildHasher> Model for Hub<S> {
 }
 
 impl<S: BuildHasher> Hub<S> {
-    ghost use Rattle.resp_server.specs.Hubs.{HubState, Seat, seat_at, seated, without_seat, IsOpened, IsFull};
+    ghost use Rattle.resp_server.specs.Hubs.{HubState, Seat, seat_at, seated, without_seat};
+    ghost use Rattle.resp_server.specs.Hubs.{IsOpened, IsFull};
 
     /// A hub without a session, over an empty store. Takes no memory.
     pub fn new(alloc: Global, limits: Limits, hasher: S) -> Hub<S>
