@@ -1,4 +1,4 @@
-//! Both ends of a connection over any reader and writer, and links between a client and its session.
+//! Both ends of a connection over any reader and writer, and links between clients and sessions.
 //!
 //! [`ask::ask`] sends requests to the other end and hears the replies; [`serve::serve`] hears
 //! requests and sends the replies.
