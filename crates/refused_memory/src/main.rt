@@ -7,6 +7,7 @@
 
 mod decoding;
 mod encoding;
+mod engines;
 mod outcome;
 mod pipelining;
 
@@ -63,5 +64,7 @@ fn main(rt: HostRuntime) -> Result<()> {
     print(&rt, "hello", pipelining::of_hello(alloc))?;
     print(&rt, "client feed", pipelining::of_feed(alloc))?;
     print(&rt, "client feed_with", pipelining::of_feed_with(alloc))?;
-    print(&rt, "client integer", pipelining::of_integer(alloc))
+    print(&rt, "client integer", pipelining::of_integer(alloc))?;
+    print(&rt, "ask", engines::of_ask(alloc))?;
+    print(&rt, "serve", engines::of_serve(alloc))
 }
