@@ -7,6 +7,7 @@
 
 mod decoding;
 mod encoding;
+mod engines;
 mod outcome;
 mod pipelining;
 mod serving;
@@ -71,5 +72,7 @@ fn main(rt: HostRuntime) -> Result<()> {
     print(&rt, "hub del", serving::of_del(alloc))?;
     print(&rt, "hub hello", serving::of_hello(alloc))?;
     print(&rt, "hub protocol error", serving::of_protocol_error(alloc))?;
-    print(&rt, "hub push", serving::of_push(alloc))
+    print(&rt, "hub push", serving::of_push(alloc))?;
+    print(&rt, "ask", engines::of_ask(alloc))?;
+    print(&rt, "serve", engines::of_serve(alloc))
 }
