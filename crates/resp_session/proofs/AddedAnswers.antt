@@ -1,9 +1,8 @@
 -- Answers behind what was written and run before.
-use Rattle.std.proofs.Common.{◌≡◌, inl, inr, ℕ, ◌+◌, Bool, true, false, cond, List, [], ◌∷◌, ◌++◌, refl, sym, ap, subst, ◌∙◌, append_assoc, arith, codes}
+use Rattle.std.proofs.Common.{◌≡◌, inl, inr, ℕ, Bool, true, false, cond, List, [], ◌∷◌, refl, sym, ap, subst, ◌∙◌, append_assoc, arith, codes}
 use Rattle.resp_value.specs.Canonical.{canonical_text}
 use Rattle.resp_value.specs.Causes.{cause_of, name_of}
 use Rattle.resp_value.specs.Data.{Datum}
-use Rattle.resp_value.specs.Numbers.{decimal}
 use Rattle.resp_value.specs.Rules.{Rules}
 use Rattle.resp_value.specs.declared.version.Version.{Version}
 use Rattle.resp_session.specs.AnswerLaws.{AnswersAreAdded, behind_others}

@@ -1,25 +1,24 @@
 -- What a session of a world answers to what comes is what the world is left with.
-use Rattle.std.proofs.Common.{◌≡◌, inl, inr, ℕ, ◌+◌, ◌-◌, ◌≤◌, min, true, false, List, [], ◌∷◌, ◌++◌, length, map, take, drop, Option, Some, refl, sym, ap, subst, ◌∙◌, arith, append_assoc, length-append}
+use Rattle.std.proofs.Common.{◌≡◌, inl, inr, ℕ, ◌+◌, ◌≤◌, min, true, false, List, ◌++◌, length, map, take, drop, Some, refl, sym, ap, subst, ◌∙◌, arith, append_assoc, length-append}
 use Rattle.std.proofs.Math.Seq.{take-add}
 use Rattle.std.proofs.lemmas.List.{map-append, length-map, length-take-le, take-append-drop, take-map, take_min, drop-take, drop-map}
 use Rattle.std.proofs.lemmas.List.Folds.{concat-append}
 use Rattle.std.specs.List.{AllByRecursion, concat}
 use Rattle.resp_value.specs.Bounds.{Bounds, AreBounds}
-use Rattle.resp_value.specs.Data.{Datum}
 use Rattle.resp_value.specs.Laws.{ATextHasOneCut, CanonicalTextSpellsWhatFits, NoSpellingBeginsAnother}
 use Rattle.resp_value.specs.Rules.{Rules}
 use Rattle.resp_value.specs.Spellings.{AreSpellings, Cut}
 use Rattle.resp_session.specs.Answers.{Answers, BeginsNoValue, Ends, SessionState, after_values, server_rules}
 use Rattle.resp_session.specs.AnswerLaws.{ATextHasOneAnswer, WhatComesIsWholeTexts}
-use Rattle.resp_session.specs.Arrivals.{HasCome, SpellEach}
+use Rattle.resp_session.specs.Arrivals.{HasCome}
 use Rattle.resp_session.specs.Connections.{Connection, Message, arrived_requests, back_text, message_text, new_requests, sent_text, whole_within, with_arrived}
 use Rattle.resp_session.specs.Requests.{Request, request_text}
-use Rattle.resp_session.specs.Runs.{Run}
 use Rattle.resp_session.specs.Serving.{IsLeftBy, IsUnfinished, WhatArrivesIsAnswered, coming, session_of}
-use Rattle.resp_session.specs.WorldLaws.{HasName, IsPossible}
-use Rattle.resp_session.specs.Worlds.{World, WorldEvent, ToServer, after_arrival, after_commands, after_event, commands_for, connection_at, new_world, world_with}
-use Rattle.resp_session.proofs.ArrivedTexts.{all_drop, all_take, same_front, spell_all, whole_within-add}
+use Rattle.resp_session.specs.WorldLaws.{HasName}
+use Rattle.resp_session.specs.Worlds.{World, ToServer, after_arrival, after_commands, after_event, commands_for, connection_at, new_world, world_with}
+use Rattle.resp_session.proofs.ArrivedTexts.{same_front, spell_all, whole_within-add}
 use Rattle.resp_session.proofs.Changes.{changed_at}
+use Rattle.resp_session.proofs.Elements.{all_dropped, all_taken}
 use Rattle.resp_session.proofs.OrdersGoOn.{after_commands-order}
 use Rattle.resp_session.proofs.SentRequests.{IsSent, names_of, new_sent, run_sent, texts_spell}
 use Rattle.resp_session.proofs.ServedCommands.{IsServed, command_value, served}
@@ -74,7 +73,7 @@ fronts apart limits c k rest h =
     let whole : u.front ++ (rest ++ behind) ≡ text_of (old_of c) ++ text_of (later_of c) =
     sym (append_assoc u.front rest behind) ∙ ap (λ z. z ++ behind) (sym u.whole) ∙ take-append-drop c.arrived (sent_text c) ∙ sent_in_two c (count_of c) in
     same_front apart (server_rules limits) (map command_value (old_of c)) u.front (text_of (old_of c)) (rest ++ behind) (text_of (later_of c)) u.spelled
-    (values_of_requests limits (old_of c) (all_take (IsSent limits) (count_of c) c.requests h.sent)) whole
+    (values_of_requests limits (old_of c) (all_taken (IsSent limits) (count_of c) c.requests h.sent)) whole
 
 -- how many bytes have come, with those that come now
 abbrev arrived_with : ℕ → Connection → ℕ
@@ -130,7 +129,7 @@ come apart comes limits bounds c k rest h =
     let whole : (rest ++ take k behind) ++ drop k behind ≡ text_of (later_of c) =
     append_assoc rest (take k behind) (drop k behind) ∙ ap (λ z. rest ++ z) (take-append-drop k behind) ∙ (fronts apart limits c k rest h).1 in
     comes (server_rules limits) (map command_value (later_of c)) (map request_text (later_of c)) (rest ++ coming k c) (drop k behind) bounds
-    (texts_spell limits (later_of c) (all_drop (IsSent limits) (count_of c) c.requests h.sent)) whole
+    (texts_spell limits (later_of c) (all_dropped (IsSent limits) (count_of c) c.requests h.sent)) whole
 
 -- the requests that come whole now
 abbrev news_of : ℕ → Connection → List ℕ → List Request
@@ -228,8 +227,8 @@ answered : NoSpellingBeginsAnother → ATextHasOneCut → WhatComesIsWholeTexts 
 answered apart one_cut comes one limits bounds w i k c rest rest' after at h m =
     let r = server_rules limits in
     let came = come apart comes limits bounds c k rest h in
-    let later = all_drop (IsSent limits) (count_of c) c.requests h.sent in
-    let named = names_of limits (news_of k c rest) (all_take (IsSent limits) (new_count k c rest) (later_of c) later) in
+    let later = all_dropped (IsSent limits) (count_of c) c.requests h.sent in
+    let named = names_of limits (news_of k c rest) (all_taken (IsSent limits) (new_count k c rest) (later_of c) later) in
     let v = news_served limits w i k c (news_of k c rest) at named in
     let spelled = news_spelled limits k c rest came in
     let n = news_answered limits w i k c rest came v.is_open in

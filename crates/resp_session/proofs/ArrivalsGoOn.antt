@@ -1,5 +1,5 @@
 -- Bytes that come in two parts.
-use Rattle.std.proofs.Common.{◌≡◌, ℕ, zero, suc, ◌+◌, ◌≤◌, min, List, [], ◌∷◌, ◌++◌, length, map, take, drop, Option, None, Some, refl, sym, ap, subst, ◌∙◌, arith, append_assoc}
+use Rattle.std.proofs.Common.{◌≡◌, ℕ, zero, suc, ◌+◌, ◌≤◌, min, List, [], ◌∷◌, ◌++◌, length, map, take, drop, Option, None, Some, refl, sym, ap, ◌∙◌, arith, append_assoc}
 use Rattle.std.proofs.lemmas.List.{append_cancel_left, map-append}
 use Rattle.std.proofs.lemmas.List.Sums.{fold-append}
 use Rattle.std.specs.List.{concat}
@@ -7,7 +7,7 @@ use Rattle.resp_session.specs.Connections.{Connection, arrived_requests, back_te
 use Rattle.resp_session.specs.Requests.{Request, request_text, request_words}
 use Rattle.resp_session.specs.Serving.{ArrivalsGoOn}
 use Rattle.resp_session.specs.Stores.{Effect, effect_of_words}
-use Rattle.resp_session.specs.Worlds.{World, WorldEvent, ToServer, ToClient, after_arrival, after_command, after_commands, after_event, commands_for, connection_at, version_of, with_change, world_with, new_world}
+use Rattle.resp_session.specs.Worlds.{World, ToServer, after_arrival, after_command, after_commands, after_event, commands_for, connection_at, version_of, with_change, world_with, new_world}
 use Rattle.resp_session.proofs.Changes.{changed_at}
 use Rattle.resp_session.proofs.WorldsHold.{arrived_then_new, new_world_holds, run_holds}
 

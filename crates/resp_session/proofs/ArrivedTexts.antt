@@ -1,6 +1,6 @@
 -- Texts that have come, and those behind them.
-use Rattle.std.proofs.Common.{◌≡◌, ℕ, zero, suc, ◌+◌, ◌-◌, ◌≤◌, if◌then◌else◌, List, [], ◌∷◌, ◌++◌, length, map, take, drop, refl, sym, ap, ◌∙◌, arith, append_assoc, length-append, add-one}
-use Rattle.std.specs.List.{AllByRecursion, concat}
+use Rattle.std.proofs.Common.{◌≡◌, ℕ, zero, suc, ◌+◌, ◌-◌, ◌≤◌, List, [], ◌∷◌, ◌++◌, length, take, drop, refl, sym, ap, ◌∙◌, arith, append_assoc, length-append}
+use Rattle.std.specs.List.{concat}
 use Rattle.resp_value.specs.Data.{Datum}
 use Rattle.resp_value.specs.Rules.{Rules}
 use Rattle.resp_value.specs.Spellings.{AreSpellings}
@@ -8,16 +8,6 @@ use Rattle.resp_value.specs.Laws.{NoSpellingBeginsAnother}
 use Rattle.resp_session.specs.Arrivals.{SpellEach}
 use Rattle.resp_session.specs.Connections.{whole_within}
 use Rattle.resp_session.proofs.WholeTexts.{whole_within-long}
-
-pub all_take : {X : Type 0} (P : X → Type 0) (k : ℕ) (xs : List X) → AllByRecursion P xs → AllByRecursion P (take k xs)
-all_take P zero xs h = tt
-all_take P (suc k) [] h = tt
-all_take P (suc k) (x ∷ xs) h = (h.0, all_take P k xs h.1)
-
-pub all_drop : {X : Type 0} (P : X → Type 0) (k : ℕ) (xs : List X) → AllByRecursion P xs → AllByRecursion P (drop k xs)
-all_drop P zero xs h = h
-all_drop P (suc k) [] h = tt
-all_drop P (suc k) (x ∷ xs) h = all_drop P k xs h.1
 
 -- texts that spell values one by one spell them all
 pub spell_all : (r : Rules) (xs : List Datum) (texts : List (List ℕ)) → SpellEach r xs texts → AreSpellings r xs (concat texts)

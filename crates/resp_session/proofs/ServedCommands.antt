@@ -1,7 +1,6 @@
 -- A session's answers to commands, and what the commands leave in a world.
-use Rattle.std.proofs.Common.{◌≡◌, ℕ, zero, suc, ◌+◌, ◌<◌, true, false, cond, List, [], ◌∷◌, ◌++◌, length, map, Option, None, Some, refl, sym, ap, subst, ◌∙◌, arith, append_assoc, append-nil}
+use Rattle.std.proofs.Common.{◌≡◌, ℕ, ◌+◌, ◌<◌, false, cond, List, [], ◌∷◌, ◌++◌, length, map, Some, refl, sym, ap, subst, ◌∙◌, arith, append_assoc, append-nil}
 use Rattle.std.specs.List.{AllByRecursion, concat}
-use Rattle.std.specs.Option.{option_map}
 use Rattle.resp_value.specs.Data.{Datum}
 use Rattle.resp_value.specs.Words.{command_of}
 use Rattle.resp_session.specs.Answers.{SessionState, after_effect, after_meaning, after_value, after_values}

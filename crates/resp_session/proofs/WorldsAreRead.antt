@@ -1,5 +1,5 @@
 -- What the sessions of a world have written is what their clients read.
-use Rattle.std.proofs.Common.{◌≡◌, inl, inr, ℕ, zero, suc, ◌+◌, min, false, List, [], ◌∷◌, ◌++◌, length, map, Option, None, Some, refl, sym, ap, subst, ◌∙◌, append_assoc, append-nil}
+use Rattle.std.proofs.Common.{◌≡◌, inl, inr, ℕ, ◌+◌, min, false, List, [], ◌∷◌, ◌++◌, length, map, Option, None, Some, refl, sym, ap, subst, ◌∙◌, append_assoc, append-nil}
 use Rattle.std.proofs.lemmas.Bool.{cases_eq}
 use Rattle.std.proofs.lemmas.List.{map-append, take-append-drop}
 use Rattle.std.specs.List.{AllByRecursion}
@@ -15,7 +15,7 @@ use Rattle.resp_session.specs.Requests.{Request, Hello, Command, is_unsent_reque
 use Rattle.resp_session.specs.Runs.{Outcome, Done, Refused, Gone, Step, Run, RefusesEvent, connection_of}
 use Rattle.resp_session.specs.Stores.{Effect, effect_of_words}
 use Rattle.resp_session.specs.WorldLaws.{IsPossible, IsWritten, IsReadByItsClient, EachMessageIsWritten, WhatIsWrittenIsRead}
-use Rattle.resp_session.specs.Worlds.{World, WorldEvent, Send, Greet, ToServer, ToClient, Push, Drop, connection_at, with_change, world_with, version_of, after_command, after_commands, after_event, after_arrival, commands_for, new_world}
+use Rattle.resp_session.specs.Worlds.{World, WorldEvent, Send, Greet, ToServer, ToClient, Push, Drop, connection_at, world_with, version_of, after_command, after_commands, after_event, after_arrival, commands_for, new_world}
 use Rattle.resp_session.proofs.Changes.{changed_at, is_changed}
 use Rattle.resp_session.proofs.Elements.{all_taken, all_dropped}
 use Rattle.resp_session.proofs.Parts.{AllHold, comes_from, arrived_requests-with_request}

@@ -5,3 +5,4 @@ pub mod Requests
 pub mod Stops
 pub mod Asking
 pub mod Serving
+pub mod Links

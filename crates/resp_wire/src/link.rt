@@ -1,7 +1,8 @@
 //! Links, which carry bytes between a client and its session.
 
-ghost use Rattle.std.specs.Prelude.{◌≡◌, ◌≤◌, ℕ, length, is_err, OnOk};
+ghost use Rattle.std.specs.Prelude.{◌≡◌, ◌≤◌, ℕ, length, is_err, IfErr, OnOk};
 ghost use Rattle.resp_value.specs.Devices.{failures_after};
+ghost use Rattle.resp_wire.specs.Links.{IsLinkCause};
 
 use resp_value::cause::Cause;
 use thiserror::Error;
@@ -49,6 +50,7 @@ pub trait Link: Drop {
         requires short { length piece.now ≤ 1_024 }
         ensures carried { is_honest self.old → OnOk result (into.new ≡ piece.now) }
         ensures honest { is_honest self.old → is_honest self.new }
+        ensures cause { IfErr result (λ fault. IsLinkCause fault.cause) }
         ensures failures { failures self.new ≡
             failures_after (is_err result) (failures self.old) };
 }

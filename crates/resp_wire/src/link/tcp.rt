@@ -1,6 +1,7 @@
 //! A link over TCP.
 
 ghost use Rattle.std.specs.Prelude.{◌≡◌, IfErr};
+ghost use Rattle.resp_wire.specs.Links.{IsLinkCause};
 
 use super::{Direction, Link, LinkFault};
 use crate::turns::{Halt, read_some, write_text};
@@ -44,6 +45,23 @@ impl TcpLink {
     }
 }
 
+impl TcpLink {
+    /// Writes a piece at the end that it comes from, and reads it at the other.
+    fn pass_along(
+        &self,
+        direction: Direction,
+        piece: &[u8],
+        into: &mut [u8],
+    ) -> Result<(), LinkFault>
+        ensures { IfErr result (λ fault. IsLinkCause fault.cause) }
+    {
+        if direction == Direction::ToServer {
+            return pass(&self.client_end, &self.server_end, piece, into);
+        }
+        pass(&self.server_end, &self.client_end, piece, into)
+    }
+}
+
 /// The end that connects, and the end that is connected to.
 fn connect(
     net: &impl Net<Listener = TcpListener, Stream = TcpStream>,
@@ -65,10 +83,7 @@ impl Link for TcpLink {
         piece: &[u8],
         into: &mut [u8],
     ) -> Result<(), LinkFault> {
-        let passed = match direction {
-            Direction::ToServer => pass(&self.client_end, &self.server_end, piece, into),
-            Direction::ToClient => pass(&self.server_end, &self.client_end, piece, into),
-        };
+        let passed = self.pass_along(direction, piece, into);
         if passed.is_err() {
             self.failures = self.failures.saturating_add(1);
         }
@@ -77,7 +92,9 @@ impl Link for TcpLink {
 }
 
 /// Writes a piece at one end, and reads as many bytes at the other as there is room for.
-fn pass(from: &TcpStream, to: &TcpStream, piece: &[u8], into: &mut [u8]) -> Result<(), LinkFault> {
+fn pass(from: &TcpStream, to: &TcpStream, piece: &[u8], into: &mut [u8]) -> Result<(), LinkFault>
+    ensures { IfErr result (λ fault. IsLinkCause fault.cause) }
+{
     let mut turns = TURNS;
     if let Err(halt) = write_text(&mut Device::new(from), piece, &mut turns).end {
         return Err(stop(halt, Cause::Write));
@@ -95,7 +112,9 @@ fn pass(from: &TcpStream, to: &TcpStream, piece: &[u8], into: &mut [u8]) -> Resu
 }
 
 /// Why a link stops, where a read or a write moved no byte.
-fn stop(halt: Halt, failed: Cause) -> LinkFault {
+fn stop(halt: Halt, failed: Cause) -> LinkFault
+    ensures { IsLinkCause failed → IsLinkCause result.cause }
+{
     let cause = match halt {
         Halt::Failed => failed,
         Halt::NoTurn => Cause::TooManyTurns,
