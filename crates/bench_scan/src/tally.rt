@@ -105,9 +105,11 @@ impl Tally {
 
 /// It never stops.
 impl Listener for Tally {
-    ghost has_heard = { λ _ _. Unit {0} };
+    ghost Origin = { Unit {0} };
 
-    ghost may_stop = { λ _. Unit {0} };
+    ghost has_heard = { λ _ _ _. Unit {0} };
+
+    ghost has_stopped = { λ _ _ _. Unit {0} };
 
     #[inline(always)]
     fn null(&mut self) -> bool {

@@ -11,6 +11,7 @@ mod engines;
 mod outcome;
 mod pipelining;
 mod serving;
+mod worlds;
 
 use anyhow::Result;
 use outcome::Outcome;
@@ -74,5 +75,6 @@ fn main(rt: HostRuntime) -> Result<()> {
     print(&rt, "hub protocol error", serving::of_protocol_error(alloc))?;
     print(&rt, "hub push", serving::of_push(alloc))?;
     print(&rt, "ask", engines::of_ask(alloc))?;
-    print(&rt, "serve", engines::of_serve(alloc))
+    print(&rt, "serve", engines::of_serve(alloc))?;
+    print(&rt, "world", worlds::of_run(alloc))
 }

@@ -2,7 +2,7 @@
 
 ghost use Rattle.std.specs.Prelude.{◌≡◌, ◌+◌, ◌<◌, ◌^◌, length, take, OnOk, OnErr, IfOk, IfErr};
 ghost use Rattle.resp_value.specs.Commands.{words_of};
-ghost use Rattle.resp_session.specs.Requests.{FitsRequest, Hello, request_text};
+ghost use Rattle.resp_session.specs.Requests.{FitsRequest, HasBytes, Hello, request_text};
 ghost use Rattle.resp_session.specs.Requests as request;
 ghost use Rattle.resp_client.specs.Steps.{send_error};
 
@@ -67,6 +67,7 @@ impl Client {
             with_request (request.Command (words_of command.now)) (state_of self.old)) }
         ensures unchanged { OnErr result (state_of self.new ≡ state_of self.old) }
         ensures same_reading { KeepsReading self.old self.new }
+        ensures bytes { OnOk result (HasBytes (request.Command (words_of command.now))) }
     {
         let words = command.words();
         if is_unsent(words) {

@@ -185,5 +185,5 @@ refuses_or_lacks r H front piece (stop.Stopped taken) refused stopped = inr (rec
   in_piece = stopped.in_piece;
   within = stopped.within;
   viable = stopped.viable;
-  not_brief = λ brief. stopped.may_stop (brief_given r (front ++ piece) taken stopped.told brief stopped.viable stopped.first_due);
+  not_brief = λ brief. stopped.has_stopped (brief_given r (front ++ piece) taken stopped.told brief stopped.viable stopped.first_due);
 })

@@ -68,16 +68,20 @@ heard old new given more h t = record {
   weighs = omega (arith, t.weighs, h.weighs, events_weight-append given more nothing, ap (events_weight more) h.holds);
 }
 
+-- a call that hears these events, or stops where they want memory
+abbrev pub HeldHears : Held → Held → Events → Bool → Type 0
+HeldHears old new = Hears {O = Unit {0}} (λ since. HasHeard old) (λ since. HasHeard new) (λ since. WantMemory)
+
 -- a call that takes in events where they fit hears them, where it may stop at the last of them
 hears_or_stops : (old new : Held) (more : Events) (goes_on : Bool) → TakesInWhereFit old new more goes_on →
     ((given : Events) → HasHeard old given → goes_on ≡ false → WantMemory (given ++ more)) →
-    Hears (HasHeard old) (HasHeard new) WantMemory more goes_on
-hears_or_stops old new more true takes stops given h may =
+    HeldHears old new more goes_on
+hears_or_stops old new more true takes stops since given h may =
     let fits = room_for given more may in
     let old_fits : MayAllCome more (construction_of old) = subst (MayAllCome more) (sym h.holds) fits.may in
     heard old new given more h (takes old_fits (omega (arith, fits.room, h.weighs, ap (events_weight more) h.holds)) refl)
-hears_or_stops old new more false takes stops given h may =
-    record { told = more; later = []; parts = sym (append-nil more); may_stop = stops given h refl }
+hears_or_stops old new more false takes stops since given h may =
+    record { told = more; later = []; parts = sym (append-nil more); has_stopped = stops given h refl }
 
 brief_last : (es later : Events) → AreBrief (es ++ later) → AreBrief later
 brief_last [] later h = h
@@ -85,12 +89,12 @@ brief_last (x ∷ es) later h = brief_last es later h.1
 
 -- a call over events of a text or an aggregate hears them, and may stop
 pub hears_events : (old new : Held) (more : Events) (goes_on : Bool) → TakesInWhereFit old new more goes_on → WantMemory more →
-    Hears (HasHeard old) (HasHeard new) WantMemory more goes_on
+    HeldHears old new more goes_on
 hears_events old new more goes_on takes want = hears_or_stops old new more goes_on takes (λ given h stop brief. want (brief_last given more brief))
 
 -- a call over a scalar without content hears it, and stops in an aggregate alone
 pub hears_scalar : (old new : Held) (event : Event) (goes_on : Bool) → TakesInWhereFit old new (event ∷ []) goes_on →
-    (goes_on ≡ false → (construction_of old).groups ≡ [] → ⊥) → Hears (HasHeard old) (HasHeard new) WantMemory (event ∷ []) goes_on
+    (goes_on ≡ false → (construction_of old).groups ≡ [] → ⊥) → HeldHears old new (event ∷ []) goes_on
 hears_scalar old new event goes_on takes within =
     hears_or_stops old new (event ∷ []) goes_on takes (λ given h stop brief.
     let same : (construction_of old).groups ≡ (built_from given).groups = ap (λ b. let c : Construction = b in c.groups) h.holds in

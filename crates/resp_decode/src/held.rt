@@ -209,9 +209,11 @@ impl Listener for Held {
     ghost use Rattle.resp_decode.specs.Brief.{WantMemory};
     ghost use Rattle.resp_decode.specs.Hearing.{HasHeard};
 
-    ghost has_heard = { HasHeard };
+    ghost Origin = { Unit {0} };
 
-    ghost may_stop = { WantMemory };
+    ghost has_heard = { λ held _. HasHeard held };
+
+    ghost has_stopped = { λ _ _. WantMemory };
 
     #[inline]
     fn null(&mut self) -> bool {

@@ -2,8 +2,8 @@
 
 ghost use Rattle.resp_value.specs.Rules.{rules_under};
 ghost use Rattle.resp_encode.specs.Encodings.{IsVerdict, AppendsWhole};
-ghost use Rattle.std.specs.Prelude.{◌≡◌, ◌↔◌, ◌<◌, ◌≤◌, ◌^◌, length, IsSome, IfSome, IsErrOf, IfOk};
-ghost use Rattle.resp_value.specs.Canonical.{canonical_text};
+ghost use Rattle.std.specs.Prelude.{◌≡◌, ◌↔◌, ◌<◌, ◌≤◌, ◌^◌, length, IsSome, IfSome, IsErrOf, IfOk, OnOk};
+ghost use Rattle.resp_value.specs.Canonical.{IsValue, canonical_text};
 ghost use Rattle.resp_value.specs.Values.{datum_of};
 ghost use Rattle.resp_encode.specs.Refusals.{HasText};
 ghost use Rattle.resp_encode.specs.Pushes.{push_of};
@@ -82,6 +82,7 @@ fn checked_push_size(limits: &Limits, items: &[Value]) -> Result<usize, EncodeEr
     ensures verdict { IsVerdict (rules_under Three limits.now) (push_of items.now) result }
     ensures size { IfOk result (λ size. size ≡ length (canonical_text Three (push_of items.now))) }
     ensures not_memory { IsErrOf result EncodeError.OutOfMemory → ⊥ }
+    ensures is_value { IsValue (push_of items.now) }
 {
     let found = measure_group(items, Version::Three, OpenKind::Push);
     checked_size(&found, Version::Three, limits)
@@ -103,6 +104,8 @@ pub fn encode_push(limits: &Limits, items: &[Value], out: &mut BytesMut) -> Resu
     ensures verdict { IsVerdict (rules_under Three limits.now) (push_of items.now) result }
     ensures whole_or_nothing { AppendsWhole out.old out.new
         (canonical_text Three (push_of items.now)) result }
+    // It is a value, whatever the items hold.
+    ensures is_value { OnOk result (IsValue (push_of items.now)) }
 {
     let size = checked_push_size(limits, items)?;
     reserve(out, size)?;

@@ -2,10 +2,10 @@
 
 ghost use Rattle.resp_value.specs.Rules.{rules_under};
 ghost use Rattle.resp_encode.specs.Encodings.{IsVerdict, AppendsWhole};
-ghost use Rattle.std.specs.Prelude.{◌≡◌, ◌<◌, ◌≤◌, length, map, IsErrOf, IfOk};
+ghost use Rattle.std.specs.Prelude.{◌≡◌, ◌<◌, ◌≤◌, length, map, IsErrOf, IfOk, OnOk};
 ghost use Rattle.resp_value.specs.Data.{data_of_list};
 ghost use Rattle.resp_value.specs.Trees.{texts};
-ghost use Rattle.resp_value.specs.Canonical.{AreValues, canonical_text, canonical_trees};
+ghost use Rattle.resp_value.specs.Canonical.{AreValues, IsValue, canonical_text, canonical_trees};
 ghost use Rattle.resp_encode.specs.Walks.Measures.{DescribesEach};
 ghost use Rattle.resp_value.specs.Words.{texts_of, word_datum, command_of};
 ghost use Rattle.resp_encode.specs.Walks.Writings.{Fills};
@@ -63,6 +63,7 @@ fn checked_words_size(limits: &Limits, words: &[Vec<u8>]) -> Result<usize, Encod
     ensures size { IfOk result (λ size. size ≡
         length (canonical_text Two (command_of (texts_of words.now)))) }
     ensures not_memory { IsErrOf result EncodeError.OutOfMemory → ⊥ }
+    ensures is_value { IsValue (command_of (texts_of words.now)) }
 {
     let found = measure_words(words).inside(OpenKind::Array, words.len() as u64);
     checked_size(&found, Version::Two, limits)
@@ -93,6 +94,8 @@ pub fn encode_words(
         result }
     ensures whole_or_nothing { AppendsWhole out.old out.new
         (canonical_text Two (command_of (texts_of words.now))) result }
+    // It is a value, whatever the words hold.
+    ensures is_value { OnOk result (IsValue (command_of (texts_of words.now))) }
 {
     let size = checked_words_size(limits, words)?;
     reserve(out, size)?;

@@ -1,5 +1,5 @@
 -- What a listener is told, and what it says of it.
-use Rattle.std.specs.Prelude.{◌≡◌, ℕ, ◌≤◌, Bool, true, false, List, [], ◌∷◌, ◌++◌, length, take, MatchBool, Result, IfOk, IfErr}
+use Rattle.std.specs.Prelude.{◌≡◌, ℕ, ◌+◌, ◌≤◌, Bool, true, false, List, [], ◌∷◌, ◌++◌, length, take, MatchBool, Result, IfOk, IfErr}
 use Rattle.resp_value.specs.Bounds.{AreBounds}
 use Rattle.resp_value.specs.Bytes.{IsLine}
 use Rattle.resp_value.specs.Rules.{Rules, WithinTotal}
@@ -12,29 +12,37 @@ use Rattle.resp_scan.specs.declared.event.Scanned.{Scanned}
 use Rattle.resp_scan.specs.declared.event.ScanError as error
 use Rattle.resp_scan.specs.declared.event.ScanError.TheVariants as stop
 use Rattle.resp_value.specs.declared.cause.Cause.TheVariants as cause
+use Rattle.resp_scan.specs.Counts.{close_count, open_count}
 use Rattle.resp_scan.specs.Kinds.{content_events, rules_of, text_kind_of}
 use Rattle.resp_scan.specs.Machine.Tokens.{Place}
 use Rattle.resp_scan.specs.Reading.{AreDue, BeginDue, Events, HasNoValue, HasRead, IsRefused, IsValue}
 
--- these events may be given: they are the first of those due of a front that is viable under some rules
+-- These events may be given: they are the first of those due of a front that is viable under some rules. They are no
+-- more than there may be bytes, and leave no more aggregates open than the limit of depth.
 pub record MayBeGiven (given : Events) : Type 0 where
   pub rules : Rules
   pub front : List ℕ
   pub limits_in_range : AreBounds rules.limits
   pub viable : IsViable rules WithinTotal front
   pub first_due : BeginDue front given
+  pub few : length given ≤ rules.limits.total
+  pub opened : close_count given ≤ open_count given
+  pub nested : open_count given ≤ close_count given + rules.limits.depth
 
--- a listener that was told more events stopped at the last of the first of them, where it may
-pub record StopsWithin (MayStop : Events → Type 0) (given more : Events) : Type 0 where
+-- a listener that was told more events has stopped at the last of the first of them
+pub record StopsWithin (HasStopped : Events → Type 0) (given more : Events) : Type 0 where
   pub told : Events
   pub later : Events
   pub parts : more ≡ told ++ later
-  pub may_stop : MayStop (given ++ told)
+  pub has_stopped : HasStopped (given ++ told)
 
--- A listener is told more events behind those that it has heard. Where it goes on it has heard these too.
-abbrev pub Hears : (Events → Type 0) → (Events → Type 0) → (Events → Type 0) → Events → Bool → Type 0
-Hears HadHeard HasHeard MayStop more goes_on = (given : Events) → HadHeard given → MayBeGiven (given ++ more) →
-    MatchBool goes_on (HasHeard (given ++ more)) (StopsWithin MayStop given more)
+-- A listener is told more events behind those that it has heard since whatever origin. Where it goes on it has heard
+-- these too since then, and else it has stopped.
+abbrev pub Hears : {O : Type 0} → (O → Events → Type 0) → (O → Events → Type 0) → (O → Events → Type 0) → Events →
+    Bool → Type 0
+Hears HadHeard HasHeard HasStopped more goes_on = (since : _) (given : Events) → HadHeard since given →
+    MayBeGiven (given ++ more) →
+    MatchBool goes_on (HasHeard since (given ++ more)) (StopsWithin (HasStopped since) given more)
 
 -- the events of a text that is told whole
 abbrev pub whole_text_events : TextKind → List ℕ → Events
@@ -71,18 +79,20 @@ pub record HearsRefusal (r : Rules) (HasHeard : Events → Type 0) (front piece 
   pub refused : IsRefused r front heard piece fault
   pub has_heard : HasHeard heard
 
--- The listener stopped, told events that are the first of those due of the bytes taken. These are viable.
-pub record StopsBehind (r : Rules) (MayStop : Events → Type 0) (front piece : List ℕ) (taken : ℕ) : Type 0 where
+-- The listener has stopped, told events that are the first of those due of the bytes taken. These are viable.
+pub record StopsBehind (r : Rules) (HasStopped : Events → Type 0) (front piece : List ℕ) (taken : ℕ) : Type 0 where
   pub told : Events
-  pub may_stop : MayStop told
+  pub has_stopped : HasStopped told
   pub in_piece : length front ≤ taken
   pub within : taken ≤ length (front ++ piece)
   pub viable : IsViable r WithinTotal (take taken (front ++ piece))
   pub first_due : BeginDue (take taken (front ++ piece)) told
 
--- this holds of every front that the scanner has read, where the listener has heard the events given of it
-abbrev pub WhereHeard : Place → (Events → Type 0) → (List ℕ → Type 0) → Type 0
-WhereHeard s HasHeard P = (front : List ℕ) (given : Events) → HasRead s front given → HasHeard given → P front
+-- this holds of every front that the scanner has read, and of every origin since which the listener has heard the
+-- events given of it
+abbrev pub WhereHeard : {O : Type 0} → Place → (O → Events → Type 0) → (O → List ℕ → Type 0) → Type 0
+WhereHeard s HasHeard P = (since : _) (front : List ℕ) (given : Events) → HasRead s front given →
+    HasHeard since given → P since front
 
 -- where a value has ended behind so many bytes
 abbrev pub IfWhole : Result Scanned error.ScanError → (ℕ → Type 0) → Type 0

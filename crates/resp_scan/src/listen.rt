@@ -54,18 +54,18 @@ impl Machine {
     ) -> Result<Scanned, ScanError>
         requires { IsSound (place_of self.old) }
         ensures sound { IsSound (place_of self.new) }
-        ensures value_whole { WhereHeard (place_of self.old) (L.has_heard listener.old) (λ front.
-            IfWhole result (λ used. HearsValue (rules_of (place_of self.old)) (place_of self.new)
-            (L.has_heard listener.new) (front ++ take used piece.now))) }
-        ensures used_up { WhereHeard (place_of self.old) (L.has_heard listener.old) (λ front.
-            IfUsedUp result (HearsPiece (place_of self.new) (L.has_heard listener.new)
+        ensures value_whole { WhereHeard (place_of self.old) (L.has_heard listener.old)
+            (λ since front. IfWhole result (λ used. HearsValue (rules_of (place_of self.old))
+            (place_of self.new) (L.has_heard listener.new since) (front ++ take used piece.now))) }
+        ensures used_up { WhereHeard (place_of self.old) (L.has_heard listener.old) (λ since front.
+            IfUsedUp result (HearsPiece (place_of self.new) (L.has_heard listener.new since)
             (front ++ piece.now))) }
-        ensures refusal { WhereHeard (place_of self.old) (L.has_heard listener.old) (λ front.
+        ensures refusal { WhereHeard (place_of self.old) (L.has_heard listener.old) (λ since front.
             IfRefused result (HearsRefusal (rules_of (place_of self.old))
-            (L.has_heard listener.new) front piece.now)) }
-        ensures stopped { WhereHeard (place_of self.old) (L.has_heard listener.old) (λ front.
-            IfStopped result (StopsBehind (rules_of (place_of self.old)) L.may_stop front
-            piece.now)) }
+            (L.has_heard listener.new since) front piece.now)) }
+        ensures stopped { WhereHeard (place_of self.old) (L.has_heard listener.old) (λ since front.
+            IfStopped result (StopsBehind (rules_of (place_of self.old))
+            (L.has_stopped listener.new since) front piece.now)) }
         ensures within_piece { IfOk result (λ scanned. scanned.used ≤ length piece.now) }
         ensures whole_piece { IfOk result (λ scanned.
             scanned.is_whole ≡ false → scanned.used ≡ length piece.now) }
@@ -121,8 +121,9 @@ impl Machine {
     #[inline(always)]
     fn turn<L: Listener>(&mut self, rest: &[u8], listener: &mut L) -> Turned
         requires { IsSound (place_of self.old) }
-        ensures is_turn { IsTurn (place_of self.old) (place_of self.new) (L.has_heard listener.old)
-            (L.has_heard listener.new) L.may_stop rest.now result }
+        ensures is_turn { IsTurn L.Origin (place_of self.old) (place_of self.new)
+            (L.has_heard listener.old) (L.has_heard listener.new) (L.has_stopped listener.new)
+            rest.now result }
         ensures failed { result.turn ≡ Turn.Failed →
             (place_of self.new).token ≡ Dead self.new.cause }
     {
@@ -161,8 +162,8 @@ impl Machine {
         requires whole { (s : Place) × IsSound s × (out_of taken self.old ≡ out_from s rest.now) }
         requires tag { IsLineTag taken.tag kind }
         ensures is_turn { (s : Place) → IsSound s → out_of taken self.old ≡ out_from s rest.now →
-            IsTurn s (place_of self.new) (L.has_heard listener.old) (L.has_heard listener.new)
-            L.may_stop rest.now result }
+            IsTurn L.Origin s (place_of self.new) (L.has_heard listener.old)
+            (L.has_heard listener.new) (L.has_stopped listener.new) rest.now result }
         ensures failed { result.turn ≡ Turn.Failed →
             (place_of self.new).token ≡ Dead self.new.cause }
     {
@@ -179,8 +180,8 @@ impl Machine {
         requires whole { (s : Place) × IsSound s × (out_of taken self.old ≡ out_from s rest.now) }
         requires tag { taken.tag ≡ EventTag.Bulk }
         ensures is_turn { (s : Place) → IsSound s → out_of taken self.old ≡ out_from s rest.now →
-            IsTurn s (place_of self.new) (L.has_heard listener.old) (L.has_heard listener.new)
-            L.may_stop rest.now result }
+            IsTurn L.Origin s (place_of self.new) (L.has_heard listener.old)
+            (L.has_heard listener.new) (L.has_stopped listener.new) rest.now result }
         ensures failed { result.turn ≡ Turn.Failed →
             (place_of self.new).token ≡ Dead self.new.cause }
     {
@@ -206,7 +207,7 @@ impl Machine {
         requires is_text { IsTextOf kind (take run (drop head rest.now)) }
         ensures used { result.used ≡ head + run + 2 }
         ensures turn { (goes_on : Bool) × (result.turn ≡ turn_of goes_on) ×
-            Hears (L.has_heard listener.old) (L.has_heard listener.new) L.may_stop
+            Hears (L.has_heard listener.old) (L.has_heard listener.new) (L.has_stopped listener.new)
             (whole_text_events kind (take run (drop head rest.now))) goes_on }
         ensures machine { self.new ≡ record self.old
             { taken = self.old.taken + (head + run + 2); state = State.Boundary } }
@@ -260,8 +261,8 @@ impl Machine {
     fn tell<L: Listener>(&mut self, rest: &[u8], taken: Taken, listener: &mut L) -> Turned
         requires { (s : Place) × IsSound s × (out_of taken self.old ≡ out_from s rest.now) }
         ensures is_turn { (s : Place) → IsSound s → out_of taken self.old ≡ out_from s rest.now →
-            IsTurn s (place_of self.new) (L.has_heard listener.old) (L.has_heard listener.new)
-            L.may_stop rest.now result }
+            IsTurn L.Origin s (place_of self.new) (L.has_heard listener.old)
+            (L.has_heard listener.new) (L.has_stopped listener.new) rest.now result }
         ensures failed { result.turn ≡ Turn.Failed →
             (place_of self.new).token ≡ Dead self.new.cause }
     {

@@ -15,60 +15,64 @@ use resp_value::kind::OpenKind;
 ///
 /// What a listener has heard it says in the words of a ghost member, so that it needn't keep the
 /// events themselves: a decoder says that it holds their values, a counter that it has their
-/// number.
+/// number, and a writer that their text was written behind what it held before.
 pub trait Listener {
-    /// The events that it has heard of the value.
-    ghost has_heard: { Self → Events → Type 0 };
+    /// What it has to know of the time before it listened, such as what was held then.
+    ghost Origin: { Type 0 };
 
-    /// Once it was told these events it may stop, at the last of them.
-    ghost may_stop: { Events → Type 0 };
+    /// The events that it has heard of the value, since that time.
+    ghost has_heard: { Self → Origin → Events → Type 0 };
+
+    /// It was told these events since then, and has stopped at the last of them.
+    ghost has_stopped: { Self → Origin → Events → Type 0 };
 
     /// The null, in any of its spellings.
     fn null(&mut self) -> bool
-        ensures { Hears (has_heard self.old) (has_heard self.new) may_stop (e.Null ∷ []) result };
+        ensures { Hears (has_heard self.old) (has_heard self.new) (has_stopped self.new)
+            (e.Null ∷ []) result };
 
     /// A truth value.
     fn truth(&mut self, truth: bool) -> bool
-        ensures { Hears (has_heard self.old) (has_heard self.new) may_stop
+        ensures { Hears (has_heard self.old) (has_heard self.new) (has_stopped self.new)
             (e.Bool truth ∷ []) result };
 
     /// An integer.
     fn int(&mut self, number: i64) -> bool
-        ensures { Hears (has_heard self.old) (has_heard self.new) may_stop
+        ensures { Hears (has_heard self.old) (has_heard self.new) (has_stopped self.new)
             (e.Int number ∷ []) result };
 
     /// A text begins. Its parts follow, and then its end.
     fn text(&mut self, kind: TextKind) -> bool
-        ensures { Hears (has_heard self.old) (has_heard self.new) may_stop
+        ensures { Hears (has_heard self.old) (has_heard self.new) (has_stopped self.new)
             (e.Text (text_kind_of kind) ∷ []) result };
 
     /// A run of the text's bytes, never empty. It lends the piece, or for the first digit of a big
     /// number a constant.
     fn part(&mut self, part: &[u8]) -> bool
         requires { 0 < length part.now }
-        ensures { Hears (has_heard self.old) (has_heard self.new) may_stop
+        ensures { Hears (has_heard self.old) (has_heard self.new) (has_stopped self.new)
             (content_events part.now) result };
 
     /// The text has ended.
     fn text_end(&mut self) -> bool
-        ensures { Hears (has_heard self.old) (has_heard self.new) may_stop
+        ensures { Hears (has_heard self.old) (has_heard self.new) (has_stopped self.new)
             (e.TextEnd ∷ []) result };
 
     /// An aggregate begins, with the number of its members, or of its pairs in a map or an
     /// attribute; none where it is streamed. Its members follow, and then its close.
     fn open(&mut self, kind: OpenKind, count: Option<u64>) -> bool
-        ensures { Hears (has_heard self.old) (has_heard self.new) may_stop
+        ensures { Hears (has_heard self.old) (has_heard self.new) (has_stopped self.new)
             (e.Open (kind_of kind) count ∷ []) result };
 
     /// The innermost aggregate has ended. An attribute ends behind the value that it annotates.
     fn close(&mut self) -> bool
-        ensures { Hears (has_heard self.old) (has_heard self.new) may_stop
+        ensures { Hears (has_heard self.old) (has_heard self.new) (has_stopped self.new)
             (e.Close ∷ []) result };
 
     /// A simple string, an error or a counted bulk string that lies in the piece with its end.
     fn whole_text(&mut self, kind: TextKind, bytes: &[u8]) -> bool
         requires { IsTextOf kind bytes.now }
-        ensures { Hears (has_heard self.old) (has_heard self.new) may_stop
+        ensures { Hears (has_heard self.old) (has_heard self.new) (has_stopped self.new)
             (whole_text_events kind bytes.now) result }
     {
         if !self.text(kind) {

@@ -131,23 +131,24 @@ impl Scanner {
         listener: &mut L,
     ) -> Result<Scanned, ScanError>
         // The bytes are a value, the listener has heard its events, and the next value may begin.
-        ensures value_whole { WhereHeard self.old (L.has_heard listener.old) (λ front.
+        ensures value_whole { WhereHeard self.old (L.has_heard listener.old) (λ since front.
             IfWhole result (λ used. HearsValue (rules_of self.old) self.new
-            (L.has_heard listener.new) (front ++ take used piece.now))) }
+            (L.has_heard listener.new since) (front ++ take used piece.now))) }
 
         // No value has ended in the piece, and the listener has heard all events that are due.
-        ensures used_up { WhereHeard self.old (L.has_heard listener.old) (λ front.
-            IfUsedUp result (HearsPiece self.new (L.has_heard listener.new)
+        ensures used_up { WhereHeard self.old (L.has_heard listener.old) (λ since front.
+            IfUsedUp result (HearsPiece self.new (L.has_heard listener.new since)
             (front ++ piece.now))) }
 
         // The refused byte is the first after which nothing can follow, and the fault names why.
-        ensures refusal { WhereHeard self.old (L.has_heard listener.old) (λ front.
-            IfRefused result (HearsRefusal (rules_of self.old) (L.has_heard listener.new) front
-            piece.now)) }
+        ensures refusal { WhereHeard self.old (L.has_heard listener.old) (λ since front.
+            IfRefused result (HearsRefusal (rules_of self.old) (L.has_heard listener.new since)
+            front piece.now)) }
 
         // The listener stopped where it may, told events that are the first of those due.
-        ensures stopped { WhereHeard self.old (L.has_heard listener.old) (λ front.
-            IfStopped result (StopsBehind (rules_of self.old) L.may_stop front piece.now)) }
+        ensures stopped { WhereHeard self.old (L.has_heard listener.old) (λ since front.
+            IfStopped result (StopsBehind (rules_of self.old) (L.has_stopped listener.new since)
+            front piece.now)) }
 
         ensures within_piece { IfOk result (λ scanned. scanned.used ≤ length piece.now) }
         ensures whole_piece { IfOk result (λ scanned.

@@ -2,7 +2,7 @@
 
 ghost use Rattle.std.specs.Prelude.{◌≡◌, ◌≢◌, ◌+◌, ◌≤◌, ◌++◌, ◌↔◌, [], length, drop, true, false, ℕ, List, None, Some, Ok, Err, IfSome, IsOk, IsErr, IsErrOf, IfOk, IfErr, OnOk, OnErr};
 ghost use Rattle.std.specs.Option.{option_map};
-ghost use Rattle.resp_value.specs.Canonical.{canonical_text};
+ghost use Rattle.resp_value.specs.Canonical.{IsValue, canonical_text};
 ghost use Rattle.resp_value.specs.declared.version.Version.TheVariants.{Three};
 ghost use Rattle.resp_encode.specs.Pushes.{push_of};
 ghost use Rattle.resp_decode.specs.Decoding.{HasTaken};
@@ -238,6 +238,8 @@ impl<S: BuildHasher> Hub<S> {
         ensures verdict { IsPushVerdict self.old.limits (seat_at self.old id) (push_of items.now)
             result }
         ensures unchanged { OnErr result (self.new ≡ self.old) }
+        // It is a value, whatever the items hold.
+        ensures is_value { OnOk result (IsValue (push_of items.now)) }
     {
         let Some(session) = self.sessions.get_mut(&id) else {
             return Err(PushError::NoSession);

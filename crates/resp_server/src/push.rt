@@ -1,7 +1,7 @@
 //! Pushes, which a session sends unasked.
 
 ghost use Rattle.std.specs.Prelude.{◌≡◌, ◌++◌, Some, OnOk, OnErr};
-ghost use Rattle.resp_value.specs.Canonical.{canonical_text};
+ghost use Rattle.resp_value.specs.Canonical.{IsValue, canonical_text};
 ghost use Rattle.resp_value.specs.declared.version.Version.TheVariants.{Three};
 ghost use Rattle.resp_encode.specs.Pushes.{push_of};
 ghost use Rattle.resp_server.specs.Hubs.{seat_of};
@@ -28,6 +28,7 @@ pub(crate) fn queue_push(
     ensures unchanged { OnErr result (session.new.out.items ≡ session.old.out.items) }
     ensures same_version { session.new.version ≡ session.old.version }
     ensures rest { HasSameRest session.old session.new }
+    ensures is_value { OnOk result (IsValue (push_of items.now)) }
 {
     if session.closing {
         return Err(PushError::Closing);

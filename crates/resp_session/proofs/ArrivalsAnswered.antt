@@ -1,5 +1,5 @@
 -- What a session of a world answers to what comes is what the world is left with.
-use Rattle.std.proofs.Common.{◌≡◌, inl, inr, ℕ, ◌+◌, ◌≤◌, min, true, false, List, ◌++◌, length, map, take, drop, Some, refl, sym, ap, subst, ◌∙◌, arith, append_assoc, length-append}
+use Rattle.std.proofs.Common.{◌≡◌, inl, inr, ℕ, ◌+◌, ◌≤◌, min, true, false, List, ◌++◌, length, map, take, drop, replicate, [], ◌∷◌, Some, refl, sym, ap, subst, ◌∙◌, arith, append_assoc, length-append}
 use Rattle.std.proofs.Math.Seq.{take-add}
 use Rattle.std.proofs.lemmas.List.{map-append, length-map, length-take-le, take-append-drop, take-map, take_min, drop-take, drop-map}
 use Rattle.std.proofs.lemmas.List.Folds.{concat-append}
@@ -12,12 +12,12 @@ use Rattle.resp_session.specs.Answers.{Answers, BeginsNoValue, Ends, SessionStat
 use Rattle.resp_session.specs.AnswerLaws.{ATextHasOneAnswer, WhatComesIsWholeTexts}
 use Rattle.resp_session.specs.Arrivals.{HasCome}
 use Rattle.resp_session.specs.Connections.{Connection, Message, arrived_requests, back_text, message_text, new_requests, sent_text, whole_within, with_arrived}
-use Rattle.resp_session.specs.Requests.{Request, request_text}
-use Rattle.resp_session.specs.Serving.{IsLeftBy, IsUnfinished, WhatArrivesIsAnswered, coming, session_of}
+use Rattle.resp_session.specs.Requests.{Request, request_text, request_words}
+use Rattle.resp_session.specs.Serving.{IsLeftBy, IsUnfinished, WhatArrivesIsAnswered, clients_in, coming, session_of}
 use Rattle.resp_session.specs.WorldLaws.{HasName}
-use Rattle.resp_session.specs.Worlds.{World, ToServer, after_arrival, after_commands, after_event, commands_for, connection_at, new_world, world_with}
+use Rattle.resp_session.specs.Worlds.{World, ToServer, after_arrival, after_command, after_commands, after_event, commands_for, connection_at, new_world, world_with}
 use Rattle.resp_session.proofs.ArrivedTexts.{same_front, spell_all, whole_within-add}
-use Rattle.resp_session.proofs.Changes.{changed_at}
+use Rattle.resp_session.proofs.Changes.{as_many, changed_at, others_stay}
 use Rattle.resp_session.proofs.Elements.{all_dropped, all_taken}
 use Rattle.resp_session.proofs.OrdersGoOn.{after_commands-order}
 use Rattle.resp_session.proofs.SentRequests.{IsSent, names_of, new_sent, run_sent, texts_spell}
@@ -196,6 +196,31 @@ still_unfinished limits c next k rest rest' front values h requested arrived new
           append_assoc u.front rest (coming k c) ∙ ap (λ z. u.front ++ z) whole ∙ sym (append_assoc u.front front rest');
     }
 
+-- commands of one client leave the other connections as they are
+others_left : (i j : ℕ) (requests : List Request) (w : World) → (j ≡ i → ⊥) →
+    connection_at (after_commands w (commands_for i requests)).connections j ≡ connection_at w.connections j
+others_left i j [] w other = refl
+others_left i j (request ∷ requests) w other =
+    others_left i j requests (after_command w (i, request_words request)) other ∙ others_stay _ w.connections i j other
+
+as_many_left : (i : ℕ) (requests : List Request) (w : World) →
+    length (after_commands w (commands_for i requests)).connections ≡ length w.connections
+as_many_left i [] w = refl
+as_many_left i (request ∷ requests) w = as_many_left i requests (after_command w (i, request_words request)) ∙ as_many _ w.connections i
+
+-- the order then names the client once for each of them
+its_commands : (i : ℕ) (requests : List Request) →
+    map (λ (command : ℕ × List (List ℕ)). command.0) (commands_for i requests) ≡ replicate (length requests) i
+its_commands i [] = refl
+its_commands i (request ∷ requests) = ap (λ l. i ∷ l) (its_commands i requests)
+
+order_left : (i : ℕ) (requests : List Request) (w : World) →
+    clients_in (after_commands w (commands_for i requests)) ≡ clients_in w ++ replicate (length requests) i
+order_left i requests w =
+    ap (map (λ (command : ℕ × List (List ℕ)). command.0)) (after_commands-order w (commands_for i requests)) ∙
+    map-append (λ (command : ℕ × List (List ℕ)). command.0) w.order (commands_for i requests) ∙
+    ap (λ l. clients_in w ++ l) (its_commands i requests)
+
 -- what is answered is what the world is left with, which the new requests leave
 left : (limits : Bounds) (w : World) (i k : ℕ) (c : Connection) (rest rest' front : List ℕ) (requests : List Request) (after : SessionState) →
     Coming limits c k rest → new_requests k c ≡ requests →
@@ -203,27 +228,31 @@ left : (limits : Bounds) (w : World) (i k : ℕ) (c : Connection) (rest rest' fr
     after ≡ after_values i (session_of w c) (map command_value requests) →
     IsServed i requests (session_of w c) (after_values i (session_of w c) (map command_value requests)) (world_of w i k)
     (after_commands (world_of w i k) (commands_for i requests)) (with_arrived k c) →
-    IsLeftBy limits i w (after_commands (world_of w i k) (commands_for i requests)) c after rest'
+    IsLeftBy limits i k w (after_commands (world_of w i k) (commands_for i requests)) c after rest'
 left limits w i k c rest rest' front requests after h news spelled whole same v =
-    let size : length (after_commands (world_of w i k) (commands_for i requests)).order ≡ length w.order + length (commands_for i requests) =
-    ap length (after_commands-order (world_of w i k) (commands_for i requests)) ∙ length-append w.order (commands_for i requests) in
-    let as_many : length (commands_for i requests) ≡ length requests = length-map requests _ in
-    let run : after.count ≡ 0 + length requests = ap (λ (z : SessionState). z.count) same ∙ v.count in
+    let counted : after.count ≡ 0 + length requests = ap (λ (z : SessionState). z.count) same ∙ v.count in
+    let run : length requests ≡ after.count = omega (arith, counted) in
     record {
       next = v.next;
       there = v.at;
+      requests = v.requested;
+      arrived = v.arrived;
+      shown = v.shown;
+      dropped = v.dropped;
       unfinished = still_unfinished limits c v.next k rest rest' front requests h v.requested v.arrived news spelled whole;
       store = ap (λ (z : SessionState). z.store) same ∙ v.store;
       version = ap (λ (z : SessionState). z.version) same ∙ v.version;
       text = back_on c v.next.messages v.messages v.sent ∙ ap (λ z. back_text c ++ z) (sym (ap (λ (z : SessionState). z.text) same ∙ v.text));
       is_open = ap (λ (z : SessionState). z.closing) same ∙ v.is_open;
-      count = omega (arith, size, as_many, run);
+      order = order_left i requests (world_of w i k) ∙ ap (λ n. clients_in w ++ replicate n i) run;
+      others = λ j other. others_left i j requests (world_of w i k) other ∙ others_stay (with_arrived k) w.connections i j other;
+      same_count = as_many_left i requests (world_of w i k) ∙ as_many (with_arrived k) w.connections i;
     }
 
 answered : NoSpellingBeginsAnother → ATextHasOneCut → WhatComesIsWholeTexts → ATextHasOneAnswer → (limits : Bounds) → AreBounds limits →
     (w : World) (i k : ℕ) (c : Connection) (rest rest' : List ℕ) (after : SessionState) → connection_at w.connections i ≡ Some c → Coming limits c k rest →
     Answers limits i (session_of w c) (rest ++ coming k c) after rest' →
-    IsLeftBy limits i w (after_commands (world_of w i k) (commands_for i (news_of k c rest))) c after rest'
+    IsLeftBy limits i k w (after_commands (world_of w i k) (commands_for i (news_of k c rest))) c after rest'
 answered apart one_cut comes one limits bounds w i k c rest rest' after at h m =
     let r = server_rules limits in
     let came = come apart comes limits bounds c k rest h in
@@ -261,4 +290,4 @@ what_arrives_is_answered apart one_cut comes one spells limits n events w bounds
     let news : news_of k c rest ≡ new_requests k c = sym (new_are apart limits c k rest h) in
     let now : after_commands (world_of w i k) (commands_for i (news_of k c rest)) ≡ after_event w (ToServer i k) =
     ap (λ l. after_commands (world_of w i k) (commands_for i l)) news ∙ sym (ap (after_arrival w i k) at) in
-    subst (λ left. IsLeftBy limits i w left c after rest') now l
+    subst (λ left. IsLeftBy limits i k w left c after rest') now l

@@ -1,5 +1,5 @@
 -- Connections by their numbers, behind a change of one.
-use Rattle.std.proofs.Common.{◌≡◌, ◌⊎◌, inl, inr, ℕ, zero, suc, List, [], ◌∷◌, Some, refl, ap, arith}
+use Rattle.std.proofs.Common.{◌≡◌, ◌⊎◌, inl, inr, ℕ, zero, suc, List, [], ◌∷◌, length, Some, refl, ap, arith}
 use Rattle.resp_session.specs.Connections.{Connection}
 use Rattle.resp_session.specs.Worlds.{connection_at, with_change}
 
@@ -33,3 +33,22 @@ changed_at f [] i c e = absurd (cc)
 changed_at f (d ∷ cs) zero c e = absurd (cc)
 changed_at f (d ∷ cs) (suc zero) c e = let h : d ≡ c = cc in ap (λ x. Some (f x)) h
 changed_at f (d ∷ cs) (suc (suc i)) c e = changed_at f cs (suc i) c e
+
+-- the others stay
+pub others_stay : (f : Connection → Connection) (cs : List Connection) (i j : ℕ) → (j ≡ i → ⊥) →
+    connection_at (with_change f cs i) j ≡ connection_at cs j
+others_stay f [] i j other = refl
+others_stay f (c ∷ cs) zero j other = refl
+others_stay f (c ∷ cs) (suc zero) zero other = refl
+others_stay f (c ∷ cs) (suc zero) (suc zero) other = absurd (other refl)
+others_stay f (c ∷ cs) (suc zero) (suc (suc j)) other = refl
+others_stay f (c ∷ cs) (suc (suc i)) zero other = refl
+others_stay f (c ∷ cs) (suc (suc i)) (suc zero) other = refl
+others_stay f (c ∷ cs) (suc (suc i)) (suc (suc j)) other = others_stay f cs (suc i) (suc j) (λ e. other (ap suc e))
+
+-- there are as many
+pub as_many : (f : Connection → Connection) (cs : List Connection) (i : ℕ) → length (with_change f cs i) ≡ length cs
+as_many f [] i = refl
+as_many f (c ∷ cs) zero = refl
+as_many f (c ∷ cs) (suc zero) = refl
+as_many f (c ∷ cs) (suc (suc i)) = ap suc (as_many f cs (suc i))

@@ -33,3 +33,4 @@ pub mod ServedCommands
 pub mod ArrivedTexts
 pub mod ArrivalsAnswered
 pub mod ArrivalsGoOn
+pub mod ShownWithin

@@ -59,6 +59,8 @@ pub record IsServed (i : ℕ) (requests : List Request) (s later : SessionState)
   pub is_open : later.closing ≡ false
   pub requested : next.requests ≡ c.requests
   pub arrived : next.arrived ≡ c.arrived
+  pub shown : next.shown ≡ c.shown
+  pub dropped : next.dropped ≡ c.dropped
   pub messages : List Message
   pub sent : next.messages ≡ c.messages ++ messages
   pub text : later.text ≡ s.text ++ concat (map message_text messages)
@@ -80,6 +82,8 @@ one_more i request requests s w c e h = record {
   is_open = h.is_open;
   requested = h.requested;
   arrived = h.arrived;
+  shown = h.shown;
+  dropped = h.dropped;
   messages = message_of e ∷ h.messages;
   sent = h.sent ∙ append_assoc c.messages (message_of e ∷ []) h.messages;
   text = h.text ∙ append_assoc s.text (message_text (message_of e)) (concat (map message_text h.messages));
@@ -97,6 +101,8 @@ served i [] named s w c at store version is_open = record {
   is_open = is_open;
   requested = refl;
   arrived = refl;
+  shown = refl;
+  dropped = refl;
   messages = [];
   sent = sym (append-nil c.messages);
   text = sym (append-nil s.text);

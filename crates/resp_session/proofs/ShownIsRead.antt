@@ -13,8 +13,8 @@ use Rattle.resp_value.specs.declared.version.Version.TheVariants.{Two}
 use Rattle.resp_session.specs.Arrivals.{HasBeenRead}
 use Rattle.resp_session.specs.Connections.{Message, message_text, values_of, back_text, shown_messages, whole_within}
 use Rattle.resp_session.specs.Reading.{Waiting, ReadsAs, MayBeRead, MayGoOn, IsUnasked, ClientFault, reading_rules, waiting_after}
-use Rattle.resp_session.specs.ReadingLaws.{ARestHasOneClientFault, ATextHasOneReading}
-use Rattle.resp_session.specs.WorldLaws.{IsWritten, EachMessageIsWritten, WhatIsWrittenIsRead, WhatIsShownIsRead, WhatIsReadIsShown, NoClientMeetsAFault, waiting_for}
+use Rattle.resp_session.specs.ReadingLaws.{ARestHasOneClientFault, ATextHasOneReading, NothingMayGoOn}
+use Rattle.resp_session.specs.WorldLaws.{IsWritten, EachMessageIsWritten, WhatIsWrittenIsRead, WhatIsShownIsRead, WhatIsReadIsShown, WhatIsLeftMayGoOn, NoClientMeetsAFault, waiting_for}
 use Rattle.resp_session.proofs.Arrivals.{none_of_nothing, none_of_front, short, long}
 use Rattle.resp_session.proofs.Readings.{push_is}
 use Rattle.resp_session.proofs.TextsInPieces.{Begins, one_begins}
@@ -198,3 +198,28 @@ what_is_read_is_shown one shown limits n events w bounds few bytes r i c at xs f
     let h = shown limits n events w bounds few bytes r i c at in
     (one limits (waiting_for Two c.requests) after h.after xs (values_of (shown_messages c)) front h.front rest h.rest read h.read (sym whole ∙ h.whole) goes_on
     h.goes_on).0
+
+-- where the same values are read of one text, they are read of one front, and leave the same
+same_reading : NoSpellingBeginsAnother → (limits : Bounds) (w a b : Waiting) (xs : List Datum) (p q u v : List ℕ) → ReadsAs limits w xs p a →
+    ReadsAs limits w xs q b → p ++ u ≡ q ++ v → (a ≡ b) × (u ≡ v)
+same_reading apart limits w a b [] p q u v m n e =
+    let m0 : p ≡ [] = m.0 in
+    let n0 : q ≡ [] = n.0 in
+    (m.1 ∙ sym n.1, sym (ap (λ z. z ++ u) m0) ∙ e ∙ ap (λ z. z ++ v) n0)
+same_reading apart limits w a b (x ∷ xs) p q u v m n e =
+    let (f, g, s, may, t, o) = m in
+    let (f2, g2, s2, may2, t2, o2) = n in
+    let e2 : f ++ (g ++ u) ≡ f2 ++ (g2 ++ v) = sym (ap (λ z. z ++ u) o ∙ append_assoc f g u) ∙ e ∙ ap (λ z. z ++ v) o2 ∙ append_assoc f2 g2 v in
+    let r = reading_rules limits w in
+    let d = apart r r x x f f2 (g ++ u) (g2 ++ v) s s2 e2 in
+    same_reading apart limits (waiting_after w x) a b xs g g2 u v t t2 d.2
+
+pub what_is_left_may_go_on : NoSpellingBeginsAnother → WhatIsShownIsRead → WhatIsLeftMayGoOn
+what_is_left_may_go_on apart shown limits n events w bounds few bytes r i c at front rest after read whole =
+    let h = shown limits n events w bounds few bytes r i c at in
+    let d = same_reading apart limits (waiting_for Two c.requests) h.after after (values_of (shown_messages c)) h.front front h.rest rest h.read read
+    (sym h.whole ∙ whole) in
+    subst (λ z. MayGoOn limits z rest) d.0 (subst (MayGoOn limits h.after) d.1 h.goes_on)
+
+pub nothing_may_go_on : NoSpellingIsEmpty → TheEmptyTextIsViable → NothingMayGoOn
+nothing_may_go_on full empty limits w bounds = nothing_goes_on full empty limits bounds w

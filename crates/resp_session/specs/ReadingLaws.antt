@@ -1,7 +1,7 @@
 -- What must be true of the definitions of a client's reading.
-use Rattle.std.specs.Prelude.{◌≡◌, ℕ, ◌+◌, List, ◌++◌, length, Option}
+use Rattle.std.specs.Prelude.{◌≡◌, ℕ, ◌+◌, List, [], ◌++◌, length, Option}
 use Rattle.resp_value.specs.Data.{Datum}
-use Rattle.resp_value.specs.Bounds.{Bounds}
+use Rattle.resp_value.specs.Bounds.{Bounds, AreBounds}
 use Rattle.resp_value.specs.declared.version.Version.{Version}
 use Rattle.resp_value.specs.declared.cause.Cause.{Cause}
 use Rattle.resp_session.specs.Heard.{replies_of, pushes_of, numbered_replies}
@@ -37,3 +37,7 @@ abbrev pub ARestHasOneClientFault : Type 0
 ARestHasOneClientFault = (limits : Bounds) (w : Waiting) (rest : List ℕ) (cause cause' : Cause) (at at' : ℕ) →
     ClientFault limits w rest cause at →
     (MayGoOn limits w rest → ⊥) × (ClientFault limits w rest cause' at' → (cause ≡ cause') × (at ≡ at'))
+
+-- where nothing has come of a value, anything may come
+abbrev pub NothingMayGoOn : Type 0
+NothingMayGoOn = (limits : Bounds) (w : Waiting) → AreBounds limits → MayGoOn limits w []

@@ -1,11 +1,11 @@
 -- What a session of a world answers to the bytes that come to it.
-use Rattle.std.specs.Prelude.{◌≡◌, ℕ, ◌+◌, false, List, [], ◌++◌, length, map, take, drop, Some}
+use Rattle.std.specs.Prelude.{◌≡◌, ℕ, ◌+◌, ◌≤◌, false, List, [], ◌++◌, length, map, take, drop, min, replicate, Some}
 use Rattle.std.specs.List.{AllByRecursion}
 use Rattle.resp_value.specs.Bounds.{Bounds, AreBounds}
 use Rattle.resp_value.specs.Spellings.{AreSpellings}
 use Rattle.resp_value.specs.Words.{command_of}
 use Rattle.resp_session.specs.Answers.{SessionState, Answers, server_rules}
-use Rattle.resp_session.specs.Connections.{Connection, arrived_requests, back_text, sent_text}
+use Rattle.resp_session.specs.Connections.{Connection, arrived_requests, back_text, sent_text, with_request}
 use Rattle.resp_session.specs.Requests.{Request, request_words}
 use Rattle.resp_session.specs.Runs.{Run}
 use Rattle.resp_session.specs.WorldLaws.{IsPossible}
@@ -26,17 +26,28 @@ pub record IsUnfinished (limits : Bounds) (c : Connection) (rest : List ℕ) : T
 abbrev pub coming : ℕ → Connection → List ℕ
 coming k c = take k (drop c.arrived (sent_text c))
 
--- a session's answer is what these bytes leave in the world: its store, its version, its messages, and the order
-pub record IsLeftBy (limits : Bounds) (i : ℕ) (w left : World) (c : Connection) (after : SessionState) (rest : List ℕ) :
-    Type 0 where
+-- the client of each command, in the order in which they were run
+abbrev pub clients_in : World → List ℕ
+clients_in w = map (λ (command : ℕ × List (List ℕ)). command.0) w.order
+
+-- a session's answer is what these bytes leave in the world: its store, its version, its messages, and the order; the
+-- other connections stay
+pub record IsLeftBy (limits : Bounds) (i k : ℕ) (w left : World) (c : Connection) (after : SessionState)
+    (rest : List ℕ) : Type 0 where
   pub next : Connection
   pub there : connection_at left.connections i ≡ Some next
+  pub requests : next.requests ≡ c.requests
+  pub arrived : next.arrived ≡ min (c.arrived + k) (length (sent_text c))
+  pub shown : next.shown ≡ c.shown
+  pub dropped : next.dropped ≡ c.dropped
   pub unfinished : IsUnfinished limits next rest
   pub store : after.store ≡ left.store
   pub version : after.version ≡ next.version
   pub text : back_text next ≡ back_text c ++ after.text
   pub is_open : after.closing ≡ false
-  pub count : length left.order ≡ length w.order + after.count
+  pub order : clients_in left ≡ clients_in w ++ replicate after.count i
+  pub others : (j : ℕ) → (j ≡ i → ⊥) → connection_at left.connections j ≡ connection_at w.connections j
+  pub same_count : length left.connections ≡ length w.connections
 
 -- whatever is answered to what comes to a session of a world, by its unfinished rest and these bytes, is what the world
 -- is left with
@@ -45,7 +56,7 @@ WhatArrivesIsAnswered = (limits : Bounds) (n : ℕ) (events : List WorldEvent) (
     AllByRecursion IsPossible events → Run limits (new_world n) events w → (i k : ℕ) (c : Connection) →
     connection_at w.connections i ≡ Some c → (rest rest' : List ℕ) (after : SessionState) →
     IsUnfinished limits c rest → Answers limits i (session_of w c) (rest ++ coming k c) after rest' →
-    IsLeftBy limits i w (after_event w (ToServer i k)) c after rest'
+    IsLeftBy limits i k w (after_event w (ToServer i k)) c after rest'
 
 -- bytes that come in two parts, to a session or to a client, leave what they leave together
 abbrev pub ArrivalsGoOn : Type 0
@@ -53,3 +64,15 @@ ArrivalsGoOn = (limits : Bounds) (n : ℕ) (events : List WorldEvent) (w : World
     (i j k : ℕ) →
     (after_event (after_event w (ToServer i j)) (ToServer i k) ≡ after_event w (ToServer i (j + k))) ×
     (after_event (after_event w (ToClient i j)) (ToClient i k) ≡ after_event w (ToClient i (j + k)))
+
+-- no more has come than was sent, either way
+abbrev pub WhatHasComeWasSent : Type 0
+WhatHasComeWasSent = (limits : Bounds) (n : ℕ) (events : List WorldEvent) (w : World) →
+    Run limits (new_world n) events w → (i : ℕ) (c : Connection) → connection_at w.connections i ≡ Some c →
+    (c.arrived ≤ length (sent_text c)) × (c.shown ≤ length (back_text c))
+
+-- what has come of a request stays what it is where one more is asked
+abbrev pub ArrivalsStay : Type 0
+ArrivalsStay = (limits : Bounds) (n : ℕ) (events : List WorldEvent) (w : World) → Run limits (new_world n) events w →
+    (i : ℕ) (c : Connection) → connection_at w.connections i ≡ Some c → (request : Request) (rest : List ℕ) →
+    IsUnfinished limits c rest → IsUnfinished limits (with_request request c) rest

@@ -15,7 +15,7 @@ use Rattle.resp_session.specs.Heard.{replies_of, pushes_of}
 use Rattle.resp_session.specs.Reading.{Waiting, MayGoOn, ReadsAs}
 use Rattle.resp_session.specs.Requests.{version_asked, Request, Command, HasBytes, request_words, request_text}
 use Rattle.resp_session.specs.Connections.{Connection, Message, message_text, push_message, back_text, later_requests, sent_text, values_of, shown_messages, shown_replies, shown_pushes}
-use Rattle.resp_session.specs.Worlds.{World, WorldEvent, Send, Push, connection_at, new_world}
+use Rattle.resp_session.specs.Worlds.{World, WorldEvent, Send, Push, connection_at, new_world, with_change}
 use Rattle.resp_session.specs.Runs.{Run}
 use Rattle.resp_session.specs.Orders.{OneOrder, IsBeginning, part_of_client}
 
@@ -112,3 +112,16 @@ abbrev pub WhatIsReadIsShown : Type 0
 WhatIsReadIsShown = AlwaysHolds (λ limits c. (xs : List Datum) (front rest : List ℕ) (after : Waiting) →
     ReadsAs limits (waiting_for Two c.requests) xs front after → take c.shown (back_text c) ≡ front ++ rest →
     MayGoOn limits after rest → xs ≡ values_of (shown_messages c))
+
+-- however the messages that have come whole to a client are read, what is left may go on
+abbrev pub WhatIsLeftMayGoOn : Type 0
+WhatIsLeftMayGoOn = AlwaysHolds (λ limits c. (front rest : List ℕ) (after : Waiting) →
+    ReadsAs limits (waiting_for Two c.requests) (values_of (shown_messages c)) front after →
+    take c.shown (back_text c) ≡ front ++ rest → MayGoOn limits after rest)
+
+-- a change of one connection is there, and the others stay
+abbrev pub AChangeIsOfOneConnection : Type 0
+AChangeIsOfOneConnection = (f : Connection → Connection) (cs : List Connection) (i : ℕ) →
+    (length (with_change f cs i) ≡ length cs) ×
+    ((c : Connection) → connection_at cs i ≡ Some c → connection_at (with_change f cs i) i ≡ Some (f c)) ×
+    ((j : ℕ) → (j ≡ i → ⊥) → connection_at (with_change f cs i) j ≡ connection_at cs j)

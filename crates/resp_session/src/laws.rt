@@ -8,12 +8,12 @@ ghost use Rattle.resp_session.specs.AnswerLaws.{ACommandIsItsWords, AnswersGoOn,
 ghost use Rattle.resp_session.specs.Examples.{new_session, answers_to, set_a, get_a, AnInlineCommandIsRefused, get_before_set, hello_in_two, hello_in_three, push_after_hello, clients_of, replies_to, pushes_to, RefusesEventFor, IsOfNobody};
 ghost use Rattle.resp_session.specs.Worlds.{Push, Drop};
 ghost use Rattle.resp_value.specs.declared.cause.Cause.TheVariants.{NotInVersion};
-ghost use Rattle.resp_session.specs.ReadingLaws.{ReadingsGoOn, ReadingsStay, ATextHasOneReading, ARestHasOneClientFault, HearingGoesOn};
+ghost use Rattle.resp_session.specs.ReadingLaws.{ReadingsGoOn, ReadingsStay, ATextHasOneReading, ARestHasOneClientFault, HearingGoesOn, NothingMayGoOn};
 ghost use Rattle.resp_session.specs.Replies.{simple_string, bulk_string, natural, null};
-ghost use Rattle.resp_session.specs.WorldLaws.{AWorldHasOneOrder, ARunIsCut, TheOrderOnlyGrows, ShownRepliesAreOfTheOrder, WhatIsShownWasSent, WhatArrivesIsCommands, EachMessageIsWritten, WhatIsWrittenIsRead, WhatIsShownIsRead, WhatIsReadIsShown, NoClientMeetsAFault};
+ghost use Rattle.resp_session.specs.WorldLaws.{AWorldHasOneOrder, ARunIsCut, TheOrderOnlyGrows, ShownRepliesAreOfTheOrder, WhatIsShownWasSent, WhatArrivesIsCommands, EachMessageIsWritten, WhatIsWrittenIsRead, WhatIsShownIsRead, WhatIsReadIsShown, WhatIsLeftMayGoOn, NoClientMeetsAFault, AChangeIsOfOneConnection};
 ghost use Rattle.resp_session.specs.Fitting.{EffectsFit, NumbersAreShort};
 ghost use Rattle.resp_session.specs.Connections.{push_message};
-ghost use Rattle.resp_session.specs.Serving.{ArrivalsGoOn, WhatArrivesIsAnswered};
+ghost use Rattle.resp_session.specs.Serving.{ArrivalsGoOn, ArrivalsStay, WhatArrivesIsAnswered, WhatHasComeWasSent};
 
 use resp_value::laws as grammar;
 
@@ -92,6 +92,14 @@ pub fn a_rest_has_one_client_fault()
     grammar::a_rest_has_one_fault();
 }
 
+/// Where nothing has come of a value, anything may come to a client.
+pub fn nothing_may_go_on()
+    ensures { NothingMayGoOn }
+{
+    grammar::no_spelling_is_empty();
+    grammar::the_empty_text_is_viable();
+}
+
 /// The replies among values, and then among more, are numbered on; pushes are apart from them.
 pub fn hearing_goes_on()
     ensures { HearingGoesOn }
@@ -124,6 +132,18 @@ pub fn what_arrives_is_commands()
     what_comes_is_whole_texts();
     grammar::canonical_text_spells_what_fits();
 }
+
+/// No more has come to a session or to a client of a world than was sent, and what has come stays
+/// so where more is asked.
+pub fn what_has_come_was_sent()
+    ensures was_sent { WhatHasComeWasSent }
+    ensures stays { ArrivalsStay }
+{}
+
+/// A change of one connection leaves the others as they are.
+pub fn a_change_is_of_one_connection()
+    ensures { AChangeIsOfOneConnection }
+{}
 
 /// Bytes that come in two parts leave what they leave together.
 pub fn arrivals_go_on()
@@ -177,6 +197,7 @@ pub fn what_is_written_is_read()
 pub fn what_is_shown_is_read()
     ensures read { WhatIsShownIsRead }
     ensures nothing_else { WhatIsReadIsShown }
+    ensures goes_on { WhatIsLeftMayGoOn }
     ensures no_fault { NoClientMeetsAFault }
 {
     a_text_has_one_reading();

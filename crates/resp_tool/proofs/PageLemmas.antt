@@ -1,18 +1,22 @@
 -- What is open in the lines so far.
-use Rattle.std.proofs.Common.{◌≡◌, ℕ, ℤ, suc, ◌-◌, Bool, cond, Option, None, Some, Result, Ok, Err, List, [], ◌∷◌, ◌++◌, length, map, reverse, codes, decimal, refl, sym, ap, subst, ◌∙◌, append-nil, arith}
+use Rattle.std.proofs.Common.{◌≡◌, ℕ, ℤ, suc, ◌+◌, ◌-◌, ◌<◌, ◌≤◌, ◌^◌, Bool, cond, Option, None, Some, Result, Ok, Err, List, [], ◌∷◌, ◌++◌, length, map, reverse, codes, decimal, refl, sym, ap, subst, ◌∙◌, append_assoc, append-nil, arith}
 use Rattle.std.specs.Fmt.{signed_decimal}
 use Rattle.std.specs.Result.{IsErr, OnOk}
 use Rattle.std.proofs.lemmas.List.{length-reverse}
+use Rattle.std.specs.List.{AllByRecursion}
+use Rattle.resp_fronts.specs.Events as e
+use Rattle.resp_fronts.specs.Events.{TextKind}
 use Rattle.resp_scan.specs.Kinds.{content_events}
 use Rattle.resp_value.specs.Data.{items_of}
 use Rattle.resp_value.specs.Kinds.{kind_of}
 use Rattle.resp_value.specs.Devices.{Appends, HasRisen}
 use Rattle.resp_tool.specs.Shown.{indentation, quoted_byte, quoted_text}
 use Rattle.resp_tool.specs.Written.{AppendsPart, WritesText}
-use Rattle.resp_tool.specs.Lines.{around, innermost, line_of, page_of}
-use Rattle.resp_tool.specs.Pages.{OpenText, Page, has_all_pairs, last_line, of_line, page_after, shown_on, with_byte, with_bytes}
+use Rattle.resp_tool.specs.Lines.{HasRoomFor, around, innermost, line_of, page_of}
+use Rattle.resp_tool.specs.Pages.{OpenLine, OpenText, Page, beginning, end_of_text, has_all_pairs, is_big, last_line, of_line, page_after, shown_on, text_line, text_words, with_byte, with_bytes, with_member, with_value}
 use Rattle.resp_tool.specs.declared.lines.Lines.{Lines}
 use Rattle.resp_tool.specs.declared.lines.OpenLine as line
+use Rattle.resp_tool.proofs.ShownTrees.{page-append, shown-append}
 use Rattle.resp_tool.proofs.WrittenLemmas.{writes_next, writes_part}
 
 map_size : (ls : List line.OpenLine) → length (map line_of ls) ≡ length ls
@@ -93,6 +97,38 @@ content_length (c ∷ s) = ap suc (content_length s)
 pub on_ok : {X E A B : Type 0} (r : Result X E) → (A → B) → OnOk r A → OnOk r B
 on_ok (Ok x) f a = f a
 on_ok (Err x) f a = tt
+
+-- the text of a whole text is what begins its line, and its line
+pub whole_shown : (p : Page) (k : TextKind) (s : List ℕ) → shown_on p (e.Text k ∷ (content_events s ++ e.TextEnd ∷ [])) ≡ beginning p ++ text_line k s
+whole_shown p k s =
+    let begun : Page = record p { text = Some (record { is_big = is_big k; size = 0 }) } in
+    let ends : Page → List ℕ = λ q. end_of_text q.text ++ [] in
+    ap (λ z. (beginning p ++ text_words k) ++ z) (shown-append (content_events s) (e.TextEnd ∷ []) begun
+    ∙ ap (λ z. z ++ ends (page_after (content_events s) begun)) (content_shown begun s)
+    ∙ ap (λ q. quoted_text s ++ ends q) (content_page begun s)
+    ∙ ap (λ z. quoted_text s ++ z) (append-nil (end_of_text (with_bytes (length s) begun.text)))
+    ∙ ap (λ n. quoted_text s ++ end_of_text (Some (record { is_big = is_big k; size = n }))) (let z : 0 + length s ≡ length s = omega arith in z))
+    ∙ append_assoc (beginning p) (text_words k) (quoted_text s ++ end_of_text (Some (record { is_big = is_big k; size = length s })))
+
+-- behind it one value more was written
+pub whole_page : (p : Page) (k : TextKind) (s : List ℕ) →
+    page_after (e.Text k ∷ (content_events s ++ e.TextEnd ∷ [])) p ≡ with_value (record p { text = None })
+whole_page p k s =
+    let begun : Page = record p { text = Some (record { is_big = is_big k; size = 0 }) } in
+    page-append (content_events s) (e.TextEnd ∷ []) begun ∙
+    ap (λ q. let z : Page = q in let y : Page = record { open_lines = with_member z.open_lines; text = None } in y) (content_page begun s)
+
+-- where no text was begun there is as much room
+pub room_without_text : (p : Page) → HasRoomFor 1 p → HasRoomFor 1 (record p { text = None })
+room_without_text p room = record { members = room.members; size = omega arith }
+
+fewer_members : (n : ℕ) (ls : List OpenLine) → 1 ≤ n → AllByRecursion (λ l. l.members + n < 2 ^ 64) ls → AllByRecursion (λ l. l.members + 1 < 2 ^ 64) ls
+fewer_members n [] some h = tt
+fewer_members n (l ∷ ls) some h = (omega (arith, some, h.0), fewer_members n ls some h.1)
+
+-- room for some is room for one
+pub room_for_one : (n : ℕ) (p : Page) → 1 ≤ n → HasRoomFor n p → HasRoomFor 1 p
+room_for_one n p some room = record { members = fewer_members n p.open_lines some room.members; size = omega (arith, some, room.size) }
 
 -- the line of an integer, of which a write failed
 pub int_fails : {X E : Type 0} (r : Result X E) (a b c : Option (List ℕ)) (f g h : ℕ) (first : List ℕ) (i j : ℤ) → i ≡ j → IsErr r →

@@ -1,66 +1,40 @@
--- What has been shown of a value in the middle of a piece.
-use Rattle.std.proofs.Common.{◌≡◌, ℕ, ◌+◌, ◌<◌, ◌≤◌, ◌^◌, Bool, true, false, eqb, Option, None, Some, List, [], ◌∷◌, ◌++◌, length, take, drop, refl, sym, ap, subst, ◌∙◌, append_assoc, append-nil, length-append, take-append-drop, arith}
+-- What was printed of a value by a call over a piece, and what stands of it then.
+use Rattle.std.proofs.Common.{◌≡◌, ℕ, ◌+◌, ◌-◌, ◌<◌, ◌≤◌, ◌^◌, Bool, true, false, Option, None, Some, List, [], ◌∷◌, ◌++◌, length, take, refl, sym, ap, subst, ◌∙◌, append_assoc, append-nil, length-append, arith, MatchBool, Result, Ok, Err}
+use Rattle.std.specs.Prelude.{OnOk, is_ok}
 use Rattle.std.specs.List.{AllByRecursion}
-use Rattle.std.proofs.Math.Seq.{take-add, take-append-add}
-use Rattle.std.proofs.lemmas.List.{length-drop, take_all}
+use Rattle.std.proofs.lemmas.List.{take_all}
+use Rattle.resp_value.specs.Data.{Kind}
 use Rattle.resp_value.specs.Rules.{Rules, NoDouble, WithinTotal}
 use Rattle.resp_value.specs.Rules as rule
 use Rattle.resp_value.specs.Laws.{FrontsOfViableTextsAreViable}
-use Rattle.resp_value.specs.Spellings.{IsSpelling, IsViable}
+use Rattle.resp_value.specs.Spellings.{IsViable}
 use Rattle.resp_value.specs.TreeValues.{value}
-use Rattle.resp_value.specs.Devices.{Appends}
+use Rattle.resp_value.specs.Devices.{Appends, HasRisen}
 use Rattle.resp_value.specs.declared.cause.Cause.{Cause}
 use Rattle.resp_value.specs.declared.cause.Cause.TheVariants as cause
 use Rattle.resp_fronts.specs.Events as e
 use Rattle.resp_scan.specs.Counts.{close_count, open_count}
-use Rattle.resp_scan.specs.Kinds.{content_events}
+use Rattle.resp_scan.specs.Kinds.{content_events, rules_of}
+use Rattle.resp_scan.specs.Listening.{HearsPiece, HearsRefusal, HearsValue, IfRefused, IfStopped, IfUsedUp, IfWhole, MayBeGiven, StopsBehind, StopsWithin, whole_text_events}
 use Rattle.resp_scan.specs.Machine.Tokens.{Place}
-use Rattle.resp_scan.specs.Parts.{IsPartOf, IsRun}
-use Rattle.resp_scan.specs.Reading.{AreDue, BeginDue, EndsValue, Events, HasNoSpelling, HasNoValue, HasRead, IsRefused, IsValue, OnDone, OnOtherEvent, UsesUp, events_of}
-use Rattle.resp_scan.specs.declared.event.Event.{Event}
-use Rattle.resp_scan.specs.declared.event.Event.TheVariants as event
+use Rattle.resp_scan.specs.Reading.{AreDue, BeginDue, Events, HasNoValue, HasRead, IsValue}
 use Rattle.resp_scan.specs.declared.event.Fault.{Fault}
+use Rattle.resp_scan.specs.declared.event.ScanError.{ScanError}
+use Rattle.resp_scan.specs.declared.event.ScanError.TheVariants as stop
+use Rattle.resp_scan.specs.declared.event.Scanned.{Scanned}
+use Rattle.resp_scan.specs.declared.event.TextKind.{TextKind as ScannedKind}
 use Rattle.resp_tool.specs.Counts.{IsAny}
 use Rattle.resp_tool.specs.Lines.{HasRoomFor, page_of, size_of_text}
 use Rattle.resp_tool.specs.Pages.{OpenLine, OpenText, Page, blank, end_of_line, left_text, page_after, page_behind, shown, shown_on, with_byte, with_member, without_last}
-use Rattle.resp_tool.specs.Scans.{AreLinesOf, HasShown, IsShownIn, IsShownOf, is_done}
+use Rattle.resp_tool.specs.Printing.{Call, HasBroken, HasPrinted, IsOfCall, IsPageBehind, Start}
+use Rattle.resp_tool.specs.Scans.{HasShown, IsShownIn, IsShownOf}
 use Rattle.resp_tool.specs.Shown.{shown_text}
 use Rattle.resp_tool.specs.Takings.{IsByteFault, IsEndFault, Refuses, TakesFront, TakesValue, WritesPart}
-use Rattle.resp_tool.specs.Written.{AppendsPart}
+use Rattle.resp_tool.specs.Written.{AppendsPart, WritesText}
 use Rattle.resp_tool.specs.declared.lines.Lines.{Lines}
 use Rattle.resp_tool.proofs.Scanned.{byte_fault, ends_inside, no_spelling_without_value, nothing_given, scanned_nothing, value_uses_some}
 use Rattle.resp_tool.proofs.ShownTrees.{page-append, shown-append, tree_is_closed, tree_is_shown}
 use Rattle.resp_tool.proofs.WrittenLemmas.{Appends-append, Appends-none}
-
--- of a front and the first bytes of a piece, their events were given and the text of these was written
-pub record IsShowing (s : Place) (lines : Lines) (front piece : List ℕ) (used : ℕ) (so_far : List ℕ) (before now : Option (List ℕ)) (steps : ℕ) : Type 0 where
-  pub given : Events
-  pub reads : HasRead s (front ++ take used piece) given
-  pub shown_lines : AreLinesOf lines given
-  pub more : List ℕ
-  pub appended : Appends before now more
-  pub written : so_far ++ more ≡ shown given
-  pub long : steps ≤ length given
-
--- before the first step
-pub shows_nothing : (s : Place) (lines : Lines) (front piece so_far : List ℕ) (held : Option (List ℕ)) → HasShown s lines front so_far →
-    IsShowing s lines front piece 0 so_far held held 0
-shows_nothing s lines front piece so_far held w = record {
-  given = w.given;
-  reads = subst (λ z. HasRead s z w.given) (sym (append-nil front)) w.scanned.reads;
-  shown_lines = w.shown_lines;
-  more = [];
-  appended = Appends-none held;
-  written = append-nil so_far ∙ w.written;
-  long = omega arith;
-}
-
--- the bytes of one step more
-bytes_on : (front piece : List ℕ) (used n : ℕ) → (front ++ take used piece) ++ take n (drop used piece) ≡ front ++ take (used + n) piece
-bytes_on front piece used n = append_assoc front (take used piece) (take n (drop used piece)) ∙ ap (λ z. front ++ z) (sym (take-add used n piece))
-
-all_bytes : (front piece : List ℕ) (used : ℕ) → (front ++ take used piece) ++ drop used piece ≡ front ++ piece
-all_bytes front piece used = append_assoc front (take used piece) (drop used piece) ∙ ap (λ z. front ++ z) (take-append-drop used piece)
 
 -- Room for the counts.
 
@@ -118,10 +92,6 @@ has_room given k few =
 
 -- How many aggregates are open.
 
-count-append : (es fs : Events) → (open_count (es ++ fs) ≡ open_count es + open_count fs) × (close_count (es ++ fs) ≡ close_count es + close_count fs)
-count-append [] fs = (omega arith, omega arith)
-count-append (x ∷ es) fs = let h = count-append es fs in (omega (arith, h.0), omega (arith, h.1))
-
 with_member_size : (ls : List OpenLine) → length (with_member ls) ≡ length ls
 with_member_size [] = refl
 with_member_size (l ∷ ls) = refl
@@ -130,196 +100,294 @@ without_last_size : (ls : List OpenLine) (d : ℕ) → length ls ≡ d + 1 → l
 without_last_size [] d h = absurd (omega (arith, h))
 without_last_size (l ∷ ls) d h = omega (arith, h)
 
-content_levels : (s : List ℕ) (p : Page) → (page_after (content_events s) p).open_lines ≡ p.open_lines
-content_levels [] p = refl
-content_levels (c ∷ s) p = content_levels s (record p { text = with_byte p.text })
+count-append : (es fs : Events) → (open_count (es ++ fs) ≡ open_count es + open_count fs) × (close_count (es ++ fs) ≡ close_count es + close_count fs)
+count-append [] fs = (omega arith, omega arith)
+count-append (x ∷ es) fs = let h = count-append es fs in (omega (arith, h.0), omega (arith, h.1))
 
-content_counts : (s : List ℕ) → (open_count (content_events s) ≡ 0) × (close_count (content_events s) ≡ 0)
-content_counts [] = (refl, refl)
-content_counts (c ∷ s) = let h = content_counts s in (omega (arith, h.0), omega (arith, h.1))
+-- events that open and close nothing
+pub record AreLevel (es : Events) : Type 0 where
+  pub opens : open_count es ≡ 0
+  pub closes : close_count es ≡ 0
 
--- as many lines are open as aggregates
-levels_on : (x : Event) (p : Page) (opens closes depth : ℕ) → is_done x ≡ false → length p.open_lines + closes ≡ opens →
-    opens + open_count (events_of x) ≡ depth + (closes + close_count (events_of x)) →
-    length (page_after (events_of x) p).open_lines + (closes + close_count (events_of x)) ≡ opens + open_count (events_of x)
-levels_on event.Null p opens closes depth live h d = omega (arith, h, with_member_size p.open_lines)
-levels_on (event.Bool b) p opens closes depth live h d = omega (arith, h, with_member_size p.open_lines)
-levels_on (event.Int i) p opens closes depth live h d = omega (arith, h, with_member_size p.open_lines)
-levels_on (event.Text k) p opens closes depth live h d = omega (arith, h)
-levels_on (event.Part s) p opens closes depth live h d =
-    let k = content_counts s.now in omega (arith, h, k.0, k.1, ap length (content_levels s.now p))
-levels_on event.TextEnd p opens closes depth live h d = omega (arith, h, with_member_size p.open_lines)
-levels_on (event.Open k m) p opens closes depth live h d = omega (arith, h)
-levels_on event.Close p opens closes depth live h d =
-    let rest = without_last_size p.open_lines depth (omega (arith, h, d)) in
-    omega (arith, h, d, rest, with_member_size (without_last p.open_lines))
-levels_on event.Done p opens closes depth live h d = absurd (cc)
+pub content_level : (s : List ℕ) → AreLevel (content_events s)
+content_level [] = record { opens = refl; closes = refl }
+content_level (c ∷ s) = let h = content_level s in record { opens = omega (arith, h.opens); closes = omega (arith, h.closes) }
 
--- an event that isn't the end of the value is at least one
-some_event : (x : Event) (piece : List ℕ) (n : ℕ) → is_done x ≡ false → IsPartOf piece n (Some x) → 1 ≤ length (events_of x)
-some_event event.Null piece n live part = omega arith
-some_event (event.Bool b) piece n live part = omega arith
-some_event (event.Int i) piece n live part = omega arith
-some_event (event.Text k) piece n live part = omega arith
-some_event (event.Part s) piece n live part = content (s.now) (some (eqb n 0) part)
-  where
-    some : (b : Bool) → IsRun b piece n s.now → 0 < length s.now
-    some true run = omega (arith, run)
-    some false run = run.0
+pub whole_level : (k : ScannedKind) (s : List ℕ) → AreLevel (whole_text_events k s)
+whole_level k s =
+    let h = content_level s in
+    let counts = count-append (content_events s) (e.TextEnd ∷ []) in
+    record { opens = omega (arith, h.opens, counts.0); closes = omega (arith, h.closes, counts.1) }
 
-    content : (xs : List ℕ) → 0 < length xs → 1 ≤ length (content_events xs)
-    content [] h = absurd (omega (arith, h))
-    content (c ∷ xs) h = omega arith
-some_event event.TextEnd piece n live part = omega arith
-some_event (event.Open k m) piece n live part = omega arith
-some_event event.Close piece n live part = omega arith
-some_event event.Done piece n live part = absurd (cc)
+rest_level : (x : e.Event) (es : Events) → AreLevel (x ∷ es) → AreLevel es
+rest_level x es h = record { opens = omega (arith, h.opens); closes = omega (arith, h.closes) }
 
-pub other_event : (x : Event) (P : Event → Type 0) → is_done x ≡ false → OnOtherEvent (Some x) P → P x
-other_event event.Null P live h = h
-other_event (event.Bool b) P live h = h
-other_event (event.Int i) P live h = h
-other_event (event.Text k) P live h = h
-other_event (event.Part s) P live h = h
-other_event event.TextEnd P live h = h
-other_event (event.Open k m) P live h = h
-other_event event.Close P live h = h
-other_event event.Done P live h = absurd (cc)
+-- leave as many lines open
+level_lines : (es : Events) (p : Page) → AreLevel es → length (page_after es p).open_lines ≡ length p.open_lines
+level_lines [] p h = refl
+level_lines (e.Null ∷ es) p h = level_lines es (page_behind e.Null p) (rest_level e.Null es h) ∙ with_member_size p.open_lines
+level_lines (e.Bool b ∷ es) p h = level_lines es (page_behind (e.Bool b) p) (rest_level (e.Bool b) es h) ∙ with_member_size p.open_lines
+level_lines (e.Int i ∷ es) p h = level_lines es (page_behind (e.Int i) p) (rest_level (e.Int i) es h) ∙ with_member_size p.open_lines
+level_lines (e.Text k ∷ es) p h = level_lines es (page_behind (e.Text k) p) (rest_level (e.Text k) es h)
+level_lines (e.Byte c ∷ es) p h = level_lines es (page_behind (e.Byte c) p) (rest_level (e.Byte c) es h)
+level_lines (e.TextEnd ∷ es) p h = level_lines es (page_behind e.TextEnd p) (rest_level e.TextEnd es h) ∙ with_member_size p.open_lines
+level_lines (e.Open k m ∷ es) p h = absurd (omega (arith, h.opens))
+level_lines (e.Close ∷ es) p h = absurd (omega (arith, h.closes))
+level_lines (e.Done ∷ es) p h = level_lines es p (rest_level e.Done es h)
 
-pub done_event : (x : Event) (P : Type 0) → is_done x ≡ true → OnDone (Some x) P → P
-done_event event.Null P live h = absurd (cc)
-done_event (event.Bool b) P live h = absurd (cc)
-done_event (event.Int i) P live h = absurd (cc)
-done_event (event.Text k) P live h = absurd (cc)
-done_event (event.Part s) P live h = absurd (cc)
-done_event event.TextEnd P live h = absurd (cc)
-done_event (event.Open k m) P live h = absurd (cc)
-done_event event.Close P live h = absurd (cc)
-done_event event.Done P live h = h
+-- as many lines are open behind these events as aggregates
+abbrev pub AreAsDeep : Events → Type 0
+AreAsDeep given = length (page_after given blank).open_lines + close_count given ≡ open_count given
 
--- one event more was shown
-pub shows_on : (s s' : Place) (lines lines' : Lines) (front piece : List ℕ) (used n : ℕ) (so_far : List ℕ) (before now after : Option (List ℕ))
-    (steps depth : ℕ)
-    (x : Event) (w : IsShowing s lines front piece used so_far before now steps) → is_done x ≡ false → IsPartOf (drop used piece) n (Some x) →
-    HasRead s' ((front ++ take used piece) ++ take n (drop used piece)) (w.given ++ events_of x) →
-    open_count (w.given ++ events_of x) ≡ depth + close_count (w.given ++ events_of x) → depth ≤ 128 →
-    length (w.given ++ events_of x) ≤ 2 ^ 40 →
-    Appends now after (shown_on (page_of lines) (events_of x)) →
-    (HasRoomFor (length (events_of x)) (page_of lines) → (1 ≤ open_count (events_of x) → length (page_of lines).open_lines < 128) →
-    page_of lines' ≡ page_after (events_of x) (page_of lines)) → IsShowing s' lines' front piece (used + n) so_far before after (steps + 1)
-shows_on s s' lines lines' front piece used n so_far before now after steps depth x w live part reads deep few short appended page =
-    let es = events_of x in
-    let counts = count-append w.given es in
-    let size : length (w.given ++ es) ≡ length w.given + length es = length-append w.given es in
-    let room = subst (HasRoomFor (length es)) (sym w.shown_lines.page) (has_room w.given (length es) (omega (arith, size, short))) in
-    let level : length (page_of lines).open_lines ≡ length (page_after w.given blank).open_lines =
+lines_behind : (given more : Events) → length (page_after (given ++ more) blank).open_lines ≡ length (page_after more (page_after given blank)).open_lines
+lines_behind given more = ap (λ p. let q : Page = p in length q.open_lines) (page-append given more blank)
+
+pub level_deep : (given more : Events) → AreLevel more → AreAsDeep given → AreAsDeep (given ++ more)
+level_deep given more level deep =
+    let counts = count-append given more in
+    omega (arith, deep, level.opens, level.closes, counts.0, counts.1, lines_behind given more, level_lines more (page_after given blank) level)
+
+pub opened_deep : (given : Events) (k : Kind) (m : Option ℕ) → AreAsDeep given → AreAsDeep (given ++ e.Open k m ∷ [])
+opened_deep given k m deep =
+    let counts = count-append given (e.Open k m ∷ []) in
+    omega (arith, deep, counts.0, counts.1, lines_behind given (e.Open k m ∷ []))
+
+pub closed_deep : (given : Events) → MayBeGiven (given ++ e.Close ∷ []) → AreAsDeep given → AreAsDeep (given ++ e.Close ∷ [])
+closed_deep given may deep =
+    let counts = count-append given (e.Close ∷ []) in
+    let ls = (page_after given blank).open_lines in
+    let d = length ls - 1 in
+    let some : length ls ≡ d + 1 = omega (arith, deep, may.opened, counts.0, counts.1) in
+    omega (
+      arith,
+      deep,
+      some,
+      counts.0,
+      counts.1,
+      lines_behind given (e.Close ∷ []),
+      without_last_size ls d some,
+      with_member_size (without_last ls),
+    )
+
+-- A printer.
+
+-- what a call wrote of more events: all of it, or a part where a write failed
+pub prints : {X E : Type 0} (r : Result X E) (call : Call) (a b : ℕ) (lines lines' : Lines) (held held' : Option (List ℕ)) (f f' : ℕ) (given more : Events) →
+    (IsOfCall call a b × HasPrinted call.start lines held f given) → MayBeGiven (given ++ more) → (AreAsDeep given → AreAsDeep (given ++ more)) →
+    (1 ≤ open_count more → close_count more ≡ 0) → WritesText held held' f f' r (shown_on (page_of lines) more) → OnOk r (IsPageBehind lines lines' more) →
+    MatchBool (is_ok r) (IsOfCall call a b × HasPrinted call.start lines' held' f' (given ++ more))
+    (StopsWithin (λ es. IsOfCall call a b × HasBroken call.start held' f' es) given more)
+prints (Ok x) call a b lines lines' held held' f f' given more had may deep one wrote page =
+    let w = had.1 in
+    let so_far = call.start.so_far in
+    let text = shown_on (page_of lines) more in
+    let counts = count-append given more in
+    let size : length (given ++ more) ≡ length given + length more = length-append given more in
+    let few = may.limits_in_range.total_in_range.1 in
+    let level : length (page_of lines).open_lines ≡ length (page_after given blank).open_lines =
     ap (λ p. let q : Page = p in length q.open_lines) w.shown_lines.page in
-    let next : page_of lines' ≡ page_after (w.given ++ es) blank =
-    page room (λ one. omega (arith, one, level, w.shown_lines.deep, deep, few, counts.0, counts.1, close_none x one)) ∙ ap (page_after es) w.shown_lines.page ∙
-    sym (page-append w.given es blank) in
-    let levels = levels_on x (page_after w.given blank) (open_count w.given) (close_count w.given) depth live w.shown_lines.deep
-    (omega (arith, deep, counts.0, counts.1)) in
+    let room = subst (HasRoomFor (length more)) (sym w.shown_lines.page) (has_room given (length more) (omega (arith, size, may.few, few))) in
+    let next = page room (λ some. omega (
+      arith,
+      some,
+      one some,
+      level,
+      w.shown_lines.deep,
+      counts.0,
+      counts.1,
+      may.nested,
+      may.limits_in_range.depth_in_range.1,
+    )) in (
+      had.0,
+      record {
+        shown_lines = record {
+          page = next ∙ ap (page_after more) w.shown_lines.page ∙ sym (page-append given more blank);
+          deep = deep w.shown_lines.deep;
+        };
+        more = w.more ++ text;
+        appended = Appends-append call.start.held held held' w.more text w.appended wrote.0;
+        whole = sym (append_assoc so_far w.more text) ∙ ap (λ z. z ++ text) w.whole ∙ ap (λ p. shown given ++ shown_on p more) w.shown_lines.page ∙
+            sym (shown-append given more blank);
+        none_failed = wrote.1 ∙ w.none_failed;
+      },
+    )
+prints (Err x) call a b lines lines' held held' f f' given more had may deep one wrote page =
+    let w = had.1 in
+    let so_far = call.start.so_far in
+    let part = wrote.0 in
     record {
-      given = w.given ++ es;
-      reads = subst (λ z. HasRead s' z (w.given ++ es)) (bytes_on front piece used n) reads;
-      shown_lines = record {
-        page = next;
-        deep = omega (arith, levels, counts.0, counts.1, ap (λ p. let q : Page = p in length q.open_lines) (page-append w.given es blank));
-      };
-      more = w.more ++ shown_on (page_of lines) es;
-      appended = Appends-append before now after w.more (shown_on (page_of lines) es) w.appended appended;
-      written = sym (append_assoc so_far w.more (shown_on (page_of lines) es)) ∙ ap (λ z. z ++ shown_on (page_of lines) es) w.written ∙
-          ap (λ p. shown w.given ++ shown_on p es) w.shown_lines.page ∙ sym (shown-append w.given es blank);
-      long = omega (arith, w.long, size, some_event x (drop used piece) n live part);
+      told = more;
+      later = [];
+      parts = sym (append-nil more);
+      has_stopped = (
+        had.0,
+        record {
+          more = w.more ++ part.part;
+          later = part.behind;
+          appended = Appends-append call.start.held held held' w.more part.part w.appended part.appended;
+          parts = shown-append given more blank ∙ ap (λ p. shown given ++ shown_on p more) (sym w.shown_lines.page) ∙
+              ap (λ z. z ++ shown_on (page_of lines) more) (sym w.whole) ∙ append_assoc so_far w.more (shown_on (page_of lines) more) ∙
+              ap (λ z. so_far ++ (w.more ++ z)) part.whole ∙ ap (λ z. so_far ++ z) (sym (append_assoc w.more part.part part.behind));
+          failed = subst (λ n. HasRisen n f') w.none_failed wrote.1;
+        },
+      );
     }
-  where
-    close_none : (x : Event) → 1 ≤ open_count (events_of x) → close_count (events_of x) ≡ 0
-    close_none event.Null h = refl
-    close_none (event.Bool b) h = refl
-    close_none (event.Int i) h = refl
-    close_none (event.Text k) h = refl
-    close_none (event.Part s) h = (content_counts s.now).1
-    close_none event.TextEnd h = refl
-    close_none (event.Open k m) h = refl
-    close_none event.Close h = absurd (omega (arith, h))
-    close_none event.Done h = refl
+
+-- What a call that is over has printed.
+
+-- in words of what the references of the call hold then
+pub left_printed : {W : Type 0} (written : W → Option (List ℕ)) (failures : W → ℕ) (call : Call) (a b : ℕ) (lines lines' : Lines) (x x' : W) →
+    (call.lines_name ≡ a → lines' ≡ lines) → (call.writer_name ≡ b → x' ≡ x) → (es : Events) →
+    (IsOfCall call a b × HasPrinted call.start lines (written x) (failures x) es) → HasPrinted call.start lines' (written x') (failures x') es
+left_printed written failures call a b lines lines' x x' same_lines same_writer es h =
+    subst (λ l. HasPrinted call.start l (written x') (failures x') es) (sym (same_lines (sym h.0.lines)))
+    (subst (λ y. HasPrinted call.start lines (written y) (failures y) es) (sym (same_writer (sym h.0.writer))) h.1)
+
+pub left_broken : {W : Type 0} (written : W → Option (List ℕ)) (failures : W → ℕ) (call : Call) (a b : ℕ) (x x' : W) →
+    (call.writer_name ≡ b → x' ≡ x) → (es : Events) →
+    (IsOfCall call a b × HasBroken call.start (written x) (failures x) es) → HasBroken call.start (written x') (failures x') es
+left_broken written failures call a b x x' same_writer es h =
+    subst (λ y. HasBroken call.start (written y) (failures y) es) (sym (same_writer (sym h.0.writer))) h.1
+
+-- what was heard by one word was heard by another that follows of it
+pub whole_as : (H K : Events → Type 0) (r : Rules) (s : Place) (front piece : List ℕ) (result : Result Scanned ScanError) → ((es : Events) → H es → K es) →
+    IfWhole result (λ used. HearsValue r s H (front ++ take used piece)) → IfWhole result (λ used. HearsValue r s K (front ++ take used piece))
+whole_as H K r s front piece (Ok scanned) so heard = λ whole.
+    let h = heard whole in
+    record { heard = h.heard; is_value = h.is_value; has_heard = so h.heard h.has_heard; reads = h.reads }
+whole_as H K r s front piece (Err x) so heard = heard
+
+pub used_up_as : (H K : Events → Type 0) (s : Place) (written : List ℕ) (result : Result Scanned ScanError) → ((es : Events) → H es → K es) →
+    IfUsedUp result (HearsPiece s H written) → IfUsedUp result (HearsPiece s K written)
+used_up_as H K s written (Ok scanned) so heard = λ part.
+    let h = heard part in
+    record { heard = h.heard; viable = h.viable; no_value = h.no_value; all_due = h.all_due; has_heard = so h.heard h.has_heard; reads = h.reads }
+used_up_as H K s written (Err x) so heard = heard
+
+pub refusal_as : (H K : Events → Type 0) (r : Rules) (front piece : List ℕ) (result : Result Scanned ScanError) → ((es : Events) → H es → K es) →
+    IfRefused result (HearsRefusal r H front piece) → IfRefused result (HearsRefusal r K front piece)
+refusal_as H K r front piece (Ok scanned) so heard = tt
+refusal_as H K r front piece (Err (stop.Fault fault)) so heard =
+    record { heard = heard.heard; refused = heard.refused; has_heard = so heard.heard heard.has_heard }
+refusal_as H K r front piece (Err (stop.Stopped n)) so heard = tt
+
+pub stopped_as : (H K : Events → Type 0) (r : Rules) (front piece : List ℕ) (result : Result Scanned ScanError) → ((es : Events) → H es → K es) →
+    IfStopped result (StopsBehind r H front piece) → IfStopped result (StopsBehind r K front piece)
+stopped_as H K r front piece (Ok scanned) so stops = tt
+stopped_as H K r front piece (Err (stop.Fault fault)) so stops = tt
+stopped_as H K r front piece (Err (stop.Stopped n)) so stops = record {
+  told = stops.told;
+  has_stopped = so stops.told stops.has_stopped;
+  in_piece = stops.in_piece;
+  within = stops.within;
+  viable = stops.viable;
+  first_due = stops.first_due;
+}
 
 -- What comes of a piece.
+
+-- what was shown before a call has been printed since its start
+pub printed_before : (s : Place) (lines : Lines) (front so_far : List ℕ) (held : Option (List ℕ)) (f : ℕ) (w : HasShown s lines front so_far) →
+    HasPrinted (record { held = held; failures = f; so_far = so_far }) lines held f w.given
+printed_before s lines front so_far held f w = record {
+  shown_lines = w.shown_lines;
+  more = [];
+  appended = Appends-none held;
+  whole = append-nil so_far ∙ w.written;
+  none_failed = refl;
+}
 
 -- a value's tree has no double
 no_double : (r : Rules) (given : Events) (front : List ℕ) (w : IsValue r front given) → rule.Every rule.IsNoDouble rule.IsAnyNode w.tree
 no_double r given front w = w.keeps NoDouble (omega arith)
 
--- a value that was shown whole
-pub shows_value : (r : Rules) (s s' : Place) (lines : Lines) (front piece so_far : List ℕ) (used n : ℕ) (before now : Option (List ℕ)) (steps : ℕ) →
-    HasNoValue front →
-    (w : IsShowing s lines front piece used so_far before now steps) → EndsValue r s' (front ++ take used piece) w.given n →
-    (0 < used + n) × TakesValue r shown_text IsAny (HasShown s' lines) (front ++ take (used + n) piece) so_far before now
-shows_value r s s' lines front piece so_far used n before now steps none w ends =
-    let v = ends.is_value in
-    let same : used + n ≡ used = omega (arith, ends.no_byte) in
-    let spelled : front ++ take used piece ≡ front ++ take (used + n) piece = ap (λ k. front ++ take k piece) (sym same) in
-    let no_double = no_double r w.given (front ++ take used piece) v in
-    let closed : page_of lines ≡ blank = w.shown_lines.page ∙ ap (λ es. page_after es blank) v.told ∙ tree_is_closed v.tree v.spells.is_tree no_double in (
-      omega (arith, value_uses_some front piece used v.tree none v.spells),
-      record {
-        value = value v.tree;
-        spelling = subst (λ z. IsSpelling r (value v.tree) z) spelled (record { tree = v.tree; spells = v.spells; keeps = v.keeps; valued = refl });
-        written = tt;
-        more = w.more;
-        appended = w.appended;
-        whole = sym (tree_is_shown v.tree v.spells.is_tree no_double) ∙ ap shown (sym v.told) ∙ sym w.written;
-        takes = record {
-          given = [];
-          scanned = scanned_nothing s' ends.reads;
-          shown_lines = record { page = closed; deep = refl };
-          written = refl;
-        };
-      },
-    )
+module _ (r : Rules) (since : Start) (front piece : List ℕ) (after : Option (List ℕ)) (f : ℕ) where
+  -- a value that was shown whole
+  shows_value : (s : Place) (lines : Lines) (used : ℕ) → HasNoValue front →
+      HearsValue r s (HasPrinted since lines after f) (front ++ take used piece) →
+      (0 < used) × TakesValue r shown_text IsAny (HasShown s lines) (front ++ take used piece) since.so_far since.held after
+  shows_value s lines used none h =
+      let v = h.is_value in
+      let w = h.has_heard in
+      let no_double = no_double r h.heard (front ++ take used piece) v in
+      let closed : page_of lines ≡ blank = w.shown_lines.page ∙ ap (λ es. page_after es blank) v.told ∙ tree_is_closed v.tree v.spells.is_tree no_double in (
+        value_uses_some front piece used v.tree none v.spells,
+        record {
+          value = value v.tree;
+          spelling = record { tree = v.tree; spells = v.spells; keeps = v.keeps; valued = refl };
+          written = tt;
+          more = w.more;
+          appended = w.appended;
+          whole = sym (tree_is_shown v.tree v.spells.is_tree no_double) ∙ ap shown (sym v.told) ∙ sym w.whole;
+          takes = record {
+            given = [];
+            scanned = scanned_nothing s h.reads;
+            shown_lines = record { page = closed; deep = refl };
+            written = refl;
+          };
+        },
+      )
 
--- a piece that was shown whole
-pub shows_front : (r : Rules) (s s' : Place) (lines : Lines) (front piece so_far : List ℕ) (used n : ℕ) (before now : Option (List ℕ)) (steps : ℕ) →
-    used ≤ length piece → (w : IsShowing s lines front piece used so_far before now steps) → UsesUp s' (front ++ take used piece) w.given (drop used piece) n →
-    ((bytes : List ℕ) (given : Events) → HasRead s' bytes given → IsViable r WithinTotal bytes) →
-    (used + n ≡ length piece) × TakesFront r (HasShown s' lines) (front ++ piece) so_far before now
-shows_front r s s' lines front piece so_far used n before now steps within w up viable =
-    let whole = all_bytes front piece used in
-    let reads = subst (λ z. HasRead s' z w.given) whole up.reads in (
-      omega (arith, up.whole_piece, length-drop used piece, within),
-      record {
-        no_value = subst HasNoValue whole up.no_value;
-        viable = viable (front ++ piece) w.given reads;
-        more = w.more;
-        appended = w.appended;
-        takes = record {
-          given = w.given;
-          scanned = record { reads = reads; all_due = subst (λ z. AreDue z w.given) whole up.all_due; no_value = subst HasNoValue whole up.no_value };
-          shown_lines = w.shown_lines;
-          written = w.written;
-        };
-      },
-    )
+  -- a piece that was shown whole
+  shows_front : (s : Place) (lines : Lines) → rules_of s ≡ r → HearsPiece s (HasPrinted since lines after f) (front ++ piece) →
+      TakesFront r (HasShown s lines) (front ++ piece) since.so_far since.held after
+  shows_front s lines rules h = record {
+    no_value = h.no_value;
+    viable = subst (λ q. IsViable q WithinTotal (front ++ piece)) rules h.viable;
+    more = h.has_heard.more;
+    appended = h.has_heard.appended;
+    takes = record {
+      given = h.heard;
+      scanned = record { reads = h.reads; all_due = h.all_due; no_value = h.no_value };
+      shown_lines = h.has_heard.shown_lines;
+      written = h.has_heard.whole;
+    };
+  }
+
+  -- the one or the other
+  pub shows_on : (s : Place) (lines : Lines) (scanned : Scanned) → HasNoValue front → rules_of s ≡ r →
+      (scanned.is_whole ≡ true → HearsValue r s (HasPrinted since lines after f) (front ++ take scanned.used piece)) →
+      (scanned.is_whole ≡ false → HearsPiece s (HasPrinted since lines after f) (front ++ piece)) →
+      (scanned.is_whole ≡ false → scanned.used ≡ length piece) →
+      MatchBool scanned.is_whole
+      ((0 < scanned.used) × TakesValue r shown_text IsAny (HasShown s lines) (front ++ take scanned.used piece) since.so_far since.held after)
+      ((scanned.used ≡ length piece) × TakesFront r (HasShown s lines) (front ++ piece) since.so_far since.held after)
+  shows_on s lines scanned none rules whole part all = case scanned.is_whole refl
+    where
+      case : (b : Bool) → scanned.is_whole ≡ b → MatchBool b
+          ((0 < scanned.used) × TakesValue r shown_text IsAny (HasShown s lines) (front ++ take scanned.used piece) since.so_far since.held after)
+          ((scanned.used ≡ length piece) × TakesFront r (HasShown s lines) (front ++ piece) since.so_far since.held after)
+      case true is = shows_value s lines scanned.used none (whole is)
+      case false is = (all is, shows_front s lines rules (part is))
+
+  -- no write has failed then
+  pub none_failed : (s : Place) (lines : Lines) (scanned : Scanned) →
+      (scanned.is_whole ≡ true → HearsValue r s (HasPrinted since lines after f) (front ++ take scanned.used piece)) →
+      (scanned.is_whole ≡ false → HearsPiece s (HasPrinted since lines after f) (front ++ piece)) → f ≡ since.failures
+  none_failed s lines scanned whole part = case scanned.is_whole refl
+    where
+      case : (b : Bool) → scanned.is_whole ≡ b → f ≡ since.failures
+      case true is = (whole is).has_heard.none_failed
+      case false is = (part is).has_heard.none_failed
 
 -- a refused byte, behind which an open line was ended
-pub shows_refused : (r : Rules) (s : Place) (lines : Lines) (front piece so_far : List ℕ) (used : ℕ) (before now after : Option (List ℕ)) (steps : ℕ)
-    (fault : Fault) →
-    FrontsOfViableTextsAreViable → (w : IsShowing s lines front piece used so_far before now steps) →
-    IsRefused r (front ++ take used piece) w.given (drop used piece) fault → Appends now after (end_of_line (page_of lines).text) →
-    Refuses r (IsByteFault r) IsShownOf (front ++ piece) so_far before after fault.cause fault.at
-shows_refused r s lines front piece so_far used before now after steps fault law w refused ended =
-    let whole = all_bytes front piece used in
+pub shows_refused : (r : Rules) (since : Start) (front piece : List ℕ) (lines : Lines) (now after : Option (List ℕ)) (f : ℕ) (fault : Fault) →
+    FrontsOfViableTextsAreViable → HearsRefusal r (HasPrinted since lines now f) front piece fault →
+    Appends now after (end_of_line (page_of lines).text) →
+    Refuses r (IsByteFault r) IsShownOf (front ++ piece) since.so_far since.held after fault.cause fault.at
+shows_refused r since front piece lines now after f fault law h ended =
+    let w = h.has_heard in
     let ending = end_of_line (page_of lines).text in
     record {
-      fault = subst (λ z. IsByteFault r z fault.cause fault.at) whole (byte_fault r (front ++ take used piece) (drop used piece) fault w.given law refused);
-      no_spelling = subst (HasNoSpelling r) whole refused.no_value;
+      fault = byte_fault r front piece fault h.heard law h.refused;
+      no_spelling = h.refused.no_value;
       more = w.more ++ ending;
-      appended = Appends-append before now after w.more ending w.appended ended;
+      appended = Appends-append since.held now after w.more ending w.appended ended;
       is_left = record {
-        given = w.given;
-        all_due = subst (λ z. AreDue (take fault.at z) w.given) whole refused.all_due;
-        is_text = sym (append_assoc so_far w.more ending) ∙ ap (λ z. z ++ ending) w.written ∙
-            ap (λ p. let q : Page = p in shown w.given ++ end_of_line q.text) w.shown_lines.page;
+        given = h.heard;
+        all_due = h.refused.all_due;
+        is_text = sym (append_assoc since.so_far w.more ending) ∙ ap (λ z. z ++ ending) w.whole ∙
+            ap (λ p. let q : Page = p in shown h.heard ++ end_of_line q.text) w.shown_lines.page;
       };
     }
 
@@ -344,42 +412,40 @@ part_shown r whole so_far size given before now after more text rest viable due 
     regroup : (a b c d : List ℕ) → a ++ ((b ++ c) ++ d) ≡ (a ++ b) ++ (c ++ d)
     regroup a b c d = ap (λ z. a ++ z) (append_assoc b c d) ∙ sym (append_assoc a b (c ++ d))
 
--- the write of an event's text failed
-pub shows_part : (r : Rules) (s s' : Place) (lines : Lines) (front piece so_far : List ℕ) (used n : ℕ) (before now after : Option (List ℕ)) (steps : ℕ)
-    (x : Event) →
-    (w : IsShowing s lines front piece used so_far before now steps) →
-    HasRead s' ((front ++ take used piece) ++ take n (drop used piece)) (w.given ++ events_of x) →
-    ((bytes : List ℕ) (given : Events) → HasRead s' bytes given → IsViable r WithinTotal bytes) →
-    ((bytes : List ℕ) (given : Events) → HasRead s' bytes given → BeginDue bytes given) →
-    AppendsPart now after (shown_on (page_of lines) (events_of x)) → WritesPart r shown_text (IsShownIn r) (front ++ piece) so_far before after
-shows_part r s s' lines front piece so_far used n before now after steps x w reads viable due part =
-    let es = events_of x in
-    let is : (front ++ take used piece) ++ take n (drop used piece) ≡ take (length front + (used + n)) (front ++ piece) =
-    bytes_on front piece used n ∙ sym (take-append-add front piece (used + n)) in
-    let read = subst (λ z. HasRead s' z (w.given ++ es)) is reads in
-    let text = shown_on (page_of lines) es in
-    let ending = end_of_line (page_after (w.given ++ es) blank).text in
-    part_shown r (front ++ piece) so_far (length front + (used + n)) (w.given ++ es) before now after w.more text ending
-    (viable (take (length front + (used + n)) (front ++ piece)) (w.given ++ es) read)
-    (due (take (length front + (used + n)) (front ++ piece)) (w.given ++ es) read)
-    w.appended part
-    (ap (λ z. z ++ ending) (shown-append w.given es blank) ∙ ap (λ p. (shown w.given ++ shown_on p es) ++ ending) (sym w.shown_lines.page) ∙
-    ap (λ z. (z ++ text) ++ ending) (sym w.written) ∙ append_assoc (so_far ++ w.more) text ending ∙ append_assoc so_far w.more (text ++ ending))
-
 -- the write of a line's end failed
-pub shows_end_part : (r : Rules) (s : Place) (lines : Lines) (front piece so_far : List ℕ) (used : ℕ) (before now after : Option (List ℕ)) (steps : ℕ) →
-    (w : IsShowing s lines front piece used so_far before now steps) →
-    ((bytes : List ℕ) (given : Events) → HasRead s bytes given → IsViable r WithinTotal bytes) →
-    ((bytes : List ℕ) (given : Events) → HasRead s bytes given → BeginDue bytes given) →
-    AppendsPart now after (end_of_line (page_of lines).text) → WritesPart r shown_text (IsShownIn r) (front ++ piece) so_far before after
-shows_end_part r s lines front piece so_far used before now after steps w viable due part =
-    let is : front ++ take used piece ≡ take (length front + used) (front ++ piece) = sym (take-append-add front piece used) in
-    let read = subst (λ z. HasRead s z w.given) is w.reads in
+pub shows_end_part : (r : Rules) (since : Start) (front piece : List ℕ) (lines : Lines) (now after : Option (List ℕ)) (f : ℕ) (fault : Fault) →
+    HearsRefusal r (HasPrinted since lines now f) front piece fault → AppendsPart now after (end_of_line (page_of lines).text) →
+    WritesPart r shown_text (IsShownIn r) (front ++ piece) since.so_far since.held after
+shows_end_part r since front piece lines now after f fault h part =
+    let w = h.has_heard in
+    let given = h.heard in
     let ending = end_of_line (page_of lines).text in
-    part_shown r (front ++ piece) so_far (length front + used) w.given before now after w.more ending []
-    (viable (take (length front + used) (front ++ piece)) w.given read) (due (take (length front + used) (front ++ piece)) w.given read) w.appended part
-    (ap (λ p. let q : Page = p in shown w.given ++ end_of_line q.text) (sym w.shown_lines.page) ∙ ap (λ z. z ++ ending) (sym w.written) ∙
-    append_assoc so_far w.more ending ∙ ap (λ z. so_far ++ (w.more ++ z)) (sym (append-nil ending)))
+    part_shown r (front ++ piece) since.so_far fault.at given since.held now after w.more ending [] h.refused.viable
+    (λ rest whole spells. ([], h.refused.all_due rest whole spells ∙ sym (append-nil given))) w.appended part
+    (ap (λ p. let q : Page = p in shown given ++ end_of_line q.text) (sym w.shown_lines.page) ∙ ap (λ z. z ++ ending) (sym w.whole) ∙
+    append_assoc since.so_far w.more ending ∙ ap (λ z. since.so_far ++ (w.more ++ z)) (sym (append-nil ending)))
+
+-- the write of what an event calls for failed
+pub shows_broken : (r : Rules) (since : Start) (front piece : List ℕ) (after : Option (List ℕ)) (f taken : ℕ) →
+    StopsBehind r (HasBroken since after f) front piece taken → WritesPart r shown_text (IsShownIn r) (front ++ piece) since.so_far since.held after
+shows_broken r since front piece after f taken h =
+    let w = h.has_stopped in
+    let given = h.told in
+    let ending = end_of_line (page_after given blank).text in
+    record {
+      values = [];
+      front = [];
+      behind = front ++ piece;
+      split = refl;
+      spelled = refl;
+      begun = left_text given;
+      is_begun = record { size = taken; given = given; viable = h.viable; first_due = h.first_due; is_text = refl };
+      more = w.more;
+      later = w.later ++ ending;
+      parts = ap (λ z. z ++ ending) w.parts ∙ append_assoc since.so_far (w.more ++ w.later) ending ∙
+          ap (λ z. since.so_far ++ z) (append_assoc w.more w.later ending);
+      appended = w.appended;
+    }
 
 -- The end of the input.
 

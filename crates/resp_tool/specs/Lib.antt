@@ -7,7 +7,12 @@ pub mod Streams
 pub mod Pages
 pub mod Lines
 pub mod Scans
+pub mod Printing
 pub mod Canons
 pub mod Counts
 pub mod Laws
 pub mod Runs
+pub mod ScriptSteps
+pub mod Scripts
+pub mod SaidLines
+pub mod Plays

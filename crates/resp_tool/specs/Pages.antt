@@ -63,6 +63,13 @@ end_of_text None = []
 end_of_text (Some text) = cond text.is_big (cond (text.size == 0) (codes "0\n") (codes "\n"))
     (codes "\" " ++ decimal text.size ++ codes "\n")
 
+-- what stands of a whole text on its line, behind the indentation
+abbrev pub text_line : TextKind → List ℕ → List ℕ
+text_line kind s = text_words kind ++ (quoted_text s ++ end_of_text (Some (record {
+  is_big = is_big kind;
+  size = length s;
+})))
+
 -- the last line of the innermost aggregate
 abbrev pub last_line : List OpenLine → List ℕ
 last_line [] = []

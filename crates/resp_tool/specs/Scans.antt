@@ -1,11 +1,9 @@
 -- What the renderings have taken of a value.
-use Rattle.std.specs.Prelude.{◌≡◌, ℕ, ◌+◌, Bool, true, false, List, [], length, take}
+use Rattle.std.specs.Prelude.{◌≡◌, ℕ, ◌+◌, List, [], length, take}
 use Rattle.resp_value.specs.Rules.{Rules, WithinTotal}
 use Rattle.resp_value.specs.Spellings.{IsViable}
 use Rattle.resp_scan.specs.Counts.{close_count, open_count}
 use Rattle.resp_scan.specs.Machine.Tokens.{Place}
-use Rattle.resp_scan.specs.declared.event.Event.{Event}
-use Rattle.resp_scan.specs.declared.event.Event.TheVariants as event
 use Rattle.resp_scan.specs.Reading.{AreDue, BeginDue, Events, HasNoValue, HasRead}
 use Rattle.resp_tool.specs.Lines.{page_of}
 use Rattle.resp_tool.specs.Pages.{blank, left_text, page_after, shown}
@@ -50,8 +48,3 @@ pub record IsShownIn (r : Rules) (bytes begun : List ℕ) : Type 0 where
   pub viable : IsViable r WithinTotal (take size bytes)
   pub first_due : BeginDue (take size bytes) given
   pub is_text : begun ≡ left_text given
-
--- whether an event is the end of a value
-abbrev pub is_done : Event → Bool
-is_done event.Done = true
-is_done _ = false

@@ -26,9 +26,11 @@ use std::alloc::Global;
 struct Nobody;
 
 impl Listener for Nobody {
-    ghost has_heard = { λ _ _. Unit {0} };
+    ghost Origin = { Unit {0} };
 
-    ghost may_stop = { λ _. ⊥ };
+    ghost has_heard = { λ _ _ _. Unit {0} };
+
+    ghost has_stopped = { λ _ _ _. ⊥ };
 
     #[inline]
     fn null(&mut self) -> bool {

@@ -112,7 +112,7 @@ pub fn command<S: AsStr, R: Source, W: Sink, F: Sink>(
     let options = match parse(alloc, words) {
         Ok(Some(options)) => options,
         Ok(None) => {
-            let _ = write_text(faults, b"error: a number is outside its range\n");
+            let _ = write_text(faults, b"error: these words ask for nothing here\n");
             return BAD_ARGUMENTS;
         }
         Err(error) => return explain(alloc, &error, writer, faults),

@@ -5,16 +5,17 @@ ghost use Rattle.std.specs.Fmt.{signed_decimal};
 ghost use Rattle.resp_fronts.specs.Events as e;
 ghost use Rattle.resp_value.specs.Data.{items_of};
 ghost use Rattle.resp_value.specs.Kinds.{kind_of};
-ghost use Rattle.resp_scan.specs.Counts.{open_count};
 ghost use Rattle.resp_scan.specs.Kinds.{content_events, text_kind_of};
+ghost use Rattle.resp_scan.specs.Listening.{whole_text_events};
 ghost use Rattle.resp_tool.specs.Lines.{size_of_text, text_of};
-ghost use Rattle.resp_tool.specs.Pages.{end_of_text, is_big, last_line, of_line, text_words, with_bytes};
+ghost use Rattle.resp_tool.specs.Pages.{end_of_text, is_big, last_line, of_line, text_line, text_words, with_bytes};
 ghost use Rattle.resp_tool.specs.Shown.{indentation, kind_word, quoted_text, truth_word};
 ghost use Rattle.resp_tool.specs.Written.{WritesText};
 
+use crate::short_line::short_line;
 use crate::text::{write_number, write_quoted, write_text};
 use arrayvec::ArrayVec;
-use resp_scan::event::{Event, TextKind};
+use resp_scan::event::TextKind;
 use resp_value::device::{Sink, WriteFault};
 use resp_value::kind::OpenKind;
 
@@ -59,7 +60,6 @@ impl Default for OpenLine {
 }
 
 impl Lines {
-    ghost use Rattle.resp_scan.specs.Reading.{events_of};
     ghost use Rattle.resp_tool.specs.Lines.{HasRoomFor, around, innermost, page_of, with_added};
     ghost use Rattle.resp_tool.specs.Pages.{beginning, blank, end_of_line, page_after, shown_on, with_value};
 
@@ -70,29 +70,6 @@ impl Lines {
         Lines {
             aggregates: ArrayVec::new(),
             text: None,
-        }
-    }
-
-    /// Writes what an event calls for.
-    pub fn write<W: Sink>(&mut self, event: &Event<'_>, writer: &mut W) -> Result<(), WriteFault>
-        ensures written { WritesText (W.written writer.old) (W.written writer.new)
-            (W.failures writer.old) (W.failures writer.new) result
-            (shown_on (page_of self.old) (events_of event.now)) }
-        // Where the counts have room, the page is that behind the event.
-        ensures page { OnOk result (HasRoomFor (length (events_of event.now)) (page_of self.old) →
-            (1 ≤ open_count (events_of event.now) → length (page_of self.old).open_lines < 128) →
-            page_of self.new ≡ page_after (events_of event.now) (page_of self.old)) }
-    {
-        match event {
-            Event::Null => self.null(writer),
-            Event::Bool(truth) => self.truth(*truth, writer),
-            Event::Int(number) => self.int(*number, writer),
-            Event::Text(kind) => self.text(*kind, writer),
-            Event::Part(part) => self.part(part, writer),
-            Event::TextEnd => self.text_end(writer),
-            Event::Open(kind, count) => self.open(*kind, *count, writer),
-            Event::Close => self.close(writer),
-            Event::Done => Ok(()),
         }
     }
 
@@ -120,10 +97,15 @@ impl Lines {
     }
 
     /// Writes what stands before a value on its line, and `of` where an attribute annotates it.
+    #[inline]
     fn begin_line<W: Sink>(&self, writer: &mut W) -> Result<(), WriteFault>
         ensures { WritesText (W.written writer.old) (W.written writer.new)
             (W.failures writer.old) (W.failures writer.new) result (beginning (page_of self.now)) }
     {
+        // Most values stand in no aggregate.
+        if self.aggregates.is_empty() {
+            return Ok(());
+        }
         let level = self.level();
         self.write_of(writer)?;
         write_indentation(writer, level)
@@ -187,7 +169,8 @@ impl Lines {
         self.add_member();
     }
 
-    fn null<W: Sink>(&mut self, writer: &mut W) -> Result<(), WriteFault>
+    /// The null.
+    pub fn null<W: Sink>(&mut self, writer: &mut W) -> Result<(), WriteFault>
         ensures written { WritesText (W.written writer.old) (W.written writer.new)
             (W.failures writer.old) (W.failures writer.new) result
             (shown_on (page_of self.old) (e.Null ∷ [])) }
@@ -199,7 +182,8 @@ impl Lines {
         Ok(())
     }
 
-    fn truth<W: Sink>(&mut self, truth: bool, writer: &mut W) -> Result<(), WriteFault>
+    /// A truth value.
+    pub fn truth<W: Sink>(&mut self, truth: bool, writer: &mut W) -> Result<(), WriteFault>
         ensures written { WritesText (W.written writer.old) (W.written writer.new)
             (W.failures writer.old) (W.failures writer.new) result
             (shown_on (page_of self.old) (e.Bool truth ∷ [])) }
@@ -211,7 +195,8 @@ impl Lines {
         Ok(())
     }
 
-    fn int<W: Sink>(&mut self, number: i64, writer: &mut W) -> Result<(), WriteFault>
+    /// An integer.
+    pub fn int<W: Sink>(&mut self, number: i64, writer: &mut W) -> Result<(), WriteFault>
         ensures written { WritesText (W.written writer.old) (W.written writer.new)
             (W.failures writer.old) (W.failures writer.new) result
             (shown_on (page_of self.old) (e.Int number ∷ [])) }
@@ -224,7 +209,8 @@ impl Lines {
         Ok(())
     }
 
-    fn text<W: Sink>(&mut self, kind: TextKind, writer: &mut W) -> Result<(), WriteFault>
+    /// A text begins.
+    pub fn text<W: Sink>(&mut self, kind: TextKind, writer: &mut W) -> Result<(), WriteFault>
         ensures written { WritesText (W.written writer.old) (W.written writer.new)
             (W.failures writer.old) (W.failures writer.new) result
             (shown_on (page_of self.old) (e.Text (text_kind_of kind) ∷ [])) }
@@ -240,7 +226,8 @@ impl Lines {
         Ok(())
     }
 
-    fn part<W: Sink>(&mut self, part: &[u8], writer: &mut W) -> Result<(), WriteFault>
+    /// A run of its bytes.
+    pub fn part<W: Sink>(&mut self, part: &[u8], writer: &mut W) -> Result<(), WriteFault>
         ensures written { WritesText (W.written writer.old) (W.written writer.new)
             (W.failures writer.old) (W.failures writer.new) result
             (shown_on (page_of self.old) (content_events part.now)) }
@@ -252,7 +239,8 @@ impl Lines {
         Ok(())
     }
 
-    fn text_end<W: Sink>(&mut self, writer: &mut W) -> Result<(), WriteFault>
+    /// It has ended.
+    pub fn text_end<W: Sink>(&mut self, writer: &mut W) -> Result<(), WriteFault>
         ensures written { WritesText (W.written writer.old) (W.written writer.new)
             (W.failures writer.old) (W.failures writer.new) result
             (shown_on (page_of self.old) (e.TextEnd ∷ [])) }
@@ -265,7 +253,28 @@ impl Lines {
         Ok(())
     }
 
-    fn open<W: Sink>(
+    /// A text that has come whole.
+    pub fn whole_text<W: Sink>(
+        &mut self,
+        kind: TextKind,
+        bytes: &[u8],
+        writer: &mut W,
+    ) -> Result<(), WriteFault>
+        ensures written { WritesText (W.written writer.old) (W.written writer.new)
+            (W.failures writer.old) (W.failures writer.new) result
+            (shown_on (page_of self.old) (whole_text_events kind bytes.now)) }
+        ensures page { OnOk result (HasRoomFor 1 (page_of self.old) → page_of self.new ≡
+            page_after (whole_text_events kind bytes.now) (page_of self.old)) }
+    {
+        self.begin_line(writer)?;
+        write_text_line(writer, kind, bytes)?;
+        self.text = None;
+        self.end();
+        Ok(())
+    }
+
+    /// An aggregate begins.
+    pub fn open<W: Sink>(
         &mut self,
         kind: OpenKind,
         count: Option<u64>,
@@ -305,7 +314,8 @@ impl Lines {
         let _ = self.aggregates.pop();
     }
 
-    fn close<W: Sink>(&mut self, writer: &mut W) -> Result<(), WriteFault>
+    /// The innermost one has ended.
+    pub fn close<W: Sink>(&mut self, writer: &mut W) -> Result<(), WriteFault>
         ensures written { WritesText (W.written writer.old) (W.written writer.new)
             (W.failures writer.old) (W.failures writer.new) result
             (shown_on (page_of self.old) (e.Close ∷ [])) }
@@ -369,6 +379,32 @@ fn write_indentation<W: Sink>(writer: &mut W, level: usize) -> Result<(), WriteF
         (W.failures writer.new) result (indentation level) }
 {
     write_text(writer, &SPACES[..2 * level])
+}
+
+/// Writes what stands of a whole text on its line.
+#[inline]
+fn write_text_line<W: Sink>(writer: &mut W, kind: TextKind, bytes: &[u8]) -> Result<(), WriteFault>
+    ensures { WritesText (W.written writer.old) (W.written writer.new) (W.failures writer.old)
+        (W.failures writer.new) result (text_line (text_kind_of kind) bytes.now) }
+{
+    match short_line(kind, bytes) {
+        Some(line) => write_text(writer, line.as_slice()),
+        None => write_long_line(writer, kind, bytes),
+    }
+}
+
+/// The same piece by piece.
+fn write_long_line<W: Sink>(writer: &mut W, kind: TextKind, bytes: &[u8]) -> Result<(), WriteFault>
+    ensures { WritesText (W.written writer.old) (W.written writer.new) (W.failures writer.old)
+        (W.failures writer.new) result (text_line (text_kind_of kind) bytes.now) }
+{
+    write_head(writer, kind)?;
+    write_quoted(writer, bytes)?;
+    let text = OpenText {
+        is_big: is_big(kind),
+        size: bytes.len() as u64,
+    };
+    write_end(writer, Some(text))
 }
 
 /// Writes the words up to a text's content.

@@ -7,7 +7,11 @@ mod command_line;
 mod laws;
 mod lines;
 mod options;
+mod play;
+mod printer;
 mod rendering;
+mod script;
+mod short_line;
 mod show;
 mod stream;
 #[cfg(test)]
@@ -15,10 +19,14 @@ mod tests;
 mod text;
 mod tool_error;
 
-use resp_value::device::{Device, MemorySink};
-use std::alloc::AllocError;
+use resp_value::device::{Device, MemorySink, Sink, Source};
+use resp_value::limits::Limits;
+use resp_wire::{TcpLink, World};
+use std::alloc::{AllocError, Global};
 use std::env;
+use std::hash::RandomState;
 use std::io::{BufWriter, Write};
+use std::net::{Net, TcpListener, TcpStream};
 use std::process::ExitCode;
 
 /// The status of a failed device, and of want of memory.
@@ -54,13 +62,18 @@ fn run(rt: &HostRuntime) -> Result<u8, AllocError> {
     };
     let mut reader = Device::new(rt.stdin());
     let mut writer = Device::new(buffered);
-    let status = command_line::command(
-        alloc,
-        words.as_slice(),
-        &mut reader,
-        &mut writer,
-        &mut faults,
-    );
+    let status = if is_loop(words.as_slice()) {
+        let hasher = RandomState::new(rt).ok();
+        run_loop(rt, alloc, hasher, &mut reader, &mut writer, &mut faults)?
+    } else {
+        command_line::command(
+            alloc,
+            words.as_slice(),
+            &mut reader,
+            &mut writer,
+            &mut faults,
+        )
+    };
     // Where a device failed before, that has been said.
     if writer.into_inner().flush().is_err() && status != DEVICE_FAILED {
         let _ = rt.stderr().write_all(b"write failed\n");
@@ -68,4 +81,77 @@ fn run(rt: &HostRuntime) -> Result<u8, AllocError> {
     }
     let _ = rt.stderr().write_all(faults.bytes());
     Ok(status)
+}
+
+/// Whether the words behind the program's name are `loop` alone.
+fn is_loop(words: &[String]) -> bool {
+    match words {
+        [_, word] => word.as_str() == "loop",
+        _ => false,
+    }
+}
+
+/// The bytes of the input, up to one more than a script may have; none where a read fails.
+fn read_input<R: Source>(alloc: Global, reader: &mut R) -> Result<Option<Vec<u8>>, AllocError> {
+    let mut bytes = Vec::new(alloc);
+    let mut piece = [0; 4_096];
+    // Each turn reads a byte at least.
+    for _ in 0..=script::MOST_BYTES {
+        if bytes.len() > script::MOST_BYTES {
+            break;
+        }
+        match reader.read(&mut piece) {
+            Ok(0) => break,
+            Ok(count) => bytes.extend_from_slice(&piece[..count])?,
+            Err(_) => return Ok(None),
+        }
+    }
+    Ok(Some(bytes))
+}
+
+/// Plays the script in the input over TCP, and answers the status.
+fn run_loop<R: Source, W: Sink, F: Sink>(
+    net: &impl Net<Listener = TcpListener, Stream = TcpStream>,
+    alloc: Global,
+    hasher: Option<RandomState>,
+    reader: &mut R,
+    writer: &mut W,
+    faults: &mut F,
+) -> Result<u8, AllocError> {
+    let Some(bytes) = read_input(alloc, reader)? else {
+        return Ok(read_failed(faults));
+    };
+    let script = match script::read_script(alloc, bytes.as_slice()) {
+        Ok(script) => script,
+        Err(error) => {
+            let _ = error.line(faults);
+            return Ok(error.status());
+        }
+    };
+    let mut links = Vec::new(alloc);
+    for _ in 0..script.clients {
+        match TcpLink::open(net) {
+            Ok(link) => links.push(link)?,
+            Err(_) => return Ok(read_failed(faults)),
+        }
+    }
+    let Some(hasher) = hasher else {
+        return Ok(read_failed(faults));
+    };
+    let Ok(mut world) = World::over(alloc, links, Limits::standard(), hasher) else {
+        return Err(AllocError);
+    };
+    match play::play(alloc, &script, &mut world, writer) {
+        Ok(()) => Ok(0),
+        Err(error) => {
+            let _ = error.line(faults);
+            Ok(error.status())
+        }
+    }
+}
+
+/// Says that a read failed, and answers the status.
+fn read_failed<F: Sink>(faults: &mut F) -> u8 {
+    let _ = text::write_text(faults, b"read failed\n");
+    DEVICE_FAILED
 }

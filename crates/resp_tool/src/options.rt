@@ -93,8 +93,9 @@ pub struct Options {
     pub piece: usize,
 }
 
-/// Reads the words, the program's name first among them. None where a number is outside its range,
-/// which the parser of the words refuses before.
+/// Reads the words, the program's name first among them. None where they are `loop` alone, which is
+/// played elsewhere, or where a number is outside its range, which the parser of the words refuses
+/// before.
 pub fn parse<'a, S: AsStr>(alloc: Global, words: &'a [S]) -> Result<Option<Options>, clap::Error>
     ensures piece_in_range { IfOk result (λ found. IfSome found (λ options.
         (1 ≤ options.piece) × (options.piece ≤ 65536))) }
@@ -103,6 +104,7 @@ pub fn parse<'a, S: AsStr>(alloc: Global, words: &'a [S]) -> Result<Option<Optio
     Ok(match matches.subcommand() {
         Some(("check", options)) => options_of(Task::Check, options),
         Some(("canon", options)) => options_of(Task::Canon, options),
+        Some(("loop", _)) => None,
         Some((_, options)) => options_of(Task::Show, options),
         None => None,
     })
@@ -118,6 +120,9 @@ fn program<'a>(alloc: Global) -> Result<Command<'a>, clap::Error> {
     let canon = Command::new(alloc, "canon").about(
         "Writes each value of the stream in its canonical spelling",
     );
+    let played = Command::new(alloc, "loop").about(
+        "Plays a script of clients of one server, over TCP",
+    );
     Ok(
         Command::new(alloc, "resp")
             .bin_name("resp")?
@@ -126,7 +131,8 @@ fn program<'a>(alloc: Global) -> Result<Command<'a>, clap::Error> {
             .subcommand_required(true)
             .subcommand(with_options(alloc, show)?)?
             .subcommand(with_options(alloc, check)?)?
-            .subcommand(with_options(alloc, canon)?)?,
+            .subcommand(with_options(alloc, canon)?)?
+            .subcommand(played)?,
     )
 }
 

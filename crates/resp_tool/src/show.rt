@@ -2,17 +2,18 @@
 
 ghost use Rattle.std.specs.Prelude.{◌≡◌, ◌+◌, ◌≤◌, ℕ, List, [], Some, IfErr, IfSome, IsErrOf};
 ghost use Rattle.resp_tool.specs.Counts.{IsAny};
-ghost use Rattle.resp_tool.specs.Scans.{IsShownIn, IsShownOf, is_done};
+ghost use Rattle.resp_tool.specs.Scans.{IsShownIn, IsShownOf};
 ghost use Rattle.resp_tool.specs.Shown.{shown_text};
 ghost use Rattle.resp_tool.specs.Streams.{AreRead, AtEnd, IsNeverOver, Renders};
 ghost use Rattle.resp_value.specs.Devices.{count_after, HasRisen};
 ghost use Rattle.resp_value.specs.Rules.{rules_under};
 
 use crate::lines::Lines;
+use crate::printer::print_piece;
 use crate::rendering::{Rendering, Stop, Taken};
 use crate::stream::{MOST_READS, render_stream};
 use crate::tool_error::ToolError;
-use resp_scan::event::Event;
+use resp_scan::event::ScanError;
 use resp_scan::scanner::Scanner;
 use resp_value::device::{Sink, Source};
 use resp_value::laws;
@@ -49,43 +50,17 @@ impl Rendering for Shown {
 
     fn take<W: Sink>(&mut self, piece: &[u8], writer: &mut W) -> Result<Taken, Stop> {
         laws::fronts_of_viable_texts_are_viable();
-        let mut used = 0;
-        for _ in 0..u64::MAX {
-            // What is due so far was given, as the scanner says of it here.
-            let _before = self.scanner.taken();
-            let step = match self.scanner.step(&piece[used..]) {
-                Ok(step) => step,
-                Err(fault) => {
-                    return match self.lines.end_line(writer) {
-                        Ok(()) => Err(Stop::Fault(fault)),
-                        Err(_) => Err(Stop::Write),
-                    };
-                }
-            };
-            used += step.used;
-            // What was scanned is viable, and no deeper than the limit, as the scanner says here.
-            let _taken = self.scanner.taken();
-            let _depth = self.scanner.depth();
-            let Some(event) = step.event else {
-                return Ok(Taken {
-                    used,
-                    is_whole: false,
-                });
-            };
-            if is_done(&event) {
-                return Ok(Taken {
-                    used,
-                    is_whole: true,
-                });
-            }
-            match self.lines.write(&event, writer) {
-                Ok(()) => {}
-                Err(_) => return Err(Stop::Write),
-            }
+        match print_piece(&mut self.scanner, piece, &mut self.lines, writer) {
+            Ok(scanned) => Ok(Taken {
+                used: scanned.used,
+                is_whole: scanned.is_whole,
+            }),
+            Err(ScanError::Fault(fault)) => match self.lines.end_line(writer) {
+                Ok(()) => Err(Stop::Fault(fault)),
+                Err(_) => Err(Stop::Write),
+            },
+            Err(ScanError::Stopped { .. }) => Err(Stop::Write),
         }
-        // No value has so many events.
-        let _last = self.scanner.taken();
-        unreachable!()
     }
 
     fn part_stands(&self) {
@@ -104,13 +79,6 @@ impl Rendering for Shown {
             },
         }
     }
-}
-
-/// Whether the value has ended.
-fn is_done(event: &Event<'_>) -> bool
-    ensures { result ≡ is_done event.now }
-{
-    matches!(event, Event::Done)
 }
 
 /// Reads the stream by reads of at most `piece` bytes, from 1 to 65,536, and writes the lines of

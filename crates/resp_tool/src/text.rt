@@ -99,7 +99,7 @@ fn write_escaped<W: Sink>(writer: &mut W, byte: u8) -> Result<(), WriteFault>
 
 /// Whether all bytes stand for themselves inside quotes. It looks at each, whatever the others are,
 /// so that many are looked at together.
-fn is_all_plain(text: &[u8]) -> bool
+pub fn is_all_plain(text: &[u8]) -> bool
     ensures { result ≡ true → quoted_text text.now ≡ text.now }
 {
     let mut is_plain_so_far = true;

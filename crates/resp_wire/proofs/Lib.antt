@@ -5,3 +5,6 @@ pub mod Exchanges
 pub mod Seated
 pub mod ServedTexts
 pub mod ServeStops
+pub mod AnsweredOn
+pub mod worlds
+pub mod Showing

@@ -42,6 +42,21 @@ pub seated_twice : (hub : HubState) (id : ℕ) (a b : Seat) → seated (seated h
 seated_twice hub id a b =
     ap (λ sessions. record { limits = hub.limits; sessions = sessions; store = hub.store; last = hub.last }) (twice_in id hub.sessions a b)
 
+-- a session in its own place changes nothing
+same_by : (id : ℕ) (e : ℕ × Seat) (es : List (ℕ × Seat)) (s : Seat) (here : Bool) →
+    cond here (Some e.1) (lookup (λ other. id == other) es) ≡ Some s → (lookup (λ other. id == other) es ≡ Some s → with_seat es id s ≡ es) →
+    cond here ((e.0, s) ∷ es) (e ∷ with_seat es id s) ≡ e ∷ es
+same_by id e es s true found later = let same : s ≡ e.1 = cc in ap (λ z. (e.0, z) ∷ es) same
+same_by id e es s false found later = ap (λ l. e ∷ l) (later found)
+
+same_in : (id : ℕ) (es : List (ℕ × Seat)) (s : Seat) → lookup (λ other. id == other) es ≡ Some s → with_seat es id s ≡ es
+same_in id [] s found = absurd (cc)
+same_in id (e ∷ es) s found = same_by id e es s (id == e.0) found (same_in id es s)
+
+pub seated_same : (hub : HubState) (id : ℕ) (s : Seat) → seat_at hub id ≡ Some s → hub ≡ seated hub id s
+seated_same hub id s here =
+    ap (λ sessions. record { limits = hub.limits; sessions = sessions; store = hub.store; last = hub.last }) (sym (same_in id hub.sessions s here))
+
 -- one session stands there
 pub one_seat : (o : Option Seat) (a b : Seat) → o ≡ Some a → o ≡ Some b → a ≡ b
 one_seat o a b x y = let z = sym x ∙ y in cc

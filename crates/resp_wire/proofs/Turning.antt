@@ -1,12 +1,22 @@
 -- Reads and writes one after another.
-use Rattle.std.proofs.Common.{◌≡◌, ℕ, zero, suc, ◌+◌, ◌<◌, List, [], ◌++◌, length, take, drop, Option, None, Some, Ok, Err, refl, sym, ap, subst, ◌∙◌, arith, append_assoc}
+use Rattle.std.proofs.Common.{◌≡◌, inl, inr, true, ℕ, zero, suc, ◌+◌, ◌<◌, List, [], ◌++◌, length, take, drop, Option, None, Some, Ok, Err, refl, sym, ap, subst, ◌∙◌, arith, append_assoc}
 use Rattle.std.specs.Prelude.{IfErr, IfOk, Result}
+use Rattle.std.proofs.lemmas.Bool.{cases_lt}
 use Rattle.std.proofs.lemmas.List.{append-nil, take-append-drop}
 use Rattle.std.proofs.Math.Seq.{take-add}
-use Rattle.resp_value.specs.Devices.{Appends, Reads, ReadsFront, count_after}
+use Rattle.resp_value.specs.Devices.{Appends, HasRisen, Reads, ReadsFront, count_after, failures_after, last_count}
 use Rattle.resp_value.specs.declared.device.DeviceFault.{DeviceFault}
 use Rattle.resp_wire.specs.Asking.{SpendsTurns}
 use Rattle.resp_wire.specs.Turns.{HasRead, Spends, TellsEnd}
+
+-- Failures.
+
+-- what failed has one failure more
+pub has_risen : (failures failures' : ℕ) → failures' ≡ failures_after true failures → HasRisen failures failures'
+has_risen failures failures' is = elim (cases_lt failures last_count) as (λ _. HasRisen failures failures') [
+  | inl less ↦ inl (omega (arith, is, less))
+  | inr most ↦ inr (omega (arith, is, most))
+]
 
 -- Turns.
 

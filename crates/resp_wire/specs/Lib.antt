@@ -6,3 +6,8 @@ pub mod Stops
 pub mod Asking
 pub mod Serving
 pub mod Links
+pub mod Carrying
+pub mod Worlds
+pub mod Ends
+pub mod Happening
+pub mod WorldOrders

@@ -8,16 +8,15 @@ ghost use Rattle.resp_client.specs.Hearing.{KeepsReading, WhereTaken};
 ghost use Rattle.resp_value.specs.Devices.{Appends};
 ghost use Rattle.resp_wire.specs.Hearing.{HearsAll};
 ghost use Rattle.resp_wire.specs.Asking.{SendsAll, SendsPart, SpendsTurns, sent};
-ghost use Rattle.resp_wire.specs.Stops.{FailsReading, FailsWriting, QueuesFirst, StopsClient, StopsHearing, StopsListening, StopsQueueing, error_at, error_of};
+ghost use Rattle.resp_wire.specs.Stops.{FailsReading, FailsWriting, QueuesFirst, StopsListening, StopsQueueing, error_at};
 ghost use Rattle.resp_wire.specs.Turns.{Halts, HasRead, Spends};
 
 use crate::asked::{Asked, Request};
 use crate::error::AskError;
-use crate::turns::{Halt, PIECE, behind, front, write_text};
+use crate::hear::hear_piece;
+use crate::turns::{Halt, PIECE, front, write_text};
 use resp_client::{Client, SendError};
-use resp_scan::event::Fault;
 use resp_session::laws;
-use resp_value::cause::Cause;
 use resp_value::device::{Sink, Source};
 
 /// Queues the requests, writes all that waits, and reads until no command waits; the last piece
@@ -71,45 +70,6 @@ pub fn ask<R: Source, W: Sink>(
     }
     if let Err(error) = hear_all(reader, client, heard, &mut left) {
         return Err(error);
-    }
-    Ok(())
-}
-
-/// Why a client's fault stops the call.
-fn stop(fault: Fault) -> AskError
-    ensures { result ≡ error_of fault }
-{
-    match fault.cause {
-        Cause::OutOfMemory => AskError::OutOfMemory,
-        _ => AskError::Fault(fault),
-    }
-}
-
-/// Gives the client a whole piece, and adds what it hears.
-fn hear_piece(client: &mut Client, piece: &[u8], heard: &mut Asked) -> Result<(), AskError>
-    ensures heard { WhereTaken client.old (λ front. OnOk result
-        (HearsAll (state_of client.old) client.new heard.old heard.new (front ++ piece.now))) }
-    ensures refusal { WhereTaken client.old (λ front. IfErr result
-        (StopsHearing (state_of client.old) heard.old heard.new (front ++ piece.now))) }
-    ensures fault_or_memory { IfErr result StopsClient }
-{
-    laws::readings_go_on();
-    laws::hearing_goes_on();
-    let mut rest = piece;
-    // Each turn uses a byte at least.
-    for turn in 0..piece.len() {
-        if rest.is_empty() {
-            return Ok(());
-        }
-        let given = match client.feed(rest) {
-            Ok(given) => given,
-            Err(fault) => return Err(stop(fault)),
-        };
-        let used = given.used;
-        if heard.add(given.what).is_err() {
-            return Err(AskError::OutOfMemory);
-        }
-        rest = behind(rest, used);
     }
     Ok(())
 }

@@ -6,14 +6,22 @@
 
 pub mod ask;
 pub mod asked;
+mod carrying;
+mod end;
 pub mod error;
+pub mod event;
+mod hear;
+pub mod laws;
 pub mod link;
 pub mod serve;
 #[cfg(test)]
 mod tests;
 mod turns;
+pub mod world;
 
 pub use asked::{Asked, Request};
 pub use error::{AskError, ServeError};
+pub use event::{Event, Outcome, Stop};
 pub use link::{Direction, Link, LinkFault, MemoryLink, TcpLink};
 pub use serve::Served;
+pub use world::World;

@@ -4,6 +4,7 @@ mod asks;
 mod exchanges;
 mod links;
 mod serves;
+mod worlds;
 
 use crate::ask::ask;
 use crate::asked::{Asked, Request};

@@ -24,24 +24,25 @@ use Rattle.resp_scan.proofs.CallClauses.Fronts.{front-append}
 use Rattle.resp_scan.proofs.CallClauses.WholeTexts.{taken_on}
 
 -- What the turns so far have come to.
-pub record Runs (s₀ s : Place) (HadHeard HasHeard : Events → Type 0) (piece : List ℕ) (used : ℕ) : Type 0 where
+pub record Runs (O : Type 0) (s₀ s : Place) (HadHeard HasHeard : O → Events → Type 0) (piece : List ℕ) (used : ℕ) : Type 0 where
   pub sound : IsSound s
   pub rules : rules_of s ≡ rules_of s₀
   pub within : used ≤ length piece
   pub dead : (fault : Fault) → IsFaulted s₀ fault → s ≡ s₀
-  pub reads : (front : List ℕ) (given : Events) → HasRead s₀ front given → HadHeard given → GoesOn s HasHeard front given piece used
+  pub reads : (since : O) (front : List ℕ) (given : Events) → HasRead s₀ front given → HadHeard since given →
+      GoesOn s (HasHeard since) front given piece used
 
 -- Before the first turn nothing was read.
-pub runs_none : (s : Place) (H : Events → Type 0) (piece : List ℕ) → IsSound s → Runs s s H H piece 0
+pub runs_none : {O : Type 0} (s : Place) (H : O → Events → Type 0) (piece : List ℕ) → IsSound s → Runs O s s H H piece 0
 runs_none s H piece sound = record {
   sound = sound;
   rules = refl;
   within = omega arith;
   dead = λ fault f. refl;
-  reads = λ front given w had. record {
+  reads = λ since front given w had. record {
     told = [];
     reads = subst (λ z. HasRead s z (given ++ [])) (sym (append-nil front)) (subst (HasRead s front) (sym (append-nil given)) w);
-    heard = subst H (sym (append-nil given)) had;
+    heard = subst (H since) (sym (append-nil given)) had;
   };
 }
 
@@ -54,23 +55,23 @@ bytes_all : (front piece : List ℕ) (used : ℕ) → (front ++ take used piece)
 bytes_all front piece used = append_assoc front (take used piece) (drop used piece) ∙ ap (λ z. front ++ z) (take-append-drop used piece)
 
 -- A turn more.
-pub runs_on : (s₀ s t : Place) (H₀ H H' M : Events → Type 0) (piece : List ℕ) (used : ℕ) (turned : Turned) → Runs s₀ s H₀ H piece used →
-    IsTurn s t H H' M (drop used piece) turned → turned.turn ≡ turn.On → Runs s₀ t H₀ H' piece (used + turned.used)
+pub runs_on : {O : Type 0} (s₀ s t : Place) (H₀ H H' M : O → Events → Type 0) (piece : List ℕ) (used : ℕ) (turned : Turned) → Runs O s₀ s H₀ H piece used →
+    IsTurn O s t H H' M (drop used piece) turned → turned.turn ≡ turn.On → Runs O s₀ t H₀ H' piece (used + turned.used)
 runs_on s₀ s t H₀ H H' M piece used turned r v on = record {
   sound = v.sound;
   rules = v.rules ∙ r.rules;
   within = omega (arith, r.within, v.within, length-drop used piece);
   dead = λ fault f. absurd (let z : turn.On ≡ turn.Failed = sym on ∙ (v.dead fault (subst (λ x. IsFaulted x fault) (sym (r.dead fault f)) f)).0 in cc);
-  reads = λ front given w had.
-      let a = r.reads front given w had in
-      let b : GoesOn t H' (front ++ take used piece) (given ++ a.told) (drop used piece) turned.used =
-      subst (OutcomeOfTurn s t H' M (front ++ take used piece) (given ++ a.told) (drop used piece) turned.used) on
-      (v.outcome (front ++ take used piece) (given ++ a.told) a.reads a.heard) in
+  reads = λ since front given w had.
+      let a = r.reads since front given w had in
+      let b : GoesOn t (H' since) (front ++ take used piece) (given ++ a.told) (drop used piece) turned.used =
+      subst (OutcomeOfTurn s t (H' since) (M since) (front ++ take used piece) (given ++ a.told) (drop used piece) turned.used) on
+      (v.outcome since (front ++ take used piece) (given ++ a.told) a.reads a.heard) in
       record {
         told = a.told ++ b.told;
         reads = subst (λ z. HasRead t z (given ++ (a.told ++ b.told))) (bytes_on front piece used turned.used)
             (subst (HasRead t ((front ++ take used piece) ++ take turned.used (drop used piece))) (append_assoc given a.told b.told) b.reads);
-        heard = subst H' (append_assoc given a.told b.told) b.heard;
+        heard = subst (H' since) (append_assoc given a.told b.told) b.heard;
       };
 }
 
@@ -94,8 +95,8 @@ owed_few t fs = omega arith
 abbrev pub work_left : Place → List ℕ → ℕ → ℕ
 work_left s piece used = (length piece - used) * 256 + length (events_owed s)
 
-pub less_work : (s t : Place) (H H' M : Events → Type 0) (piece : List ℕ) (used : ℕ) (turned : Turned) → used ≤ length piece →
-    IsTurn s t H H' M (drop used piece) turned → turned.turn ≡ turn.On → work_left t piece (used + turned.used) < work_left s piece used
+pub less_work : {O : Type 0} (s t : Place) (H H' M : O → Events → Type 0) (piece : List ℕ) (used : ℕ) (turned : Turned) → used ≤ length piece →
+    IsTurn O s t H H' M (drop used piece) turned → turned.turn ≡ turn.On → work_left t piece (used + turned.used) < work_left s piece used
 less_work s t H H' M piece used turned within v on = by_used turned.used refl
   where
     few : length (events_owed t) ≤ 130
@@ -111,13 +112,14 @@ less_work s t H H' M piece used turned within v on = by_used turned.used refl
 -- What the last turn answers.
 
 -- a value
-pub value_heard : (s₀ s t : Place) (H₀ H H' M : Events → Type 0) (piece : List ℕ) (used : ℕ) (turned : Turned) → Runs s₀ s H₀ H piece used →
-    IsTurn s t H H' M (drop used piece) turned → turned.turn ≡ turn.Done → (front : List ℕ) (given : Events) → HasRead s₀ front given → H₀ given →
-    HearsValue (rules_of s₀) t H' (front ++ take (used + turned.used) piece)
-value_heard s₀ s t H₀ H H' M piece used turned r v done front given w had =
-    let a = r.reads front given w had in
-    let b = subst (OutcomeOfTurn s t H' M (front ++ take used piece) (given ++ a.told) (drop used piece) turned.used) done
-    (v.outcome (front ++ take used piece) (given ++ a.told) a.reads a.heard) in
+pub value_heard : {O : Type 0} (s₀ s t : Place) (H₀ H H' M : O → Events → Type 0) (piece : List ℕ) (used : ℕ) (turned : Turned) → Runs O s₀ s H₀ H piece used →
+    IsTurn O s t H H' M (drop used piece) turned → turned.turn ≡ turn.Done → (since : O) (front : List ℕ) (given : Events) → HasRead s₀ front given →
+    H₀ since given →
+    HearsValue (rules_of s₀) t (H' since) (front ++ take (used + turned.used) piece)
+value_heard s₀ s t H₀ H H' M piece used turned r v done since front given w had =
+    let a = r.reads since front given w had in
+    let b = subst (OutcomeOfTurn s t (H' since) (M since) (front ++ take used piece) (given ++ a.told) (drop used piece) turned.used) done
+    (v.outcome since (front ++ take used piece) (given ++ a.told) a.reads a.heard) in
     record {
       heard = given ++ a.told;
       is_value = subst (λ n. IsValue (rules_of s₀) (front ++ take n piece) (given ++ a.told))
@@ -128,13 +130,14 @@ value_heard s₀ s t H₀ H H' M piece used turned r v done front given w had =
     }
 
 -- the end of the piece
-pub piece_heard : (s₀ s t : Place) (H₀ H H' M : Events → Type 0) (piece : List ℕ) (used : ℕ) (turned : Turned) → Runs s₀ s H₀ H piece used →
-    IsTurn s t H H' M (drop used piece) turned → turned.turn ≡ turn.More → (front : List ℕ) (given : Events) → HasRead s₀ front given → H₀ given →
-    HearsPiece t H' (front ++ piece)
-piece_heard s₀ s t H₀ H H' M piece used turned r v more front given w had =
-    let a = r.reads front given w had in
-    let b = subst (OutcomeOfTurn s t H' M (front ++ take used piece) (given ++ a.told) (drop used piece) turned.used) more
-    (v.outcome (front ++ take used piece) (given ++ a.told) a.reads a.heard) in
+pub piece_heard : {O : Type 0} (s₀ s t : Place) (H₀ H H' M : O → Events → Type 0) (piece : List ℕ) (used : ℕ) (turned : Turned) → Runs O s₀ s H₀ H piece used →
+    IsTurn O s t H H' M (drop used piece) turned → turned.turn ≡ turn.More → (since : O) (front : List ℕ) (given : Events) → HasRead s₀ front given →
+    H₀ since given →
+    HearsPiece t (H' since) (front ++ piece)
+piece_heard s₀ s t H₀ H H' M piece used turned r v more since front given w had =
+    let a = r.reads since front given w had in
+    let b = subst (OutcomeOfTurn s t (H' since) (M since) (front ++ take used piece) (given ++ a.told) (drop used piece) turned.used) more
+    (v.outcome since (front ++ take used piece) (given ++ a.told) a.reads a.heard) in
     let all = bytes_all front piece used in
     record {
       heard = given ++ a.told;
@@ -146,13 +149,14 @@ piece_heard s₀ s t H₀ H H' M piece used turned r v more front given w had =
     }
 
 -- a refused byte, by the cause that stands
-pub refusal_heard : (s₀ s t : Place) (H₀ H H' M : Events → Type 0) (piece : List ℕ) (used : ℕ) (turned : Turned) (c : Cause) → Runs s₀ s H₀ H piece used →
-    IsTurn s t H H' M (drop used piece) turned → turned.turn ≡ turn.Failed → t.token ≡ Dead c → (front : List ℕ) (given : Events) → HasRead s₀ front given →
-    H₀ given → HearsRefusal (rules_of s₀) H' front piece (record { cause = c; at = t.taken })
-refusal_heard s₀ s t H₀ H H' M piece used turned c r v failed dead front given w had =
-    let a = r.reads front given w had in
-    let b = subst (OutcomeOfTurn s t H' M (front ++ take used piece) (given ++ a.told) (drop used piece) turned.used) failed
-    (v.outcome (front ++ take used piece) (given ++ a.told) a.reads a.heard) in
+pub refusal_heard : {O : Type 0} (s₀ s t : Place) (H₀ H H' M : O → Events → Type 0) (piece : List ℕ) (used : ℕ) (turned : Turned) (c : Cause) →
+    Runs O s₀ s H₀ H piece used →
+    IsTurn O s t H H' M (drop used piece) turned → turned.turn ≡ turn.Failed → t.token ≡ Dead c → (since : O) (front : List ℕ) (given : Events) →
+    HasRead s₀ front given → H₀ since given → HearsRefusal (rules_of s₀) (H' since) front piece (record { cause = c; at = t.taken })
+refusal_heard s₀ s t H₀ H H' M piece used turned c r v failed dead since front given w had =
+    let a = r.reads since front given w had in
+    let b = subst (OutcomeOfTurn s t (H' since) (M since) (front ++ take used piece) (given ++ a.told) (drop used piece) turned.used) failed
+    (v.outcome since (front ++ take used piece) (given ++ a.told) a.reads a.heard) in
     let f = b.0.refused in
     let all = bytes_all front piece used in
     let same_cause : b.0.fault.cause ≡ c = let z : Dead b.0.fault.cause ≡ Dead c = sym b.0.kept.0 ∙ dead in cc in
@@ -173,13 +177,14 @@ refusal_heard s₀ s t H₀ H H' M piece used turned c r v failed dead front giv
     }
 
 -- the listener's stop
-pub stop_heard : (s₀ s t : Place) (H₀ H H' M : Events → Type 0) (piece : List ℕ) (used : ℕ) (turned : Turned) → Runs s₀ s H₀ H piece used →
-    IsTurn s t H H' M (drop used piece) turned → turned.turn ≡ turn.Stopped → (front : List ℕ) (given : Events) → HasRead s₀ front given → H₀ given →
-    StopsBehind (rules_of s₀) M front piece t.taken
-stop_heard s₀ s t H₀ H H' M piece used turned r v stopped front given w had =
-    let a = r.reads front given w had in
-    let b = subst (OutcomeOfTurn s t H' M (front ++ take used piece) (given ++ a.told) (drop used piece) turned.used) stopped
-    (v.outcome (front ++ take used piece) (given ++ a.told) a.reads a.heard) in
+pub stop_heard : {O : Type 0} (s₀ s t : Place) (H₀ H H' M : O → Events → Type 0) (piece : List ℕ) (used : ℕ) (turned : Turned) → Runs O s₀ s H₀ H piece used →
+    IsTurn O s t H H' M (drop used piece) turned → turned.turn ≡ turn.Stopped → (since : O) (front : List ℕ) (given : Events) →
+    HasRead s₀ front given → H₀ since given →
+    StopsBehind (rules_of s₀) (M since) front piece t.taken
+stop_heard s₀ s t H₀ H H' M piece used turned r v stopped since front given w had =
+    let a = r.reads since front given w had in
+    let b = subst (OutcomeOfTurn s t (H' since) (M since) (front ++ take used piece) (given ++ a.told) (drop used piece) turned.used) stopped
+    (v.outcome since (front ++ take used piece) (given ++ a.told) a.reads a.heard) in
     let n = used + turned.used in
     let here = bytes_on front piece used turned.used in
     let size : length (front ++ take n piece) ≡ t.taken = sym (ap length here) ∙ sym b.taken in
@@ -188,7 +193,7 @@ stop_heard s₀ s t H₀ H H' M piece used turned r v stopped front given w had 
     ap (take t.taken) parts ∙ front-append t.taken (front ++ take n piece) (drop n piece) size ∙ sym here in
     record {
       told = b.told;
-      may_stop = b.may_stop;
+      has_stopped = b.has_stopped;
       in_piece = omega (arith, size, length-append front (take n piece));
       within = omega (arith, size, ap length parts, length-append (front ++ take n piece) (drop n piece));
       viable = subst (IsViable (rules_of s₀) WithinTotal) (sym cut)
@@ -197,8 +202,9 @@ stop_heard s₀ s t H₀ H H' M piece used turned r v stopped front given w had 
     }
 
 -- A fault that stands is answered again, and nothing else.
-pub fault_again : (s₀ s t : Place) (H₀ H H' M : Events → Type 0) (piece : List ℕ) (used : ℕ) (turned : Turned) (fault : Fault) → Runs s₀ s H₀ H piece used →
-    IsTurn s t H H' M (drop used piece) turned → IsFaulted s₀ fault → (turned.turn ≡ turn.Failed) × (t ≡ s₀)
+pub fault_again : {O : Type 0} (s₀ s t : Place) (H₀ H H' M : O → Events → Type 0) (piece : List ℕ) (used : ℕ) (turned : Turned) (fault : Fault) →
+    Runs O s₀ s H₀ H piece used →
+    IsTurn O s t H H' M (drop used piece) turned → IsFaulted s₀ fault → (turned.turn ≡ turn.Failed) × (t ≡ s₀)
 fault_again s₀ s t H₀ H H' M piece used turned fault r v f =
     let same = r.dead fault f in
     let again = v.dead fault (subst (λ x. IsFaulted x fault) (sym same) f) in

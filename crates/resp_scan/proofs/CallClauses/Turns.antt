@@ -26,6 +26,7 @@ use Rattle.resp_scan.proofs.CallClauses.Calls.{begin_due}
 use Rattle.resp_scan.proofs.CallClauses.LeastNeeded.{followed_is_viable}
 use Rattle.resp_scan.proofs.CallClauses.Nearer.{IsNearer, is_nearer}
 use Rattle.resp_scan.proofs.CallClauses.Steps.{Shown, shown, follows, heard_is, refused_is, value_is}
+use Rattle.resp_scan.proofs.DueEvents.GivenCounts.{events_are_few, opens_are_frames}
 use Rattle.resp_scan.proofs.Soundness.Counted.{IsCounted, counted_out}
 use Rattle.resp_scan.proofs.Soundness.Kept.{IsOut, is_advanced}
 use Rattle.resp_scan.proofs.Soundness.Pieces.{Takes, done_none, failed_is, said_kept, used_within}
@@ -42,6 +43,9 @@ may_be s front given sound w = record {
   limits_in_range = sound.bounds;
   viable = read_is_viable s front given sound w;
   first_due = begin_due s front given sound w;
+  few = omega (arith, events_are_few s front given w.stands, w.taken, sound.total);
+  opened = omega (arith, opens_are_frames s front given w.stands);
+  nested = omega (arith, opens_are_frames s front given w.stands, sound.nested);
 }
 
 -- the first events of those that are the first due
@@ -49,19 +53,19 @@ begin_fewer : (front : List ℕ) (given more : Events) → BeginDue front (given
 begin_fewer front given more due rest whole spells = let d = due rest whole spells in (more ++ d.0, d.1 ∙ append_assoc given more d.0)
 
 -- A listener that was told more events goes on, or stops where it may.
-pub turn_told : (s t : Place) (HasHeard MayStop : Events → Type 0) (front : List ℕ) (given : Events) (p : List ℕ) (n : ℕ) (more : Events) (goes_on : Bool) →
+pub turn_told : (s t : Place) (HasHeard HasStopped : Events → Type 0) (front : List ℕ) (given : Events) (p : List ℕ) (n : ℕ) (more : Events) (goes_on : Bool) →
     IsSound t → rules_of t ≡ rules_of s → HasRead t (front ++ take n p) (given ++ more) →
-    (MayBeGiven (given ++ more) → MatchBool goes_on (HasHeard (given ++ more)) (StopsWithin MayStop given more)) →
-    OutcomeOfTurn s t HasHeard MayStop front given p n (turn_of goes_on)
-turn_told s t HasHeard MayStop front given p n more goes_on sound rules w hears =
+    (MayBeGiven (given ++ more) → MatchBool goes_on (HasHeard (given ++ more)) (StopsWithin HasStopped given more)) →
+    OutcomeOfTurn s t HasHeard HasStopped front given p n (turn_of goes_on)
+turn_told s t HasHeard HasStopped front given p n more goes_on sound rules w hears =
     by_answer goes_on (hears (may_be t (front ++ take n p) (given ++ more) sound w))
   where
-    by_answer : (x : Bool) → MatchBool x (HasHeard (given ++ more)) (StopsWithin MayStop given more) →
-        OutcomeOfTurn s t HasHeard MayStop front given p n (turn_of x)
+    by_answer : (x : Bool) → MatchBool x (HasHeard (given ++ more)) (StopsWithin HasStopped given more) →
+        OutcomeOfTurn s t HasHeard HasStopped front given p n (turn_of x)
     by_answer true h = record { told = more; reads = w; heard = h }
     by_answer false h = record {
       told = given ++ h.told;
-      may_stop = h.may_stop;
+      has_stopped = h.has_stopped;
       first_due = begin_fewer (front ++ take n p) (given ++ h.told) h.later
           (subst (BeginDue (front ++ take n p)) (ap (λ z. given ++ z) h.parts ∙ sym (append_assoc given h.told h.later))
           (begin_due t (front ++ take n p) (given ++ more) sound w));
@@ -150,23 +154,24 @@ same_place n c t d s e =
     let same : t ≡ s = cc in
     ap (λ k. record t { taken = t.taken + k }) none ∙ ap (λ k. record t { taken = k }) (let z : t.taken + 0 ≡ t.taken = omega arith in z) ∙ same
 
-outcome_told : (w : EventTag) (n : ℕ) (m : Machine) (s : Place) (p : List ℕ) (HasHeard MayStop : Events → Type 0) (goes_on : Bool) → IsTelling w →
+outcome_told : (w : EventTag) (n : ℕ) (m : Machine) (s : Place) (p : List ℕ) (HasHeard HasStopped : Events → Type 0) (goes_on : Bool) → IsTelling w →
     IsSound (after_bytes n (place_of m)) → rules_of (place_of m) ≡ rules_of s → (front : List ℕ) (given : Events) → ReadsOn s front given p (out_by w n m) →
     (MayBeGiven (given ++ events_told p (out_by w n m)) →
-    MatchBool goes_on (HasHeard (given ++ events_told p (out_by w n m))) (StopsWithin MayStop given (events_told p (out_by w n m)))) →
-    OutcomeOfTurn s (after_bytes n (place_of m)) HasHeard MayStop front given p n (turn_of goes_on)
-outcome_told tag.More n m s p HasHeard MayStop goes_on telling sound rules front given reads hears = absurd telling
-outcome_told tag.Failed n m s p HasHeard MayStop goes_on telling sound rules front given reads hears = absurd telling
-outcome_told tag.Done n m s p HasHeard MayStop goes_on telling sound rules front given reads hears = absurd telling
-outcome_told w n m s p HasHeard MayStop goes_on telling sound rules front given reads hears =
-    turn_told s (after_bytes n (place_of m)) HasHeard MayStop front given p n (events_told p (out_by w n m)) goes_on sound rules reads hears
+    MatchBool goes_on (HasHeard (given ++ events_told p (out_by w n m))) (StopsWithin HasStopped given (events_told p (out_by w n m)))) →
+    OutcomeOfTurn s (after_bytes n (place_of m)) HasHeard HasStopped front given p n (turn_of goes_on)
+outcome_told tag.More n m s p HasHeard HasStopped goes_on telling sound rules front given reads hears = absurd telling
+outcome_told tag.Failed n m s p HasHeard HasStopped goes_on telling sound rules front given reads hears = absurd telling
+outcome_told tag.Done n m s p HasHeard HasStopped goes_on telling sound rules front given reads hears = absurd telling
+outcome_told w n m s p HasHeard HasStopped goes_on telling sound rules front given reads hears =
+    turn_told s (after_bytes n (place_of m)) HasHeard HasStopped front given p n (events_told p (out_by w n m)) goes_on sound rules reads hears
 
 -- The listener was told what the answer tells.
-pub is_told : (w : EventTag) (taken : Taken) (m : Machine) (s : Place) (p : List ℕ) (HadHeard HasHeard MayStop : Events → Type 0) (goes_on : Bool) →
+pub is_told : {O : Type 0} (w : EventTag) (taken : Taken) (m : Machine) (s : Place) (p : List ℕ) (HadHeard HasHeard HasStopped : O → Events →
+    Type 0) (goes_on : Bool) →
     IsTelling w → IsText p → taken.tag ≡ w → IsSound s → out_of taken m ≡ out_from s p →
-    Hears HadHeard HasHeard MayStop (events_told p (out_by w taken.used m)) goes_on →
-    IsTurn s (after_bytes taken.used (place_of m)) HadHeard HasHeard MayStop p (record { used = taken.used; turn = turn_of goes_on })
-is_told w taken m s p HadHeard HasHeard MayStop goes_on telling text is sound out hears =
+    Hears HadHeard HasHeard HasStopped (events_told p (out_by w taken.used m)) goes_on →
+    IsTurn O s (after_bytes taken.used (place_of m)) HadHeard HasHeard HasStopped p (record { used = taken.used; turn = turn_of goes_on })
+is_told {O = O} w taken m s p HadHeard HasHeard HasStopped goes_on telling text is sound out hears =
     let n = taken.used in
     let here : out_by w n m ≡ out_from s p = ap (λ x. out_by x n m) (sym is) ∙ out in
     let kept : IsOut s (out_by w n m) = subst (IsOut s) (sym here) (is_advanced s p sound) in
@@ -179,22 +184,24 @@ is_told w taken m s p HadHeard HasHeard MayStop goes_on telling text is sound ou
       whole_piece = λ more. absurd (not_more goes_on more);
       dead = λ fault f. absurd (no_bad w n m telling (here ∙ from_dead s p fault f));
       nearer = λ on none. nearer_told w n m s goes_on (subst (IsNearer s) (sym here) (is_nearer s p sound)) telling none;
-      outcome = λ front given w had. outcome front given w had;
+      outcome = outcome;
     }
   where
-    outcome : (front : List ℕ) (given : Events) → HasRead s front given → HadHeard given →
-        OutcomeOfTurn s (after_bytes taken.used (place_of m)) HasHeard MayStop front given p taken.used (turn_of goes_on)
-    outcome front given had_read had =
+    outcome : (since : O) (front : List ℕ) (given : Events) → HasRead s front given → HadHeard since given →
+        OutcomeOfTurn s (after_bytes taken.used (place_of m)) (HasHeard since) (HasStopped since) front given p taken.used (turn_of goes_on)
+    outcome since front given had_read had =
         let here : out_by w taken.used m ≡ out_from s p = ap (λ x. out_by x taken.used m) (sym is) ∙ out in
         let kept : IsOut s (out_by w taken.used m) = subst (IsOut s) (sym here) (is_advanced s p sound) in
-        outcome_told w taken.used m s p HasHeard MayStop goes_on telling (sound_told w taken.used m (counted_out s (out_by w taken.used m) kept))
-        (rules_told w taken.used m s kept) front given (reads_more s front given p (out_by w taken.used m) text sound here had_read) (hears given had)
+        outcome_told w taken.used m s p (HasHeard since) (HasStopped since) goes_on telling
+        (sound_told w taken.used m (counted_out s (out_by w taken.used m) kept))
+        (rules_told w taken.used m s kept) front given (reads_more s front given p (out_by w taken.used m) text sound here had_read) (hears since given had)
 
 -- Nothing more stands in the piece.
-pub is_more : (taken : Taken) (m : Machine) (s : Place) (p : List ℕ) (HasHeard MayStop : Events → Type 0) → IsText p → taken.tag ≡ tag.More → IsSound s →
+pub is_more : {O : Type 0} (taken : Taken) (m : Machine) (s : Place) (p : List ℕ) (HasHeard HasStopped : O → Events → Type 0) → IsText p →
+    taken.tag ≡ tag.More → IsSound s →
     out_of taken m ≡ out_from s p →
-    IsTurn s (after_bytes taken.used (place_of m)) HasHeard HasHeard MayStop p (record { used = taken.used; turn = turn.More })
-is_more taken m s p HasHeard MayStop text is sound out =
+    IsTurn O s (after_bytes taken.used (place_of m)) HasHeard HasHeard HasStopped p (record { used = taken.used; turn = turn.More })
+is_more taken m s p HasHeard HasStopped text is sound out =
     let n = taken.used in
     let here : out_by tag.More n m ≡ out_from s p = ap (λ x. out_by x n m) (sym is) ∙ out in
     let kept : IsOut s (out_by tag.More n m) = subst (IsOut s) (sym here) (is_advanced s p sound) in
@@ -205,7 +212,7 @@ is_more taken m s p HasHeard MayStop text is sound out =
       whole_piece = λ more. subst (λ w. Takes (length p) (out_by w n m)) is (said_kept taken m s p sound out).1;
       dead = λ fault f. absurd (let z : More n (place_of m) ≡ Bad 0 fault.cause s = here ∙ from_dead s p fault f in cc);
       nearer = λ on none. absurd (cc);
-      outcome = λ front given w had. (
+      outcome = λ since front given w had. (
         heard_is s (after_bytes n (place_of m)) front given p n None w.taken (omega (arith, w.taken, sound.total)) tt
             (shows s front given p (out_by tag.More n m) text sound here w),
         had,
@@ -213,10 +220,11 @@ is_more taken m s p HasHeard MayStop text is sound out =
     }
 
 -- A value has ended.
-pub is_done : (taken : Taken) (m : Machine) (s : Place) (p : List ℕ) (HasHeard MayStop : Events → Type 0) → IsText p → taken.tag ≡ tag.Done → IsSound s →
+pub is_done : {O : Type 0} (taken : Taken) (m : Machine) (s : Place) (p : List ℕ) (HasHeard HasStopped : O → Events → Type 0) → IsText p →
+    taken.tag ≡ tag.Done → IsSound s →
     out_of taken m ≡ out_from s p →
-    IsTurn s (after_bytes taken.used (place_of m)) HasHeard HasHeard MayStop p (record { used = taken.used; turn = turn.Done })
-is_done taken m s p HasHeard MayStop text is sound out =
+    IsTurn O s (after_bytes taken.used (place_of m)) HasHeard HasHeard HasStopped p (record { used = taken.used; turn = turn.Done })
+is_done taken m s p HasHeard HasStopped text is sound out =
     let n = taken.used in
     let here : out_by tag.Done n m ≡ out_from s p = ap (λ x. out_by x n m) (sym is) ∙ out in
     let kept : IsOut s (out_by tag.Done n m) = subst (IsOut s) (sym here) (is_advanced s p sound) in
@@ -227,7 +235,7 @@ is_done taken m s p HasHeard MayStop text is sound out =
       whole_piece = λ more. absurd (cc);
       dead = λ fault f. absurd (let z : Whole (after_bytes n (place_of m)) ≡ Bad 0 fault.cause s = here ∙ from_dead s p fault f in cc);
       nearer = λ on none. absurd (cc);
-      outcome = λ front given w had. (
+      outcome = λ since front given w had. (
         (let h = shows s front given p (out_by tag.Done n m) text sound here w in record {
           no_byte = (done_none taken m s p sound out is).1;
           is_value = value_is s front given (omega (arith, w.taken, sound.total)) h.1;
@@ -238,10 +246,11 @@ is_done taken m s p HasHeard MayStop text is sound out =
     }
 
 -- A byte was refused.
-pub is_failed : (taken : Taken) (m : Machine) (s : Place) (p : List ℕ) (HasHeard MayStop : Events → Type 0) → IsText p → taken.tag ≡ tag.Failed → IsSound s →
+pub is_failed : {O : Type 0} (taken : Taken) (m : Machine) (s : Place) (p : List ℕ) (HasHeard HasStopped : O → Events → Type 0) → IsText p →
+    taken.tag ≡ tag.Failed → IsSound s →
     out_of taken m ≡ out_from s p →
-    IsTurn s (after_bytes taken.used (place_of m)) HasHeard HasHeard MayStop p (record { used = taken.used; turn = turn.Failed })
-is_failed taken m s p HasHeard MayStop text is sound out =
+    IsTurn O s (after_bytes taken.used (place_of m)) HasHeard HasHeard HasStopped p (record { used = taken.used; turn = turn.Failed })
+is_failed taken m s p HasHeard HasStopped text is sound out =
     let n = taken.used in
     let here : out_by tag.Failed n m ≡ out_from s p = ap (λ x. out_by x n m) (sym is) ∙ out in
     let kept : IsOut s (out_by tag.Failed n m) = subst (IsOut s) (sym here) (is_advanced s p sound) in
@@ -254,7 +263,7 @@ is_failed taken m s p HasHeard MayStop text is sound out =
       whole_piece = λ more. absurd (cc);
       dead = λ other f. (refl, same_place n m.cause (place_of m) other.cause s (here ∙ from_dead s p other f));
       nearer = λ on none. absurd (cc);
-      outcome = λ front given w had. (
+      outcome = λ since front given w had. (
         record {
           fault = fault;
           kept = (kept.1, refl);

@@ -145,13 +145,14 @@ run_is_line p most run is =
 -- The turn.
 
 -- a text whose head, content and CR LF lie in the piece
-pub whole_turn : (s : Place) (m m' : Machine) (n run : ℕ) (k : TextKind) (t : Place) (p : List ℕ) (HadHeard HasHeard MayStop : Events → Type 0) (goes_on : Bool)
+pub whole_turn : {O : Type 0} (s : Place) (m m' : Machine) (n run : ℕ) (k : TextKind) (t : Place) (p : List ℕ) (HadHeard HasHeard HasStopped : O →
+    Events → Type 0) (goes_on : Bool)
     (turned : Turned) → IsText p → IsSound s → Gave n (Text k) (place_of m) ≡ out_from s p → EndsAt (drop n p) run →
     RunsTo (after_bytes n (place_of m)) t (drop n p) run → EndsText (after_bytes run t) → rules_of t ≡ rules_of (place_of m) →
     after_bytes 2 (at_boundary (after_bytes run t)) ≡ place_of m' → n + run + 2 ≤ length p →
-    Hears HadHeard HasHeard MayStop (whole_text_events k (take run (drop n p))) goes_on → turned.used ≡ n + run + 2 → turned.turn ≡ turn_of goes_on →
-    IsTurn s (place_of m') HadHeard HasHeard MayStop p turned
-whole_turn s m m' n run k t p HadHeard HasHeard MayStop goes_on turned text sound here ends runs ends_text rules there within hears used is_turn =
+    Hears HadHeard HasHeard HasStopped (whole_text_events k (take run (drop n p))) goes_on → turned.used ≡ n + run + 2 → turned.turn ≡ turn_of goes_on →
+    IsTurn O s (place_of m') HadHeard HasHeard HasStopped p turned
+whole_turn {O = O} s m m' n run k t p HadHeard HasHeard HasStopped goes_on turned text sound here ends runs ends_text rules there within hears used is_turn =
     let u = after_bytes n (place_of m) in
     let kept : IsOut s (Gave n (Text k) (place_of m)) = subst (IsOut s) (sym here) (is_advanced s p sound) in
     let sound_u : IsSound u = counted_out s (Gave n (Text k) (place_of m)) kept in
@@ -159,25 +160,25 @@ whole_turn s m m' n run k t p HadHeard HasHeard MayStop goes_on turned text soun
     let sound_last : IsSound last = sound_text_ends u t (drop n p) run sound_u ends runs ends_text in
     let same_rules : rules_of last ≡ rules_of s = rules ∙ kept.0.rules in
     let size : n + (run + 2) ≡ turned.used = omega (arith, used) in
-    subst (λ x. IsTurn s x HadHeard HasHeard MayStop p turned) there (record {
+    subst (λ x. IsTurn O s x HadHeard HasHeard HasStopped p turned) there (record {
       sound = sound_last;
       rules = same_rules;
       within = omega (arith, used, within);
       whole_piece = λ more. absurd (not_more goes_on (sym is_turn ∙ more));
       dead = λ fault f. absurd (let z : Gave n (Text k) (place_of m) ≡ Bad 0 fault.cause s = here ∙ from_dead s p fault f in cc);
       nearer = λ on none. absurd (omega (arith, used, none));
-      outcome = λ front given w had.
+      outcome = λ since front given w had.
           let read = text_ends u t (front ++ take n p) (given ++ e.Text (text_kind_of k) ∷ []) (drop n p) run (text_behind n p text) sound_u
           (reads_more s front given p (Gave n (Text k) (place_of m)) text sound here w) ends runs ends_text in
           let bytes : (front ++ take n p) ++ take (run + 2) (drop n p) ≡ front ++ take turned.used p =
           append_assoc front (take n p) (take (run + 2) (drop n p)) ∙ ap (λ z. front ++ z) (taken_on n (run + 2) p ∙ ap (λ j. take j p) size) in
           let more = whole_text_events k (take run (drop n p)) in
-          subst (OutcomeOfTurn s last HasHeard MayStop front given p turned.used) (sym is_turn)
-          (turn_told s last HasHeard MayStop front given p turned.used more goes_on sound_last same_rules
+          subst (OutcomeOfTurn s last (HasHeard since) (HasStopped since) front given p turned.used) (sym is_turn)
+          (turn_told s last (HasHeard since) (HasStopped since) front given p turned.used more goes_on sound_last same_rules
           (subst (λ z. HasRead last z (given ++ more)) bytes
           (subst (HasRead last ((front ++ take n p) ++ take (run + 2) (drop n p)))
           (append_assoc given (e.Text (text_kind_of k) ∷ []) (content_events (take run (drop n p)) ++ e.TextEnd ∷ [])) read))
-          (hears given had));
+          (hears since given had));
     })
 
 -- The tags.
@@ -195,15 +196,15 @@ line_text_is tag.Error k bytes is line = subst (λ x. IsTextOf x bytes) (sym is)
 line_text_is w k bytes is line = absurd is
 
 -- A line told whole is a turn.
-pub line_turn : (s : Place) (m m' : Machine) (taken : Taken) (run : ℕ) (k : TextKind) (p : List ℕ) (HadHeard HasHeard MayStop : Events →
+pub line_turn : {O : Type 0} (s : Place) (m m' : Machine) (taken : Taken) (run : ℕ) (k : TextKind) (p : List ℕ) (HadHeard HasHeard HasStopped : O → Events →
     Type 0) (goes_on : Bool)
     (turned : Turned) → IsText p → IsSound s → IsLineTag taken.tag k → out_of taken m ≡ out_from s p → m.state ≡ state.Line →
     EndsAt (drop taken.used p) run →
     run ≡ plain_run (take (min (min m.room (total_room (place_of m) - (taken.used + 2))) (length (drop taken.used p))) (drop taken.used p)) →
     m' ≡ record m { taken = m.taken + (taken.used + run + 2); state = state.Boundary } →
-    Hears HadHeard HasHeard MayStop (whole_text_events k (take run (drop taken.used p))) goes_on → turned.used ≡ taken.used + run + 2 →
-    turned.turn ≡ turn_of goes_on → IsTurn s (place_of m') HadHeard HasHeard MayStop p turned
-line_turn s m m' taken run k p HadHeard HasHeard MayStop goes_on turned text sound line out is_line ends run_is machine hears used is_turn =
+    Hears HadHeard HasHeard HasStopped (whole_text_events k (take run (drop taken.used p))) goes_on → turned.used ≡ taken.used + run + 2 →
+    turned.turn ≡ turn_of goes_on → IsTurn O s (place_of m') HadHeard HasHeard HasStopped p turned
+line_turn s m m' taken run k p HadHeard HasHeard HasStopped goes_on turned text sound line out is_line ends run_is machine hears used is_turn =
     let n = taken.used in
     let place : place_of m ≡ at (place_of m) (InLine m.room) = ap (λ x. record (place_of m) { token = token_at x m }) is_line in
     let t = after_bytes n (at (place_of m) (InLine (m.room - run))) in
@@ -213,7 +214,7 @@ line_turn s m m' taken run k p HadHeard HasHeard MayStop goes_on turned text sou
     ap (λ j. record (at_boundary (place_of m)) { taken = j }) (let z : ((m.taken + n) + run) + 2 ≡ m.taken + (n + run + 2) = omega arith in z) ∙
     ap place_of (sym machine) in
     let size : n ≤ length p = (used_within taken m s p sound out).0 in
-    whole_turn s m m' n run k t p HadHeard HasHeard MayStop goes_on turned text sound (sym (line_tag taken.tag k n m line) ∙ out) ends runs
+    whole_turn s m m' n run k t p HadHeard HasHeard HasStopped goes_on turned text sound (sym (line_tag taken.tag k n m line) ∙ out) ends runs
     (line_ends (after_bytes run (after_bytes n (place_of m))) (m.room - run)) refl there
     (omega (arith, ends.within, length-drop n p, size)) hears used is_turn
 
@@ -232,13 +233,14 @@ content_ends : (u : Place) → EndsText (content_at 0 u)
 content_ends u more = refl
 
 -- Content told whole is a turn.
-pub content_turn : (s : Place) (m m' : Machine) (taken : Taken) (run : ℕ) (p : List ℕ) (HadHeard HasHeard MayStop : Events → Type 0) (goes_on : Bool)
+pub content_turn : {O : Type 0} (s : Place) (m m' : Machine) (taken : Taken) (run : ℕ) (p : List ℕ) (HadHeard HasHeard HasStopped : O → Events →
+    Type 0) (goes_on : Bool)
     (turned : Turned) → IsText p → IsSound s → taken.tag ≡ tag.Bulk → out_of taken m ≡ out_from s p → EndsAt (drop taken.used p) run →
     LeavesContent m.state m.count run →
     m' ≡ record m { taken = m.taken + (taken.used + run + 2); state = state.Boundary } →
-    Hears HadHeard HasHeard MayStop (whole_text_events kind.Bulk (take run (drop taken.used p))) goes_on → turned.used ≡ taken.used + run + 2 →
-    turned.turn ≡ turn_of goes_on → IsTurn s (place_of m') HadHeard HasHeard MayStop p turned
-content_turn s m m' taken run p HadHeard HasHeard MayStop goes_on turned text sound bulk out ends left machine hears used is_turn =
+    Hears HadHeard HasHeard HasStopped (whole_text_events kind.Bulk (take run (drop taken.used p))) goes_on → turned.used ≡ taken.used + run + 2 →
+    turned.turn ≡ turn_of goes_on → IsTurn O s (place_of m') HadHeard HasHeard HasStopped p turned
+content_turn s m m' taken run p HadHeard HasHeard HasStopped goes_on turned text sound bulk out ends left machine hears used is_turn =
     let n = taken.used in
     let here : Gave n (Text kind.Bulk) (place_of m) ≡ out_from s p = ap (λ x. out_by x n m) (sym bulk) ∙ out in
     let kept : IsOut s (Gave n (Text kind.Bulk) (place_of m)) = subst (IsOut s) (sym here) (is_advanced s p sound) in
@@ -246,7 +248,7 @@ content_turn s m m' taken run p HadHeard HasHeard MayStop goes_on turned text so
     ap (λ j. record (at_boundary (place_of m)) { taken = j }) (let z : ((m.taken + n) + run) + 2 ≡ m.taken + (n + run + 2) = omega arith in z) ∙
     ap place_of (sym machine) in
     let size : n ≤ length p = (used_within taken m s p sound out).0 in
-    whole_turn s m m' n run kind.Bulk (after_bytes n (content_at 0 (place_of m))) p HadHeard HasHeard MayStop goes_on turned text sound here ends
+    whole_turn s m m' n run kind.Bulk (after_bytes n (content_at 0 (place_of m))) p HadHeard HasHeard HasStopped goes_on turned text sound here ends
     (runs_from m.state refl left kept.0.sound.token) (content_ends (after_bytes run (after_bytes n (place_of m)))) refl there
     (omega (arith, ends.within, length-drop n p, size)) hears used is_turn
   where

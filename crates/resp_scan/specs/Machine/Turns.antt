@@ -32,10 +32,10 @@ pub record Refuses (r : Rules) (t : Place) (front : List ℕ) (given : Events) (
   pub kept : IsFaulted t fault
   pub refused : IsRefused r front given piece fault
 
--- the listener stopped, told events that are the first of those due of the bytes taken
-pub record Stops (r : Rules) (t : Place) (MayStop : Events → Type 0) (front piece : List ℕ) (used : ℕ) : Type 0 where
+-- the listener has stopped, told events that are the first of those due of the bytes taken
+pub record Stops (r : Rules) (t : Place) (HasStopped : Events → Type 0) (front piece : List ℕ) (used : ℕ) : Type 0 where
   pub told : Events
-  pub may_stop : MayStop told
+  pub has_stopped : HasStopped told
   pub first_due : BeginDue (front ++ take used piece) told
   pub viable : IsViable r WithinTotal (front ++ take used piece)
   pub taken : t.taken ≡ length (front ++ take used piece)
@@ -43,25 +43,25 @@ pub record Stops (r : Rules) (t : Place) (MayStop : Events → Type 0) (front pi
 -- what one turn comes to
 abbrev pub OutcomeOfTurn : Place → Place → (Events → Type 0) → (Events → Type 0) → List ℕ → Events → List ℕ → ℕ → Turn →
     Type 0
-OutcomeOfTurn s t HasHeard MayStop front given piece used On = GoesOn t HasHeard front given piece used
-OutcomeOfTurn s t HasHeard MayStop front given piece used More = UsesUp t front given piece used × HasHeard given
-OutcomeOfTurn s t HasHeard MayStop front given piece used Done = EndsValue (rules_of s) t front given used ×
+OutcomeOfTurn s t HasHeard HasStopped front given piece used On = GoesOn t HasHeard front given piece used
+OutcomeOfTurn s t HasHeard HasStopped front given piece used More = UsesUp t front given piece used × HasHeard given
+OutcomeOfTurn s t HasHeard HasStopped front given piece used Done = EndsValue (rules_of s) t front given used ×
     HasHeard given
-OutcomeOfTurn s t HasHeard MayStop front given piece used Failed = Refuses (rules_of s) t front given piece ×
+OutcomeOfTurn s t HasHeard HasStopped front given piece used Failed = Refuses (rules_of s) t front given piece ×
     HasHeard given
-OutcomeOfTurn s t HasHeard MayStop front given piece used Stopped = Stops (rules_of s) t MayStop front piece used
+OutcomeOfTurn s t HasHeard HasStopped front given piece used Stopped = Stops (rules_of s) t HasStopped front piece used
 
 -- A turn leads from one sound place to another. One that uses no byte gives an event of those owed, so that turns end.
-pub record IsTurn (s t : Place) (HadHeard HasHeard MayStop : Events → Type 0) (piece : List ℕ) (turned : Turned) : Type
-    0 where
+pub record IsTurn (O : Type 0) (s t : Place) (HadHeard HasHeard HasStopped : O → Events → Type 0) (piece : List ℕ)
+    (turned : Turned) : Type 0 where
   pub sound : IsSound t
   pub rules : rules_of t ≡ rules_of s
   pub within : turned.used ≤ length piece
   pub whole_piece : turned.turn ≡ More → turned.used ≡ length piece
   pub dead : (fault : Fault) → IsFaulted s fault → (turned.turn ≡ Failed) × (t ≡ s)
   pub nearer : turned.turn ≡ On → turned.used ≡ 0 → length (events_owed t) < length (events_owed s)
-  pub outcome : (front : List ℕ) (given : Events) → HasRead s front given → HadHeard given →
-      OutcomeOfTurn s t HasHeard MayStop front given piece turned.used turned.turn
+  pub outcome : (since : O) (front : List ℕ) (given : Events) → HasRead s front given → HadHeard since given →
+      OutcomeOfTurn s t (HasHeard since) (HasStopped since) front given piece turned.used turned.turn
 
 -- what comes of a listener's answer
 abbrev pub turn_of : Bool → Turn

@@ -42,9 +42,11 @@ impl Heard {
 }
 
 impl Listener for Heard {
-    ghost has_heard = { λ _ _. Unit {0} };
+    ghost Origin = { Unit {0} };
 
-    ghost may_stop = { λ _. Unit {0} };
+    ghost has_heard = { λ _ _ _. Unit {0} };
+
+    ghost has_stopped = { λ _ _ _. Unit {0} };
 
     fn null(&mut self) -> bool {
         self.hear(Event::Null)
@@ -84,9 +86,11 @@ impl Listener for Heard {
 pub(super) struct Ignoring;
 
 impl Listener for Ignoring {
-    ghost has_heard = { λ _ _. Unit {0} };
+    ghost Origin = { Unit {0} };
 
-    ghost may_stop = { λ _. Unit {0} };
+    ghost has_heard = { λ _ _ _. Unit {0} };
+
+    ghost has_stopped = { λ _ _ _. Unit {0} };
 
     fn null(&mut self) -> bool {
         true
@@ -225,9 +229,11 @@ struct HeardWhole {
 }
 
 impl Listener for HeardWhole {
-    ghost has_heard = { λ _ _. Unit {0} };
+    ghost Origin = { Unit {0} };
 
-    ghost may_stop = { λ _. Unit {0} };
+    ghost has_heard = { λ _ _ _. Unit {0} };
+
+    ghost has_stopped = { λ _ _ _. Unit {0} };
 
     fn null(&mut self) -> bool {
         self.heard.null()

@@ -84,9 +84,11 @@ struct KeptConstant<'a> {
 }
 
 impl<'a> Listener for KeptConstant<'a> {
-    ghost has_heard = { λ _ _. Unit {0} };
+    ghost Origin = { Unit {0} };
 
-    ghost may_stop = { λ _. Unit {0} };
+    ghost has_heard = { λ _ _ _. Unit {0} };
+
+    ghost has_stopped = { λ _ _ _. Unit {0} };
 
     fn null(&mut self) -> bool {
         true

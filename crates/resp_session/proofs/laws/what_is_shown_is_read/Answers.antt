@@ -1,4 +1,4 @@
-use Rattle.resp_session.proofs.ShownIsRead.{what_is_shown_is_read, what_is_read_is_shown, no_client_meets_a_fault}
+use Rattle.resp_session.proofs.ShownIsRead.{what_is_shown_is_read, what_is_read_is_shown, what_is_left_may_go_on, no_client_meets_a_fault}
 use Rattle.resp_session.proofs.laws.what_is_shown_is_read.Goals as goal
 
 pub returns-clause-read : goal.returns-clause-read
@@ -11,3 +11,6 @@ returns-clause-no_fault c = no_client_meets_a_fault c.no_spelling_begins_another
 
 pub returns-clause-nothing_else : goal.returns-clause-nothing_else
 returns-clause-nothing_else c = what_is_read_is_shown c.a_text_has_one_reading.ensures (returns-clause-read c)
+
+pub returns-clause-goes_on : goal.returns-clause-goes_on
+returns-clause-goes_on c = what_is_left_may_go_on c.no_spelling_begins_another.ensures (returns-clause-read c)

@@ -1,4 +1,6 @@
-use Rattle.std.proofs.Common.{rules, true, ◌≡◌, ◌⊎◌, ◌++◌, take, subst, sym, ap, ◌∙◌}
+use Rattle.std.proofs.Common.{rules, true, false, ◌≡◌, ◌⊎◌, ◌++◌, take, subst, sym, ap, ◌∙◌}
+use Rattle.resp_value.specs.Rules.{WithinTotal}
+use Rattle.resp_value.specs.Spellings.{IsViable}
 use Rattle.resp_scan.specs.Kinds.{rules_of}
 use Rattle.resp_decode.specs.Decoding.{LacksMemory, RefusesByte}
 use Rattle.resp_decode.specs.Hearing.{HasHeard}
@@ -11,15 +13,26 @@ returns-in-Err-clause-refusal c = λ front w.
     let r = rules_of c.args.self.now.scanner in
     let piece = c.args.piece.now in
     subst (λ fault. RefusesByte r front piece fault ⊎ LacksMemory r front piece fault) (sym c.fault_of.ensures)
-    (refuses_or_lacks r (HasHeard c.scan.new.listener) front piece c.in-Err.stop (c.in-Err.ensures.refusal front w.given w.reads w.heard)
-    (c.in-Err.ensures.stopped front w.given w.reads w.heard))
+    (refuses_or_lacks r (HasHeard c.scan.new.listener) front piece c.in-Err.stop (c.in-Err.ensures.refusal tt front w.given w.reads w.heard)
+    (c.in-Err.ensures.stopped tt front w.given w.reads w.heard))
+
+pub returns-then-not-scanned-clause-used_up : goal.returns-then-not-scanned-clause-used_up
+returns-then-not-scanned-clause-used_up c = λ front w none.
+    let part : c.in-Ok.scanned.is_whole ≡ false = search rules in
+    let heard = c.in-Ok.ensures.used_up tt front w.given w.reads w.heard part in
+    record {
+      whole_piece = c.in-Ok.ensures.whole_piece part;
+      no_value = heard.no_value;
+      viable = subst (λ r. IsViable r WithinTotal (front ++ c.args.piece.now)) c.in-Ok.ensures.same_rules heard.viable;
+      takes = record { given = heard.heard; reads = heard.reads; heard = heard.has_heard; all_due = heard.all_due; no_value = heard.no_value };
+    }
 
 pub returns-clause-value_whole : goal.returns-clause-value_whole
 returns-clause-value_whole c = λ front w x is.
     let r = rules_of c.args.self.now.scanner in
     let written = front ++ take c.in-Ok.scanned.used c.args.piece.now in
     let whole : c.in-Ok.scanned.is_whole ≡ true = search rules in
-    let heard = c.in-Ok.ensures.value_whole front w.given w.reads w.heard whole in
+    let heard = c.in-Ok.ensures.value_whole tt front w.given w.reads w.heard whole in
     gives_value r c.scan.new.self c.scan.new.listener c.take_whole-value.new.self written x heard
     (ap maybe_datum (sym is) ∙ c.take_whole-value.ensures.taken) c.take_whole-value.ensures.holds c.take_whole-value.ensures.weighs
 
@@ -28,5 +41,5 @@ returns-clause-used_up c = λ front w none.
     let r = rules_of c.args.self.now.scanner in
     let written = front ++ take c.in-Ok.scanned.used c.args.piece.now in
     let whole : c.in-Ok.scanned.is_whole ≡ true = search rules in
-    let heard = c.in-Ok.ensures.value_whole front w.given w.reads w.heard whole in
+    let heard = c.in-Ok.ensures.value_whole tt front w.given w.reads w.heard whole in
     absurd (holds_some_value r c.scan.new.self c.scan.new.listener written heard (sym c.take_whole-value.ensures.taken ∙ ap maybe_datum none))

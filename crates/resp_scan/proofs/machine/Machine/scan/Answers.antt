@@ -5,14 +5,15 @@ use Rattle.resp_scan.specs.declared.event.ScanError.TheVariants as stop
 use Rattle.resp_scan.specs.declared.listen.Turn.TheVariants as turn
 use Rattle.resp_scan.specs.Machine.Fields.{place_of}
 use Rattle.resp_scan.specs.Reading.{IsFaulted}
-use Rattle.resp_scan.proofs.CallClauses.Loops.{fault_again, less_work, refusal_heard, runs_on, same_fault, stop_heard}
+use Rattle.resp_scan.proofs.CallClauses.Loops.{fault_again, less_work, piece_heard, refusal_heard, runs_on, same_fault, stop_heard, value_heard}
 use Rattle.resp_scan.proofs.machine.Machine.scan.Goals as goal
 
 pub loop-self-smaller : goal.loop-self-smaller
 loop-self-smaller g c =
     let v = rw c.behind.ensures at c.turn-turned.ensures.is_turn in
     less_work (place_of c.loop-self.self) (place_of c.turn-turned.new.self) (g.L.Listener.has_heard c.loop-self.listener)
-    (g.L.Listener.has_heard c.turn-turned.new.listener) g.L.Listener.may_stop c.args.piece.now c.loop-self.used c.turn-turned.result
+    (g.L.Listener.has_heard c.turn-turned.new.listener) (g.L.Listener.has_stopped c.turn-turned.new.listener) c.args.piece.now c.loop-self.used
+    c.turn-turned.result
     c.loop-self.invariant.within v c.in-On.is
 
 pub loop-self-preserved : goal.loop-self-preserved
@@ -20,19 +21,35 @@ loop-self-preserved g c =
     let v = rw c.behind.ensures at c.turn-turned.ensures.is_turn in
     runs_on (place_of c.args.self.now) (place_of c.loop-self.self) (place_of c.turn-turned.new.self)
     (g.L.Listener.has_heard c.args.listener.now) (g.L.Listener.has_heard c.loop-self.listener) (g.L.Listener.has_heard c.turn-turned.new.listener)
-    g.L.Listener.may_stop c.args.piece.now c.loop-self.used c.turn-turned.result c.loop-self.invariant v c.in-On.is
+    (g.L.Listener.has_stopped c.turn-turned.new.listener) c.args.piece.now c.loop-self.used c.turn-turned.result c.loop-self.invariant v c.in-On.is
 
 pub returns-in-More-clause-whole_piece : goal.returns-in-More-clause-whole_piece
 returns-in-More-clause-whole_piece g c none =
     let v = rw c.behind.ensures at c.turn-turned.ensures.is_turn in
     omega (arith, v.whole_piece c.in-More.is, length-drop c.loop-self.used c.args.piece.now, c.loop-self.invariant.within)
 
+pub returns-in-More-clause-used_up : goal.returns-in-More-clause-used_up
+returns-in-More-clause-used_up g c since front given w had none =
+    let v = rw c.behind.ensures at c.turn-turned.ensures.is_turn in
+    piece_heard (place_of c.args.self.now) (place_of c.loop-self.self) (place_of c.turn-turned.new.self)
+    (g.L.Listener.has_heard c.args.listener.now) (g.L.Listener.has_heard c.loop-self.listener) (g.L.Listener.has_heard c.turn-turned.new.listener)
+    (g.L.Listener.has_stopped c.turn-turned.new.listener) c.args.piece.now c.loop-self.used c.turn-turned.result c.loop-self.invariant v c.in-More.is
+    since front given w had
+
+pub returns-in-Done-clause-value_whole : goal.returns-in-Done-clause-value_whole
+returns-in-Done-clause-value_whole g c since front given w had whole =
+    let v = rw c.behind.ensures at c.turn-turned.ensures.is_turn in
+    value_heard (place_of c.args.self.now) (place_of c.loop-self.self) (place_of c.turn-turned.new.self)
+    (g.L.Listener.has_heard c.args.listener.now) (g.L.Listener.has_heard c.loop-self.listener) (g.L.Listener.has_heard c.turn-turned.new.listener)
+    (g.L.Listener.has_stopped c.turn-turned.new.listener) c.args.piece.now c.loop-self.used c.turn-turned.result c.loop-self.invariant v c.in-Done.is
+    since front given w had
+
 pub returns-in-More-clause-fault_is_final : goal.returns-in-More-clause-fault_is_final
 returns-in-More-clause-fault_is_final g c fault f =
     let v = rw c.behind.ensures at c.turn-turned.ensures.is_turn in
     let again = fault_again (place_of c.args.self.now) (place_of c.loop-self.self) (place_of c.turn-turned.new.self)
     (g.L.Listener.has_heard c.args.listener.now) (g.L.Listener.has_heard c.loop-self.listener) (g.L.Listener.has_heard c.turn-turned.new.listener)
-    g.L.Listener.may_stop c.args.piece.now c.loop-self.used c.turn-turned.result fault c.loop-self.invariant v f in
+    (g.L.Listener.has_stopped c.turn-turned.new.listener) c.args.piece.now c.loop-self.used c.turn-turned.result fault c.loop-self.invariant v f in
     absurd (let z : turn.More ≡ turn.Failed = sym c.in-More.is ∙ again.0 in cc)
 
 pub returns-in-Done-clause-fault_is_final : goal.returns-in-Done-clause-fault_is_final
@@ -40,7 +57,7 @@ returns-in-Done-clause-fault_is_final g c fault f =
     let v = rw c.behind.ensures at c.turn-turned.ensures.is_turn in
     let again = fault_again (place_of c.args.self.now) (place_of c.loop-self.self) (place_of c.turn-turned.new.self)
     (g.L.Listener.has_heard c.args.listener.now) (g.L.Listener.has_heard c.loop-self.listener) (g.L.Listener.has_heard c.turn-turned.new.listener)
-    g.L.Listener.may_stop c.args.piece.now c.loop-self.used c.turn-turned.result fault c.loop-self.invariant v f in
+    (g.L.Listener.has_stopped c.turn-turned.new.listener) c.args.piece.now c.loop-self.used c.turn-turned.result fault c.loop-self.invariant v f in
     absurd (let z : turn.Done ≡ turn.Failed = sym c.in-Done.is ∙ again.0 in cc)
 
 pub returns-in-Stopped-clause-fault_is_final : goal.returns-in-Stopped-clause-fault_is_final
@@ -48,7 +65,7 @@ returns-in-Stopped-clause-fault_is_final g c fault f =
     let v = rw c.behind.ensures at c.turn-turned.ensures.is_turn in
     let again = fault_again (place_of c.args.self.now) (place_of c.loop-self.self) (place_of c.turn-turned.new.self)
     (g.L.Listener.has_heard c.args.listener.now) (g.L.Listener.has_heard c.loop-self.listener) (g.L.Listener.has_heard c.turn-turned.new.listener)
-    g.L.Listener.may_stop c.args.piece.now c.loop-self.used c.turn-turned.result fault c.loop-self.invariant v f in
+    (g.L.Listener.has_stopped c.turn-turned.new.listener) c.args.piece.now c.loop-self.used c.turn-turned.result fault c.loop-self.invariant v f in
     absurd (let z : turn.Stopped ≡ turn.Failed = sym c.in-Stopped.is ∙ again.0 in cc)
 
 pub returns-in-Failed-clause-fault_is_final : goal.returns-in-Failed-clause-fault_is_final
@@ -56,7 +73,7 @@ returns-in-Failed-clause-fault_is_final g c fault f =
     let v = rw c.behind.ensures at c.turn-turned.ensures.is_turn in
     let again = fault_again (place_of c.args.self.now) (place_of c.loop-self.self) (place_of c.turn-turned.new.self)
     (g.L.Listener.has_heard c.args.listener.now) (g.L.Listener.has_heard c.loop-self.listener) (g.L.Listener.has_heard c.turn-turned.new.listener)
-    g.L.Listener.may_stop c.args.piece.now c.loop-self.used c.turn-turned.result fault c.loop-self.invariant v f in (
+    (g.L.Listener.has_stopped c.turn-turned.new.listener) c.args.piece.now c.loop-self.used c.turn-turned.result fault c.loop-self.invariant v f in (
       ap (λ x. Err (stop.Fault x)) (same_fault (place_of c.turn-turned.new.self) c.turn-turned.new.self.cause fault
           (c.turn-turned.ensures.failed c.in-Failed.is)
           (subst (λ x. IsFaulted x fault) (sym again.1) f)),
@@ -64,16 +81,18 @@ returns-in-Failed-clause-fault_is_final g c fault f =
     )
 
 pub returns-in-Failed-clause-refusal : goal.returns-in-Failed-clause-refusal
-returns-in-Failed-clause-refusal g c front given w had =
+returns-in-Failed-clause-refusal g c since front given w had =
     let v = rw c.behind.ensures at c.turn-turned.ensures.is_turn in
     refusal_heard (place_of c.args.self.now) (place_of c.loop-self.self) (place_of c.turn-turned.new.self)
     (g.L.Listener.has_heard c.args.listener.now) (g.L.Listener.has_heard c.loop-self.listener) (g.L.Listener.has_heard c.turn-turned.new.listener)
-    g.L.Listener.may_stop c.args.piece.now c.loop-self.used c.turn-turned.result c.turn-turned.new.self.cause c.loop-self.invariant v c.in-Failed.is
-    (c.turn-turned.ensures.failed c.in-Failed.is) front given w had
+    (g.L.Listener.has_stopped c.turn-turned.new.listener) c.args.piece.now c.loop-self.used c.turn-turned.result c.turn-turned.new.self.cause
+    c.loop-self.invariant v c.in-Failed.is
+    (c.turn-turned.ensures.failed c.in-Failed.is) since front given w had
 
 pub returns-in-Stopped-clause-stopped : goal.returns-in-Stopped-clause-stopped
-returns-in-Stopped-clause-stopped g c front given w had =
+returns-in-Stopped-clause-stopped g c since front given w had =
     let v = rw c.behind.ensures at c.turn-turned.ensures.is_turn in
     rw c.stop.ensures (stop_heard (place_of c.args.self.now) (place_of c.loop-self.self) (place_of c.turn-turned.new.self)
     (g.L.Listener.has_heard c.args.listener.now) (g.L.Listener.has_heard c.loop-self.listener) (g.L.Listener.has_heard c.turn-turned.new.listener)
-    g.L.Listener.may_stop c.args.piece.now c.loop-self.used c.turn-turned.result c.loop-self.invariant v c.in-Stopped.is front given w had)
+    (g.L.Listener.has_stopped c.turn-turned.new.listener) c.args.piece.now c.loop-self.used c.turn-turned.result c.loop-self.invariant v
+    c.in-Stopped.is since front given w had)

@@ -22,6 +22,7 @@ returns-in-Some-clause-is_turn g c s sound out =
     let told = rw c.behind-after.ensures at c.in-Some.ensures.content in
     let h = c.tell_whole.ensures.turn in
     content_turn s c.args.self.now c.tell_whole.new.self c.args.taken c.in-Some.run' c.args.rest.now
-    (g.L.Listener.has_heard c.args.listener.now) (g.L.Listener.has_heard c.tell_whole.new.listener) g.L.Listener.may_stop h.0 c.tell_whole.result
+    (g.L.Listener.has_heard c.args.listener.now) (g.L.Listener.has_heard c.tell_whole.new.listener)
+    (g.L.Listener.has_stopped c.tell_whole.new.listener) h.0 c.tell_whole.result
     (is_text c.args.rest.now (λ i. (c.type_inv.rest i).fits)) sound c.requires.tag out told.0 told.1
     c.tell_whole.ensures.machine h.2 c.tell_whole.ensures.used h.1

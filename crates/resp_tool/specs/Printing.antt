@@ -1,0 +1,55 @@
+-- What was printed of a value since a call began.
+use Rattle.std.specs.Prelude.{◌≡◌, ℕ, ◌≤◌, ◌<◌, List, ◌++◌, length, Option}
+use Rattle.resp_value.specs.Devices.{Appends, HasRisen}
+use Rattle.resp_scan.specs.Counts.{open_count}
+use Rattle.resp_scan.specs.Machine.Tokens.{Place}
+use Rattle.resp_scan.specs.Reading.{Events, HasRead}
+use Rattle.resp_tool.specs.Lines.{HasRoomFor, page_of}
+use Rattle.resp_tool.specs.Pages.{page_after, shown}
+use Rattle.resp_tool.specs.Scans.{AreLinesOf}
+use Rattle.resp_tool.specs.declared.lines.Lines.{Lines}
+
+-- what stood when a call began: what the writer held, how many writes had failed, and the text of the value so far
+pub record Start : Type 0 where
+  pub held : Option (List ℕ)
+  pub failures : ℕ
+  pub so_far : List ℕ
+
+-- since then the text of these events was completed, and no write failed
+pub record HasPrinted (since : Start) (lines : Lines) (held : Option (List ℕ)) (failures : ℕ) (given : Events) : Type 0
+  where
+    pub shown_lines : AreLinesOf lines given
+    pub more : List ℕ
+    pub appended : Appends since.held held more
+    pub whole : since.so_far ++ more ≡ shown given
+    pub none_failed : failures ≡ since.failures
+
+-- since then a write failed, and the text of these events is there in part
+pub record HasBroken (since : Start) (held : Option (List ℕ)) (failures : ℕ) (told : Events) : Type 0 where
+  pub more : List ℕ
+  pub later : List ℕ
+  pub appended : Appends since.held held more
+  pub parts : shown told ≡ since.so_far ++ (more ++ later)
+  pub failed : HasRisen since.failures failures
+
+-- what stood when a call began, and the references that it was given
+pub record Call : Type 0 where
+  pub lines_name : ℕ
+  pub writer_name : ℕ
+  pub start : Start
+
+-- a printer has the references of the call
+pub record IsOfCall (call : Call) (lines_name writer_name : ℕ) : Type 0 where
+  pub lines : lines_name ≡ call.lines_name
+  pub writer : writer_name ≡ call.writer_name
+
+-- this holds of every front that a scanner has read, and of every start since which the text of its events was
+-- completed
+abbrev pub WherePrinted : Place → Lines → Option (List ℕ) → ℕ → (Start → List ℕ → Type 0) → Type 0
+WherePrinted s lines held failures P = (since : Start) (front : List ℕ) (given : Events) → HasRead s front given →
+    HasPrinted since lines held failures given → P since front
+
+-- what is open is that behind these events, where the counts and the lines have room for them
+abbrev pub IsPageBehind : Lines → Lines → Events → Type 0
+IsPageBehind old new more = HasRoomFor (length more) (page_of old) →
+    (1 ≤ open_count more → length (page_of old).open_lines < 128) → page_of new ≡ page_after more (page_of old)

@@ -1,0 +1,112 @@
+//! The listener by which `show` writes: it prints the lines of what it is told.
+
+ghost use Rattle.std.specs.Prelude.{◌≡◌, ◌≤◌, ◌++◌, length, take, false, IfOk};
+ghost use Rattle.resp_scan.specs.Kinds.{rules_of};
+ghost use Rattle.resp_scan.specs.Listening.{HearsPiece, HearsRefusal, HearsValue, IfRefused, IfStopped, IfUsedUp, IfWhole, StopsBehind};
+ghost use Rattle.resp_tool.specs.Printing.{HasBroken, HasPrinted, WherePrinted};
+
+use crate::lines::Lines;
+use resp_scan::event::{ScanError, Scanned, TextKind};
+use resp_scan::listener::Listener;
+use resp_scan::scanner::Scanner;
+use resp_value::device::Sink;
+use resp_value::kind::OpenKind;
+
+/// Writes the lines of the events that it is told, and stops where a write fails.
+#[derive(Drop)]
+struct Printer<'a, W> {
+    lines: &'a mut Lines,
+    writer: &'a mut W,
+}
+
+impl<W: Sink> Listener for Printer<'_, W> {
+    ghost use Rattle.resp_tool.specs.Printing.{Call, IsOfCall};
+
+    ghost Origin = { Call };
+
+    ghost has_heard = { λ p call es. IsOfCall call p.lines.ghost_name p.writer.ghost_name ×
+        HasPrinted call.start p.lines.now (W.written p.writer.now) (W.failures p.writer.now) es };
+
+    ghost has_stopped = { λ p call es. IsOfCall call p.lines.ghost_name p.writer.ghost_name ×
+        HasBroken call.start (W.written p.writer.now) (W.failures p.writer.now) es };
+
+    #[inline]
+    fn null(&mut self) -> bool {
+        self.lines.null(&mut *self.writer).is_ok()
+    }
+
+    #[inline]
+    fn truth(&mut self, truth: bool) -> bool {
+        self.lines.truth(truth, &mut *self.writer).is_ok()
+    }
+
+    #[inline]
+    fn int(&mut self, number: i64) -> bool {
+        self.lines.int(number, &mut *self.writer).is_ok()
+    }
+
+    #[inline]
+    fn text(&mut self, kind: TextKind) -> bool {
+        self.lines.text(kind, &mut *self.writer).is_ok()
+    }
+
+    #[inline]
+    fn part(&mut self, part: &[u8]) -> bool {
+        self.lines.part(part, &mut *self.writer).is_ok()
+    }
+
+    #[inline]
+    fn text_end(&mut self) -> bool {
+        self.lines.text_end(&mut *self.writer).is_ok()
+    }
+
+    #[inline]
+    fn open(&mut self, kind: OpenKind, count: Option<u64>) -> bool {
+        self.lines.open(kind, count, &mut *self.writer).is_ok()
+    }
+
+    #[inline]
+    fn close(&mut self) -> bool {
+        self.lines.close(&mut *self.writer).is_ok()
+    }
+
+    #[inline]
+    fn whole_text(&mut self, kind: TextKind, bytes: &[u8]) -> bool {
+        self.lines
+            .whole_text(kind, bytes, &mut *self.writer)
+            .is_ok()
+    }
+}
+
+/// Scans a piece up to the end of a value, and writes the lines of its events. Where a write fails
+/// the scan stops.
+pub fn print_piece<W: Sink>(
+    scanner: &mut Scanner,
+    piece: &[u8],
+    lines: &mut Lines,
+    writer: &mut W,
+) -> Result<Scanned, ScanError>
+    ensures value_whole { WherePrinted scanner.old lines.old (W.written writer.old)
+        (W.failures writer.old) (λ since front. IfWhole result (λ used.
+        HearsValue (rules_of scanner.old) scanner.new (HasPrinted since lines.new
+        (W.written writer.new) (W.failures writer.new)) (front ++ take used piece.now))) }
+    ensures used_up { WherePrinted scanner.old lines.old (W.written writer.old)
+        (W.failures writer.old) (λ since front. IfUsedUp result
+        (HearsPiece scanner.new (HasPrinted since lines.new (W.written writer.new)
+        (W.failures writer.new)) (front ++ piece.now))) }
+    ensures refusal { WherePrinted scanner.old lines.old (W.written writer.old)
+        (W.failures writer.old) (λ since front. IfRefused result
+        (HearsRefusal (rules_of scanner.old) (HasPrinted since lines.new (W.written writer.new)
+        (W.failures writer.new)) front piece.now)) }
+    ensures stopped { WherePrinted scanner.old lines.old (W.written writer.old)
+        (W.failures writer.old) (λ since front. IfStopped result
+        (StopsBehind (rules_of scanner.old) (HasBroken since (W.written writer.new)
+        (W.failures writer.new)) front piece.now)) }
+    ensures within_piece { IfOk result (λ scanned. scanned.used ≤ length piece.now) }
+    ensures whole_piece { IfOk result (λ scanned.
+        scanned.is_whole ≡ false → scanned.used ≡ length piece.now) }
+    ensures same_rules { rules_of scanner.new ≡ rules_of scanner.old }
+{
+    let mut printer = Printer { lines, writer };
+    scanner.scan(piece, &mut printer)
+}

@@ -1,0 +1,74 @@
+//! The line of a text that has come whole, where it is short and plain: it is made first, so that
+//! one write is enough.
+
+ghost use Rattle.std.specs.Prelude.{◌≡◌, ◌++◌, codes, decimal, false, true, IfSome};
+ghost use Rattle.resp_scan.specs.Kinds.{text_kind_of};
+ghost use Rattle.resp_tool.specs.Pages.{is_big, text_line, text_words};
+
+use crate::text::is_all_plain;
+use arrayvec::ArrayVec;
+use itoa::Buffer;
+use resp_scan::event::TextKind;
+
+/// The most bytes of content of a short line.
+const MOST_CONTENT: usize = 96;
+
+/// The line of a text, where it is short and each byte stands for itself.
+#[inline]
+pub fn short_line(kind: TextKind, bytes: &[u8]) -> Option<ArrayVec<u8, 128>>
+    ensures { IfSome result (λ line. line.items ≡ text_line (text_kind_of kind) bytes.now) }
+{
+    if bytes.len() > MOST_CONTENT || !is_all_plain(bytes) {
+        return None;
+    }
+    let mut line = ArrayVec::new();
+    if !push_words(&mut line, kind) {
+        return None;
+    }
+    let Ok(()) = line.try_extend_from_slice(bytes) else {
+        return None;
+    };
+    if !push_size(&mut line, bytes.len() as u64) {
+        return None;
+    }
+    Some(line)
+}
+
+/// Adds the words up to the content, where there is room, and it is one that is quoted.
+#[inline]
+fn push_words(line: &mut ArrayVec<u8, 128>, kind: TextKind) -> bool
+    ensures words { result ≡ true →
+        line.new.items ≡ line.old.items ++ text_words (text_kind_of kind) }
+    ensures quoted { result ≡ true → is_big (text_kind_of kind) ≡ false }
+{
+    match kind {
+        TextKind::Simple => line.try_extend_from_slice(b"simple \"").is_ok(),
+        TextKind::Error => line.try_extend_from_slice(b"error \"").is_ok(),
+        TextKind::Bulk => line.try_extend_from_slice(b"bulk \"").is_ok(),
+        TextKind::BulkError => line.try_extend_from_slice(b"bulkerror \"").is_ok(),
+        TextKind::Verbatim(_) => false,
+        TextKind::Big { .. } => false,
+    }
+}
+
+/// Adds what stands behind the content, where there is room: a quote and the number of its bytes.
+#[inline]
+fn push_size(line: &mut ArrayVec<u8, 128>, size: u64) -> bool
+    ensures { result ≡ true →
+        line.new.items ≡ line.old.items ++ (codes "\" " ++ decimal size ++ codes "\n") }
+{
+    if size < 10 {
+        let digit = b'0' + size as u8;
+        return line
+            .try_extend_from_slice(&[b'"', b' ', digit, b'\n'])
+            .is_ok();
+    }
+    let mut digits = Buffer::new();
+    let Ok(()) = line.try_extend_from_slice(b"\" ") else {
+        return false;
+    };
+    let Ok(()) = line.try_extend_from_slice(digits.format(size).as_bytes()) else {
+        return false;
+    };
+    line.try_extend_from_slice(b"\n").is_ok()
+}

@@ -1,0 +1,100 @@
+use Rattle.std.proofs.Common.{rules, ◌≡◌, ◌++◌, ◌∙◌, ap, arith, drop, length, min, refl, subst, take}
+use Rattle.std.proofs.lemmas.List.{take_min}
+use Rattle.resp_client.specs.Clients.{ClientState, state_of, without_front}
+use Rattle.resp_server.specs.Handling.{HasAnswered, WhereOpen}
+use Rattle.resp_wire.specs.Carrying.{HasBrought, StopsCarrying}
+use Rattle.resp_wire.proofs.AnsweredOn.{brings_more, brings_none, sent_twice, stops_more}
+use Rattle.resp_wire.proofs.Queueing.{keeps_on}
+use Rattle.resp_wire.proofs.Seated.{at_open, where_open}
+use Rattle.resp_wire.proofs.carrying.carry_to_server.Goals as goal
+
+pub loop-done-init : goal.loop-done-init
+loop-done-init g c =
+    let old = c.args.hub.now in
+    let id = c.args.id in
+    record {
+      brought = λ honest. where_open old id _ (λ s here not_closing front taken.
+          brings_none old id s front (state_of c.args.client.now).out c.args.order.now.items c.args.number c.in-Ok.closing here
+          (at_open old id (λ t f. HasAnswered old old id t f 0) s front c.is_closing.ensures.waiting here not_closing taken) c.in-Ok.ensures.closing
+          (search rules));
+      honest = λ honest. honest;
+      none_failed = refl;
+      sent = refl;
+      same_reading = record { same_front = λ front h. h; same_fault = λ fault h. h };
+      within = omega arith;
+    }
+
+pub returns-in-Err-clause-refusal : goal.returns-in-Err-clause-refusal
+returns-in-Err-clause-refusal g c honest =
+    let i = c.loop-done.invariant in
+    let old = c.args.hub.now in
+    let mid = c.loop-done.hub in
+    let id = c.args.id in
+    let out = (state_of c.args.client.now).out in
+    let order = c.args.order.now.items in
+    let order' = c.loop-done.order.items in
+    let number = c.args.number in
+    let done = c.loop-done.done in
+    let cause = c.in-Err.cause in
+    let failures = g.L.Link.failures c.args.link.now in
+    let failures' = g.L.Link.failures c.loop-done.link in
+    let failures'' = g.L.Link.failures c.give.new.link in
+    where_open old id _ (λ s here not_closing front taken.
+    stops_more c.answers_go_on.ensures c.answers_are_added.ensures old mid id s front out order order' number done failures failures' failures'' cause here
+    (at_open old id (λ t f. HasBrought old mid id t (f ++ take done out) order order' number) s front (i.brought honest) here not_closing taken)
+    i.none_failed
+    (subst (λ z. WhereOpen mid id (λ t f. StopsCarrying mid id t f z failures' failures'' cause)) (ap (λ (z : ClientState). z.out) i.sent)
+    (c.in-Err.ensures.refusal (i.honest honest))))
+
+pub returns-in-Err-clause-same_reading : goal.returns-in-Err-clause-same_reading
+returns-in-Err-clause-same_reading g c =
+    keeps_on c.args.client.now c.loop-done.client c.give.new.client c.loop-done.invariant.same_reading c.give.ensures.same_reading
+
+pub loop-done-preserved : goal.loop-done-preserved
+loop-done-preserved g c =
+    let i = c.loop-done.invariant in
+    let old = c.args.hub.now in
+    let mid = c.loop-done.hub in
+    let new = c.give.new.hub in
+    let id = c.args.id in
+    let client = state_of c.args.client.now in
+    let out = client.out in
+    let order = c.args.order.now.items in
+    let order' = c.loop-done.order.items in
+    let order'' = c.give.new.order.items in
+    let number = c.args.number in
+    let done = c.loop-done.done in
+    let n = c.min-length.result in
+    let full : length (take n c.loop-done.into) ≡ n = search rules in
+    let left : (state_of c.loop-done.client).out ≡ drop done out = ap (λ (z : ClientState). z.out) i.sent in
+    let piece : take (length (take n c.loop-done.into)) (state_of c.loop-done.client).out ≡ take n (drop done out) =
+    ap (λ k. take k (state_of c.loop-done.client).out) full ∙ ap (take n) left in
+    record {
+      brought = λ honest. where_open old id _ (λ s here not_closing front taken.
+          brings_more c.answers_go_on.ensures c.answers_are_added.ensures old mid new id s front out order order' order'' number done n here
+          (at_open old id (λ t f. HasBrought old mid id t (f ++ take done out) order order' number) s front (i.brought honest) here not_closing taken)
+          (subst (λ z. WhereOpen mid id (λ t f. HasBrought mid new id t (f ++ z) order' order'' number)) piece
+          (c.in_default-give.ensures.brought (i.honest honest))));
+      honest = λ honest. c.in_default-give.ensures.honest (i.honest honest);
+      none_failed = c.in_default-give.ensures.none_failed ∙ i.none_failed;
+      sent = c.in_default-give.ensures.sent ∙ ap (λ k. without_front k (state_of c.loop-done.client)) full ∙ ap (without_front n) i.sent ∙
+          sent_twice client done n;
+      same_reading = keeps_on c.args.client.now c.loop-done.client c.give.new.client i.same_reading c.give.ensures.same_reading;
+      within = search rules;
+    }
+
+pub returns-clause-brought : goal.returns-clause-brought
+returns-clause-brought g c honest =
+    let old = c.args.hub.now in
+    let new = c.loop-done.hub in
+    let id = c.args.id in
+    let out = (state_of c.args.client.now).out in
+    let order = c.args.order.now.items in
+    let order' = c.loop-done.order.items in
+    let number = c.args.number in
+    let done = c.loop-done.done in
+    let all : done ≡ min c.args.count (length out) = search rules in
+    where_open old id _ (λ s here not_closing front taken.
+    subst (λ z. HasBrought old new id s (front ++ z) order order' number) (ap (λ k. take k out) all ∙ take_min c.args.count out)
+    (at_open old id (λ t f. HasBrought old new id t (f ++ take done out) order order' number) s front (c.loop-done.invariant.brought honest) here
+    not_closing taken))

@@ -1,0 +1,23 @@
+use Rattle.std.proofs.Common.{rules, ◌≡◌, ◌++◌, length, take, sym, subst, ap, ◌∙◌}
+use Rattle.resp_client.specs.Clients.{state_of}
+use Rattle.resp_wire.specs.Carrying.{StopsShowing}
+use Rattle.resp_wire.specs.Stops.{StopsHearing}
+use Rattle.resp_wire.proofs.Showing.{if_there, stops_showing, waits_there}
+use Rattle.resp_wire.proofs.carrying.show.Goals as goal
+
+pub returns-in-Err-hear_piece-clause-refusal : goal.returns-in-Err-hear_piece-clause-refusal
+returns-in-Err-hear_piece-clause-refusal g c honest =
+    let old = c.args.hub.now in
+    let id = c.args.id in
+    let client = state_of c.args.client.now in
+    let count = length c.args.room.now in
+    let carried = c.in_default-carry.ensures.carried honest in
+    let same : c.carry.new.into ≡ take count c.in-Ok.out.now = search (rules, carried) in
+    let e = c.in-Err-hear_piece.error in
+    let failures = g.L.Link.failures c.args.link.now in
+    let failures' = g.L.Link.failures c.carry.new.self in
+    if_there old id _ (λ s here front taken.
+    subst (StopsShowing client c.args.heard.now c.hear_piece.new.heard front s.out failures failures') (sym c.cause_of.ensures)
+    (stops_showing client c.args.heard.now c.hear_piece.new.heard front s.out count failures failures' e
+    (subst (λ z. StopsHearing client c.args.heard.now c.hear_piece.new.heard (front ++ z) e)
+    (same ∙ ap (take count) (sym (waits_there old id s c.in-Ok.out.now here c.in-Ok.ensures.waiting))) (c.in-Err-hear_piece.ensures.refusal front taken))))

@@ -1,0 +1,28 @@
+use Rattle.std.proofs.Common.{◌-◌, ◌≤◌, length, set, subst}
+use Rattle.resp_session.specs.Requests.{Hello}
+use Rattle.resp_session.specs.Worlds.{Greet}
+use Rattle.resp_wire.specs.Ends.{Takes}
+use Rattle.resp_wire.specs.Happening.{Happens, IsOpenEnd}
+use Rattle.resp_wire.specs.Worlds.{WorldState}
+use Rattle.resp_wire.proofs.worlds.Events.{both_ok, greets}
+use Rattle.resp_wire.proofs.world.World.hello.Goals as goal
+
+pub returns-clause-happens : goal.returns-clause-happens
+returns-clause-happens g c =
+    let s = c.self.inside in
+    let n = c.args.number in
+    let asked = c.args.asked in
+    let new : WorldState g.row.L.Denot = record {
+      hub = s.hub;
+      ends = set s.ends.items (n - 1) c.hello.new.self;
+      links = s.links.items;
+      order = s.order.items;
+      stopped = s.stopped;
+    } in
+    both_ok c.hello.result (Takes c.index_mut.result.now c.hello.new.self (Hello asked)) (Takes c.index_mut.result.now c.hello.new.self (Hello asked))
+    (Happens g.L.Link.is_honest c.args.self.now new (Greet n asked)) c.hello.ensures.takes c.hello.ensures.takes
+    (λ outcome takes same. subst (λ (z : WorldState g.row.L.Denot). (1 ≤ n) × (n ≤ length z.ends) → IsOpenEnd z.ends (n - 1) →
+    Happens g.L.Link.is_honest z new (Greet n asked) outcome) c.self.view_is
+    (λ there is_open. greets g.L.Link.is_honest c.readings_stay.ensures c.what_has_come_was_sent.ensures.was_sent c.what_has_come_was_sent.ensures.stays
+    c.a_change_is_of_one_connection.ensures s.hub s.ends.items s.links.items s.order.items s.stopped n asked c.index_mut.result.now c.hello.new.self outcome
+    there is_open c.index_mut.ensures.value takes) c.requires.there c.requires.is_open)

@@ -1,0 +1,49 @@
+use Rattle.std.proofs.Common.{◌≡◌, ◌∙◌, None, arith, map, refl, subst, sym}
+use Rattle.resp_wire.specs.Happening.{RunsTo}
+use Rattle.resp_wire.specs.Worlds.{event_of}
+use Rattle.resp_wire.proofs.world.World.run.Goals as goal
+use Rattle.resp_wire.proofs.worlds.Running.{among, event_there, runs_none, runs_one_more, stopped_at_once, up_to_last, was_going}
+
+pub loop-index-init : goal.loop-index-init
+loop-index-init g c = record {
+  within = omega arith;
+  happens = runs_none g.L.Link.is_honest c.args.self.now;
+  same = refl;
+  going = λ less. absurd (omega (arith, less));
+}
+
+pub returns-in-Err-clause-stops : goal.returns-in-Err-clause-stops
+returns-in-Err-clause-stops g c =
+    let i = c.loop-index.invariant in
+    record {
+      within = among c.args.events.now c.loop-index.index c.loop-index-test.true;
+      between = c.loop-index.self;
+      before = i.happens;
+      stopped = stopped_at_once c.args.self.now.stopped c.loop-index.self.stopped c.loop-index.index c.in-Err.stop i.same i.going
+          c.in-Err.ensures.stopped_before;
+      reason = λ none. c.in-Err.ensures.stops (i.same ∙ none);
+    }
+
+pub loop-index-preserved : goal.loop-index-preserved
+loop-index-preserved g c =
+    let i = c.loop-index.invariant in
+    let less = c.loop-index-test.true in
+    let event = c.index-events-index.result in
+    let were : c.loop-index.self.stopped ≡ None = was_going c.loop-index.self.stopped c.in_default.field-0 c.in_default.ensures.stopped_before in
+    let none : c.args.self.now.stopped ≡ None = sym i.same ∙ were in
+    record {
+      within = omega (arith, less);
+      happens = runs_one_more g.L.Link.is_honest c.args.self.now c.loop-index.self c.step.new.self (map event_of c.args.events.now) c.loop-index.index
+          (event_of event) c.in_default.field-0 i.happens (event_there c.args.events.now c.loop-index.index event less c.index-events-index.is)
+          c.in_default.ensures.happens;
+      same = c.in_default.ensures.going ∙ sym none;
+      going = λ _. none;
+    }
+
+pub returns-clause-happens : goal.returns-clause-happens
+returns-clause-happens g c =
+    let i = c.loop-index.invariant in
+    let within = i.within in
+    let past = c.loop-index-test.false in
+    subst (RunsTo g.L.Link.is_honest c.args.self.now c.loop-index.self)
+    (up_to_last c.args.events.now c.loop-index.index (omega (arith, within, past))) i.happens

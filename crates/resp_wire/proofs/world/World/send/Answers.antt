@@ -1,0 +1,30 @@
+use Rattle.std.proofs.Common.{◌≡◌, ◌-◌, ◌≤◌, length, set, subst}
+use Rattle.resp_value.specs.Commands.{words_of}
+use Rattle.resp_session.specs.Requests.{Command, HasBytes}
+use Rattle.resp_session.specs.Worlds.{Send}
+use Rattle.resp_wire.specs.Ends.{Takes}
+use Rattle.resp_wire.specs.Happening.{Happens, IsOpenEnd}
+use Rattle.resp_wire.specs.Worlds.{WorldState}
+use Rattle.resp_wire.specs.declared.event.Outcome.TheVariants.{Done}
+use Rattle.resp_wire.proofs.worlds.Events.{both_ok, sends}
+use Rattle.resp_wire.proofs.world.World.send.Goals as goal
+
+pub returns-clause-happens : goal.returns-clause-happens
+returns-clause-happens g c =
+    let s = c.self.inside in
+    let n = c.args.number in
+    let words = words_of c.args.command.now in
+    let new : WorldState g.row.L.Denot = record {
+      hub = s.hub;
+      ends = set s.ends.items (n - 1) c.send.new.self;
+      links = s.links.items;
+      order = s.order.items;
+      stopped = s.stopped;
+    } in
+    both_ok c.send.result (Takes c.index_mut.result.now c.send.new.self (Command words)) (λ outcome. outcome ≡ Done → HasBytes (Command words))
+    (Happens g.L.Link.is_honest c.args.self.now new (Send n words)) c.send.ensures.takes c.send.ensures.bytes
+    (λ outcome takes bytes. subst (λ (z : WorldState g.row.L.Denot). (1 ≤ n) × (n ≤ length z.ends) → IsOpenEnd z.ends (n - 1) →
+    Happens g.L.Link.is_honest z new (Send n words) outcome) c.self.view_is
+    (λ there is_open. sends g.L.Link.is_honest c.readings_stay.ensures c.what_has_come_was_sent.ensures.was_sent c.what_has_come_was_sent.ensures.stays
+    c.a_change_is_of_one_connection.ensures s.hub s.ends.items s.links.items s.order.items s.stopped n words c.index_mut.result.now c.send.new.self outcome
+    there is_open c.index_mut.ensures.value takes bytes) c.requires.there c.requires.is_open)

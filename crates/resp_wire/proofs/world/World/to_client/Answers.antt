@@ -1,0 +1,71 @@
+use Rattle.std.proofs.Common.{◌≡◌, ◌-◌, ◌≤◌, length, set, sym, subst, IfErr}
+use Rattle.resp_value.specs.declared.cause.Cause.TheVariants.{OutOfMemory}
+use Rattle.resp_session.specs.Worlds.{ToClient}
+use Rattle.resp_wire.specs.Ends.{Keeps}
+use Rattle.resp_wire.specs.Happening.{Fails, Happens, IsOpenEnd}
+use Rattle.resp_wire.specs.Worlds.{WorldState}
+use Rattle.resp_wire.specs.declared.event.Outcome.TheVariants.{Done}
+use Rattle.resp_wire.proofs.worlds.Carried.{with_client}
+use Rattle.resp_wire.proofs.worlds.Events.{both_ok}
+use Rattle.resp_wire.proofs.worlds.Moves.{err_of, moves_to_client, stops_for_memory, stops_to_client}
+use Rattle.resp_wire.proofs.world.World.to_client.Goals as goal
+
+pub returns-clause-happens : goal.returns-clause-happens
+returns-clause-happens g c =
+    let s = c.self.inside in
+    let n = c.args.number in
+    let e = c.index_mut-2.result.now in
+    let carried = c.carry_to_client-carried.new in
+    let new : WorldState g.row.L.Denot = record {
+      hub = carried.hub;
+      ends = set (set s.ends.items (n - 1) (with_client e carried.client)) (n - 1) c.keep.new.self;
+      links = set s.links.items (n - 1) carried.link;
+      order = s.order.items;
+      stopped = s.stopped;
+    } in
+    both_ok c.keep.result (λ _. Keeps c.index_mut-3.result.now c.keep.new.self carried.heard) (λ outcome. outcome ≡ Done)
+    (Happens g.L.Link.is_honest c.args.self.now new (ToClient n c.args.count)) c.keep.ensures.kept c.keep.ensures.done
+    (λ outcome kept done. subst (Happens g.L.Link.is_honest c.args.self.now new (ToClient n c.args.count)) (sym done)
+    (subst (λ (z : WorldState g.row.L.Denot). (1 ≤ n) × (n ≤ length z.ends) → IsOpenEnd z.ends (n - 1) →
+    Happens g.L.Link.is_honest z new (ToClient n c.args.count) Done) c.self.view_is
+    (λ there is_open. moves_to_client g.L.Link.is_honest c.readings_go_on.ensures c.what_is_shown_is_read.ensures.nothing_else
+    c.a_change_is_of_one_connection.ensures s.hub carried.hub s.ends.items s.links.items s.order.items s.stopped n c.args.count e c.index_mut-3.result.now
+    c.keep.new.self carried.client c.index_mut.result.now carried.link c.new-heard.result carried.heard c.self.invariant there is_open
+    c.index_mut-2.ensures.value c.index_mut.ensures.value c.index_mut-3.ensures.value c.new-heard.ensures.replies c.new-heard.ensures.pushes
+    c.in_default.ensures.heard c.in_default.ensures.dropped c.in_default.ensures.honest kept) c.requires.there c.requires.is_open))
+
+pub returns-clause-stops : goal.returns-clause-stops
+returns-clause-stops g c =
+    let s = c.self.inside in
+    let n = c.args.number in
+    let carried = c.carry_to_client-carried.new in
+    let new : WorldState g.row.L.Denot = record {
+      hub = carried.hub;
+      ends = set (set s.ends.items (n - 1) (with_client c.index_mut-2.result.now carried.client)) (n - 1) c.keep.new.self;
+      links = set s.links.items (n - 1) carried.link;
+      order = s.order.items;
+      stopped = s.stopped;
+    } in
+    err_of c.keep.result (Fails g.L.Link.is_honest g.L.Link.failures c.args.self.now new)
+    (λ cause is. stops_for_memory g.L.Link.is_honest g.L.Link.failures c.args.self.now new cause (subst (λ r. IfErr r (λ z. z ≡ OutOfMemory)) is c.keep.ensures.memory))
+
+pub returns-in-Err-clause-stops : goal.returns-in-Err-clause-stops
+returns-in-Err-clause-stops g c =
+    let s = c.self.inside in
+    let n = c.args.number in
+    let e = c.index_mut-2.result.now in
+    let carried = c.carry_to_client-carried.new in
+    let ends' = set s.ends.items (n - 1) (with_client e carried.client) in
+    let new : WorldState g.row.L.Denot = record {
+      hub = carried.hub;
+      ends = ends';
+      links = set s.links.items (n - 1) carried.link;
+      order = s.order.items;
+      stopped = s.stopped;
+    } in
+    subst (λ (z : WorldState g.row.L.Denot). (1 ≤ n) × (n ≤ length z.ends) → IsOpenEnd z.ends (n - 1) →
+    Fails g.L.Link.is_honest g.L.Link.failures z new c.in-Err.cause) c.self.view_is
+    (λ there is_open. stops_to_client g.L.Link.is_honest g.L.Link.failures c.readings_go_on.ensures c.what_is_shown_is_read.ensures.no_fault
+    c.a_change_is_of_one_connection.ensures s.hub carried.hub s.ends.items ends' s.links.items s.order.items s.order.items s.stopped n e c.index_mut.result.now
+    carried.link c.new-heard.result carried.heard c.in-Err.cause c.self.invariant there is_open c.index_mut-2.ensures.value c.index_mut.ensures.value
+    c.in-Err.ensures.refusal) c.requires.there c.requires.is_open

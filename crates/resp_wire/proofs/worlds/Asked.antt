@@ -1,0 +1,129 @@
+-- Requests that a client of a world queues or refuses.
+use Rattle.std.proofs.Common.{◌≡◌, ℕ, suc, ◌+◌, ◌<◌, ◌^◌, false, Some, Option, List, [], ◌∷◌, ◌++◌, length, map, drop, slice_get, sym, ap, subst, ◌∙◌, arith, length-append}
+use Rattle.std.proofs.lemmas.List.{drop-append-le, map-append}
+use Rattle.resp_value.specs.Bounds.{Bounds}
+use Rattle.resp_value.specs.declared.cause.Cause.{Cause}
+use Rattle.resp_value.specs.declared.cause.Cause.TheVariants as cause
+use Rattle.resp_value.specs.declared.version.Version.TheVariants.{Two}
+use Rattle.resp_session.specs.Connections.{Connection, sent_text, shown_messages, values_of, with_request}
+use Rattle.resp_session.specs.Reading.{ReadsAs}
+use Rattle.resp_session.specs.ReadingLaws.{ReadingsStay}
+use Rattle.resp_session.specs.Requests.{FitsRequest, RefusesRequest, Request, is_unsent_request, request_text, version_asked}
+use Rattle.resp_session.specs.Serving.{ArrivalsStay, WhatHasComeWasSent}
+use Rattle.resp_session.specs.Worlds.{World, connection_at}
+use Rattle.resp_server.specs.Hubs.{HubState, Seat, seat_at}
+use Rattle.resp_client.specs.Clients.{ClientState, queued, state_of}
+use Rattle.resp_wire.specs.Ends.{Queues, StaysAs}
+use Rattle.resp_wire.specs.Worlds.{ShowsClient, ShowsEach}
+use Rattle.resp_wire.specs.declared.end.End.{End}
+use Rattle.resp_wire.proofs.worlds.Reading.{one_more_request}
+
+-- what may be sent is refused for no cause
+pub not_refused : (limits : Bounds) (count : ℕ) (request : Request) → is_unsent_request request ≡ false → FitsRequest limits request → count < 2 ^ 63 →
+    (cause : Cause) → RefusesRequest limits count request cause → ⊥
+not_refused limits count request sent fits few cause.Syntax r = r
+not_refused limits count request sent fits few cause.Double r = r
+not_refused limits count request sent fits few cause.Version r = r
+not_refused limits count request sent fits few cause.NestedPush r = r
+not_refused limits count request sent fits few cause.Range r = r
+not_refused limits count request sent fits few cause.Depth r = r
+not_refused limits count request sent fits few cause.Length r = r
+not_refused limits count request sent fits few cause.Total r = r
+not_refused limits count request sent fits few cause.Truncated r = r
+not_refused limits count request sent fits few cause.OutOfMemory r = r
+not_refused limits count request sent fits few cause.Streamed r = r
+not_refused limits count request sent fits few cause.Items r = r
+not_refused limits count request sent fits few cause.Unasked r = r
+not_refused limits count request sent fits few cause.TooLarge r = r.1 fits
+not_refused limits count request sent fits few cause.BadCommand r = absurd (cc)
+not_refused limits count request sent fits few cause.TooMany r = let many = r.2 in omega (arith, few, many)
+not_refused limits count request sent fits few cause.TooManySessions r = r
+not_refused limits count request sent fits few cause.NoSession r = r
+not_refused limits count request sent fits few cause.Closing r = r
+not_refused limits count request sent fits few cause.NotInVersion r = r
+not_refused limits count request sent fits few cause.PushBelowTop r = r
+not_refused limits count request sent fits few (cause.OverLimits limit) r = r
+not_refused limits count request sent fits few cause.Read r = r
+not_refused limits count request sent fits few cause.Write r = r
+not_refused limits count request sent fits few cause.TooManyTurns r = r
+not_refused limits count request sent fits few cause.Ended r = r
+not_refused limits count request sent fits few cause.BadLine r = r
+not_refused limits count request sent fits few cause.BadDigits r = r
+not_refused limits count request sent fits few cause.Busy r = r
+not_refused limits count request sent fits few cause.BadLimits r = r
+
+-- a client that queues a request shows what its connection shows with it
+pub with_one_more : ReadingsStay → WhatHasComeWasSent → ArrivalsStay → (limits : Bounds) (hub : HubState) (ends : List End) (order : List ℕ) (w : World)
+    (at : ShowsEach limits hub ends order w) (i : ℕ) (e e' : End) (c : Connection) (request : Request) → slice_get ends i ≡ Some e →
+    connection_at w.connections (suc i) ≡ Some c → c.dropped ≡ false → Queues e e' request →
+    ShowsClient limits (seat_at hub (suc i)) e' (with_request request c)
+with_one_more readings sent arrivals limits hub ends order w at i e e' c request here its is_open q =
+    let old = at.each i e c here its in
+    let s = old.stands is_open in
+    let within = (sent limits at.n at.events w at.run (suc i) c its).0 in
+    let one_waits : length ((state_of e.client).waiting.asks ++ version_asked request ∷ []) ≡ length (state_of e.client).waiting.asks + 1 =
+    length-append (state_of e.client).waiting.asks (version_asked request ∷ []) in
+    let one_asked : length (c.requests ++ request ∷ []) ≡ length c.requests + 1 = length-append c.requests (request ∷ []) in
+    let before = s.same_count in
+    let counts : (state_of e.client).answered + length ((state_of e.client).waiting.asks ++ version_asked request ∷ []) ≡ length (c.requests ++ request ∷ []) =
+    omega (arith, one_waits, one_asked, before) in
+    let more = readings limits (record { version = Two; asks = map version_asked c.requests }) (state_of e.client).waiting (version_asked request ∷ [])
+    (values_of (shown_messages c)) s.text s.reads in
+    let asked = subst (λ asks. ReadsAs limits (record { version = Two; asks = asks }) (values_of (shown_messages c)) s.text
+    (record { version = (state_of e.client).waiting.version; asks = (state_of e.client).waiting.asks ++ version_asked request ∷ [] }))
+    (sym (map-append version_asked c.requests (request ∷ []))) more in
+    record {
+      asked = q.asked ∙ ap (λ l. l ++ request ∷ []) old.asked;
+      replies = q.same_heard.replies ∙ old.replies;
+      pushes = q.same_heard.pushes ∙ old.pushes;
+      dropped = q.same_heard.dropped ∙ old.dropped;
+      stands = λ _. record {
+        session = s.session;
+        there = s.there;
+        version = s.version;
+        is_open = s.is_open;
+        answers = s.answers;
+        front = s.front;
+        taking = s.taking;
+        unfinished = arrivals limits at.n at.events w at.run (suc i) c its request s.front s.unfinished;
+        same_limits = ap (λ (z : ClientState). z.limits) q.queued ∙ s.same_limits;
+        asks = ap (λ (z : ClientState). z.out) q.queued ∙ ap (λ l. l ++ request_text request) s.asks ∙
+            sym (drop-append-le c.arrived (sent_text c) (request_text request) within) ∙ sym (ap (drop c.arrived) (one_more_request request c));
+        same_count = ap queued q.queued ∙ counts;
+        text = s.text;
+        rest = s.rest;
+        reads = subst (λ (z : ClientState). ReadsAs limits (record { version = Two; asks = map version_asked (c.requests ++ request ∷ []) })
+            (values_of (shown_messages c)) s.text z.waiting) (sym q.queued) asked;
+        whole = s.whole;
+        reading = q.same_reading.same_front s.rest s.reading;
+      };
+    }
+
+-- a client that refuses one shows what it showed
+pub as_before : (limits : Bounds) (seat : Option Seat) (e e' : End) (c : Connection) → ShowsClient limits seat e c → StaysAs e e' →
+    ShowsClient limits seat e' c
+as_before limits seat e e' c old same = record {
+  asked = same.asked ∙ old.asked;
+  replies = same.same_heard.replies ∙ old.replies;
+  pushes = same.same_heard.pushes ∙ old.pushes;
+  dropped = same.same_heard.dropped ∙ old.dropped;
+  stands = λ is_open. let s = old.stands is_open in record {
+    session = s.session;
+    there = s.there;
+    version = s.version;
+    is_open = s.is_open;
+    answers = s.answers;
+    front = s.front;
+    taking = s.taking;
+    unfinished = s.unfinished;
+    same_limits = ap (λ (z : ClientState). z.limits) same.same_state ∙ s.same_limits;
+    asks = ap (λ (z : ClientState). z.out) same.same_state ∙ s.asks;
+    same_count = ap queued same.same_state ∙ s.same_count;
+    text = s.text;
+    rest = s.rest;
+    reads = subst (λ (z : ClientState). ReadsAs limits (record { version = Two; asks = map version_asked c.requests }) (values_of (shown_messages c)) s.text
+        z.waiting) (sym same.same_state) s.reads;
+    whole = s.whole;
+    reading = same.same_reading.same_front s.rest s.reading;
+  };
+}

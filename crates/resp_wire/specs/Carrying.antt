@@ -1,0 +1,57 @@
+-- What is carried between a client and its session.
+use Rattle.std.specs.Prelude.{◌≡◌, ◌⊎◌, ℕ, true, false, List, ◌++◌, take, replicate}
+use Rattle.resp_value.specs.Devices.{HasRisen}
+use Rattle.resp_value.specs.declared.cause.Cause.{Cause}
+use Rattle.resp_value.specs.declared.cause.Cause.TheVariants.{OutOfMemory}
+use Rattle.resp_scan.specs.declared.event.Fault.{Fault}
+use Rattle.resp_session.specs.Reading.{MayGoOn}
+use Rattle.resp_client.specs.Clients.{ClientState, state_of}
+use Rattle.resp_client.specs.declared.client.Client.{Client}
+use Rattle.resp_server.specs.Handling.{HasAnswered}
+use Rattle.resp_server.specs.Hubs.{HubState, Seat}
+use Rattle.resp_wire.specs.Hearing.{HearsAll, HearsFault}
+use Rattle.resp_wire.specs.declared.asked.Asked.{Asked}
+use Rattle.resp_wire.specs.declared.error.AskError.{AskError}
+use Rattle.resp_wire.specs.declared.error.AskError.TheVariants as ask
+
+-- the text was answered in a session that is open still, and this number added to the order for each command
+pub record HasBrought (old new : HubState) (id : ℕ) (s : Seat) (text order order' : List ℕ) (number : ℕ) : Type 0 where
+  pub commands : ℕ
+  pub answered : HasAnswered old new id s text commands
+  pub is_open : answered.closing ≡ false
+  pub added : order' ≡ order ++ replicate commands number
+
+-- the first bytes of the text were answered, and the answer closed the session
+pub record HasClosed (old : HubState) (id : ℕ) (s : Seat) (front text : List ℕ) : Type 0 where
+  pub count : ℕ
+  pub new : HubState
+  pub commands : ℕ
+  pub answered : HasAnswered old new id s (front ++ take count text) commands
+  pub is_closing : answered.closing ≡ true
+
+-- Why nothing more is carried: memory was wanting, the link failed, or the session was closed by what came.
+abbrev pub StopsCarrying : HubState → ℕ → Seat → List ℕ → List ℕ → ℕ → ℕ → Cause → Type 0
+StopsCarrying old id s front text failures failures' cause =
+    (cause ≡ OutOfMemory) ⊎ (HasRisen failures failures' ⊎ HasClosed old id s front text)
+
+-- all that came is heard, and what the client has taken of a value may go on
+pub record HearsOn (s : ClientState) (c : Client) (before after : Asked) (came : List ℕ) : Type 0 where
+  pub hears : HearsAll s c before after came
+  pub may_go_on : MayGoOn (state_of c).limits (state_of c).waiting hears.rest
+
+-- the client refused a byte of the front and the first bytes of the text, for this cause
+pub record MeetsFault (s : ClientState) (before after : Asked) (front text : List ℕ) (cause : Cause) : Type 0 where
+  pub count : ℕ
+  pub fault : Fault
+  pub met : HearsFault s before after (front ++ take count text) fault
+  pub named : fault.cause ≡ cause
+
+-- Why no more is shown to a client: memory was wanting, the link failed, or the client met a fault.
+abbrev pub StopsShowing : ClientState → Asked → Asked → List ℕ → List ℕ → ℕ → ℕ → Cause → Type 0
+StopsShowing s before after front text failures failures' cause =
+    (cause ≡ OutOfMemory) ⊎ (HasRisen failures failures' ⊎ MeetsFault s before after front text cause)
+
+-- the cause of a client's stop
+abbrev pub cause_of : AskError → Cause
+cause_of (ask.Fault fault) = fault.cause
+cause_of _ = OutOfMemory

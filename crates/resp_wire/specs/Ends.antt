@@ -1,0 +1,83 @@
+-- What the calls of a world's client leave of it.
+use Rattle.std.specs.Prelude.{◌≡◌, ℕ, false, [], ◌∷◌, ◌++◌, map, Result, Ok, Err}
+use Rattle.resp_value.specs.Bounds.{Bounds}
+use Rattle.resp_value.specs.Data.{Datum}
+use Rattle.resp_value.specs.declared.cause.Cause.{Cause}
+use Rattle.resp_value.specs.declared.cause.Cause.TheVariants as cause
+use Rattle.resp_session.specs.Requests as session
+use Rattle.resp_session.specs.Requests.{RefusesRequest}
+use Rattle.resp_client.specs.Clients.{new_state, queued, state_of, with_request}
+use Rattle.resp_client.specs.Hearing.{HasTaken, KeepsReading}
+use Rattle.resp_client.specs.Sending.{MayBeSent}
+use Rattle.resp_client.specs.declared.send_error.SendError.{SendError}
+use Rattle.resp_client.specs.declared.send_error.SendError.TheVariants.{BadCommand, TooLarge, TooMany, OutOfMemory}
+use Rattle.resp_server.specs.declared.error.PushError.{PushError}
+use Rattle.resp_server.specs.declared.error.PushError.TheVariants as push
+use Rattle.resp_wire.specs.Hearing.{pushes_in, replies_in}
+use Rattle.resp_wire.specs.Worlds.{pushes_with, requests_of, values_in}
+use Rattle.resp_wire.specs.declared.asked.Asked.{Asked}
+use Rattle.resp_wire.specs.declared.end.End.{End}
+use Rattle.resp_wire.specs.declared.event.Outcome.{Outcome}
+use Rattle.resp_wire.specs.declared.event.Outcome.TheVariants.{Done, Refused, Gone}
+
+-- a client that asked nothing
+pub record IsNew (limits : Bounds) (e : End) : Type 0 where
+  pub state : state_of e.client ≡ new_state limits
+  pub nothing_taken : HasTaken e.client []
+  pub asked : requests_of e.asked.items ≡ []
+  pub replies : values_in e.replies.items ≡ []
+  pub pushes : pushes_with e.pushes.items ≡ []
+  pub is_open : e.is_dropped ≡ false
+
+-- what was heard stays, and whether it was dropped
+pub record HeardStays (old new : End) : Type 0 where
+  pub replies : values_in new.replies.items ≡ values_in old.replies.items
+  pub pushes : pushes_with new.pushes.items ≡ pushes_with old.pushes.items
+  pub dropped : new.is_dropped ≡ old.is_dropped
+
+-- the request was queued, and added to what was asked
+pub record Queues (old new : End) (request : session.Request) : Type 0 where
+  pub may_be_sent : MayBeSent (state_of old.client) request
+  pub queued : state_of new.client ≡ with_request request (state_of old.client)
+  pub asked : requests_of new.asked.items ≡ requests_of old.asked.items ++ request ∷ []
+  pub same_reading : KeepsReading old.client new.client
+  pub same_heard : HeardStays old new
+
+-- nothing changed that is shown
+pub record StaysAs (old new : End) : Type 0 where
+  pub same_state : state_of new.client ≡ state_of old.client
+  pub asked : requests_of new.asked.items ≡ requests_of old.asked.items
+  pub same_reading : KeepsReading old.client new.client
+  pub same_heard : HeardStays old new
+
+-- what came of a request
+abbrev pub Takes : End → End → session.Request → Outcome → Type 0
+Takes old new request Done = Queues old new request
+Takes old new request (Refused cause) =
+    RefusesRequest (state_of old.client).limits (queued (state_of old.client)) request cause × StaysAs old new
+Takes old new request Gone = ⊥
+
+-- what comes of a request that a client doesn't queue: want of memory stops the world
+abbrev pub outcome_of_send : SendError → Result Outcome Cause
+outcome_of_send BadCommand = Ok (Refused cause.BadCommand)
+outcome_of_send TooLarge = Ok (Refused cause.TooLarge)
+outcome_of_send TooMany = Ok (Refused cause.TooMany)
+outcome_of_send OutOfMemory = Err cause.OutOfMemory
+
+-- what comes of a push that a session doesn't queue: a refusal of the push itself, or a stop
+abbrev pub outcome_of_push : PushError → Result Outcome Cause
+outcome_of_push push.NoSession = Err cause.NoSession
+outcome_of_push push.Closing = Err cause.Closing
+outcome_of_push push.NotInVersion = Ok (Refused cause.NotInVersion)
+outcome_of_push push.NestedPush = Ok (Refused cause.PushBelowTop)
+outcome_of_push (push.OverLimits limit) = Ok (Refused (cause.OverLimits limit))
+outcome_of_push push.OutOfMemory = Err cause.OutOfMemory
+
+-- what was heard is kept, the replies without their numbers
+pub record Keeps (old new : End) (heard : Asked) : Type 0 where
+  pub client : new.client ≡ old.client
+  pub asked : new.asked ≡ old.asked
+  pub replies : values_in new.replies.items ≡
+      values_in old.replies.items ++ map (λ (r : ℕ × Datum). r.1) (replies_in heard)
+  pub pushes : pushes_with new.pushes.items ≡ pushes_with old.pushes.items ++ pushes_in heard
+  pub dropped : new.is_dropped ≡ old.is_dropped

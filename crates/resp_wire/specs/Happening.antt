@@ -1,0 +1,57 @@
+-- What events leave of a world.
+use Rattle.std.specs.Prelude.{◌≡◌, ℕ, suc, ◌<◌, false, List, [], length, take, None, Some, IfSome}
+use Rattle.std.specs.List.{slice_get}
+use Rattle.resp_value.specs.Bounds.{Bounds}
+use Rattle.resp_value.specs.declared.cause.Cause.{Cause}
+use Rattle.resp_value.specs.declared.version.Version.TheVariants.{Two}
+use Rattle.resp_decode.specs.Decoding.{HasTaken}
+use Rattle.resp_decode.specs.declared.decoder.Decoder.{Decoder}
+use Rattle.resp_session.specs.Runs.{Run, Step}
+use Rattle.resp_session.specs.Worlds.{World, WorldEvent}
+use Rattle.resp_server.specs.Hubs.{HubState, seat_at}
+use Rattle.resp_wire.specs.Ends.{IsNew}
+use Rattle.resp_wire.specs.Worlds.{Shows, StopsBy, WorldState, outcome_of}
+use Rattle.resp_wire.specs.declared.end.End.{End}
+use Rattle.resp_wire.specs.declared.event.Outcome.{Outcome}
+use Rattle.resp_wire.specs.declared.event.Stop.{Stop}
+
+-- the client of this index was not dropped
+abbrev pub IsOpenEnd : List End → ℕ → Type 0
+IsOpenEnd ends index = IfSome (slice_get ends index) (λ e. e.is_dropped ≡ false)
+
+-- The event happened, was refused or was of nobody as in the definitions, and the world shows what it leaves there.
+abbrev pub Happens : {L : Type 0} → (L → Type 0) → WorldState L → WorldState L → WorldEvent → Outcome → Type 0
+Happens {L} is_honest old new event outcome = (limits : Bounds) (w : World) → Shows is_honest old limits w →
+    (next : World) × Step limits w event (outcome_of outcome) next × Shows is_honest new limits next
+
+-- Over honest links the event stopped for want of memory, or since a link failed.
+abbrev pub Fails : {L : Type 0} → (L → Type 0) → (L → ℕ) → WorldState L → WorldState L → Cause → Type 0
+Fails {L} is_honest failures old new cause = (limits : Bounds) (w : World) → Shows is_honest old limits w →
+    StopsBy failures old.links new.links cause
+
+-- The events came to what they come to in the definitions, and the world shows what they leave there.
+abbrev pub RunsTo : {L : Type 0} → (L → Type 0) → WorldState L → WorldState L → List WorldEvent → Type 0
+RunsTo {L} is_honest old new events = (limits : Bounds) (w : World) → Shows is_honest old limits w →
+    (next : World) × Run limits w events next × Shows is_honest new limits next
+
+-- The events before this one came to what they come to in the definitions, and it stopped: at once where the world had
+-- stopped before, and else for want of memory or since a link failed.
+pub record StopsAt {L : Type 0} (is_honest : L → Type 0) (failures : L → ℕ) (old new : WorldState L)
+    (events : List WorldEvent) (stop : Stop) : Type 0 where
+  pub within : stop.event < length events
+  pub between : WorldState L
+  pub before : RunsTo is_honest old between (take stop.event events)
+  pub stopped : IfSome old.stopped (λ cause. (stop.event ≡ 0) × (stop.cause ≡ cause))
+  pub reason : old.stopped ≡ None → Fails is_honest failures between new stop.cause
+
+-- so many sessions were opened, each with a client that asked nothing
+pub record AreOpened (limits : Bounds) (old new : HubState) (ends : List End) (count : ℕ) : Type 0 where
+  pub same_limits : new.limits ≡ old.limits
+  pub same_store : new.store ≡ old.store
+  pub last : new.last ≡ count
+  pub few : length new.sessions ≡ count
+  pub as_many : length ends ≡ count
+  pub none_else : (id : ℕ) → count < id → seat_at new id ≡ None
+  pub each_end : (k : ℕ) (e : End) → slice_get ends k ≡ Some e → IsNew limits e
+  pub each_seat : (k : ℕ) → k < count → (decoder : Decoder) × HasTaken decoder [] ×
+      (seat_at new (suc k) ≡ Some (record { version = Two; out = []; closing = false; decoder = decoder }))

@@ -1,0 +1,128 @@
+-- What a world shows, and how its clients and their sessions stand to the world of the definitions.
+use Rattle.std.specs.Prelude.{◌≡◌, ◌⊎◌, ℕ, suc, ◌<◌, ◌^◌, false, List, ◌++◌, length, map, take, drop, Option, Some}
+use Rattle.std.specs.List.{AllByRecursion, slice_get}
+use Rattle.resp_value.specs.Bounds.{Bounds, AreBounds}
+use Rattle.resp_value.specs.Commands.{words_of}
+use Rattle.resp_value.specs.Data.{Datum}
+use Rattle.resp_value.specs.Devices.{HasRisen}
+use Rattle.resp_value.specs.Values.{datum_of, list_of}
+use Rattle.resp_value.specs.declared.cause.Cause.{Cause}
+use Rattle.resp_value.specs.declared.cause.Cause.TheVariants.{OutOfMemory}
+use Rattle.resp_value.specs.declared.value.Members.{Members}
+use Rattle.resp_value.specs.declared.value.Value.{Value}
+use Rattle.resp_value.specs.declared.value.Value.TheVariants as value
+use Rattle.resp_value.specs.declared.version.Version.TheVariants.{Two}
+use Rattle.resp_decode.specs.Decoding as decode
+use Rattle.resp_session.specs.Connections.{Connection, back_text, sent_text, shown_messages, shown_pushes, shown_replies, values_of}
+use Rattle.resp_session.specs.Reading.{ReadsAs}
+use Rattle.resp_session.specs.Requests as session
+use Rattle.resp_session.specs.Runs as runs
+use Rattle.resp_session.specs.Runs.{Run, Step}
+use Rattle.resp_session.specs.Serving.{IsUnfinished, clients_in}
+use Rattle.resp_session.specs.WorldLaws.{IsPossible, waiting_for}
+use Rattle.resp_session.specs.Worlds as session_worlds
+use Rattle.resp_session.specs.Worlds.{World, WorldEvent, connection_at, new_world}
+use Rattle.resp_client.specs.Clients.{queued, state_of}
+use Rattle.resp_client.specs.Hearing.{HasTaken}
+use Rattle.resp_server.specs.Hubs.{HubState, Seat, seat_at}
+use Rattle.resp_wire.specs.Requests.{request_of}
+use Rattle.resp_wire.specs.declared.asked.Request.{Request}
+use Rattle.resp_wire.specs.declared.end.End.{End}
+use Rattle.resp_wire.specs.declared.event.Event.{Event}
+use Rattle.resp_wire.specs.declared.event.Event.TheVariants as event
+use Rattle.resp_wire.specs.declared.event.Outcome.{Outcome}
+use Rattle.resp_wire.specs.declared.event.Outcome.TheVariants as outcome
+
+-- an event as the definitions have it
+abbrev pub event_of : Event → WorldEvent
+event_of (event.Send i command) = session_worlds.Send i (words_of command)
+event_of (event.Hello i asked) = session_worlds.Greet i asked
+event_of (event.ToServer i count) = session_worlds.ToServer i count
+event_of (event.ToClient i count) = session_worlds.ToClient i count
+event_of (event.Push i items) = session_worlds.Push i (map datum_of (list_of items))
+event_of (event.Drop i) = session_worlds.Drop i
+
+-- what came of an event as the definitions have it
+abbrev pub outcome_of : Outcome → runs.Outcome
+outcome_of outcome.Done = runs.Done
+outcome_of (outcome.Refused cause) = runs.Refused cause
+outcome_of outcome.Gone = runs.Gone
+
+-- requests as the definitions have them
+abbrev pub requests_of : List Request → List session.Request
+requests_of requests = map request_of requests
+
+-- values as the definitions have them
+abbrev pub values_in : List Value → List Datum
+values_in values = map datum_of values
+
+-- pushes of these members as the definitions have them
+abbrev pub pushes_with : List Members → List Datum
+pushes_with pushes = map (λ (items : Members). datum_of (value.Push items)) pushes
+
+-- A client that was not dropped and its session stand as the connection has them: what waits both ways, and what each
+-- has read of it.
+pub record Stands (limits : Bounds) (seat : Option Seat) (e : End) (c : Connection) : Type 0 where
+  pub session : Seat
+  pub there : seat ≡ Some session
+  pub version : session.version ≡ c.version
+  pub is_open : session.closing ≡ false
+  pub answers : session.out ≡ drop c.shown (back_text c)
+  pub front : List ℕ
+  pub taking : decode.HasTaken session.decoder front
+  pub unfinished : IsUnfinished limits c front
+  pub same_limits : (state_of e.client).limits ≡ limits
+  pub asks : (state_of e.client).out ≡ drop c.arrived (sent_text c)
+  pub same_count : queued (state_of e.client) ≡ length c.requests
+  pub text : List ℕ
+  pub rest : List ℕ
+  pub reads : ReadsAs limits (waiting_for Two c.requests) (values_of (shown_messages c)) text
+      (state_of e.client).waiting
+  pub whole : take c.shown (back_text c) ≡ text ++ rest
+  pub reading : HasTaken e.client rest
+
+-- a client shows what the connection shows
+pub record ShowsClient (limits : Bounds) (seat : Option Seat) (e : End) (c : Connection) : Type 0 where
+  pub asked : requests_of e.asked.items ≡ c.requests
+  pub replies : values_in e.replies.items ≡ shown_replies c
+  pub pushes : pushes_with e.pushes.items ≡ shown_pushes c
+  pub dropped : e.is_dropped ≡ c.dropped
+  pub stands : c.dropped ≡ false → Stands limits seat e c
+
+-- Clients, sessions and their store stand as events leave them.
+pub record ShowsEach (limits : Bounds) (hub : HubState) (ends : List End) (order : List ℕ) (w : World) : Type 0 where
+  pub n : ℕ
+  pub events : List WorldEvent
+  pub run : Run limits (new_world n) events w
+  pub possible : AllByRecursion IsPossible events
+  pub few : n < 2 ^ 63
+  pub bounds : AreBounds limits
+  pub same_limits : hub.limits ≡ limits
+  pub store : hub.store ≡ w.store
+  pub ordered : order ≡ clients_in w
+  pub as_many : length ends ≡ length w.connections
+  pub each : (k : ℕ) (e : End) (c : Connection) → slice_get ends k ≡ Some e →
+      connection_at w.connections (suc k) ≡ Some c → ShowsClient limits (seat_at hub (suc k)) e c
+
+-- A world apart from memory: its hub, its clients with a link for each, the order, and why it stopped.
+pub record WorldState (L : Type 0) : Type 0 where
+  pub hub : HubState
+  pub ends : List End
+  pub links : List L
+  pub order : List ℕ
+  pub stopped : Option Cause
+
+-- The world shows a world of the definitions, over links that are honest. How its clients and sessions stand to that is
+-- opaque to callers: `new` and `over` establish it, and each event keeps it until a stop.
+pub record Shows {L : Type 0} (is_honest : L → Type 0) (s : WorldState L) (limits : Bounds) (w : World) : Type 0 where
+  pub each : ShowsEach limits s.hub s.ends s.order w
+  pub honest : AllByRecursion is_honest s.links
+
+-- a link's count of failures has risen
+abbrev pub HasFailed : {L : Type 0} → (L → ℕ) → List L → List L → Type 0
+HasFailed {L} failures old new = (k : ℕ) × (before : L) × (after : L) × (slice_get old k ≡ Some before) ×
+    (slice_get new k ≡ Some after) × HasRisen (failures before) (failures after)
+
+-- why a world stops: memory was wanting, or a link failed
+abbrev pub StopsBy : {L : Type 0} → (L → ℕ) → List L → List L → Cause → Type 0
+StopsBy {L} failures old new cause = (cause ≡ OutOfMemory) ⊎ HasFailed failures old new

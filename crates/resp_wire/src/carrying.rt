@@ -1,0 +1,244 @@
+//! What links carry between a client and its session.
+
+ghost use Rattle.std.specs.Prelude.{◌≡◌, ◌≤◌, ◌++◌, [], length, take, drop, min, replicate, IfSome, IfErr, OnOk};
+ghost use Rattle.resp_scan.specs.declared.event.Fault.{Fault};
+ghost use Rattle.resp_session.specs.Reading.{MayGoOn};
+ghost use Rattle.resp_client.specs.Clients.{state_of, without_front};
+ghost use Rattle.resp_client.specs.Hearing.{HasTaken, KeepsReading, Refuses, WhereTaken};
+ghost use Rattle.resp_server.specs.Handling.{WhereOpen};
+ghost use Rattle.resp_server.specs.Hubs.{Seat, seat_at, seated};
+ghost use Rattle.resp_wire.specs.Carrying.{HasBrought, HearsOn, StopsCarrying, StopsShowing, cause_of};
+ghost use Rattle.resp_wire.specs.Hearing.{HearsAll};
+
+use crate::asked::Asked;
+use crate::error::AskError;
+use crate::hear::hear_piece;
+use crate::link::{Direction, Link};
+use crate::turns::front;
+use resp_client::Client;
+use resp_server::{Hub, HubError};
+use resp_session::laws;
+use resp_value::cause::Cause;
+use std::hash::BuildHasher;
+
+/// The most bytes that a link carries at once.
+const PIECE: usize = 1_024;
+
+/// Carries the first bytes that wait in a client to its session, so many or all where fewer wait,
+/// and adds this number to the order for each command that they bring.
+pub(crate) fn carry_to_server<L: Link, S: BuildHasher>(
+    link: &mut L,
+    client: &mut Client,
+    hub: &mut Hub<S>,
+    id: u64,
+    order: &mut Vec<usize>,
+    number: usize,
+    count: u64,
+) -> Result<(), Cause>
+    ensures brought { L.is_honest link.old → WhereOpen hub.old id (λ s front. OnOk result
+        (HasBrought hub.old hub.new id s (front ++ take count (state_of client.old).out)
+        order.old.items order.new.items number)) }
+    ensures refusal { L.is_honest link.old → WhereOpen hub.old id (λ s front. IfErr result
+        (StopsCarrying hub.old id s front (state_of client.old).out (L.failures link.old)
+        (L.failures link.new))) }
+    ensures sent { OnOk result (state_of client.new ≡ without_front count (state_of client.old)) }
+    ensures same_reading { KeepsReading client.old client.new }
+    ensures honest { L.is_honest link.old → L.is_honest link.new }
+    ensures none_failed { OnOk result (L.failures link.new ≡ L.failures link.old) }
+{
+    laws::answers_go_on();
+    laws::answers_are_added();
+    let Ok(closing) = hub.is_closing(id) else {
+        return Err(Cause::NoSession);
+    };
+    if closing {
+        return Err(Cause::Closing);
+    }
+    let total = at_most(client.out().len(), count);
+    let mut into = [0; PIECE];
+    let mut done = 0;
+    while done < total {
+        let length = (total - done).min(PIECE);
+        let room = &mut into[..length];
+        if let Err(cause) = give(link, client, hub, id, order, number, room) {
+            return Err(cause);
+        }
+        done += length;
+    }
+    Ok(())
+}
+
+/// Carries the first bytes that wait in a session to its client, so many or all where fewer wait,
+/// and adds what they bring to what was heard.
+pub(crate) fn carry_to_client<L: Link, S: BuildHasher>(
+    link: &mut L,
+    client: &mut Client,
+    hub: &mut Hub<S>,
+    id: u64,
+    heard: &mut Asked,
+    count: u64,
+) -> Result<(), Cause>
+    ensures heard { L.is_honest link.old → IfSome (seat_at hub.old id) (λ (s : Seat).
+        WhereTaken client.old (λ front. OnOk result (HearsOn (state_of client.old) client.new
+        heard.old heard.new (front ++ take count s.out)))) }
+    ensures refusal { L.is_honest link.old → IfSome (seat_at hub.old id) (λ (s : Seat).
+        WhereTaken client.old (λ front. IfErr result (StopsShowing (state_of client.old)
+        heard.old heard.new front s.out (L.failures link.old) (L.failures link.new)))) }
+    ensures dropped { OnOk result (IfSome (seat_at hub.old id) (λ (s : Seat).
+        hub.new ≡ seated hub.old id (record s { out = drop count s.out }))) }
+    ensures honest { L.is_honest link.old → L.is_honest link.new }
+    ensures none_failed { OnOk result (L.failures link.new ≡ L.failures link.old) }
+{
+    laws::readings_go_on();
+    laws::hearing_goes_on();
+    let Ok(out) = hub.out(id) else {
+        return Err(Cause::NoSession);
+    };
+    let total = at_most(out.len(), count);
+    let mut into = [0; PIECE];
+    let mut done = 0;
+    while done < total {
+        let length = (total - done).min(PIECE);
+        let room = &mut into[..length];
+        if let Err(cause) = show(link, client, hub, id, heard, room) {
+            return Err(cause);
+        }
+        done += length;
+    }
+    if let Err(cause) = settle(client) {
+        return Err(cause);
+    }
+    Ok(())
+}
+
+/// Gives a session the first bytes that wait in its client, as many as there is room for.
+fn give<L: Link, S: BuildHasher>(
+    link: &mut L,
+    client: &mut Client,
+    hub: &mut Hub<S>,
+    id: u64,
+    order: &mut Vec<usize>,
+    number: usize,
+    room: &mut [u8],
+) -> Result<(), Cause>
+    requires short { length room.old ≤ 1_024 }
+    requires waiting { length room.old ≤ length (state_of client.old).out }
+    ensures brought { L.is_honest link.old → WhereOpen hub.old id (λ s front. OnOk result
+        (HasBrought hub.old hub.new id s (front ++ take (length room.old) (state_of client.old).out)
+        order.old.items order.new.items number)) }
+    ensures refusal { L.is_honest link.old → WhereOpen hub.old id (λ s front. IfErr result
+        (StopsCarrying hub.old id s front (state_of client.old).out (L.failures link.old)
+        (L.failures link.new))) }
+    ensures sent { OnOk result (state_of client.new ≡
+        without_front (length room.old) (state_of client.old)) }
+    ensures same_reading { KeepsReading client.old client.new }
+    ensures honest { L.is_honest link.old → L.is_honest link.new }
+    ensures none_failed { OnOk result (L.failures link.new ≡ L.failures link.old) }
+{
+    let length = room.len();
+    if let Err(fault) = link.carry(Direction::ToServer, front(client.out(), length), room) {
+        return Err(fault.cause);
+    }
+    let commands = match hub.bytes(id, room) {
+        Ok(handled) => handled.commands,
+        Err(HubError::NoSession) => return Err(Cause::NoSession),
+        Err(HubError::OutOfMemory { .. }) => return Err(Cause::OutOfMemory),
+    };
+    client.sent(length);
+    if let Err(cause) = add(order, number, commands) {
+        return Err(cause);
+    }
+    let Ok(closing) = hub.is_closing(id) else {
+        return Err(Cause::NoSession);
+    };
+    if closing {
+        return Err(Cause::Closing);
+    }
+    Ok(())
+}
+
+/// Adds so many commands of this client to the order.
+fn add(order: &mut Vec<usize>, number: usize, commands: u64) -> Result<(), Cause>
+    ensures added { OnOk result (order.new.items ≡ order.old.items ++ replicate commands number) }
+    ensures refusal { IfErr result (λ cause. cause ≡ Cause.OutOfMemory) }
+{
+    for _ in 0..commands {
+        if order.push(number).is_err() {
+            return Err(Cause::OutOfMemory);
+        }
+    }
+    Ok(())
+}
+
+/// Shows a client the first bytes that wait in its session, as many as there is room for.
+fn show<L: Link, S: BuildHasher>(
+    link: &mut L,
+    client: &mut Client,
+    hub: &mut Hub<S>,
+    id: u64,
+    heard: &mut Asked,
+    room: &mut [u8],
+) -> Result<(), Cause>
+    requires short { length room.old ≤ 1_024 }
+    requires waiting { IfSome (seat_at hub.old id) (λ (s : Seat). length room.old ≤ length s.out) }
+    ensures heard { L.is_honest link.old → IfSome (seat_at hub.old id) (λ (s : Seat).
+        WhereTaken client.old (λ front. OnOk result (HearsAll (state_of client.old) client.new
+        heard.old heard.new (front ++ take (length room.old) s.out)))) }
+    ensures refusal { L.is_honest link.old → IfSome (seat_at hub.old id) (λ (s : Seat).
+        WhereTaken client.old (λ front. IfErr result (StopsShowing (state_of client.old)
+        heard.old heard.new front s.out (L.failures link.old) (L.failures link.new)))) }
+    ensures dropped { OnOk result (IfSome (seat_at hub.old id) (λ (s : Seat).
+        hub.new ≡ seated hub.old id (record s { out = drop (length room.old) s.out }))) }
+    ensures honest { L.is_honest link.old → L.is_honest link.new }
+    ensures none_failed { OnOk result (L.failures link.new ≡ L.failures link.old) }
+{
+    let length = room.len();
+    let Ok(out) = hub.out(id) else {
+        return Err(Cause::NoSession);
+    };
+    if let Err(fault) = link.carry(Direction::ToClient, front(out, length), room) {
+        return Err(fault.cause);
+    }
+    let Ok(()) = hub.sent(id, length) else {
+        return Err(Cause::NoSession);
+    };
+    match hear_piece(client, room, heard) {
+        Ok(()) => Ok(()),
+        Err(error) => Err(cause_of(error)),
+    }
+}
+
+/// The cause of a client's stop.
+fn cause_of(error: AskError) -> Cause
+    ensures { result ≡ cause_of error }
+{
+    match error {
+        AskError::Fault(fault) => fault.cause,
+        _ => Cause::OutOfMemory,
+    }
+}
+
+/// Asks a client whether what it has taken of a value may go on.
+fn settle(client: &mut Client) -> Result<(), Cause>
+    ensures taken { WhereTaken client.old (λ front. OnOk result (HasTaken client.new front ×
+        MayGoOn (state_of client.old).limits (state_of client.old).waiting front ×
+        (state_of client.new ≡ state_of client.old))) }
+    ensures refusal { WhereTaken client.old (λ front. IfErr result (λ cause. (fault : Fault) ×
+        (fault.cause ≡ cause) × Refuses (state_of client.old) front [] fault)) }
+{
+    let _heard = match client.feed(&[]) {
+        Ok(heard) => heard,
+        Err(fault) => return Err(fault.cause),
+    };
+    Ok(())
+}
+
+/// So many of the bytes that wait, or all where fewer wait.
+fn at_most(waiting: usize, count: u64) -> usize
+    ensures { result ≡ min count waiting }
+{
+    match usize::try_from(count) {
+        Ok(count) => count.min(waiting),
+        Err(_) => waiting,
+    }
+}

@@ -1,0 +1,58 @@
+//! What a client hears of a piece.
+
+ghost use Rattle.std.specs.Prelude.{◌≡◌, ◌++◌, OnOk, IfErr};
+ghost use Rattle.resp_client.specs.Clients.{state_of};
+ghost use Rattle.resp_client.specs.Hearing.{WhereTaken};
+ghost use Rattle.resp_wire.specs.Hearing.{HearsAll};
+ghost use Rattle.resp_wire.specs.Stops.{StopsClient, StopsHearing, error_of};
+
+use crate::asked::Asked;
+use crate::error::AskError;
+use crate::turns::behind;
+use resp_client::Client;
+use resp_scan::event::Fault;
+use resp_session::laws;
+use resp_value::cause::Cause;
+
+/// Why a client's fault stops the call.
+fn stop(fault: Fault) -> AskError
+    ensures { result ≡ error_of fault }
+{
+    match fault.cause {
+        Cause::OutOfMemory => AskError::OutOfMemory,
+        _ => AskError::Fault(fault),
+    }
+}
+
+/// Gives the client a whole piece, and adds what it hears.
+pub(crate) fn hear_piece(
+    client: &mut Client,
+    piece: &[u8],
+    heard: &mut Asked,
+) -> Result<(), AskError>
+    ensures heard { WhereTaken client.old (λ front. OnOk result
+        (HearsAll (state_of client.old) client.new heard.old heard.new (front ++ piece.now))) }
+    ensures refusal { WhereTaken client.old (λ front. IfErr result
+        (StopsHearing (state_of client.old) heard.old heard.new (front ++ piece.now))) }
+    ensures fault_or_memory { IfErr result StopsClient }
+{
+    laws::readings_go_on();
+    laws::hearing_goes_on();
+    let mut rest = piece;
+    // Each turn uses a byte at least.
+    for turn in 0..piece.len() {
+        if rest.is_empty() {
+            return Ok(());
+        }
+        let given = match client.feed(rest) {
+            Ok(given) => given,
+            Err(fault) => return Err(stop(fault)),
+        };
+        let used = given.used;
+        if heard.add(given.what).is_err() {
+            return Err(AskError::OutOfMemory);
+        }
+        rest = behind(rest, used);
+    }
+    Ok(())
+}

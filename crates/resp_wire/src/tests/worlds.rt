@@ -1,0 +1,141 @@
+//! Worlds over memory: whose command ran when, and what each client heard.
+
+use crate::asked::Request;
+use crate::event::{Event, Outcome};
+use crate::link::MemoryLink;
+use crate::world::World;
+use resp_value::cause::Cause;
+use resp_value::command::Command;
+use resp_value::content::Content;
+use resp_value::limits::Limits;
+use resp_value::line::Line;
+use resp_value::value::{Members, Value};
+use resp_value::version::Version;
+use std::alloc::Global;
+use std::hash::{BuildHasherDefault, FoldHasher};
+use std::process::Abort;
+use std::test::Fail;
+
+type Memory = World<MemoryLink, BuildHasherDefault<FoldHasher>>;
+
+/// All bytes that wait.
+const ALL: u64 = 1_000_000_000;
+
+fn world(alloc: Global, count: usize) -> Result<Memory, Fail> {
+    let hasher = BuildHasherDefault::new();
+    Ok(World::new(alloc, count, Limits::standard(), hasher)?)
+}
+
+fn send(alloc: Global, number: usize, words: &[&[u8]]) -> Result<Event, Fail> {
+    let mut owned = Vec::new(alloc);
+    for word in words {
+        owned.push(word.to_vec(alloc)?)?;
+    }
+    let command = Command::new(owned).ok().ok_or("no words")?;
+    Ok(Event::Send(number, command))
+}
+
+fn push(alloc: Global, number: usize, word: &[u8]) -> Result<Event, Fail> {
+    let items = vec![in alloc; Value::Bulk(Content::new(word.to_vec(alloc)?))]?;
+    Ok(Event::Push(number, Members::new(items)))
+}
+
+fn ok(alloc: Global) -> Result<Value, Fail> {
+    let line = Line::new(Vec::from_slice(alloc, b"OK")?)
+        .ok()
+        .ok_or("no line")?;
+    Ok(Value::Simple(line))
+}
+
+fn count_keys(world: &Memory) -> usize {
+    let mut count: usize = 0;
+    for _ in world.entries() {
+        count = count.saturating_add(1);
+    }
+    count
+}
+
+/// What the client of a number has queued; nothing where there is none.
+fn asked(world: &Memory, number: usize) -> &[Request] {
+    if number == 0 || number > world.clients() {
+        return &[];
+    }
+    world.asked(number)
+}
+
+/// The replies that the client of a number heard; none where there is no such client.
+fn replies(world: &Memory, number: usize) -> &[Value] {
+    if number == 0 || number > world.clients() {
+        return &[];
+    }
+    world.replies(number)
+}
+
+/// The pushes that the client of a number heard; none where there is no such client.
+fn pushes(world: &Memory, number: usize) -> &[Members] {
+    if number == 0 || number > world.clients() {
+        return &[];
+    }
+    world.pushes(number)
+}
+
+/// All bytes of each client come, both ways.
+fn flush(world: &mut Memory, clients: usize) -> Result<(), Fail> {
+    for number in 1..=clients {
+        world.step(&Event::ToServer(number, ALL))?;
+        world.step(&Event::ToClient(number, ALL))?;
+    }
+    Ok(())
+}
+
+#[test]
+fn second_command_runs_first(rt: HostRuntime) -> Result<(), Fail> {
+    let alloc = rt.alloc();
+    let mut world = world(alloc, 2)?;
+    let set = send(alloc, 1, &[b"SET", b"a", b"1"])?;
+    let get = send(alloc, 2, &[b"GET", b"a"])?;
+    world.run(&[set, get, Event::ToServer(2, 20), Event::ToServer(1, 27)])?;
+    let refused = world.step(&push(alloc, 2, b"x")?)?;
+    assert_eq!(rt; refused, Outcome::Refused(Cause::NotInVersion));
+    flush(&mut world, 2)?;
+    assert_eq!(rt; world.order(), [2, 1].as_slice());
+    assert_eq!(rt; replies(&world, 1), [ok(alloc)?].as_slice());
+    assert_eq!(rt; replies(&world, 2), [Value::Null].as_slice());
+    assert_eq!(rt; count_keys(&world), 1);
+    Ok(())
+}
+
+#[test]
+fn pushes_come_behind_replies(rt: HostRuntime) -> Result<(), Fail> {
+    let alloc = rt.alloc();
+    let mut world = world(alloc, 1)?;
+    world.step(&Event::Hello(1, Some(Version::Three)))?;
+    flush(&mut world, 1)?;
+    assert_eq!(rt; world.step(&push(alloc, 1, b"x")?)?, Outcome::Done);
+    flush(&mut world, 1)?;
+    assert_eq!(rt; replies(&world, 1).len(), 1);
+    assert_eq!(rt; pushes(&world, 1).len(), 1);
+    assert_eq!(rt; world.order(), [1].as_slice());
+    Ok(())
+}
+
+#[test]
+fn dropped_clients_are_gone(rt: HostRuntime) -> Result<(), Fail> {
+    let alloc = rt.alloc();
+    let mut world = world(alloc, 1)?;
+    let ping = send(alloc, 1, &[b"PING"])?;
+    assert_eq!(rt; world.step(&ping)?, Outcome::Done);
+    assert_eq!(rt; world.step(&Event::Drop(1))?, Outcome::Done);
+    for event in [
+        ping,
+        Event::Drop(1),
+        Event::ToServer(1, ALL),
+        Event::Drop(2),
+        Event::Hello(0, None),
+    ] {
+        assert_eq!(rt; world.step(&event)?, Outcome::Gone);
+    }
+    assert_eq!(rt; world.order().len(), 0);
+    assert_eq!(rt; asked(&world, 1).len(), 1);
+    Ok(())
+}

@@ -1,0 +1,412 @@
+//! Worlds: clients and their sessions over one store, and events that happen one after another.
+
+ghost use Rattle.std.specs.Prelude.{◌≡◌, ◌↔◌, ◌+◌, ◌<◌, ◌≤◌, ◌-◌, ℕ, [], ◌∷◌, length, map, false, None, Some, Err, IfErr, IfOk, IfSome, IsErrOf, OnOk};
+ghost use Rattle.std.specs.List.{AllByRecursion};
+ghost use Rattle.resp_value.specs.Bounds.{AreBounds, Bounds};
+ghost use Rattle.resp_value.specs.Commands.{words_of};
+ghost use Rattle.resp_value.specs.Values.{datum_of, list_of};
+ghost use Rattle.resp_session.specs.Connections.{shown_pushes, shown_replies};
+ghost use Rattle.resp_session.specs.Runs.{Run};
+ghost use Rattle.resp_session.specs.Serving.{clients_in};
+ghost use Rattle.resp_session.specs.Worlds as session;
+ghost use Rattle.resp_session.specs.Worlds.{connection_at, new_world};
+ghost use Rattle.resp_wire.specs.Ends.{outcome_of_push};
+ghost use Rattle.resp_wire.specs.Happening.{AreOpened, Fails, Happens, IsOpenEnd, RunsTo, StopsAt};
+ghost use Rattle.resp_wire.specs.Worlds.{Shows, event_of, pushes_with, requests_of, values_in};
+
+use crate::asked::{Asked, Request};
+use crate::carrying::{carry_to_client, carry_to_server};
+use crate::end::End;
+use crate::event::{Event, Outcome, Stop};
+use crate::link::{Link, MemoryLink};
+use resp_server::{Entries, Hub, OpenError, PushError};
+use resp_session::laws;
+use resp_value::cause::Cause;
+use resp_value::command::Command;
+use resp_value::limits::Limits;
+use resp_value::value::{Members, Value};
+use resp_value::version::Version;
+use std::alloc::Global;
+use std::hash::BuildHasher;
+use std::marker::Model;
+
+/// The most clients of a world.
+const MOST_CLIENTS: usize = 65_536;
+
+/// Clients and their sessions over one store. Clients are numbered from 1.
+#[derive(Drop)]
+pub struct World<L: Link, S: BuildHasher> {
+    alloc: Global,
+    hub: Hub<S>,
+    /// The clients, and the link of each to its session.
+    ends: Vec<End>,
+    links: Vec<L>,
+    /// The client of each command, in the order in which they were run.
+    order: Vec<usize>,
+    stopped: Option<Cause>,
+}
+
+impl<L: Link, S: BuildHasher> Model for World<L, S> {
+    ghost use Rattle.std.specs.Coded.{codes};
+    ghost use Rattle.std.specs.Prelude.{◌≡◌, length};
+    ghost use Rattle.resp_value.specs.contracts.value.Value as value;
+    ghost use Rattle.resp_wire.specs.Worlds.{WorldState};
+
+    ghost Value = { WorldState L };
+
+    ghost coded = { Prim.hlevel (codes, value.the_row.coded) };
+
+    ghost view = { λ world. record {
+      hub = world.hub;
+      ends = world.ends.items;
+      links = world.links.items;
+      order = world.order.items;
+      stopped = world.stopped;
+    } };
+
+    ghost invariant = { λ world. length world.links.items ≡ length world.ends.items };
+}
+
+impl<S: BuildHasher + Drop> World<MemoryLink, S> {
+    /// So many clients that asked nothing, over memory and an empty store.
+    ///
+    /// Refuses more than 65,536 clients, and want of memory.
+    pub fn new(alloc: Global, count: usize, limits: Limits, hasher: S) -> Result<Self, OpenError>
+        ensures shows { IfOk result (λ world.
+            Shows (λ _. Unit {0}) world limits (new_world count)) }
+        ensures too_many { IsErrOf result OpenError.TooManySessions ↔ (65536 < count) }
+        ensures going { IfOk result (λ world. world.stopped ≡ None) }
+    {
+        if count > MOST_CLIENTS {
+            return Err(OpenError::TooManySessions);
+        }
+        let mut links = Vec::new(alloc);
+        for _ in 0..count {
+            if links.push(MemoryLink).is_err() {
+                return Err(OpenError::OutOfMemory);
+            }
+        }
+        World::over(alloc, links, limits, hasher)
+    }
+}
+
+impl<L: Link, S: BuildHasher + Drop> World<L, S> {
+    /// A client that asked nothing for each of these links, over an empty store.
+    ///
+    /// Refuses more than 65,536 of them, and want of memory.
+    pub fn over(alloc: Global, links: Vec<L>, limits: Limits, hasher: S) -> Result<Self, OpenError>
+        ensures shows { IfOk result (λ world. AllByRecursion L.is_honest links.items →
+            Shows L.is_honest world limits (new_world (length links.items))) }
+        ensures too_many { IsErrOf result OpenError.TooManySessions ↔
+            (65536 < length links.items) }
+        ensures going { IfOk result (λ world. world.stopped ≡ None) }
+    {
+        if links.len() > MOST_CLIENTS {
+            return Err(OpenError::TooManySessions);
+        }
+        in_range(&limits);
+        let mut hub = Hub::new(alloc, limits, hasher);
+        let ends = match open_each(alloc, &mut hub, &limits, links.len()) {
+            Ok(ends) => ends,
+            Err(error) => return Err(error),
+        };
+        Ok(World {
+            alloc,
+            hub,
+            ends,
+            links,
+            order: Vec::new(alloc),
+            stopped: None,
+        })
+    }
+
+    /// Takes one event.
+    ///
+    /// Stops for want of memory, and where a link fails; over honest links it stops for nothing
+    /// else. Behind a stop each step stops with the same cause, and nothing is promised of what the
+    /// world shows.
+    pub fn step(&mut self, event: &Event) -> Result<Outcome, Stop>
+        ensures happens { IfOk result (Happens L.is_honest self.old self.new (event_of event.now)) }
+        ensures going { OnOk result (self.new.stopped ≡ None) }
+        ensures stops { IfErr result (λ stop. self.old.stopped ≡ None →
+            Fails L.is_honest L.failures self.old self.new stop.cause) }
+        ensures remembered { IfErr result (λ stop. self.new.stopped ≡ Some stop.cause) }
+        ensures stopped_before { IfSome self.old.stopped (λ cause.
+            result ≡ Err (record { event = 0; cause = cause })) }
+        ensures index { IfErr result (λ stop. stop.event ≡ 0) }
+    {
+        if let Some(cause) = self.stopped {
+            return Err(Stop { event: 0, cause });
+        }
+        match self.happen(event) {
+            Ok(outcome) => Ok(outcome),
+            Err(cause) => {
+                self.stopped = Some(cause);
+                Err(Stop { event: 0, cause })
+            }
+        }
+    }
+
+    /// Takes events, one after another, and stops at the first that [`World::step`] stops at, with
+    /// its index from 0.
+    pub fn run(&mut self, events: &[Event]) -> Result<(), Stop>
+        ensures happens { OnOk result (RunsTo L.is_honest self.old self.new
+            (map event_of events.now)) }
+        ensures stops { IfErr result (StopsAt L.is_honest L.failures self.old self.new
+            (map event_of events.now)) }
+        ensures remembered { IfErr result (λ stop. self.new.stopped ≡ Some stop.cause) }
+    {
+        for index in 0..events.len() {
+            if let Err(stop) = self.step(&events[index]) {
+                return Err(Stop {
+                    event: index,
+                    cause: stop.cause,
+                });
+            }
+        }
+        Ok(())
+    }
+
+    /// What comes of an event, or why the world stops at it.
+    fn happen(&mut self, event: &Event) -> Result<Outcome, Cause>
+        ensures happens { IfOk result (Happens L.is_honest self.old self.new (event_of event.now)) }
+        ensures stops { IfErr result (Fails L.is_honest L.failures self.old self.new) }
+        ensures going { self.new.stopped ≡ self.old.stopped }
+    {
+        let number = event.client();
+        if number == 0 || number > self.ends.len() {
+            return Ok(Outcome::Gone);
+        }
+        if self.ends[number - 1].is_dropped {
+            return Ok(Outcome::Gone);
+        }
+        match event {
+            Event::Send(_, command) => self.send(number, command),
+            Event::Hello(_, asked) => self.hello(number, *asked),
+            Event::ToServer(_, count) => self.to_server(number, *count),
+            Event::ToClient(_, count) => self.to_client(number, *count),
+            Event::Push(_, items) => self.push(number, items),
+            Event::Drop(_) => self.drop_client(number),
+        }
+    }
+
+    /// Queues a command of a client.
+    fn send(&mut self, number: usize, command: &Command) -> Result<Outcome, Cause>
+        requires there { (1 ≤ number) × (number ≤ length self.old.ends) }
+        requires is_open { IsOpenEnd self.old.ends (number - 1) }
+        ensures happens { IfOk result (Happens L.is_honest self.old self.new
+            (session.Send number (words_of command.now))) }
+        ensures stops { IfErr result (λ cause. cause ≡ Cause.OutOfMemory) }
+        ensures going { self.new.stopped ≡ self.old.stopped }
+    {
+        laws::readings_stay();
+        laws::what_has_come_was_sent();
+        laws::a_change_is_of_one_connection();
+        self.ends[number - 1].send(self.alloc, command)
+    }
+
+    /// Queues a HELLO of a client.
+    fn hello(&mut self, number: usize, asked: Option<Version>) -> Result<Outcome, Cause>
+        requires there { (1 ≤ number) × (number ≤ length self.old.ends) }
+        requires is_open { IsOpenEnd self.old.ends (number - 1) }
+        ensures happens { IfOk result (Happens L.is_honest self.old self.new
+            (session.Greet number asked)) }
+        ensures stops { IfErr result (λ cause. cause ≡ Cause.OutOfMemory) }
+        ensures going { self.new.stopped ≡ self.old.stopped }
+    {
+        laws::readings_stay();
+        laws::what_has_come_was_sent();
+        laws::a_change_is_of_one_connection();
+        self.ends[number - 1].hello(asked)
+    }
+
+    /// Carries so many of a client's waiting bytes to its session, or all where fewer wait.
+    fn to_server(&mut self, number: usize, count: u64) -> Result<Outcome, Cause>
+        requires there { (1 ≤ number) × (number ≤ length self.old.ends) }
+        requires is_open { IsOpenEnd self.old.ends (number - 1) }
+        ensures happens { IfOk result (Happens L.is_honest self.old self.new
+            (session.ToServer number count)) }
+        ensures stops { IfErr result (Fails L.is_honest L.failures self.old self.new) }
+        ensures going { self.new.stopped ≡ self.old.stopped }
+    {
+        laws::what_arrives_is_answered();
+        laws::what_is_shown_is_read();
+        laws::what_has_come_was_sent();
+        let carried = carry_to_server(
+            &mut self.links[number - 1],
+            &mut self.ends[number - 1].client,
+            &mut self.hub,
+            number as u64,
+            &mut self.order,
+            number,
+            count,
+        );
+        if let Err(cause) = carried {
+            return Err(cause);
+        }
+        Ok(Outcome::Done)
+    }
+
+    /// Carries so many of a session's waiting bytes to its client, or all where fewer wait, and
+    /// keeps what they bring.
+    fn to_client(&mut self, number: usize, count: u64) -> Result<Outcome, Cause>
+        requires there { (1 ≤ number) × (number ≤ length self.old.ends) }
+        requires is_open { IsOpenEnd self.old.ends (number - 1) }
+        ensures happens { IfOk result (Happens L.is_honest self.old self.new
+            (session.ToClient number count)) }
+        ensures stops { IfErr result (Fails L.is_honest L.failures self.old self.new) }
+        ensures going { self.new.stopped ≡ self.old.stopped }
+    {
+        laws::readings_go_on();
+        laws::what_is_shown_is_read();
+        laws::a_change_is_of_one_connection();
+        let mut heard = Asked::new(self.alloc);
+        let carried = carry_to_client(
+            &mut self.links[number - 1],
+            &mut self.ends[number - 1].client,
+            &mut self.hub,
+            number as u64,
+            &mut heard,
+            count,
+        );
+        if let Err(cause) = carried {
+            return Err(cause);
+        }
+        self.ends[number - 1].keep(heard)
+    }
+
+    /// Sends a push of these items to a client.
+    fn push(&mut self, number: usize, items: &Members) -> Result<Outcome, Cause>
+        requires there { (1 ≤ number) × (number ≤ length self.old.ends) }
+        requires is_open { IsOpenEnd self.old.ends (number - 1) }
+        ensures happens { IfOk result (Happens L.is_honest self.old self.new
+            (session.Push number (map datum_of (list_of items.now)))) }
+        ensures stops { IfErr result (Fails L.is_honest L.failures self.old self.new) }
+        ensures going { self.new.stopped ≡ self.old.stopped }
+    {
+        laws::what_is_shown_is_read();
+        laws::what_has_come_was_sent();
+        laws::a_change_is_of_one_connection();
+        if let Err(error) = self.hub.push(number as u64, items.list()) {
+            return outcome_of_push(error);
+        }
+        Ok(Outcome::Done)
+    }
+
+    /// Closes a client's session. Nothing comes any more, either way.
+    fn drop_client(&mut self, number: usize) -> Result<Outcome, Cause>
+        requires there { (1 ≤ number) × (number ≤ length self.old.ends) }
+        requires is_open { IsOpenEnd self.old.ends (number - 1) }
+        ensures happens { IfOk result (Happens L.is_honest self.old self.new
+            (session.Drop number)) }
+        ensures stops { IfErr result (Fails L.is_honest L.failures self.old self.new) }
+        ensures going { self.new.stopped ≡ self.old.stopped }
+    {
+        laws::a_change_is_of_one_connection();
+        if let Err(_) = self.hub.close(number as u64) {
+            return Err(Cause::NoSession);
+        }
+        self.ends[number - 1].is_dropped = true;
+        Ok(Outcome::Done)
+    }
+
+    /// How many clients there are.
+    pub fn clients(&self) -> usize
+        ensures { result ≡ length self.now.ends }
+    {
+        self.ends.len()
+    }
+
+    /// What the client of this number has queued.
+    pub fn asked(&self, number: usize) -> &[Request]
+        requires { (1 ≤ number) × (number ≤ length self.now.ends) }
+        ensures { (limits : Bounds) (w : session.World) → Shows L.is_honest self.now limits w →
+            IfSome (connection_at w.connections number) (λ c. requests_of result.now ≡ c.requests) }
+    {
+        self.ends[number - 1].asked.as_slice()
+    }
+
+    /// The client of each command, in the order in which they were run.
+    pub fn order(&self) -> &[usize]
+        ensures { (limits : Bounds) (w : session.World) → Shows L.is_honest self.now limits w →
+            result.now ≡ clients_in w }
+    {
+        self.order.as_slice()
+    }
+
+    /// The replies that the client of this number heard, that to its nth command the nth.
+    pub fn replies(&self, number: usize) -> &[Value]
+        requires { (1 ≤ number) × (number ≤ length self.now.ends) }
+        ensures { (limits : Bounds) (w : session.World) → Shows L.is_honest self.now limits w →
+            IfSome (connection_at w.connections number) (λ c.
+            values_in result.now ≡ shown_replies c) }
+    {
+        self.ends[number - 1].replies.as_slice()
+    }
+
+    /// The members of each push that the client of this number heard.
+    pub fn pushes(&self, number: usize) -> &[Members]
+        requires { (1 ≤ number) × (number ≤ length self.now.ends) }
+        ensures { (limits : Bounds) (w : session.World) → Shows L.is_honest self.now limits w →
+            IfSome (connection_at w.connections number) (λ c.
+            pushes_with result.now ≡ shown_pushes c) }
+    {
+        self.ends[number - 1].pushes.as_slice()
+    }
+
+    /// The keys and values of the store, in the order in which the keys came.
+    pub fn entries(&self) -> Entries<'_>
+        ensures { (limits : Bounds) (w : session.World) → Shows L.is_honest self.now limits w →
+            result ≡ w.store }
+    {
+        self.hub.entries()
+    }
+}
+
+/// The numbers of these limits are within their ranges.
+fn in_range(limits: &Limits)
+    ensures { AreBounds limits.now }
+{
+    let _depth = limits.depth();
+    let _length = limits.length();
+    let _total = limits.total();
+    let _items = limits.items();
+}
+
+/// A session for each of so many clients that asked nothing.
+fn open_each<S: BuildHasher>(
+    alloc: Global,
+    hub: &mut Hub<S>,
+    limits: &Limits,
+    count: usize,
+) -> Result<Vec<End>, OpenError>
+    requires few { count ≤ 65_536 }
+    requires nothing_open { (hub.old.sessions ≡ []) × (hub.old.last ≡ 0) }
+    ensures opened { IfOk result (λ ends. AreOpened limits.now hub.old hub.new ends.items count) }
+    ensures memory { IfErr result (λ error. error ≡ OpenError.OutOfMemory) }
+{
+    let mut ends = Vec::new(alloc);
+    for _ in 0..count {
+        if let Err(error) = hub.open() {
+            return Err(error);
+        }
+        let Ok(()) = ends.push(End::new(alloc, limits)) else {
+            return Err(OpenError::OutOfMemory);
+        };
+    }
+    Ok(ends)
+}
+
+/// What comes of a push that a session doesn't queue.
+fn outcome_of_push(error: PushError) -> Result<Outcome, Cause>
+    ensures { result ≡ outcome_of_push error }
+{
+    match error {
+        PushError::NotInVersion => Ok(Outcome::Refused(Cause::NotInVersion)),
+        PushError::NestedPush => Ok(Outcome::Refused(Cause::PushBelowTop)),
+        PushError::OverLimits(limit) => Ok(Outcome::Refused(Cause::OverLimits(limit))),
+        PushError::OutOfMemory => Err(Cause::OutOfMemory),
+        PushError::Closing => Err(Cause::Closing),
+        PushError::NoSession => Err(Cause::NoSession),
+    }
+}
