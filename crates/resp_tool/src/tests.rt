@@ -2,6 +2,8 @@
 
 ghost use Rattle.std.specs.Prelude.{◌≤◌};
 
+mod scripts;
+
 use crate::canon::canon;
 use crate::check::check;
 use crate::command_line::command;
