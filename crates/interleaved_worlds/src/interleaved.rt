@@ -1,5 +1,5 @@
-//! Three clients with two commands each, each command in two parts: every interleaving of what comes
-//! at once, the second part of a command with the first of the next.
+//! Three clients with two commands each, each command in two parts: every interleaving of what
+//! comes at once, the second part of a command with the first of the next.
 
 use crate::Tally;
 use crate::replay::{Asked, Replay, TestWorld};

@@ -65,7 +65,8 @@ fn asks(alloc: Global) -> Result<Outcome, AllocError> {
     })
 }
 
-/// Where memory is wanting, whole requests wait or all were written, and the first replies are heard.
+/// Where memory is wanting, whole requests wait or all were written, and the first replies are
+/// heard.
 pub(crate) fn of_ask(alloc: Global) -> Outcome {
     Outcome::from(asks(alloc))
 }
