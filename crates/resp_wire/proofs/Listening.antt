@@ -53,7 +53,8 @@ hears_nothing c before front piece h = record { done = []; parts = refl; few = o
 
 -- The bytes of one turn behind those of the turns before.
 bytes_on : (front done piece rest : List ℕ) (used : ℕ) → piece ≡ done ++ rest → piece ≡ (done ++ take used rest) ++ drop used rest
-bytes_on front done piece rest used parts = parts ∙ ap (λ z. done ++ z) (sym (take-append-drop used rest)) ∙ sym (append_assoc done (take used rest) (drop used rest))
+bytes_on front done piece rest used parts = parts ∙ ap (λ z. done ++ z) (sym (take-append-drop used rest)) ∙ sym (append_assoc done (take used rest) (drop used
+    rest))
 
 -- what comes behind a rest that was taken
 read_on : (front done text f : List ℕ) (more : List ℕ) → front ++ done ≡ text ++ f → front ++ (done ++ more) ≡ text ++ (f ++ more)
@@ -259,7 +260,8 @@ reads_on go_on s c values others front came piece f rest after same first second
     reads_more go_on s values others front came f piece (state_of c).limits (state_of c).waiting after same first second.text rest second.reads second.whole
 
 pub hears_piece : ReadingsGoOn → HearingGoesOn → (s : ClientState) (c new : Client) (before mid after : Asked) (front came piece : List ℕ) →
-    (h : HearsAll s c before mid (front ++ came)) → HearsAll (state_of c) new mid after (h.rest ++ piece) → HearsAll s new before after (front ++ (came ++ piece))
+    (h : HearsAll s c before mid (front ++ came)) → HearsAll (state_of c) new mid after (h.rest ++ piece) → HearsAll s new before after (front ++ (came ++
+    piece))
 hears_piece go_on goes_on s c new before mid after front came piece h p = record {
   values = h.values ++ p.values;
   rest = p.rest;

@@ -134,7 +134,8 @@ arrived answered nothing_else goes_on sent limits hub hub' ends order order' w a
         unfinished = left.unfinished;
         same_limits = ap (λ (z : ClientState). z.limits) dropped ∙ s.same_limits;
         asks = ap (λ (z : ClientState). z.out) dropped ∙ ap (drop k) s.asks ∙ waits_on c.arrived k (sent_text c) ∙
-            sym (ap (λ n. drop n (sent_text c)) left.arrived) ∙ sym (ap (λ (l : List Request). drop left.next.arrived (concat (map request_text l))) left.requests);
+            sym (ap (λ n. drop n (sent_text c)) left.arrived) ∙ sym (ap (λ (l : List Request). drop left.next.arrived (concat (map request_text l)))
+            left.requests);
         same_count = ap queued dropped ∙ s.same_count ∙ sym (ap length left.requests);
         text = s.text;
         rest = s.rest;
@@ -225,7 +226,8 @@ shown_on go_on nothing_else change limits hub hub' ends order w at i k e e' clie
     let same : xs ++ ys ≡ values_of (shown_messages (with_shown k c)) = nothing_else limits at.n b.events next at.bounds at.few b.possible b.run (suc i)
     (with_shown k c) there (xs ++ ys) (s.text ++ all.reads.text) all.rest after h.reads h.whole may in
     let numbered : map (λ (r : ℕ × Datum). r.1) (replies_in heard) ≡ replies_of ys =
-    ap (map (λ (r : ℕ × Datum). r.1)) (all.heard.0 ∙ ap (λ l. l ++ numbered_replies (next_number (state_of e.client)) ys) no_reply) ∙ unnumbered (next_number (state_of e.client)) (replies_of ys) in
+    ap (map (λ (r : ℕ × Datum). r.1)) (all.heard.0 ∙ ap (λ l. l ++ numbered_replies (next_number (state_of e.client)) ys) no_reply) ∙ unnumbered (next_number
+    (state_of e.client)) (replies_of ys) in
     let pushed : pushes_in heard ≡ pushes_of ys = all.heard.1 ∙ ap (λ l. l ++ pushes_of ys) no_push in
     let fewer = counted (state_of e.client).limits (state_of e.client).waiting after ys all.reads.text all.reads.reads in
     let counts = all.answered in
@@ -233,8 +235,10 @@ shown_on go_on nothing_else change limits hub hub' ends order w at i k e e' clie
     let still : (state_of client').answered + length after.asks ≡ length c.requests = omega (arith, fewer, counts, before) in
     let client : ShowsClient limits (seat_at hub' (suc i)) e' (with_shown k c) = record {
       asked = ap (λ (l : Vec Asking Global). requests_of l.items) kept.asked ∙ old.asked;
-      replies = kept.replies ∙ ap (λ l. l ++ map (λ (r : ℕ × Datum). r.1) (replies_in heard)) old.replies ∙ ap (λ l. shown_replies c ++ l) numbered ∙ sym (filter-append (λ x. not (is_push x)) xs ys) ∙ ap replies_of same;
-      pushes = kept.pushes ∙ ap (λ l. l ++ pushes_in heard) old.pushes ∙ ap (λ l. shown_pushes c ++ l) pushed ∙ sym (filter-append is_push xs ys) ∙ ap pushes_of same;
+      replies = kept.replies ∙ ap (λ l. l ++ map (λ (r : ℕ × Datum). r.1) (replies_in heard)) old.replies ∙ ap (λ l. shown_replies c ++ l) numbered ∙ sym
+          (filter-append (λ x. not (is_push x)) xs ys) ∙ ap replies_of same;
+      pushes = kept.pushes ∙ ap (λ l. l ++ pushes_in heard) old.pushes ∙ ap (λ l. shown_pushes c ++ l) pushed ∙ sym (filter-append is_push xs ys) ∙ ap
+          pushes_of same;
       dropped = kept.dropped ∙ old.dropped;
       stands = λ _. record {
         session = sent_seat k s.session;

@@ -22,7 +22,7 @@ use Rattle.resp_wire.specs.declared.event.Outcome.{Outcome}
 use Rattle.resp_wire.specs.declared.event.Outcome.TheVariants.{Done, Gone, Refused}
 use Rattle.resp_wire.proofs.worlds.Asked.{as_before, not_refused, with_one_more}
 use Rattle.resp_wire.proofs.worlds.Frames.{Behind, IsFramed, behind, framed, kept}
-use Rattle.resp_wire.proofs.worlds.Places.{connection_there}
+use Rattle.resp_wire.proofs.worlds.Places.{connection_there, world_of}
 
 -- what two facts of a result come to
 pub both_ok : {T E : Type 0} (r : Result T E) (P Q R : T → Type 0) → IfOk r P → IfOk r Q → ((x : T) → P x → Q x → R x) → IfOk r R
@@ -68,7 +68,11 @@ request_done readings sent arrivals change limits hub ends order w i e e' event 
     let few = may.number_left in
     let counts = s.same_count in
     let refused : (cause : Cause) → RefusesEvent limits (connection_of w event) event cause → ⊥ =
-    λ cause r. not_refused limits (length c.requests) request may.is_sent (subst (λ l. FitsRequest l request) s.same_limits may.fits) (omega (arith, few, counts))
+    λ cause r. not_refused limits (length c.requests) request may.is_sent (subst (λ l. FitsRequest l request) s.same_limits may.fits) (omega (
+      arith,
+      few,
+      counts,
+    ))
     cause (refusing cause (subst (λ o. RefusesEvent limits o event cause) its r)) in
     let step : Step limits w event runs.Done (after_event w event) = (ap is_gone its ∙ a.is_open, refused, refl) in
     let b = behind limits hub ends order w (after_event w event) event at step possible in
@@ -92,17 +96,19 @@ request_done readings sent arrivals change limits hub ends order w i e e' event 
 request_taken : {L : Type 0} (is_honest : L → Type 0) → ReadingsStay → WhatHasComeWasSent → ArrivalsStay → AChangeIsOfOneConnection → (limits : Bounds)
     (hub : HubState) (ends : List End) (links : List L) (order : List ℕ) (stopped : Option Cause) (w : World) (i : ℕ) (e e' : End)
     (event : WorldEvent) (request : Request) (outcome : Outcome) →
-    (shows : Shows is_honest (record { hub = hub; ends = ends; links = links; order = order; stopped = stopped }) limits w) →
+    (shows : Shows is_honest (world_of hub ends links order stopped) limits w) →
     (a : IsAt limits hub ends order w i e) → Takes e e' request outcome → (outcome ≡ Done → IsPossible event) →
     ((cause : Cause) → RefusesEvent limits (Some a.connection) event cause → RefusesRequest limits (length a.connection.requests) request cause) →
     ((cause : Cause) → RefusesRequest limits (length a.connection.requests) request cause → RefusesEvent limits (Some a.connection) event cause) →
     connection_of w event ≡ Some a.connection → after_event w event ≡ world_with (with_request request) w (suc i) →
     (next : World) × Step limits w event (outcome_of outcome) next ×
-    Shows is_honest (record { hub = hub; ends = set ends i e'; links = links; order = order; stopped = stopped }) limits next
-request_taken {L} is_honest readings sent arrivals change limits hub ends links order stopped w i e e' event request Done shows a takes possible refusing by_it its now =
+    Shows is_honest (world_of hub (set ends i e') links order stopped) limits next
+request_taken {L} is_honest readings sent arrivals change limits hub ends links order stopped w i e e' event request Done shows a takes possible refusing by_it
+    its now =
     let d = request_done readings sent arrivals change limits hub ends order w i e e' event request shows.each a takes (possible refl) refusing its now in
     (after_event w event, d.0, record { each = d.1; honest = shows.honest })
-request_taken {L} is_honest readings sent arrivals change limits hub ends links order stopped w i e e' event request (Refused cause) shows a takes possible refusing by_it its now =
+request_taken {L} is_honest readings sent arrivals change limits hub ends links order stopped w i e e' event request (Refused cause) shows a takes possible
+    refusing by_it its now =
     let c = a.connection in
     let old = shows.each.each i e c a.here a.its in
     let s = old.stands a.is_open in
@@ -118,7 +124,8 @@ request_taken {L} is_honest readings sent arrivals change limits hub ends links 
         honest = shows.honest;
       },
     )
-request_taken {L} is_honest readings sent arrivals change limits hub ends links order stopped w i e e' event request Gone shows a takes possible refusing by_it its now =
+request_taken {L} is_honest readings sent arrivals change limits hub ends links order stopped w i e e' event request Gone shows a takes possible refusing by_it
+    its now =
     absurd takes
 
 -- the number of an index
@@ -129,30 +136,32 @@ pub sends : {L : Type 0} (is_honest : L → Type 0) → ReadingsStay → WhatHas
     (ends : List End) (links : List L) (order : List ℕ) (stopped : Option Cause) (number : ℕ) (words : List (List ℕ)) (e e' : End)
     (outcome : Outcome) → (1 ≤ number) × (number ≤ length ends) → IsOpenEnd ends (number - 1) → e ≡ get_or ends (number - 1) e →
     Takes e e' (Command words) outcome → (outcome ≡ Done → HasBytes (Command words)) →
-    Happens is_honest (record { hub = hub; ends = ends; links = links; order = order; stopped = stopped })
-    (record { hub = hub; ends = set ends (number - 1) e'; links = links; order = order; stopped = stopped }) (Send number words) outcome
+    Happens is_honest (world_of hub ends links order stopped)
+    (world_of hub (set ends (number - 1) e') links order stopped) (Send number words) outcome
 sends {L} is_honest readings sent arrivals change hub ends links order stopped number words e e' outcome there open_end e_is takes bytes limits w shows =
     let i = number - 1 in
     let (least, most) = there in
     let within : number - 1 < length ends = omega (arith, least, most) in
     let a = found_at limits hub ends order w i e shows.each within e_is open_end in
     subst (λ n. (next : World) × Step limits w (Send n words) (outcome_of outcome) next ×
-    Shows is_honest (record { hub = hub; ends = set ends i e'; links = links; order = order; stopped = stopped }) limits next) (numbered number least)
-    (request_taken is_honest readings sent arrivals change limits hub ends links order stopped w i e e' (Send (suc i) words) (Command words) outcome shows a takes
+    Shows is_honest (world_of hub (set ends i e') links order stopped) limits next) (numbered number least)
+    (request_taken is_honest readings sent arrivals change limits hub ends links order stopped w i e e' (Send (suc i) words) (Command words) outcome shows a
+    takes
     bytes (λ cause r. r) (λ cause r. r) a.its refl)
 
 pub greets : {L : Type 0} (is_honest : L → Type 0) → ReadingsStay → WhatHasComeWasSent → ArrivalsStay → AChangeIsOfOneConnection → (hub : HubState)
     (ends : List End) (links : List L) (order : List ℕ) (stopped : Option Cause) (number : ℕ) (asked : Option Version) (e e' : End)
     (outcome : Outcome) → (1 ≤ number) × (number ≤ length ends) → IsOpenEnd ends (number - 1) → e ≡ get_or ends (number - 1) e →
     Takes e e' (Hello asked) outcome →
-    Happens is_honest (record { hub = hub; ends = ends; links = links; order = order; stopped = stopped })
-    (record { hub = hub; ends = set ends (number - 1) e'; links = links; order = order; stopped = stopped }) (Greet number asked) outcome
+    Happens is_honest (world_of hub ends links order stopped)
+    (world_of hub (set ends (number - 1) e') links order stopped) (Greet number asked) outcome
 greets {L} is_honest readings sent arrivals change hub ends links order stopped number asked e e' outcome there open_end e_is takes limits w shows =
     let i = number - 1 in
     let (least, most) = there in
     let within : number - 1 < length ends = omega (arith, least, most) in
     let a = found_at limits hub ends order w i e shows.each within e_is open_end in
     subst (λ n. (next : World) × Step limits w (Greet n asked) (outcome_of outcome) next ×
-    Shows is_honest (record { hub = hub; ends = set ends i e'; links = links; order = order; stopped = stopped }) limits next) (numbered number least)
-    (request_taken is_honest readings sent arrivals change limits hub ends links order stopped w i e e' (Greet (suc i) asked) (Hello asked) outcome shows a takes
+    Shows is_honest (world_of hub (set ends i e') links order stopped) limits next) (numbered number least)
+    (request_taken is_honest readings sent arrivals change limits hub ends links order stopped w i e e' (Greet (suc i) asked) (Hello asked) outcome shows a
+    takes
     (λ _. tt) (λ cause r. r) (λ cause r. r) a.its refl)

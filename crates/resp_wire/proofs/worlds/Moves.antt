@@ -19,7 +19,7 @@ use Rattle.resp_session.specs.Runs as runs
 use Rattle.resp_session.specs.Runs.{RefusesEvent, RefusesPush, Step, connection_of, is_gone}
 use Rattle.resp_session.specs.Serving.{WhatArrivesIsAnswered, WhatHasComeWasSent}
 use Rattle.resp_session.specs.WorldLaws.{AChangeIsOfOneConnection, NoClientMeetsAFault, WhatIsLeftMayGoOn, WhatIsReadIsShown}
-use Rattle.resp_session.specs.Worlds.{Drop, Push, ToClient, ToServer, World, after_event, connection_at}
+use Rattle.resp_session.specs.Worlds.{Drop, Push, ToClient, ToServer, World, WorldEvent, after_event, connection_at}
 use Rattle.resp_client.specs.Clients.{state_of, without_front}
 use Rattle.resp_client.specs.Hearing.{KeepsReading, WhereTaken}
 use Rattle.resp_client.specs.declared.client.Client.{Client}
@@ -32,7 +32,7 @@ use Rattle.resp_wire.specs.Carrying.{HasBrought, HearsOn, StopsCarrying, StopsSh
 use Rattle.resp_wire.specs.Ends.{Keeps, outcome_of_push}
 use Rattle.resp_wire.specs.Happening.{Fails, Happens, IsOpenEnd}
 use Rattle.resp_wire.specs.Hearing.{pushes_in, replies_in}
-use Rattle.resp_wire.specs.Worlds.{HasFailed, Shows, ShowsEach, StopsBy, WorldState, outcome_of}
+use Rattle.resp_wire.specs.Worlds.{HasFailed, Shows, ShowsEach, Stands, StopsBy, WorldState, outcome_of}
 use Rattle.resp_wire.specs.declared.asked.Asked.{Asked}
 use Rattle.resp_wire.specs.declared.end.End.{End}
 use Rattle.resp_wire.specs.declared.event.Outcome.{Outcome}
@@ -40,8 +40,8 @@ use Rattle.resp_wire.specs.declared.event.Outcome.TheVariants.{Done, Refused}
 use Rattle.resp_wire.proofs.Seated.{at_open}
 use Rattle.resp_wire.proofs.Showing.{at_there}
 use Rattle.resp_wire.proofs.worlds.Carried.{arrived, never_closed, never_refused, sent_seat, shown_on, with_client}
-use Rattle.resp_wire.proofs.worlds.Events.{found_at, numbered}
-use Rattle.resp_wire.proofs.worlds.Places.{set_there}
+use Rattle.resp_wire.proofs.worlds.Events.{IsAt, found_at, numbered}
+use Rattle.resp_wire.proofs.worlds.Places.{set_there, world_of}
 use Rattle.resp_wire.proofs.worlds.Pushed.{dropped, pushed, pushed_seat}
 
 -- what holds of each holds of one
@@ -74,6 +74,50 @@ end_there [] i within = absurd (omega (arith, within))
 end_there (e ∷ es) zero within = (e, refl)
 end_there (e ∷ es) (suc i) within = end_there es i (omega (arith, within))
 
+-- what comes of an event in a world that is shown, and what is shown behind it
+abbrev Leads : {L : Type 0} → (L → Type 0) → Bounds → World → WorldState L → WorldEvent → Outcome → Type 0
+Leads {L} is_honest limits w new event outcome = (next : World) × Step limits w event (outcome_of outcome) next × Shows is_honest new limits next
+
+-- a client that was not dropped, and how it and its session stand
+record IsAtWork (limits : Bounds) (hub : HubState) (ends : List End) (order : List ℕ) (w : World) (number : ℕ) (e : End) : Type 0 where
+  pub is : suc (number - 1) ≡ number
+  pub at : IsAt limits hub ends order w (number - 1) e
+  pub stands : Stands limits (seat_at hub (suc (number - 1))) e at.connection
+
+at_work : (limits : Bounds) (hub : HubState) (ends : List End) (order : List ℕ) (w : World) (number : ℕ) (e : End) → ShowsEach limits hub ends order w →
+    (1 ≤ number) × (number ≤ length ends) → IsOpenEnd ends (number - 1) → e ≡ get_or ends (number - 1) e → IsAtWork limits hub ends order w number e
+at_work limits hub ends order w number e each there open_end e_is =
+    let (least, most) = there in
+    let a = found_at limits hub ends order w (number - 1) e each (omega (arith, least, most)) e_is open_end in
+    record {
+      is = numbered number least;
+      at = a;
+      stands = (each.each (number - 1) e a.connection a.here a.its).stands a.is_open;
+    }
+
+-- a client of each number is at work that was not dropped
+some_at_work : (limits : Bounds) (hub : HubState) (ends : List End) (order : List ℕ) (w : World) (number : ℕ) → ShowsEach limits hub ends order w →
+    (1 ≤ number) × (number ≤ length ends) → IsOpenEnd ends (number - 1) → (e : End) × IsAtWork limits hub ends order w number e
+some_at_work limits hub ends order w number each there open_end =
+    let (least, most) = there in
+    let (e, e_is) = end_there ends (number - 1) (omega (arith, least, most)) in
+    (e, at_work limits hub ends order w number e each there open_end e_is)
+
+-- its link is there, and is honest
+record IsItsLink {L : Type 0} (is_honest : L → Type 0) (links : List L) (i : ℕ) (link : L) : Type 0 where
+  pub within : i < length links
+  pub honest : is_honest link
+
+its_link : {L : Type 0} (is_honest : L → Type 0) (ends : List End) (links : List L) (number : ℕ) (link : L) → AllByRecursion is_honest links →
+    length links ≡ length ends → (1 ≤ number) × (number ≤ length ends) → link ≡ get_or links (number - 1) link → IsItsLink is_honest links (number - 1) link
+its_link {L} is_honest ends links number link honest as_many there link_is =
+    let (least, most) = there in
+    let within : number - 1 < length links = omega (arith, least, most, as_many) in
+    record {
+      within = within;
+      honest = one_of is_honest links (number - 1) link honest (slice_get_read links (length links) (number - 1) link refl within link_is);
+    }
+
 -- a link of a client whose link has failed
 failed_at : {L : Type 0} (failures : L → ℕ) (links : List L) (i : ℕ) (link link' : L) → i < length links → link ≡ get_or links i link →
     HasRisen (failures link) (failures link') → HasFailed failures links (set links i link')
@@ -86,112 +130,97 @@ pub moves_to_server : {L : Type 0} (is_honest : L → Type 0) → WhatArrivesIsA
     e ≡ get_or ends (number - 1) e → link ≡ get_or links (number - 1) link →
     (is_honest link → WhereOpen hub number (λ s front. HasBrought hub hub' number s (front ++ take count (state_of e.client).out) order order' number)) →
     state_of client' ≡ without_front count (state_of e.client) → KeepsReading e.client client' → (is_honest link → is_honest link') →
-    Happens is_honest (record { hub = hub; ends = ends; links = links; order = order; stopped = stopped })
-    (record { hub = hub'; ends = set ends (number - 1) (with_client e client'); links = set links (number - 1) link'; order = order'; stopped = stopped })
+    Happens is_honest (world_of hub ends links order stopped)
+    (world_of hub' (set ends (number - 1) (with_client e client')) (set links (number - 1) link') order' stopped)
     (ToServer number count) Done
-moves_to_server {L} is_honest answered nothing_else goes_on sent hub hub' ends links order order' stopped number count e client' link link' as_many there open_end e_is
+moves_to_server {L} is_honest answered nothing_else goes_on sent hub hub' ends links order order' stopped number count e client' link link' as_many there
+    open_end e_is
     link_is brought queue reading stays limits w shows =
     let i = number - 1 in
-    let (least, most) = there in
-    let within : number - 1 < length ends = omega (arith, least, most) in
-    let within_links : number - 1 < length links = omega (arith, least, most, as_many) in
-    let is : suc (number - 1) ≡ number = numbered number least in
-    let a = found_at limits hub ends order w i e shows.each within e_is open_end in
+    let its = its_link is_honest ends links number link shows.honest as_many there link_is in
+    let work = at_work limits hub ends order w number e shows.each there open_end e_is in
+    let is = work.is in
+    let a = work.at in
+    let s = work.stands in
     let c = a.connection in
-    let s = (shows.each.each i e c a.here a.its).stands a.is_open in
-    let honest = one_of is_honest links i link shows.honest (slice_get_read links (length links) i link refl within_links link_is) in
     let come : HasBrought hub hub' (suc i) s.session (s.front ++ take count (state_of e.client).out) order order' (suc i) =
     at_open hub (suc i) (λ t front. HasBrought hub hub' (suc i) t (front ++ take count (state_of e.client).out) order order' (suc i)) s.session s.front
-    (subst (λ n. WhereOpen hub n (λ t front. HasBrought hub hub' n t (front ++ take count (state_of e.client).out) order order' n)) (sym is) (brought honest))
+    (subst (λ n. WhereOpen hub n (λ t front. HasBrought hub hub' n t (front ++ take count (state_of e.client).out) order order' n)) (sym is) (brought
+    its.honest))
     s.there s.is_open s.taking in
-    let done = arrived answered nothing_else goes_on sent limits hub hub' ends order order' w shows.each i count e client' c a.here a.its a.is_open within s come
+    let done = arrived answered nothing_else goes_on sent limits hub hub' ends order order' w shows.each i count e client' c a.here a.its a.is_open a.within s
+    come
     queue reading in
-    subst (λ n. (next : World) × Step limits w (ToServer n count) (outcome_of Done) next × Shows is_honest (record {
-      hub = hub';
-      ends = set ends i (with_client e client');
-      links = set links i link';
-      order = order';
-      stopped = stopped;
-    }) limits next) is
-    (after_event w (ToServer (suc i) count), done.0, record { each = done.1; honest = all_with is_honest links i link' shows.honest (stays honest) })
+    subst (λ n. Leads is_honest limits w (world_of hub' (set ends i (with_client e client')) (set links i link') order' stopped) (ToServer n count) Done) is
+    (after_event w (ToServer (suc i) count), done.0, record { each = done.1; honest = all_with is_honest links i link' shows.honest (stays its.honest) })
 
 pub stops_to_server : {L : Type 0} (is_honest : L → Type 0) (failures : L → ℕ) → WhatArrivesIsAnswered → (hub hub' : HubState) (ends ends' : List End)
     (links : List L) (order order' : List ℕ) (stopped : Option Cause) (number : ℕ) (e : End) (link link' : L) (cause : Cause) →
     length links ≡ length ends → (1 ≤ number) × (number ≤ length ends) → IsOpenEnd ends (number - 1) → e ≡ get_or ends (number - 1) e →
     link ≡ get_or links (number - 1) link →
     (is_honest link → WhereOpen hub number (λ s front. StopsCarrying hub number s front (state_of e.client).out (failures link) (failures link') cause)) →
-    Fails is_honest failures (record { hub = hub; ends = ends; links = links; order = order; stopped = stopped })
-    (record { hub = hub'; ends = ends'; links = set links (number - 1) link'; order = order'; stopped = stopped }) cause
-stops_to_server {L} is_honest failures answered hub hub' ends ends' links order order' stopped number e link link' cause as_many there open_end e_is link_is refused
+    Fails is_honest failures (world_of hub ends links order stopped)
+    (world_of hub' ends' (set links (number - 1) link') order' stopped) cause
+stops_to_server {L} is_honest failures answered hub hub' ends ends' links order order' stopped number e link link' cause as_many there open_end e_is link_is
+    refused
     limits w shows =
     let i = number - 1 in
-    let (least, most) = there in
-    let within : number - 1 < length ends = omega (arith, least, most) in
-    let within_links : number - 1 < length links = omega (arith, least, most, as_many) in
-    let is : suc (number - 1) ≡ number = numbered number least in
-    let a = found_at limits hub ends order w i e shows.each within e_is open_end in
+    let its = its_link is_honest ends links number link shows.honest as_many there link_is in
+    let work = at_work limits hub ends order w number e shows.each there open_end e_is in
+    let is = work.is in
+    let a = work.at in
+    let s = work.stands in
     let c = a.connection in
-    let s = (shows.each.each i e c a.here a.its).stands a.is_open in
-    let honest = one_of is_honest links i link shows.honest (slice_get_read links (length links) i link refl within_links link_is) in
     let why : StopsCarrying hub (suc i) s.session s.front (state_of e.client).out (failures link) (failures link') cause =
     at_open hub (suc i) (λ t front. StopsCarrying hub (suc i) t front (state_of e.client).out (failures link) (failures link') cause) s.session s.front
-    (subst (λ n. WhereOpen hub n (λ t front. StopsCarrying hub n t front (state_of e.client).out (failures link) (failures link') cause)) (sym is) (refused honest))
+    (subst (λ n. WhereOpen hub n (λ t front. StopsCarrying hub n t front (state_of e.client).out (failures link) (failures link') cause)) (sym is) (refused
+    its.honest))
     s.there s.is_open s.taking in
     elim why as (λ _. StopsBy failures links (set links i link') cause) [
       | inl memory ↦ inl memory
-      | inr (inl risen) ↦ inr (failed_at failures links i link link' within_links link_is risen)
+      | inr (inl risen) ↦ inr (failed_at failures links i link link' its.within link_is risen)
       | inr (inr closed) ↦ absurd (never_closed answered limits hub ends order w shows.each (suc i) e c (seat_at hub (suc i)) a.its s closed)
     ]
 
 pub moves_to_client : {L : Type 0} (is_honest : L → Type 0) → ReadingsGoOn → WhatIsReadIsShown → AChangeIsOfOneConnection → (hub hub' : HubState)
     (ends : List End) (links : List L) (order : List ℕ) (stopped : Option Cause) (number count : ℕ) (e between e' : End) (client' : Client)
     (link link' : L) (fresh heard : Asked) → length links ≡ length ends → (1 ≤ number) × (number ≤ length ends) → IsOpenEnd ends (number - 1) →
-    e ≡ get_or ends (number - 1) e → link ≡ get_or links (number - 1) link → between ≡ get_or (set ends (number - 1) (with_client e client')) (number - 1) between →
+    e ≡ get_or ends (number - 1) e → link ≡ get_or links (number - 1) link → between ≡ get_or (set ends (number - 1) (with_client e client')) (number - 1)
+    between →
     replies_in fresh ≡ [] → pushes_in fresh ≡ [] → (is_honest link → IfSome (seat_at hub number) (λ s. WhereTaken e.client (λ front.
     HearsOn (state_of e.client) client' fresh heard (front ++ take count s.out)))) →
     IfSome (seat_at hub number) (λ s. hub' ≡ seated hub number (sent_seat count s)) → (is_honest link → is_honest link') → Keeps between e' heard →
-    Happens is_honest (record { hub = hub; ends = ends; links = links; order = order; stopped = stopped })
-    (record {
-      hub = hub';
-      ends = set (set ends (number - 1) (with_client e client')) (number - 1) e';
-      links = set links (number - 1) link';
-      order = order;
-      stopped = stopped;
-    }) (ToClient number count) Done
+    Happens is_honest (world_of hub ends links order stopped)
+    (world_of hub' (set (set ends (number - 1) (with_client e client')) (number - 1) e') (set links (number - 1) link') order stopped) (ToClient number count)
+    Done
 moves_to_client {L} is_honest go_on nothing_else change hub hub' ends links order stopped number count e between e' client' link link' fresh heard as_many there
     open_end e_is link_is between_is no_reply no_push on now stays kept limits w shows =
     let i = number - 1 in
-    let (least, most) = there in
-    let within : number - 1 < length ends = omega (arith, least, most) in
-    let within_links : number - 1 < length links = omega (arith, least, most, as_many) in
-    let is : suc (number - 1) ≡ number = numbered number least in
-    let a = found_at limits hub ends order w i e shows.each within e_is open_end in
+    let its = its_link is_honest ends links number link shows.honest as_many there link_is in
+    let work = at_work limits hub ends order w number e shows.each there open_end e_is in
+    let is = work.is in
+    let a = work.at in
+    let s = work.stands in
     let c = a.connection in
-    let s = (shows.each.each i e c a.here a.its).stands a.is_open in
-    let honest = one_of is_honest links i link shows.honest (slice_get_read links (length links) i link refl within_links link_is) in
-    let same : between ≡ with_client e client' = between_is ∙ get_or-set_same ends i (with_client e client') between within in
+    let same : between ≡ with_client e client' = between_is ∙ get_or-set_same ends i (with_client e client') between a.within in
     let heard_on : HearsOn (state_of e.client) client' fresh heard (s.rest ++ take count s.session.out) =
     at_there hub (suc i) (λ t. WhereTaken e.client (λ front. HearsOn (state_of e.client) client' fresh heard (front ++ take count t.out))) s.session s.there
     (subst (λ n. IfSome (seat_at hub n) (λ t. WhereTaken e.client (λ front. HearsOn (state_of e.client) client' fresh heard (front ++ take count t.out))))
-    (sym is) (on honest)) s.rest s.reading in
+    (sym is) (on its.honest)) s.rest s.reading in
     let seated_so : hub' ≡ seated hub (suc i) (sent_seat count s.session) =
     at_there hub (suc i) (λ t. hub' ≡ seated hub (suc i) (sent_seat count t)) s.session s.there
     (subst (λ n. IfSome (seat_at hub n) (λ t. hub' ≡ seated hub n (sent_seat count t))) (sym is) now) in
-    let done = shown_on go_on nothing_else change limits hub hub' ends order w shows.each i count e e' client' fresh heard c a.here a.its a.is_open within s no_reply
+    let done = shown_on go_on nothing_else change limits hub hub' ends order w shows.each i count e e' client' fresh heard c a.here a.its a.is_open a.within s
+    no_reply
     no_push heard_on seated_so (subst (λ d. Keeps d e' heard) same kept) in
     let ends_are : set ends i e' ≡ set (set ends i (with_client e client')) i e' = sym (set_twice ends i (with_client e client') e') in
-    subst (λ n. (next : World) × Step limits w (ToClient n count) (outcome_of Done) next × Shows is_honest (record {
-      hub = hub';
-      ends = set (set ends i (with_client e client')) i e';
-      links = set links i link';
-      order = order;
-      stopped = stopped;
-    }) limits next) is (
+    subst (λ n. Leads is_honest limits w (world_of hub' (set (set ends i (with_client e client')) i e') (set links i link') order stopped) (ToClient n count)
+    Done) is (
       after_event w (ToClient (suc i) count),
       done.0,
       record {
         each = subst (λ l. ShowsEach limits hub' l order (after_event w (ToClient (suc i) count))) ends_are done.1;
-        honest = all_with is_honest links i link' shows.honest (stays honest);
+        honest = all_with is_honest links i link' shows.honest (stays its.honest);
       },
     )
 
@@ -201,27 +230,28 @@ pub stops_to_client : {L : Type 0} (is_honest : L → Type 0) (failures : L → 
     IsOpenEnd ends (number - 1) → e ≡ get_or ends (number - 1) e → link ≡ get_or links (number - 1) link →
     (is_honest link → IfSome (seat_at hub number) (λ s. WhereTaken e.client (λ front.
     StopsShowing (state_of e.client) fresh heard front s.out (failures link) (failures link') cause))) →
-    Fails is_honest failures (record { hub = hub; ends = ends; links = links; order = order; stopped = stopped })
-    (record { hub = hub'; ends = ends'; links = set links (number - 1) link'; order = order'; stopped = stopped }) cause
-stops_to_client {L} is_honest failures go_on no_fault change hub hub' ends ends' links order order' stopped number e link link' fresh heard cause as_many there open_end
+    Fails is_honest failures (world_of hub ends links order stopped)
+    (world_of hub' ends' (set links (number - 1) link') order' stopped) cause
+stops_to_client {L} is_honest failures go_on no_fault change hub hub' ends ends' links order order' stopped number e link link' fresh heard cause as_many there
+    open_end
     e_is link_is refused limits w shows =
     let i = number - 1 in
-    let (least, most) = there in
-    let within : number - 1 < length ends = omega (arith, least, most) in
-    let within_links : number - 1 < length links = omega (arith, least, most, as_many) in
-    let is : suc (number - 1) ≡ number = numbered number least in
-    let a = found_at limits hub ends order w i e shows.each within e_is open_end in
+    let its = its_link is_honest ends links number link shows.honest as_many there link_is in
+    let work = at_work limits hub ends order w number e shows.each there open_end e_is in
+    let is = work.is in
+    let a = work.at in
+    let s = work.stands in
     let c = a.connection in
-    let s = (shows.each.each i e c a.here a.its).stands a.is_open in
-    let honest = one_of is_honest links i link shows.honest (slice_get_read links (length links) i link refl within_links link_is) in
     let why : StopsShowing (state_of e.client) fresh heard s.rest s.session.out (failures link) (failures link') cause =
-    at_there hub (suc i) (λ t. WhereTaken e.client (λ front. StopsShowing (state_of e.client) fresh heard front t.out (failures link) (failures link') cause)) s.session
+    at_there hub (suc i) (λ t. WhereTaken e.client (λ front. StopsShowing (state_of e.client) fresh heard front t.out (failures link) (failures link') cause))
+    s.session
     s.there (subst (λ n. IfSome (seat_at hub n) (λ t. WhereTaken e.client (λ front.
-    StopsShowing (state_of e.client) fresh heard front t.out (failures link) (failures link') cause))) (sym is) (refused honest)) s.rest s.reading in
+    StopsShowing (state_of e.client) fresh heard front t.out (failures link) (failures link') cause))) (sym is) (refused its.honest)) s.rest s.reading in
     elim why as (λ _. StopsBy failures links (set links i link') cause) [
       | inl memory ↦ inl memory
-      | inr (inl risen) ↦ inr (failed_at failures links i link link' within_links link_is risen)
-      | inr (inr met) ↦ absurd (never_refused go_on no_fault change limits hub ends order w shows.each i e c (seat_at hub (suc i)) fresh heard cause a.its a.is_open s met)
+      | inr (inl risen) ↦ inr (failed_at failures links i link link' its.within link_is risen)
+      | inr (inr met) ↦ absurd (never_refused go_on no_fault change limits hub ends order w shows.each i e c (seat_at hub (suc i)) fresh heard cause a.its
+          a.is_open s met)
     ]
 
 -- a stop for want of memory
@@ -235,32 +265,25 @@ pub pushes : {L : Type 0} (is_honest : L → Type 0) → WhatIsReadIsShown → W
     IfSome (seat_at hub number) (λ s. hub' ≡ seated hub number (pushed_seat (push_message (map datum_of items)).value s)) →
     server.IsPushVerdict hub.limits (seat_at hub number) (push_message (map datum_of items)).value (Ok tt) →
     IsValue (push_message (map datum_of items)).value →
-    Happens is_honest (record { hub = hub; ends = ends; links = links; order = order; stopped = stopped })
-    (record { hub = hub'; ends = ends; links = links; order = order; stopped = stopped }) (Push number (map datum_of items)) Done
+    Happens is_honest (world_of hub ends links order stopped)
+    (world_of hub' ends links order stopped) (Push number (map datum_of items)) Done
 pushes {L} is_honest nothing_else goes_on sent change hub hub' ends links order stopped number items there open_end now verdict is_value limits w shows =
     let i = number - 1 in
     let x = (push_message (map datum_of items)).value in
-    let (least, most) = there in
-    let within : number - 1 < length ends = omega (arith, least, most) in
-    let is : suc (number - 1) ≡ number = numbered number least in
-    let (e, e_is) = end_there ends i within in
-    let a = found_at limits hub ends order w i e shows.each within e_is open_end in
+    let (e, work) = some_at_work limits hub ends order w number shows.each there open_end in
+    let is = work.is in
+    let a = work.at in
+    let s = work.stands in
     let c = a.connection in
-    let s = (shows.each.each i e c a.here a.its).stands a.is_open in
     let seated_so : hub' ≡ seated hub (suc i) (pushed_seat x s.session) =
     at_there hub (suc i) (λ t. hub' ≡ seated hub (suc i) (pushed_seat x t)) s.session s.there
     (subst (λ n. IfSome (seat_at hub n) (λ t. hub' ≡ seated hub n (pushed_seat x t))) (sym is) now) in
     let of_session : server.IsPushVerdict limits (Some s.session) x (Ok tt) =
     subst (λ o. server.IsPushVerdict limits o x (Ok tt)) s.there (subst (λ n. server.IsPushVerdict limits (seat_at hub n) x (Ok tt)) (sym is)
     (subst (λ l. server.IsPushVerdict l (seat_at hub number) x (Ok tt)) shows.each.same_limits verdict)) in
-    let done = pushed nothing_else goes_on sent change limits hub hub' ends order w shows.each i items e c a.here a.its a.is_open within s of_session is_value seated_so in
-    subst (λ n. (next : World) × Step limits w (Push n (map datum_of items)) (outcome_of Done) next × Shows is_honest (record {
-      hub = hub';
-      ends = ends;
-      links = links;
-      order = order;
-      stopped = stopped;
-    }) limits next) is (
+    let done = pushed nothing_else goes_on sent change limits hub hub' ends order w shows.each i items e c a.here a.its a.is_open a.within s of_session
+    is_value seated_so in
+    subst (λ n. Leads is_honest limits w (world_of hub' ends links order stopped) (Push n (map datum_of items)) Done) is (
       after_event w (Push (suc i) (map datum_of items)),
       done.0,
       record {
@@ -272,36 +295,31 @@ pushes {L} is_honest nothing_else goes_on sent change hub hub' ends links order 
 pub drops : {L : Type 0} (is_honest : L → Type 0) → AChangeIsOfOneConnection → (hub hub' : HubState) (ends : List End) (links : List L)
     (order : List ℕ) (stopped : Option Cause) (number : ℕ) (e : End) → (1 ≤ number) × (number ≤ length ends) → IsOpenEnd ends (number - 1) →
     e ≡ get_or ends (number - 1) e → hub' ≡ record hub { sessions = without_seat hub.sessions number } →
-    Happens is_honest (record { hub = hub; ends = ends; links = links; order = order; stopped = stopped })
-    (record { hub = hub'; ends = set ends (number - 1) (record e { is_dropped = true }); links = links; order = order; stopped = stopped }) (Drop number) Done
+    Happens is_honest (world_of hub ends links order stopped)
+    (world_of hub' (set ends (number - 1) (record e { is_dropped = true })) links order stopped) (Drop number) Done
 drops {L} is_honest change hub hub' ends links order stopped number e there open_end e_is now limits w shows =
     let i = number - 1 in
-    let (least, most) = there in
-    let within : number - 1 < length ends = omega (arith, least, most) in
-    let is : suc (number - 1) ≡ number = numbered number least in
-    let a = found_at limits hub ends order w i e shows.each within e_is open_end in
-    let done = dropped change limits hub hub' ends order w shows.each i e a.connection a.here a.its a.is_open within
+    let work = at_work limits hub ends order w number e shows.each there open_end e_is in
+    let is = work.is in
+    let a = work.at in
+    let done = dropped change limits hub hub' ends order w shows.each i e a.connection a.here a.its a.is_open a.within
     (subst (λ n. hub' ≡ record hub { sessions = without_seat hub.sessions n }) (sym is) now) in
-    subst (λ n. (next : World) × Step limits w (Drop n) (outcome_of Done) next × Shows is_honest (record {
-      hub = hub';
-      ends = set ends i (record e { is_dropped = true });
-      links = links;
-      order = order;
-      stopped = stopped;
-    }) limits next) is (after_event w (Drop (suc i)), done.0, record { each = done.1; honest = shows.honest })
+    subst (λ n. Leads is_honest limits w (world_of hub' (set ends i (record e { is_dropped = true })) links order stopped) (Drop n) Done) is (
+      after_event w
+          (Drop (suc i)),
+      done.0,
+      record { each = done.1; honest = shows.honest },
+    )
 
 -- a session that was not dropped is there
 pub is_there : {L : Type 0} (is_honest : L → Type 0) (failures : L → ℕ) (hub : HubState) (ends : List End) (links : List L) (order : List ℕ)
     (stopped : Option Cause) (new : WorldState L) (number : ℕ) (cause : Cause) → (1 ≤ number) × (number ≤ length ends) → IsOpenEnd ends (number - 1) →
-    seat_at hub number ≡ None → Fails is_honest failures (record { hub = hub; ends = ends; links = links; order = order; stopped = stopped }) new cause
+    seat_at hub number ≡ None → Fails is_honest failures (world_of hub ends links order stopped) new cause
 is_there {L} is_honest failures hub ends links order stopped new number cause there open_end none limits w shows =
     let i = number - 1 in
-    let (least, most) = there in
-    let within : number - 1 < length ends = omega (arith, least, most) in
-    let is : suc (number - 1) ≡ number = numbered number least in
-    let (e, e_is) = end_there ends i within in
-    let a = found_at limits hub ends order w i e shows.each within e_is open_end in
-    let s = (shows.each.each i e a.connection a.here a.its).stands a.is_open in
+    let (e, work) = some_at_work limits hub ends order w number shows.each there open_end in
+    let is = work.is in
+    let s = work.stands in
     let never : Some s.session ≡ None = sym s.there ∙ ap (seat_at hub) is ∙ none in
     absurd (cc)
 
@@ -344,18 +362,17 @@ pub refuses_push : {L : Type 0} (is_honest : L → Type 0) (hub hub' : HubState)
     (stopped : Option Cause) (number : ℕ) (items : List Value) (error : PushError) (result : Result Outcome Cause) → result ≡ outcome_of_push error →
     server.IsPushVerdict hub.limits (seat_at hub number) (push_message (map datum_of items)).value (Err error) → hub' ≡ hub →
     (1 ≤ number) × (number ≤ length ends) → IsOpenEnd ends (number - 1) → IfOk result
-    (Happens is_honest (record { hub = hub; ends = ends; links = links; order = order; stopped = stopped })
-    (record { hub = hub'; ends = ends; links = links; order = order; stopped = stopped }) (Push number (map datum_of items)))
-refuses_push {L} is_honest hub hub' ends links order stopped number items error result is verdict same there open_end = ok_of result _ (λ outcome gives limits w shows.
+    (Happens is_honest (world_of hub ends links order stopped)
+    (world_of hub' ends links order stopped) (Push number (map datum_of items)))
+refuses_push {L} is_honest hub hub' ends links order stopped number items error result is verdict same there open_end = ok_of result _ (λ outcome gives limits
+    w shows.
     let i = number - 1 in
     let x = (push_message (map datum_of items)).value in
-    let (least, most) = there in
-    let within : number - 1 < length ends = omega (arith, least, most) in
-    let number_is : suc (number - 1) ≡ number = numbered number least in
-    let (e, e_is) = end_there ends i within in
-    let a = found_at limits hub ends order w i e shows.each within e_is open_end in
+    let (e, work) = some_at_work limits hub ends order w number shows.each there open_end in
+    let number_is = work.is in
+    let a = work.at in
+    let s = work.stands in
     let c = a.connection in
-    let s = (shows.each.each i e c a.here a.its).stands a.is_open in
     let its : connection_at w.connections number ≡ Some c = ap (connection_at w.connections) (sym number_is) ∙ a.its in
     let refused = session_refuses limits hub ends order w number x error shows.each s.session (ap (seat_at hub) (sym number_is) ∙ s.there) verdict in
     let reasons = subst (λ r. IfOk r (λ o. (cause : Cause) × (o ≡ Refused cause) × RefusesPush limits c.version x cause)) (sym is ∙ gives)
@@ -376,15 +393,13 @@ pub stops_push : {L : Type 0} (is_honest : L → Type 0) (failures : L → ℕ) 
     (stopped : Option Cause) (new : WorldState L) (number : ℕ) (items : List Value) (error : PushError) (result : Result Outcome Cause) →
     result ≡ outcome_of_push error → server.IsPushVerdict hub.limits (seat_at hub number) (push_message (map datum_of items)).value (Err error) →
     (1 ≤ number) × (number ≤ length ends) → IsOpenEnd ends (number - 1) → IfErr result
-    (Fails is_honest failures (record { hub = hub; ends = ends; links = links; order = order; stopped = stopped }) new)
-stops_push {L} is_honest failures hub ends links order stopped new number items error result is verdict there open_end = err_of result _ (λ cause gives limits w shows.
+    (Fails is_honest failures (world_of hub ends links order stopped) new)
+stops_push {L} is_honest failures hub ends links order stopped new number items error result is verdict there open_end = err_of result _ (λ cause gives limits
+    w shows.
     let i = number - 1 in
     let x = (push_message (map datum_of items)).value in
-    let (least, most) = there in
-    let within : number - 1 < length ends = omega (arith, least, most) in
-    let number_is : suc (number - 1) ≡ number = numbered number least in
-    let (e, e_is) = end_there ends i within in
-    let a = found_at limits hub ends order w i e shows.each within e_is open_end in
-    let s = (shows.each.each i e a.connection a.here a.its).stands a.is_open in
+    let (e, work) = some_at_work limits hub ends order w number shows.each there open_end in
+    let number_is = work.is in
+    let s = work.stands in
     let refused = session_refuses limits hub ends order w number x error shows.each s.session (ap (seat_at hub) (sym number_is) ∙ s.there) verdict in
     inl (subst (λ r. IfErr r (λ z. z ≡ OutOfMemory)) (sym is ∙ gives) (push_stopped limits s.session x error s.is_open refused)))

@@ -1,10 +1,17 @@
 -- Clients by their indices, and sessions by their ids.
-use Rattle.std.proofs.Common.{◌≡◌, ℕ, zero, suc, ◌<◌, ◌==◌, Bool, true, false, cond, None, Some, List, [], ◌∷◌, length, set, slice_get, refl, sym, ap, ◌∙◌, arith}
+use Rattle.std.proofs.Common.{◌≡◌, ℕ, zero, suc, ◌<◌, ◌==◌, Bool, true, false, cond, None, Some, Option, List, [], ◌∷◌, length, set, slice_get, refl, sym, ap, ◌∙◌, arith}
 use Rattle.std.proofs.lemmas.Bool.{eqb-true}
 use Rattle.std.specs.Map.{lookup}
 use Rattle.resp_session.specs.Connections.{Connection}
 use Rattle.resp_session.specs.Worlds.{connection_at}
+use Rattle.resp_value.specs.declared.cause.Cause.{Cause}
 use Rattle.resp_server.specs.Hubs.{HubState, Seat, seat_at, seated, with_seat, without_seat}
+use Rattle.resp_wire.specs.Worlds.{WorldState}
+use Rattle.resp_wire.specs.declared.end.End.{End}
+
+-- a world of these parts
+abbrev pub world_of : {L : Type 0} → HubState → List End → List L → List ℕ → Option Cause → WorldState L
+world_of {L} hub ends links order stopped = record { hub = hub; ends = ends; links = links; order = order; stopped = stopped }
 
 -- what was set is there
 pub set_there : {X : Type 0} (xs : List X) (i : ℕ) (x : X) → i < length xs → slice_get (set xs i x) i ≡ Some x

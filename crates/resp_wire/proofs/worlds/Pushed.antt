@@ -52,9 +52,19 @@ push_not_refused limits s version x same is_open v cause.TooMany r = r
 push_not_refused limits s version x same is_open v cause.TooManySessions r = r
 push_not_refused limits s version x same is_open v cause.NoSession r = r
 push_not_refused limits s version x same is_open v cause.Closing r = r
-push_not_refused limits s version x same is_open v cause.NotInVersion r = let e = v.every push.NotInVersion (λ e. absurd (cc)) (is_open, same ∙ r) in absurd (cc)
-push_not_refused limits s version x same is_open v cause.PushBelowTop r = let e = v.every push.NestedPush (λ e. absurd (cc)) ((is_open, same ∙ r.0), r.1) in absurd (cc)
-push_not_refused limits s version x same is_open v (cause.OverLimits limit) r = let e = v.every (push.OverLimits limit) (λ e. absurd (cc)) ((is_open, same ∙ r.0), r.1, r.2) in absurd (cc)
+push_not_refused limits s version x same is_open v cause.NotInVersion r = let e = v.every push.NotInVersion (λ e. absurd (cc)) (is_open, same ∙ r) in absurd
+    (cc)
+push_not_refused limits s version x same is_open v cause.PushBelowTop r = let e = v.every push.NestedPush (λ e. absurd (cc)) ((is_open, same ∙ r.0), r.1) in
+    absurd (cc)
+push_not_refused limits s version x same is_open v (cause.OverLimits limit) r = let e = v.every (push.OverLimits limit) (λ e. absurd (cc)) (
+  (
+    is_open,
+    same ∙
+        r.0,
+  ),
+  r.1,
+  r.2,
+) in absurd (cc)
 push_not_refused limits s version x same is_open v cause.Read r = r
 push_not_refused limits s version x same is_open v cause.Write r = r
 push_not_refused limits s version x same is_open v cause.TooManyTurns r = r
@@ -77,7 +87,8 @@ one_more_message m c =
 pub pushed : WhatIsReadIsShown → WhatIsLeftMayGoOn → WhatHasComeWasSent → AChangeIsOfOneConnection → (limits : Bounds) (hub hub' : HubState)
     (ends : List End) (order : List ℕ) (w : World) (at : ShowsEach limits hub ends order w) (i : ℕ) (items : List Value) (e : End) (c : Connection) →
     slice_get ends i ≡ Some e → connection_at w.connections (suc i) ≡ Some c → (is_open : c.dropped ≡ false) → i < length ends →
-    (s : Stands limits (seat_at hub (suc i)) e c) → server.IsPushVerdict limits (Some s.session) (push_message (map datum_of items)).value (Ok tt) → IsValue (push_message (map datum_of items)).value →
+    (s : Stands limits (seat_at hub (suc i)) e c) → server.IsPushVerdict limits (Some s.session) (push_message (map datum_of items)).value (Ok tt) → IsValue
+    (push_message (map datum_of items)).value →
     hub' ≡ seated hub (suc i) (pushed_seat (push_message (map datum_of items)).value s.session) →
     Step limits w (Push (suc i) (map datum_of items)) Done (after_event w (Push (suc i) (map datum_of items))) ×
     ShowsEach limits hub' (set ends i e) order (after_event w (Push (suc i) (map datum_of items)))

@@ -14,7 +14,8 @@ returns-then-number-eq0-clause-happens g c =
     let number = c.client-number.result in
     let its = c.client-number.ensures in
     nobody g.L.Link.is_honest c.args.self.now (event_of c.args.event.now)
-    (elim c.then-number-eq0.branch as (λ _. (client_of (event_of c.args.event.now) ≡ 0) ⊎ (length c.args.self.now.ends < client_of (event_of c.args.event.now))) [
+    (elim c.then-number-eq0.branch as (λ _. (client_of (event_of c.args.event.now) ≡ 0) ⊎ (length c.args.self.now.ends < client_of (event_of
+    c.args.event.now))) [
       | then-number-eq0-via-then-number-eq0 w ↦ inl (sym its ∙ w.if-number-eq0.true)
       | then-number-eq0-via-else-number-eq0+then-number-len w ↦
           let beyond : length c.args.self.now.ends < number = search rules in

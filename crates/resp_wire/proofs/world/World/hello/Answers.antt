@@ -5,6 +5,7 @@ use Rattle.resp_wire.specs.Ends.{Takes}
 use Rattle.resp_wire.specs.Happening.{Happens, IsOpenEnd}
 use Rattle.resp_wire.specs.Worlds.{WorldState}
 use Rattle.resp_wire.proofs.worlds.Events.{both_ok, greets}
+use Rattle.resp_wire.proofs.worlds.Places.{world_of}
 use Rattle.resp_wire.proofs.world.World.hello.Goals as goal
 
 pub returns-clause-happens : goal.returns-clause-happens
@@ -12,13 +13,7 @@ returns-clause-happens g c =
     let s = c.self.inside in
     let n = c.args.number in
     let asked = c.args.asked in
-    let new : WorldState g.row.L.Denot = record {
-      hub = s.hub;
-      ends = set s.ends.items (n - 1) c.hello.new.self;
-      links = s.links.items;
-      order = s.order.items;
-      stopped = s.stopped;
-    } in
+    let new = world_of s.hub (set s.ends.items (n - 1) c.hello.new.self) s.links.items s.order.items s.stopped in
     both_ok c.hello.result (Takes c.index_mut.result.now c.hello.new.self (Hello asked)) (Takes c.index_mut.result.now c.hello.new.self (Hello asked))
     (Happens g.L.Link.is_honest c.args.self.now new (Greet n asked)) c.hello.ensures.takes c.hello.ensures.takes
     (λ outcome takes same. subst (λ (z : WorldState g.row.L.Denot). (1 ≤ n) × (n ≤ length z.ends) → IsOpenEnd z.ends (n - 1) →

@@ -10,6 +10,7 @@ use Rattle.resp_wire.specs.Worlds.{WorldState}
 use Rattle.resp_wire.specs.declared.event.Outcome.TheVariants.{Done}
 use Rattle.resp_wire.proofs.worlds.Moves.{pushes, refuses_push, stops_push}
 use Rattle.resp_wire.proofs.worlds.Pushed.{pushed_seat}
+use Rattle.resp_wire.proofs.worlds.Places.{world_of}
 use Rattle.resp_wire.proofs.world.World.push.Goals as goal
 
 pub returns-clause-happens : goal.returns-clause-happens
@@ -17,13 +18,7 @@ returns-clause-happens g c =
     let s = c.self.inside in
     let n = c.args.number in
     let hub' = c.push.new.self in
-    let new : WorldState g.row.L.Denot = record {
-      hub = hub';
-      ends = s.ends.items;
-      links = s.links.items;
-      order = s.order.items;
-      stopped = s.stopped;
-    } in
+    let new = world_of hub' s.ends.items s.links.items s.order.items s.stopped in
     let items = list_of c.args.items.now in
     let now = subst (λ l. IfSome (seat_at s.hub n) (λ t. hub' ≡ seated s.hub n (pushed_seat (push_message (map datum_of l)).value t))) c.list.ensures
     c.in_default.ensures.queued in
@@ -33,7 +28,8 @@ returns-clause-happens g c =
     subst (λ (z : WorldState g.row.L.Denot). (1 ≤ n) × (n ≤ length z.ends) → IsOpenEnd z.ends (n - 1) →
     Happens g.L.Link.is_honest z new (Push n (map datum_of items)) Done) c.self.view_is
     (λ there is_open. pushes g.L.Link.is_honest c.what_is_shown_is_read.ensures.nothing_else c.what_is_shown_is_read.ensures.goes_on
-    c.what_has_come_was_sent.ensures.was_sent c.a_change_is_of_one_connection.ensures s.hub hub' s.ends.items s.links.items s.order.items s.stopped n items there
+    c.what_has_come_was_sent.ensures.was_sent c.a_change_is_of_one_connection.ensures s.hub hub' s.ends.items s.links.items s.order.items s.stopped n items
+    there
     is_open now verdict value) c.requires.there c.requires.is_open
 
 pub returns-in-Err-clause-happens : goal.returns-in-Err-clause-happens
@@ -41,13 +37,7 @@ returns-in-Err-clause-happens g c =
     let s = c.self.inside in
     let n = c.args.number in
     let hub' = c.push.new.self in
-    let new : WorldState g.row.L.Denot = record {
-      hub = hub';
-      ends = s.ends.items;
-      links = s.links.items;
-      order = s.order.items;
-      stopped = s.stopped;
-    } in
+    let new = world_of hub' s.ends.items s.links.items s.order.items s.stopped in
     let items = list_of c.args.items.now in
     let verdict = subst (λ l. IsPushVerdict s.hub.limits (seat_at s.hub n) (push_message (map datum_of l)).value (Err c.in-Err.error)) c.list.ensures
     c.in-Err.ensures.verdict in
@@ -60,13 +50,7 @@ pub returns-in-Err-clause-stops : goal.returns-in-Err-clause-stops
 returns-in-Err-clause-stops g c =
     let s = c.self.inside in
     let n = c.args.number in
-    let new : WorldState g.row.L.Denot = record {
-      hub = c.push.new.self;
-      ends = s.ends.items;
-      links = s.links.items;
-      order = s.order.items;
-      stopped = s.stopped;
-    } in
+    let new = world_of c.push.new.self s.ends.items s.links.items s.order.items s.stopped in
     let items = list_of c.args.items.now in
     let verdict = subst (λ l. IsPushVerdict s.hub.limits (seat_at s.hub n) (push_message (map datum_of l)).value (Err c.in-Err.error)) c.list.ensures
     c.in-Err.ensures.verdict in

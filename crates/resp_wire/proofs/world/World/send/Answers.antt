@@ -7,6 +7,7 @@ use Rattle.resp_wire.specs.Happening.{Happens, IsOpenEnd}
 use Rattle.resp_wire.specs.Worlds.{WorldState}
 use Rattle.resp_wire.specs.declared.event.Outcome.TheVariants.{Done}
 use Rattle.resp_wire.proofs.worlds.Events.{both_ok, sends}
+use Rattle.resp_wire.proofs.worlds.Places.{world_of}
 use Rattle.resp_wire.proofs.world.World.send.Goals as goal
 
 pub returns-clause-happens : goal.returns-clause-happens
@@ -14,13 +15,7 @@ returns-clause-happens g c =
     let s = c.self.inside in
     let n = c.args.number in
     let words = words_of c.args.command.now in
-    let new : WorldState g.row.L.Denot = record {
-      hub = s.hub;
-      ends = set s.ends.items (n - 1) c.send.new.self;
-      links = s.links.items;
-      order = s.order.items;
-      stopped = s.stopped;
-    } in
+    let new = world_of s.hub (set s.ends.items (n - 1) c.send.new.self) s.links.items s.order.items s.stopped in
     both_ok c.send.result (Takes c.index_mut.result.now c.send.new.self (Command words)) (λ outcome. outcome ≡ Done → HasBytes (Command words))
     (Happens g.L.Link.is_honest c.args.self.now new (Send n words)) c.send.ensures.takes c.send.ensures.bytes
     (λ outcome takes bytes. subst (λ (z : WorldState g.row.L.Denot). (1 ≤ n) × (n ≤ length z.ends) → IsOpenEnd z.ends (n - 1) →

@@ -8,6 +8,7 @@ use Rattle.resp_wire.specs.declared.event.Outcome.TheVariants.{Done}
 use Rattle.resp_wire.proofs.worlds.Carried.{with_client}
 use Rattle.resp_wire.proofs.worlds.Events.{both_ok}
 use Rattle.resp_wire.proofs.worlds.Moves.{err_of, moves_to_client, stops_for_memory, stops_to_client}
+use Rattle.resp_wire.proofs.worlds.Places.{world_of}
 use Rattle.resp_wire.proofs.world.World.to_client.Goals as goal
 
 pub returns-clause-happens : goal.returns-clause-happens
@@ -16,13 +17,8 @@ returns-clause-happens g c =
     let n = c.args.number in
     let e = c.index_mut-2.result.now in
     let carried = c.carry_to_client-carried.new in
-    let new : WorldState g.row.L.Denot = record {
-      hub = carried.hub;
-      ends = set (set s.ends.items (n - 1) (with_client e carried.client)) (n - 1) c.keep.new.self;
-      links = set s.links.items (n - 1) carried.link;
-      order = s.order.items;
-      stopped = s.stopped;
-    } in
+    let new = world_of carried.hub (set (set s.ends.items (n - 1) (with_client e carried.client)) (n - 1) c.keep.new.self) (set s.links.items (n - 1)
+    carried.link) s.order.items s.stopped in
     both_ok c.keep.result (λ _. Keeps c.index_mut-3.result.now c.keep.new.self carried.heard) (λ outcome. outcome ≡ Done)
     (Happens g.L.Link.is_honest c.args.self.now new (ToClient n c.args.count)) c.keep.ensures.kept c.keep.ensures.done
     (λ outcome kept done. subst (Happens g.L.Link.is_honest c.args.self.now new (ToClient n c.args.count)) (sym done)
@@ -39,15 +35,11 @@ returns-clause-stops g c =
     let s = c.self.inside in
     let n = c.args.number in
     let carried = c.carry_to_client-carried.new in
-    let new : WorldState g.row.L.Denot = record {
-      hub = carried.hub;
-      ends = set (set s.ends.items (n - 1) (with_client c.index_mut-2.result.now carried.client)) (n - 1) c.keep.new.self;
-      links = set s.links.items (n - 1) carried.link;
-      order = s.order.items;
-      stopped = s.stopped;
-    } in
+    let new = world_of carried.hub (set (set s.ends.items (n - 1) (with_client c.index_mut-2.result.now carried.client)) (n - 1) c.keep.new.self) (set
+    s.links.items (n - 1) carried.link) s.order.items s.stopped in
     err_of c.keep.result (Fails g.L.Link.is_honest g.L.Link.failures c.args.self.now new)
-    (λ cause is. stops_for_memory g.L.Link.is_honest g.L.Link.failures c.args.self.now new cause (subst (λ r. IfErr r (λ z. z ≡ OutOfMemory)) is c.keep.ensures.memory))
+    (λ cause is. stops_for_memory g.L.Link.is_honest g.L.Link.failures c.args.self.now new cause (subst (λ r. IfErr r (λ z. z ≡ OutOfMemory)) is
+    c.keep.ensures.memory))
 
 pub returns-in-Err-clause-stops : goal.returns-in-Err-clause-stops
 returns-in-Err-clause-stops g c =
@@ -56,13 +48,7 @@ returns-in-Err-clause-stops g c =
     let e = c.index_mut-2.result.now in
     let carried = c.carry_to_client-carried.new in
     let ends' = set s.ends.items (n - 1) (with_client e carried.client) in
-    let new : WorldState g.row.L.Denot = record {
-      hub = carried.hub;
-      ends = ends';
-      links = set s.links.items (n - 1) carried.link;
-      order = s.order.items;
-      stopped = s.stopped;
-    } in
+    let new = world_of carried.hub ends' (set s.links.items (n - 1) carried.link) s.order.items s.stopped in
     subst (λ (z : WorldState g.row.L.Denot). (1 ≤ n) × (n ≤ length z.ends) → IsOpenEnd z.ends (n - 1) →
     Fails g.L.Link.is_honest g.L.Link.failures z new c.in-Err.cause) c.self.view_is
     (λ there is_open. stops_to_client g.L.Link.is_honest g.L.Link.failures c.readings_go_on.ensures c.what_is_shown_is_read.ensures.no_fault

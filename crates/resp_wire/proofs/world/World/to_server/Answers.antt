@@ -5,6 +5,7 @@ use Rattle.resp_wire.specs.Worlds.{WorldState}
 use Rattle.resp_wire.specs.declared.event.Outcome.TheVariants.{Done}
 use Rattle.resp_wire.proofs.worlds.Carried.{with_client}
 use Rattle.resp_wire.proofs.worlds.Moves.{moves_to_server, stops_to_server}
+use Rattle.resp_wire.proofs.worlds.Places.{world_of}
 use Rattle.resp_wire.proofs.world.World.to_server.Goals as goal
 
 pub returns-clause-happens : goal.returns-clause-happens
@@ -13,13 +14,8 @@ returns-clause-happens g c =
     let n = c.args.number in
     let e = c.index_mut-2.result.now in
     let carried = c.carry_to_server-carried.new in
-    let new : WorldState g.row.L.Denot = record {
-      hub = carried.hub;
-      ends = set s.ends.items (n - 1) (with_client e carried.client);
-      links = set s.links.items (n - 1) carried.link;
-      order = carried.order.items;
-      stopped = s.stopped;
-    } in
+    let new = world_of carried.hub (set s.ends.items (n - 1) (with_client e carried.client)) (set s.links.items (n - 1) carried.link) carried.order.items
+    s.stopped in
     subst (λ (z : WorldState g.row.L.Denot). (1 ≤ n) × (n ≤ length z.ends) → IsOpenEnd z.ends (n - 1) →
     Happens g.L.Link.is_honest z new (ToServer n c.args.count) Done) c.self.view_is
     (λ there is_open. moves_to_server g.L.Link.is_honest c.what_arrives_is_answered.ensures c.what_is_shown_is_read.ensures.nothing_else
@@ -35,13 +31,7 @@ returns-in-Err-clause-stops g c =
     let e = c.index_mut-2.result.now in
     let carried = c.carry_to_server-carried.new in
     let ends' = set s.ends.items (n - 1) (with_client e carried.client) in
-    let new : WorldState g.row.L.Denot = record {
-      hub = carried.hub;
-      ends = ends';
-      links = set s.links.items (n - 1) carried.link;
-      order = carried.order.items;
-      stopped = s.stopped;
-    } in
+    let new = world_of carried.hub ends' (set s.links.items (n - 1) carried.link) carried.order.items s.stopped in
     subst (λ (z : WorldState g.row.L.Denot). (1 ≤ n) × (n ≤ length z.ends) → IsOpenEnd z.ends (n - 1) →
     Fails g.L.Link.is_honest g.L.Link.failures z new c.in-Err.cause) c.self.view_is
     (λ there is_open. stops_to_server g.L.Link.is_honest g.L.Link.failures c.what_arrives_is_answered.ensures s.hub carried.hub s.ends.items ends' s.links.items
