@@ -16,7 +16,6 @@ use Rattle.resp_scan.specs.Reading.{HasNoValue}
 use Rattle.resp_scan.specs.declared.event.Fault.{Fault}
 use Rattle.resp_decode.specs.Decoding.{GivesValue, LacksMemory, RefusesByte, TakesPiece}
 use Rattle.resp_decode.specs.declared.decoder.Decoder.{Decoder}
-use Rattle.resp_encode.specs.Encodings.{WritesPart}
 use Rattle.resp_encode.specs.Refusals.{IfWrite, IsFirstRefusal}
 use Rattle.resp_encode.specs.declared.error.EncodeError.{EncodeError}
 use Rattle.resp_encode.specs.declared.error.EncodeError.TheVariants as encode
@@ -26,6 +25,7 @@ use Rattle.resp_tool.specs.Canons.{HasDecoded, stop_at, stop_for, stop_of}
 use Rattle.resp_tool.specs.Counts.{LeavesNothing}
 use Rattle.resp_tool.specs.Takings.{Declines, Ends, IsByteFault, IsEndFault, Refuses, Takes, TakesFront, TakesValue}
 use Rattle.resp_tool.specs.Takings as tool
+use Rattle.resp_tool.specs.Written.{AppendsPart, BreaksText}
 use Rattle.resp_tool.proofs.Scanned.{ends_inside, no_spelling_without_value, no_value_at_start, value_uses_some}
 use Rattle.resp_tool.proofs.Rendered.{spelled_one}
 use Rattle.resp_tool.proofs.WrittenLemmas.{Appends-none}
@@ -102,10 +102,10 @@ declines r x front piece so_far used before after nothing spelling unfit appende
 }
 
 -- a first part of a text that was to be written
-part_of_value : (r : Rules) (x : Datum) (front piece so_far : List ℕ) (used size : ℕ) (before after : Option (List ℕ)) → so_far ≡ [] →
-    IsSpelling r x (front ++ take used piece) → Appends before after (take size (canonical_text r.version x)) →
+part_of_value : (r : Rules) (x : Datum) (front piece so_far : List ℕ) (used : ℕ) (before after : Option (List ℕ)) → so_far ≡ [] →
+    IsSpelling r x (front ++ take used piece) → AppendsPart before after (canonical_text r.version x) →
     tool.WritesPart r (canonical_text r.version) LeavesNothing (front ++ piece) so_far before after
-part_of_value r x front piece so_far used size before after nothing spelling appended = record {
+part_of_value r x front piece so_far used before after nothing spelling written = record {
   values = x ∷ [];
   front = front ++ take used piece;
   behind = drop used piece;
@@ -113,20 +113,23 @@ part_of_value r x front piece so_far used size before after nothing spelling app
   spelled = spelled_one r x (front ++ take used piece) spelling;
   begun = [];
   is_begun = refl;
-  more = take size (canonical_text r.version x);
-  later = drop size (canonical_text r.version x);
+  more = written.part;
+  later = written.behind;
   parts =
       let whole = canonical_text r.version x in
-      append-nil (whole ++ []) ∙ append-nil whole ∙ sym (take-append-drop size whole) ∙
-      ap (λ z. z ++ (take size whole ++ drop size whole)) (sym nothing);
-  appended = appended;
+      append-nil (whole ++ []) ∙ append-nil whole ∙ written.whole ∙ ap (λ z. z ++ (written.part ++ written.behind)) (sym nothing);
+  appended = written.appended;
 }
+
+-- nothing is a first part of any text
+no_first_part : (before after : Option (List ℕ)) (text : List ℕ) → Appends before after [] → AppendsPart before after text
+no_first_part before after text appended = record { part = []; behind = text; whole = refl; appended = appended }
 
 -- what comes of a value that the encoder refuses
 encoder_stops : (r : Rules) (H : List ℕ → List ℕ → Type 0) (x : Datum) (front piece so_far : List ℕ) (used : ℕ) (before after : Option (List ℕ))
     (failures failures' : ℕ) (error : EncodeToError) → so_far ≡ [] → IsSpelling r x (front ++ take used piece) → IsFirstRefusal r x error →
     ((e : EncodeError) → error ≡ to.Refused e → Appends before after []) →
-    IfWrite (WritesPart before after failures failures' (canonical_text r.version x)) error →
+    IfWrite (λ _. BreaksText before after failures failures' (canonical_text r.version x)) error →
     Takes r (canonical_text r.version) (Fits r) LeavesNothing LeavesNothing H front piece so_far before after (Err (stop_of error))
 encoder_stops r H x front piece so_far used before after failures failures' (to.Refused encode.NotInVersion) nothing spelling refused unchanged part =
     declines r x front piece so_far used before after nothing spelling (λ fits. refused fits.has_types) (unchanged encode.NotInVersion refl)
@@ -135,19 +138,20 @@ encoder_stops r H x front piece so_far used before after failures failures' (to.
 encoder_stops r H x front piece so_far used before after failures failures' (to.Refused (encode.OverLimits over)) nothing spelling refused unchanged part =
     declines r x front piece so_far used before after nothing spelling (over_limit_is_unfit r x over refused.1) (unchanged (encode.OverLimits over) refl)
 encoder_stops r H x front piece so_far used before after failures failures' (to.Refused encode.OutOfMemory) nothing spelling refused unchanged part =
-    part_of_value r x front piece so_far used 0 before after nothing spelling (unchanged encode.OutOfMemory refl)
+    part_of_value r x front piece so_far used before after nothing spelling
+    (no_first_part before after (canonical_text r.version x) (unchanged encode.OutOfMemory refl))
 encoder_stops r H x front piece so_far used before after failures failures' (to.Write written) nothing spelling refused unchanged part =
-    part_of_value r x front piece so_far used written before after nothing spelling part.appended
+    part_of_value r x front piece so_far used before after nothing spelling part.0
 
 pub encoder_stops_at : (r : Rules) (H : List ℕ → List ℕ → Type 0) (x y : Value) (front piece so_far : List ℕ) (used : ℕ) (before after : Option (List ℕ))
     (failures failures' : ℕ) (error : EncodeToError) → y ≡ x → so_far ≡ [] → IsSpelling r (datum_of x) (front ++ take used piece) →
     IsFirstRefusal r (datum_of y) error → ((e : EncodeError) → error ≡ to.Refused e → Appends before after []) →
-    IfWrite (WritesPart before after failures failures' (canonical_text r.version (datum_of y))) error →
+    IfWrite (λ _. BreaksText before after failures failures' (canonical_text r.version (datum_of y))) error →
     Takes r (canonical_text r.version) (Fits r) LeavesNothing LeavesNothing H front piece so_far before after (Err (stop_of error))
 encoder_stops_at r H x y front piece so_far used before after failures failures' error is nothing spelling refused unchanged part =
     encoder_stops r H (datum_of x) front piece so_far used before after failures failures' error nothing spelling
     (subst (λ z. IsFirstRefusal r (datum_of z) error) is refused) unchanged
-    (subst (λ z. IfWrite (WritesPart before after failures failures' (canonical_text r.version (datum_of z))) error) is part)
+    (subst (λ z. IfWrite (λ _. BreaksText before after failures failures' (canonical_text r.version (datum_of z))) error) is part)
 
 -- what comes of a byte that the decoder refuses, or of want of memory
 pub decoder_stops : (r : Rules) (H : List ℕ → List ℕ → Type 0) (front piece so_far : List ℕ) (held : Option (List ℕ)) (fault : Fault) → so_far ≡ [] →

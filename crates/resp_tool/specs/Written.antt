@@ -9,6 +9,14 @@ pub record AppendsPart (before after : Option (List ℕ)) (text : List ℕ) : Ty
   pub whole : text ≡ part ++ behind
   pub appended : Appends before after part
 
+-- the whole text was appended and no write failed
+abbrev pub WritesWhole : Option (List ℕ) → Option (List ℕ) → ℕ → ℕ → List ℕ → Type 0
+WritesWhole before after failures failures' text = Appends before after text × (failures' ≡ failures)
+
+-- a write failed, and a first part of the text was appended
+abbrev pub BreaksText : Option (List ℕ) → Option (List ℕ) → ℕ → ℕ → List ℕ → Type 0
+BreaksText before after failures failures' text = AppendsPart before after text × HasRisen failures failures'
+
 -- The whole text was appended and no write failed; or a write failed, and a first part of the text was appended.
 abbrev pub WritesText : {X E : Type 0} → Option (List ℕ) → Option (List ℕ) → ℕ → ℕ → Result X E → List ℕ → Type 0
 WritesText before after failures failures' (Ok x) text = Appends before after text × (failures' ≡ failures)

@@ -1,12 +1,12 @@
 //! `canon`: each value of a stream again, in its one canonical spelling.
 
 ghost use Rattle.std.specs.Prelude.{◌≡◌, ◌+◌, ◌≤◌, ℕ, List, [], Some, IfErr, IfOk, IfSome, IsErrOf, OnOk};
-ghost use Rattle.resp_encode.specs.Encodings.{WritesPart, WritesWhole};
 ghost use Rattle.resp_encode.specs.Refusals.{IfWrite, IsFirstRefusal};
 ghost use Rattle.resp_encode.specs.declared.error.EncodeError.{EncodeError};
 ghost use Rattle.resp_tool.specs.Canons.{stop_at, stop_of};
 ghost use Rattle.resp_tool.specs.Counts.{LeavesNothing};
 ghost use Rattle.resp_tool.specs.Streams.{AreRead, AtEnd, Renders};
+ghost use Rattle.resp_tool.specs.Written.{BreaksText, WritesWhole};
 ghost use Rattle.resp_value.specs.Canonical.{canonical_text, Fits};
 ghost use Rattle.resp_value.specs.Devices.{count_after, HasRisen};
 ghost use Rattle.resp_value.specs.Rules.{rules_under};
@@ -14,17 +14,22 @@ ghost use Rattle.resp_value.specs.Values.{datum_of};
 
 use crate::rendering::{Rendering, Stop, Taken};
 use crate::stream::{MOST_READS, render_stream};
+use crate::text::write_text;
 use crate::tool_error::ToolError;
 use bytes::BytesMut;
 use resp_decode::Decoder;
 use resp_encode::{EncodeError, EncodeToError, encode};
 use resp_scan::event::Fault;
 use resp_value::cause::Cause;
-use resp_value::device::{Sink, Source, write_all};
+use resp_value::device::{Sink, Source};
 use resp_value::limits::Limits;
 use resp_value::value::Value;
 use resp_value::version::Version;
 use std::alloc::Global;
+
+/// The room for a text from the start. Where a text just fills its room the encoder has to measure
+/// it, so there is more than most texts need.
+const ROOM: usize = 4_096;
 
 /// Each value in its canonical spelling in a version, under limits.
 #[derive(Drop)]
@@ -92,14 +97,15 @@ impl Rendering for Canonical<'_> {
 /// Writes the canonical text of a value, which is first made in `text` in the place of what stands
 /// there, so that one room serves for all values. Its refusals are those of `encode`, before
 /// anything is written; or a write fails, and the first bytes were written.
+#[inline(always)]
 fn write_canonical<W: Sink>(
     version: Version,
     limits: &Limits,
     value: &Value,
     text: &mut BytesMut,
     writer: &mut W,
-) -> Result<u64, EncodeToError>
-    ensures whole { IfOk result (WritesWhole (W.written writer.old) (W.written writer.new)
+) -> Result<(), EncodeToError>
+    ensures whole { OnOk result (WritesWhole (W.written writer.old) (W.written writer.new)
         (W.failures writer.old) (W.failures writer.new)
         (canonical_text version (datum_of value.now))) }
     ensures fits { OnOk result (Fits (rules_under version limits.now) (datum_of value.now)) }
@@ -107,15 +113,14 @@ fn write_canonical<W: Sink>(
         (datum_of value.now)) }
     ensures nothing_written { (error : EncodeError) →
         IsErrOf result (EncodeToError.Refused error) → writer.new ≡ writer.old }
-    ensures part { IfErr result (IfWrite (WritesPart (W.written writer.old) (W.written writer.new)
-        (W.failures writer.old) (W.failures writer.new)
+    ensures part { IfErr result (IfWrite (λ _. BreaksText (W.written writer.old)
+        (W.written writer.new) (W.failures writer.old) (W.failures writer.new)
         (canonical_text version (datum_of value.now)))) }
 {
     text.clear();
     encode(version, limits, value, text)?;
-    let length = text.len() as u64;
-    match write_all(writer, text.as_slice()) {
-        Ok(()) => Ok(length),
+    match write_text(writer, text.as_slice()) {
+        Ok(()) => Ok(()),
         Err(fault) => Err(EncodeToError::Write {
             written: fault.written as u64,
         }),
@@ -176,11 +181,14 @@ pub fn canon<R: Source, W: Sink>(
     ensures writer_failed { IsErrOf result ToolError.Write →
         HasRisen (W.failures writer.old) (W.failures writer.new) }
 {
+    let mut text = BytesMut::new(alloc);
+    // Without this room the encoder makes room for each text that needs it.
+    let _ = text.reserve(ROOM);
     let mut canonical = Canonical {
         version,
         limits,
         decoder: Decoder::new(alloc, version, limits),
-        text: BytesMut::new(alloc),
+        text,
     };
     match render_stream(alloc, &mut canonical, piece, reader, writer) {
         Ok(_) => Ok(()),
