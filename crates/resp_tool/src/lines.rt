@@ -97,7 +97,7 @@ impl Lines {
     }
 
     /// Writes what stands before a value on its line, and `of` where an attribute annotates it.
-    #[inline]
+    #[inline(always)]
     fn begin_line<W: Sink>(&self, writer: &mut W) -> Result<(), WriteFault>
         ensures { WritesText (W.written writer.old) (W.written writer.new)
             (W.failures writer.old) (W.failures writer.new) result (beginning (page_of self.now)) }
@@ -382,7 +382,7 @@ fn write_indentation<W: Sink>(writer: &mut W, level: usize) -> Result<(), WriteF
 }
 
 /// Writes what stands of a whole text on its line.
-#[inline]
+#[inline(always)]
 fn write_text_line<W: Sink>(writer: &mut W, kind: TextKind, bytes: &[u8]) -> Result<(), WriteFault>
     ensures { WritesText (W.written writer.old) (W.written writer.new) (W.failures writer.old)
         (W.failures writer.new) result (text_line (text_kind_of kind) bytes.now) }

@@ -7,14 +7,14 @@ ghost use Rattle.resp_tool.specs.Pages.{is_big, text_line, text_words};
 
 use crate::text::is_all_plain;
 use arrayvec::ArrayVec;
-use itoa::Buffer;
 use resp_scan::event::TextKind;
 
 /// The most bytes of content of a short line.
 const MOST_CONTENT: usize = 96;
 
-/// The line of a text, where it is short and each byte stands for itself.
-#[inline]
+/// The line of a text, where it is short and each byte stands for itself. Each caller has it in its
+/// own place: the line would be copied twice on its way out of a call.
+#[inline(always)]
 pub fn short_line(kind: TextKind, bytes: &[u8]) -> Option<ArrayVec<u8, 128>>
     ensures { IfSome result (λ line. line.items ≡ text_line (text_kind_of kind) bytes.now) }
 {
@@ -35,7 +35,7 @@ pub fn short_line(kind: TextKind, bytes: &[u8]) -> Option<ArrayVec<u8, 128>>
 }
 
 /// Adds the words up to the content, where there is room, and it is one that is quoted.
-#[inline]
+#[inline(always)]
 fn push_words(line: &mut ArrayVec<u8, 128>, kind: TextKind) -> bool
     ensures words { result ≡ true →
         line.new.items ≡ line.old.items ++ text_words (text_kind_of kind) }
@@ -51,8 +51,9 @@ fn push_words(line: &mut ArrayVec<u8, 128>, kind: TextKind) -> bool
     }
 }
 
-/// Adds what stands behind the content, where there is room: a quote and the number of its bytes.
-#[inline]
+/// Adds what stands behind the content, where there is room and the number has no more than two
+/// digits: a quote and the number of its bytes.
+#[inline(always)]
 fn push_size(line: &mut ArrayVec<u8, 128>, size: u64) -> bool
     ensures { result ≡ true →
         line.new.items ≡ line.old.items ++ (codes "\" " ++ decimal size ++ codes "\n") }
@@ -63,12 +64,10 @@ fn push_size(line: &mut ArrayVec<u8, 128>, size: u64) -> bool
             .try_extend_from_slice(&[b'"', b' ', digit, b'\n'])
             .is_ok();
     }
-    let mut digits = Buffer::new();
-    let Ok(()) = line.try_extend_from_slice(b"\" ") else {
+    if size >= 100 {
         return false;
-    };
-    let Ok(()) = line.try_extend_from_slice(digits.format(size).as_bytes()) else {
-        return false;
-    };
-    line.try_extend_from_slice(b"\n").is_ok()
+    }
+    let (tens, ones) = (b'0' + (size / 10) as u8, b'0' + (size % 10) as u8);
+    line.try_extend_from_slice(&[b'"', b' ', tens, ones, b'\n'])
+        .is_ok()
 }
