@@ -12,7 +12,7 @@ ghost use Rattle.resp_tool.specs.Pages.{end_of_text, is_big, last_line, of_line,
 ghost use Rattle.resp_tool.specs.Shown.{indentation, kind_word, quoted_text, truth_word};
 ghost use Rattle.resp_tool.specs.Written.{WritesText};
 
-use crate::short_line::short_line;
+use crate::short_line::make_line;
 use crate::text::{write_number, write_quoted, write_text};
 use arrayvec::ArrayVec;
 use resp_scan::event::TextKind;
@@ -387,10 +387,11 @@ fn write_text_line<W: Sink>(writer: &mut W, kind: TextKind, bytes: &[u8]) -> Res
     ensures { WritesText (W.written writer.old) (W.written writer.new) (W.failures writer.old)
         (W.failures writer.new) result (text_line (text_kind_of kind) bytes.now) }
 {
-    match short_line(kind, bytes) {
-        Some(line) => write_text(writer, line.as_slice()),
-        None => write_long_line(writer, kind, bytes),
+    let mut line = ArrayVec::new();
+    if make_line(&mut line, kind, bytes) {
+        return write_text(writer, line.as_slice());
     }
+    write_long_line(writer, kind, bytes)
 }
 
 /// The same piece by piece.

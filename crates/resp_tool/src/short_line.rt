@@ -1,7 +1,7 @@
 //! The line of a text that has come whole, where it is short and plain: it is made first, so that
 //! one write is enough.
 
-ghost use Rattle.std.specs.Prelude.{◌≡◌, ◌++◌, codes, decimal, false, true, IfSome};
+ghost use Rattle.std.specs.Prelude.{◌≡◌, ◌++◌, [], codes, decimal, false, true};
 ghost use Rattle.resp_scan.specs.Kinds.{text_kind_of};
 ghost use Rattle.resp_tool.specs.Pages.{is_big, text_line, text_words};
 
@@ -12,26 +12,23 @@ use resp_scan::event::TextKind;
 /// The most bytes of content of a short line.
 const MOST_CONTENT: usize = 96;
 
-/// The line of a text, where it is short and each byte stands for itself. Each caller has it in its
-/// own place: the line would be copied twice on its way out of a call.
+/// Makes the line of a text in an empty one, where it is short and each byte stands for itself, and
+/// answers whether it did. A line that is given back would be copied on its way.
 #[inline(always)]
-pub fn short_line(kind: TextKind, bytes: &[u8]) -> Option<ArrayVec<u8, 128>>
-    ensures { IfSome result (λ line. line.items ≡ text_line (text_kind_of kind) bytes.now) }
+pub fn make_line(line: &mut ArrayVec<u8, 128>, kind: TextKind, bytes: &[u8]) -> bool
+    requires { line.old.items ≡ [] }
+    ensures { result ≡ true → line.new.items ≡ text_line (text_kind_of kind) bytes.now }
 {
     if bytes.len() > MOST_CONTENT || !is_all_plain(bytes) {
-        return None;
+        return false;
     }
-    let mut line = ArrayVec::new();
-    if !push_words(&mut line, kind) {
-        return None;
+    if !push_words(line, kind) {
+        return false;
     }
     let Ok(()) = line.try_extend_from_slice(bytes) else {
-        return None;
+        return false;
     };
-    if !push_size(&mut line, bytes.len() as u64) {
-        return None;
-    }
-    Some(line)
+    push_size(line, bytes.len() as u64)
 }
 
 /// Adds the words up to the content, where there is room, and it is one that is quoted.
