@@ -1,11 +1,10 @@
 //! One command: its growths come first, and then what can't be refused.
 
-ghost use Rattle.std.specs.Prelude.{◌≡◌, ◌<◌, ◌^◌, ℕ, List, Option, drop, OnOk, OnErr};
-ghost use Rattle.std.specs.Option.{is_some};
+ghost use Rattle.std.specs.Prelude.{◌≡◌, ◌<◌, ◌^◌, ℕ, List, drop, OnOk, OnErr};
 ghost use Rattle.resp_value.specs.Values.{content_bytes};
 ghost use Rattle.resp_session.specs.Fitting.{FitsEffect};
 ghost use Rattle.resp_session.specs.Operations as spec;
-ghost use Rattle.resp_session.specs.Stores.{effect_of};
+ghost use Rattle.resp_session.specs.Stores.{effect_of, value_at};
 ghost use Rattle.resp_session.specs.Stores as stores;
 ghost use Rattle.resp_server.specs.Operations.{operation_in, condition_in};
 ghost use Rattle.resp_server.specs.Running.{HasEffect, IsAsBefore, HasSameRest};
@@ -79,15 +78,15 @@ fn get<S: BuildHasher>(
     }
 }
 
-/// Whether a SET under this condition sets a key that is there, or isn't.
-fn is_met(condition: Condition, there: bool) -> bool
-    ensures { (value : Option (List ℕ)) → is_some value ≡ there →
-        result ≡ stores.is_met (condition_in condition) value }
+/// Whether a SET under this condition sets this key. Only where there is a condition the key is
+/// looked up.
+fn is_met<S: BuildHasher>(condition: Condition, key: &[u8], store: &Store<S>) -> bool
+    ensures { result ≡ stores.is_met (condition_in condition) (value_at store.now key.now) }
 {
     match condition {
         Condition::Always => true,
-        Condition::IfAbsent => !there,
-        Condition::IfPresent => there,
+        Condition::IfAbsent => store.get(key).is_none(),
+        Condition::IfPresent => store.get(key).is_some(),
     }
 }
 
@@ -108,8 +107,7 @@ fn set<S: BuildHasher>(
     ensures unchanged { OnErr result (IsAsBefore store.old store.new session.old session.new) }
     ensures rest { HasSameRest session.old session.new }
 {
-    let there = store.get(key.list()).is_some();
-    if !is_met(condition, there) {
+    if !is_met(condition, key.list(), store) {
         return reply(&mut session.out, session.version, limits, &Value::Null);
     }
     session.out.reserve(5)?;
