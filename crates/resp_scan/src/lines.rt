@@ -66,8 +66,9 @@ pub fn line_run(s: &[u8]) -> usize
     let near = s.len().min(8);
     for i in 0..near {
         let byte = s[i];
-        if byte <= b'\r' && (byte == b'\r' || byte == b'\n') {
-            return i;
+        if byte <= b'\r' {
+            // An LF or another byte below CR is rare, and so it is sought in the other way.
+            return if byte == b'\r' { i } else { far_run(s) };
         }
     }
     far_run(s)

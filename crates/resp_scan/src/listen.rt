@@ -1,6 +1,6 @@
 //! The loop over a piece: what stands in it is told to a listener, up to the end of a value.
 
-ghost use Rattle.std.specs.Prelude.{◌≡◌, ◌≤◌, ◌<◌, ◌+◌, ◌-◌, ◌^◌, ◌++◌, Bool, Err, length, IfErr, IfOk, IfSome, false, min, take, drop};
+ghost use Rattle.std.specs.Prelude.{◌≡◌, ◌≤◌, ◌<◌, ◌+◌, ◌-◌, ◌^◌, ◌++◌, Bool, Err, length, IfErr, IfOk, IfSome, false, min, take, drop, true};
 ghost use Rattle.resp_scan.specs.Machine.Runs.{plain_run};
 ghost use Rattle.resp_scan.specs.Machine.Turns.{EndsAt, turn_of};
 
@@ -35,7 +35,7 @@ pub struct Turned {
 
 impl Machine {
     ghost use Rattle.resp_scan.specs.Kinds.{rules_of};
-    ghost use Rattle.resp_scan.specs.Machine.Fields.{place_of, out_of};
+    ghost use Rattle.resp_scan.specs.Machine.Fields.{place_of, out_by, out_of};
     ghost use Rattle.resp_scan.specs.Machine.Room.{total_room};
     ghost use Rattle.resp_scan.specs.Machine.Scan.{out_from};
     ghost use Rattle.resp_scan.specs.Machine.Sound.{IsSound};
@@ -80,7 +80,14 @@ impl Machine {
             let turned = self.turn(behind(piece, used), listener);
             used += turned.used;
             match turned.turn {
-                Turn::On => {}
+                Turn::On => {
+                    if self.begins_anew(behind(piece, used)) {
+                        return Ok(Scanned {
+                            used,
+                            is_whole: true,
+                        });
+                    }
+                }
                 Turn::More => {
                     return Ok(Scanned {
                         used,
@@ -105,6 +112,27 @@ impl Machine {
                 }
             }
         }
+    }
+
+    /// Whether a value at the top has ended, behind which the next one may begin. Asked behind each
+    /// event, since one more turn would cost more.
+    #[inline(always)]
+    #[tactic(auto, using(crate::proofs::Soundness::Places::sound_member))]
+    fn begins_anew(&mut self, rest: &[u8]) -> bool
+        requires { IsSound (place_of self.old) }
+        ensures ended { result ≡ true →
+            out_by EventTag.Done 0 self.new ≡ out_from (place_of self.old) rest.now }
+        ensures unchanged { result ≡ false → self.new ≡ self.old }
+    {
+        if !self.frames.is_empty() {
+            return false;
+        }
+        let State::Boundary = self.state else {
+            return false;
+        };
+        self.state = State::Start;
+        self.taken = 0;
+        true
     }
 
     /// No byte is read any more.

@@ -1,6 +1,6 @@
 -- What a listener has heard: events told one after another.
 use Rattle.std.specs.Prelude.{MatchBool, true, false}
-use Rattle.std.proofs.Common.{◌≡◌, ℕ, ◌+◌, ◌≤◌, Bool, List, [], ◌∷◌, ◌++◌, length, refl, sym, ap, subst, ◌∙◌, append_assoc, append-nil, length-append, arith}
+use Rattle.std.proofs.Common.{◌≡◌, ℕ, Bool, List, [], ◌∷◌, ◌++◌, refl, sym, ap, subst, ◌∙◌, append_assoc, append-nil, length-append, arith}
 use Rattle.resp_fronts.specs.Events as e
 use Rattle.resp_scan.specs.Counts.{close_count, open_count}
 use Rattle.resp_scan.specs.Kinds.{content_events}

@@ -48,7 +48,7 @@ behind_run p run ends =
     drop_next : (p : List ℕ) (i : ℕ) → i < length p → drop i p ≡ get_or p i 0 ∷ drop (i + 1) p
     drop_next p i within = rw (add-one, drop-cons p i 0) refl
 
-text_behind : (n : ℕ) (p : List ℕ) → IsText p → IsText (drop n p)
+pub text_behind : (n : ℕ) (p : List ℕ) → IsText p → IsText (drop n p)
 text_behind zero p text = text
 text_behind (suc n) [] text = tt
 text_behind (suc n) (b ∷ bs) text = text_behind n bs text.1
