@@ -51,9 +51,11 @@ impl Text {
         if length <= self.bytes.capacity() || length > AT_HAND {
             return self.bytes.extend_from_slice(part);
         }
-        let room = length.saturating_mul(2).min(AT_HAND);
+        let room = length.saturating_mul(4).min(AT_HAND);
         let mut moved = Vec::with_capacity(alloc, room)?;
-        moved.extend_from_slice(self.bytes.as_slice())?;
+        if !self.bytes.is_empty() {
+            moved.extend_from_slice(self.bytes.as_slice())?;
+        }
         moved.extend_from_slice(part)?;
         self.bytes = moved;
         Ok(())

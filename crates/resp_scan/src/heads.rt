@@ -2,13 +2,17 @@
 //! its place.
 
 ghost use Rattle.resp_scan.specs.Machine.Heads.{head_needed, streamed_kind, may_end};
-ghost use Rattle.std.specs.Prelude.{◌≡◌, ◌≢◌, ℕ, ◌≤◌, ◌<◌, ◌+◌, ◌^◌, length, drop, IfNone, true};
+ghost use Rattle.resp_scan.specs.Machine.Moves.{is_digit};
+ghost use Rattle.std.specs.Prelude.{◌≡◌, ◌≢◌, ℕ, ◌≤◌, ◌<◌, ◌+◌, ◌^◌, length, drop, IfNone, true, slice_index};
 
 use crate::machine::{EventTag, Head, Machine, State, Taken};
 use crate::needed::needed_behind;
 use resp_value::cause::Cause;
 use resp_value::kind::OpenKind;
 use resp_value::version::Version;
+
+/// Digits behind a number that isn't less are judged one by one.
+const MOST_JUDGED: u64 = 1 << 30;
 
 impl Machine {
     ghost use Rattle.resp_scan.specs.Machine.Fields.{place_of, out_of};
@@ -19,7 +23,7 @@ impl Machine {
     ghost use Rattle.resp_scan.specs.Machine.Sound.{IsWithinRoom};
 
     /// Behind `$`: a number, `-1` for the null, or `?` for a streamed string.
-    #[inline(never)]
+    #[inline(always)]
     pub fn bulk_head(&mut self, piece: &[u8], i: usize) -> Taken
         requires { i ≤ length piece.now }
         ensures { out_of result self.new ≡
@@ -28,13 +32,17 @@ impl Machine {
         if i == piece.len() {
             return self.rest(State::BulkHead, piece);
         }
-        match piece[i] {
+        let byte = piece[i];
+        if b'0' <= byte && byte <= b'9' {
+            return self.head_digits(piece, i, Head::Bulk);
+        }
+        match byte {
             b'-' => self.null_one(piece, i + 1),
             b'?' => match self.streamed_string(i + 1) {
                 Some(cause) => self.fail(i, cause),
                 None => self.stream_cr(piece, i + 1),
             },
-            _ => self.head_first(piece, i, Head::Bulk),
+            _ => self.fail(i, Cause::Syntax),
         }
     }
 
@@ -49,13 +57,17 @@ impl Machine {
             return self.rest(State::ArrayHead, piece);
         }
         let byte = piece[i];
+        let is_full = self.is_full();
+        if b'0' <= byte && byte <= b'9' && !is_full {
+            return self.head_digits(piece, i, Head::Array);
+        }
         if byte == b'-' {
             return match self.over_total(i + 1, 3) {
                 Some(cause) => self.fail(i, cause),
                 None => self.null_one(piece, i + 1),
             };
         }
-        if self.is_full() {
+        if is_full {
             let cause = self.full_cause(byte);
             return self.fail(i, cause);
         }
@@ -149,14 +161,55 @@ impl Machine {
         if byte < b'0' || byte > b'9' {
             return self.fail(i, Cause::Syntax);
         }
-        let number = (byte - b'0') as u64;
+        self.head_digits(piece, i, head)
+    }
+
+    /// At a head's first digit. The digits are run over first, and judged together where they end.
+    #[inline(always)]
+    fn head_digits(&mut self, piece: &[u8], i: usize, head: Head) -> Taken
+        requires within { i < length piece.now }
+        requires digit { is_digit (slice_index piece.now i) ≡ true }
+        requires level { HasFrame (place_of self.old) head }
+        ensures { out_of result self.new ≡
+            scan i (at (place_of self.old) (AtHead head)) (drop i piece.now) }
+    {
+        let mut number = piece[i] as u64 - b'0' as u64;
+        for j in i + 1..piece.len() {
+            let byte = piece[j];
+            if byte < b'0' || byte > b'9' {
+                let ends = byte == b'\r' && may_end(head, number);
+                if ends && self.over(j, head, number).is_none() {
+                    return self.head_lf(piece, j + 1, head, number);
+                }
+                break;
+            }
+            if number >= MOST_JUDGED {
+                break;
+            }
+            number = number * 10 + (byte as u64 - b'0' as u64);
+        }
+        self.head_by_digits(piece, i, head)
+    }
+
+    /// The same digit by digit, where they go on in the next piece, or one of them may be refused.
+    #[cold]
+    #[inline(never)]
+    fn head_by_digits(&mut self, piece: &[u8], i: usize, head: Head) -> Taken
+        requires within { i < length piece.now }
+        requires digit { is_digit (slice_index piece.now i) ≡ true }
+        requires level { HasFrame (place_of self.old) head }
+        ensures { out_of result self.new ≡
+            scan i (at (place_of self.old) (AtHead head)) (drop i piece.now) }
+    {
+        let number = (piece[i] - b'0') as u64;
         match self.over(i + 1, head, number) {
             Some(cause) => self.fail(i, cause),
             None => self.head_more(piece, i + 1, head, number),
         }
     }
 
-    #[inline(always)]
+    /// Behind a head's digit, digit by digit.
+    #[inline(never)]
     pub fn head_more(&mut self, piece: &[u8], from: usize, head: Head, first: u64) -> Taken
         requires within { from ≤ length piece.now }
         requires fits { first ≤ 2 ^ 40 }

@@ -22,20 +22,27 @@ impl Machine {
         if i == piece.len() {
             return self.rest(State::IntSign, piece);
         }
-        match piece[i] {
-            b'-' => match self.over_total(i + 1, 3) {
-                Some(cause) => self.fail(i, cause),
-                None => self.int_first(piece, i + 1, true),
-            },
-            b'+' => match self.over_total(i + 1, 3) {
-                Some(cause) => self.fail(i, cause),
-                None => self.int_first(piece, i + 1, false),
-            },
-            _ => self.int_first(piece, i, false),
+        let byte = piece[i];
+        if byte != b'-' && byte != b'+' {
+            return self.int_first(piece, i, false);
+        }
+        match self.over_total(i + 1, 3) {
+            Some(cause) => self.fail(i, cause),
+            None => self.int_signed(piece, i + 1, byte == b'-'),
         }
     }
 
-    #[inline]
+    /// Behind the sign.
+    #[inline(never)]
+    pub fn int_signed(&mut self, piece: &[u8], i: usize, negative: bool) -> Taken
+        requires { i ≤ length piece.now }
+        ensures { out_of result self.new ≡
+            scan i (at (place_of self.old) (AtIntFirst negative)) (drop i piece.now) }
+    {
+        self.int_first(piece, i, negative)
+    }
+
+    #[inline(always)]
     pub fn int_first(&mut self, piece: &[u8], i: usize, negative: bool) -> Taken
         requires { i ≤ length piece.now }
         ensures { out_of result self.new ≡
@@ -48,11 +55,38 @@ impl Machine {
         if piece[i] < b'0' || piece[i] > b'9' {
             return self.fail(i, Cause::Syntax);
         }
-        self.int_more(piece, i + 1, negative, (piece[i] - b'0') as u64)
+        self.int_more(piece, i + 1, negative, piece[i] as u64 - b'0' as u64)
     }
 
-    #[inline]
+    /// Behind a digit. The digits are run over first, and judged together where they end.
+    #[inline(always)]
     pub fn int_more(&mut self, piece: &[u8], from: usize, negative: bool, first: u64) -> Taken
+        requires within { from ≤ length piece.now }
+        requires fits { first ≤ greatest_magnitude negative }
+        ensures { out_of result self.new ≡
+            scan from (at (place_of self.old) (InInt negative first)) (drop from piece.now) }
+    {
+        let mut magnitude = first;
+        for i in from..piece.len() {
+            let byte = piece[i];
+            if byte < b'0' || byte > b'9' {
+                if byte == b'\r' && self.has_total_room(i, 2) {
+                    return self.int_lf(piece, i + 1, negative, magnitude);
+                }
+                break;
+            }
+            if magnitude >= 922_337_203_685_477_580 {
+                break;
+            }
+            magnitude = magnitude * 10 + (byte as u64 - b'0' as u64);
+        }
+        self.int_by_digits(piece, from, negative, first)
+    }
+
+    /// The same digit by digit, where they go on in the next piece, or one of them may be refused.
+    #[cold]
+    #[inline(never)]
+    pub fn int_by_digits(&mut self, piece: &[u8], from: usize, negative: bool, first: u64) -> Taken
         requires within { from ≤ length piece.now }
         requires fits { first ≤ greatest_magnitude negative }
         ensures { out_of result self.new ≡

@@ -171,11 +171,28 @@ impl Machine {
         requires { IsSound (place_of self.old) }
         ensures { out_of result self.new ≡ out_from (place_of self.old) rest.now }
     {
-        match self.state {
-            State::Start => self.start(rest),
-            State::Boundary => self.after_value(rest),
-            _ => self.resume(rest),
+        if let State::Start = self.state {
+            return self.start(rest);
         }
+        match self.state {
+            State::Boundary => self.after_value(rest),
+            _ => self.resume_content(rest),
+        }
+    }
+
+    /// The same inside a token: inside counted content without a call, since it is what is mostly
+    /// cut.
+    #[inline(always)]
+    fn resume_content(&mut self, rest: &[u8]) -> Taken
+        requires { IsSound (place_of self.old) }
+        ensures { out_of result self.new ≡ out_from (place_of self.old) rest.now }
+    {
+        if self.count > 0 {
+            if let State::Content = self.state {
+                return self.content(rest);
+            }
+        }
+        self.resume(rest)
     }
 
     /// Tells a line of text: whole where it ends in this rest, and else that it begins.
@@ -273,15 +290,27 @@ impl Machine {
         ensures content { IfSome result (λ run. EndsAt piece.now run ×
             LeavesContent self.now.state self.now.count run) }
     {
-        let count = match self.state {
-            State::Content => self.count,
-            State::ContentCr => 0,
-            _ => return None,
+        let State::Content = self.state else {
+            return self.no_content(piece);
         };
-        if count > piece.len() as u64 {
+        if self.count >= (piece.len() as u64).saturating_sub(1) {
             return None;
         }
-        ends_at(piece, count as usize)
+        ends_at(piece, self.count as usize)
+    }
+
+    /// The same for a string of no bytes, and for one that is streamed.
+    #[cold]
+    #[inline(never)]
+    fn no_content(&self, piece: &[u8]) -> Option<usize>
+        ensures few { IfSome result (λ run. run ≤ 2 ^ 63) }
+        ensures content { IfSome result (λ run. EndsAt piece.now run ×
+            LeavesContent self.now.state self.now.count run) }
+    {
+        match self.state {
+            State::ContentCr => ends_at(piece, 0),
+            _ => None,
+        }
     }
 
     /// Tells the event that an answer of a token stands for.
@@ -355,7 +384,7 @@ fn behind(piece: &[u8], from: usize) -> &[u8]
 fn ends_at(piece: &[u8], run: usize) -> Option<usize>
     ensures { IfSome result (λ at. (at ≡ run) × EndsAt piece.now run) }
 {
-    if piece.len() < 2 || run > piece.len() - 2 {
+    if run >= piece.len().saturating_sub(1) {
         return None;
     }
     if piece[run] != b'\r' || piece[run + 1] != b'\n' {

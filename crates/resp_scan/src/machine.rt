@@ -282,6 +282,16 @@ impl Machine {
             after_begin (at (place_of self.old) AtStart)) }
         ensures refused { IfSome result (λ cause. self.new ≡ self.old) }
     {
+        if let Shape::Left(left) = frame.shape {
+            let frames_need = self.frames_need - 3;
+            let room = self.limits.total().saturating_sub(self.taken);
+            if needed >= room.saturating_sub(frames_need) {
+                return Some(Cause::Total);
+            }
+            self.frames_need = frames_need;
+            self.set_shape(Shape::Left(left - 1));
+            return None;
+        }
         if has_all(frame, self.limits.items()) {
             return Some(Cause::Items);
         }

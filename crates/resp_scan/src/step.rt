@@ -42,10 +42,24 @@ impl Machine {
         }
     }
 
-    /// Goes on from the token in which the piece begins.
+    /// Goes on from the token in which the piece begins: behind counted content at once, since it is
+    /// what is mostly cut.
     #[inline(never)]
     #[tactic(auto, using(crate::proofs::Soundness::Places::tokens_fit))]
     pub fn resume(&mut self, piece: &[u8]) -> Taken
+        requires { IsSound (place_of self.old) }
+        ensures { out_of result self.new ≡ out_from (place_of self.old) piece.now }
+    {
+        match self.state {
+            State::ContentCr => self.content_cr(piece),
+            _ => self.resume_token(piece),
+        }
+    }
+
+    /// Goes on from any token.
+    #[inline(never)]
+    #[tactic(auto, using(crate::proofs::Soundness::Places::tokens_fit))]
+    fn resume_token(&mut self, piece: &[u8]) -> Taken
         requires { IsSound (place_of self.old) }
         ensures { out_of result self.new ≡ out_from (place_of self.old) piece.now }
     {
@@ -55,8 +69,8 @@ impl Machine {
             State::Line => self.line(piece),
             State::LineLf => self.line_lf(piece, 0),
             State::IntSign => self.int_sign(piece, 0),
-            State::IntFirst => self.int_first(piece, 0, self.negative),
-            State::Int => self.int_more(piece, 0, self.negative, self.magnitude),
+            State::IntFirst => self.int_signed(piece, 0, self.negative),
+            State::Int => self.int_by_digits(piece, 0, self.negative, self.magnitude),
             State::IntLf => self.int_lf(piece, 0, self.negative, self.magnitude),
             State::BigSign => self.big_sign(piece, 0),
             State::BigFirst => self.big_first(piece, 0, self.big_negative),

@@ -1,15 +1,14 @@
 -- A value's first byte, and an array's head, as the machine's methods scan them.
-use Rattle.std.proofs.Common.{◌≡◌, ◌≢◌, ℕ, false, eqb, ◌<◌, List, [], ◌∷◌, length, get_or, drop, None, Some, arith, refl, sym, ap, ◌∙◌, ◌+◌}
+use Rattle.std.proofs.Common.{◌≡◌, ◌≢◌, ℕ, false, eqb, ◌<◌, List, [], ◌∷◌, length, get_or, drop, None, Some, arith, refl, sym, ap, ◌∙◌}
 use Rattle.std.proofs.lemmas.Bool.Decides.{nat_tests}
 use Rattle.resp_value.specs.declared.cause.Cause.{Cause}
 use Rattle.resp_value.specs.declared.version.Version.TheVariants as version
 use Rattle.resp_scan.specs.declared.start.First.{First}
-use Rattle.resp_scan.specs.Machine.Tokens.{Token, Place, Happening, Go, Give, at, AtStart, InLine, Dead, Move, Refuse, AtHead, AtArrayHead}
-use Rattle.resp_scan.specs.Machine.Room.{after_begin, begin_cause, is_full}
-use Rattle.resp_scan.specs.Machine.Moves.{move_unless, begin_move, line_move, start_next, start_three, move_in_three, array_head, head_first}
-use Rattle.resp_scan.specs.Machine.Scan.{Gave, Bad, scan, Out, answer, content}
+use Rattle.resp_scan.specs.Machine.Tokens.{Token, Place, Happening, Go, Give, at, AtStart, InLine, Dead}
+use Rattle.resp_scan.specs.Machine.Room.{after_begin, begin_cause}
+use Rattle.resp_scan.specs.Machine.Moves.{move_unless, begin_move, line_move, start_next, start_three, move_in_three}
+use Rattle.resp_scan.specs.Machine.Scan.{Gave, Bad, scan}
 use Rattle.resp_scan.specs.Machine.First.{after_first, first_move, by_first}
-use Rattle.resp_scan.specs.declared.machine.Head.TheVariants as head
 
 -- a value that begins answers with its token
 pub begun_answer : (s u : Place) (n : ℕ) (t : Token) (p : List ℕ) → None ≡ begin_cause s n → at u AtStart ≡ after_begin s →
@@ -56,24 +55,6 @@ three_is s b f n1 n2 n3 n4 n5 n6 n7 v e =
     let e6 : eqb b 46 ≡ false = grind (arith, nat_tests) in
     let e7 : eqb b 44 ≡ false = grind (arith, nat_tests) in
     simp (e1, e2, e3, e4, e5, e6, e7, e) (ap (λ x. move_in_three x (first_move s f)) v)
-
-answer_same : (v : Move) (i : ℕ) (s t : Place) (more : Place → Out) (rest : Place → ℕ × Place) → ((c : Cause) → at s (Dead c) ≡ at t (Dead c)) →
-    answer v i s more rest ≡ answer v i t more rest
-answer_same (Refuse c) i s t more rest q = ap (λ u. Bad i c u) (q c)
-answer_same _ i s t more rest q = refl
-
-array_next : (s : Place) (used b : ℕ) → is_full s ≡ false → eqb b 45 ≡ false →
-    array_head (at s AtArrayHead) used b ≡ head_first (at s (AtHead head.Array)) used head.Array b
-array_next s used b f e = simp (e, f)
-
--- an array's head is scanned as any head
-pub array_scan : (s : Place) (i : ℕ) (p : List ℕ) → is_full s ≡ false → 0 < length p → get_or p 0 0 ≢ 45 →
-    scan i (at s (AtHead head.Array)) p ≡ scan i (at s AtArrayHead) p
-array_scan s i [] f l n = absurd (omega arith)
-array_scan s i (b ∷ bs) f l n = let e : eqb b 45 ≡ false = grind (arith, nat_tests) in
-    answer_same (head_first (at s (AtHead head.Array)) (i + 1) head.Array b) i (at s (AtHead head.Array)) (at s AtArrayHead) (λ t. scan (i + 1) t bs)
-    (λ t. content (i + 1) t bs) (λ c. refl) ∙
-    ap (λ v. answer v i (at s AtArrayHead) (λ t. scan (i + 1) t bs) (λ t. content (i + 1) t bs)) (sym (array_next s (i + 1) b f e))
 
 -- what comes of a first byte that is refused, or with which a value begins
 pub ruleset answers = (refused_answer, begun_answer)

@@ -1,5 +1,7 @@
+use Rattle.std.specs.Prelude.{true}
 use Rattle.std.proofs.Common.{◌≡◌, ◌≤◌, drop}
 use Rattle.resp_scan.specs.Machine.Magnitudes.{greatest_magnitude}
+use Rattle.resp_scan.specs.Machine.Room.{has_total_room}
 use Rattle.resp_scan.specs.Machine.Tokens.{at, InInt}
 use Rattle.resp_scan.specs.Machine.Scan.{scan}
 use Rattle.resp_scan.specs.Machine.Fields.{place_of}
@@ -9,6 +11,7 @@ abbrev pub invariant-loop-i : goal.invariant-loop-i
 invariant-loop-i l = record {
   fits : l.magnitude ≤ greatest_magnitude l.negative;
   same : l.self ≡ l.fn.self;
-  so_far : scan l.from (at (place_of l.fn.self) (InInt l.negative l.first)) (drop l.from l.piece) ≡
+  so_far : has_total_room (place_of l.fn.self) l.i 2 ≡ true →
+      scan l.from (at (place_of l.fn.self) (InInt l.negative l.first)) (drop l.from l.piece) ≡
       scan l.i (at (place_of l.fn.self) (InInt l.negative l.magnitude)) (drop l.i l.piece);
 }
