@@ -139,9 +139,19 @@ fn bulk(alloc: Global, text: &[u8]) -> Result<Value, Fail> {
     Ok(Value::Bulk(Content::new(text.to_vec(alloc)?)))
 }
 
+fn new_client(alloc: Global) -> Client {
+    Client::new(alloc, &Limits::standard())
+}
+
+/// PING is queued with this number.
+fn ping(rt: &impl Abort, alloc: Global, client: &mut Client, number: u64) -> Result<(), Fail> {
+    assert_eq!(rt; send(rt, alloc, client, &[b"PING"])?, Ok(number));
+    Ok(())
+}
+
 /// A client at version 3, which has one command behind it.
 fn client_in_three(rt: &impl Abort, alloc: Global) -> Result<Client, Fail> {
-    let mut client = Client::new(alloc, &Limits::standard());
+    let mut client = new_client(alloc);
     hello(rt, alloc, &mut client, Some(Version::Three))?;
     let heard = hear(rt, alloc, &mut client, &[b"%0\r\n"])?;
     assert_eq!(rt; heard.is_ok(), true);
@@ -164,6 +174,32 @@ fn greeting(alloc: Global) -> Result<Value, Fail> {
     Ok(Value::Map(PairList::new(pairs)))
 }
 
+/// GET, HELLO 3 and GET.
+fn queue_pipeline(rt: &impl Abort, alloc: Global, client: &mut Client) -> Result<(), Fail> {
+    assert_eq!(rt; send(rt, alloc, client, &[b"GET", b"a"])?, Ok(1));
+    assert_eq!(rt; hello(rt, alloc, client, Some(Version::Three))?, 2);
+    assert_eq!(rt; send(rt, alloc, client, &[b"GET", b"a"])?, Ok(3));
+    assert_eq!(rt; client.out().len(), 62);
+    assert_eq!(rt; client.version(), Version::Two);
+    Ok(())
+}
+
+/// The client hears this of the pieces, and waits for nothing then.
+fn assert_heard(
+    rt: &impl Abort,
+    alloc: Global,
+    client: &mut Client,
+    pieces: &[&[u8]],
+    wanted: &[What],
+) -> Result<(), Fail> {
+    match hear(rt, alloc, client, pieces)? {
+        Ok(all) => assert_eq!(rt; all.as_slice(), wanted),
+        Err(fault) => return Err(Fail::from(fault)),
+    }
+    assert_eq!(rt; client.waiting(), 0);
+    Ok(())
+}
+
 #[test]
 fn hello_in_a_pipeline(rt: HostRuntime) -> Result<(), Fail> {
     let alloc = rt.alloc();
@@ -177,20 +213,45 @@ fn hello_in_a_pipeline(rt: HostRuntime) -> Result<(), Fail> {
         reply(3, Value::Null),
     ]?;
     for pieces in cuts(alloc, text.as_slice())? {
-        let mut client = Client::new(alloc, &Limits::standard());
-        assert_eq!(rt; send(&rt, alloc, &mut client, &[b"GET", b"a"])?, Ok(1));
-        assert_eq!(rt; hello(&rt, alloc, &mut client, Some(Version::Three))?, 2);
-        assert_eq!(rt; send(&rt, alloc, &mut client, &[b"GET", b"a"])?, Ok(3));
-        assert_eq!(rt; client.out().len(), 62);
-        assert_eq!(rt; client.version(), Version::Two);
-        let heard = hear(&rt, alloc, &mut client, pieces.as_slice())?;
-        assert_eq!(rt;
-            heard.as_ref().map(|all| all.as_slice()),
-            Ok(wanted.as_slice())
-        );
+        let mut client = new_client(alloc);
+        queue_pipeline(&rt, alloc, &mut client)?;
+        assert_heard(
+            &rt,
+            alloc,
+            &mut client,
+            pieces.as_slice(),
+            wanted.as_slice(),
+        )?;
         assert_eq!(rt; client.version(), Version::Three);
-        assert_eq!(rt; client.waiting(), 0);
     }
+    Ok(())
+}
+
+/// Hears this behind two commands, and refuses a reply more.
+fn hear_behind_pings(
+    rt: &impl Abort,
+    alloc: Global,
+    client: &mut Client,
+    pieces: &[&[u8]],
+    wanted: &[What],
+) -> Result<(), Fail> {
+    ping(rt, alloc, client, 2)?;
+    ping(rt, alloc, client, 3)?;
+    assert_heard(rt, alloc, client, pieces, wanted)?;
+    assert_refused(rt, alloc, client, &[b"+C\r\n"], Cause::Unasked, 0)
+}
+
+/// The pieces are refused so.
+fn assert_refused(
+    rt: &impl Abort,
+    alloc: Global,
+    client: &mut Client,
+    pieces: &[&[u8]],
+    cause: Cause,
+    at: u64,
+) -> Result<(), Fail> {
+    let fault = Fault { cause, at };
+    assert_eq!(rt; hear(rt, alloc, client, pieces)?, Err(fault));
     Ok(())
 }
 
@@ -205,19 +266,13 @@ fn replies_and_pushes(rt: HostRuntime) -> Result<(), Fail> {
     ]?;
     for pieces in cuts(alloc, b"+A\r\n>1\r\n+x\r\n+B\r\n")? {
         let mut client = client_in_three(&rt, alloc)?;
-        assert_eq!(rt; send(&rt, alloc, &mut client, &[b"PING"])?, Ok(2));
-        assert_eq!(rt; send(&rt, alloc, &mut client, &[b"PING"])?, Ok(3));
-        let heard = hear(&rt, alloc, &mut client, pieces.as_slice())?;
-        assert_eq!(rt;
-            heard.as_ref().map(|all| all.as_slice()),
-            Ok(wanted.as_slice())
-        );
-        assert_eq!(rt; client.waiting(), 0);
-        let fault = Fault {
-            cause: Cause::Unasked,
-            at: 0,
-        };
-        assert_eq!(rt; hear(&rt, alloc, &mut client, &[b"+C\r\n"])?, Err(fault));
+        hear_behind_pings(
+            &rt,
+            alloc,
+            &mut client,
+            pieces.as_slice(),
+            wanted.as_slice(),
+        )?;
     }
     Ok(())
 }
@@ -267,38 +322,33 @@ fn commands_that_are_not_sent(rt: HostRuntime) -> Result<(), Fail> {
     Ok(())
 }
 
+/// What a client within small limits says to `SET a` with so many bytes.
+fn set_bytes(rt: &impl Abort, alloc: Global, value: &[u8]) -> Result<Result<u64, SendError>, Fail> {
+    let limits = Limits::new(32, 64, 256)?;
+    send_first(rt, alloc, &limits, &[b"SET", b"a", value])
+}
+
 #[test]
 fn commands_over_a_limit(rt: HostRuntime) -> Result<(), Fail> {
     let alloc = rt.alloc();
-    let mut client = Client::new(alloc, &Limits::new(32, 64, 256)?);
-    let long = [b'x'; 65];
-    assert_eq!(rt;
-        send(&rt, alloc, &mut client, &[b"SET", b"a", long.as_slice()])?,
-        Err(SendError::TooLarge)
-    );
+    let large = Err(SendError::TooLarge);
+    assert_eq!(rt; set_bytes(&rt, alloc, &[b'x'; 65])?, large);
+    assert_eq!(rt; set_bytes(&rt, alloc, &[b'x'; 64])?, Ok(1));
+    let limits = Limits::new(32, 64, 256)?;
     let part = [b'x'; 64];
-    let four = [part.as_slice(); 4];
     assert_eq!(rt;
-        send(&rt, alloc, &mut client, four.as_slice())?,
-        Err(SendError::TooLarge)
+        send_first(&rt, alloc, &limits, &[part.as_slice(); 4])?,
+        large
     );
+    let few = Limits::standard().with_items(16)?;
     assert_eq!(rt;
-        send(&rt, alloc, &mut client, &[b"SET", b"a", &part])?,
+        send_first(&rt, alloc, &few, &[b"DEL".as_slice(); 16])?,
         Ok(1)
     );
-    let mut few = Client::new(alloc, &Limits::standard().with_items(16)?);
-    let mut words: Vec<&[u8]> = Vec::new(alloc);
-    words.push(b"DEL")?;
-    for _ in 0..15 {
-        words.push(b"a")?;
-    }
-    assert_eq!(rt; send(&rt, alloc, &mut few, words.as_slice())?, Ok(1));
-    words.push(b"a")?;
     assert_eq!(rt;
-        send(&rt, alloc, &mut few, words.as_slice())?,
-        Err(SendError::TooLarge)
+        send_first(&rt, alloc, &few, &[b"DEL".as_slice(); 17])?,
+        large
     );
-    assert_eq!(rt; few.waiting(), 1);
     Ok(())
 }
 
@@ -311,23 +361,28 @@ fn sent(rt: &impl Abort, client: &mut Client, count: usize) {
 #[test]
 fn what_waits_to_be_sent(rt: HostRuntime) -> Result<(), Fail> {
     let alloc = rt.alloc();
-    let mut client = Client::new(alloc, &Limits::standard());
+    let client = &mut new_client(alloc);
     assert_eq!(rt; client.out(), b"".as_slice());
-    assert_eq!(rt; hello(&rt, alloc, &mut client, None)?, 1);
-    assert_eq!(rt; client.out(), b"*1\r\n$5\r\nHELLO\r\n".as_slice());
-    assert_eq!(rt; client.out().len(), 15);
-    sent(&rt, &mut client, 15);
-    assert_eq!(rt; hello(&rt, alloc, &mut client, Some(Version::Two))?, 2);
-    sent(&rt, &mut client, 4);
+    queue_two_hellos(&rt, alloc, client)?;
     assert_eq!(rt; client.out(), b"$5\r\nHELLO\r\n$1\r\n2\r\n".as_slice());
-    assert_eq!(rt; send(&rt, alloc, &mut client, &[b"PING"])?, Ok(3));
+    ping(&rt, alloc, client, 3)?;
     assert_eq!(rt;
         client.out(),
         b"$5\r\nHELLO\r\n$1\r\n2\r\n*1\r\n$4\r\nPING\r\n".as_slice()
     );
-    sent(&rt, &mut client, 32);
+    sent(&rt, client, 32);
     assert_eq!(rt; client.out(), b"".as_slice());
     assert_eq!(rt; client.waiting(), 3);
+    Ok(())
+}
+
+/// HELLO, which is sent, and HELLO 2, of which four bytes are.
+fn queue_two_hellos(rt: &impl Abort, alloc: Global, client: &mut Client) -> Result<(), Fail> {
+    assert_eq!(rt; hello(rt, alloc, client, None)?, 1);
+    assert_eq!(rt; client.out(), b"*1\r\n$5\r\nHELLO\r\n".as_slice());
+    sent(rt, client, 15);
+    assert_eq!(rt; hello(rt, alloc, client, Some(Version::Two))?, 2);
+    sent(rt, client, 4);
     Ok(())
 }
 
@@ -339,13 +394,24 @@ fn hello_is_answered(
     version: Version,
 ) -> Result<(), Fail> {
     for pieces in cuts(alloc, text)? {
-        let mut client = Client::new(alloc, &Limits::standard());
-        hello(rt, alloc, &mut client, Some(Version::Three))?;
-        let heard = hear(rt, alloc, &mut client, pieces.as_slice())?;
-        assert_eq!(rt; heard.map(|all| all.len()), Ok(1));
-        assert_eq!(rt; client.waiting(), 0);
+        let mut client = new_client(alloc);
+        hear_hello(rt, alloc, &mut client, pieces.as_slice())?;
         assert_eq!(rt; client.version(), version);
     }
+    Ok(())
+}
+
+/// The pieces are the one reply to `HELLO 3`.
+fn hear_hello(
+    rt: &impl Abort,
+    alloc: Global,
+    client: &mut Client,
+    pieces: &[&[u8]],
+) -> Result<(), Fail> {
+    hello(rt, alloc, client, Some(Version::Three))?;
+    let heard = hear(rt, alloc, client, pieces)?;
+    assert_eq!(rt; heard.map(|all| all.len()), Ok(1));
+    assert_eq!(rt; client.waiting(), 0);
     Ok(())
 }
 
@@ -371,19 +437,23 @@ fn back_to_version_two(rt: HostRuntime) -> Result<(), Fail> {
     let alloc = rt.alloc();
     for pieces in cuts(alloc, b"%0\r\n_")? {
         let mut client = client_in_three(&rt, alloc)?;
-        hello(&rt, alloc, &mut client, Some(Version::Two))?;
-        assert_eq!(rt; send(&rt, alloc, &mut client, &[b"PING"])?, Ok(3));
-        let fault = Fault {
-            cause: Cause::Version,
-            at: 0,
-        };
-        assert_eq!(rt;
-            hear(&rt, alloc, &mut client, pieces.as_slice())?,
-            Err(fault)
-        );
-        assert_eq!(rt; client.version(), Version::Two);
-        assert_eq!(rt; client.waiting(), 1);
+        go_back(&rt, alloc, &mut client, pieces.as_slice())?;
     }
+    Ok(())
+}
+
+/// HELLO 2 is answered, and the null of version 3 is refused behind it.
+fn go_back(
+    rt: &impl Abort,
+    alloc: Global,
+    client: &mut Client,
+    pieces: &[&[u8]],
+) -> Result<(), Fail> {
+    hello(rt, alloc, client, Some(Version::Two))?;
+    ping(rt, alloc, client, 3)?;
+    assert_refused(rt, alloc, client, pieces, Cause::Version, 0)?;
+    assert_eq!(rt; client.version(), Version::Two);
+    assert_eq!(rt; client.waiting(), 1);
     Ok(())
 }
 
@@ -396,12 +466,8 @@ fn nothing_is_asked(rt: HostRuntime) -> Result<(), Fail> {
         (b"\r\n", Cause::Unasked),
     ] {
         for pieces in cuts(alloc, text)? {
-            let mut client = Client::new(alloc, &Limits::standard());
-            let fault = Fault { cause, at: 0 };
-            assert_eq!(rt;
-                hear(&rt, alloc, &mut client, pieces.as_slice())?,
-                Err(fault)
-            );
+            let mut client = new_client(alloc);
+            assert_refused(&rt, alloc, &mut client, pieces.as_slice(), cause, 0)?;
         }
     }
     Ok(())
@@ -412,21 +478,39 @@ fn a_command_queued_inside_a_value(rt: HostRuntime) -> Result<(), Fail> {
     let alloc = rt.alloc();
     let text = b"*2\r\n$-1\r\n:1\r\n";
     for at in 1..text.len() {
-        let mut client = Client::new(alloc, &Limits::standard());
-        assert_eq!(rt; send(&rt, alloc, &mut client, &[b"PING"])?, Ok(1));
-        assert_eq!(rt; client.feed(&text[..at])?.what, What::More);
-        assert_eq!(rt; hello(&rt, alloc, &mut client, Some(Version::Three))?, 2);
-        let members = Members::new(vec![in alloc; Value::Null, Value::Int(1)]?);
-        assert_eq!(rt;
-            client.feed(&text[at..])?.what,
-            reply(1, Value::Array(members))
-        );
-        assert_eq!(rt; client.feed(b"_\r\n")?.what, reply(2, Value::Null));
-        assert_eq!(rt; client.version(), Version::Three);
+        let mut client = new_client(alloc);
+        queue_inside(&rt, alloc, &mut client, &text[..at], &text[at..])?;
     }
-    let mut client = client_in_three(&rt, alloc)?;
-    assert_eq!(rt; client.feed(b">1\r\n")?.what, What::More);
-    hello(&rt, alloc, &mut client, Some(Version::Two))?;
+    queue_inside_a_push(&rt, alloc, &mut client_in_three(&rt, alloc)?)
+}
+
+/// The client is fed this piece, and says what was heard.
+fn feed(client: &mut Client, piece: &[u8]) -> Result<What, Fail> {
+    Ok(client.feed(piece)?.what)
+}
+
+/// HELLO 3 is queued inside the reply to PING.
+fn queue_inside(
+    rt: &impl Abort,
+    alloc: Global,
+    client: &mut Client,
+    first: &[u8],
+    rest: &[u8],
+) -> Result<(), Fail> {
+    ping(rt, alloc, client, 1)?;
+    assert_eq!(rt; feed(client, first)?, What::More);
+    assert_eq!(rt; hello(rt, alloc, client, Some(Version::Three))?, 2);
+    let members = Members::new(vec![in alloc; Value::Null, Value::Int(1)]?);
+    assert_eq!(rt; feed(client, rest)?, reply(1, Value::Array(members)));
+    assert_eq!(rt; feed(client, b"_\r\n")?, reply(2, Value::Null));
+    assert_eq!(rt; client.version(), Version::Three);
+    Ok(())
+}
+
+/// HELLO 2 is queued inside a push, which ends by the null of version 3.
+fn queue_inside_a_push(rt: &impl Abort, alloc: Global, client: &mut Client) -> Result<(), Fail> {
+    assert_eq!(rt; feed(client, b">1\r\n")?, What::More);
+    hello(rt, alloc, client, Some(Version::Two))?;
     assert_eq!(rt; client.feed(b"_\r\n")?.used, 3);
     assert_eq!(rt; client.waiting(), 1);
     Ok(())
@@ -436,19 +520,23 @@ fn a_command_queued_inside_a_value(rt: HostRuntime) -> Result<(), Fail> {
 fn a_refused_byte(rt: HostRuntime) -> Result<(), Fail> {
     let alloc = rt.alloc();
     for pieces in cuts(alloc, b":1\r\n*1\r\n:x")? {
-        let mut client = Client::new(alloc, &Limits::standard());
-        assert_eq!(rt; send(&rt, alloc, &mut client, &[b"PING"])?, Ok(1));
-        assert_eq!(rt; send(&rt, alloc, &mut client, &[b"PING"])?, Ok(2));
-        let fault = Fault {
-            cause: Cause::Syntax,
-            at: 5,
-        };
-        assert_eq!(rt;
-            hear(&rt, alloc, &mut client, pieces.as_slice())?,
-            Err(fault)
-        );
-        assert_eq!(rt; client.waiting(), 1);
+        let mut client = new_client(alloc);
+        refuse_second(&rt, alloc, &mut client, pieces.as_slice())?;
     }
+    Ok(())
+}
+
+/// The reply to the second of two commands is refused.
+fn refuse_second(
+    rt: &impl Abort,
+    alloc: Global,
+    client: &mut Client,
+    pieces: &[&[u8]],
+) -> Result<(), Fail> {
+    ping(rt, alloc, client, 1)?;
+    ping(rt, alloc, client, 2)?;
+    assert_refused(rt, alloc, client, pieces, Cause::Syntax, 5)?;
+    assert_eq!(rt; client.waiting(), 1);
     Ok(())
 }
 
@@ -477,22 +565,31 @@ fn ended(used: usize, what: What) -> Heard {
     Heard { used, what }
 }
 
+/// What is heard of the pieces, one behind the other, besides the pushes that are shown.
+fn hear_and_show(
+    rt: &impl Abort,
+    client: &mut Client,
+    sink: &mut Box<dyn PushSink>,
+) -> Result<(), Fail> {
+    for (piece, wanted, shown) in [
+        (b">1\r\n:1\r\n:7\r\n".as_slice(), ended(8, What::Shown), 1),
+        (b":7\r\n", ended(4, reply(2, Value::Int(7))), 1),
+        (b">2\r\n", ended(4, What::More), 1),
+        (b"_\r\n#t\r\n", ended(7, What::Shown), 2),
+    ] {
+        assert_eq!(rt; feed_with(rt, client, piece, sink)?, wanted);
+        assert_eq!(rt; sink.shown().len(), shown);
+    }
+    Ok(())
+}
+
 #[test]
 fn pushes_are_shown(rt: HostRuntime) -> Result<(), Fail> {
     let alloc = rt.alloc();
     let mut client = client_in_three(&rt, alloc)?;
+    ping(&rt, alloc, &mut client, 2)?;
     let mut sink: Box<dyn PushSink> = Box::new(alloc, PushList::new(alloc))?;
-    assert_eq!(rt; send(&rt, alloc, &mut client, &[b"PING"])?, Ok(2));
-    let shown = feed_with(&rt, &mut client, b">1\r\n:1\r\n:7\r\n", &mut sink)?;
-    assert_eq!(rt; shown, ended(8, What::Shown));
-    assert_eq!(rt; sink.shown().len(), 1);
-    let heard = feed_with(&rt, &mut client, b":7\r\n", &mut sink)?;
-    assert_eq!(rt; heard, ended(4, reply(2, Value::Int(7))));
-    let more = feed_with(&rt, &mut client, b">2\r\n", &mut sink)?;
-    assert_eq!(rt; more, ended(4, What::More));
-    assert_eq!(rt; sink.shown().len(), 1);
-    let shown = feed_with(&rt, &mut client, b"_\r\n#t\r\n", &mut sink)?;
-    assert_eq!(rt; shown, ended(7, What::Shown));
+    hear_and_show(&rt, &mut client, &mut sink)?;
     let one = Members::new(vec![in alloc; Value::Int(1)]?);
     let two = Members::new(vec![in alloc; Value::Null, Value::Bool(true)]?);
     assert_eq!(rt; sink.shown(), [one, two].as_slice());
@@ -502,8 +599,8 @@ fn pushes_are_shown(rt: HostRuntime) -> Result<(), Fail> {
 #[test]
 fn an_integer_takes_no_memory(rt: HostRuntime) -> Result<(), Fail> {
     let alloc = rt.alloc();
-    let mut client = Client::new(alloc, &Limits::standard());
-    assert_eq!(rt; send(&rt, alloc, &mut client, &[b"GET", b"a"])?, Ok(1));
+    let mut client = new_client(alloc);
+    ping(&rt, alloc, &mut client, 1)?;
     for byte in [b":", b"7", b"\r"] {
         assert!(rt; client.feed(byte).map(|heard| heard.what) == Ok(What::More));
     }

@@ -1,12 +1,8 @@
 //! Each read and each write of a client's end failed in turn.
 
-use super::command;
-use crate::ask::ask;
-use crate::asked::Asked;
+use super::{ask_names, new_ends};
 use crate::error::AskError;
-use resp_client::Client;
-use resp_value::device::{MemorySink, MemorySource};
-use resp_value::limits::Limits;
+use resp_value::device::MemorySource;
 use std::alloc::Global;
 use std::test::Fail;
 
@@ -31,25 +27,15 @@ fn ask_once(
     fails_from: usize,
     turns: u64,
 ) -> Result<Outcome, Fail> {
-    let mut writer = MemorySink::new(alloc, 3, fails_from)?;
-    let mut client = Client::new(alloc, &Limits::standard());
-    let mut heard = Asked::new(alloc);
-    let requests = [command(alloc, b"PING")?, command(alloc, b"PING")?];
-    let answer = ask(
-        &mut reader,
-        &mut writer,
-        &mut client,
-        &requests,
-        &mut heard,
-        turns,
-    );
+    let mut ends = new_ends(alloc, 3, fails_from)?;
+    let answer = ask_names(alloc, &mut ends, &mut reader, &[b"PING", b"PING"], turns)?;
     Ok(Outcome {
         answer,
         reads: reader.calls(),
-        writes: writer.calls(),
-        replies: heard.replies.len(),
-        written: Vec::from_slice(alloc, writer.bytes())?,
-        waits: Vec::from_slice(alloc, client.out())?,
+        writes: ends.writer.calls(),
+        replies: ends.heard.replies.len(),
+        written: Vec::from_slice(alloc, ends.writer.bytes())?,
+        waits: Vec::from_slice(alloc, ends.client.out())?,
     })
 }
 

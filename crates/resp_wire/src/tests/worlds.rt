@@ -79,63 +79,96 @@ fn pushes(world: &Memory, number: usize) -> &[Members] {
     world.pushes(number)
 }
 
+/// What comes of an event. This function has no contract, as those above, so that tests are proved
+/// in a moment.
+fn step(world: &mut Memory, event: &Event) -> Result<Outcome, Fail> {
+    Ok(world.step(event)?)
+}
+
+/// The order in which commands were run, by the numbers of their clients.
+fn order(world: &Memory) -> &[usize] {
+    world.order()
+}
+
 /// All bytes of each client come, both ways.
 fn flush(world: &mut Memory, clients: usize) -> Result<(), Fail> {
     for number in 1..=clients {
-        world.step(&Event::ToServer(number, ALL))?;
-        world.step(&Event::ToClient(number, ALL))?;
+        step(world, &Event::ToServer(number, ALL))?;
+        step(world, &Event::ToClient(number, ALL))?;
     }
     Ok(())
+}
+
+/// Client 1 sets a key that client 2 gets, and the second command comes first.
+fn get_before_set(alloc: Global, world: &mut Memory) -> Result<(), Fail> {
+    let set = send(alloc, 1, &[b"SET", b"a", b"1"])?;
+    let get = send(alloc, 2, &[b"GET", b"a"])?;
+    Ok(world.run(&[set, get, Event::ToServer(2, 20), Event::ToServer(1, 27)])?)
 }
 
 #[test]
 fn second_command_runs_first(rt: HostRuntime) -> Result<(), Fail> {
     let alloc = rt.alloc();
     let mut world = world(alloc, 2)?;
-    let set = send(alloc, 1, &[b"SET", b"a", b"1"])?;
-    let get = send(alloc, 2, &[b"GET", b"a"])?;
-    world.run(&[set, get, Event::ToServer(2, 20), Event::ToServer(1, 27)])?;
-    let refused = world.step(&push(alloc, 2, b"x")?)?;
+    get_before_set(alloc, &mut world)?;
+    let refused = step(&mut world, &push(alloc, 2, b"x")?)?;
     assert_eq!(rt; refused, Outcome::Refused(Cause::NotInVersion));
     flush(&mut world, 2)?;
-    assert_eq!(rt; world.order(), [2, 1].as_slice());
+    assert_eq!(rt; order(&world), [2, 1].as_slice());
     assert_eq!(rt; replies(&world, 1), [ok(alloc)?].as_slice());
     assert_eq!(rt; replies(&world, 2), [Value::Null].as_slice());
     assert_eq!(rt; count_keys(&world), 1);
     Ok(())
 }
 
+/// A world of one client that has asked for version 3 and heard the answer.
+fn in_version_three(alloc: Global) -> Result<Memory, Fail> {
+    let mut world = world(alloc, 1)?;
+    step(&mut world, &Event::Hello(1, Some(Version::Three)))?;
+    flush(&mut world, 1)?;
+    Ok(world)
+}
+
 #[test]
 fn pushes_come_behind_replies(rt: HostRuntime) -> Result<(), Fail> {
     let alloc = rt.alloc();
-    let mut world = world(alloc, 1)?;
-    world.step(&Event::Hello(1, Some(Version::Three)))?;
+    let mut world = in_version_three(alloc)?;
+    let pushed = step(&mut world, &push(alloc, 1, b"x")?)?;
+    assert_eq!(rt; pushed, Outcome::Done);
     flush(&mut world, 1)?;
-    assert_eq!(rt; world.step(&push(alloc, 1, b"x")?)?, Outcome::Done);
-    flush(&mut world, 1)?;
-    assert_eq!(rt; replies(&world, 1).len(), 1);
-    assert_eq!(rt; pushes(&world, 1).len(), 1);
-    assert_eq!(rt; world.order(), [1].as_slice());
+    assert_eq!(rt; (replies(&world, 1).len(), pushes(&world, 1).len()), (1, 1));
+    assert_eq!(rt; order(&world), [1].as_slice());
     Ok(())
+}
+
+/// What comes of PING at client 1.
+fn ping(alloc: Global, world: &mut Memory) -> Result<Outcome, Fail> {
+    let ping = send(alloc, 1, &[b"PING"])?;
+    step(world, &ping)
+}
+
+/// A world whose one client was dropped behind its first command.
+fn dropped(rt: &impl Abort, alloc: Global) -> Result<Memory, Fail> {
+    let mut world = world(alloc, 1)?;
+    assert_eq!(rt; ping(alloc, &mut world)?, Outcome::Done);
+    assert_eq!(rt; step(&mut world, &Event::Drop(1))?, Outcome::Done);
+    Ok(world)
 }
 
 #[test]
 fn dropped_clients_are_gone(rt: HostRuntime) -> Result<(), Fail> {
     let alloc = rt.alloc();
-    let mut world = world(alloc, 1)?;
-    let ping = send(alloc, 1, &[b"PING"])?;
-    assert_eq!(rt; world.step(&ping)?, Outcome::Done);
-    assert_eq!(rt; world.step(&Event::Drop(1))?, Outcome::Done);
+    let mut world = dropped(&rt, alloc)?;
+    assert_eq!(rt; ping(alloc, &mut world)?, Outcome::Gone);
     for event in [
-        ping,
         Event::Drop(1),
         Event::ToServer(1, ALL),
         Event::Drop(2),
         Event::Hello(0, None),
     ] {
-        assert_eq!(rt; world.step(&event)?, Outcome::Gone);
+        assert_eq!(rt; step(&mut world, &event)?, Outcome::Gone);
     }
-    assert_eq!(rt; world.order().len(), 0);
+    assert_eq!(rt; order(&world).len(), 0);
     assert_eq!(rt; asked(&world, 1).len(), 1);
     Ok(())
 }
