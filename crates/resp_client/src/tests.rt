@@ -322,33 +322,35 @@ fn commands_that_are_not_sent(rt: HostRuntime) -> Result<(), Fail> {
     Ok(())
 }
 
-/// What a client within small limits says to `SET a` with so many bytes.
-fn set_bytes(rt: &impl Abort, alloc: Global, value: &[u8]) -> Result<Result<u64, SendError>, Fail> {
-    let limits = Limits::new(32, 64, 256)?;
-    send_first(rt, alloc, &limits, &[b"SET", b"a", value])
+/// A word that is too long and a command that is, which leave the client as it was.
+fn refuse_long(rt: &impl Abort, alloc: Global, client: &mut Client) -> Result<(), Fail> {
+    let large = Err(SendError::TooLarge);
+    let part = [b'x'; 64];
+    assert_eq!(rt;
+        send(rt, alloc, client, &[b"SET", b"a", &[b'x'; 65]])?,
+        large
+    );
+    assert_eq!(rt; send(rt, alloc, client, &[part.as_slice(); 4])?, large);
+    assert_eq!(rt; send(rt, alloc, client, &[b"SET", b"a", &part])?, Ok(1));
+    Ok(())
+}
+
+/// As many words as there may be, and one more, which leaves the client as it was.
+fn refuse_many(rt: &impl Abort, alloc: Global, client: &mut Client) -> Result<(), Fail> {
+    let large = Err(SendError::TooLarge);
+    assert_eq!(rt; send(rt, alloc, client, &[b"DEL".as_slice(); 16])?, Ok(1));
+    assert_eq!(rt; send(rt, alloc, client, &[b"DEL".as_slice(); 17])?, large);
+    assert_eq!(rt; client.waiting(), 1);
+    Ok(())
 }
 
 #[test]
 fn commands_over_a_limit(rt: HostRuntime) -> Result<(), Fail> {
     let alloc = rt.alloc();
-    let large = Err(SendError::TooLarge);
-    assert_eq!(rt; set_bytes(&rt, alloc, &[b'x'; 65])?, large);
-    assert_eq!(rt; set_bytes(&rt, alloc, &[b'x'; 64])?, Ok(1));
     let limits = Limits::new(32, 64, 256)?;
-    let part = [b'x'; 64];
-    assert_eq!(rt;
-        send_first(&rt, alloc, &limits, &[part.as_slice(); 4])?,
-        large
-    );
+    refuse_long(&rt, alloc, &mut Client::new(alloc, &limits))?;
     let few = Limits::standard().with_items(16)?;
-    assert_eq!(rt;
-        send_first(&rt, alloc, &few, &[b"DEL".as_slice(); 16])?,
-        Ok(1)
-    );
-    assert_eq!(rt;
-        send_first(&rt, alloc, &few, &[b"DEL".as_slice(); 17])?,
-        large
-    );
+    refuse_many(&rt, alloc, &mut Client::new(alloc, &few))?;
     Ok(())
 }
 

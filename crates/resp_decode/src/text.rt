@@ -40,7 +40,8 @@ impl Text {
     }
 
     /// Appends these bytes of the content. Small content that has no room moves to a block of its
-    /// own, since the C library grows none from those that it keeps at hand.
+    /// own, of four times the bytes that came, since the C library grows none from those that it
+    /// keeps at hand.
     #[inline]
     pub(crate) fn extend(&mut self, alloc: Global, part: &[u8]) -> Result<(), AllocError>
         ensures { OnOk result (text_held self.new ≡ record (text_held self.old) {

@@ -359,8 +359,10 @@ fn a_word_that_is_too_long(rt: HostRuntime) -> Result<(), Fail> {
 }
 
 /// What `encode_to` answers of this value in version 2, to a writer that takes so many bytes a call
-/// and fails from a byte on, and what it wrote.
+/// and fails from a byte on, and what it wrote. Where memory is wanted, that is nothing, and the
+/// test ends.
 fn sent(
+    rt: &impl Abort,
     alloc: Global,
     value: Value,
     most: usize,
@@ -368,13 +370,18 @@ fn sent(
 ) -> Result<(Result<u64, EncodeToError>, Vec<u8>), Fail> {
     let mut sink = MemorySink::new(alloc, most, fails_from)?;
     let answer = encode_to(alloc, Version::Two, &Limits::standard(), &value, &mut sink);
-    Ok((answer, sink.into_vec()))
+    let bytes = sink.into_vec();
+    if answer == Err(EncodeToError::Refused(EncodeError::OutOfMemory)) {
+        assert_eq!(rt; bytes.len(), 0);
+        return Err(Fail::from(EncodeError::OutOfMemory));
+    }
+    Ok((answer, bytes))
 }
 
 #[test]
 fn devices(rt: HostRuntime) -> Result<(), Fail> {
     let alloc = rt.alloc();
-    let (answer, bytes) = sent(alloc, bulk(alloc, b"foo")?, 1, 100)?;
+    let (answer, bytes) = sent(&rt, alloc, bulk(alloc, b"foo")?, 1, 100)?;
     assert_eq!(rt; answer, Ok(9));
     assert_eq!(rt; bytes.as_slice(), b"$3\r\nfoo\r\n".as_slice());
     Ok(())
@@ -383,11 +390,7 @@ fn devices(rt: HostRuntime) -> Result<(), Fail> {
 #[test]
 fn a_device_that_fails(rt: HostRuntime) -> Result<(), Fail> {
     let alloc = rt.alloc();
-    let (answer, bytes) = sent(alloc, bulk(alloc, b"foo")?, 2, 3)?;
-    if answer == Err(EncodeToError::Refused(EncodeError::OutOfMemory)) {
-        assert_eq!(rt; bytes.len(), 0);
-        return Err(Fail::from(EncodeError::OutOfMemory));
-    }
+    let (answer, bytes) = sent(&rt, alloc, bulk(alloc, b"foo")?, 2, 3)?;
     assert_eq!(rt; answer, Err(EncodeToError::Write { written: 3 }));
     assert_eq!(rt; bytes.as_slice(), b"$3\r".as_slice());
     Ok(())
@@ -395,7 +398,7 @@ fn a_device_that_fails(rt: HostRuntime) -> Result<(), Fail> {
 
 #[test]
 fn a_refusal_before_a_device(rt: HostRuntime) -> Result<(), Fail> {
-    let (answer, bytes) = sent(rt.alloc(), Value::Bool(true), 1, 100)?;
+    let (answer, bytes) = sent(&rt, rt.alloc(), Value::Bool(true), 1, 100)?;
     assert_eq!(rt;
         answer,
         Err(EncodeToError::Refused(EncodeError::NotInVersion))

@@ -11,7 +11,8 @@ use resp_value::cause::Cause;
 use resp_value::kind::OpenKind;
 use resp_value::version::Version;
 
-/// Digits behind a number that isn't less are judged one by one.
+/// Behind a number of at least this the digits are judged one by one, so that none is too great to
+/// be counted. Few numbers are.
 const MOST_JUDGED: u64 = 1 << 30;
 
 impl Machine {

@@ -32,7 +32,7 @@ impl Machine {
         }
     }
 
-    /// Behind the sign.
+    /// Behind a sign: apart, since few integers have one.
     #[inline(never)]
     pub fn int_signed(&mut self, piece: &[u8], i: usize, negative: bool) -> Taken
         requires { i ≤ length piece.now }

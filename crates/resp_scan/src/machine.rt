@@ -2,7 +2,8 @@
 //! ends.
 
 ghost use Rattle.resp_scan.specs.Machine.Sound.{IsOpenShape, need_of_frame};
-ghost use Rattle.resp_scan.specs.Machine.Room.{has_all, need_after_begin, shape_after_begin, begun_count};
+ghost use Rattle.resp_scan.specs.Machine.Room.{has_all, need_after_begin, begun_count};
+ghost use Rattle.resp_scan.specs.declared.frame.Shape.TheVariants.{Begun};
 ghost use Rattle.std.specs.Prelude.{◌≡◌, ◌<◌, ◌≤◌, ◌+◌, ◌^◌, length, IfNone, true, false, ◌-◌, ◌∷◌, List, IfSome, min, reverse};
 
 use crate::frame::{Frame, Shape};
@@ -282,26 +283,39 @@ impl Machine {
             after_begin (at (place_of self.old) AtStart)) }
         ensures refused { IfSome result (λ cause. self.new ≡ self.old) }
     {
-        if let Shape::Left(left) = frame.shape {
-            let frames_need = self.frames_need - 3;
-            let room = self.limits.total().saturating_sub(self.taken);
-            if needed >= room.saturating_sub(frames_need) {
-                return Some(Cause::Total);
+        match frame.shape {
+            Shape::Left(left) => {
+                self.begin_as(Shape::Left(left - 1), self.frames_need - 3, needed)
             }
-            self.frames_need = frames_need;
-            self.set_shape(Shape::Left(left - 1));
-            return None;
+            Shape::Begun(begun) => {
+                if has_all(frame.kind, begun, self.limits.items()) {
+                    return Some(Cause::Items);
+                }
+                let frames_need = need_after_begin(frame.kind, begun, self.frames_need);
+                self.begin_as(Shape::Begun(begun + 1), frames_need, needed)
+            }
         }
-        if has_all(frame, self.limits.items()) {
-            return Some(Cause::Items);
-        }
+    }
+
+    /// The innermost aggregate gets this shape, and the open ones need so many bytes, unless total
+    /// refuses that.
+    #[inline(always)]
+    fn begin_as(&mut self, shape: Shape, frames_need: u64, needed: u64) -> Option<Cause>
+        requires needed { needed < 2 ^ 10 }
+        ensures cause { result ≡
+            over_total (record (place_of self.old) { frames_need = frames_need }) 1 needed }
+        ensures items { IfNone result (reverse self.new.frames.items ≡
+            with_shape shape (reverse self.old.frames.items)) }
+        ensures rest { IfNone result (self.new ≡
+            record self.old { frames_need = frames_need; frames = self.new.frames }) }
+        ensures refused { IfSome result (λ cause. self.new ≡ self.old) }
+    {
         let room = self.limits.total().saturating_sub(self.taken);
-        let frames_need = need_after_begin(frame, self.frames_need);
         if needed >= room.saturating_sub(frames_need) {
             return Some(Cause::Total);
         }
         self.frames_need = frames_need;
-        self.set_shape(shape_after_begin(frame.shape));
+        self.set_shape(shape);
         None
     }
 
@@ -329,52 +343,33 @@ impl Machine {
     }
 }
 
-/// Whether a streamed aggregate has as many items as may be.
+/// Whether a streamed aggregate of so many members has as many items as may be.
 #[inline]
-fn has_all(frame: Frame, items: u64) -> bool
-    ensures { result ≡ has_all frame.kind frame.shape items }
+fn has_all(kind: OpenKind, begun: u64, items: u64) -> bool
+    ensures { result ≡ has_all kind (Begun begun) items }
 {
-    match frame.shape {
-        Shape::Left(_) => false,
-        Shape::Begun(begun) => match frame.kind {
-            OpenKind::Map => begun % 2 == 0 && begun / 2 >= items,
-            _ => begun >= items,
-        },
+    match kind {
+        OpenKind::Map => begun % 2 == 0 && begun / 2 >= items,
+        _ => begun >= items,
     }
 }
 
-/// What is owed once one more member has begun: less by a counted member, and a map's key calls for
-/// its value.
+/// What is owed once one more member of a streamed aggregate has begun: a map's key calls for its
+/// value.
 #[inline]
-fn need_after_begin(frame: Frame, frames_need: u64) -> u64
-    requires more { IsOpenShape frame.shape }
-    requires frames_need { need_of_frame frame.kind frame.shape ≤ frames_need }
+fn need_after_begin(kind: OpenKind, begun: u64, frames_need: u64) -> u64
+    requires frames_need { need_of_frame kind (Begun begun) ≤ frames_need }
     requires few { frames_need < 2 ^ 62 }
-    ensures { result ≡ need_after_begin frame.kind frame.shape frames_need }
+    ensures { result ≡ need_after_begin kind (Begun begun) frames_need }
 {
-    match frame.shape {
-        Shape::Left(_) => frames_need - 3,
-        Shape::Begun(begun) => match frame.kind {
-            OpenKind::Map => {
-                if begun % 2 == 0 {
-                    frames_need + 3
-                } else {
-                    frames_need - 3
-                }
+    match kind {
+        OpenKind::Map => {
+            if begun % 2 == 0 {
+                frames_need + 3
+            } else {
+                frames_need - 3
             }
-            _ => frames_need,
-        },
-    }
-}
-
-#[inline]
-fn shape_after_begin(shape: Shape) -> Shape
-    requires more { IsOpenShape shape }
-    requires few { begun_count shape < 2 ^ 62 }
-    ensures { result ≡ shape_after_begin shape }
-{
-    match shape {
-        Shape::Left(left) => Shape::Left(left - 1),
-        Shape::Begun(begun) => Shape::Begun(begun + 1),
+        }
+        _ => frames_need,
     }
 }

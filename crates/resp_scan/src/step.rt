@@ -42,24 +42,10 @@ impl Machine {
         }
     }
 
-    /// Goes on from the token in which the piece begins: behind counted content at once, since it is
-    /// what is mostly cut.
+    /// Goes on from the token in which the piece begins.
     #[inline(never)]
     #[tactic(auto, using(crate::proofs::Soundness::Places::tokens_fit))]
     pub fn resume(&mut self, piece: &[u8]) -> Taken
-        requires { IsSound (place_of self.old) }
-        ensures { out_of result self.new ≡ out_from (place_of self.old) piece.now }
-    {
-        match self.state {
-            State::ContentCr => self.content_cr(piece),
-            _ => self.resume_token(piece),
-        }
-    }
-
-    /// Goes on from any token.
-    #[inline(never)]
-    #[tactic(auto, using(crate::proofs::Soundness::Places::tokens_fit))]
-    fn resume_token(&mut self, piece: &[u8]) -> Taken
         requires { IsSound (place_of self.old) }
         ensures { out_of result self.new ≡ out_from (place_of self.old) piece.now }
     {
