@@ -11,8 +11,6 @@ mod names;
 mod send;
 mod send_error;
 pub mod sink;
-#[cfg(test)]
-mod tests;
 
 pub use client::Client;
 pub use heard::{Heard, What};

@@ -10,8 +10,6 @@ pub mod fed;
 mod group;
 mod held;
 pub mod laws;
-#[cfg(test)]
-mod tests;
 mod text;
 
 pub use all::{AllFault, decode_all};

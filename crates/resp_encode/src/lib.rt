@@ -13,8 +13,6 @@ mod first_fault;
 mod measure;
 mod measure_value;
 mod room;
-#[cfg(test)]
-mod tests;
 mod text;
 mod values;
 mod words;

@@ -24,8 +24,6 @@ mod needed;
 pub mod scanner;
 mod start;
 mod step;
-#[cfg(test)]
-mod tests;
 
 pub use event::{Busy, Event, Fault, ScanError, Scanned, Step, TextKind};
 pub use listener::Listener;

@@ -15,8 +15,6 @@ mod run;
 mod session;
 mod store;
 mod stored;
-#[cfg(test)]
-mod tests;
 mod turn;
 
 pub use entries::Entries;

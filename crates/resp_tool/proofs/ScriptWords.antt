@@ -89,7 +89,8 @@ no_clients line items words same are none (clients, says) =
     none clients (ap (map (λ (word : Bor (List ℕ)). word.now)) same ∙ one_reading line _ _ are says.words) says.range.0 says.range.1
 
 -- words that say no step, so that their line says none
-pub no_step : (clients : ℕ) (line : List ℕ) (items words : List (Bor (List ℕ))) → words ≡ items → AreWords line (map (λ (word : Bor (List ℕ)). word.now) items) →
+pub no_step : (clients : ℕ) (line : List ℕ) (items words : List (Bor (List ℕ))) →
+    words ≡ items → AreWords line (map (λ (word : Bor (List ℕ)). word.now) items) →
     ((step : Option Event) → map (λ (word : Bor (List ℕ)). word.now) words ≡ step_words step → IsInRange clients step → ⊥) →
     SaysSomething (Some clients) line → ⊥
 no_step clients line items words same are none (step, says) =

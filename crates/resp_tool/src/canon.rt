@@ -152,8 +152,9 @@ fn stop_of(error: EncodeToError) -> Stop
 /// text of each value in the same version.
 ///
 /// Refuses a stream at its first byte behind which nothing can follow, where it ends inside a
-/// value, or at the first value whose canonical text is over the limits; the texts of the values
-/// before have been written. Where a device or memory fails, a first part of the texts was.
+/// value, at the first value whose canonical text is over the limits, or where bytes follow the
+/// first 1,000,000,000 values; the texts of the values before have been written. Where a device or
+/// memory fails, or 4,000,000,000 reads are used up, a first part of the texts was.
 pub fn canon<R: Source, W: Sink>(
     alloc: Global,
     version: Version,

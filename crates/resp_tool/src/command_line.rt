@@ -1,4 +1,4 @@
-//! The command line of the program.
+//! The command line of the program: what its words bring about, and the status.
 
 ghost use Rattle.std.specs.Prelude.{◌≡◌, ◌≢◌, ◌⊎◌, ◌≤◌, ℕ, List};
 ghost use Rattle.resp_tool.specs.Faults.{status_of};

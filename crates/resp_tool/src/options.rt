@@ -21,6 +21,7 @@ struct NumberOption {
     default: &'static str,
 }
 
+/// `--depth`: the limit of depth, in aggregates inside one another.
 const DEPTH: NumberOption = NumberOption {
     name: "depth",
     help: "The most aggregates inside one another",
@@ -29,6 +30,7 @@ const DEPTH: NumberOption = NumberOption {
     default: "32",
 };
 
+/// `--length`: the limit of length, in bytes.
 const LENGTH: NumberOption = NumberOption {
     name: "length",
     help: "The most bytes of one string",
@@ -37,6 +39,7 @@ const LENGTH: NumberOption = NumberOption {
     default: "536870912",
 };
 
+/// `--total`: the limit of total, in bytes.
 const TOTAL: NumberOption = NumberOption {
     name: "total",
     help: "The most bytes of one value",
@@ -45,6 +48,7 @@ const TOTAL: NumberOption = NumberOption {
     default: "1073741824",
 };
 
+/// `--items`: the limit of items, in members or pairs.
 const ITEMS: NumberOption = NumberOption {
     name: "items",
     help: "The most members or pairs of one aggregate",
@@ -53,6 +57,7 @@ const ITEMS: NumberOption = NumberOption {
     default: "1099511627776",
 };
 
+/// `--piece`: the most bytes of one read.
 const PIECE: NumberOption = NumberOption {
     name: "piece",
     help: "The most bytes of one read",
@@ -62,6 +67,7 @@ const PIECE: NumberOption = NumberOption {
 };
 
 impl NumberOption {
+    /// The option for the parser of the words, which refuses a number outside the range.
     fn option<'a>(self, alloc: Global) -> Arg<'a> {
         Arg::new(alloc, self.name)
             .long(self.name)
@@ -89,7 +95,7 @@ pub struct Options {
     pub task: Task,
     pub version: Version,
     pub limits: Limits,
-    /// The number of bytes of one read.
+    /// The number of bytes of one read, from 1 to 65,536.
     pub piece: usize,
 }
 
@@ -110,6 +116,7 @@ pub fn parse<'a, S: AsStr>(alloc: Global, words: &'a [S]) -> Result<Option<Optio
     })
 }
 
+/// The parser of the words: the subcommands, each with its options.
 fn program<'a>(alloc: Global) -> Result<Command<'a>, clap::Error> {
     let show = Command::new(alloc, "show").about(
         "Prints each value of the stream as lines of text",

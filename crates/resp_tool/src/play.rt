@@ -30,7 +30,7 @@ const PIECE: usize = 4_096;
 /// Why a script was not played to its end.
 #[derive(Clone, Copy, Debug, PartialEq, Eq, Error)]
 pub enum PlayError {
-    /// The world stopped at the event of this line.
+    /// The world stopped at the event of this line, counted from 1, for this cause.
     #[error("the world stopped at line {line}")]
     Stopped { line: u64, cause: Cause },
     /// The writer failed, or took no byte.
@@ -63,7 +63,8 @@ fn write_stop<W: Sink>(writer: &mut W, line: u64, name: &[u8]) -> Result<(), Wri
 impl PlayError {
     ghost use Rattle.resp_tool.specs.Plays.{play_fault_line};
 
-    /// Writes the line that says what was refused, with an LF.
+    /// Writes the line that says what was refused, with an LF. Refuses where a write fails, and
+    /// then the first bytes of the line were written.
     pub fn line<W: Sink>(&self, writer: &mut W) -> Result<(), WriteFault>
         ensures { WritesText (W.written writer.old) (W.written writer.new) (W.failures writer.old)
             (W.failures writer.new) result (play_fault_line self.now) }
@@ -77,7 +78,7 @@ impl PlayError {
         }
     }
 
-    /// The status that the program ends with.
+    /// The status that the program ends with: 3.
     pub fn status(&self) -> u8
         ensures { result ≡ 3 }
     {
@@ -86,8 +87,11 @@ impl PlayError {
 }
 
 /// Takes each event of a script, and writes what comes of it, and last how many commands were run
-/// and how many keys there are. The world is to have as many clients as the script names: an event
-/// of another is passed over.
+/// and how many keys there are. The world is to have as many clients as the script names: of an
+/// event of another it is written that the client is gone.
+///
+/// Refuses where the world stops, with the line of that event, where a write fails, and for want of
+/// memory.
 pub fn play<L: Link, S: BuildHasher + Drop, W: Sink>(
     alloc: Global,
     script: &Script,

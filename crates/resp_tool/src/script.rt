@@ -37,7 +37,8 @@ pub struct Script {
 /// Why a script is not taken.
 #[derive(Clone, Copy, Debug, PartialEq, Eq, Error)]
 pub enum ScriptError {
-    /// This line is the first bad one.
+    /// This line, counted from 1, is the first bad one; or it is line 1, and no line begins with
+    /// the word `clients`.
     #[error("line {line} of the script is bad")]
     BadScript { line: u64 },
     /// A growth was refused.
@@ -48,7 +49,8 @@ pub enum ScriptError {
 impl ScriptError {
     ghost use Rattle.resp_tool.specs.Scripts.{script_fault_line, script_status};
 
-    /// Writes the line that says what was refused, with an LF.
+    /// Writes the line that says what was refused, with an LF. Refuses where a write fails, and
+    /// then the first bytes of the line were written.
     pub fn line<W: Sink>(&self, writer: &mut W) -> Result<(), WriteFault>
         ensures { WritesText (W.written writer.old) (W.written writer.new) (W.failures writer.old)
             (W.failures writer.new) result (script_fault_line self.now) }
@@ -72,9 +74,11 @@ impl ScriptError {
     }
 }
 
-/// Reads a script.
+/// Reads a script: at most 1,048,576 bytes and 10,000 lines, and in each line at most 4,096 bytes
+/// without its LF and 64 words.
 ///
-/// Refuses it by its first bad line, or by line 1 where no line begins with the word `clients`.
+/// Refuses it by its first bad line, or by line 1 where no line begins with the word `clients`, and
+/// for want of memory.
 pub fn read_script(alloc: Global, bytes: &[u8]) -> Result<Script, ScriptError>
     ensures script { IfOk result (λ script. IsScript bytes.now script) }
     ensures refused { IfErr result (λ error. IsRefused bytes.now error) }

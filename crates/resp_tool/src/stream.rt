@@ -1,4 +1,4 @@
-//! The loop that reads a stream, which all calls of the program share.
+//! The loop that reads a stream, which `show`, `check` and `canon` share.
 
 ghost use Rattle.std.specs.Prelude.{◌≡◌, ◌⊎◌, ◌+◌, ◌≤◌, ◌++◌, ℕ, List, [], Option, Some, IfErr, IfOk, IfSome, IsErrOf, OnOk};
 ghost use Rattle.resp_tool.specs.Streams.{AreRead, AtEnd, HasRendered, IsBeforeEnd, IsRenderingError, RendersStopped, RendersStream};
@@ -22,6 +22,8 @@ pub struct Totals {
 
 /// Reads the stream to its end by reads of at most `piece` bytes, and writes what each value calls
 /// for.
+///
+/// Refuses as [`ToolError`] says.
 pub fn render_stream<T: Rendering, R: Source, W: Sink>(
     alloc: Global,
     rendering: &mut T,

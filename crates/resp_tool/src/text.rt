@@ -66,12 +66,14 @@ pub fn write_number<W: Sink, N: Integer + Drop>(
     write_text(writer, behind)
 }
 
+/// Whether a byte stands for itself inside quotes: printable ASCII, no quote and no backslash.
 fn is_plain(byte: u8) -> bool
     ensures { result ≡ is_plain byte }
 {
     32 <= byte && byte <= 126 && byte != b'"' && byte != b'\\'
 }
 
+/// The digit of base 16 for a number below 16, a small letter from ten on.
 fn hex_digit(n: u8) -> u8
     requires { n < 16 }
     ensures { result ≡ hex_digit n }

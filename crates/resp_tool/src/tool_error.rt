@@ -19,10 +19,10 @@ pub enum ToolError {
     /// The value with this number, counted from 1, was refused at this byte of it, counted from 0.
     #[error("a value was refused")]
     Refused { value: u64, cause: Cause, at: u64 },
-    /// The canonical text of the value with this number is over the limits.
+    /// The canonical text of the value with this number, counted from 1, is over the limits.
     #[error("a value's canonical text is over the limits")]
     OverLimits { value: u64 },
-    /// More values came than one run takes.
+    /// Bytes follow the first 1,000,000,000 values.
     #[error("too many values")]
     TooManyValues,
     /// The reader failed.
@@ -31,7 +31,7 @@ pub enum ToolError {
     /// The writer failed, or took no byte.
     #[error("the writer failed")]
     Write,
-    /// The input didn't end within the most reads of one run.
+    /// The input didn't end within 4,000,000,000 reads.
     #[error("too many reads")]
     TooManyTurns,
     /// A growth was refused.
@@ -73,7 +73,8 @@ fn write_refusal<W: Sink>(
 impl ToolError {
     ghost use Rattle.resp_tool.specs.Faults.{fault_line, status_of};
 
-    /// Writes the line that says what was refused, with an LF.
+    /// Writes the line that says what was refused, with an LF. Refuses where a write fails, and
+    /// then the first bytes of the line were written.
     pub fn line<W: Sink>(&self, writer: &mut W) -> Result<(), WriteFault>
         ensures { WritesText (W.written writer.old) (W.written writer.new) (W.failures writer.old)
             (W.failures writer.new) result (fault_line self.now) }
@@ -96,7 +97,7 @@ impl ToolError {
     }
 
     /// The status that the program ends with: 1 for a refused input, 3 for a device or memory that
-    /// failed.
+    /// failed, and where the reads are used up.
     pub fn status(&self) -> u8
         ensures { result ≡ status_of self.now }
     {

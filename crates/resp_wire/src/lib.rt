@@ -1,7 +1,8 @@
 //! Both ends of a connection over any reader and writer, and links between clients and sessions.
 //!
 //! [`ask::ask`] sends requests to the other end and hears the replies; [`serve::serve`] hears
-//! requests and sends the replies.
+//! commands and sends the replies. A [`world::World`] is several clients of one server, and events
+//! that happen one after another.
 #![tactic(auto)]
 
 pub mod ask;
@@ -14,8 +15,6 @@ mod hear;
 pub mod laws;
 pub mod link;
 pub mod serve;
-#[cfg(test)]
-mod tests;
 mod turns;
 pub mod world;
 

@@ -42,7 +42,8 @@ enum Verb {
     Drop,
 }
 
-/// What a line says, where so many clients were named, or none yet.
+/// What a line says, where so many clients were named, or none yet. Refuses by Bad where it says
+/// nothing there, and for want of memory.
 pub fn said(alloc: Global, clients: Option<usize>, line: &[u8]) -> Result<Saying, LineFault>
     ensures said { IfOk result (λ said. Says clients line.now said) }
     ensures bad { IsErrOf result LineFault.Bad → SaysNothing clients line.now }
@@ -66,6 +67,7 @@ pub fn said(alloc: Global, clients: Option<usize>, line: &[u8]) -> Result<Saying
     }
 }
 
+/// Whether the line is passed over: it is empty or begins with `#`.
 fn is_passed_over(line: &[u8]) -> bool
     ensures { result ≡ is_passed_over line.now }
 {

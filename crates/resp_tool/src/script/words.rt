@@ -15,13 +15,13 @@ const MOST_WORDS: usize = 64;
 /// Why a line is not taken.
 #[derive(Clone, Copy, Debug, PartialEq, Eq)]
 pub enum LineFault {
-    /// It says nothing.
+    /// It says nothing that a line may say.
     Bad,
     /// A growth was refused.
     Memory,
 }
 
-/// The bytes before the first space.
+/// The bytes before the first space, or all where there is none.
 pub fn first_word(line: &[u8]) -> &[u8]
     ensures { result.now ≡ first_word line.now }
 {
@@ -31,7 +31,8 @@ pub fn first_word(line: &[u8]) -> &[u8]
     }
 }
 
-/// The words of a line.
+/// The words of a line: from 1 to 64, with a space between each two. Refuses by Bad where it isn't
+/// such words, and else for want of memory.
 pub fn words_of<'a>(alloc: Global, line: &'a [u8]) -> Result<Vec<&'a [u8]>, LineFault>
     ensures words { IfOk result (λ words. AreWords line.now (map (λ word. word.now) words.items)) }
     ensures bad { IsErrOf result LineFault.Bad →
@@ -48,6 +49,7 @@ pub fn words_of<'a>(alloc: Global, line: &'a [u8]) -> Result<Vec<&'a [u8]>, Line
     }
 }
 
+/// Whether each of these is a word.
 fn are_words(words: &[&[u8]]) -> bool
     ensures { MatchBool result (All IsWord (map (λ word. word.now) words.now))
         (All IsWord (map (λ word. word.now) words.now) → ⊥) }
@@ -60,13 +62,14 @@ fn are_words(words: &[&[u8]]) -> bool
     true
 }
 
+/// Whether this is a word: one byte or more, all of them graphic ASCII.
 fn is_word(text: &[u8]) -> bool
     ensures { MatchBool result (IsWord text.now) (IsWord text.now → ⊥) }
 {
     !text.is_empty() && text.iter().all(u8::is_ascii_graphic)
 }
 
-/// A number from 1 to this, in decimal digits without a leading zero.
+/// A number from 1 to this, in decimal digits without a leading zero; none for any other word.
 pub fn number_of(word: &[u8], most: u64) -> Option<u64>
     ensures number { IfSome result (λ number.
         (word.now ≡ decimal number) × (1 ≤ number) × (number ≤ most)) }

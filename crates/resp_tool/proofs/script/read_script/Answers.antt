@@ -21,7 +21,8 @@ returns-then-line-gt-MOST_LINES-clause-refused c =
           (λ few short small. elim c.then-line-gt-MOST_LINES.branch [
             | then-line-gt-MOST_LINES-via-then-line-gt-MOST_LINES w ↦ omega (arith, few, w.if-line-gt-MOST_LINES.true)
             | then-line-gt-MOST_LINES-via-else-line-gt-MOST_LINES+then-content-gt-MOST_IN_LINE w ↦ omega (arith, short, w.if-content-gt-MOST_IN_LINE.true)
-            | then-line-gt-MOST_LINES-via-else-line-gt-MOST_LINES+else-content-gt-MOST_IN_LINE+then-read-gt-MOST_BYTES w ↦ omega (arith, small, w.if-read-gt-MOST_BYTES.true)
+            | then-line-gt-MOST_LINES-via-else-line-gt-MOST_LINES+else-content-gt-MOST_IN_LINE+then-read-gt-MOST_BYTES w ↦
+                omega (arith, small, w.if-read-gt-MOST_BYTES.true)
           ]))),
     )
 

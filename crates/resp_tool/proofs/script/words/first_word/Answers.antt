@@ -9,7 +9,8 @@ returns-in-Some c =
     let line = c.args.line.now in
     let h = c.in-Some.ensures in
     ap (λ n. take n line)
-    (sym (position_or_len_is (λ b. eqb b 32) line c.in-Some.at 0 (omega (arith, h.0.high)) (λ k below. false_from_ne_true _ (h.0.before k (omega arith) below)) (λ l. h.1)))
+    (sym (position_or_len_is (λ b. eqb b 32) line c.in-Some.at 0 (omega (arith, h.0.high))
+        (λ k below. false_from_ne_true _ (h.0.before k (omega arith) below)) (λ l. h.1)))
 
 pub returns-in-None : goal.returns-in-None
 returns-in-None c =
@@ -17,4 +18,5 @@ returns-in-None c =
     let h = c.in-None.ensures in
     sym (take_all (length line) line (omega arith))
     ∙ ap (λ n. take n line)
-    (sym (position_or_len_is (λ b. eqb b 32) line (length line) 0 (omega arith) (λ k below. false_from_ne_true _ (h k (omega arith) below)) (λ l. absurd (omega (arith, l)))))
+    (sym (position_or_len_is (λ b. eqb b 32) line (length line) 0 (omega arith)
+        (λ k below. false_from_ne_true _ (h k (omega arith) below)) (λ l. absurd (omega (arith, l)))))

@@ -1,0 +1,139 @@
+//! The program `resp`: shows, checks and rewrites streams of the Redis wire protocol, and plays
+//! scripts of clients of one server.
+#![tactic(auto)]
+
+use resp_tool::command_line::{command, refuse_words, stop};
+use resp_tool::play::play;
+use resp_tool::script::{MOST_BYTES, read_script};
+use resp_tool::tool_error::ToolError;
+use resp_value::device::{Device, MemorySink, Sink, Source};
+use resp_value::limits::Limits;
+use resp_wire::{TcpLink, World};
+use std::alloc::{AllocError, Global};
+use std::env;
+use std::hash::RandomState;
+use std::io::{BufWriter, Write};
+use std::net::{Net, TcpListener, TcpStream};
+use std::process::ExitCode;
+
+/// The status of a failed device, and of want of memory.
+const DEVICE_FAILED: u8 = 3;
+
+/// The most bytes that are said of what is wrong.
+const MOST_FAULTS: usize = 16_384;
+
+/// Runs the program and exits with its status, or says that memory is wanting and exits with 3.
+fn main(rt: HostRuntime) -> ExitCode {
+    match run(&rt) {
+        Ok(status) => ExitCode::from(status),
+        Err(AllocError) => {
+            let _ = rt.stderr().write_all(b"out of memory\n");
+            ExitCode::from(DEVICE_FAILED)
+        }
+    }
+}
+
+/// Runs the program's words, and answers the status. What is wrong is said behind what was shown.
+fn run(rt: &HostRuntime) -> Result<u8, AllocError> {
+    let alloc = rt.alloc();
+    let mut faults = MemorySink::new(alloc, MOST_FAULTS, MOST_FAULTS)?;
+    let words: Vec<String> = match env::args(rt) {
+        Ok(words) => words.collect(alloc)?,
+        Err(error) => {
+            let status = refuse_words(error.kind(), &mut faults);
+            let _ = rt.stderr().write_all(faults.bytes());
+            return Ok(status);
+        }
+    };
+    let Ok(buffered) = BufWriter::new(alloc, rt.stdout()) else {
+        return Err(AllocError);
+    };
+    let mut reader = Device::new(rt.stdin());
+    let mut writer = Device::new(buffered);
+    let status = if is_loop(words.as_slice()) {
+        let hasher = RandomState::new(rt).ok();
+        run_loop(rt, alloc, hasher, &mut reader, &mut writer, &mut faults)?
+    } else {
+        command(
+            alloc,
+            words.as_slice(),
+            &mut reader,
+            &mut writer,
+            &mut faults,
+        )
+    };
+    // Where a device failed before, that has been said.
+    if writer.into_inner().flush().is_err() && status != DEVICE_FAILED {
+        let _ = rt.stderr().write_all(b"write failed\n");
+        return Ok(DEVICE_FAILED);
+    }
+    let _ = rt.stderr().write_all(faults.bytes());
+    Ok(status)
+}
+
+/// Whether the words behind the program's name are `loop` alone.
+fn is_loop(words: &[String]) -> bool {
+    match words {
+        [_, word] => word.as_str() == "loop",
+        _ => false,
+    }
+}
+
+/// The bytes of the input, up to a read more than a script may have; none where a read fails.
+fn read_input<R: Source>(alloc: Global, reader: &mut R) -> Result<Option<Vec<u8>>, AllocError> {
+    let mut bytes = Vec::new(alloc);
+    let mut piece = [0; 4_096];
+    // Each turn reads a byte at least.
+    for _ in 0..=MOST_BYTES {
+        if bytes.len() > MOST_BYTES {
+            break;
+        }
+        match reader.read(&mut piece) {
+            Ok(0) => break,
+            Ok(count) => bytes.extend_from_slice(&piece[..count])?,
+            Err(_) => return Ok(None),
+        }
+    }
+    Ok(Some(bytes))
+}
+
+/// Plays the script in the input over TCP, and answers the status.
+fn run_loop<R: Source, W: Sink, F: Sink>(
+    net: &impl Net<Listener = TcpListener, Stream = TcpStream>,
+    alloc: Global,
+    hasher: Option<RandomState>,
+    reader: &mut R,
+    writer: &mut W,
+    faults: &mut F,
+) -> Result<u8, AllocError> {
+    let Some(bytes) = read_input(alloc, reader)? else {
+        return Ok(stop(&ToolError::Read, faults));
+    };
+    let script = match read_script(alloc, bytes.as_slice()) {
+        Ok(script) => script,
+        Err(error) => {
+            let _ = error.line(faults);
+            return Ok(error.status());
+        }
+    };
+    let mut links = Vec::new(alloc);
+    for _ in 0..script.clients {
+        match TcpLink::open(net) {
+            Ok(link) => links.push(link)?,
+            Err(_) => return Ok(stop(&ToolError::Read, faults)),
+        }
+    }
+    let Some(hasher) = hasher else {
+        return Ok(stop(&ToolError::Read, faults));
+    };
+    let Ok(mut world) = World::over(alloc, links, Limits::standard(), hasher) else {
+        return Err(AllocError);
+    };
+    match play(alloc, &script, &mut world, writer) {
+        Ok(()) => Ok(0),
+        Err(error) => {
+            let _ = error.line(faults);
+            Ok(error.status())
+        }
+    }
+}
