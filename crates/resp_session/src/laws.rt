@@ -1,5 +1,5 @@
-//! Laws of the definitions of sessions and worlds, each the contract of a function with an empty
-//! body.
+//! Laws of the definitions of sessions and worlds, each the contract of a function whose body is
+//! empty or calls other laws.
 
 ghost use Rattle.std.specs.Prelude.{◌≡◌, [], ◌∷◌, ◌++◌, codes, length, true};
 ghost use Rattle.resp_value.specs.Words.{command_of};
@@ -22,7 +22,8 @@ pub fn a_command_is_its_words()
     ensures { ACommandIsItsWords }
 {}
 
-/// What is answered up to a rest, and then to the rest and more, is answered to the whole.
+/// What is answered up to a rest, and then, where the session isn't closing, to the rest and more,
+/// is answered to the whole.
 pub fn answers_go_on()
     ensures { AnswersGoOn }
 {}
@@ -39,7 +40,8 @@ pub fn answers_are_added()
     ensures { AnswersAreAdded }
 {}
 
-/// A text has one answer, and where it has a cut, that is the answer to the cut's values and rest.
+/// A text has one answer at most, and where it has a cut, that is the answer to the cut's values
+/// and rest.
 pub fn a_text_has_one_answer()
     ensures one_answer { ATextHasOneAnswer }
     ensures of_the_cut { AnswersAreOfTheCut }
@@ -76,7 +78,7 @@ pub fn readings_stay()
     grammar::later_type_bytes_want_version_three();
 }
 
-/// A text is read into values and a rest in one way.
+/// A text is read into values and a rest that may go on in one way at most.
 pub fn a_text_has_one_reading()
     ensures { ATextHasOneReading }
 {
@@ -162,17 +164,19 @@ pub fn what_arrives_is_answered()
 }
 
 /// What a command leaves, its reply and the store, is within the limits where its words and the
-/// store before it are. So a server that reads and stores within its limits writes within them.
+/// store before it are, and the session's number has 63 bits. So a server that reads and stores
+/// within its limits writes within them.
 pub fn effects_fit()
     ensures { EffectsFit }
 {}
 
-/// What is replied by a number is short, so that room for it can be made before it is known.
+/// A reply of a number below 2^63 has at most 22 bytes, so that room for it can be made before the
+/// number is known.
 pub fn numbers_are_short()
     ensures { NumbersAreShort }
 {}
 
-/// All messages of a session of a world are within the limits.
+/// All messages of a session of a world of fewer than 2^63 clients are within the limits.
 pub fn each_message_is_written()
     ensures { EachMessageIsWritten }
 {
@@ -180,8 +184,8 @@ pub fn each_message_is_written()
     grammar::canonical_text_spells_what_fits();
 }
 
-/// The text of all messages of a session is what its client reads, each message in the version in
-/// which it is written or in version 3 what version 2 spells.
+/// In a world of fewer than 2^63 clients the text of all messages of a session is what its client
+/// reads, each message in the version in which it is written or in version 3 what version 2 spells.
 pub fn what_is_written_is_read()
     ensures { WhatIsWrittenIsRead }
 {
@@ -192,8 +196,8 @@ pub fn what_is_written_is_read()
     grammar::version_three_spells_what_two_does();
 }
 
-/// What has come to a client of a world is the messages that have come whole, and a rest that may
-/// go on. So no client of a world answers a fault.
+/// What has come to a client of a world of fewer than 2^63 clients is the messages that have come
+/// whole, and a rest that may go on. So no client of it answers a fault, however it reads.
 pub fn what_is_shown_is_read()
     ensures read { WhatIsShownIsRead }
     ensures nothing_else { WhatIsReadIsShown }

@@ -33,18 +33,19 @@ impl Model for Words {
 /// What a value asks of a server.
 #[derive(Drop)]
 pub enum Asked {
-    /// A command of these words, of which there is one at least.
+    /// A command of these words, the name first.
     Command(Words),
     /// Nothing: an empty array or a null, which is passed over.
     Nothing,
-    /// It is no command.
+    /// Any other value: it is no command.
     NoCommand,
 }
 
 ghost use Rattle.resp_session.specs.Asked.{meaning_in, IfCommand};
 
-/// What a value asks: a command where it is an array of bulk strings alone and of one at least.
-/// Takes no memory.
+/// What a value asks: a command where it is an array of bulk strings alone and of one at least
+/// (Redis serialization protocol specification, "Sending commands to a Redis server"), nothing
+/// where it is an empty array or a null, and else no command. Takes no memory.
 pub fn asked_by(value: Value) -> Asked
     ensures meaning { meaning_in result ≡ meaning_of (datum_of value) }
     ensures has_name { IfCommand result (λ words. 0 < length words) }
@@ -105,7 +106,7 @@ impl Words {
         self.members.len()
     }
 
-    /// The word at this index, lent.
+    /// The word at this index, from 0 and less than [`Words::len`], lent.
     pub fn word(&self, index: usize) -> &[u8]
         requires { index < length self.now }
         ensures { result.now ≡ slice_index_or self.now index [] }
@@ -116,7 +117,7 @@ impl Words {
         }
     }
 
-    /// Takes the last word away, where there is one. Takes no memory.
+    /// Takes the last word away and gives it, where there is one. Takes no memory.
     pub fn pop(&mut self) -> Option<Content>
         ensures last { IfSome result (λ content.
             self.old ≡ self.new ++ content_bytes content ∷ []) }

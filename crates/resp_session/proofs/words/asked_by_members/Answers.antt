@@ -6,4 +6,5 @@ use Rattle.resp_session.proofs.BulkMembers.{contents_of_bulks}
 use Rattle.resp_session.proofs.words.asked_by_members.Goals as goal
 
 pub returns-then-are_bulks-clause-meaning : goal.returns-then-are_bulks-clause-meaning
-returns-then-are_bulks-clause-meaning c = sym (ap array_meaning (contents_of_bulks c.args.members.items (subst (AllByRecursion IsBulk) c.as_slice.ensures.value c.if-are_bulks.ensures)))
+returns-then-are_bulks-clause-meaning c = sym (ap array_meaning
+    (contents_of_bulks c.args.members.items (subst (AllByRecursion IsBulk) c.as_slice.ensures.value c.if-are_bulks.ensures)))
