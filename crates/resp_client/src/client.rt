@@ -10,8 +10,9 @@ use resp_value::version::Version;
 use std::alloc::Global;
 use std::collections::VecDeque;
 
-/// One end of a connection: it queues commands, each with a number, and gives each reply the number
-/// of its command. Numbers are 1, 2, 3 and on.
+/// One end of a connection: it queues commands (Redis serialization protocol specification,
+/// "Sending commands to a Redis server"), each with a number, and gives each reply the number of
+/// its command. Numbers are 1, 2, 3 and on.
 ///
 /// It begins in version 2, and takes the version that a HELLO asks when its reply comes and is no
 /// error.
@@ -34,7 +35,8 @@ impl Client {
     ghost use Rattle.resp_client.specs.Clients.{new_state, state_of, without_front};
     ghost use Rattle.resp_client.specs.Hearing.{HasTaken, KeepsReading};
 
-    /// A client in version 2, with nothing queued, within these limits. Takes no memory.
+    /// A client in version 2, with nothing queued, which sends and reads within these limits. Takes
+    /// no memory.
     pub fn new(alloc: Global, limits: &Limits) -> Client
         ensures nothing_sent { state_of result ≡ new_state limits.now }
         ensures nothing_taken { HasTaken result [] }
@@ -57,7 +59,8 @@ impl Client {
         self.out.as_slice()
     }
 
-    /// Drops so many bytes from the front of [`Client::out`], which were sent. Copies nothing.
+    /// Drops so many bytes, no more than it has, from the front of [`Client::out`]: those that were
+    /// sent. Copies nothing.
     pub fn sent(&mut self, count: usize)
         requires { count ≤ length (state_of self.old).out }
         ensures dropped { state_of self.new ≡ without_front count (state_of self.old) }
@@ -66,14 +69,15 @@ impl Client {
         self.out.advance(count);
     }
 
-    /// How many commands have no reply.
+    /// How many of the commands that were queued have no reply.
     pub fn waiting(&self) -> u64
         ensures { result ≡ length (state_of self.now).waiting.asks }
     {
         self.asks.len() as u64
     }
 
-    /// The version that the replies have made it.
+    /// Its version: 2 until the reply to a HELLO with a version comes and is no error, and then
+    /// that one.
     pub fn version(&self) -> Version
         ensures { result ≡ (state_of self.now).waiting.version }
     {

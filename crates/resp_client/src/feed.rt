@@ -42,7 +42,7 @@ fn is_refusal(value: &Value) -> bool
 impl Client {
     /// Takes bytes of the piece until a reply or a push is whole or the piece ends. A value is read
     /// in the greater of the client's version and the one that the first waiting command asks, and
-    /// that is fixed at its first byte.
+    /// that is fixed at its first byte. A reply answers the first waiting command, and a push none.
     ///
     /// Refuses by Unasked the first byte of a value that is no push while no command waits, each
     /// other byte as the decoder does, and by OutOfMemory where no memory is found for what came.
@@ -82,7 +82,8 @@ impl Client {
 
     /// As [`Client::feed`], but a push is shown to the sink, and then [`What::Shown`] is answered.
     ///
-    /// Refuses also by OutOfMemory where the sink does, and then it was shown nothing.
+    /// Refuses as that does, and by OutOfMemory where the sink does, whose push is lost. Then the
+    /// sink was shown nothing.
     pub fn feed_with(&mut self, piece: &[u8], sink: &mut Box<dyn PushSink>) -> Result<Heard, Fault>
         ensures heard { WhereTaken self.old (λ front. IfOk result (λ heard.
             HearsAndShows self.old self.new (pushes sink.old) (pushes sink.new) front piece.now

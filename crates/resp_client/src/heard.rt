@@ -16,15 +16,15 @@ pub struct Heard {
 pub enum What {
     /// The reply to a command.
     Reply {
-        /// The number of the command.
+        /// The number of the command, from 1.
         number: u64,
         /// The reply.
         value: Value,
     },
-    /// A push, which answers no command.
+    /// The members of a push, which answers no command.
     Push(Members),
-    /// A push that was shown to the sink.
+    /// A push, which was shown to the sink of [`crate::Client::feed_with`].
     Shown,
-    /// Nothing: more bytes have to come.
+    /// Nothing: the piece is used up, and more bytes have to come.
     More,
 }

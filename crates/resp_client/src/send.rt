@@ -59,7 +59,8 @@ impl Client {
 
     /// Queues the text of a command, and answers the number that its reply will have.
     ///
-    /// Refuses as [`SendError`] says, and then queues nothing.
+    /// Refuses by the first of BadCommand, TooLarge and TooMany that there is, and else for want of
+    /// memory, as [`SendError`] says. Then nothing is changed.
     pub fn send(&mut self, command: &Command) -> Result<u64, SendError>
         ensures answer { AnswersRequest (state_of self.old) (request.Command (words_of command.now))
             result }
@@ -89,7 +90,8 @@ impl Client {
     /// Queues HELLO with the version that is asked, if one is, and answers the number that its
     /// reply will have. With the reply the client takes that version, unless it is an error.
     ///
-    /// Refuses by TooMany and by OutOfMemory, and then queues nothing.
+    /// Refuses by TooMany where as many commands were queued as can be, and else for want of
+    /// memory. Then nothing is changed.
     pub fn hello(&mut self, asked: Option<Version>) -> Result<u64, SendError>
         ensures answer { AnswersRequest (state_of self.old) (Hello asked) result }
         ensures queued { OnOk result (state_of self.new ≡

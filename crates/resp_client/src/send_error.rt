@@ -9,7 +9,7 @@ pub enum SendError {
     /// MONITOR, SYNC, PSYNC, RESET and CLIENT REPLY, in any ASCII case.
     #[error("the client doesn't send this command")]
     BadCommand,
-    /// Its text is over the client's limit of length, items or total.
+    /// It is over the client's limit of length, items or total.
     #[error("the command is over a limit")]
     TooLarge,
     /// 9,223,372,036,854,775,808 commands were queued.

@@ -1,4 +1,4 @@
-//! The decoder.
+//! The decoder, which reads values from pieces of any size.
 
 ghost use Rattle.std.specs.Prelude.{◌≡◌, ◌⊎◌, ◌↔◌, ◌≤◌, ◌++◌, ℕ, length, take, [], Err, IsOk, OnOk, OnErr, IfOk, IfErr};
 ghost use Rattle.resp_scan.specs.Listening.{fault_of};

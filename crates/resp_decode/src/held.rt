@@ -114,6 +114,7 @@ impl Held {
         self.put(value).is_ok()
     }
 
+    /// Begins a text of this kind, without content. Takes no memory.
     #[inline]
     fn begin_text(&mut self, kind: TextKind)
         ensures { TakesInWhereFit self.old self.new (e.Text (text_kind_of kind) ∷ []) true }
@@ -122,6 +123,7 @@ impl Held {
         self.text = Some(Text::new(self.alloc, kind));
     }
 
+    /// Adds a part to the text that is being read. False where none is, or there is no memory.
     #[inline]
     fn extend_text(&mut self, part: &[u8]) -> bool
         ensures { TakesInWhereFit self.old self.new (content_events part.now) result }
@@ -133,6 +135,8 @@ impl Held {
         }
     }
 
+    /// Ends the text and puts its value where it belongs. False where no text is being read, where
+    /// its content isn't of its kind, and where there is no memory.
     #[inline]
     fn end_text(&mut self) -> bool
         ensures { TakesInWhereFit self.old self.new (e.TextEnd ∷ []) result }
@@ -147,6 +151,7 @@ impl Held {
         }
     }
 
+    /// Opens an aggregate, with room for its first members. False where there is no memory.
     #[inline]
     fn open_group(&mut self, kind: OpenKind, count: Option<u64>) -> bool
         ensures { TakesInWhereFit self.old self.new (e.Open (kind_of kind) count ∷ []) result }
@@ -158,6 +163,8 @@ impl Held {
         }
     }
 
+    /// Closes the innermost aggregate and puts its value where it belongs. False where none is
+    /// open, where an attribute annotates nothing, and where there is no memory.
     #[inline]
     fn close_group(&mut self) -> bool
         ensures { TakesInWhereFit self.old self.new (e.Close ∷ []) result }

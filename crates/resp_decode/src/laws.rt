@@ -1,4 +1,5 @@
-//! Laws of the events of values, each the contract of a function with an empty body.
+//! Laws of the events of values, each the contract of a function whose body is empty or calls other
+//! laws.
 
 ghost use Rattle.resp_decode.specs.Laws.{ASpellingIsReadAsItsValue, ASpellingIsRefusedForMemoryAlone, EqualEventsGiveEqualValues, EventsAreTheSameElsewhere, WhatIsBuiltIsNoHeavier};
 

@@ -18,6 +18,7 @@ pub(crate) fn digit_count(number: u64) -> u64
     count + short_digit_count(rest)
 }
 
+/// The same for a number below ten thousand.
 #[inline]
 fn short_digit_count(number: u64) -> u64
     requires { number ≤ 9999 }

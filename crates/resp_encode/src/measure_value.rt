@@ -17,6 +17,7 @@ use resp_value::kind::OpenKind;
 use resp_value::value::Value;
 use resp_value::version::Version;
 
+/// The measure of Null, whose text hangs on the version.
 #[inline]
 pub(crate) fn measure_null(version: Version) -> Measure
     ensures { Describes version (scalar d.Null) result }
@@ -27,6 +28,7 @@ pub(crate) fn measure_null(version: Version) -> Measure
     }
 }
 
+/// The measure of a truth value, which version 2 hasn't.
 #[inline]
 pub(crate) fn measure_bool(truth: bool) -> Measure
     ensures { (version : Version) → Describes version (scalar (d.Bool truth)) result }
@@ -34,6 +36,7 @@ pub(crate) fn measure_bool(truth: bool) -> Measure
     Measure::scalar(false, 0, 4)
 }
 
+/// The measure of an integer, whose digits don't count for length.
 #[inline]
 pub(crate) fn measure_int(number: &i64) -> Measure
     ensures found { (version : Version) → Describes version (scalar (d.Int number.now)) result }
@@ -64,6 +67,7 @@ pub(crate) fn string_size(counted: u64) -> u64
     head_size(counted) + counted + 2
 }
 
+/// The measure of a bulk string of these bytes.
 #[inline]
 pub(crate) fn measure_bulk(bytes: &[u8]) -> Measure
     ensures found { (version : Version) → Describes version (scalar (d.Bulk bytes.now)) result }
@@ -73,6 +77,7 @@ pub(crate) fn measure_bulk(bytes: &[u8]) -> Measure
     Measure::scalar(true, counted, string_size(counted))
 }
 
+/// The measure of a bulk error of these bytes, which version 2 hasn't.
 #[inline]
 pub(crate) fn measure_bulk_error(bytes: &[u8]) -> Measure
     ensures found { (version : Version) →
@@ -94,6 +99,7 @@ pub(crate) fn measure_verbatim(format: &[u8; 3], text: &[u8]) -> Measure
     Measure::scalar(false, counted, string_size(counted))
 }
 
+/// The measure of a big number, whose digits count for length and whose sign doesn't.
 #[inline]
 pub(crate) fn measure_big(negative: bool, digits: &[u8]) -> Measure
     ensures { (version : Version) → Describes version (scalar (d.Big negative digits.now)) result }
@@ -146,6 +152,7 @@ fn measure_map(pairs: &[(Value, Value)], version: Version) -> Measure
     measure_pairs(pairs, version).inside(OpenKind::Map, pairs.len() as u64)
 }
 
+/// The measure of the value that an attribute annotates.
 #[cycle(measure)]
 #[inline(never)]
 fn measure_annotated(value: &Value, version: Version) -> Measure

@@ -33,6 +33,7 @@ impl Machine {
         self.at_boundary(used, EventTag::Open)
     }
 
+    /// Keeps the frame of one more open aggregate, the innermost, for which there is room.
     #[inline]
     fn push(&mut self, frame: Frame)
         requires { length self.old.frames.items < 128 }
@@ -61,6 +62,7 @@ impl Machine {
         self.open_lf(piece, i + 1, kind)
     }
 
+    /// The LF of a streamed aggregate's head, behind which the aggregate is open.
     #[inline]
     pub fn open_lf(&mut self, piece: &[u8], i: usize, kind: OpenKind) -> Taken
         requires within { i ≤ length piece.now }
@@ -119,6 +121,7 @@ impl Machine {
         self.close_cr(piece, 1)
     }
 
+    /// Behind the `.` that closes a streamed aggregate, where only CR follows.
     #[inline]
     pub fn close_cr(&mut self, piece: &[u8], i: usize) -> Taken
         requires { i ≤ length piece.now }
@@ -134,6 +137,7 @@ impl Machine {
         self.close_lf(piece, i + 1)
     }
 
+    /// The LF of a streamed aggregate's close: the innermost aggregate has ended.
     #[inline]
     pub fn close_lf(&mut self, piece: &[u8], i: usize) -> Taken
         requires { i ≤ length piece.now }

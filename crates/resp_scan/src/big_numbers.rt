@@ -35,6 +35,7 @@ impl Machine {
         }
     }
 
+    /// Behind `(` or a sign: the first digit, without which there is no big number.
     #[inline]
     pub fn big_first(&mut self, piece: &[u8], i: usize, negative: bool) -> Taken
         requires { i ≤ length piece.now }

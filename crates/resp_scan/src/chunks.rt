@@ -27,6 +27,7 @@ impl Machine {
         self.stream_lf(piece, i + 1)
     }
 
+    /// The LF of the head `$?`: the text begins, and length is the room for all of its chunks.
     #[inline]
     pub fn stream_lf(&mut self, piece: &[u8], i: usize) -> Taken
         requires { i ≤ length piece.now }
@@ -79,6 +80,7 @@ impl Machine {
         self.chunk_content(piece, i)
     }
 
+    /// A chunk's content, of which `count` bytes are still to come.
     #[inline]
     pub fn chunk_content(&mut self, piece: &[u8], i: usize) -> Taken
         requires within { i ≤ length piece.now }
@@ -110,6 +112,7 @@ impl Machine {
         };
     }
 
+    /// Behind a chunk's content, where only CR follows.
     #[inline]
     pub fn chunk_cr(&mut self, piece: &[u8]) -> Taken
         ensures { out_of result self.new ≡
@@ -124,6 +127,7 @@ impl Machine {
         self.chunk_lf(piece, 1)
     }
 
+    /// The LF behind a chunk's content, after which the next chunk begins.
     #[inline]
     pub fn chunk_lf(&mut self, piece: &[u8], i: usize) -> Taken
         requires { i ≤ length piece.now }

@@ -41,6 +41,7 @@ impl Machine {
         self.content_begins(run as usize, self.count - run, EventTag::Part)
     }
 
+    /// Behind counted content, where only CR follows.
     #[inline]
     pub fn content_cr(&mut self, piece: &[u8]) -> Taken
         ensures { out_of result self.new ≡ scan 0 (at (place_of self.old) AtContentCr) piece.now }
@@ -54,6 +55,7 @@ impl Machine {
         self.content_lf(piece, 1)
     }
 
+    /// The LF behind counted content: the text has ended.
     #[inline]
     pub fn content_lf(&mut self, piece: &[u8], i: usize) -> Taken
         requires { i ≤ length piece.now }
@@ -84,6 +86,7 @@ impl Machine {
         self.format_second(piece, i + 1, piece[i])
     }
 
+    /// The second byte of a verbatim string's format, behind this first one.
     #[inline]
     pub fn format_second(&mut self, piece: &[u8], i: usize, first: u8) -> Taken
         requires within { i ≤ length piece.now }
@@ -99,6 +102,7 @@ impl Machine {
         self.format_third(piece, i + 1, first, piece[i])
     }
 
+    /// The third byte of a verbatim string's format, behind these two.
     #[inline]
     pub fn format_third(&mut self, piece: &[u8], i: usize, first: u8, second: u8) -> Taken
         requires within { i ≤ length piece.now }
@@ -114,6 +118,7 @@ impl Machine {
         self.format_colon(piece, i + 1, [first, second, piece[i]])
     }
 
+    /// The `:` behind this format. The text begins, of four bytes fewer than the head counts.
     #[inline]
     pub fn format_colon(&mut self, piece: &[u8], i: usize, format: [u8; 3]) -> Taken
         requires within { i ≤ length piece.now }

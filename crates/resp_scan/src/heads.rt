@@ -270,6 +270,7 @@ impl Machine {
         self.over_total(used, needed_behind(head, number))
     }
 
+    /// The LF of a head with this number, behind which a string, a chunk or an aggregate begins.
     #[inline(always)]
     pub fn head_lf(&mut self, piece: &[u8], i: usize, head: Head, number: u64) -> Taken
         requires within { i ≤ length piece.now }

@@ -1,4 +1,4 @@
-//! Integers.
+//! Integers: digits behind a sign or none, of which 64 bits hold the number.
 
 ghost use Rattle.std.specs.Prelude.{◌≡◌, ◌≤◌, ◌<◌, length, drop};
 ghost use Rattle.resp_scan.specs.Machine.Magnitudes.{greatest_magnitude};
@@ -42,6 +42,7 @@ impl Machine {
         self.int_first(piece, i, negative)
     }
 
+    /// Behind `:` or a sign: the first digit, without which there is no integer.
     #[inline(always)]
     pub fn int_first(&mut self, piece: &[u8], i: usize, negative: bool) -> Taken
         requires { i ≤ length piece.now }
@@ -119,6 +120,7 @@ impl Machine {
         self.rest(State::Int, piece)
     }
 
+    /// The LF of an integer of this sign and magnitude, at which it is given.
     #[inline]
     pub fn int_lf(&mut self, piece: &[u8], i: usize, negative: bool, magnitude: u64) -> Taken
         requires within { i ≤ length piece.now }
@@ -139,6 +141,7 @@ impl Machine {
     }
 }
 
+/// The integer of this sign and magnitude. The magnitude of the least one is no `i64`.
 #[inline]
 fn with_sign(negative: bool, magnitude: u64) -> i64
     requires { magnitude ≤ greatest_magnitude negative }

@@ -1,4 +1,4 @@
-//! Laws over the grammar's definitions, each the contract of a function with an empty body.
+//! A law over the grammar's definitions, the contract of a function with an empty body.
 
 ghost use Rattle.resp_scan.specs.Laws.{EveryTextIsJudged};
 

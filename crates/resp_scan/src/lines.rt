@@ -74,6 +74,7 @@ pub fn line_run(s: &[u8]) -> usize
     far_run(s)
 }
 
+/// The same by vectors alone: a CR is sought first, and then an LF before it.
 #[inline(never)]
 fn far_run(s: &[u8]) -> usize
     ensures run { result ≡ plain_run s.now }
@@ -83,6 +84,7 @@ fn far_run(s: &[u8]) -> usize
     run_to(b'\n', &s[..cr])
 }
 
+/// How many bytes stand before the first that is this one; all of them where none is.
 #[inline]
 fn run_to(byte: u8, s: &[u8]) -> usize
     ensures value { result ≡ run_to byte s.now }

@@ -26,6 +26,7 @@ impl Machine {
         self.null_cr(piece, i + 1)
     }
 
+    /// Behind `_`, `$-1` or `*-1`, where only CR follows.
     #[inline]
     pub fn null_cr(&mut self, piece: &[u8], i: usize) -> Taken
         requires { i ≤ length piece.now }
@@ -41,6 +42,7 @@ impl Machine {
         self.null_lf(piece, i + 1)
     }
 
+    /// The LF of a null, at which it is given.
     #[inline]
     pub fn null_lf(&mut self, piece: &[u8], i: usize) -> Taken
         requires { i ≤ length piece.now }
@@ -73,6 +75,7 @@ impl Machine {
         }
     }
 
+    /// Behind `#t` or `#f`, where only CR follows.
     #[inline]
     pub fn bool_cr(&mut self, piece: &[u8], i: usize, truth: bool) -> Taken
         requires { i ≤ length piece.now }
@@ -89,6 +92,7 @@ impl Machine {
         self.bool_lf(piece, i + 1, truth)
     }
 
+    /// The LF of a truth value, at which it is given.
     #[inline]
     pub fn bool_lf(&mut self, piece: &[u8], i: usize, truth: bool) -> Taken
         requires { i ≤ length piece.now }

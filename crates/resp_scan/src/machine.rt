@@ -169,6 +169,7 @@ impl Machine {
         }
     }
 
+    /// So many bytes of the piece are taken, and this event stands behind them.
     #[inline]
     pub fn gives(&self, used: usize, tag: EventTag) -> Taken
         ensures { result ≡ record { used = used; tag = tag } }
@@ -176,6 +177,7 @@ impl Machine {
         Taken { used, tag }
     }
 
+    /// The byte behind so many is refused for this cause, and so is every later one.
     #[cold]
     #[inline(never)]
     pub fn fail(&mut self, used: usize, cause: Cause) -> Taken

@@ -1,4 +1,4 @@
-//! The scanner.
+//! The scanner, which reads values from pieces of any size and gives their events.
 
 ghost use Rattle.resp_value.specs.Bounds.{AreBounds};
 ghost use Rattle.std.specs.Prelude.{◌≡◌, ◌↔◌, ◌≤◌, ◌+◌, ◌++◌, ℕ, length, take, [], false, None, Some, Err, IsOk, OnOk, OnErr, IfOk, IfErr};
@@ -14,7 +14,8 @@ use resp_value::limits::Limits;
 use resp_value::version::Version;
 use std::marker::Model;
 
-/// Reads values one after another, in pieces of any size.
+/// Reads values one after another, in pieces of any size (Redis serialization protocol
+/// specification, "RESP protocol description"; RESP3 specification for streamed forms).
 ///
 /// No call takes memory.
 #[derive(Drop)]
@@ -85,7 +86,7 @@ impl Scanner {
     ///
     /// Refuses the first byte after which nothing can follow, by the first cause that holds in this
     /// order: Syntax, Double, Version, NestedPush, Range, Streamed, Depth, Length, Items, Total.
-    /// Every later step answers the same.
+    /// Every later step answers the same. Behind a listener's stop it refuses as [`Scanner::scan`].
     #[inline(always)]
     pub fn step<'a>(&mut self, piece: &'a [u8]) -> Result<Step<'a>, Fault>
         // The piece is used up, no value has ended in it, and all events that are due were given.
@@ -123,7 +124,8 @@ impl Scanner {
     /// [`Scanner::step`] would give, and a text that lies whole in the piece by one call.
     ///
     /// Refuses the first byte after which nothing can follow, as [`Scanner::step`] does. Where the
-    /// listener stops, no byte is read any more: every later call answers OutOfMemory.
+    /// listener stops, no byte is read any more: every later call answers OutOfMemory, at the
+    /// number of bytes of the value that were taken.
     #[inline(always)]
     pub fn scan<L: Listener>(
         &mut self,
@@ -162,7 +164,7 @@ impl Scanner {
     }
 
     /// The end of the input. Refuses it by Truncated inside a value, with the number of its bytes
-    /// that were taken, and by the fault of a step where one was refused.
+    /// that were taken, and by the fault that stands behind a refused byte or a listener's stop.
     pub fn finish(&self) -> Result<(), Fault>
         ensures may_end { WhereRead self.now (λ front given.
             IsOk result ↔ MayEnd (rules_of self.now) front) }
@@ -263,8 +265,9 @@ impl Scanner {
         self.machine.taken
     }
 
-    /// The least number of bytes that complete the value: 3 between values, and 0 where only its
-    /// Done is owed.
+    /// The least number of bytes that complete the value, whatever the limit of total: 3 between
+    /// values, and 0 where all its bytes have come and only events are owed. It says nothing after
+    /// a fault.
     pub fn needed(&self) -> u64
         ensures least_completion { WhereRead self.now (λ front given.
             IsLeast (rules_of self.now) front result) }

@@ -19,6 +19,8 @@ impl Machine {
     ghost use Rattle.resp_scan.specs.Machine.Tokens.{at, Text, AtStart, AtHead};
     ghost use Rattle.resp_scan.specs.declared.event.TextKind.TheVariants as text;
 
+    /// A value's first byte, or the `.` that closes a streamed aggregate. Refuses a double, and in
+    /// version 2 what version 3 alone has.
     #[inline]
     #[tactic(auto, using(crate::proofs::Soundness::Starts::first_byte))]
     pub fn start(&mut self, piece: &[u8]) -> Taken
@@ -58,6 +60,7 @@ impl Machine {
         }
     }
 
+    /// A simple string or an error begins, unless items or total refuse it.
     #[inline]
     #[tactic(auto, using(crate::proofs::Soundness::Starts::lines))]
     fn line_begins(&mut self, tag: EventTag) -> Taken

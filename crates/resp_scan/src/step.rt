@@ -8,6 +8,7 @@ use crate::frame::Shape;
 use crate::machine::{EventTag, Machine, State, Taken};
 use resp_value::cause::Cause;
 
+/// The ten digits. The first one of a big number is lent from here, since its piece may be gone.
 static DIGITS: [u8; 10] = *b"0123456789";
 
 impl Machine {
@@ -150,6 +151,7 @@ impl Machine {
         Ok(Step { used, event })
     }
 
+    /// Takes bytes of the piece until an event is there or the piece ends, or refuses one for good.
     #[inline(always)]
     #[tactic(auto, using(crate::proofs::Soundness::Places::hot_tokens))]
     pub fn step<'a>(&mut self, piece: &'a [u8]) -> Result<Step<'a>, Fault>

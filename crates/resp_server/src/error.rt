@@ -35,7 +35,7 @@ pub enum PushError {
     /// A push stands among the items.
     #[error("a push stands below the top")]
     NestedPush,
-    /// The push is over this limit, and none that is tested before it.
+    /// The push is over this limit, and over none that is tested before it.
     #[error("the push is over a limit")]
     OverLimits(Limit),
     /// A growth was refused.

@@ -29,12 +29,13 @@ use std::marker::Model;
 /// What a piece did.
 #[derive(Clone, Copy, Debug, PartialEq, Eq)]
 pub struct Handled {
-    /// How many commands were run.
+    /// How many commands were run, those that an error answers among them.
     pub commands: u64,
 }
 
-/// Sessions over one store. Each reads the commands of one client, and what it replies waits until
-/// it is sent. `S` makes the hashes of the store's keys.
+/// Sessions over one store. Each reads the commands of one client in version 2 (Redis serialization
+/// protocol specification, "Sending commands to a Redis server"), answers in the version that HELLO
+/// last set, and what it replies waits until it is sent. `S` makes the hashes of the store's keys.
 #[derive(Drop)]
 pub struct Hub<S: BuildHasher> {
     limits: Limits,
@@ -67,7 +68,8 @@ impl<S: BuildHasher> Hub<S> {
     ghost use Rattle.resp_server.specs.Hubs.{HubState, Seat, seat_at, seated, without_seat};
     ghost use Rattle.resp_server.specs.Hubs.{IsOpened, IsFull};
 
-    /// A hub without a session, over an empty store. Takes no memory.
+    /// A hub without a session, over an empty store, whose sessions read and write within these
+    /// limits. Takes no memory.
     pub fn new(alloc: Global, limits: Limits, hasher: S) -> Hub<S>
         ensures { result ≡ record { limits = limits; sessions = []; store = []; last = 0 } }
     {
@@ -80,7 +82,7 @@ impl<S: BuildHasher> Hub<S> {
         }
     }
 
-    /// The value of a key.
+    /// The value of a key, lent; none where the store doesn't have the key.
     pub fn get(&self, key: &[u8]) -> Option<&[u8]>
         ensures { option_map (λ value. value.now) result ≡ value_at self.now.store key.now }
     {
@@ -98,7 +100,8 @@ impl<S: BuildHasher> Hub<S> {
         self.store.entries()
     }
 
-    /// What waits to be sent to a session's client.
+    /// What waits to be sent to a session's client, lent. Refuses exactly where no session has this
+    /// id.
     pub fn out(&self, id: u64) -> Result<&[u8], NoSession>
         ensures waiting { IfOk result (λ text.
             option_map (λ (s : Seat). s.out) (seat_at self.now id) ≡ Some text.now) }
@@ -110,7 +113,8 @@ impl<S: BuildHasher> Hub<S> {
         }
     }
 
-    /// Drops what was sent of it: so many bytes from the front.
+    /// Drops so many bytes, no more than wait, from the front of what waits in a session: those
+    /// that were sent. Refuses exactly where no session has this id, and then nothing is changed.
     pub fn sent(&mut self, id: u64, count: usize) -> Result<(), NoSession>
         requires { IfSome (seat_at self.old id) (λ (s : Seat). count ≤ length s.out) }
         ensures dropped { OnOk result (IfSome (seat_at self.old id) (λ (s : Seat).
@@ -127,7 +131,7 @@ impl<S: BuildHasher> Hub<S> {
     }
 
     /// Whether a session takes no more commands and pushes, behind a protocol error or for want of
-    /// memory.
+    /// memory. Refuses exactly where no session has this id.
     pub fn is_closing(&self, id: u64) -> Result<bool, NoSession>
         ensures closing { IfOk result (λ closing.
             option_map (λ (s : Seat). s.closing) (seat_at self.now id) ≡ Some closing) }
@@ -146,7 +150,8 @@ impl<S: BuildHasher> Hub<S> {
         Ok(session.closing)
     }
 
-    /// The version in which a session answers.
+    /// The version in which a session answers: 2 until a HELLO sets another. Refuses exactly where
+    /// no session has this id.
     pub fn version(&self, id: u64) -> Result<Version, NoSession>
         ensures version { IfOk result (λ version.
             option_map (λ (s : Seat). s.version) (seat_at self.now id) ≡ Some version) }
@@ -160,6 +165,9 @@ impl<S: BuildHasher> Hub<S> {
 
     /// Opens a session, which answers in version 2 first. The ids are 1, 2, 3 and so on, and none
     /// is given twice.
+    ///
+    /// Refuses by TooManySessions exactly where 65,536 are open or 9,223,372,036,854,775,807 ids
+    /// were given, and else for want of memory. Then nothing is changed.
     pub fn open(&mut self) -> Result<u64, OpenError>
         ensures opened { IfOk result (IsOpened self.old self.new) }
         ensures too_many { IsErrOf result OpenError.TooManySessions ↔ IsFull self.old }
@@ -177,7 +185,8 @@ impl<S: BuildHasher> Hub<S> {
         Ok(id)
     }
 
-    /// Takes a session away, with what waits to be sent.
+    /// Takes a session away, with what waits to be sent. Refuses exactly where no session has this
+    /// id, and then nothing is changed.
     pub fn close(&mut self, id: u64) -> Result<(), NoSession>
         ensures closed { OnOk result (self.new ≡
             record self.old { sessions = without_seat self.old.sessions id }) }
@@ -192,8 +201,13 @@ impl<S: BuildHasher> Hub<S> {
     }
 
     /// Takes a piece of what a session's client sends: runs all commands that came whole with it,
-    /// in order, and queues their replies. Pieces may be cut anywhere. A protocol error queues a
-    /// line that names it and closes the session, which then takes pieces and runs nothing.
+    /// in order, and queues their replies. Pieces may be cut anywhere. A byte that is refused, or a
+    /// value that is no command, queues an error that names it and closes the session, which then
+    /// takes pieces and runs nothing. Nulls and empty arrays are passed over.
+    ///
+    /// Refuses by NoSession exactly where no session has this id, and then nothing is changed; and
+    /// for want of memory: the commands run before stand with their replies, nothing of what comes
+    /// behind was done, and the session is closing.
     pub fn bytes(&mut self, id: u64, piece: &[u8]) -> Result<Handled, HubError>
         // What is queued, and the store, version and closing, are those of the answers to the bytes
         // taken before of a value and the piece.
@@ -230,7 +244,11 @@ impl<S: BuildHasher> Hub<S> {
         Ok(Handled { commands })
     }
 
-    /// Queues a push of these items behind what waits.
+    /// Queues a push of these items behind what waits, in version 3 (Redis serialization protocol
+    /// specification, "Pushes").
+    ///
+    /// Refuses by the first of NoSession, Closing, NotInVersion, NestedPush and OverLimits that
+    /// there is, and else for want of memory, as [`PushError`] says. Then nothing is changed.
     pub fn push(&mut self, id: u64, items: &[Value]) -> Result<(), PushError>
         ensures queued { OnOk result (IfSome (seat_at self.old id) (λ (s : Seat).
             self.new ≡ seated self.old id

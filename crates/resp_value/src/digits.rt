@@ -28,12 +28,14 @@ pub enum DigitsError {
     OutOfMemory,
 }
 
+/// Whether the text is one or more decimal digits.
 fn are_digits(text: &[u8]) -> bool
     ensures { IsTrue result ↔ ((0 < length text.now) × All IsDigit text.now) }
 {
     !text.is_empty() && text.iter().all(|byte| byte.is_ascii_digit())
 }
 
+/// The digits without leading zeros, and a lone `0` of zeros alone.
 fn kept_part(digits: &[u8]) -> &[u8]
     requires { IsDigits digits.now }
     ensures { result.now ≡ kept_digits digits.now }
@@ -45,12 +47,14 @@ fn kept_part(digits: &[u8]) -> &[u8]
     rest
 }
 
+/// Whether the text begins with a `-`.
 fn begins_with_minus(text: &[u8]) -> bool
     ensures { result ≡ is_minus (sign_at text.now) }
 {
     !text.is_empty() && text[0] == b'-'
 }
 
+/// The text behind its sign, or the whole text where it begins with neither `-` nor `+`.
 fn unsigned_part(text: &[u8]) -> &[u8]
     ensures { result.now ≡ unsigned_part text.now }
 {
@@ -89,7 +93,7 @@ impl Digits {
         }
     }
 
-    /// These digits behind this sign, in the memory that they have.
+    /// These digits behind this sign, in the memory that they have. Takes none.
     ///
     /// Refuses exactly where a big number doesn't keep them so: other bytes than digits or none, a
     /// leading zero, and a negative `0`.

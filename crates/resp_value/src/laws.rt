@@ -28,12 +28,12 @@ pub fn a_push_begins_with_its_byte()
     ensures { APushBeginsWithItsByte }
 {}
 
-/// A text is cut into values and a rest in one way.
+/// A text is cut in one way at most, into values and a rest that begins with no spelling.
 pub fn a_text_has_one_cut()
     ensures { ATextHasOneCut }
 {}
 
-/// A rest has one fault: one rule and one place.
+/// A rest has one fault at most: one rule and one place.
 pub fn a_rest_has_one_fault()
     ensures { ARestHasOneFault }
 {}
@@ -115,7 +115,7 @@ pub fn a_comma_begins_a_double()
     ensures { ACommaBeginsADouble }
 {}
 
-/// No tree begins with another byte.
+/// No tree begins with a byte that is neither `,` nor a type byte of version 3.
 pub fn no_other_byte_begins_a_tree()
     ensures { NoOtherByteBeginsATree }
 {}

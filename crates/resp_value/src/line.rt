@@ -24,6 +24,7 @@ pub struct BadLine {
     pub bytes: Vec<u8>,
 }
 
+/// Whether none of the bytes is CR or LF.
 fn is_line(bytes: &[u8]) -> bool
     ensures { IsTrue result ↔ All IsPlain bytes.now }
 {

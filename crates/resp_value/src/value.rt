@@ -141,6 +141,7 @@ impl Value {
     }
 }
 
+/// Equal members in memory of their own. Refuses only where there is none.
 #[cycle(copy)]
 fn copy_members(members: &Members, alloc: Global) -> Result<Members, AllocError>
     ensures { IfOk result (λ copy. map datum_of (list_of copy) ≡
@@ -153,6 +154,7 @@ fn copy_members(members: &Members, alloc: Global) -> Result<Members, AllocError>
     Ok(Members::new(items))
 }
 
+/// Equal pairs in memory of their own. Refuses only where there is none.
 #[cycle(copy)]
 fn copy_pairs(pairs: &PairList, alloc: Global) -> Result<PairList, AllocError>
     ensures { IfOk result (λ copy. map pair_data (pairs_of copy) ≡

@@ -1,4 +1,4 @@
--- What a caller reads of the engines.
+-- What a caller reads of both ends, of links and of worlds.
 pub mod Hearing
 pub mod Turns
 pub mod Requests

@@ -1,4 +1,4 @@
--- What an engine's reads and writes come to.
+-- What the reads and writes of one end come to.
 use Rattle.std.specs.Prelude.{◌≡◌, ℕ, ◌+◌, ◌<◌, List, [], ◌++◌, Option, None, Some}
 use Rattle.resp_value.specs.Devices.{HasRisen, count_after}
 use Rattle.resp_wire.specs.declared.turns.Halt.{Halt}

@@ -20,12 +20,14 @@ use resp_session::laws;
 use resp_value::device::{Sink, Source};
 
 /// Queues the requests, writes all that waits, and reads until no command waits; the last piece
-/// that is read is heard whole. What is heard is added, whatever is answered.
+/// that is read is heard whole. What is heard is added, whatever is answered. Each read and each
+/// write is a turn, and no more than `turns` of them are taken.
 ///
-/// Each read and each write is a turn. A refused request is answered before anything is written,
-/// and those before it stay queued. Where a write fails, or no turn is left for one, the rest waits
-/// in the client. Behind want of memory bytes that were read may be lost, and the connection is
-/// to be given up.
+/// Refuses as [`AskError`] says. A refused request is answered before anything is written, and
+/// those before it stay queued. Where a write fails, or no turn is left for one, the rest waits in
+/// the client. Where a read fails, no turn is left for one, or the input ends, what came is heard,
+/// and the other commands wait. Behind want of memory bytes that were read may be lost, and the
+/// connection is to be given up.
 pub fn ask<R: Source, W: Sink>(
     reader: &mut R,
     writer: &mut W,

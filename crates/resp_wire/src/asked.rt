@@ -13,14 +13,14 @@ use std::alloc::{AllocError, Global};
 pub enum Request {
     /// HELLO with the version that it asks, if it asks one.
     Hello(Option<Version>),
-    /// Another command.
+    /// Another command. A HELLO among these is refused, as [`resp_client::SendError`] says.
     Command(Command),
 }
 
-/// What was heard, in order.
+/// What was heard, the replies in order and the pushes in order.
 #[derive(Debug, PartialEq, Eq, Drop)]
 pub struct Asked {
-    /// The replies, each with the number of its command.
+    /// The replies, each with the number of its command, from 1.
     pub replies: Vec<(u64, Value)>,
     /// The members of each push.
     pub pushes: Vec<Members>,

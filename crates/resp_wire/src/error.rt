@@ -1,4 +1,4 @@
-//! Why an engine stops.
+//! Why a client's end or a server's end stops.
 
 use resp_client::SendError;
 use resp_scan::event::Fault;
@@ -15,22 +15,25 @@ pub enum AskError {
         /// Why; never for want of memory.
         error: SendError,
     },
-    /// A byte of what came is refused, or was asked for by no request.
+    /// A byte of what came is refused, or was asked for by no command. What came before is heard,
+    /// and the client answers this fault from then on.
     #[error("what came is refused")]
     Fault(Fault),
-    /// A growth was refused.
+    /// A growth was refused: for a request, before anything was written, or for what came, of which
+    /// the first is heard.
     #[error("out of memory")]
     OutOfMemory,
-    /// A read failed.
+    /// A read failed. What came before is heard.
     #[error("the reader failed")]
     Read,
-    /// A write failed, or took no byte.
+    /// A write failed, or took no byte. What wasn't written waits, and nothing was read.
     #[error("the writer failed")]
     Write,
-    /// As many reads and writes were made as were allowed.
+    /// As many reads and writes were made as were allowed. What wasn't written waits, and what came
+    /// is heard.
     #[error("too many turns")]
     TooManyTurns,
-    /// The input ended while a request waited for its reply.
+    /// The input ended while a command waited for its reply. What came is heard.
     #[error("the input ended")]
     Ended,
 }
@@ -41,16 +44,17 @@ pub enum ServeError {
     /// No session has this id. Nothing was done.
     #[error("no session has this id")]
     NoSession,
-    /// A growth was refused. What was done before stands, and the session is closing.
+    /// A growth was refused. The commands run before stand, nothing of what comes behind was done,
+    /// and the session is closing.
     #[error("out of memory")]
     OutOfMemory,
     /// A read failed. All that was answered before is written.
     #[error("the reader failed")]
     Read,
-    /// A write failed, or took no byte.
+    /// A write failed, or took no byte. What wasn't written waits.
     #[error("the writer failed")]
     Write,
-    /// As many reads and writes were made as were allowed.
+    /// As many reads and writes were made as were allowed. What wasn't written waits.
     #[error("too many turns")]
     TooManyTurns,
 }

@@ -13,7 +13,7 @@ use thiserror::Error;
 /// What may happen, each to the client of this number, from 1.
 #[derive(Debug, PartialEq, Eq, Drop)]
 pub enum Event {
-    /// It asks a command.
+    /// It asks a command. HELLO is refused here.
     Send(usize, Command),
     /// It asks HELLO, with a version or without.
     Hello(usize, Option<Version>),
@@ -21,7 +21,7 @@ pub enum Event {
     ToServer(usize, u64),
     /// So many of its session's waiting bytes come to it, or all where fewer wait.
     ToClient(usize, u64),
-    /// A push of these items is sent to it.
+    /// A push of these items is sent to it. Its session takes one at version 3 alone.
     Push(usize, Members),
     /// Its session is closed, and what waits both ways is lost.
     Drop(usize),
@@ -48,19 +48,21 @@ impl Event {
 pub enum Outcome {
     /// It happened.
     Done,
-    /// The client or the session refused it, and nothing changed.
+    /// The client refused it by BadCommand, TooLarge or TooMany, or the session by NotInVersion,
+    /// PushBelowTop or OverLimits, the first of these that there is, and nothing changed.
     Refused(Cause),
     /// The client was dropped, or there is none of this number, and nothing changed.
     Gone,
 }
 
-/// Why a world stopped. Each later step stops so, and nothing is promised of what it shows.
+/// Why a world stopped. Each later step stops for the same cause, and nothing is promised of what
+/// the world shows.
 #[derive(Clone, Copy, Debug, PartialEq, Eq, Error)]
 #[error("the world stopped at event {event}")]
 pub struct Stop {
-    /// The index of the event, from 0.
+    /// The index of the event among those of the call, from 0.
     pub event: usize,
-    /// Want of memory, the fault of a link, or that of a client or a session, which comes over no
-    /// honest links.
+    /// OutOfMemory, the cause of a link's refusal, or the fault of a client or a session, which is
+    /// met over no honest links.
     pub cause: Cause,
 }

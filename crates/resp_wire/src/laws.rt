@@ -1,4 +1,4 @@
-//! Laws of worlds, each the contract of a function with an empty body.
+//! Laws of worlds, each the contract of a function whose body calls other laws alone.
 
 ghost use Rattle.resp_session.specs.WorldLaws.{TheOrderOnlyGrows};
 ghost use Rattle.resp_wire.specs.WorldOrders.{WhatIsShownHasOneOrder, WhatIsShownWasRun};

@@ -38,8 +38,10 @@ pub trait Link: Drop {
     /// How many calls failed.
     ghost failures: { Self → ℕ };
 
-    /// Carries a piece of at most 1,024 bytes to the room for it at the other end. Behind a refusal
-    /// nothing is known of what was carried.
+    /// Carries a piece of at most 1,024 bytes to the other end, where `into` has as much room.
+    ///
+    /// Refuses by Read, Write or TooManyTurns. Behind a refusal nothing is known of what was
+    /// carried.
     fn carry(
         &mut self,
         direction: Direction,

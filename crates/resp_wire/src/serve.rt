@@ -27,9 +27,11 @@ pub enum Served {
 /// the input ends or the session is closing. What waits is written first; of a session that is
 /// closing nothing is read.
 ///
-/// Each read and each write is a turn. Where a write fails, or no turn is left for one, the rest
-/// waits in the hub. Where memory was wanting the session is closing, and what waits is still to be
-/// written.
+/// Each read and each write is a turn, and no more than `turns` of them are taken.
+///
+/// Refuses by NoSession where no session has this id, and then nothing was done. Where a read fails
+/// all that was answered is written. Where a write fails, or no turn is left, the rest waits in the
+/// hub. Where memory was wanting the session is closing, and what waits is still to be written.
 pub fn serve<R: Source, W: Sink, S: BuildHasher>(
     reader: &mut R,
     writer: &mut W,

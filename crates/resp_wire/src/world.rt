@@ -33,7 +33,8 @@ use std::marker::Model;
 /// The most clients of a world.
 const MOST_CLIENTS: usize = 65_536;
 
-/// Clients and their sessions over one store. Clients are numbered from 1.
+/// Clients and their sessions over one store, with a link between each client and its session.
+/// Clients are numbered from 1.
 #[derive(Drop)]
 pub struct World<L: Link, S: BuildHasher> {
     alloc: Global,
@@ -68,9 +69,11 @@ impl<L: Link, S: BuildHasher> Model for World<L, S> {
 }
 
 impl<S: BuildHasher + Drop> World<MemoryLink, S> {
-    /// So many clients that asked nothing, over memory and an empty store.
+    /// So many clients that asked nothing, over memory and an empty store. Each reads and writes
+    /// within these limits, and so does its session.
     ///
-    /// Refuses more than 65,536 clients, and want of memory.
+    /// Refuses by TooManySessions exactly where there are more than 65,536, and else for want of
+    /// memory.
     pub fn new(alloc: Global, count: usize, limits: Limits, hasher: S) -> Result<Self, OpenError>
         ensures shows { IfOk result (λ world.
             Shows (λ _. Unit {0}) world limits (new_world count)) }
@@ -91,9 +94,11 @@ impl<S: BuildHasher + Drop> World<MemoryLink, S> {
 }
 
 impl<L: Link, S: BuildHasher + Drop> World<L, S> {
-    /// A client that asked nothing for each of these links, over an empty store.
+    /// A client that asked nothing for each of these links, over an empty store. Each reads and
+    /// writes within these limits, and so does its session.
     ///
-    /// Refuses more than 65,536 of them, and want of memory.
+    /// Refuses by TooManySessions exactly where there are more than 65,536, and else for want of
+    /// memory.
     pub fn over(alloc: Global, links: Vec<L>, limits: Limits, hasher: S) -> Result<Self, OpenError>
         ensures shows { IfOk result (λ world. AllByRecursion L.is_honest links.items →
             Shows L.is_honest world limits (new_world (length links.items))) }
@@ -120,11 +125,11 @@ impl<L: Link, S: BuildHasher + Drop> World<L, S> {
         })
     }
 
-    /// Takes one event.
+    /// Takes one event, and answers what came of it. A refused event changes nothing.
     ///
     /// Stops for want of memory, and where a link fails; over honest links it stops for nothing
     /// else. Behind a stop each step stops with the same cause, and nothing is promised of what the
-    /// world shows.
+    /// world shows. The index of the stop is 0.
     pub fn step(&mut self, event: &Event) -> Result<Outcome, Stop>
         ensures happens { IfOk result (Happens L.is_honest self.old self.new (event_of event.now)) }
         ensures going { OnOk result (self.new.stopped ≡ None) }
@@ -148,7 +153,7 @@ impl<L: Link, S: BuildHasher + Drop> World<L, S> {
     }
 
     /// Takes events, one after another, and stops at the first that [`World::step`] stops at, with
-    /// its index from 0.
+    /// its index from 0. An event that is refused or whose client is gone stops nothing.
     pub fn run(&mut self, events: &[Event]) -> Result<(), Stop>
         ensures happens { OnOk result (RunsTo L.is_honest self.old self.new
             (map event_of events.now)) }
@@ -317,7 +322,7 @@ impl<L: Link, S: BuildHasher + Drop> World<L, S> {
         self.ends.len()
     }
 
-    /// What the client of this number has queued.
+    /// What the client of this number, from 1 to that of the clients, has queued, in order.
     pub fn asked(&self, number: usize) -> &[Request]
         requires { (1 ≤ number) × (number ≤ length self.now.ends) }
         ensures { (limits : Bounds) (w : session.World) → Shows L.is_honest self.now limits w →
@@ -334,7 +339,7 @@ impl<L: Link, S: BuildHasher + Drop> World<L, S> {
         self.order.as_slice()
     }
 
-    /// The replies that the client of this number heard, that to its nth command the nth.
+    /// The replies that the client of this number heard: the nth is that to its nth command.
     pub fn replies(&self, number: usize) -> &[Value]
         requires { (1 ≤ number) × (number ≤ length self.now.ends) }
         ensures { (limits : Bounds) (w : session.World) → Shows L.is_honest self.now limits w →
@@ -344,7 +349,7 @@ impl<L: Link, S: BuildHasher + Drop> World<L, S> {
         self.ends[number - 1].replies.as_slice()
     }
 
-    /// The members of each push that the client of this number heard.
+    /// The members of each push that the client of this number heard, in order.
     pub fn pushes(&self, number: usize) -> &[Members]
         requires { (1 ≤ number) × (number ≤ length self.now.ends) }
         ensures { (limits : Bounds) (w : session.World) → Shows L.is_honest self.now limits w →
@@ -354,7 +359,8 @@ impl<L: Link, S: BuildHasher + Drop> World<L, S> {
         self.ends[number - 1].pushes.as_slice()
     }
 
-    /// The keys and values of the store, in the order in which the keys came.
+    /// The keys and values of the store, in the order in which the keys came; one that is set again
+    /// keeps its place.
     pub fn entries(&self) -> Entries<'_>
         ensures { (limits : Bounds) (w : session.World) → Shows L.is_honest self.now limits w →
             result ≡ w.store }

@@ -1,5 +1,5 @@
-//! Values without members: each is written where it has no fault and there is room, and else the
-//! buffer is left.
+//! Values without members: each is written where it has no fault but perhaps its total and there is
+//! room, and else the buffer is left.
 
 ghost use Rattle.std.specs.Prelude.{◌+◌, ℕ};
 ghost use Rattle.std.specs.Bool.{OnTrue};
@@ -44,6 +44,7 @@ fn suits(found: &Measure, version: Version, limits: &Limits, out: &BytesMut) -> 
     }
 }
 
+/// Appends Null as the version writes it, or leaves the buffer where there is no room.
 #[inline(always)]
 pub(super) fn attempt_null(version: Version, limits: &Limits, out: &mut BytesMut) -> bool
     ensures { (deeper : ℕ) → Attempt version limits.now deeper (scalar d.Null) out.old out.new
@@ -57,6 +58,7 @@ pub(super) fn attempt_null(version: Version, limits: &Limits, out: &mut BytesMut
     true
 }
 
+/// Appends a truth value, or leaves the buffer in version 2 or without room.
 #[inline(always)]
 pub(super) fn attempt_bool(
     truth: bool,
@@ -75,6 +77,7 @@ pub(super) fn attempt_bool(
     true
 }
 
+/// Appends an integer, or leaves the buffer where there is no room for its digits and a minus.
 #[inline(always)]
 pub(super) fn attempt_int(number: &i64, out: &mut BytesMut) -> bool
     ensures { (version : Version) (bounds : Bounds) (deeper : ℕ) →
@@ -87,6 +90,7 @@ pub(super) fn attempt_int(number: &i64, out: &mut BytesMut) -> bool
     true
 }
 
+/// Appends a simple string, or leaves the buffer where it is over length or there is no room.
 #[inline(always)]
 pub(super) fn attempt_simple(
     line: &Line,
@@ -106,6 +110,7 @@ pub(super) fn attempt_simple(
     true
 }
 
+/// Appends a simple error, or leaves the buffer where it is over length or there is no room.
 #[inline(always)]
 pub(super) fn attempt_error(
     line: &Line,
@@ -125,6 +130,7 @@ pub(super) fn attempt_error(
     true
 }
 
+/// Appends a bulk string, or leaves the buffer where it is over length or there is no room.
 #[inline(always)]
 pub(super) fn attempt_bulk(content: &Content, limits: &Limits, out: &mut BytesMut) -> bool
     ensures { (version : Version) (deeper : ℕ) →
@@ -140,6 +146,7 @@ pub(super) fn attempt_bulk(content: &Content, limits: &Limits, out: &mut BytesMu
     true
 }
 
+/// Appends a bulk error, or leaves the buffer in version 2, over length or without room.
 #[inline(never)]
 pub(super) fn attempt_bulk_error(
     content: &Content,
@@ -159,6 +166,7 @@ pub(super) fn attempt_bulk_error(
     true
 }
 
+/// Appends a verbatim string, or leaves the buffer in version 2, over length or without room.
 #[inline(never)]
 pub(super) fn attempt_verbatim(
     format: &[u8; 3],
@@ -179,6 +187,7 @@ pub(super) fn attempt_verbatim(
     true
 }
 
+/// Appends a big number, or leaves the buffer in version 2, over length or without room.
 #[inline(never)]
 pub(super) fn attempt_big(
     digits: &Digits,

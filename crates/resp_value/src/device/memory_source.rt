@@ -34,7 +34,8 @@ impl<'a> Model for MemorySource<'a> {
 }
 
 impl<'a> MemorySource<'a> {
-    /// A source of these bytes, that moves at most `most` bytes a call and never fails.
+    /// A source of these bytes, that moves at most `most` bytes a call, one at least, and never
+    /// fails. Takes no memory.
     pub fn new(bytes: &'a [u8], most: usize) -> Self
         requires { 0 < most }
         ensures { result ≡ record {
@@ -65,14 +66,14 @@ impl<'a> MemorySource<'a> {
         }
     }
 
-    /// How many reads were made.
+    /// How many reads were made: at the last value of 64 bits the count stays.
     pub fn calls(&self) -> u64
         ensures { result ≡ self.now.calls }
     {
         self.counts.calls
     }
 
-    /// How many reads failed.
+    /// How many reads failed, counted likewise.
     pub fn failures(&self) -> u64
         ensures { result ≡ self.now.failures }
     {
