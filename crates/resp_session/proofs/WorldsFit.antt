@@ -97,7 +97,7 @@ arrival_fits spells fit limits bounds w i k (Some own) at sent h =
     let most = number_at_most w.connections i own at in
     let news : AllByRecursion (IsSent limits) (new_requests k own) =
     all_dropped (IsSent limits) (length (arrived_requests own)) (arrived_requests (with_arrived k own))
-        (all_taken (IsSent limits) _ own.requests (sent i own at)) in
+    (all_taken (IsSent limits) _ own.requests (sent i own at)) in
     commands_fit spells fit limits bounds (world_with (with_arrived k) w i) i (omega (arith, few, most)) (new_requests k own) news
     (change_fits limits (with_arrived k) w i (λ c at written. written) h)
 

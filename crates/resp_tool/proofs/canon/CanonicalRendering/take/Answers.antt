@@ -29,7 +29,7 @@ returns-in-Ok-write_canonical-clause-takes g c = λ front so_far w.
     let given = subst (λ z. GivesValue z c.feed.new.self (front ++ take used c.args.piece.now) value) w.same_rules
     (c.in-Ok.ensures.value_whole front w.takes value c.in-Some.is) in
     decodes_value r c.feed.new.self front c.args.piece.now so_far (g.W.Sink.written c.args.writer.now)
-        (g.W.Sink.written c.write_canonical.new.writer) used value _
+    (g.W.Sink.written c.write_canonical.new.writer) used value _
     (search rules)
     w.no_value w.nothing given (c.in-Ok.ensures.same_rules ∙ w.same_rules) c.in-Ok-write_canonical.ensures.fits c.in-Ok-write_canonical.ensures.whole.0
 

@@ -10,7 +10,7 @@ returns-in-Some c =
     let h = c.in-Some.ensures in
     ap (λ n. take n line)
     (sym (position_or_len_is (λ b. eqb b 32) line c.in-Some.at 0 (omega (arith, h.0.high))
-        (λ k below. false_from_ne_true _ (h.0.before k (omega arith) below)) (λ l. h.1)))
+    (λ k below. false_from_ne_true _ (h.0.before k (omega arith) below)) (λ l. h.1)))
 
 pub returns-in-None : goal.returns-in-None
 returns-in-None c =
@@ -19,4 +19,4 @@ returns-in-None c =
     sym (take_all (length line) line (omega arith))
     ∙ ap (λ n. take n line)
     (sym (position_or_len_is (λ b. eqb b 32) line (length line) 0 (omega arith)
-        (λ k below. false_from_ne_true _ (h k (omega arith) below)) (λ l. absurd (omega (arith, l)))))
+    (λ k below. false_from_ne_true _ (h k (omega arith) below)) (λ l. absurd (omega (arith, l)))))

@@ -19,7 +19,7 @@ returns-then-are_words-clause-words c =
     (YieldsList-from_slice_split _ (λ b. eqb b 32) line c.split.ensures.rest c.split.ensures.done c.split.ensures.closure (λ x b q k. search (rules, tests))) in
     let words = subst (λ z. All IsWord (map (λ (word : Bor (List ℕ)). word.now) z)) c.as_slice.ensures.value c.if-are_words.ensures in
     are_parts line parts split words
-        (omega (arith, length-map c.in-Ok.words.items (λ (word : Bor (List ℕ)). word.now), c.len.ensures, c.if-len-le-MOST_WORDS.true))
+    (omega (arith, length-map c.in-Ok.words.items (λ (word : Bor (List ℕ)). word.now), c.len.ensures, c.if-len-le-MOST_WORDS.true))
 
 pub returns-clause-bad : goal.returns-clause-bad
 returns-clause-bad c = λ e words are.
@@ -34,6 +34,12 @@ returns-clause-bad c = λ e words are.
           w.if-are_words.ensures
           (subst (All IsWord) (these ∙ ap (map (λ (word : Bor (List ℕ)). word.now)) (sym w.as_slice.ensures.value)) are.are_words)
       | else-len-le-MOST_WORDS-via-else-len-le-MOST_WORDS w ↦
-          omega (arith, are.few, ap length these, length-map c.in-Ok.words.items (λ (word : Bor (List ℕ)). word.now),
-              c.len.ensures, w.if-len-le-MOST_WORDS.false)
+          omega (
+            arith,
+            are.few,
+            ap length these,
+            length-map c.in-Ok.words.items (λ (word : Bor (List ℕ)). word.now),
+            c.len.ensures,
+            w.if-len-le-MOST_WORDS.false,
+          )
     ]
