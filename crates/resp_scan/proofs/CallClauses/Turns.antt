@@ -10,6 +10,7 @@ use Rattle.resp_scan.specs.declared.machine.EventTag.TheVariants as tag
 use Rattle.resp_scan.specs.declared.machine.Machine.{Machine}
 use Rattle.resp_scan.specs.declared.machine.Taken.{Taken}
 use Rattle.resp_scan.specs.declared.listen.Turn.TheVariants as turn
+use Rattle.resp_scan.specs.declared.listen.Turned.{Turned}
 use Rattle.resp_scan.specs.Kinds.{content_events, event_of, rules_of}
 use Rattle.resp_value.specs.declared.cause.Cause.{Cause}
 use Rattle.resp_scan.specs.Reading.{BeginDue, Events, HasRead, IsFaulted}
@@ -27,7 +28,7 @@ use Rattle.resp_scan.proofs.CallClauses.LeastNeeded.{followed_is_viable}
 use Rattle.resp_scan.proofs.CallClauses.Nearer.{IsNearer, is_nearer}
 use Rattle.resp_scan.proofs.CallClauses.Steps.{Shown, shown, follows, heard_is, refused_is, value_is}
 use Rattle.resp_scan.proofs.DueEvents.GivenCounts.{events_are_few, opens_are_frames}
-use Rattle.resp_scan.proofs.Soundness.Counted.{IsCounted, counted_out}
+use Rattle.resp_scan.proofs.Soundness.Counted.{IsCounted, counted_out, place_counted}
 use Rattle.resp_scan.proofs.Soundness.Kept.{IsOut, is_advanced}
 use Rattle.resp_scan.proofs.Soundness.Pieces.{Takes, done_none, failed_is, said_kept, used_within}
 
@@ -166,7 +167,7 @@ outcome_told w n m s p HasHeard HasStopped goes_on telling sound rules front giv
     turn_told s (after_bytes n (place_of m)) HasHeard HasStopped front given p n (events_told p (out_by w n m)) goes_on sound rules reads hears
 
 -- The listener was told what the answer tells.
-pub is_told : {O : Type 0} (w : EventTag) (taken : Taken) (m : Machine) (s : Place) (p : List ℕ) (HadHeard HasHeard HasStopped : O → Events →
+is_told : {O : Type 0} (w : EventTag) (taken : Taken) (m : Machine) (s : Place) (p : List ℕ) (HadHeard HasHeard HasStopped : O → Events →
     Type 0) (goes_on : Bool) →
     IsTelling w → IsText p → taken.tag ≡ w → IsSound s → out_of taken m ≡ out_from s p →
     Hears HadHeard HasHeard HasStopped (events_told p (out_by w taken.used m)) goes_on →
@@ -283,3 +284,20 @@ is_failed taken m s p HasHeard HasStopped text is sound out =
         had,
       );
     }
+
+-- A machine that counts the bytes of its turn has made this turn too.
+pub is_counted : {O : Type 0} {HadHeard HasHeard HasStopped : O → Events → Type 0} {answered made : Turned} (m : Machine) (n : ℕ) (s : Place) (p : List ℕ) →
+    answered ≡ made → IsTurn O s (after_bytes n (place_of m)) HadHeard HasHeard HasStopped p made →
+    IsTurn O s (place_of (record m { taken = m.taken + n })) HadHeard HasHeard HasStopped p answered
+is_counted {O = O} {HadHeard = HadHeard} {HasHeard = HasHeard} {HasStopped = HasStopped} {answered = answered} m n s p same made =
+    subst (λ t. IsTurn O s t HadHeard HasHeard HasStopped p answered) (sym (place_counted m n))
+    (subst (IsTurn O s (after_bytes n (place_of m)) HadHeard HasHeard HasStopped p) (sym same) made)
+
+-- What it tells the listener is its turn.
+pub tells : {O : Type 0} {HadHeard HasHeard HasStopped : O → Events → Type 0} {answered : Turned} (w : EventTag) (taken : Taken) (m : Machine)
+    (s : Place) (p : List ℕ) (goes_on : Bool) →
+    IsTelling w → IsText p → taken.tag ≡ w → IsSound s → out_of taken m ≡ out_from s p →
+    answered ≡ record { used = taken.used; turn = turn_of goes_on } → Hears HadHeard HasHeard HasStopped (events_told p (out_by w taken.used m)) goes_on →
+    IsTurn O s (place_of (record m { taken = m.taken + taken.used })) HadHeard HasHeard HasStopped p answered
+tells {HadHeard = HadHeard} {HasHeard = HasHeard} {HasStopped = HasStopped} w taken m s p goes_on telling text is sound out same hears =
+    is_counted m taken.used s p same (is_told w taken m s p HadHeard HasHeard HasStopped goes_on telling text is sound out hears)
