@@ -115,6 +115,7 @@ fn give(
                 add_fault(alloc, out, fault)?;
                 assert!(rt; decoder.feed(rest) == Err(fault));
                 assert!(rt; decoder.finish() == Err(fault));
+                assert!(rt; decoder.taken() == fault.at && decoder.weight() == 0);
                 return Ok(false);
             }
         };

@@ -16,7 +16,9 @@ fn refused(decoder: &mut Decoder, fault: Fault, given: usize) -> Outcome {
         fault.cause == Cause::OutOfMemory
             && fault.at <= given as u64
             && decoder.feed(b":7\r\n").err() == Some(fault)
-            && decoder.finish() == Err(fault),
+            && decoder.finish() == Err(fault)
+            && decoder.taken() == fault.at
+            && decoder.weight() == 0,
     )
 }
 

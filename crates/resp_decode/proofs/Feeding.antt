@@ -185,5 +185,6 @@ refuses_or_lacks r H front piece (stop.Stopped taken) refused stopped = inr (rec
   in_piece = stopped.in_piece;
   within = stopped.within;
   viable = stopped.viable;
+  wanted = (stopped.told, stopped.first_due, stopped.has_stopped);
   not_brief = λ brief. stopped.has_stopped (brief_given r (front ++ piece) taken stopped.told brief stopped.viable stopped.first_due);
 })

@@ -56,7 +56,8 @@ not_refused r x text fault is (inl refused) =
     (record { tree = is.tree; spells = subst (Spells is.tree) (sym (take_all (length text) text (omega arith))) is.spells; keeps = is.keeps }))
 not_refused r x text fault is (inr (inl ends)) =
     absurd (ends.no_value (length text) is.tree (subst (Spells is.tree) (sym (take_all (length text) text (omega arith))) is.spells))
-not_refused r x text fault is (inr (inr memory)) = memory.names
+not_refused r x text fault is (inr (inr (inl lacks))) = lacks.names
+not_refused r x text fault is (inr (inr (inr lacks))) = lacks.names
 
 -- neither is nothing at all
 nothing_refused : (r : Rules) (rest : List ℕ) (fault : Fault) → rest ≡ [] → RefusesRest r rest fault →
@@ -65,7 +66,8 @@ nothing_refused r rest fault none (inl refused) =
     let f = refused.fault_of in
     absurd (omega (arith, f.place, ap length f.whole, ap length none, length-append f.front f.behind))
 nothing_refused r rest fault none (inr (inl ends)) = absurd (omega (arith, ends.begun, ap length none))
-nothing_refused r rest fault none (inr (inr memory)) = memory.names
+nothing_refused r rest fault none (inr (inr (inl lacks))) = lacks.names
+nothing_refused r rest fault none (inr (inr (inr lacks))) = lacks.names
 
 -- the text of a value isn't refused behind such values
 refused_behind : NoSpellingBeginsAnother → NoSpellingIsEmpty → (r : Rules) (x : Datum) (text : List ℕ) (fault : Fault) (values : List Datum)

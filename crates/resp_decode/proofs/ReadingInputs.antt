@@ -2,9 +2,8 @@
 use Rattle.std.proofs.Common.{◌≡◌, ◌⊎◌, inl, inr, ℕ, zero, suc, ◌+◌, ◌-◌, ◌<◌, ◌≤◌, List, [], ◌∷◌, ◌++◌, length, take, drop, map, refl, sym, ap, subst, ◌∙◌, append_assoc, arith}
 use Rattle.std.proofs.lemmas.List.{append-nil, length-drop, map-append, take-append-drop, take_all}
 use Rattle.resp_value.specs.Data.{Datum}
-use Rattle.resp_value.specs.Rules.{Rules, WithinTotal}
-use Rattle.resp_value.specs.Trees.{Spells}
-use Rattle.resp_value.specs.Spellings.{AreSpellings, IsSpelling, IsViable}
+use Rattle.resp_value.specs.Rules.{Rules}
+use Rattle.resp_value.specs.Spellings.{AreSpellings, IsSpelling}
 use Rattle.resp_value.specs.Values.{datum_of}
 use Rattle.resp_value.specs.declared.value.Value.{Value}
 use Rattle.resp_value.specs.declared.cause.Cause.TheVariants as cause
@@ -67,30 +66,19 @@ reads_all r bytes d values [] w end =
     subst (AreSpellings r (map datum_of values)) (sym whole) w.spelled
 
 -- what the decoder refuses of the rest
-pub refuses_rest : (r : Rules) (rest : List ℕ) (fault : Fault) → 0 < length rest → RefusesByte r [] rest fault ⊎ LacksMemory r [] rest fault →
-    RefusesRest r rest fault
-refuses_rest r rest fault begun (inl byte) = inl byte
-refuses_rest r rest fault begun (inr lacks) =
-    inr (inr (record { names = lacks.names; begun = begun; within = lacks.within; viable = lacks.viable }))
-
--- a spelling is viable
-viable_spelling : (r : Rules) (x : Datum) (text : List ℕ) → IsSpelling r x text → IsViable r WithinTotal text
-viable_spelling r x text s = record {
-  rest = [];
-  tree = s.tree;
-  spells = subst (Spells s.tree) (sym (append-nil text)) s.spells;
-  keeps = s.keeps;
-}
+pub refuses_rest : (r : Rules) (rest : List ℕ) (fault : Fault) → RefusesByte r [] rest fault ⊎ LacksMemory r [] rest fault → RefusesRest r rest fault
+refuses_rest r rest fault (inl byte) = inl byte
+refuses_rest r rest fault (inr lacks) = inr (inr (inl lacks))
 
 -- no memory was found for a value that has come whole
 pub lacks_room : (r : Rules) (d : Decoder) (x : Value) (rest : List ℕ) (used : ℕ) (fault : Fault) → GivesValue r d (take used rest) x →
-    0 < length rest → used ≤ length rest → fault.cause ≡ cause.OutOfMemory → fault.at ≡ used → RefusesRest r rest fault
-lacks_room r d x rest used fault given begun within names place = inr (inr (record {
+    used ≤ length rest → fault.cause ≡ cause.OutOfMemory → fault.at ≡ used → RefusesRest r rest fault
+lacks_room r d x rest used fault given within names place = inr (inr (inr (record {
   names = names;
-  begun = begun;
   within = omega (arith, within, place);
-  viable = subst (λ n. IsViable r WithinTotal (take n rest)) (sym place) (viable_spelling r (datum_of x) (take used rest) given.spelling);
-}))
+  value = datum_of x;
+  spelling = subst (λ n. IsSpelling r (datum_of x) (take n rest)) (sym place) given.spelling;
+})))
 
 length-data : (values : List Value) → length (map datum_of values) ≡ length values
 length-data [] = refl

@@ -3,6 +3,7 @@ use Rattle.std.specs.Prelude.{◌≡◌, ◌⊎◌, ℕ, List, [], ◌∷◌}
 use Rattle.std.specs.Str.{byte}
 use Rattle.resp_fronts.specs.Events.{Event}
 use Rattle.resp_fronts.specs.Events as e
+use Rattle.resp_scan.specs.Reading.{BeginDue, Events}
 
 -- a null, a truth value or an integer, or the end of the value
 abbrev pub IsBriefEvent : Event → Type 0
@@ -24,6 +25,10 @@ AreBrief (x ∷ es) = IsBriefEvent x × AreBrief es
 -- some of the events is of a text or an aggregate, which want memory
 abbrev pub WantMemory : List Event → Type 0
 WantMemory es = AreBrief es → ⊥
+
+-- of the first events that these bytes bring some want memory
+abbrev pub BringMemoryWants : List ℕ → Type 0
+BringMemoryWants front = (given : Events) × BeginDue front given × WantMemory given
 
 -- the type byte of an integer, a truth value or a null of one line
 abbrev pub IsBriefByte : ℕ → Type 0

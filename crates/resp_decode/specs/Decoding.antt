@@ -9,7 +9,7 @@ use Rattle.resp_value.specs.declared.cause.Cause.TheVariants as cause
 use Rattle.resp_scan.specs.Reading.{AreDue, Events, HasNoSpelling, HasNoValue, HasRead}
 use Rattle.resp_scan.specs.Reading as scan
 use Rattle.resp_scan.specs.declared.event.Fault.{Fault}
-use Rattle.resp_decode.specs.Brief.{BeginsBrief}
+use Rattle.resp_decode.specs.Brief.{BeginsBrief, BringMemoryWants}
 use Rattle.resp_decode.specs.Hearing.{HasHeard}
 use Rattle.resp_decode.specs.declared.decoder.Decoder.{Decoder}
 use Rattle.resp_decode.specs.declared.fed.Fed.{Fed}
@@ -28,9 +28,9 @@ pub record HasTaken (d : Decoder) (front : List ℕ) : Type 0 where
 abbrev pub WhereTaken : Decoder → (List ℕ → Type 0) → Type 0
 WhereTaken d P = (front : List ℕ) → HasTaken d front → P front
 
--- a fault is answered for good
+-- a fault is answered for good, and nothing is held behind it
 abbrev pub HasFault : Decoder → Fault → Type 0
-HasFault d fault = scan.IsFaulted d.scanner fault
+HasFault d fault = scan.IsFaulted d.scanner fault × (d.held.weight ≡ 0)
 
 -- where a value ends behind so many bytes of the piece
 abbrev pub IfValue : Result Fed Fault → (ℕ → Value → Type 0) → Type 0
@@ -62,10 +62,12 @@ pub record RefusesByte (r : Rules) (front piece : List ℕ) (fault : Fault) : Ty
   pub in_piece : length front ≤ fault.at
   pub no_value : HasNoSpelling r (front ++ piece)
 
--- no memory was found, behind bytes that are viable, and not in an integer, a truth value or a null of one line
+-- no memory was found, behind viable bytes that bring an event that wants some, and so not in an integer, a truth value
+-- or a null of one line
 pub record LacksMemory (r : Rules) (front piece : List ℕ) (fault : Fault) : Type 0 where
   pub names : fault.cause ≡ cause.OutOfMemory
   pub in_piece : length front ≤ fault.at
   pub within : fault.at ≤ length (front ++ piece)
   pub viable : IsViable r WithinTotal (take fault.at (front ++ piece))
+  pub wanted : BringMemoryWants (take fault.at (front ++ piece))
   pub not_brief : BeginsBrief (front ++ piece) → ⊥

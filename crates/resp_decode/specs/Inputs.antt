@@ -2,14 +2,14 @@
 use Rattle.std.specs.Prelude.{◌≡◌, ◌⊎◌, ℕ, ◌+◌, ◌<◌, ◌≤◌, List, [], ◌++◌, length, take, map}
 use Rattle.resp_value.specs.Data.{Datum}
 use Rattle.resp_value.specs.Rules.{Rules, WithinTotal}
-use Rattle.resp_value.specs.Spellings.{AreSpellings, IsViable}
+use Rattle.resp_value.specs.Spellings.{AreSpellings, IsSpelling, IsViable}
 use Rattle.resp_value.specs.Values.{datum_of}
 use Rattle.resp_value.specs.declared.value.Value.{Value}
 use Rattle.resp_value.specs.declared.cause.Cause.TheVariants as cause
 use Rattle.resp_scan.specs.Kinds.{rules_of}
 use Rattle.resp_scan.specs.Reading.{HasNoValue}
 use Rattle.resp_scan.specs.declared.event.Fault.{Fault}
-use Rattle.resp_decode.specs.Decoding.{HasTaken, RefusesByte}
+use Rattle.resp_decode.specs.Decoding.{HasTaken, LacksMemory, RefusesByte}
 use Rattle.resp_decode.specs.declared.all.AllFault.{AllFault}
 use Rattle.resp_decode.specs.declared.decoder.Decoder.{Decoder}
 
@@ -21,16 +21,17 @@ pub record EndsInside (r : Rules) (rest : List ℕ) (fault : Fault) : Type 0 whe
   pub viable : IsViable r WithinTotal rest
   pub no_value : HasNoValue rest
 
--- no memory was found for the value that the rest begins, behind bytes that are viable
-pub record WantsMemory (r : Rules) (rest : List ℕ) (fault : Fault) : Type 0 where
+-- no memory was found to keep the value that the rest begins, which has come whole
+pub record LacksRoom (r : Rules) (rest : List ℕ) (fault : Fault) : Type 0 where
   pub names : fault.cause ≡ cause.OutOfMemory
-  pub begun : 0 < length rest
   pub within : fault.at ≤ length rest
-  pub viable : IsViable r WithinTotal (take fault.at rest)
+  pub value : Datum
+  pub spelling : IsSpelling r value (take fault.at rest)
 
--- a byte of the rest is refused, or it ends inside a value, or no memory was found for it
+-- a byte of the rest is refused, or it ends inside a value, or no memory was found for its value
 abbrev pub RefusesRest : Rules → List ℕ → Fault → Type 0
-RefusesRest r rest fault = RefusesByte r [] rest fault ⊎ EndsInside r rest fault ⊎ WantsMemory r rest fault
+RefusesRest r rest fault =
+    RefusesByte r [] rest fault ⊎ EndsInside r rest fault ⊎ LacksMemory r [] rest fault ⊎ LacksRoom r rest fault
 
 -- the input is spellings of some values, and a rest that is refused as the value behind them
 pub record RefusesInput (r : Rules) (bytes : List ℕ) (refusal : AllFault) : Type 0 where

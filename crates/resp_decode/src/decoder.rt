@@ -69,7 +69,11 @@ impl Decoder {
     {
         let scanned = match self.scanner.scan(piece, &mut self.held) {
             Ok(scanned) => scanned,
-            Err(stop) => return Err(fault_of(stop)),
+            Err(stop) => {
+                // Behind a fault nothing is held.
+                self.held.clear();
+                return Err(fault_of(stop));
+            }
         };
         let used = scanned.used;
         if !scanned.is_whole {
@@ -109,6 +113,7 @@ impl Decoder {
     pub fn taken(&self) -> u64
         ensures length_of_front { WhereTaken self.now (λ front. result ≡ length front) }
         ensures viable { WhereTaken self.now (IsViable (rules_of self.now.scanner) WithinTotal) }
+        ensures behind_a_fault { (fault : Fault) → HasFault self.now fault → result ≡ fault.at }
         ensures at_most_total { result ≤ (rules_of self.now.scanner).limits.total }
         ensures limits_in_range { AreBounds (rules_of self.now.scanner).limits }
     {
@@ -116,11 +121,12 @@ impl Decoder {
     }
 
     /// How much is held of the value: three for each finished node and each open aggregate, and one
-    /// for each byte of content. It is never more than the bytes taken.
+    /// for each byte of content. It is never more than the bytes taken, and 0 behind a fault.
     pub fn weight(&self) -> u64
         ensures weight_of_held { WhereTaken self.now (λ front.
             result ≡ weight_of (construction_of self.now.held)) }
         ensures at_most_taken { WhereTaken self.now (λ front. result ≤ length front) }
+        ensures nothing_behind_a_fault { (fault : Fault) → HasFault self.now fault → result ≡ 0 }
     {
         // What was taken is viable, as the scanner says of it here.
         let _taken = self.scanner.taken();

@@ -64,6 +64,14 @@ impl Held {
         self.weight
     }
 
+    /// Lets go of all that is held.
+    #[cold]
+    pub(crate) fn clear(&mut self)
+        ensures { self.new.weight ≡ 0 }
+    {
+        *self = Held::new(self.alloc);
+    }
+
     /// Takes out the value at the top, once it is whole. Nothing else is held then.
     #[inline]
     pub(crate) fn take_whole(&mut self) -> Option<Value>

@@ -259,6 +259,7 @@ impl Scanner {
         ensures no_more_events_than_bytes { WhereRead self.now (λ front given.
             length given ≤ result) }
         ensures no_value_ended { WhereRead self.now (λ front given. HasNoDone given) }
+        ensures behind_a_fault { (fault : Fault) → IsFaulted self.now fault → result ≡ fault.at }
         ensures at_most_total { result ≤ (rules_of self.now).limits.total }
         ensures limits_in_range { AreBounds (rules_of self.now).limits }
     {

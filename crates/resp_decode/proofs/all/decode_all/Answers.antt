@@ -20,7 +20,7 @@ returns-in-Err-clause-refusal c =
     let number : c.len.result ≡ length c.loop-rest.values.items = omega (arith, c.len.ensures, c.loop-rest.values.ok.0) in
     refuses_input r c.args.bytes.now c.loop-rest.decoder c.loop-rest.values.items rest (record { value = c.len.result + 1; fault = c.in-Err.fault }) w
     (omega (arith, number))
-    (refuses_rest r rest c.in-Err.fault (search rules) (subst (λ z. RefusesByte z [] rest c.in-Err.fault ⊎ LacksMemory z [] rest c.in-Err.fault) w.same_rules
+    (refuses_rest r rest c.in-Err.fault (subst (λ z. RefusesByte z [] rest c.in-Err.fault ⊎ LacksMemory z [] rest c.in-Err.fault) w.same_rules
     (c.in-Err.ensures.refusal [] w.takes)))
 
 pub returns-in_default-clause-refusal : goal.returns-in_default-clause-refusal
@@ -52,7 +52,7 @@ returns-then-is_err-clause-refusal c =
     (c.in-Ok.ensures.value_whole [] w.takes c.in-Some.value c.in-Some.is) in
     refuses_input r c.args.bytes.now c.loop-rest.decoder c.loop-rest.values.items rest (record { value = c.len.result + 1; fault = fault }) w
     (omega (arith, number))
-    (lacks_room r c.feed.new.self c.in-Some.value rest c.in-Ok.fed.used fault given (search rules) c.in-Ok.ensures.within_piece names place)
+    (lacks_room r c.feed.new.self c.in-Some.value rest c.in-Ok.fed.used fault given c.in-Ok.ensures.within_piece names place)
 
 pub loop-rest-smaller : goal.loop-rest-smaller
 loop-rest-smaller c =
