@@ -1,21 +1,14 @@
 -- How a value that was read is told, and what it answers.
-use Rattle.std.proofs.Common.{◌≡◌, ◌≢◌, inl, inr, ℕ, zero, suc, ◌+◌, ◌<◌, ◌≤◌, true, false, eqb, List, [], ◌∷◌, ◌++◌, length, take, drop, Option, refl, sym, ap, subst, ◌∙◌, arith, append_assoc}
-use Rattle.std.proofs.Math.Seq.{take-append-add}
-use Rattle.std.proofs.lemmas.List.{append-nil, length-append, take-append-drop, take_all}
-use Rattle.std.specs.Str.{byte}
+use Rattle.std.proofs.Common.{◌≡◌, ◌≢◌, ℕ, zero, suc, ◌+◌, ◌<◌, true, false, List, [], ◌∷◌, ◌++◌, length, take, Option, refl, sym, ap, subst, ◌∙◌, arith}
+use Rattle.std.proofs.lemmas.List.{append-nil, take_all}
 use Rattle.resp_value.specs.Bounds.{Bounds}
-use Rattle.resp_value.specs.Data.{Datum, IsPush}
-use Rattle.resp_value.specs.Laws.{APushBeginsWithItsByte, FrontsOfSpellingsAreViable}
-use Rattle.resp_value.specs.Rules.{WithinTotal}
-use Rattle.resp_value.specs.Spellings.{IsSpelling, IsViable}
+use Rattle.resp_value.specs.Data.{Datum}
+use Rattle.resp_value.specs.Spellings.{IsSpelling}
 use Rattle.resp_value.specs.Trees.{Spells}
 use Rattle.resp_value.specs.Values.{datum_of}
-use Rattle.resp_value.specs.declared.cause.Cause.TheVariants as cause
 use Rattle.resp_value.specs.declared.value.Value.TheVariants as value
 use Rattle.resp_scan.specs.declared.event.Fault.{Fault}
 use Rattle.resp_decode.specs.Decoding as decode
-use Rattle.resp_decode.specs.Brief.{BeginsBrief, IsBriefByte}
-use Rattle.resp_decode.specs.Decoding.{LacksMemory}
 use Rattle.resp_decode.specs.declared.decoder.Decoder.{Decoder}
 use Rattle.resp_session.specs.Heard.{is_push, numbered_replies}
 use Rattle.resp_session.specs.Reading.{MayBeRead, ReadsAs, Waiting, reading_rules, waiting_after, waiting_after_reply}
@@ -25,7 +18,7 @@ use Rattle.resp_client.specs.Steps.{Knows, SameReading, TakesValue}
 use Rattle.resp_client.specs.declared.client.Client.{Client}
 use Rattle.resp_client.specs.declared.heard.What.{What}
 use Rattle.resp_client.specs.declared.heard.What.TheVariants.{Reply, Push, Shown, More}
-use Rattle.resp_client.proofs.Fronts.{as_used, takes_nothing}
+use Rattle.resp_client.proofs.Fronts.{takes_nothing}
 
 -- what a value leaves, by whether it is a push
 after_reply : (w : Waiting) (x : Datum) → is_push x ≡ false → waiting_after w x ≡ waiting_after_reply w.version w.asks x
@@ -107,37 +100,6 @@ unless_replied s old new x (Reply number y) e k = tt
 unless_replied s old new x (Push items) e k = k.2 ∙ e
 unless_replied s old new x Shown e k = absurd k
 unless_replied s old new x More e k = absurd k
-
--- the type byte of a push is none of those of values without content and members
-no_other : (byte : ℕ) → eqb 62 byte ≡ false → eqb byte byte ≡ true → 62 ≡ byte → ⊥
-no_other byte other same e =
-    let both : true ≡ false = sym same ∙ sym (ap (λ n. eqb n byte) e) ∙ other in
-    absurd (cc)
-
-not_brief : IsBriefByte 62 → ⊥
-not_brief (inl e) = no_other (byte ":") refl refl e
-not_brief (inr (inl e)) = no_other (byte "#") refl refl e
-not_brief (inr (inr e)) = no_other (byte "_") refl refl e
-
--- a sink may find no memory for a push that was read
-pub lacks_memory : APushBeginsWithItsByte → FrontsOfSpellingsAreViable → (limits : Bounds) (w after : Waiting) (x : Datum) (front piece : List ℕ)
-    (used at : ℕ) → IsPush x → ReadsAs limits w (x ∷ []) (front ++ take used piece) after → used ≤ length piece → at ≡ length front + used →
-    LacksMemory (reading_rules limits w) front piece (record { cause = cause.OutOfMemory; at = at })
-lacks_memory begins viable limits w after x front piece used at push reads h e =
-    let r = reading_rules limits w in
-    let text = front ++ take used piece in
-    let s = spelling_of limits w after x text reads in
-    let lengths : length (front ++ piece) ≡ length front + length piece = length-append front piece in
-    let (rest, first) = (begins r x text s).0 push in
-    let whole : front ++ piece ≡ 62 ∷ (rest ++ drop used piece) = as_used front piece used ∙ ap (λ z. z ++ drop used piece) first in
-    record {
-      names = refl;
-      in_piece = omega (arith, e);
-      within = omega (arith, e, lengths, h);
-      viable = subst (IsViable r WithinTotal) (sym (ap (λ n. take n (front ++ piece)) e ∙ take-append-add front piece used))
-          (viable r x text [] (subst (IsSpelling r x) (sym (append-nil text)) s) WithinTotal);
-      not_brief = λ b. not_brief (subst BeginsBrief whole b);
-    }
 
 -- a value that ends in a piece uses bytes of it, since none has ended before
 pub value_uses : (limits : Bounds) (w after : Waiting) (d : Decoder) (x : Datum) (front piece : List ℕ) (used : ℕ) → decode.HasTaken d front →

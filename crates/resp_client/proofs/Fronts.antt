@@ -73,7 +73,8 @@ no_value_begins r text h x front behind s e =
 -- a refused byte is the client's fault
 pub is_broken : (limits : Bounds) (w : Waiting) (r : Rules) (front piece : List ℕ) (fault : Fault) → r ≡ reading_rules limits w →
     (IsUnasked w (front ++ piece) → ⊥) → RefusesByte r front piece fault ⊎ LacksMemory r front piece fault →
-    ClientFault limits w (front ++ piece) fault.cause fault.at ⊎ LacksMemory (reading_rules limits w) front piece fault
+    ClientFault limits w (front ++ piece) fault.cause fault.at ⊎
+    ((IsUnasked w (front ++ piece) → ⊥) × LacksMemory (reading_rules limits w) front piece fault)
 is_broken limits w r front piece fault e asked (inl f) = inl (inr (record {
   asked = asked;
   no_more = subst (λ z. BeginsNoValue z (front ++ piece)) e (no_value_begins r (front ++ piece) f.no_value);
@@ -81,7 +82,7 @@ is_broken limits w r front piece fault e asked (inl f) = inl (inr (record {
   fault = subst (λ z. FaultOf z (front ++ piece) f.rule fault.at) e f.fault_of;
   named = f.names;
 }))
-is_broken limits w r front piece fault e asked (inr m) = inr (subst (λ z. LacksMemory z front piece fault) e m)
+is_broken limits w r front piece fault e asked (inr m) = inr (asked, subst (λ z. LacksMemory z front piece fault) e m)
 
 pub may_go_on : (limits : Bounds) (w : Waiting) (r : Rules) (text : List ℕ) → r ≡ reading_rules limits w → (IsUnasked w text → ⊥) → HasNoValue text →
     IsViable r WithinTotal text → MayGoOn limits w text

@@ -1,8 +1,9 @@
 -- What a client hears, in words of texts and values.
-use Rattle.std.specs.Prelude.{◌≡◌, ◌⊎◌, ℕ, Option, None, Some, List, [], ◌∷◌, ◌++◌, length, take, Result, Ok, Err}
+use Rattle.std.specs.Prelude.{◌≡◌, ◌⊎◌, ℕ, Option, None, Some, List, [], ◌∷◌, ◌++◌, ◌+◌, ◌≤◌, length, take, Result, Ok, Err}
 use Rattle.resp_value.specs.Bounds.{Bounds}
 use Rattle.resp_value.specs.Data.{Datum}
 use Rattle.resp_value.specs.Values.{datum_of}
+use Rattle.resp_value.specs.declared.cause.Cause.TheVariants as cause
 use Rattle.resp_value.specs.declared.value.Value.TheVariants as value
 use Rattle.resp_value.specs.declared.value.Members.{Members}
 use Rattle.resp_scan.specs.Kinds.{rules_of}
@@ -94,7 +95,20 @@ abbrev pub UnlessReply : Result Heard Fault → Type 0 → Type 0
 UnlessReply (Ok heard) P = UnlessReplied heard.what P
 UnlessReply (Err fault) P = P
 
--- the fault of what came, or want of memory behind bytes that are viable
+-- the fault of what came, or want of memory behind viable bytes of a value that was asked for
 abbrev pub Refuses : ClientState → List ℕ → List ℕ → Fault → Type 0
 Refuses s front piece fault = ClientFault s.limits s.waiting (front ++ piece) fault.cause fault.at ⊎
-    LacksMemory (reading_rules s.limits s.waiting) front piece fault
+    ((IsUnasked s.waiting (front ++ piece) → ⊥) × LacksMemory (reading_rules s.limits s.waiting) front piece fault)
+
+-- the sink found no memory for the push that ends behind so many bytes of the piece
+pub record LosesPush (s : ClientState) (front piece : List ℕ) (fault : Fault) : Type 0 where
+  pub names : fault.cause ≡ cause.OutOfMemory
+  pub used : ℕ
+  pub within : used ≤ length piece
+  pub place : fault.at ≡ length front + used
+  pub items : Members
+  pub reads : ReadsAs s.limits s.waiting (datum_of (value.Push items) ∷ []) (front ++ take used piece) s.waiting
+
+-- the same, where pushes are shown to a sink
+abbrev pub RefusesOrLoses : ClientState → List ℕ → List ℕ → Fault → Type 0
+RefusesOrLoses s front piece fault = Refuses s front piece fault ⊎ LosesPush s front piece fault

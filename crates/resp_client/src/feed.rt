@@ -5,7 +5,7 @@ ghost use Rattle.resp_value.specs.Values.{datum_of};
 ghost use Rattle.resp_session.specs.Reading.{IsUnasked, greater_version, is_refusal, reading_version};
 ghost use Rattle.resp_decode.specs.Decoding.{IfNoValue, IfValue};
 ghost use Rattle.resp_client.specs.Clients.{next_number, state_of, with_answer};
-ghost use Rattle.resp_client.specs.Hearing.{HasFault, Hears, HearsAndShows, Refuses, TakesPiece, UnlessReply, WhereTaken};
+ghost use Rattle.resp_client.specs.Hearing.{HasFault, Hears, HearsAndShows, Refuses, RefusesOrLoses, TakesPiece, UnlessReply, WhereTaken};
 ghost use Rattle.resp_client.specs.Steps.{HasBegun, IsUnaskedFault, Knows, SameReading, TakesValue};
 ghost use Rattle.resp_scan.specs.declared.event.Fault.{Fault};
 
@@ -89,15 +89,15 @@ impl Client {
             HearsAndShows self.old self.new (pushes sink.old) (pushes sink.new) front piece.now
             heard.used heard.what)) }
         ensures refusal { WhereTaken self.old (λ front. IfErr result
-            (Refuses (state_of self.old) front piece.now)) }
+            (RefusesOrLoses (state_of self.old) front piece.now)) }
         ensures only_replies_answer { UnlessReply result (state_of self.new ≡ state_of self.old) }
         ensures nothing_shown { OnErr result (pushes sink.new ≡ pushes sink.old) }
         ensures within_piece { IfOk result (λ heard. heard.used ≤ length piece.now) }
+        ensures uses_bytes { WhereTaken self.old (λ front. IfOk result (λ heard.
+            0 < length piece.now → 0 < heard.used)) }
         ensures fault_is_kept { IfErr result (HasFault self.new) }
         ensures fault_is_final { (fault : Fault) → HasFault self.old fault → result ≡ Err fault }
     {
-        grammar::a_push_begins_with_its_byte();
-        grammar::fronts_of_spellings_are_viable();
         let taken = self.decoder.taken();
         let heard = match self.feed(piece) {
             Ok(heard) => heard,
