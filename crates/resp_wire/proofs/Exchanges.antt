@@ -7,7 +7,7 @@ use Rattle.resp_client.specs.Clients.{ClientState, state_of, without_front}
 use Rattle.resp_client.specs.declared.client.Client.{Client}
 use Rattle.resp_wire.specs.Asking.{SendsAll, SendsPart, SpendsTurns, asked, sent}
 use Rattle.resp_wire.specs.Requests.{MayAllBeSent, with_requests}
-use Rattle.resp_wire.specs.Stops.{QueuesFirst, StopsQueueing}
+use Rattle.resp_wire.specs.Stops.{FailsWriting, KeepsFault, QueuesFirst, StopsQueueing}
 use Rattle.resp_wire.specs.Turns.{Spends}
 use Rattle.resp_wire.specs.declared.asked.Request.{Request}
 use Rattle.resp_wire.specs.declared.error.AskError.{AskError}
@@ -76,3 +76,15 @@ pub queue_takes_no_turn : (old new : Client) (requests : List Request) (answer :
 queue_takes_no_turn old new requests answer e here stops is =
     let same : e ≡ error.TooManyTurns = let z = sym here ∙ is in cc in
     subst (StopsQueueing old new requests) same stops
+
+-- Faults.
+
+-- no request is refused by a fault
+pub no_fault_queued : (old new : Client) (requests : List Request) (e : AskError) → StopsQueueing old new requests e → KeepsFault new e
+no_fault_queued old new requests (error.Fault fault) stops = absurd stops
+no_fault_queued old new requests e stops = tt
+
+-- no write stops by one
+pub no_fault_written : (c : Client) (failures failures' : ℕ) (e : AskError) → FailsWriting failures failures' e → KeepsFault c e
+no_fault_written c failures failures' (error.Fault fault) stops = absurd stops
+no_fault_written c failures failures' e stops = tt

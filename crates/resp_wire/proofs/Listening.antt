@@ -14,12 +14,12 @@ use Rattle.resp_scan.specs.declared.event.Fault.{Fault}
 use Rattle.resp_session.specs.Reading.{ClientFault, ReadsAs, Waiting}
 use Rattle.resp_session.specs.ReadingLaws.{HearingGoesOn, ReadingsGoOn}
 use Rattle.resp_client.specs.Clients.{ClientState, next_number, state_of, with_answer}
-use Rattle.resp_client.specs.Hearing.{HasTaken, Hears, Refuses, UnlessReplied}
+use Rattle.resp_client.specs.Hearing.{HasFault, HasTaken, Hears, Refuses, UnlessReplied}
 use Rattle.resp_client.specs.declared.client.Client.{Client}
 use Rattle.resp_client.specs.declared.heard.What.{What}
 use Rattle.resp_client.specs.declared.heard.What.TheVariants.{Reply, Push, Shown, More}
 use Rattle.resp_wire.specs.Hearing.{Adds, AddsHeard, HearsAll, HearsFault, HearsSome, ReadsFrom, pushes_in, replies_in}
-use Rattle.resp_wire.specs.Stops.{FailsReading, StopsClient, StopsHearing, StopsListening, error_by, error_of}
+use Rattle.resp_wire.specs.Stops.{FailsReading, KeepsFault, StopsClient, StopsHearing, StopsListening, error_by, error_of}
 use Rattle.resp_wire.specs.declared.error.AskError.{AskError}
 use Rattle.resp_wire.specs.declared.error.AskError.TheVariants as error
 use Rattle.resp_wire.specs.declared.asked.Asked.{Asked}
@@ -213,7 +213,7 @@ hears_some s c before after front piece rest turns w = record {
 hears_fault : (s : ClientState) (c : Client) (before after : Asked) (front piece rest : List ℕ) (turns : ℕ) (fault : Fault) →
     (w : HearsUpTo s c before after front piece rest turns) → (fault.cause ≡ cause.OutOfMemory → ⊥) → Refuses (state_of c) w.hears.rest rest fault →
     HearsFault s before after (front ++ piece) fault
-hears_fault s c before after front piece rest turns fault w other (inr lacks) = absurd (other lacks.names)
+hears_fault s c before after front piece rest turns fault w other (inr (asked, lacks)) = absurd (other lacks.names)
 hears_fault s c before after front piece rest turns fault w other (inl is) = record {
   values = w.hears.values;
   waiting = (state_of c).waiting;
@@ -236,6 +236,14 @@ pub stops_hearing : (s : ClientState) (c : Client) (before after : Asked) (front
     StopsHearing s before after (front ++ piece) error
 stops_hearing s c before after front piece rest turns fault error is w refused = subst (StopsHearing s before after (front ++ piece)) (sym is)
     (stops_by fault.cause s c before after front piece rest turns fault refl w refused)
+
+-- a fault of the client stands where it stops the call
+keeps_by : (k : Cause) (c : Client) (fault : Fault) → HasFault c fault → KeepsFault c (error_by k fault)
+keeps_by cause.OutOfMemory c fault has = tt
+keeps_by k c fault has = has
+
+pub keeps_fault : (c : Client) (fault : Fault) → HasFault c fault → KeepsFault c (error_of fault)
+keeps_fault c fault has = keeps_by fault.cause c fault has
 
 -- what isn't added stays
 pub hears_none_more : (s : ClientState) (c : Client) (before mid after : Asked) (front piece rest : List ℕ) (turns : ℕ) →

@@ -1,12 +1,12 @@
 -- Why serving stops, by its errors.
-use Rattle.std.proofs.Common.{◌≡◌, ℕ, ◌≤◌, Option, None, Some, Err, List, [], ◌++◌, length, IfSome, refl, subst, sym, ◌∙◌}
+use Rattle.std.proofs.Common.{◌≡◌, ℕ, ◌≤◌, false, Option, None, Some, Err, List, [], ◌++◌, length, IfSome, refl, subst, sym, ◌∙◌}
 use Rattle.std.specs.Prelude.{IsErrOf, Result}
 use Rattle.std.specs.Option.{option_map}
 use Rattle.resp_server.specs.Handling.{IfOutOfMemory}
 use Rattle.resp_server.specs.Hubs.{HubState, Seat}
 use Rattle.resp_server.specs.declared.error.HubError.{HubError}
 use Rattle.resp_server.specs.declared.error.HubError.TheVariants as hub
-use Rattle.resp_wire.specs.Serving.{FailsServing, HasSent, Serves, ServesClosing, StopsAnswering, StopsReading, StopsServing, StopsWriting}
+use Rattle.resp_wire.specs.Serving.{FailsServing, HasSent, IsClosing, Serves, ServesClosing, StopsAnswering, StopsReading, StopsServing, StopsWriting}
 use Rattle.resp_wire.specs.declared.error.ServeError.{ServeError}
 use Rattle.resp_wire.specs.declared.error.ServeError.TheVariants.{NoSession, OutOfMemory, Read, Write, TooManyTurns}
 
@@ -23,12 +23,12 @@ stops_writing old given new id s front came held held' waits failures failures' 
 -- a read that stopped leaves nothing
 pub stops_reading : (old new : HubState) (id : ℕ) (s : Seat) (front came : List ℕ) (held held' : Option (List ℕ))
     (failures failures' left : ℕ) (error : ServeError) → StopsReading failures failures' left error →
-    Serves old new id s (front ++ came) held held' [] → StopsServing old new id s front came held held' error
+    Serves old new id s (front ++ came) held held' [] × IsClosing new id false → StopsServing old new id s front came held held' error
 stops_reading old new id s front came held held' failures failures' left NoSession h v = absurd h
 stops_reading old new id s front came held held' failures failures' left OutOfMemory h v = absurd h
 stops_reading old new id s front came held held' failures failures' left Read h v = v
 stops_reading old new id s front came held held' failures failures' left Write h v = absurd h
-stops_reading old new id s front came held held' failures failures' left TooManyTurns h v = ([], v)
+stops_reading old new id s front came held held' failures failures' left TooManyTurns h v = ([], v.0)
 
 -- of a session that is closing
 pub stops_closing : (old new : HubState) (id : ℕ) (held held' : Option (List ℕ)) (failures failures' left : ℕ) (error : ServeError) →

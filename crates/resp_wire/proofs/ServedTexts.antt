@@ -202,7 +202,7 @@ stops_piece go_on added old cur new id s front came piece held held' held'' NoSe
 stops_piece go_on added old cur new id s front came piece held held' held'' OutOfMemory here st (waits, v) =
     (waits, serves_first_on go_on added old cur new id s front came piece held held' held'' waits here st v)
 stops_piece go_on added old cur new id s front came piece held held' held'' Read here st v =
-    serves_piece go_on added old cur new id s front came piece held held' held'' [] here st v
+    (serves_piece go_on added old cur new id s front came piece held held' held'' [] here st v.0, v.1)
 stops_piece go_on added old cur new id s front came piece held held' held'' Write here st (waits, v) =
     (waits, serves_piece go_on added old cur new id s front came piece held held' held'' waits here st v)
 stops_piece go_on added old cur new id s front came piece held held' held'' TooManyTurns here st (waits, v) =
@@ -256,6 +256,10 @@ sent_is_open old new id held held' waits o h =
       taken = subst (λ (t : Seat). HasTaken t.decoder o.front) (sym same) o.taken;
     }
 
+-- and it isn't closing
+pub open_is : (hub : HubState) (id : ℕ) → IsOpen hub id → IsClosing hub id false
+open_is hub id o = ap (option_map (λ (t : Seat). t.closing)) o.here ∙ ap Some o.not_closing
+
 -- Where memory was wanting all that is answered waits.
 pub first_waits : (old new : HubState) (id : ℕ) (s : Seat) (front piece : List ℕ) (held : Option (List ℕ)) (commands : ℕ) → seat_at old id ≡ Some s →
     HasCutShort old new id s front piece commands → (waits : List ℕ) × ServesFirst old new id s front piece held held waits
@@ -291,14 +295,15 @@ none_ahead old id s front held held' text appended = record {
   between = old;
   held_before = held;
   written = λ some. absurd (omega (arith, some));
+  went_on = λ some. absurd (omega (arith, some));
   later = text;
   appended = appended;
 }
 
 -- all that came is answered and written
 pub all_written : (old cur : HubState) (id : ℕ) (s : Seat) (front came : List ℕ) (held held' : Option (List ℕ)) →
-    Serves old cur id s (front ++ came) held held' [] → IsNotAhead old id s front came held held'
-all_written old cur id s front came held held' v = record {
+    Serves old cur id s (front ++ came) held held' [] → IsOpen cur id → IsNotAhead old id s front came held held'
+all_written old cur id s front came held held' v o = record {
   before = came;
   last = [];
   parts = sym (append-nil came);
@@ -306,15 +311,16 @@ all_written old cur id s front came held held' v = record {
   between = cur;
   held_before = held';
   written = λ some. v;
+  went_on = λ some. open_is cur id o;
   later = [];
   appended = appends_nothing held';
 }
 
 -- all but the last piece was
 pub piece_ahead : (old cur : HubState) (id : ℕ) (s : Seat) (front came piece : List ℕ) (held held' held'' : Option (List ℕ)) (text : List ℕ) →
-    Serves old cur id s (front ++ came) held held' [] → length piece ≤ 4096 → Appends held' held'' text →
+    Serves old cur id s (front ++ came) held held' [] → IsOpen cur id → length piece ≤ 4096 → Appends held' held'' text →
     IsNotAhead old id s front (came ++ piece) held held''
-piece_ahead old cur id s front came piece held held' held'' text v short appended = record {
+piece_ahead old cur id s front came piece held held' held'' text v o short appended = record {
   before = came;
   last = piece;
   parts = refl;
@@ -322,6 +328,7 @@ piece_ahead old cur id s front came piece held held' held'' text v short appende
   between = cur;
   held_before = held';
   written = λ some. v;
+  went_on = λ some. open_is cur id o;
   later = text;
   appended = appended;
 }
@@ -331,7 +338,7 @@ pub stop_appends : (old new : HubState) (id : ℕ) (s : Seat) (front came : List
     StopsServing old new id s front came held held' error → (text : List ℕ) × Appends held held' text
 stop_appends old new id s front came held held' NoSession v = absurd v
 stop_appends old new id s front came held held' OutOfMemory (waits, v) = (v.sent.text, v.sent.appended)
-stop_appends old new id s front came held held' Read v = (v.sent.text, v.sent.appended)
+stop_appends old new id s front came held held' Read (v, going) = (v.sent.text, v.sent.appended)
 stop_appends old new id s front came held held' Write (waits, v) = (v.sent.text, v.sent.appended)
 stop_appends old new id s front came held held' TooManyTurns (waits, v) = (v.sent.text, v.sent.appended)
 
@@ -352,7 +359,7 @@ piece_serves go_on added old cur new id came piece held held' held'' short befor
     (seat_given old cur id s now st.store here st.state) refl st.taken in (
       serves_piece go_on added old cur new id s front came piece held held' held'' [] here st w,
       tt,
-      piece_ahead old cur id s front came piece held held' held'' w.sent.text v short w.sent.appended,
+      piece_ahead old cur id s front came piece held held' held'' w.sent.text v o short w.sent.appended,
     ))
 
 -- and where that stops
@@ -371,7 +378,7 @@ piece_stops go_on added old cur new id came piece held held' held'' error short 
     let (text, appended) = stop_appends cur new id now st.rest piece held' held'' error w in (
       tt,
       stops_piece go_on added old cur new id s front came piece held held' held'' error here st w,
-      piece_ahead old cur id s front came piece held held' held'' text v short appended,
+      piece_ahead old cur id s front came piece held held' held'' text v o short appended,
     ))
 
 -- it is closing where it was

@@ -52,19 +52,21 @@ pub record ServesFirst (old new : HubState) (id : ℕ) (s : Seat) (front came : 
   pub cut_short : HasCutShort old given id s front came commands
   pub sent : HasSent given new id held held' waits
 
--- What stands where serving stopped: behind a failed read nothing waits.
+-- What stands where serving stopped: behind a failed read nothing waits, and the session goes on.
 abbrev pub StopsServing : HubState → HubState → ℕ → Seat → List ℕ → List ℕ → Option (List ℕ) → Option (List ℕ) →
     ServeError → Type 0
 StopsServing old new id s front came held held' NoSession = ⊥
 StopsServing old new id s front came held held' OutOfMemory =
     (waits : List ℕ) × ServesFirst old new id s front came held held' waits
-StopsServing old new id s front came held held' Read = Serves old new id s (front ++ came) held held' []
+StopsServing old new id s front came held held' Read =
+    Serves old new id s (front ++ came) held held' [] × IsClosing new id false
 StopsServing old new id s front came held held' Write =
     (waits : List ℕ) × Serves old new id s (front ++ came) held held' waits
 StopsServing old new id s front came held held' TooManyTurns =
     (waits : List ℕ) × Serves old new id s (front ++ came) held held' waits
 
--- Where bytes came, all that was answered before the last piece of them was written before that was read.
+-- Where bytes came, all that was answered before the last piece of them was written before that was read, and the
+-- session went on.
 pub record IsNotAhead (old : HubState) (id : ℕ) (s : Seat) (front came : List ℕ) (held held' : Option (List ℕ)) :
     Type 0 where
   pub before : List ℕ
@@ -74,12 +76,13 @@ pub record IsNotAhead (old : HubState) (id : ℕ) (s : Seat) (front came : List 
   pub between : HubState
   pub held_before : Option (List ℕ)
   pub written : 0 < length came → Serves old between id s (front ++ before) held held_before []
+  pub went_on : 0 < length came → IsClosing between id false
   pub later : List ℕ
   pub appended : Appends held_before held' later
 
--- what each end tells: of the input that none is left, or of the session that it is closing
+-- what each end tells: of the input that none is left while the session goes on, or of the session that it is closing
 abbrev pub EndsBy : HubState → ℕ → Option (List ℕ) → Option (List ℕ) → Served → Type 0
-EndsBy hub id left left' Ended = TellsEnd left left'
+EndsBy hub id left left' Ended = TellsEnd left left' × IsClosing hub id false
 EndsBy hub id left left' Closed = IsClosing hub id true
 
 -- what waited in a session that is closing was written, or the first of it

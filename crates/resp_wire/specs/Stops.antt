@@ -5,6 +5,7 @@ use Rattle.resp_value.specs.declared.cause.Cause.{Cause}
 use Rattle.resp_value.specs.declared.cause.Cause.TheVariants as cause
 use Rattle.resp_scan.specs.declared.event as event
 use Rattle.resp_client.specs.Clients.{ClientState, state_of}
+use Rattle.resp_client.specs.Hearing.{HasFault}
 use Rattle.resp_client.specs.Sending.{DeclinesRequest}
 use Rattle.resp_client.specs.declared.client.Client.{Client}
 use Rattle.resp_client.specs.declared.send_error.SendError.{SendError}
@@ -56,6 +57,11 @@ StopsClient (Fault fault) = Unit {0}
 StopsClient OutOfMemory = Unit {0}
 StopsClient _ = ⊥
 
+-- a fault of the client is answered for good
+abbrev pub KeepsFault : Client → AskError → Type 0
+KeepsFault c (Fault fault) = HasFault c fault
+KeepsFault c _ = Unit {0}
+
 -- what was heard of a piece in which the client stopped
 abbrev pub StopsHearing : ClientState → Asked → Asked → List ℕ → AskError → Type 0
 StopsHearing s before after came (Fault fault) = HearsFault s before after came fault
@@ -77,10 +83,10 @@ StopsListening s c before after came TooManyTurns = HearsAll s c before after ca
 StopsListening s c before after came Ended = HearsAll s c before after came
 StopsListening s c before after came _ = ⊥
 
--- why no more is heard: a read failed, no turn is left, the input ended while a request waited, or the client stopped
+-- why no more is heard while a request waits: a read failed, no turn is left, or the input ended; or the client stopped
 abbrev pub FailsReading : ℕ → ℕ → Option (List ℕ) → Option (List ℕ) → ClientState → AskError → Type 0
-FailsReading failures failures' left left' s Read = HasRisen failures failures'
-FailsReading failures failures' left left' s TooManyTurns = Unit {0}
+FailsReading failures failures' left left' s Read = HasRisen failures failures' × (s.waiting.asks ≢ [])
+FailsReading failures failures' left left' s TooManyTurns = s.waiting.asks ≢ []
 FailsReading failures failures' left left' s Ended = TellsEnd left left' × (s.waiting.asks ≢ [])
 FailsReading failures failures' left left' s (Fault fault) = Unit {0}
 FailsReading failures failures' left left' s OutOfMemory = Unit {0}

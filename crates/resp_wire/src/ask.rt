@@ -8,7 +8,7 @@ ghost use Rattle.resp_client.specs.Hearing.{KeepsReading, WhereTaken};
 ghost use Rattle.resp_value.specs.Devices.{Appends};
 ghost use Rattle.resp_wire.specs.Hearing.{HearsAll};
 ghost use Rattle.resp_wire.specs.Asking.{SendsAll, SendsPart, SpendsTurns, sent};
-ghost use Rattle.resp_wire.specs.Stops.{FailsReading, FailsWriting, QueuesFirst, StopsListening, StopsQueueing, error_at};
+ghost use Rattle.resp_wire.specs.Stops.{FailsReading, FailsWriting, KeepsFault, QueuesFirst, StopsListening, StopsQueueing, error_at};
 ghost use Rattle.resp_wire.specs.Turns.{Halts, HasRead, Spends};
 
 use crate::asked::{Asked, Request};
@@ -51,17 +51,20 @@ pub fn ask<R: Source, W: Sink>(
     // A request is refused before anything is written, or a write fails before anything is read, or
     // all was written, and what came before the stop is heard.
     ensures refusal { IfErr result (λ error.
-        (StopsQueueing client.old client.new requests.now error × (writer.new ≡ writer.old) ×
+        (StopsQueueing client.old client.new requests.now error ×
+        KeepsReading client.old client.new × (writer.new ≡ writer.old) ×
         (reader.new ≡ reader.old) × (heard.new ≡ heard.old)) ⊎
         (SendsPart client.old client.new requests.now (W.written writer.old)
-        (W.written writer.new) × FailsWriting (W.failures writer.old) (W.failures writer.new) error
-        × (reader.new ≡ reader.old) × (heard.new ≡ heard.old)) ⊎
+        (W.written writer.new) × KeepsReading client.old client.new ×
+        FailsWriting (W.failures writer.old) (W.failures writer.new) error ×
+        (reader.new ≡ reader.old) × (heard.new ≡ heard.old)) ⊎
         (SendsAll client.old requests.now (W.written writer.old) (W.written writer.new) ×
         FailsReading (R.failures reader.old) (R.failures reader.new) (R.remaining reader.old)
         (R.remaining reader.new) (state_of client.new) error × ((came : List ℕ) ×
         HasRead (R.remaining reader.old) (R.remaining reader.new) came ×
         WhereTaken client.old (λ front. StopsListening (sent client.old requests.now) client.new
         heard.old heard.new (front ++ came) error)))) }
+    ensures fault_is_kept { IfErr result (KeepsFault client.new) }
 {
     if let Err(error) = queue(client, requests) {
         return Err(error);
@@ -166,6 +169,7 @@ fn hear_all<R: Source>(
     ensures turns { Spends (R.calls reader.old) (R.calls reader.new) turns.old turns.new }
     ensures refusal { IfErr result (FailsReading (R.failures reader.old) (R.failures reader.new)
         (R.remaining reader.old) (R.remaining reader.new) (state_of client.new)) }
+    ensures fault_is_kept { IfErr result (KeepsFault client.new) }
     ensures no_turn_left { IsErrOf result AskError.TooManyTurns → turns.new ≡ 0 }
 {
     laws::readings_go_on();

@@ -4,7 +4,7 @@ ghost use Rattle.std.specs.Prelude.{◌≡◌, ◌++◌, OnOk, IfErr};
 ghost use Rattle.resp_client.specs.Clients.{state_of};
 ghost use Rattle.resp_client.specs.Hearing.{WhereTaken};
 ghost use Rattle.resp_wire.specs.Hearing.{HearsAll};
-ghost use Rattle.resp_wire.specs.Stops.{StopsClient, StopsHearing, error_of};
+ghost use Rattle.resp_wire.specs.Stops.{KeepsFault, StopsClient, StopsHearing, error_of};
 
 use crate::asked::Asked;
 use crate::error::AskError;
@@ -35,6 +35,7 @@ pub(crate) fn hear_piece(
     ensures refusal { WhereTaken client.old (λ front. IfErr result
         (StopsHearing (state_of client.old) heard.old heard.new (front ++ piece.now))) }
     ensures fault_or_memory { IfErr result StopsClient }
+    ensures fault_is_kept { IfErr result (KeepsFault client.new) }
 {
     laws::readings_go_on();
     laws::hearing_goes_on();

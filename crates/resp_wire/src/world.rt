@@ -102,6 +102,7 @@ impl<L: Link, S: BuildHasher + Drop> World<L, S> {
     pub fn over(alloc: Global, links: Vec<L>, limits: Limits, hasher: S) -> Result<Self, OpenError>
         ensures shows { IfOk result (λ world. AllByRecursion L.is_honest links.items →
             Shows L.is_honest world limits (new_world (length links.items))) }
+        ensures as_many { IfOk result (λ world. length world.ends ≡ length links.items) }
         ensures too_many { IsErrOf result OpenError.TooManySessions ↔
             (65536 < length links.items) }
         ensures going { IfOk result (λ world. world.stopped ≡ None) }
@@ -157,9 +158,12 @@ impl<L: Link, S: BuildHasher + Drop> World<L, S> {
     pub fn run(&mut self, events: &[Event]) -> Result<(), Stop>
         ensures happens { OnOk result (RunsTo L.is_honest self.old self.new
             (map event_of events.now)) }
+        ensures going { OnOk result (self.new.stopped ≡ self.old.stopped) }
         ensures stops { IfErr result (StopsAt L.is_honest L.failures self.old self.new
             (map event_of events.now)) }
         ensures remembered { IfErr result (λ stop. self.new.stopped ≡ Some stop.cause) }
+        ensures stopped_before { IfSome self.old.stopped (λ cause. 0 < length events.now →
+            result ≡ Err (record { event = 0; cause = cause })) }
     {
         for index in 0..events.len() {
             if let Err(stop) = self.step(&events[index]) {

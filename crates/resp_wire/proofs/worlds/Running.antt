@@ -48,6 +48,10 @@ taken outcome = Ok outcome
 abbrev pub stops : Stop → Result Outcome Stop
 stops stop = Err stop
 
+-- a run stopped
+abbrev pub run_stops : Stop → Result (Unit {0}) Stop
+run_stops stop = Err stop
+
 -- a world that took an event had not stopped
 pub was_going : (o : Option Cause) (outcome : Outcome) → IfSome o (λ cause. taken outcome ≡ Err (record { event = 0; cause = cause })) → o ≡ None
 was_going None outcome e = refl
@@ -63,6 +67,21 @@ stopped_at_once (Some cause) (Some other) zero stop same going e =
     let is : stop ≡ record { event = 0; cause = other } = cc in
     (refl, ap (λ (s : Stop). s.cause) is ∙ was)
 stopped_at_once (Some cause) (Some other) (suc k) stop same going e = let never : Some cause ≡ None = going (omega arith) in absurd (cc)
+
+-- a world that had stopped stops again at the first of some events
+pub stops_again : (o now : Option Cause) (k : ℕ) (stop : Stop) → now ≡ o → (0 < k → o ≡ None) →
+    IfSome now (λ cause. stops stop ≡ Err (record { event = 0; cause = cause })) → (some : Type 0) →
+    IfSome o (λ cause. some → run_stops (record { event = k; cause = stop.cause }) ≡ Err (record { event = 0; cause = cause }))
+stops_again None now k stop same going e some = tt
+stops_again (Some cause) now k stop same going e some = λ _.
+    let (first, its) = stopped_at_once (Some cause) now k stop same going e in
+    ap (λ n. run_stops (record { event = n; cause = stop.cause })) first ∙ ap (λ c. run_stops (record { event = 0; cause = c })) its
+
+-- and takes none of them
+pub takes_none : (o : Option Cause) (answer : Result (Unit {0}) Stop) (count : ℕ) → (0 < count → o ≡ None) →
+    IfSome o (λ cause. 0 < count → answer ≡ Err (record { event = 0; cause = cause }))
+takes_none None answer count going = tt
+takes_none (Some cause) answer count going = λ some. let never : Some cause ≡ None = going some in absurd (cc)
 
 as_many : (events : List Event) → length (map event_of events) ≡ length events
 as_many [] = refl

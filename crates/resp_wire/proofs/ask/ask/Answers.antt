@@ -1,7 +1,8 @@
-use Rattle.std.proofs.Common.{◌++◌, inr, refl, subst}
+use Rattle.std.proofs.Common.{◌++◌, inl, inr, refl, subst}
 use Rattle.resp_wire.specs.Hearing.{HearsAll}
 use Rattle.resp_wire.specs.Stops.{StopsListening}
-use Rattle.resp_wire.proofs.Exchanges.{all_sent, queue_takes_no_turn, sends_all, spends_no_turns, spends_writes}
+use Rattle.resp_wire.proofs.Exchanges.{all_sent, no_fault_queued, no_fault_written, queue_takes_no_turn, sends_all, sends_part, spends_no_turns, spends_writes}
+use Rattle.resp_wire.proofs.Queueing.{keeps_on}
 use Rattle.resp_wire.proofs.ask.ask.Goals as goal
 
 pub returns-in-Err-clause-turns : goal.returns-in-Err-clause-turns
@@ -10,6 +11,28 @@ returns-in-Err-clause-turns g c = (
   spends_no_turns (g.W.Sink.calls c.args.writer.now) (g.R.Source.calls c.args.reader.now) c.args.turns,
   λ is. absurd (queue_takes_no_turn c.args.client.now c.queue.new.client c.args.requests.now _ c.in-Err.error refl c.in-Err.ensures.refusal is),
 )
+
+pub returns-in-Err-clause-refusal : goal.returns-in-Err-clause-refusal
+returns-in-Err-clause-refusal g c = inl (c.in-Err.ensures.refusal, c.queue.ensures.same_reading, refl, refl, refl)
+
+pub returns-in-Err-clause-fault_is_kept : goal.returns-in-Err-clause-fault_is_kept
+returns-in-Err-clause-fault_is_kept g c = no_fault_queued c.args.client.now c.queue.new.client c.args.requests.now c.in-Err.error c.in-Err.ensures.refusal
+
+pub returns-in-Err-send_all-clause-refusal : goal.returns-in-Err-send_all-clause-refusal
+returns-in-Err-send_all-clause-refusal g c =
+    inr (inl (
+      sends_part c.args.client.now c.queue.new.client c.send_all.new.client c.args.requests.now (g.W.Sink.written c.args.writer.now)
+          (g.W.Sink.written c.send_all.new.writer) c.in_default.ensures.all_queued c.send_all.ensures.sent,
+      keeps_on c.args.client.now c.queue.new.client c.send_all.new.client c.queue.ensures.same_reading c.send_all.ensures.same_reading,
+      c.in-Err-send_all.ensures.refusal,
+      refl,
+      refl,
+    ))
+
+pub returns-in-Err-send_all-clause-fault_is_kept : goal.returns-in-Err-send_all-clause-fault_is_kept
+returns-in-Err-send_all-clause-fault_is_kept g c =
+    no_fault_written c.send_all.new.client (g.W.Sink.failures c.args.writer.now) (g.W.Sink.failures c.send_all.new.writer) c.in-Err-send_all.error
+    c.in-Err-send_all.ensures.refusal
 
 pub returns-in-Err-send_all-clause-turns : goal.returns-in-Err-send_all-clause-turns
 returns-in-Err-send_all-clause-turns g c = (

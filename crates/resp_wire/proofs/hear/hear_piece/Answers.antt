@@ -1,6 +1,7 @@
-use Rattle.std.proofs.Common.{rules}
+use Rattle.std.proofs.Common.{rules, subst, sym}
 use Rattle.resp_client.specs.Clients.{state_of}
-use Rattle.resp_wire.proofs.Listening.{client_stops, hears_in_turns, hears_more, hears_none_more, hears_nothing, hears_whole, stops_hearing}
+use Rattle.resp_wire.specs.Stops.{KeepsFault}
+use Rattle.resp_wire.proofs.Listening.{client_stops, hears_in_turns, hears_more, hears_none_more, hears_nothing, hears_whole, keeps_fault, stops_hearing}
 use Rattle.resp_wire.proofs.hear.hear_piece.Goals as goal
 
 pub loop-turn-init : goal.loop-turn-init
@@ -41,3 +42,7 @@ returns-then-is_err-clause-refusal c = λ front h.
 
 pub returns-in-Err-clause-fault_or_memory : goal.returns-in-Err-clause-fault_or_memory
 returns-in-Err-clause-fault_or_memory c = client_stops c.in-Err.fault c.stop.result c.stop.ensures
+
+pub returns-in-Err-clause-fault_is_kept : goal.returns-in-Err-clause-fault_is_kept
+returns-in-Err-clause-fault_is_kept c =
+    subst (KeepsFault c.feed.new.self) (sym c.stop.ensures) (keeps_fault c.feed.new.self c.in-Err.fault c.in-Err.ensures.fault_is_kept)

@@ -3,10 +3,10 @@ use Rattle.std.proofs.Common.{rules, refl, [], ◌++◌, ◌≡◌, ap, subst, t
 use Rattle.resp_server.specs.Handling.{HasAnswered, WhereOpen}
 use Rattle.resp_wire.specs.Serving.{FailsServing, IsNotAhead, Serves, StopsServing}
 use Rattle.resp_wire.proofs.Seated.{at_open, where_open}
-use Rattle.resp_wire.proofs.ServedTexts.{all_written, none_ahead, piece_serves, piece_stops, sent_is_open, serves_nothing}
+use Rattle.resp_wire.proofs.ServedTexts.{all_written, none_ahead, open_is, piece_serves, piece_stops, sent_is_open, serves_nothing}
 use Rattle.resp_wire.proofs.ServeStops.{fails_reading, no_turn_to_read, stops_reading, stops_writing}
 use Rattle.resp_wire.proofs.Exchanges.{spends_writes}
-use Rattle.resp_wire.proofs.Turning.{has_read_more, has_read_same, reads_none, spends_both, spends_nothing}
+use Rattle.resp_wire.proofs.Turning.{end_behind, has_read_more, has_read_same, reads_none, spends_both, spends_nothing}
 use Rattle.resp_wire.proofs.serve.serve_open.Goals as goal
 
 pub returns-in-Err-clause-served : goal.returns-in-Err-clause-served
@@ -65,7 +65,16 @@ returns-in-Ok-eq0-clause-served g c =
           (take c.in-Ok-eq0.field-0 c.read_some.new.into) (ap (λ n. take n c.read_some.new.into) none) read c.in-Ok-eq0.ensures.read,
       where_open old id _ (λ s here not_closing front taken.
           let v = at_open old id (λ t f. Serves old cur id t (f ++ came) held held' []) s front served here not_closing taken in
-          (v, tt, all_written old cur id s front came held held' v)),
+          (v, tt, all_written old cur id s front came held held' v c.loop-count.invariant.is_open)),
+    )
+
+pub returns-in-Ok-eq0-clause-end : goal.returns-in-Ok-eq0-clause-end
+returns-in-Ok-eq0-clause-end g c =
+    let none : c.in-Ok-eq0.field-0 ≡ 0 = search rules in
+    let (came, read, served) = c.loop-count.invariant.served in (
+      end_behind (g.R.Source.remaining c.args.reader.now) (g.R.Source.remaining c.loop-count.reader) (g.R.Source.remaining c.read_some.new.reader) came read
+          (c.in-Ok-eq0.ensures.end (search rules) none),
+      open_is c.loop-count.hub c.args.id c.loop-count.invariant.is_open,
     )
 
 pub returns-in-Ok-eq0-clause-turns : goal.returns-in-Ok-eq0-clause-turns
@@ -89,8 +98,9 @@ returns-in-Err-read_some-clause-served g c =
           let v = at_open old id (λ t f. Serves old cur id t (f ++ came) held held' []) s front served here not_closing taken in (
             tt,
             stops_reading old cur id s front came held held' (g.R.Source.failures c.loop-count.reader) (g.R.Source.failures c.read_some.new.reader)
-                c.read_some.new.turns c.unread.result (c.unread.ensures _ _ _ c.in-Err-read_some.ensures.halted) v,
-            all_written old cur id s front came held held' v,
+                c.read_some.new.turns c.unread.result (c.unread.ensures _ _ _ c.in-Err-read_some.ensures.halted)
+                (v, open_is cur id c.loop-count.invariant.is_open),
+            all_written old cur id s front came held held' v c.loop-count.invariant.is_open,
           )),
     )
 

@@ -1,8 +1,8 @@
-use Rattle.std.proofs.Common.{◌≡◌, ◌∙◌, None, arith, map, refl, subst, sym}
+use Rattle.std.proofs.Common.{◌≡◌, ◌∙◌, ◌<◌, None, arith, length, map, refl, subst, sym}
 use Rattle.resp_wire.specs.Happening.{RunsTo}
 use Rattle.resp_wire.specs.Worlds.{event_of}
 use Rattle.resp_wire.proofs.world.World.run.Goals as goal
-use Rattle.resp_wire.proofs.worlds.Running.{among, event_there, runs_none, runs_one_more, stopped_at_once, up_to_last, was_going}
+use Rattle.resp_wire.proofs.worlds.Running.{among, event_there, runs_none, runs_one_more, stopped_at_once, stops_again, takes_none, up_to_last, was_going}
 
 pub loop-index-init : goal.loop-index-init
 loop-index-init g c = record {
@@ -23,6 +23,12 @@ returns-in-Err-clause-stops g c =
           c.in-Err.ensures.stopped_before;
       reason = λ none. c.in-Err.ensures.stops (i.same ∙ none);
     }
+
+pub returns-in-Err-clause-stopped_before : goal.returns-in-Err-clause-stopped_before
+returns-in-Err-clause-stopped_before g c =
+    let i = c.loop-index.invariant in
+    stops_again c.args.self.now.stopped c.loop-index.self.stopped c.loop-index.index c.in-Err.stop i.same i.going c.in-Err.ensures.stopped_before
+    (0 < length c.args.events.now)
 
 pub loop-index-preserved : goal.loop-index-preserved
 loop-index-preserved g c =
@@ -47,3 +53,9 @@ returns-clause-happens g c =
     let past = c.loop-index-test.false in
     subst (RunsTo g.L.Link.is_honest c.args.self.now c.loop-index.self)
     (up_to_last c.args.events.now c.loop-index.index (omega (arith, within, past))) i.happens
+
+pub returns-clause-stopped_before : goal.returns-clause-stopped_before
+returns-clause-stopped_before g c =
+    let i = c.loop-index.invariant in
+    let past = c.loop-index-test.false in
+    takes_none c.args.self.now.stopped _ (length c.args.events.now) (λ some. i.going (omega (arith, some, past)))
