@@ -1,7 +1,8 @@
 -- Why the events of a script are not played to their end.
-use Rattle.std.specs.Prelude.{◌≡◌, ◌⊎◌, ℕ, List, ◌++◌, map, Contains, Option, Result, Ok, Err, codes, decimal}
+use Rattle.std.specs.Prelude.{◌≡◌, ◌⊎◌, ℕ, List, ◌++◌, map, Contains, Option, Some, Result, Ok, Err, codes, decimal}
 use Rattle.resp_value.specs.Causes.{name_of}
 use Rattle.resp_value.specs.Devices.{Appends, HasRisen}
+use Rattle.resp_value.specs.declared.cause.Cause.{Cause}
 use Rattle.resp_wire.specs.declared.event.Event.{Event}
 use Rattle.resp_tool.specs.declared.play.PlayError.{PlayError}
 use Rattle.resp_tool.specs.declared.play.PlayError.TheVariants.{Stopped, Write, Memory}
@@ -21,6 +22,11 @@ IsAtStep steps _ = Unit {0}
 abbrev pub IsAtLine : ℕ → PlayError → Type 0
 IsAtLine line (Stopped stopped cause) = stopped ≡ line
 IsAtLine line _ = Unit {0}
+
+-- at a stop the world keeps its cause
+abbrev pub KeepsCause : Option Cause → PlayError → Type 0
+KeepsCause stopped (Stopped line cause) = stopped ≡ Some cause
+KeepsCause stopped _ = Unit {0}
 
 -- a reason that is no stop
 abbrev pub IsNoStop : PlayError → Type 0

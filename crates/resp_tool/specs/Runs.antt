@@ -1,12 +1,12 @@
 -- What a run of the program does with its stream.
-use Rattle.std.specs.Prelude.{◌≡◌, ℕ, List, Option, Result, Ok, Err}
+use Rattle.std.specs.Prelude.{◌≡◌, ℕ, List, [], Option, Some, IfSome, Result, Ok, Err}
 use Rattle.resp_value.specs.Canonical.{canonical_text, Fits}
 use Rattle.resp_value.specs.Rules.{Rules}
 use Rattle.resp_tool.specs.Counts.{Counts, IsAny, LeavesNothing}
 use Rattle.resp_tool.specs.Faults.{status_of}
 use Rattle.resp_tool.specs.Scans.{IsShownIn, IsShownOf}
 use Rattle.resp_tool.specs.Shown.{shown_text}
-use Rattle.resp_tool.specs.Streams.{AreRead, Renders}
+use Rattle.resp_tool.specs.Streams.{AreRead, AtEnd, Renders}
 use Rattle.resp_tool.specs.declared.options.Task.{Task}
 use Rattle.resp_tool.specs.declared.options.Task.TheVariants.{Show, Check, Canon}
 use Rattle.resp_tool.specs.declared.tool_error.ToolError.{ToolError}
@@ -30,5 +30,6 @@ pub record HasRun (left left' before after : Option (List ℕ)) (status : ℕ) :
   pub bytes : List ℕ
   pub result : Result (Unit {0}) ToolError
   pub read : AreRead left left' bytes
+  pub to_its_end : AtEnd result (IfSome left (λ _. left' ≡ Some []))
   pub ran : RunsTo task rules bytes before after result
   pub ended : status_of_run result ≡ status

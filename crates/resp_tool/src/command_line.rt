@@ -1,15 +1,16 @@
 //! The command line of the program: what its words bring about, and the status.
 
-ghost use Rattle.std.specs.Prelude.{◌≡◌, ◌≢◌, ◌⊎◌, ◌≤◌, ℕ, List};
+ghost use Rattle.std.specs.Prelude.{◌≡◌, ◌≢◌, ◌⊎◌, ◌≤◌, ◌+◌, ℕ, List, [], Some, IfSome};
 ghost use Rattle.resp_tool.specs.Faults.{status_of};
 ghost use Rattle.resp_tool.specs.Runs.{HasRun, RunsTo};
-ghost use Rattle.resp_tool.specs.Streams.{AreRead};
+ghost use Rattle.resp_tool.specs.Streams.{AreRead, AtEnd};
 ghost use Rattle.resp_value.specs.Rules.{rules_under};
 
 use crate::canon::canon;
 use crate::check::check;
 use crate::options::{Options, Task, parse};
 use crate::show::show;
+use crate::stream::MOST_READS;
 use crate::text::write_text;
 use crate::tool_error::ToolError;
 use clap::error::ErrorKind;
@@ -78,9 +79,12 @@ fn run<R: Source, W: Sink>(
     writer: &mut W,
 ) -> Result<(), ToolError>
     requires { (1 ≤ options.now.piece) × (options.now.piece ≤ 65536) }
-    ensures { (bytes : List ℕ) × AreRead (R.remaining reader.old) (R.remaining reader.new) bytes ×
+    ensures ran { (bytes : List ℕ) × AreRead (R.remaining reader.old) (R.remaining reader.new) bytes ×
         RunsTo options.now.task (rules_under options.now.version options.now.limits) bytes
         (W.written writer.old) (W.written writer.new) result }
+    ensures read_to_its_end { AtEnd result (IfSome (R.remaining reader.old) (λ _.
+        R.remaining reader.new ≡ Some [])) }
+    ensures reads_bounded { R.calls reader.new ≤ R.calls reader.old + MOST_READS }
 {
     let version = options.version;
     let limits = options.limits;
@@ -104,8 +108,9 @@ pub fn command<S: AsStr, R: Source, W: Sink, F: Sink>(
     faults: &mut F,
 ) -> u8
     ensures at_most_three { result ≤ 3 }
-    ensures ran { (reader.new ≡ reader.old) ⊎ HasRun (R.remaining reader.old)
+    ensures ran { ((reader.new ≡ reader.old) × (result ≢ 1)) ⊎ HasRun (R.remaining reader.old)
         (R.remaining reader.new) (W.written writer.old) (W.written writer.new) result }
+    ensures reads_bounded { R.calls reader.new ≤ R.calls reader.old + MOST_READS }
     ensures nothing_at_two { result ≡ 2 →
         (reader.new ≡ reader.old) × (writer.new ≡ writer.old) }
 {

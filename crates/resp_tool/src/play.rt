@@ -1,7 +1,7 @@
 //! `loop`: the events of a script in a world, and what comes of each.
 
-ghost use Rattle.std.specs.Prelude.{◌≡◌, ◌++◌, codes, decimal, IfErr};
-ghost use Rattle.resp_tool.specs.Plays.{FailsToWrite, IsAtLine, IsAtStep, IsNoStop};
+ghost use Rattle.std.specs.Prelude.{◌≡◌, ◌++◌, codes, decimal, None, IfErr, OnOk};
+ghost use Rattle.resp_tool.specs.Plays.{FailsToWrite, IsAtLine, IsAtStep, IsNoStop, KeepsCause};
 ghost use Rattle.resp_tool.specs.Written.{WritesText};
 ghost use Rattle.resp_tool.specs.declared.play.PlayError.TheVariants.{Write};
 
@@ -99,6 +99,8 @@ pub fn play<L: Link, S: BuildHasher + Drop, W: Sink>(
     writer: &mut W,
 ) -> Result<(), PlayError>
     ensures stopped { IfErr result (λ error. IsAtStep script.now.steps.items error) }
+    ensures cause { IfErr result (KeepsCause world.new.stopped) }
+    ensures going { OnOk result (world.old.stopped ≡ None → world.new.stopped ≡ None) }
     ensures failed { FailsToWrite (W.failures writer.old) (W.failures writer.new) result }
 {
     for (line, event) in &script.steps {
@@ -140,6 +142,8 @@ fn flush<L: Link, S: BuildHasher + Drop, W: Sink>(
     writer: &mut W,
 ) -> Result<(), PlayError>
     ensures stopped { IfErr result (λ error. IsAtLine line error) }
+    ensures cause { IfErr result (KeepsCause world.new.stopped) }
+    ensures going { OnOk result (world.old.stopped ≡ None → world.new.stopped ≡ None) }
     ensures failed { FailsToWrite (W.failures writer.old) (W.failures writer.new) result }
 {
     for number in 1..=clients {
@@ -161,6 +165,8 @@ fn take<L: Link, S: BuildHasher + Drop, W: Sink>(
     writer: &mut W,
 ) -> Result<(), PlayError>
     ensures stopped { IfErr result (λ error. IsAtLine line error) }
+    ensures cause { IfErr result (KeepsCause world.new.stopped) }
+    ensures going { OnOk result (world.old.stopped ≡ None → world.new.stopped ≡ None) }
     ensures failed { FailsToWrite (W.failures writer.old) (W.failures writer.new) result }
 {
     let number = event.client();
