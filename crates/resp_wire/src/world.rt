@@ -140,6 +140,7 @@ impl<L: Link, S: BuildHasher + Drop> World<L, S> {
         ensures stopped_before { IfSome self.old.stopped (λ cause.
             result ≡ Err (record { event = 0; cause = cause })) }
         ensures index { IfErr result (λ stop. stop.event ≡ 0) }
+        ensures as_many { length self.new.ends ≡ length self.old.ends }
     {
         if let Some(cause) = self.stopped {
             return Err(Stop { event: 0, cause });
@@ -164,6 +165,7 @@ impl<L: Link, S: BuildHasher + Drop> World<L, S> {
         ensures remembered { IfErr result (λ stop. self.new.stopped ≡ Some stop.cause) }
         ensures stopped_before { IfSome self.old.stopped (λ cause. 0 < length events.now →
             result ≡ Err (record { event = 0; cause = cause })) }
+        ensures as_many { length self.new.ends ≡ length self.old.ends }
     {
         for index in 0..events.len() {
             if let Err(stop) = self.step(&events[index]) {
@@ -181,6 +183,7 @@ impl<L: Link, S: BuildHasher + Drop> World<L, S> {
         ensures happens { IfOk result (Happens L.is_honest self.old self.new (event_of event.now)) }
         ensures stops { IfErr result (Fails L.is_honest L.failures self.old self.new) }
         ensures going { self.new.stopped ≡ self.old.stopped }
+        ensures as_many { length self.new.ends ≡ length self.old.ends }
     {
         let number = event.client();
         if number == 0 || number > self.ends.len() {
@@ -207,6 +210,7 @@ impl<L: Link, S: BuildHasher + Drop> World<L, S> {
             (session.Send number (words_of command.now))) }
         ensures stops { IfErr result (λ cause. cause ≡ Cause.OutOfMemory) }
         ensures going { self.new.stopped ≡ self.old.stopped }
+        ensures as_many { length self.new.ends ≡ length self.old.ends }
     {
         laws::readings_stay();
         laws::what_has_come_was_sent();
@@ -222,6 +226,7 @@ impl<L: Link, S: BuildHasher + Drop> World<L, S> {
             (session.Greet number asked)) }
         ensures stops { IfErr result (λ cause. cause ≡ Cause.OutOfMemory) }
         ensures going { self.new.stopped ≡ self.old.stopped }
+        ensures as_many { length self.new.ends ≡ length self.old.ends }
     {
         laws::readings_stay();
         laws::what_has_come_was_sent();
@@ -237,6 +242,7 @@ impl<L: Link, S: BuildHasher + Drop> World<L, S> {
             (session.ToServer number count)) }
         ensures stops { IfErr result (Fails L.is_honest L.failures self.old self.new) }
         ensures going { self.new.stopped ≡ self.old.stopped }
+        ensures as_many { length self.new.ends ≡ length self.old.ends }
     {
         laws::what_arrives_is_answered();
         laws::what_is_shown_is_read();
@@ -265,6 +271,7 @@ impl<L: Link, S: BuildHasher + Drop> World<L, S> {
             (session.ToClient number count)) }
         ensures stops { IfErr result (Fails L.is_honest L.failures self.old self.new) }
         ensures going { self.new.stopped ≡ self.old.stopped }
+        ensures as_many { length self.new.ends ≡ length self.old.ends }
     {
         laws::readings_go_on();
         laws::what_is_shown_is_read();
@@ -292,6 +299,7 @@ impl<L: Link, S: BuildHasher + Drop> World<L, S> {
             (session.Push number (map datum_of (list_of items.now)))) }
         ensures stops { IfErr result (Fails L.is_honest L.failures self.old self.new) }
         ensures going { self.new.stopped ≡ self.old.stopped }
+        ensures as_many { length self.new.ends ≡ length self.old.ends }
     {
         laws::what_is_shown_is_read();
         laws::what_has_come_was_sent();
@@ -310,6 +318,7 @@ impl<L: Link, S: BuildHasher + Drop> World<L, S> {
             (session.Drop number)) }
         ensures stops { IfErr result (Fails L.is_honest L.failures self.old self.new) }
         ensures going { self.new.stopped ≡ self.old.stopped }
+        ensures as_many { length self.new.ends ≡ length self.old.ends }
     {
         laws::a_change_is_of_one_connection();
         if let Err(_) = self.hub.close(number as u64) {

@@ -9,6 +9,7 @@ loop-index-init g c = record {
   within = omega arith;
   happens = runs_none g.L.Link.is_honest c.args.self.now;
   same = refl;
+  as_many = refl;
   going = λ less. absurd (omega (arith, less));
 }
 
@@ -43,6 +44,7 @@ loop-index-preserved g c =
           (event_of event) c.in_default.field-0 i.happens (event_there c.args.events.now c.loop-index.index event less c.index-events-index.is)
           c.in_default.ensures.happens;
       same = c.in_default.ensures.going ∙ sym none;
+      as_many = c.step.ensures.as_many ∙ i.as_many;
       going = λ _. none;
     }
 

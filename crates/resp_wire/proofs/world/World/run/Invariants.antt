@@ -8,5 +8,6 @@ invariant-loop-index g l = record {
   within : l.index ≤ length l.fn.events;
   happens : RunsTo g.L.Link.is_honest l.fn.self l.self (take l.index (map event_of l.fn.events));
   same : l.self.stopped ≡ l.fn.self.stopped;
+  as_many : length l.self.ends ≡ length l.fn.self.ends;
   going : 0 < l.index → l.fn.self.stopped ≡ None;
 }
