@@ -300,7 +300,7 @@ fn a_value_of_many_levels(rt: HostRuntime) -> Result<(), Fail> {
     Ok(())
 }
 
-/// What is held stays the same, however many heads come behind the deepest.
+/// Nothing is held, however many heads come behind the deepest.
 #[test]
 fn a_million_levels(rt: HostRuntime) -> Result<(), Fail> {
     let alloc = rt.alloc();
@@ -316,7 +316,7 @@ fn a_million_levels(rt: HostRuntime) -> Result<(), Fail> {
     let mut decoder = Decoder::new(alloc, Version::Two, &limits);
     for _ in 0..1_000 {
         assert_eq!(rt; decoder.feed(heads.as_slice()), Err(too_deep));
-        assert_eq!(rt; decoder.weight(), 3 * 128);
+        assert_eq!(rt; decoder.weight(), 0);
     }
     Ok(())
 }
