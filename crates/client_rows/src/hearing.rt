@@ -1,7 +1,8 @@
 //! Rows of what a client hears.
 
 use anyhow::Result;
-use resp_client::{Client, Fault, Heard, PushSink, What};
+use resp_client::{Client, Fault, Heard, PushList, PushSink, What};
+use resp_value::value::Members;
 use rows::Cut;
 use std::alloc::Global;
 
@@ -36,11 +37,20 @@ fn hear_piece(client: &mut Client, piece: &[u8], said: &mut String) -> Result<bo
             }
             Err(fault) => {
                 say_fault(fault, said)?;
+                say_change(client, rest, fault, said)?;
                 return Ok(false);
             }
         }
     }
     Ok(true)
+}
+
+/// Says where a fault isn't answered again.
+fn say_change(client: &mut Client, rest: &[u8], fault: Fault, said: &mut String) -> Result<()> {
+    if client.feed(rest) != Err(fault) || client.feed(b"") != Err(fault) {
+        said.push_str("the fault isn't answered again\n")?;
+    }
+    Ok(())
 }
 
 /// `feed TEXT` is one call, and says how many bytes it used and what ended with them.
@@ -55,53 +65,40 @@ pub fn feed(alloc: Global, client: &mut Client, given: &str, said: &mut String) 
     }
 }
 
-/// `show TEXT` is as `hear TEXT`, with a sink to which the pushes are shown.
+/// `show TEXT` is as `hear TEXT` with a sink, and says at its end the pushes that this was shown.
 pub fn show(
     alloc: Global,
     client: &mut Client,
-    sink: &mut Box<dyn PushSink>,
     given: &str,
     cut: Cut,
     said: &mut String,
 ) -> Result<()> {
     let text = rows::bytes(alloc, given)?;
+    let mut sink: Box<dyn PushSink> = Box::new(alloc, PushList::new(alloc))?;
     for piece in rows::pieces(alloc, text.as_slice(), cut)? {
-        if !show_piece(client, sink, piece, said)? {
-            break;
-        }
-    }
-    Ok(())
-}
-
-/// Says what is heard in a piece besides its pushes. Whether the client goes on.
-fn show_piece(
-    client: &mut Client,
-    sink: &mut Box<dyn PushSink>,
-    piece: &[u8],
-    said: &mut String,
-) -> Result<bool> {
-    let mut rest = piece;
-    for _ in 0..=piece.len() {
-        match client.feed_with(rest, sink) {
-            Ok(Heard { used, what }) => {
-                rest = &rest[used..];
-                if what == What::More {
-                    break;
+        let mut rest = piece;
+        for _ in 0..=piece.len() {
+            match client.feed_with(rest, &mut sink) {
+                Ok(Heard { used, what }) => {
+                    rest = &rest[used..];
+                    if what == What::More {
+                        break;
+                    }
+                    say_what(&what, said)?;
                 }
-                say_what(&what, said)?;
-            }
-            Err(fault) => {
-                say_fault(fault, said)?;
-                return Ok(false);
+                Err(fault) => {
+                    say_fault(fault, said)?;
+                    say_change(client, rest, fault, said)?;
+                    return say_pushes(sink.shown(), said);
+                }
             }
         }
     }
-    Ok(true)
+    say_pushes(sink.shown(), said)
 }
 
-/// `shown` says each push that the sink was shown.
-pub fn shown(sink: &Box<dyn PushSink>, said: &mut String) -> Result<()> {
-    for items in sink.shown() {
+fn say_pushes(pushes: &[Members], said: &mut String) -> Result<()> {
+    for items in pushes {
         rows::add_members(said, "push", items.list())?;
         said.push_str("\n")?;
     }

@@ -2,17 +2,16 @@
 
 use crate::{hearing, queueing};
 use anyhow::{Result, bail};
-use resp_client::{Client, PushList, PushSink};
+use resp_client::Client;
 use resp_value::Limits;
 use rows::{Cut, Subject};
 use std::alloc::Global;
 
-/// A client, and a sink of pushes beside it.
+/// A client.
 #[derive(Drop)]
 pub struct Talker {
     alloc: Global,
     client: Client,
-    sink: Box<dyn PushSink>,
 }
 
 impl Subject for Talker {
@@ -20,7 +19,6 @@ impl Subject for Talker {
         Ok(Talker {
             alloc,
             client: Client::new(alloc, &Limits::standard()),
-            sink: Box::new(alloc, PushList::new(alloc))?,
         })
     }
 
@@ -40,8 +38,7 @@ impl Subject for Talker {
             "state" if given.is_empty() => queueing::state(client, said)?,
             "hear" => hearing::hear(alloc, client, given, cut, said)?,
             "feed" => hearing::feed(alloc, client, given, said)?,
-            "show" => hearing::show(alloc, client, &mut self.sink, given, cut, said)?,
-            "shown" if given.is_empty() => hearing::shown(&self.sink, said)?,
+            "show" => hearing::show(alloc, client, given, cut, said)?,
             _ => bail!("an unknown row"),
         }
         Ok(())
