@@ -1,0 +1,93 @@
+//! Texts as rows spell them: with the escapes `\r`, `\n`, `\\` and `\xNN`, and with `{text*count}`
+//! for a text that stands there `count` times. Another brace is written `\x7b` or `\x7d`.
+
+use anyhow::{Context, Result, bail};
+use resp_value::Command;
+use std::alloc::Global;
+
+/// The bytes that a row's text spells.
+pub fn bytes(alloc: Global, text: &str) -> Result<Vec<u8>> {
+    let mut all = Vec::new(alloc);
+    let (first, runs) = text.split_once('{').unwrap_or((text, ""));
+    add_escaped(&mut all, first)?;
+    if first.len() < text.len() {
+        for part in runs.split('{') {
+            let (run, after) = part.split_once('}').context("a run without its end")?;
+            add_run(alloc, &mut all, run)?;
+            add_escaped(&mut all, after)?;
+        }
+    }
+    Ok(all)
+}
+
+/// The words of a row's text, which are apart by one space. A space in a word is written `\x20`,
+/// and an empty word `{x*0}`.
+pub fn words(alloc: Global, text: &str) -> Result<Vec<Vec<u8>>> {
+    let mut all = Vec::new(alloc);
+    for word in text.split(' ') {
+        if word.is_empty() {
+            bail!("an empty word");
+        }
+        all.push(bytes(alloc, word)?)?;
+    }
+    Ok(all)
+}
+
+/// A command of the words of a row's text.
+pub fn command(alloc: Global, text: &str) -> Result<Command> {
+    Ok(Command::new(words(alloc, text)?)?)
+}
+
+/// Adds a text `text*count`.
+fn add_run(alloc: Global, all: &mut Vec<u8>, run: &str) -> Result<()> {
+    let (text, count) = run.rsplit_once('*').context("a run without its count")?;
+    let count = count.parse::<usize>().context("a run without its count")?;
+    let mut once = Vec::new(alloc);
+    add_escaped(&mut once, text)?;
+    for _ in 0..count {
+        all.extend_from_slice(once.as_slice())?;
+    }
+    Ok(())
+}
+
+/// Adds a text that has escapes and no runs.
+fn add_escaped(all: &mut Vec<u8>, text: &str) -> Result<()> {
+    let mut rest = text.as_bytes();
+    for _ in 0..text.len() {
+        let Some((first, others)) = rest.split_first() else {
+            break;
+        };
+        rest = match *first {
+            b'\\' => add_escape(all, others)?,
+            b'}' => bail!("a brace that ends no run"),
+            byte => {
+                all.push(byte)?;
+                others
+            }
+        };
+    }
+    Ok(())
+}
+
+/// Adds the byte of an escape, whose backslash was read, and gives what follows it.
+fn add_escape<'a>(all: &mut Vec<u8>, text: &'a [u8]) -> Result<&'a [u8]> {
+    let (byte, rest) = match text {
+        [b'r', rest @ ..] => (b'\r', rest),
+        [b'n', rest @ ..] => (b'\n', rest),
+        [b'\\', rest @ ..] => (b'\\', rest),
+        [b'x', high, low, rest @ ..] => ((digit(*high)? << 4) | digit(*low)?, rest),
+        _ => bail!("an unknown escape"),
+    };
+    all.push(byte)?;
+    Ok(rest)
+}
+
+/// The value of a hexadecimal digit.
+fn digit(byte: u8) -> Result<u8> {
+    match byte {
+        b'0'..=b'9' => Ok(byte - b'0'),
+        b'a'..=b'f' => Ok(byte - b'a' + 10),
+        b'A'..=b'F' => Ok(byte - b'A' + 10),
+        _ => bail!("an unknown hexadecimal digit"),
+    }
+}
