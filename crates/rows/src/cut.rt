@@ -10,7 +10,7 @@ pub enum Cut {
     Whole,
     /// It is two pieces, the first of this many bytes, or of all where it has fewer.
     At(usize),
-    /// Each byte is a piece, with an empty one after it.
+    /// Each byte is a piece, with an empty one before it and after it.
     Bytes,
 }
 
@@ -35,6 +35,7 @@ pub fn pieces<'a>(alloc: Global, text: &'a [u8], cut: Cut) -> Result<Vec<&'a [u8
             all.push(&text[at..])?;
         }
         Cut::Bytes => {
+            all.push(&text[..0])?;
             for at in 0..text.len() {
                 all.push(&text[at..at + 1])?;
                 all.push(&text[at..at])?;

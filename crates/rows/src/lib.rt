@@ -7,18 +7,20 @@
 //! row without them has to say nothing.
 //!
 //! A conversation is run with each text that is heard in one piece, cut in two before each of its
-//! bytes, and byte by byte with an empty piece after each, on a new subject each time.
+//! bytes, and byte by byte with an empty piece between, on a new subject each time.
 #![tactic(auto)]
 
 mod bounds;
 mod conversation;
 mod cut;
 mod player;
+mod spelling;
 mod subject;
 mod text;
 
 pub use bounds::limits;
 pub use cut::{Cut, pieces};
 pub use player::play;
+pub use spelling::{add_members, add_value};
 pub use subject::Subject;
 pub use text::{bytes, command, words};

@@ -1,0 +1,73 @@
+//! Values on one line, in the words of `resp show`: `array [int 1, bulk "a"]`, `map {null: true}`,
+//! `attr {simple "ttl": int 3600} of int 3`.
+
+use resp_value::Value;
+use std::alloc::AllocError;
+
+/// Adds a value.
+#[cycle(add_value)]
+pub fn add_value(said: &mut String, value: &Value) -> Result<(), AllocError> {
+    match value {
+        Value::Null => said.push_str("null"),
+        Value::Bool(flag) => write!(said, "{flag}"),
+        Value::Int(number) => write!(said, "int {number}"),
+        Value::Simple(line) => add_text(said, "simple", line.text()),
+        Value::Error(line) => add_text(said, "error", line.text()),
+        Value::Bulk(content) => add_text(said, "bulk", content.list()),
+        Value::BulkError(content) => add_text(said, "bulkerror", content.list()),
+        Value::Verbatim(format, content) => {
+            add_text(said, "verbatim", format.as_slice())?;
+            add_text(said, "", content.list())
+        }
+        Value::Big(digits) => {
+            let sign = if digits.is_negative() { "-" } else { "" };
+            write!(said, "big {sign}{}", digits.digits().escape_ascii())
+        }
+        Value::Array(members) => add_members(said, "array", members.list()),
+        Value::Set(members) => add_members(said, "set", members.list()),
+        Value::Push(members) => add_members(said, "push", members.list()),
+        Value::Map(pairs) => add_pairs(said, "map", pairs.list()),
+        Value::Attr(pairs, annotated) => {
+            add_pairs(said, "attr", pairs.list())?;
+            said.push_str(" of ")?;
+            add_value(said, annotated)
+        }
+    }
+}
+
+/// Adds a word, a space and a quoted text.
+fn add_text(said: &mut String, word: &str, text: &[u8]) -> Result<(), AllocError> {
+    write!(said, "{word} \"{}\"", text.escape_ascii())
+}
+
+/// Adds the members of an array, a set or a push, as that of a push which answers no command.
+#[cycle(add_value)]
+pub fn add_members(said: &mut String, word: &str, members: &[Value]) -> Result<(), AllocError> {
+    write!(said, "{word} [")?;
+    let mut is_first = true;
+    for member in members {
+        if !is_first {
+            said.push_str(", ")?;
+        }
+        add_value(said, member)?;
+        is_first = false;
+    }
+    said.push_str("]")
+}
+
+/// Adds the pairs of a map or an attribute.
+#[cycle(add_value)]
+fn add_pairs(said: &mut String, word: &str, pairs: &[(Value, Value)]) -> Result<(), AllocError> {
+    write!(said, "{word} {{")?;
+    let mut is_first = true;
+    for pair in pairs {
+        if !is_first {
+            said.push_str(", ")?;
+        }
+        add_value(said, &pair.0)?;
+        said.push_str(": ")?;
+        add_value(said, &pair.1)?;
+        is_first = false;
+    }
+    said.push_str("}")
+}
