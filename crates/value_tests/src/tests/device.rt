@@ -1,6 +1,8 @@
 //! What no clause says: that the calls succeed, and what a few runs give.
 
-use super::{Device, DeviceFault, MemorySink, MemorySource, Sink, Source, WriteFault, write_all};
+use resp_value::device::{
+    Device, DeviceFault, MemorySink, MemorySource, Sink, Source, WriteFault, write_all,
+};
 use std::alloc::AllocError;
 use std::io;
 use std::io::Read;
