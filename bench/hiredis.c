@@ -1,7 +1,7 @@
-/* How long the reader of hiredis takes the texts of bench_scan, by object functions that build nothing, or with the
+/* How long the reader of hiredis takes the texts of bench scan, by object functions that build nothing, or with the
  * argument `trees` by its own, each reply freed.
  *
- * It prints the lines of bench_scan, of the same texts in the same pieces: with no other argument of short texts, and
+ * It prints the lines of bench scan, of the same texts in the same pieces: with no other argument of short texts, and
  * with `times` of longer ones, 32 MiB in all for each, with microseconds, or with `once` of these read a single time.
  * With `peak` it reads one array of a million bulk strings. Where the counts differ, the two didn't read the same. With
  * `stdin` and a number it reads standard input in pieces of so many bytes, and prints the number of replies. */

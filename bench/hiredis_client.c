@@ -1,6 +1,6 @@
 /* How long hiredis takes to queue commands and to give their replies, over bytes from memory.
  *
- * It prints the line of bench_client, of the same commands in the same pipelines: with no argument of one pipeline, and
+ * It prints the line of bench client, of the same commands in the same pipelines: with no argument of one pipeline, and
  * with the argument `times` of 10,000, with microseconds, or with `once` of one in the same form. */
 
 #include <hiredis/hiredis.h>

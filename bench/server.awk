@@ -1,4 +1,4 @@
-# Of the lines `NAME: N commands, ..; N us` of bench_server, and the lines `NAME RATE SECONDS` of redis-benchmark for a
+# Of the lines `NAME: N commands, ..; N us` of bench server, and the lines `NAME RATE SECONDS` of redis-benchmark for a
 # million commands, the most commands a second of each kind and their ratio.
 
 / us$/ {

@@ -1,8 +1,7 @@
 //! How long the encoder takes a value, beside the time to copy the same text.
 //!
-//! With no argument it encodes few values and prints the length of each text, the same on every
-//! run. With the argument `times` it encodes a million of each and prints nanoseconds.
-#![tactic(auto)]
+//! It encodes few values and prints the length of each text, the same on every run. With the
+//! argument `times` it encodes a million of each and prints nanoseconds.
 
 mod values;
 
@@ -13,7 +12,6 @@ use resp_value::limits::Limits;
 use resp_value::value::Value;
 use resp_value::version::Version;
 use std::alloc::Global;
-use std::env;
 use std::time::CpuClock;
 
 /// How many texts the buffer has room for.
@@ -100,34 +98,19 @@ fn run(
     }
 }
 
-fn main(rt: HostRuntime) -> Result<()> {
-    let alloc = rt.alloc();
-    let mut timed = false;
-    for word in env::args(&rt)? {
-        timed = timed || word.as_str() == "times";
-    }
-    run(&rt, alloc, timed, "simple OK", &values::simple(alloc)?)?;
-    run(&rt, alloc, timed, "integers", &Value::Int(123_456))?;
+/// Runs it for each kind of value, as the words ask.
+pub(crate) fn bench(rt: &(impl Print + CpuClock), alloc: Global, words: &[String]) -> Result<()> {
+    let timed = words.iter().any(|word| word.as_str() == "times");
+    run(rt, alloc, timed, "simple OK", &values::simple(alloc)?)?;
+    run(rt, alloc, timed, "integers", &Value::Int(123_456))?;
+    run(rt, alloc, timed, "16-byte bulks", &values::bulk(alloc, 16)?)?;
+    run(rt, alloc, timed, "1 KiB bulks", &values::bulk(alloc, 1024)?)?;
     run(
-        &rt,
-        alloc,
-        timed,
-        "16-byte bulks",
-        &values::bulk(alloc, 16)?,
-    )?;
-    run(
-        &rt,
-        alloc,
-        timed,
-        "1 KiB bulks",
-        &values::bulk(alloc, 1024)?,
-    )?;
-    run(
-        &rt,
+        rt,
         alloc,
         timed,
         "arrays of ten bulks",
         &values::array(alloc)?,
     )?;
-    run(&rt, alloc, timed, "maps of ten pairs", &values::map(alloc)?)
+    run(rt, alloc, timed, "maps of ten pairs", &values::map(alloc)?)
 }

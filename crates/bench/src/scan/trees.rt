@@ -1,7 +1,7 @@
 //! What is counted of a text that is decoded: of each value at the top what lies in itself, and how
 //! many members it has.
 
-use crate::tally::Tally;
+use super::tally::Tally;
 use resp_decode::Decoder;
 use resp_scan::event::Fault;
 use resp_value::value::Value;

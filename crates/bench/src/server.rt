@@ -1,16 +1,14 @@
 //! How many commands a session of a hub answers, to be laid beside another server.
 //!
 //! It is sent SET, GET and PING from memory, in pieces of 16,384 bytes, and its replies are dropped
-//! as sent. With no argument a hundred commands of each are sent, and what came of them is printed,
+//! as sent. A hundred commands of each are sent, and what came of them is printed,
 //! the same on every run. With the argument `times` a million of each are sent, and microseconds
 //! are printed too; with `once` 10,000 of each.
-#![tactic(auto)]
 
 use anyhow::Result;
 use resp_server::Hub;
 use resp_value::limits::Limits;
 use std::alloc::{AllocError, Global};
-use std::env::{self, Env};
 use std::hash::{BuildHasherDefault, FoldHasher};
 use std::time::CpuClock;
 
@@ -93,21 +91,21 @@ fn filled(alloc: Global, count: u64) -> Result<BenchHub> {
 }
 
 /// How many commands of each kind the words ask for, and whether they are timed.
-fn asked_for(rt: &(impl Env + Alloc)) -> Result<(u64, bool)> {
+fn asked_for(words: &[String]) -> (u64, bool) {
     let mut asked = (100, false);
-    for word in env::args(rt)? {
+    for word in words {
         match word.as_str() {
             "times" => asked = (1_000_000, true),
             "once" => asked = (10_000, false),
             _ => {}
         }
     }
-    Ok(asked)
+    asked
 }
 
-fn main(rt: HostRuntime) -> Result<()> {
-    let alloc = rt.alloc();
-    let (count, timed) = asked_for(&rt)?;
+/// Runs it for each kind of command, as the words ask.
+pub(crate) fn bench(rt: &(impl Print + CpuClock), alloc: Global, words: &[String]) -> Result<()> {
+    let (count, timed) = asked_for(words);
     let mut hub = filled(alloc, count)?;
     for kind in [Kind::Set, Kind::Get, Kind::Ping] {
         let text = commands(alloc, kind, count)?;

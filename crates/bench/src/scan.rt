@@ -1,27 +1,25 @@
 //! How long the scanner and the decoder take a text, to be laid beside another reader of it.
 //!
-//! With no argument it reads short texts in pieces of several sizes, by steps, by the loop and by
+//! It reads short texts in pieces of several sizes, by steps, by the loop and by
 //! the decoder, and prints what it counted, the same on every run. With the argument `times` it
 //! reads longer ones in pieces of two sizes, 32 MiB in all for each, and prints microseconds too;
 //! with `once` it reads these a single time. It then takes the scanner's loop, or with the argument
 //! `steps` or `trees` the steps or the decoder. With `peak` it decodes one array of a million bulk
 //! strings and nothing else.
-#![tactic(auto)]
 
 mod tally;
 mod texts;
 mod trees;
 
+use self::tally::{Call, Tally, scan_text, step_text};
+use self::trees::decode_text;
 use anyhow::Result;
 use resp_decode::Decoder;
 use resp_scan::scanner::Scanner;
 use resp_value::limits::Limits;
 use resp_value::version::Version;
 use std::alloc::Global;
-use std::env::{self, Env};
 use std::time::CpuClock;
-use tally::{Call, Tally, scan_text, step_text};
-use trees::decode_text;
 
 /// The least length of a text that is only counted.
 const SHORT: usize = 4_096;
@@ -180,46 +178,46 @@ enum Asked {
     Peak,
 }
 
-fn asked_for(rt: &(impl Env + Alloc)) -> Result<Asked> {
+fn asked_for(words: &[String]) -> Asked {
     let mut call = Call::Scan;
     let mut rounds = 0;
-    for word in env::args(rt)? {
+    for word in words {
         match word.as_str() {
             "times" => rounds = ROUNDS,
             "once" => rounds = 1,
             "steps" => call = Call::Step,
             "trees" => call = Call::Decode,
-            "peak" => return Ok(Asked::Peak),
+            "peak" => return Asked::Peak,
             _ => {}
         }
     }
     if rounds == 0 {
-        return Ok(Asked::Texts(Task::Count));
+        return Asked::Texts(Task::Count);
     }
-    Ok(Asked::Texts(Task::Measure { call, rounds }))
+    Asked::Texts(Task::Measure { call, rounds })
 }
 
-fn main(rt: HostRuntime) -> Result<()> {
-    let alloc = rt.alloc();
-    let task = match asked_for(&rt)? {
+/// Runs it for each text, as the words ask.
+pub(crate) fn bench(rt: &(impl Print + CpuClock), alloc: Global, words: &[String]) -> Result<()> {
+    let task = match asked_for(words) {
         Asked::Texts(task) => task,
-        Asked::Peak => return decode_million(&rt, alloc),
+        Asked::Peak => return decode_million(rt, alloc),
     };
     let bulk_16 = texts::bulk(alloc, b"$16\r\n", 16)?;
     let bulk_1024 = texts::bulk(alloc, b"$1024\r\n", 1_024)?;
     let bulk_65536 = texts::bulk(alloc, b"$65536\r\n", 65_536)?;
-    run(&rt, alloc, task, "simple OK", &texts::simple(alloc)?)?;
-    run(&rt, alloc, task, "integers", &texts::integer(alloc)?)?;
-    run(&rt, alloc, task, "80-byte lines", &texts::line(alloc)?)?;
-    run(&rt, alloc, task, "16-byte bulks", &bulk_16)?;
-    run(&rt, alloc, task, "1 KiB bulks", &bulk_1024)?;
-    run(&rt, alloc, task, "64 KiB bulks", &bulk_65536)?;
+    run(rt, alloc, task, "simple OK", &texts::simple(alloc)?)?;
+    run(rt, alloc, task, "integers", &texts::integer(alloc)?)?;
+    run(rt, alloc, task, "80-byte lines", &texts::line(alloc)?)?;
+    run(rt, alloc, task, "16-byte bulks", &bulk_16)?;
+    run(rt, alloc, task, "1 KiB bulks", &bulk_1024)?;
+    run(rt, alloc, task, "64 KiB bulks", &bulk_65536)?;
     run(
-        &rt,
+        rt,
         alloc,
         task,
         "arrays of three bulks",
         &texts::array(alloc)?,
     )?;
-    run(&rt, alloc, task, "maps of ten pairs", &texts::map(alloc)?)
+    run(rt, alloc, task, "maps of ten pairs", &texts::map(alloc)?)
 }

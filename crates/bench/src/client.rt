@@ -1,10 +1,9 @@
 //! How long the client takes to queue commands and to hear their replies, to be laid beside another
 //! client.
 //!
-//! With no argument it sends and hears one pipeline and prints what it counted, the same on every
+//! It sends and hears one pipeline and prints what it counted, the same on every
 //! run. With the argument `times` it does so 10,000 times, a million commands in all, and prints
 //! microseconds too; with `once` a single time in the same form.
-#![tactic(auto)]
 
 use anyhow::Result;
 use resp_client::client::Client;
@@ -13,7 +12,6 @@ use resp_value::command::Command;
 use resp_value::limits::Limits;
 use resp_value::value::Value;
 use std::alloc::Global;
-use std::env::{self, Env};
 use std::time::CpuClock;
 
 /// The commands of a pipeline.
@@ -98,21 +96,21 @@ fn converse(
 }
 
 /// How many pipelines the words ask for, and whether they are timed.
-fn asked_for(rt: &(impl Env + Alloc)) -> Result<(usize, bool)> {
+fn asked_for(words: &[String]) -> (usize, bool) {
     let mut asked = (1, false);
-    for word in env::args(rt)? {
+    for word in words {
         match word.as_str() {
             "times" => asked = (ROUNDS, true),
             "once" => asked = (1, true),
             _ => {}
         }
     }
-    Ok(asked)
+    asked
 }
 
-fn main(rt: HostRuntime) -> Result<()> {
-    let alloc = rt.alloc();
-    let (rounds, timed) = asked_for(&rt)?;
+/// Runs it as the words ask.
+pub(crate) fn bench(rt: &(impl Print + CpuClock), alloc: Global, words: &[String]) -> Result<()> {
+    let (rounds, timed) = asked_for(words);
     let commands = commands(alloc)?;
     let text = replies(alloc)?;
     let mut client = Client::new(alloc, &Limits::standard());
