@@ -1,14 +1,14 @@
 -- Words of the worked examples.
 use Rattle.std.specs.Prelude.{ℕ, true, false, List, [], ◌∷◌, ◌++◌, Option, None, Some, map, fold, codes}
 use Rattle.resp_value.specs.Bounds.{Bounds, AreBounds}
-use Rattle.resp_value.specs.Data.{Datum}
+use Rattle.resp_value.specs.Data.{Datum, Attr, aggregate, more, none}
 use Rattle.resp_value.specs.declared.cause.Cause.{Cause}
 use Rattle.resp_value.specs.declared.version.Version.TheVariants.{Two, Three}
 use Rattle.resp_session.specs.Runs.{Step, Refused, Gone}
 use Rattle.resp_session.specs.Replies.{bulk_string}
 use Rattle.resp_session.specs.Answers.{SessionState, Answers, after_values}
-use Rattle.resp_session.specs.Connections.{Connection, shown_replies, shown_pushes}
-use Rattle.resp_session.specs.Worlds.{World, WorldEvent, Send, Greet, ToServer, ToClient, Push, new_world, after_event, connection_at}
+use Rattle.resp_session.specs.Connections.{Connection, shown_replies, shown_pushes, push_message}
+use Rattle.resp_session.specs.Worlds.{World, WorldEvent, Send, Greet, ToServer, ToClient, Push, Drop, new_world, after_event, connection_at}
 
 -- a new session over an empty store
 abbrev pub new_session : SessionState
@@ -56,6 +56,28 @@ get_before_set = fold after_event (new_world 2) (Send 1 set_a ∷ Send 2 get_a �
 abbrev pub push_after_hello : World
 push_after_hello = fold after_event (new_world 1) (Greet 1 (Some Three) ∷ ToServer 1 1000 ∷ ToClient 1 148 ∷
     Push 1 (bulk_string (codes "x") ∷ []) ∷ ToClient 1 10 ∷ ToClient 1 1 ∷ [])
+
+-- two clients, of which the second reads the key that the first has set
+abbrev pub get_after_set : World
+get_after_set = fold after_event (new_world 2) (Send 1 set_a ∷ Send 2 get_a ∷ ToServer 1 27 ∷ ToServer 2 20 ∷
+    ToClient 2 1000 ∷ [])
+
+-- that client is sent two more pushes, of which the last hasn't come whole
+abbrev pub more_pushes : World
+more_pushes = fold after_event push_after_hello (Push 1 (bulk_string (codes "y") ∷ []) ∷
+    Push 1 (bulk_string (codes "z") ∷ []) ∷ ToClient 1 12 ∷ [])
+
+-- one client that is dropped while its command waits
+abbrev pub dropped_before_set : World
+dropped_before_set = fold after_event (new_world 1) (Send 1 set_a ∷ Drop 1 ∷ [])
+
+-- a push of one bulk string
+abbrev pub push_of_one : List ℕ → Datum
+push_of_one content = (push_message (bulk_string content ∷ [])).value
+
+-- the value behind an attribute of no pairs
+abbrev pub annotated : Datum → Datum
+annotated x = aggregate Attr (more x none)
 
 -- the clients of the commands, in the order in which these were run
 abbrev pub clients_of : World → List ℕ

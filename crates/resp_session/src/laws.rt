@@ -1,15 +1,19 @@
 //! Laws of the definitions of sessions and worlds, each the contract of a function whose body is
 //! empty or calls other laws.
 
-ghost use Rattle.std.specs.Prelude.{◌≡◌, [], ◌∷◌, ◌++◌, codes, length, true};
+ghost use Rattle.std.specs.Prelude.{◌≡◌, [], ◌∷◌, ◌++◌, Some, codes, length, true, false};
 ghost use Rattle.resp_value.specs.Words.{command_of};
 ghost use Rattle.resp_session.specs.Answers.{after_values};
 ghost use Rattle.resp_session.specs.AnswerLaws.{ACommandIsItsWords, AnswersGoOn, AnswersEnd, AnswersAreAdded, ATextHasOneAnswer, AnswersAreOfTheCut, WhatComesIsWholeTexts};
-ghost use Rattle.resp_session.specs.Examples.{new_session, answers_to, set_a, get_a, AnInlineCommandIsRefused, get_before_set, hello_in_two, hello_in_three, push_after_hello, clients_of, replies_to, pushes_to, RefusesEventFor, IsOfNobody};
-ghost use Rattle.resp_session.specs.Worlds.{Push, Drop};
+ghost use Rattle.resp_session.specs.Examples.{new_session, answers_to, set_a, get_a, AnInlineCommandIsRefused, get_before_set, hello_in_two, hello_in_three, push_after_hello, clients_of, replies_to, pushes_to, RefusesEventFor, IsOfNobody, get_after_set, more_pushes, dropped_before_set, push_of_one, annotated};
+ghost use Rattle.resp_session.specs.Worlds.{Push, Drop, Send, ToServer};
 ghost use Rattle.resp_value.specs.declared.cause.Cause.TheVariants.{NotInVersion};
 ghost use Rattle.resp_session.specs.ReadingLaws.{ReadingsGoOn, ReadingsStay, ATextHasOneReading, ARestHasOneClientFault, HearingGoesOn, NothingMayGoOn};
-ghost use Rattle.resp_session.specs.Replies.{simple_string, bulk_string, natural, null};
+ghost use Rattle.resp_session.specs.Replies.{simple_string, error, bulk_string, natural, null, hello_reply};
+ghost use Rattle.resp_session.specs.Requests.{is_unsent};
+ghost use Rattle.resp_session.specs.Reading.{version_after};
+ghost use Rattle.resp_value.specs.Data.{scalar, BulkError};
+ghost use Rattle.resp_value.specs.declared.version.Version.TheVariants.{Two, Three};
 ghost use Rattle.resp_session.specs.WorldLaws.{AWorldHasOneOrder, ARunIsCut, TheOrderOnlyGrows, ShownRepliesAreOfTheOrder, WhatIsShownWasSent, WhatArrivesIsCommands, EachMessageIsWritten, WhatIsWrittenIsRead, WhatIsShownIsRead, WhatIsReadIsShown, WhatIsLeftMayGoOn, NoClientMeetsAFault, AChangeIsOfOneConnection};
 ghost use Rattle.resp_session.specs.Fitting.{EffectsFit, NumbersAreShort};
 ghost use Rattle.resp_session.specs.Connections.{push_message};
@@ -235,6 +239,49 @@ pub fn commands_and_their_replies()
     ensures closes { (after_values 1 new_session (natural 1 ∷ [])).closing ≡ true }
 {}
 
+/// What a new session answers to commands of too few words or too many.
+pub fn wrong_numbers_of_words()
+    ensures ping { answers_to (command_of (codes "PING" ∷ codes "a" ∷ codes "b" ∷ []) ∷ [])
+        ≡ codes "-ERR wrong number of arguments for 'ping' command\r\n" }
+    ensures echo { answers_to (command_of (codes "ECHO" ∷ []) ∷ [])
+        ≡ codes "-ERR wrong number of arguments for 'echo' command\r\n" }
+    ensures set { answers_to (command_of (codes "SET" ∷ codes "a" ∷ []) ∷ [])
+        ≡ codes "-ERR wrong number of arguments for 'set' command\r\n" }
+    ensures del { answers_to (command_of (codes "DEL" ∷ []) ∷ [])
+        ≡ codes "-ERR wrong number of arguments for 'del' command\r\n" }
+    // A SET has one option at most.
+    ensures set_of_five { answers_to (command_of (codes "SET" ∷ codes "a" ∷ codes "1" ∷
+        codes "NX" ∷ codes "XX" ∷ []) ∷ []) ≡ codes "-ERR syntax error\r\n" }
+    // Of two keys that are there both are removed, and counted.
+    ensures del_of_two { answers_to (command_of set_a ∷
+        command_of (codes "SET" ∷ codes "b" ∷ codes "2" ∷ []) ∷
+        command_of (codes "DEL" ∷ codes "b" ∷ codes "a" ∷ []) ∷ [])
+        ≡ codes "+OK\r\n+OK\r\n:2\r\n" }
+{}
+
+/// Which commands a client doesn't send, in any case of letters.
+pub fn commands_that_are_not_sent()
+    ensures no_word { is_unsent [] ≡ true }
+    ensures hello { is_unsent (codes "Hello" ∷ codes "3" ∷ []) ≡ true }
+    ensures reset { is_unsent (codes "RESET" ∷ []) ≡ true }
+    ensures monitor { is_unsent (codes "monitor" ∷ []) ≡ true }
+    ensures subscribe { is_unsent (codes "SubScribe" ∷ codes "a" ∷ []) ≡ true }
+    ensures client_reply { is_unsent (codes "client" ∷ codes "REPLY" ∷ codes "off" ∷ []) ≡ true }
+    ensures client_id { is_unsent (codes "client" ∷ codes "id" ∷ []) ≡ false }
+    ensures another_word { is_unsent (codes "get" ∷ codes "reset" ∷ []) ≡ false }
+{}
+
+/// What the replies to HELLO 3 leave of version 2.
+pub fn versions_after_replies()
+    ensures map { version_after Two (Some Three) (hello_reply Three 1) ≡ Three }
+    ensures error { version_after Two (Some Three) (error (codes "NOPROTO")) ≡ Two }
+    ensures bulk_error { version_after Two (Some Three) (scalar (BulkError (codes "no"))) ≡ Two }
+    ensures error_after_attribute { version_after Two (Some Three)
+        (annotated (error (codes "NOPROTO"))) ≡ Two }
+    ensures line_after_attribute { version_after Two (Some Three)
+        (annotated (simple_string (codes "OK"))) ≡ Three }
+{}
+
 /// What a new session answers to a command as a bare line of words.
 pub fn an_inline_command_is_refused()
     ensures { AnInlineCommandIsRefused }
@@ -295,6 +342,14 @@ pub fn events_and_what_they_show()
     ensures greeting { length (replies_to push_after_hello 1) ≡ 1 }
     ensures push { pushes_to push_after_hello 1 ≡
         (push_message (bulk_string (codes "x") ∷ [])).value ∷ [] }
+    // One client reads the key that another has set.
+    ensures one_store { replies_to get_after_set 2 ≡ bulk_string (codes "1") ∷ [] }
+    // Pushes are shown in the order in which they were sent, each once it has come whole.
+    ensures more_pushes { pushes_to more_pushes 1 ≡
+        push_of_one (codes "x") ∷ push_of_one (codes "y") ∷ [] }
+    // A client that is dropped is gone for good, and what waited doesn't come.
+    ensures waiting_is_lost { IsOfNobody dropped_before_set (ToServer 1 27) }
+    ensures dropped_for_good { IsOfNobody dropped_before_set (Send 1 get_a) }
     // A push is refused in version 2, and nothing comes of an event of a client that isn't there.
     ensures refused_push { RefusesEventFor get_before_set (Push 2 (bulk_string (codes "x") ∷ []))
         NotInVersion }
