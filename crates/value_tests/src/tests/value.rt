@@ -32,72 +32,45 @@ fn pairs(alloc: Global, numbers: &[(i64, i64)]) -> Result<PairList, Fail> {
     Ok(PairList::new(pairs))
 }
 
-/// Adds lines and contents, each of which differs from the others in its kind or its bytes.
-fn add_texts(alloc: Global, all: &mut Vec<Value>) -> Result<(), Fail> {
-    all.push(Value::Simple(line(alloc, b"7")?))?;
-    all.push(Value::Simple(line(alloc, b"")?))?;
-    all.push(Value::Error(line(alloc, b"7")?))?;
-    all.push(Value::Bulk(content(alloc, b"7")?))?;
-    all.push(Value::Bulk(content(alloc, b"7\r")?))?;
-    all.push(Value::BulkError(content(alloc, b"7")?))?;
-    all.push(Value::Verbatim(*b"txt", content(alloc, b"7")?))?;
-    all.push(Value::Verbatim(*b"mkd", content(alloc, b"7")?))?;
-    all.push(Value::Big(Digits::new(alloc, b"7")?))?;
-    all.push(Value::Big(Digits::new(alloc, b"-7")?))?;
-    Ok(())
-}
-
 fn scalars(alloc: Global) -> Result<Vec<Value>, Fail> {
-    let mut all = Vec::new(alloc);
-    all.push(Value::Null)?;
-    all.push(Value::Bool(false))?;
-    all.push(Value::Bool(true))?;
-    all.push(Value::Int(7))?;
-    all.push(Value::Int(-7))?;
-    add_texts(alloc, &mut all)?;
-    Ok(all)
-}
-
-/// Adds lists of members, each of which differs from the others in its kind, members or order.
-fn add_lists(alloc: Global, all: &mut Vec<Value>) -> Result<(), Fail> {
-    all.push(Value::Array(members(alloc, &[])?))?;
-    all.push(Value::Array(members(alloc, &[1])?))?;
-    all.push(Value::Array(members(alloc, &[1, 2])?))?;
-    all.push(Value::Array(members(alloc, &[2, 1])?))?;
-    all.push(Value::Set(members(alloc, &[1, 2])?))?;
-    all.push(Value::Set(members(alloc, &[2, 1])?))?;
-    all.push(Value::Push(members(alloc, &[1, 2])?))?;
-    Ok(())
-}
-
-/// Adds lists of pairs, each of which differs from the others in its kind, pairs or order.
-fn add_pairs(alloc: Global, all: &mut Vec<Value>) -> Result<(), Fail> {
-    all.push(Value::Map(pairs(alloc, &[(1, 2)])?))?;
-    all.push(Value::Map(pairs(alloc, &[(1, 2), (3, 4)])?))?;
-    all.push(Value::Map(pairs(alloc, &[(3, 4), (1, 2)])?))?;
-    all.push(Value::Map(pairs(alloc, &[(1, 2), (1, 2)])?))?;
-    Ok(())
-}
-
-fn attribute(alloc: Global, before: PairList, value: i64) -> Result<Value, Fail> {
-    Ok(Value::Attr(before, Box::new(alloc, Value::Int(value))?))
-}
-
-fn nested(alloc: Global) -> Result<Value, Fail> {
-    let mut outer = Vec::new(alloc);
-    outer.push(Value::Array(members(alloc, &[1, 2])?))?;
-    Ok(Value::Array(Members::new(outer)))
+    Ok(vec![in alloc;
+        Value::Null,
+        Value::Bool(false),
+        Value::Bool(true),
+        Value::Int(7),
+        Value::Int(-7),
+        Value::Simple(line(alloc, b"7")?),
+        Value::Simple(line(alloc, b"")?),
+        Value::Error(line(alloc, b"7")?),
+        Value::Bulk(content(alloc, b"7")?),
+        Value::Bulk(content(alloc, b"7\r")?),
+        Value::BulkError(content(alloc, b"7")?),
+        Value::Verbatim(*b"txt", content(alloc, b"7")?),
+        Value::Verbatim(*b"mkd", content(alloc, b"7")?),
+        Value::Big(Digits::new(alloc, b"7")?),
+        Value::Big(Digits::new(alloc, b"-7")?),
+    ]?)
 }
 
 fn aggregates(alloc: Global) -> Result<Vec<Value>, Fail> {
-    let mut all = Vec::new(alloc);
-    add_lists(alloc, &mut all)?;
-    all.push(nested(alloc)?)?;
-    add_pairs(alloc, &mut all)?;
-    all.push(attribute(alloc, pairs(alloc, &[(1, 2)])?, 3)?)?;
-    all.push(attribute(alloc, pairs(alloc, &[(1, 2)])?, 4)?)?;
-    all.push(attribute(alloc, pairs(alloc, &[])?, 3)?)?;
-    Ok(all)
+    let nested = vec![in alloc; Value::Array(members(alloc, &[1, 2])?)]?;
+    Ok(vec![in alloc;
+        Value::Array(members(alloc, &[])?),
+        Value::Array(members(alloc, &[1])?),
+        Value::Array(members(alloc, &[1, 2])?),
+        Value::Array(members(alloc, &[2, 1])?),
+        Value::Array(Members::new(nested)),
+        Value::Set(members(alloc, &[1, 2])?),
+        Value::Set(members(alloc, &[2, 1])?),
+        Value::Push(members(alloc, &[1, 2])?),
+        Value::Map(pairs(alloc, &[(1, 2)])?),
+        Value::Map(pairs(alloc, &[(1, 2), (3, 4)])?),
+        Value::Map(pairs(alloc, &[(3, 4), (1, 2)])?),
+        Value::Map(pairs(alloc, &[(1, 2), (1, 2)])?),
+        Value::Attr(pairs(alloc, &[(1, 2)])?, Box::new(alloc, Value::Int(3))?),
+        Value::Attr(pairs(alloc, &[(1, 2)])?, Box::new(alloc, Value::Int(4))?),
+        Value::Attr(pairs(alloc, &[])?, Box::new(alloc, Value::Int(3))?),
+    ]?)
 }
 
 fn each_equals_itself_alone(rt: &impl Abort, values: &[Value], again: &[Value]) {
