@@ -80,7 +80,7 @@ fn hear(client: &mut Client, text: &[u8], tally: &mut Tally) -> Result<()> {
     Ok(())
 }
 
-/// Sends so many pipelines, and hears the replies to each.
+/// Sends `rounds` pipelines, and hears the replies to each.
 fn converse(
     client: &mut Client,
     commands: &[Command],

@@ -20,7 +20,7 @@ const BATCH: usize = 100;
 /// How many batches make a million values.
 const ROUNDS: usize = 10_000;
 
-/// Over a million values, so many nanoseconds are a hundredth of a nanosecond a value.
+/// Nanoseconds over a million values that are a hundredth of a nanosecond a value.
 const NANOS_IN_HUNDREDTHS: u128 = 10_000;
 
 fn encode_all(value: &Value, rounds: usize, out: &mut BytesMut) -> Result<()> {

@@ -1,5 +1,5 @@
-//! How long the encoder, the scanner, the decoder, the client and the server take, to be laid beside
-//! others.
+//! How long the encoder, the scanner, the decoder, the client and the server take, to be compared
+//! with others.
 //!
 //! The arguments name a part, `encode`, `scan`, `client` or `server`, and what it is to do. With no
 //! argument each part counts what it does with short texts, the same on every run.

@@ -75,7 +75,7 @@ dropped_before_set = fold after_event (new_world 1) (Send 1 set_a ∷ Drop 1 ∷
 abbrev pub push_of_one : List ℕ → Datum
 push_of_one content = (push_message (bulk_string content ∷ [])).value
 
--- the value behind an attribute of no pairs
+-- the value with an attribute of no pairs before it
 abbrev pub annotated : Datum → Datum
 annotated x = aggregate Attr (more x none)
 

@@ -13,7 +13,7 @@ pub trait Subject: Drop {
     fn is_cut(name: &str) -> bool;
 
     /// Runs a row, the name of a call and what it is given, and adds what it says, in lines that
-    /// each end with LF. Its error is said too, as a line `error: ..`; that of a row that is unknown
-    /// or badly written is one.
+    /// each end with LF. An error, as that of a row that is unknown or badly written, is said too,
+    /// as a line `error: ..`.
     fn run(&mut self, name: &str, given: &str, cut: Cut, said: &mut String) -> Result<()>;
 }

@@ -11,7 +11,7 @@ use resp_value::version::Version;
 use rows::Cut;
 use std::alloc::{AllocError, Global};
 
-/// Opens a session, or so many, and says the id of the last.
+/// Opens one session, or the given number of them, and says the id of the last.
 pub(crate) fn open(alloc: Global, hub: &mut TestHub, given: &str, said: &mut String) -> Result<()> {
     let count = if given.is_empty() { 1 } else { number(given)? };
     let line = match open_each(hub, count) {
@@ -90,7 +90,7 @@ fn say_run(alloc: Global, ran: Result<u64, HubError>, said: &mut String) -> Resu
     Ok(())
 }
 
-/// Drops so many bytes as sent, or all that wait.
+/// Drops the given number of bytes as sent, or all that wait.
 pub(crate) fn sent(alloc: Global, hub: &mut TestHub, given: &str, said: &mut String) -> Result<()> {
     let (id, count) = split(given);
     let line = match drop_sent(hub, number(id)?, number(count)?) {

@@ -111,8 +111,8 @@ fn say_end(said: &mut String, answer: Result<Served, ServeError>) -> Result<()> 
     Ok(())
 }
 
-/// Says on one line how it ended, what was written with what waits to be written behind it, and
-/// whether a turn is left.
+/// Says on one line how it ended, what was written and what still waits to be written, and whether
+/// a turn is left.
 fn say_shortly(said: &mut String, devices: Devices, outcome: &Outcome, waits: &[u8]) -> Result<()> {
     say_end(said, outcome.answer)?;
     let written = outcome.written.escape_ascii();

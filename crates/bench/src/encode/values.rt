@@ -10,7 +10,7 @@ pub(crate) fn simple(alloc: Global) -> Result<Value> {
     Ok(Value::Simple(Line::new(Vec::from_slice(alloc, b"OK")?)?))
 }
 
-/// A bulk string of so many bytes.
+/// A bulk string of `length` bytes.
 pub(crate) fn bulk(alloc: Global, length: usize) -> Result<Value, AllocError> {
     Ok(Value::Bulk(Content::new(vec![in alloc; b'x'; length]?)))
 }

@@ -76,7 +76,7 @@ impl Tally {
         self.replies = self.replies.wrapping_add(1);
     }
 
-    /// Counts a text of so many bytes.
+    /// Counts a whole text.
     #[inline(always)]
     pub(crate) fn add_text(&mut self, bytes: &[u8]) {
         self.add_value();
@@ -84,7 +84,7 @@ impl Tally {
         self.add_end();
     }
 
-    /// Counts an aggregate with so many members that are looked at no further.
+    /// Counts an aggregate and its members, without a look into these.
     #[inline(always)]
     pub(crate) fn add_members(&mut self, members: usize) {
         self.values = self.values.wrapping_add(1).wrapping_add(members as u64);
@@ -160,7 +160,7 @@ impl Listener for Tally {
     }
 }
 
-/// Scans the text in pieces of so many bytes, by steps.
+/// Scans the text in pieces of `size` bytes, by steps.
 #[inline(never)]
 pub(crate) fn step_text(
     scanner: &mut Scanner,
@@ -188,7 +188,7 @@ fn step_piece(scanner: &mut Scanner, piece: &[u8], tally: &mut Tally) -> Result<
     Ok(())
 }
 
-/// Scans the text in pieces of so many bytes, by the loop.
+/// Scans the text in pieces of `size` bytes, by the loop.
 #[inline(never)]
 pub(crate) fn scan_text(
     scanner: &mut Scanner,

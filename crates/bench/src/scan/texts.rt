@@ -17,7 +17,7 @@ pub(crate) fn line(alloc: Global) -> Result<Vec<u8>, AllocError> {
     Ok(text)
 }
 
-/// A bulk string of so many bytes, whose length is spelled by this head.
+/// A bulk string of `length` bytes, after a head that spells this length.
 pub(crate) fn bulk(alloc: Global, head: &[u8], length: usize) -> Result<Vec<u8>, AllocError> {
     let mut text = Vec::from_slice(alloc, head)?;
     extend_filled(&mut text, length)?;
@@ -50,7 +50,7 @@ fn extend_filled(text: &mut Vec<u8>, length: usize) -> Result<(), AllocError> {
     text.extend_from_slice(b"\r\n")
 }
 
-/// This text over and over, in no less than so many bytes.
+/// This text over and over, until it has at least `least` bytes.
 pub(crate) fn repeated(alloc: Global, text: &[u8], least: usize) -> Result<Vec<u8>, AllocError> {
     let mut all = Vec::new(alloc);
     all.reserve(least.saturating_add(text.len()))?;

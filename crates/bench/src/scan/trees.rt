@@ -26,7 +26,7 @@ fn add(tally: &mut Tally, value: &Value) {
     }
 }
 
-/// Decodes the text in pieces of so many bytes.
+/// Decodes the text in pieces of `size` bytes.
 #[inline(never)]
 pub(crate) fn decode_text(
     decoder: &mut Decoder,
