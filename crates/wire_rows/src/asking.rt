@@ -180,8 +180,8 @@ fn say_end(said: &mut String, answer: Result<(), AskError>) -> Result<()> {
     Ok(())
 }
 
-/// Says on one line how it ended, how many replies were heard, what was written, what still waits to
-/// be written, and whether a turn is left.
+/// Says on one line how it ended, how many replies were heard, what was written, what still waits
+/// to be written, and whether a turn is left.
 fn say_shortly(said: &mut String, devices: Devices, outcome: &Outcome, waits: &[u8]) -> Result<()> {
     say_end(said, outcome.answer)?;
     let written = outcome.written.escape_ascii();
