@@ -49,7 +49,7 @@ fn command(alloc: Global, kind: Kind, key: u64) -> Result<String, AllocError> {
     }
 }
 
-/// So many commands of a kind as one text, with keys that are drawn, the same on every run.
+/// `count` commands of a kind as one text, with keys that are drawn, the same on every run.
 fn commands(alloc: Global, kind: Kind, count: u64) -> Result<Vec<u8>> {
     let mut drawn: u64 = 1;
     let mut text = Vec::new(alloc);

@@ -140,10 +140,7 @@ pub fn all(alloc: Global, version: Version, given: &str, said: &mut String) -> R
                 say_value(value, Says::Value, said)?;
             }
         }
-        Err(refusal) => {
-            write!(said, "value {} ", refusal.value)?;
-            say_fault(refusal.fault, said)?;
-        }
+        Err(refusal) => writeln!(said, "{refusal}")?,
     }
     Ok(())
 }

@@ -1,5 +1,5 @@
 //! Queues HELLO 3 and two commands, and prints their text. Then reads the replies from standard
-//! input in pieces of 16 bytes, and prints whose each is.
+//! input in pieces of 16 bytes, and prints each with its command's number.
 #![tactic(auto)]
 
 use anyhow::Result;

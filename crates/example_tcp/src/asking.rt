@@ -18,7 +18,7 @@ const COMMANDS: usize = 10_000;
 /// The index of HELLO 3 among them; the next one turns tracking on.
 const HELLO: usize = 5_000;
 
-/// Each so many commands behind it a key is read and then written, so that a push comes.
+/// How many commands after it and after each push a key is read and then written, for a push.
 const TRACKED: usize = 100;
 
 /// How many reads and writes are allowed.
@@ -32,7 +32,7 @@ fn command(alloc: Global, words: &[&[u8]]) -> Result<Request> {
     Ok(Request::Command(Command::new(owned)?))
 }
 
-/// Whether this command reads, or the one behind it writes, a key that is tracked.
+/// Whether this command reads, or the one after it writes, a key that is tracked.
 fn is_tracked(index: usize) -> bool {
     index > HELLO && index % TRACKED == 2
 }

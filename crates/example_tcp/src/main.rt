@@ -1,7 +1,7 @@
 //! Talks to Redis over TCP.
 //!
 //! `ask PORT` asks a server on this machine 10,000 commands in one pipeline, with HELLO 3 in its
-//! midst and pushes behind it, and says how many replies and pushes came. It fails where a reply is
+//! midst and pushes after it, and says how many replies and pushes came. It fails where a reply is
 //! another command's. `serve PORT` is a server for clients on this machine, until it is stopped.
 //! Without words it says how it is called.
 #![tactic(auto)]

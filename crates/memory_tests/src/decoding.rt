@@ -10,7 +10,7 @@ use resp_value::value::Value;
 use resp_value::version::Version;
 use std::alloc::{AllocError, Global};
 
-/// A fault behind so many bytes is want of memory, and is answered for good.
+/// A fault after so many bytes is OutOfMemory, and is answered for good.
 fn refused(decoder: &mut Decoder, fault: Fault, given: usize) -> Outcome {
     Outcome::refused(
         fault.cause == Cause::OutOfMemory

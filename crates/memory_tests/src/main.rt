@@ -2,7 +2,7 @@
 //!
 //! It makes as many allocations before as standard input has bytes. Of each part it then prints the
 //! name, and `whole`, or `out of memory` where that was refused in it and all stands that has to
-//! stand behind a refusal, or else `wrong`.
+//! stand after a refusal, or else `wrong`.
 #![tactic(auto)]
 
 mod decoding;

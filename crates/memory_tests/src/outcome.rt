@@ -27,7 +27,7 @@ impl Outcome {
         }
     }
 
-    /// Out of memory where this stands behind the refusal, and wrong where it doesn't.
+    /// Out of memory where this stands after the refusal, and wrong where it doesn't.
     pub(crate) fn refused(stands: bool) -> Outcome {
         if stands {
             Outcome::OutOfMemory

@@ -72,7 +72,7 @@ fn greeting(alloc: Global) -> Result<Client, AllocError> {
     }
 }
 
-/// A fault is want of memory, is answered for good, and leaves what waits to be sent.
+/// A fault is OutOfMemory, is answered for good, and leaves what waits to be sent.
 fn refused(client: &mut Client, fault: Fault) -> Outcome {
     Outcome::refused(
         fault.cause == Cause::OutOfMemory

@@ -20,7 +20,7 @@ struct Standing {
     store: &'static [(&'static [u8], &'static [u8])],
 }
 
-/// Behind nothing at all.
+/// After nothing at all.
 const NEW: Standing = Standing {
     out: b"",
     version: Version::Two,
@@ -64,7 +64,7 @@ fn stays_closing(hub: &mut TestHub, standing: &Standing) -> bool {
     ran.is_ok_and(|handled| handled.commands == 0) && stands(hub, standing, true)
 }
 
-/// What came of a piece, where this is what stands behind none of its commands, one, and so on.
+/// What came of a piece, where this is what stands after none of its commands, one, and so on.
 fn run(hub: &mut TestHub, piece: &[u8], behind: &[Standing]) -> Outcome {
     match hub.bytes(1, piece) {
         Ok(handled) => match behind.get(handled.commands as usize) {
@@ -121,7 +121,7 @@ pub(crate) fn of_set(alloc: Global) -> Outcome {
 /// Sets `a` to 1.
 const SET_A: &[u8] = b"*3\r\n$3\r\nSET\r\n$1\r\na\r\n$1\r\n1\r\n";
 
-/// What stands behind that.
+/// What stands after that.
 const WITH_A: Standing = Standing {
     out: b"+OK\r\n",
     version: Version::Two,
@@ -167,7 +167,7 @@ pub(crate) fn of_del(alloc: Global) -> Outcome {
 /// Asks for version 3.
 const HELLO: &[u8] = b"*2\r\n$5\r\nHELLO\r\n$1\r\n3\r\n";
 
-/// What stands behind that.
+/// What stands after that.
 const GREETED: Standing = Standing {
     out: b"%7\r\n$6\r\nserver\r\n$9\r\nresp_loop\r\n$7\r\nversion\r\n$5\r\n1.0.0\r\n\
         $5\r\nproto\r\n:3\r\n$2\r\nid\r\n:1\r\n$4\r\nmode\r\n$10\r\nstandalone\r\n\

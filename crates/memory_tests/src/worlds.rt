@@ -54,7 +54,7 @@ fn stands(world: &TestWorld) -> bool {
         && count_keys(world) == 1
 }
 
-/// A world that stopped for want of memory stops so at each later event.
+/// A world that stopped when out of memory stops so at each later event.
 fn stays_stopped(world: &mut TestWorld) -> bool {
     let later = world.step(&Event::ToServer(1, ALL));
     later

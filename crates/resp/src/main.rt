@@ -2,9 +2,9 @@
 //! scripts of clients of one server.
 #![tactic(auto)]
 
+use resp_script::play::play;
+use resp_script::script::{MOST_BYTES, read_script};
 use resp_tool::command_line::{command, refuse_words, stop};
-use resp_tool::play::play;
-use resp_tool::script::{MOST_BYTES, read_script};
 use resp_tool::tool_error::ToolError;
 use resp_value::device::{Device, MemorySink, Sink, Source};
 use resp_value::limits::Limits;
@@ -16,7 +16,7 @@ use std::io::{BufWriter, Write};
 use std::net::{Net, TcpListener, TcpStream};
 use std::process::ExitCode;
 
-/// The status of a failed device, and of want of memory.
+/// The status of a failed device, and of OutOfMemory.
 const DEVICE_FAILED: u8 = 3;
 
 /// The most bytes that are said of what is wrong.
@@ -33,7 +33,7 @@ fn main(rt: HostRuntime) -> ExitCode {
     }
 }
 
-/// Runs the program's words, and answers the status. What is wrong is said behind what was shown.
+/// Runs the program's words, and answers the status. What is wrong is said after what was shown.
 fn run(rt: &HostRuntime) -> Result<u8, AllocError> {
     let alloc = rt.alloc();
     let mut faults = MemorySink::new(alloc, MOST_FAULTS, MOST_FAULTS)?;
@@ -71,7 +71,7 @@ fn run(rt: &HostRuntime) -> Result<u8, AllocError> {
     Ok(status)
 }
 
-/// Whether the words behind the program's name are `loop` alone.
+/// Whether the words after the program's name are `loop` alone.
 fn is_loop(words: &[String]) -> bool {
     match words {
         [_, word] => word.as_str() == "loop",

@@ -31,7 +31,7 @@ push_is_later later r behind two v =
     (later r two).1.1.1.1.1.1.1.1.0.not_viable
     (record { rest = behind ++ v.rest; tree = v.tree; spells = v.spells; keeps = λ earlier h. v.keeps earlier (omega (arith, h)) })
 
--- a value that was begun is read in the same version, whatever is asked behind it
+-- a value that was begun is read in the same version, whatever is asked after it
 same_version : LaterTypeBytesWantVersionThree → (limits : Bounds) (version : Version) (asks : List (Option Version)) (asked : Option Version) (r : Rules)
     (front : List ℕ) → r ≡ reading_rules limits (record { version = version; asks = asks }) → IsViable r WithinTotal front →
     (IsUnasked (record { version = version; asks = asks }) front → ⊥) →
@@ -45,7 +45,7 @@ same_version later limits Two [] asked r (first ∷ behind) e v u =
     let push : first ≡ 62 = is_push_byte first (eqb first 62) refl (λ other. u (refl, (first, behind, other, refl))) in
     absurd (push_is_later later r behind (ap (λ (z : Rules). z.version) e) (subst (λ z. IsViable r WithinTotal (z ∷ behind)) push v))
 
--- what was taken stays so, whatever is asked behind it
+-- what was taken stays so, whatever is asked after it
 pub takes_on : LaterTypeBytesWantVersionThree → (limits : Bounds) (version : Version) (asks : List (Option Version)) (asked : Option Version) (d : Decoder)
     (fault : Option Fault) (front : List ℕ) → IsViable (rules_of d.scanner) WithinTotal front →
     TakesFront limits (record { version = version; asks = asks }) d fault front →
@@ -108,7 +108,7 @@ may_be_read full begins r w x (first ∷ rest) s asked e =
     push_by x ((begins r x (first ∷ rest) s).1
     (rest, ap (λ z. z ∷ rest) (is_push_byte first (eqb first 62) refl (λ other. asked (e, (first, rest, other, refl))))))
 
--- what came, where so many bytes of the piece were used
+-- what came, where this many bytes of the piece were used
 pub as_used : (front piece : List ℕ) (used : ℕ) → front ++ piece ≡ (front ++ take used piece) ++ drop used piece
 as_used front piece used =
     ap (λ z. front ++ z) (sym (take-append-drop used piece)) ∙ sym (append_assoc front (take used piece) (drop used piece))

@@ -23,7 +23,7 @@ pub if_err : (result : Result Fed Fault) (P Q : Fault → Type 0) → ((fault : 
 if_err (Ok fed) P Q f h = h
 if_err (Err fault) P Q f h = f fault h
 
--- what always holds holds behind a success
+-- what always holds holds after a success
 pub always : {T E P : Type 0} (r : Result T E) → P → OnOk r P
 always (Ok x) p = p
 always (Err e) p = tt

@@ -37,18 +37,18 @@ queued s = s.answered + length s.waiting.asks
 abbrev pub next_number : ClientState → ℕ
 next_number s = s.answered + 1
 
--- behind a request that was queued
+-- after a request that was queued
 abbrev pub with_request : Request → ClientState → ClientState
 with_request request s = record s {
   waiting = record { version = s.waiting.version; asks = s.waiting.asks ++ version_asked request ∷ [] };
   out = s.out ++ request_text request;
 }
 
--- behind so many bytes that were sent
+-- after this many bytes that were sent
 abbrev pub without_front : ℕ → ClientState → ClientState
 without_front count s = record s { out = drop count s.out }
 
--- behind a reply to the first command that waits
+-- after a reply to the first command that waits
 abbrev pub with_answer : Datum → ClientState → ClientState
 with_answer x s = record s {
   waiting = waiting_after_reply s.waiting.version s.waiting.asks x;

@@ -6,9 +6,8 @@ use Rattle.resp_value.specs.Values.{datum_of}
 use Rattle.resp_value.specs.declared.cause.Cause.TheVariants as cause
 use Rattle.resp_value.specs.declared.value.Value.TheVariants as value
 use Rattle.resp_value.specs.declared.value.Members.{Members}
-use Rattle.resp_scan.specs.Kinds.{rules_of}
 use Rattle.resp_scan.specs.declared.event.Fault.{Fault}
-use Rattle.resp_decode.specs.Decoding.{LacksMemory}
+use Rattle.resp_decode.specs.Decoding.{LacksMemory, rules_of}
 use Rattle.resp_decode.specs.Decoding as decode
 use Rattle.resp_decode.specs.declared.decoder.Decoder.{Decoder}
 use Rattle.resp_session.specs.Heard.{numbered_replies}
@@ -23,8 +22,8 @@ use Rattle.resp_client.specs.declared.heard.What.TheVariants.{Reply, Push, Shown
 pub record TakesFront (limits : Bounds) (w : Waiting) (d : Decoder) (fault : Option Fault) (front : List ℕ) :
     Type 0 where
   pub taken : decode.HasTaken d front
-  pub same_limits : (rules_of d.scanner).limits ≡ limits
-  pub read_by : (front ≡ []) ⊎ (rules_of d.scanner ≡ reading_rules limits w)
+  pub same_limits : (rules_of d).limits ≡ limits
+  pub read_by : (front ≡ []) ⊎ (rules_of d ≡ reading_rules limits w)
   pub asked : IsUnasked w front → ⊥
   pub no_fault : fault ≡ None
 
@@ -64,7 +63,7 @@ pub record TakesPiece (old new : Client) (written piece : List ℕ) (used : ℕ)
   pub may_go_on : MayGoOn (state_of old).limits (state_of old).waiting written
   pub takes : HasTaken new written
 
--- what was heard in a piece, of which so many bytes were used
+-- what was heard in a piece, of which this many bytes were used
 abbrev pub Hears : Client → Client → List ℕ → List ℕ → ℕ → What → Type 0
 Hears old new front piece used (Reply number x) =
     GivesReply old new (front ++ take used piece) number (datum_of x)
@@ -72,7 +71,7 @@ Hears old new front piece used (Push items) = GivesPush old new (front ++ take u
 Hears old new front piece used Shown = ⊥
 Hears old new front piece used More = TakesPiece old new (front ++ piece) piece used
 
--- the same, where pushes are shown to a sink, which was shown these before and behind
+-- the same, where pushes are shown to a sink, which was shown these before and after
 abbrev pub HearsAndShows : Client → Client → List Members → List Members → List ℕ → List ℕ → ℕ → What → Type 0
 HearsAndShows old new before after front piece used (Reply number x) =
     (after ≡ before) × GivesReply old new (front ++ take used piece) number (datum_of x)
@@ -95,12 +94,12 @@ abbrev pub UnlessReply : Result Heard Fault → Type 0 → Type 0
 UnlessReply (Ok heard) P = UnlessReplied heard.what P
 UnlessReply (Err fault) P = P
 
--- the fault of what came, or want of memory behind viable bytes of a value that was asked for
+-- the fault of what came, or OutOfMemory after viable bytes of a value that was asked for
 abbrev pub Refuses : ClientState → List ℕ → List ℕ → Fault → Type 0
 Refuses s front piece fault = ClientFault s.limits s.waiting (front ++ piece) fault.cause fault.at ⊎
     ((IsUnasked s.waiting (front ++ piece) → ⊥) × LacksMemory (reading_rules s.limits s.waiting) front piece fault)
 
--- the sink found no memory for the push that ends behind so many bytes of the piece
+-- the sink found no memory for the push that ends after this many bytes of the piece
 pub record LosesPush (s : ClientState) (front piece : List ℕ) (fault : Fault) : Type 0 where
   pub names : fault.cause ≡ cause.OutOfMemory
   pub used : ℕ

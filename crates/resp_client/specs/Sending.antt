@@ -6,13 +6,13 @@ use Rattle.resp_client.specs.Clients.{ClientState, queued}
 use Rattle.resp_client.specs.declared.send_error.SendError.{SendError}
 use Rattle.resp_client.specs.declared.send_error.SendError.TheVariants.{BadCommand, TooLarge, TooMany, OutOfMemory}
 
--- nothing but want of memory keeps the request from being queued
+-- nothing but OutOfMemory keeps the request from being queued
 pub record MayBeSent (s : ClientState) (request : Request) : Type 0 where
   pub is_sent : is_unsent_request request ≡ false
   pub fits : FitsRequest s.limits request
   pub number_left : queued s < 2 ^ 63
 
--- the request is refused so: for the first reason that there is, and for want of memory only where there is none
+-- the request is refused so: for the first reason that there is, and when out of memory only where there is none
 abbrev pub DeclinesRequest : ClientState → Request → SendError → Type 0
 DeclinesRequest s request BadCommand = RefusesRequest s.limits (queued s) request cause.BadCommand
 DeclinesRequest s request TooLarge = RefusesRequest s.limits (queued s) request cause.TooLarge

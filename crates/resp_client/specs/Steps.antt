@@ -7,8 +7,8 @@ use Rattle.resp_value.specs.declared.cause.Cause.TheVariants as cause
 use Rattle.resp_value.specs.declared.version.Version.{Version}
 use Rattle.resp_encode.specs.declared.error.EncodeError.{EncodeError}
 use Rattle.resp_encode.specs.declared.error.EncodeError.TheVariants as encode
-use Rattle.resp_scan.specs.Kinds.{rules_of}
 use Rattle.resp_scan.specs.declared.event.Fault.{Fault}
+use Rattle.resp_decode.specs.Decoding.{rules_of}
 use Rattle.resp_decode.specs.Decoding as decode
 use Rattle.resp_session.specs.Heard.{is_push}
 use Rattle.resp_session.specs.Reading.{IsUnasked, ReadsAs, reading_rules, waiting_after}
@@ -34,7 +34,7 @@ with_ask asked s = record s {
 -- the value that comes is read in its version, and it is asked for or a push
 pub record HasBegun (c : Client) (front piece : List ℕ) : Type 0 where
   pub taken : decode.HasTaken c.decoder front
-  pub read_by : rules_of c.decoder.scanner ≡ reading_rules c.limits (state_of c).waiting
+  pub read_by : rules_of c.decoder ≡ reading_rules c.limits (state_of c).waiting
   pub asked : IsUnasked (state_of c).waiting (front ++ piece) → ⊥
   pub no_fault : c.fault ≡ None
 

@@ -59,7 +59,7 @@ impl Client {
         self.out.as_slice()
     }
 
-    /// Drops so many bytes, no more than it has, from the front of [`Client::out`]: those that were
+    /// Drops `count` bytes, no more than it has, from the front of [`Client::out`]: those that were
     /// sent. Copies nothing.
     pub fn sent(&mut self, count: usize)
         requires { count ≤ length (state_of self.old).out }

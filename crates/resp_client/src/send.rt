@@ -117,7 +117,7 @@ impl Client {
         self.answered + self.asks.len() as u64
     }
 
-    /// Waits for the reply to a command whose text stands behind so many bytes of the queue, or
+    /// Waits for the reply to a command whose text begins after `length` bytes of the queue, or
     /// takes the text away.
     fn wait_for(&mut self, asked: Option<Version>, length: usize) -> Result<u64, SendError>
         requires { queued (state_of self.old) < 2 ^ 63 }

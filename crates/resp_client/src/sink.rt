@@ -17,7 +17,7 @@ pub trait PushSink: Drop {
     /// The pushes that it was shown, in order.
     ghost pushes: { Self → List Members };
 
-    /// Takes the members of a push. Refuses for want of memory alone, and then was shown nothing
+    /// Takes the members of a push. Refuses when out of memory alone, and then was shown nothing
     /// more.
     fn show(&mut self, items: Members) -> Result<(), OutOfMemory>
         ensures appended { OnOk result (pushes self.new ≡ pushes self.old ++ items ∷ []) }

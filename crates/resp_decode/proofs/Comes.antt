@@ -24,7 +24,7 @@ Come last weight [] b = Unit {0}
 Come last weight (x ∷ xs) b = (last ≤ x.at) × (weight + event_weight x.event b ≤ x.at + 1) × MayCome x.event b ×
     Come x.at (weight + event_weight x.event b) xs (with_event x.event b)
 
--- behind these bytes they go on, whatever came last and whatever the weight
+-- after these bytes they go on, whatever came last and whatever the weight
 abbrev pub GoOn : ℕ → List Timed → Construction → Type 0
 GoOn bytes xs b = (last weight : ℕ) → last < bytes → weight ≤ bytes → Come last weight xs b
 
@@ -71,11 +71,11 @@ first_add (x ∷ es) owed b = omega (arith, first_add es owed (with_event x b))
 
 -- Leaves.
 
--- events side by side, one list behind another
+-- events side by side, one list after another
 behind : (a c : List Timed) (xs : List Timed) (last weight : ℕ) (b : Construction) → Come last weight (a ++ (c ++ xs)) b → Come last weight ((a ++ c) ++ xs) b
 behind a c xs last weight b h = subst (λ z. Come last weight z b) (sym (append_assoc a c xs)) h
 
--- content comes, of which each byte leaves at least so much room
+-- content comes, of which each byte leaves at least this much room
 pub content_comes : (from to room : ℕ) (kind : TextKind) (so_far s : List ℕ) (b : Construction) (last weight : ℕ) (xs : List Timed) → last ≤ from →
     weight + room ≤ from → b.whole ≡ None → from + length s ≤ to → ((l v : ℕ) → l ≤ to → v + room ≤ to → Come l v xs (in_text kind (so_far ++ s) b)) →
     Come last weight (bytes_from from s ++ xs) (in_text kind so_far b)

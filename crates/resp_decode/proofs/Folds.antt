@@ -22,7 +22,7 @@ pub with_events-append : (xs ys : List Event) (b : Construction) → with_events
 with_events-append [] ys b = refl
 with_events-append (x ∷ xs) ys b = with_events-append xs ys (with_event x b)
 
--- a text in which so much content has come
+-- a text in which this much content has come
 abbrev pub in_text : TextKind → List ℕ → Construction → Construction
 in_text kind s b = record b { text = Some (record { kind = kind; content = s }) }
 

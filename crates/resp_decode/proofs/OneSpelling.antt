@@ -1,4 +1,4 @@
--- A text that spells one value is read as that value, and nothing is left behind it.
+-- A text that spells one value is read as that value, and nothing is left after it.
 use Rattle.std.proofs.Common.{◌≡◌, inl, inr, ℕ, List, [], ◌∷◌, ◌++◌, length, refl, sym, ap, subst, ◌∙◌, append_assoc, length-append, arith}
 use Rattle.std.proofs.lemmas.List.{append-nil, take_all}
 use Rattle.resp_value.specs.Data.{Datum}
@@ -69,7 +69,7 @@ nothing_refused r rest fault none (inr (inl ends)) = absurd (omega (arith, ends.
 nothing_refused r rest fault none (inr (inr (inl lacks))) = lacks.names
 nothing_refused r rest fault none (inr (inr (inr lacks))) = lacks.names
 
--- the text of a value isn't refused behind such values
+-- the text of a value isn't refused after such values
 refused_behind : NoSpellingBeginsAnother → NoSpellingIsEmpty → (r : Rules) (x : Datum) (text : List ℕ) (fault : Fault) (values : List Datum)
     (front rest : List ℕ) → IsSpelling r x text → AreSpellings r values front → text ≡ front ++ rest → RefusesRest r rest fault →
     fault.cause ≡ cause.OutOfMemory

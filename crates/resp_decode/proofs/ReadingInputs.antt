@@ -15,7 +15,7 @@ use Rattle.resp_decode.specs.Inputs.{IsReadUpTo, RefusesInput, RefusesRest}
 use Rattle.resp_decode.specs.declared.all.AllFault.{AllFault}
 use Rattle.resp_decode.specs.declared.decoder.Decoder.{Decoder}
 
--- spellings, and one more behind them
+-- spellings, and one more after them
 are_spellings-more : (r : Rules) (xs : List Datum) (x : Datum) (front next : List ℕ) → AreSpellings r xs front → IsSpelling r x next →
     AreSpellings r (xs ++ x ∷ []) (front ++ next)
 are_spellings-more r [] x front next are is = (next, [], is, refl, ap (λ z. z ++ next) are ∙ sym (append-nil next))
@@ -102,6 +102,6 @@ pub ends_inside : (r : Rules) (d : Decoder) (rest : List ℕ) (used : ℕ) (faul
     fault.cause ≡ cause.Truncated → fault.at ≡ length rest → RefusesRest r rest fault
 ends_inside r d rest used fault w full names place = inr (inl (record { names = names; place = place; begun = full; viable = w.viable; no_value = w.no_value }))
 
--- the bytes behind those used
+-- the bytes after those used
 pub bytes_behind : (used n : ℕ) (rest : List ℕ) → n ≡ length rest → take (n - used) (drop used rest) ≡ drop used rest
 bytes_behind used n rest size = take_all (n - used) (drop used rest) (omega (arith, length-drop used rest, size))

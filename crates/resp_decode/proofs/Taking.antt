@@ -21,7 +21,7 @@ use Rattle.resp_decode.proofs.Folds.{with_events-append, without_text}
 use Rattle.resp_decode.proofs.HeldLemmas.{content_held, content_adds}
 use Rattle.resp_decode.proofs.Values.{are_good, brief_first, brief_groups}
 
--- the last of events that may come may come behind the first
+-- the last of events that may come may come after the first
 pub last_come : (es later : Events) (b : Construction) → MayAllCome (es ++ later) b → MayAllCome later (with_events es b)
 last_come [] later b c = c
 last_come (x ∷ es) later b c = last_come es later (with_event x b) c.1
@@ -31,7 +31,7 @@ pub events_weight-append : (es later : Events) (b : Construction) → events_wei
 events_weight-append [] later b = omega arith
 events_weight-append (x ∷ es) later b = omega (arith, events_weight-append es later (with_event x b))
 
--- a call behind a call takes in the events of both
+-- a call after a call takes in the events of both
 pub takes_in_both : (old between new : Held) (first second : Events) (goes_on : Bool) → TakesInWhereFit old between first true →
     TakesInWhereFit between new second goes_on → TakesInWhereFit old new (first ++ second) goes_on
 takes_in_both old between new first second goes_on one two may room goes =
@@ -46,7 +46,7 @@ takes_in_both old between new first second goes_on one two may room goes =
       weighs = omega (arith, z.weighs, a.weighs, sum, same);
     }
 
--- so much of a front's events may come behind the first of them, and there is room for their weight
+-- this much of a front's events may come after the first of them, and there is room for their weight
 pub record IsRoomFor (given more : Events) : Type 0 where
   pub may : MayAllCome more (built_from given)
   pub room : events_weight given nothing + events_weight more (built_from given) < 2 ^ 64

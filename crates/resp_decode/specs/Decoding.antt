@@ -7,12 +7,20 @@ use Rattle.resp_value.specs.Values.{datum_of}
 use Rattle.resp_value.specs.declared.value.Value.{Value}
 use Rattle.resp_value.specs.declared.cause.Cause.TheVariants as cause
 use Rattle.resp_scan.specs.Reading.{AreDue, Events, HasNoSpelling, HasNoValue, HasRead}
+use Rattle.resp_scan.specs.Kinds as kinds
 use Rattle.resp_scan.specs.Reading as scan
 use Rattle.resp_scan.specs.declared.event.Fault.{Fault}
 use Rattle.resp_decode.specs.Brief.{BeginsBrief, BringMemoryWants}
 use Rattle.resp_decode.specs.Hearing.{HasHeard}
+use Rattle.resp_decode.specs.Builds.{built_from, nothing}
+use Rattle.resp_decode.specs.Holding.{construction_of}
+use Rattle.resp_decode.specs.Weights.{weight_of}
 use Rattle.resp_decode.specs.declared.decoder.Decoder.{Decoder}
 use Rattle.resp_decode.specs.declared.fed.Fed.{Fed}
+
+-- the version and the limits that a decoder reads by
+abbrev pub rules_of : Decoder → Rules
+rules_of d = kinds.rules_of d.scanner
 
 -- What a decoder has taken of a value: its scanner has read the bytes of this front, no value has ended in them, and
 -- what is held is what the events that are due build. How a decoder stands to them is opaque to callers: `new`
@@ -28,11 +36,15 @@ pub record HasTaken (d : Decoder) (front : List ℕ) : Type 0 where
 abbrev pub WhereTaken : Decoder → (List ℕ → Type 0) → Type 0
 WhereTaken d P = (front : List ℕ) → HasTaken d front → P front
 
--- a fault is answered for good, and nothing is held behind it
+-- a fault is answered for good, and nothing is held after it
 abbrev pub HasFault : Decoder → Fault → Type 0
-HasFault d fault = scan.IsFaulted d.scanner fault × (d.held.weight ≡ 0)
+HasFault d fault = scan.IsFaulted d.scanner fault × (d.held.weight ≡ 0) × (construction_of d.held ≡ nothing)
 
--- where a value ends behind so many bytes of the piece
+-- the weight of what the events that are due of this front build
+abbrev pub WeighsWhatIsDue : ℕ → List ℕ → Type 0
+WeighsWhatIsDue weight front = (given : Events) × AreDue front given × (weight ≡ weight_of (built_from given))
+
+-- where a value ends after this many bytes of the piece
 abbrev pub IfValue : Result Fed Fault → (ℕ → Value → Type 0) → Type 0
 IfValue result P = IfOk result (λ fed. (value : Value) → fed.value ≡ Some value → P fed.used value)
 
@@ -62,7 +74,7 @@ pub record RefusesByte (r : Rules) (front piece : List ℕ) (fault : Fault) : Ty
   pub in_piece : length front ≤ fault.at
   pub no_value : HasNoSpelling r (front ++ piece)
 
--- no memory was found, behind viable bytes that bring an event that wants some, and so not in an integer, a truth value
+-- no memory was found, after viable bytes that bring an event that wants some, and so not in an integer, a truth value
 -- or a null of one line
 pub record LacksMemory (r : Rules) (front piece : List ℕ) (fault : Fault) : Type 0 where
   pub names : fault.cause ≡ cause.OutOfMemory

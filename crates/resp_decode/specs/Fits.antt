@@ -23,7 +23,7 @@ IsContentAlone (e.Verbatim format) = ⊥
 IsContentAlone (e.Big negative) = ⊥
 IsContentAlone _ = Unit {0}
 
--- an aggregate of this kind has so many members: whole pairs in a map, and one more behind them in an attribute
+-- an aggregate of this kind has this many members: whole pairs in a map, and one more after them in an attribute
 abbrev pub IsMemberCount : Kind → ℕ → Type 0
 IsMemberCount Array n = Unit {0}
 IsMemberCount Set n = Unit {0}

@@ -6,10 +6,9 @@ use Rattle.resp_value.specs.Spellings.{AreSpellings, IsSpelling, IsViable}
 use Rattle.resp_value.specs.Values.{datum_of}
 use Rattle.resp_value.specs.declared.value.Value.{Value}
 use Rattle.resp_value.specs.declared.cause.Cause.TheVariants as cause
-use Rattle.resp_scan.specs.Kinds.{rules_of}
 use Rattle.resp_scan.specs.Reading.{HasNoValue}
 use Rattle.resp_scan.specs.declared.event.Fault.{Fault}
-use Rattle.resp_decode.specs.Decoding.{HasTaken, LacksMemory, RefusesByte}
+use Rattle.resp_decode.specs.Decoding.{HasTaken, LacksMemory, RefusesByte, rules_of}
 use Rattle.resp_decode.specs.declared.all.AllFault.{AllFault}
 use Rattle.resp_decode.specs.declared.decoder.Decoder.{Decoder}
 
@@ -33,7 +32,7 @@ abbrev pub RefusesRest : Rules → List ℕ → Fault → Type 0
 RefusesRest r rest fault =
     RefusesByte r [] rest fault ⊎ EndsInside r rest fault ⊎ LacksMemory r [] rest fault ⊎ LacksRoom r rest fault
 
--- the input is spellings of some values, and a rest that is refused as the value behind them
+-- the input is spellings of some values, and a rest that is refused as the value after them
 pub record RefusesInput (r : Rules) (bytes : List ℕ) (refusal : AllFault) : Type 0 where
   pub values : List Datum
   pub front : List ℕ
@@ -49,4 +48,4 @@ pub record IsReadUpTo (r : Rules) (bytes : List ℕ) (d : Decoder) (values : Lis
   pub spelled : AreSpellings r (map datum_of values) front
   pub whole : bytes ≡ front ++ rest
   pub takes : HasTaken d []
-  pub same_rules : rules_of d.scanner ≡ r
+  pub same_rules : rules_of d ≡ r

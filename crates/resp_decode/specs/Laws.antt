@@ -37,7 +37,7 @@ abbrev pub ASpellingIsReadAsItsValue : Type 0
 ASpellingIsReadAsItsValue = (r : Rules) (x : Datum) (text : List ℕ) (values : List Datum) → IsSpelling r x text →
     AreSpellings r values text → values ≡ x ∷ []
 
--- a text that spells a value is refused for want of memory alone
+-- a text that spells a value is refused when out of memory alone
 abbrev pub ASpellingIsRefusedForMemoryAlone : Type 0
 ASpellingIsRefusedForMemoryAlone = (r : Rules) (x : Datum) (text : List ℕ) (refusal : AllFault) → IsSpelling r x text →
     RefusesInput r text refusal → refusal.fault.cause ≡ cause.OutOfMemory

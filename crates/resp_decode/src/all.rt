@@ -17,7 +17,7 @@ use thiserror::Error;
 
 /// The refusal of an input.
 #[derive(Clone, Copy, Debug, PartialEq, Eq, Error)]
-#[error("value {value} is refused")]
+#[error("value {value}: {fault}")]
 pub struct AllFault {
     /// The number of the value that is refused, from 1.
     pub value: u64,
@@ -27,7 +27,7 @@ pub struct AllFault {
 
 /// The values of a whole input, in order.
 ///
-/// Refuses an input that isn't whole values: by the fault of the first bytes behind the values, or
+/// Refuses an input that isn't whole values: by the fault of the first bytes after the values, or
 /// by Truncated where it ends inside one. Refuses also where no memory is found.
 pub fn decode_all(
     alloc: Global,
@@ -72,7 +72,7 @@ pub fn decode_all(
     Ok(values)
 }
 
-/// A fault behind so many bytes of a value.
+/// A fault after `bytes` bytes of a value.
 fn fault_at(cause: Cause, bytes: usize) -> Fault
     ensures { result ≡ record { cause = cause; at = bytes } }
 {

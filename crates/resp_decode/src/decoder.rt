@@ -22,10 +22,7 @@ pub struct Decoder {
 }
 
 impl Decoder {
-    ghost use Rattle.resp_decode.specs.Decoding.{GivesValue, HasTaken, IfNoValue, IfValue, HasFault, LacksMemory, RefusesByte, TakesPiece, WhereTaken};
-    ghost use Rattle.resp_decode.specs.Holding.{construction_of};
-    ghost use Rattle.resp_decode.specs.Weights.{weight_of};
-    ghost use Rattle.resp_scan.specs.Kinds.{rules_of};
+    ghost use Rattle.resp_decode.specs.Decoding.{GivesValue, HasTaken, IfNoValue, IfValue, HasFault, LacksMemory, RefusesByte, TakesPiece, WeighsWhatIsDue, WhereTaken, rules_of};
     ghost use Rattle.resp_scan.specs.declared.event.Fault.{Fault};
     ghost use Rattle.resp_value.specs.Bounds.{AreBounds};
     ghost use Rattle.resp_value.specs.Rules.{WithinTotal, rules_under};
@@ -34,7 +31,7 @@ impl Decoder {
     /// A decoder of this version within these limits, between two values. Takes no memory.
     pub fn new(alloc: Global, version: Version, limits: &Limits) -> Decoder
         ensures nothing_taken { HasTaken result [] }
-        ensures rules { rules_of result.scanner ≡ rules_under version limits.now }
+        ensures rules { rules_of result ≡ rules_under version limits.now }
     {
         Decoder {
             scanner: Scanner::new(version, limits),
@@ -50,27 +47,27 @@ impl Decoder {
     pub fn feed(&mut self, piece: &[u8]) -> Result<Fed, Fault>
         // The bytes are a spelling of the value, and the next value may begin.
         ensures value_whole { WhereTaken self.old (λ front. IfValue result (λ used.
-            GivesValue (rules_of self.old.scanner) self.new (front ++ take used piece.now))) }
+            GivesValue (rules_of self.old) self.new (front ++ take used piece.now))) }
 
         // No value has ended in the piece, which was taken.
         ensures used_up { WhereTaken self.old (λ front. IfNoValue result
-            (TakesPiece (rules_of self.old.scanner) self.new (front ++ piece.now) piece.now)) }
+            (TakesPiece (rules_of self.old) self.new (front ++ piece.now) piece.now)) }
 
         // The refused byte is the first after which nothing can follow, and the fault names why, or
         // there was no memory.
         ensures refusal { WhereTaken self.old (λ front. IfErr result (λ fault.
-            RefusesByte (rules_of self.old.scanner) front piece.now fault ⊎
-            LacksMemory (rules_of self.old.scanner) front piece.now fault)) }
+            RefusesByte (rules_of self.old) front piece.now fault ⊎
+            LacksMemory (rules_of self.old) front piece.now fault)) }
 
         ensures within_piece { IfOk result (λ fed. fed.used ≤ length piece.now) }
-        ensures same_rules { rules_of self.new.scanner ≡ rules_of self.old.scanner }
+        ensures same_rules { rules_of self.new ≡ rules_of self.old }
         ensures fault_is_kept { IfErr result (HasFault self.new) }
         ensures fault_is_final { (fault : Fault) → HasFault self.old fault → result ≡ Err fault }
     {
         let scanned = match self.scanner.scan(piece, &mut self.held) {
             Ok(scanned) => scanned,
             Err(stop) => {
-                // Behind a fault nothing is held.
+                // After a fault nothing is held.
                 self.held.clear();
                 return Err(fault_of(stop));
             }
@@ -101,8 +98,8 @@ impl Decoder {
     pub fn set_version(&mut self, version: Version) -> Result<(), Busy>
         ensures only_between_values { WhereTaken self.old (λ front. IsOk result ↔ (front ≡ [])) }
         ensures nothing_taken { WhereTaken self.old (λ front. OnOk result (HasTaken self.new [])) }
-        ensures new_version { OnOk result (rules_of self.new.scanner ≡
-            rules_under version (rules_of self.old.scanner).limits) }
+        ensures new_version { OnOk result (rules_of self.new ≡
+            rules_under version (rules_of self.old).limits) }
         ensures unchanged_where_busy { OnErr result (self.new ≡ self.old) }
         ensures never_after_a_fault { (fault : Fault) → HasFault self.old fault → OnOk result ⊥ }
     {
@@ -112,19 +109,18 @@ impl Decoder {
     /// The number of bytes taken of the value, 0 between values. A refused byte isn't among them.
     pub fn taken(&self) -> u64
         ensures length_of_front { WhereTaken self.now (λ front. result ≡ length front) }
-        ensures viable { WhereTaken self.now (IsViable (rules_of self.now.scanner) WithinTotal) }
+        ensures viable { WhereTaken self.now (IsViable (rules_of self.now) WithinTotal) }
         ensures behind_a_fault { (fault : Fault) → HasFault self.now fault → result ≡ fault.at }
-        ensures at_most_total { result ≤ (rules_of self.now.scanner).limits.total }
-        ensures limits_in_range { AreBounds (rules_of self.now.scanner).limits }
+        ensures at_most_total { result ≤ (rules_of self.now).limits.total }
+        ensures limits_in_range { AreBounds (rules_of self.now).limits }
     {
         self.scanner.taken()
     }
 
     /// How much is held of the value: three for each finished node and each open aggregate, and one
-    /// for each byte of content. It is never more than the bytes taken, and 0 behind a fault.
+    /// for each byte of content. It is never more than the bytes taken, and 0 after a fault.
     pub fn weight(&self) -> u64
-        ensures weight_of_held { WhereTaken self.now (λ front.
-            result ≡ weight_of (construction_of self.now.held)) }
+        ensures weight_of_front { WhereTaken self.now (WeighsWhatIsDue result) }
         ensures at_most_taken { WhereTaken self.now (λ front. result ≤ length front) }
         ensures nothing_behind_a_fault { (fault : Fault) → HasFault self.now fault → result ≡ 0 }
     {
@@ -134,7 +130,7 @@ impl Decoder {
     }
 }
 
-/// The fault that stands behind the scanner's answer.
+/// The fault that stands after the scanner's answer.
 #[inline]
 fn fault_of(stop: ScanError) -> Fault
     ensures { result ≡ fault_of stop }

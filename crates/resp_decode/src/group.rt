@@ -32,7 +32,7 @@ impl Pairs {
     ghost use Rattle.resp_decode.specs.Holding.{pairs_data};
     ghost use Rattle.resp_decode.specs.Fits.{IsMemberCount};
 
-    /// No member, and room for so many pairs.
+    /// No member, and room for `pairs` pairs.
     #[inline]
     fn with_room(alloc: Global, pairs: usize) -> Result<Pairs, AllocError>
         ensures { IfOk result (λ made. pairs_data made ≡ []) }
@@ -106,7 +106,7 @@ impl Group {
     ghost use Rattle.resp_decode.specs.Holding.{group_of};
     ghost use Rattle.resp_decode.specs.Fits.{IsMemberCount};
 
-    /// An aggregate without members, and room for so many members or pairs.
+    /// An aggregate without members, and room for `room` members or pairs.
     #[inline]
     pub(crate) fn with_room(alloc: Global, kind: OpenKind, room: usize) -> Result<Group, AllocError>
         requires few_at_most { room ≤ 16 }

@@ -67,7 +67,8 @@ impl Held {
     /// Lets go of all that is held.
     #[cold]
     pub(crate) fn clear(&mut self)
-        ensures { self.new.weight ≡ 0 }
+        ensures weighs { self.new.weight ≡ 0 }
+        ensures holds { construction_of self.new ≡ nothing }
     {
         *self = Held::new(self.alloc);
     }
@@ -110,7 +111,7 @@ impl Held {
         self.weight = self.weight.saturating_add(more);
     }
 
-    /// Takes in a scalar with so many bytes of content.
+    /// Takes in a scalar with `content` bytes of content.
     #[inline(always)]
     fn put_scalar(&mut self, value: Value, content: usize) -> bool
         ensures holds { result ≡ true → construction_of self.new ≡

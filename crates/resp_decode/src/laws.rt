@@ -23,7 +23,7 @@ pub fn what_is_built_is_no_heavier()
 {}
 
 /// An input that spells one value, such as the text that `encode` writes, is that value alone to
-/// `decode_all`, which refuses it for want of memory alone.
+/// `decode_all`, which refuses it when out of memory alone.
 pub fn a_spelling_is_read_as_its_value()
     ensures read { ASpellingIsReadAsItsValue }
     ensures not_refused { ASpellingIsRefusedForMemoryAlone }

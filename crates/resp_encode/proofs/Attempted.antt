@@ -32,7 +32,7 @@ pub left : {version : Version} {bounds : Bounds} {deeper : ℕ} {x : Datum} (a :
     Attempt version bounds deeper x a a false
 left a = record { whole = tt; suits = tt; part = ([], Writes-none a) }
 
--- the walk stopped behind a part
+-- the walk stopped after a part
 pub stopped : {version : Version} {bounds : Bounds} {deeper : ℕ} {x : Datum} {a b : Filled} →
     (text : List ℕ) × Fills a b text →
     Attempt version bounds deeper x a b false
@@ -43,7 +43,7 @@ pub stopped_each : {version : Version} {bounds : Bounds} {deeper : ℕ} {xs : Da
     AttemptEach version bounds deeper xs a b false
 stopped_each part = record { whole = tt; suits = tt; part = part }
 
--- a part behind a text
+-- a part after a text
 pub part_behind : {a b c : Filled} {x : List ℕ} → Fills a b x → (text : List ℕ) × Fills b c text →
     (text : List ℕ) × Fills a c text
 part_behind {x = x} first rest = (x ++ rest.0, Writes-append first rest.1)

@@ -85,7 +85,7 @@ decimal-two n large small =
     sym (decimal-std n (omega arith)) ∙ decimal_step n large (omega arith) ∙
     ap (λ digits. digits ++ ((48 + n % 10) ∷ [])) (decimal_digit (n / 10) (omega arith))
 
--- the last digit stands behind the others
+-- the last digit stands after the others
 pub decimal-more : (n : ℕ) → 10 ≤ n → n < 2 ^ 64 → decimal n ≡ decimal (n / 10) ++ ((48 + n % 10) ∷ [])
 decimal-more n large fits = sym (decimal-std n fits) ∙ decimal_step n large fits ∙
     ap (λ digits. digits ++ ((48 + n % 10) ∷ [])) (decimal-std (n / 10) (omega arith))
@@ -107,7 +107,7 @@ decimal-four n large small =
     ∙ ap (λ digit. (48 + digit) ∷ (48 + n / 10 / 10 % 10) ∷ (48 + n / 10 % 10) ∷ (48 + n % 10) ∷ []) first
     ∙ ap (λ m. (48 + n / 1000) ∷ (48 + m % 10) ∷ (48 + n / 10 % 10) ∷ (48 + n % 10) ∷ []) second
 
--- the last four digits stand behind the others
+-- the last four digits stand after the others
 pub decimal-four_more : (n : ℕ) → 10000 ≤ n → n < 2 ^ 64 → decimal n ≡ decimal (n / 10000) ++
     ((48 + n % 10000 / 1000) ∷ (48 + n % 10000 / 100 % 10) ∷ (48 + n % 10000 / 10 % 10) ∷ (48 + n % 10000 % 10) ∷ [])
 decimal-four_more n large fits =

@@ -58,7 +58,7 @@ length-texts-front version xs ys = omega (
 map-split : {A B : Type 0} (f : A → B) (n : ℕ) (xs : List A) → map f xs ≡ map f (take n xs) ++ map f (drop n xs)
 map-split f n xs = ap (map f) (sym (take-append-drop n xs)) ∙ map-append f (take n xs) (drop n xs)
 
--- behind the texts up to a place there is room for one more
+-- after the texts up to a place there is room for one more
 pub text_room : {A : Type 0} (version : Version) (f : A → Datum) (xs : List A) (i : ℕ) (d : A) → i < length xs →
     length (texts (canonical_trees version (data_of_list (map f (take i xs))))) + length
     (canonical_text version (f (get_or xs i d))) ≤ length
@@ -108,7 +108,7 @@ word_take_more words i d {text = text} h e =
     ∙ ap (λ ws. extended (data_of_list ws) (word_datum text)) (sym (map-map (take i words)) ∙
     ap (map word_datum) (sym (take-map (λ word. word.items) i words)))
 
--- behind the words up to a place there is room for one more
+-- after the words up to a place there is room for one more
 pub word_room : (words : List (Vec ℕ Global)) (i : ℕ) (d : Vec ℕ Global) {text : List ℕ} → i < length words →
     text ≡ (get_or words i d).items →
     length (texts (canonical_trees Two (data_of_list (map word_datum (take i (texts_of words)))))) + length

@@ -10,7 +10,7 @@ use Rattle.resp_encode.specs.Refusals.{IsFirstFault}
 use Rattle.resp_encode.specs.declared.error.EncodeError.{EncodeError}
 use Rattle.resp_encode.specs.declared.error.EncodeError.TheVariants.{OutOfMemory}
 
--- the value is taken where it has no fault and refused for its first one, want of memory aside
+-- the value is taken where it has no fault and refused for its first one, OutOfMemory aside
 pub record IsVerdict {T : Type 0} (rules : Rules) (x : Datum) (result : Result T EncodeError) : Type 0 where
   -- what is taken fits the version and the limits
   pub fits : OnOk result (Fits rules x)
@@ -23,7 +23,7 @@ pub record IsVerdict {T : Type 0} (rules : Rules) (x : Datum) (result : Result T
 
 -- the text is appended to a buffer, whole or not at all
 pub record AppendsWhole (old new : Filled) (text : List ℕ) (result : Result (Unit {0}) EncodeError) : Type 0 where
-  -- after a success the text stands behind the bytes that were there
+  -- after a success the text stands after the bytes that were there
   pub appended : OnOk result (new.items ≡ old.items ++ text)
   -- after a refusal the buffer has the bytes that it had
   pub unchanged : OnErr result (new.items ≡ old.items)

@@ -13,7 +13,7 @@ use Rattle.resp_encode.specs.declared.error.EncodeToError.TheVariants.{Refused, 
 abbrev pub HasText : Version → Datum → Type 0
 HasText version x = HasTypes version x × HasPushAtTop x
 
--- the value has this fault, and none before it; want of memory comes only where it has none
+-- the value has this fault, and none before it; OutOfMemory comes only where it has none
 abbrev pub IsFirstFault : Rules → Datum → EncodeError → Type 0
 IsFirstFault rules x NotInVersion = HasTypes rules.version x → ⊥
 IsFirstFault rules x NestedPush = HasTypes rules.version x × (HasPushAtTop x → ⊥)

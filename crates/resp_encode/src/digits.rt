@@ -36,7 +36,7 @@ fn short_digit_count(number: u64) -> u64
     }
 }
 
-/// The two digits of each number below a hundred, one behind the other.
+/// The two digits of each number below a hundred, one after the other.
 static PAIRS: [u8; 200] =
     *b"00010203040506070809101112131415161718192021222324252627282930313233343536373839\
       40414243444546474849505152535455565758596061626364656667686970717273747576777879\

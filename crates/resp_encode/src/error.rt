@@ -14,7 +14,7 @@ pub enum EncodeError {
     #[error("a push stands below the top")]
     NestedPush,
     /// The value breaks this limit, and none that is tested before it.
-    #[error("the value is over a limit")]
+    #[error("the value is over the limit {0:?}")]
     OverLimits(Limit),
     /// A growth of the buffer was refused.
     #[error("out of memory")]

@@ -24,7 +24,7 @@ pub(crate) fn has_types(found: &Measure, version: Version) -> bool
     }
 }
 
-/// The bytes of the text of what was measured, or its first fault, which is never want of memory.
+/// The bytes of the text of what was measured, or its first fault, which is never OutOfMemory.
 #[inline]
 pub(crate) fn checked_size(
     found: &Measure,

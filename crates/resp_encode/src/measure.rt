@@ -87,7 +87,7 @@ impl Measure {
         }
     }
 
-    /// The measure of these members and one more behind them.
+    /// The measure of these members and one more after them.
     #[inline]
     pub(crate) fn with(&self, next: &Measure) -> Measure
         ensures { (version : Version) (xs : Data) (x : Datum) → DescribesEach version xs self.now →

@@ -58,7 +58,7 @@ pub(crate) fn measure_line(text: &[u8]) -> Measure
     Measure::scalar(true, length, length + 3)
 }
 
-/// How many bytes a string takes whose head says so many: the head, these, CR and LF.
+/// How many bytes a string takes whose head says `counted`: the head, the content, CR and LF.
 #[inline]
 pub(crate) fn string_size(counted: u64) -> u64
     requires { counted ≤ 2 ^ 63 + 4 }
@@ -88,7 +88,7 @@ pub(crate) fn measure_bulk_error(bytes: &[u8]) -> Measure
     Measure::scalar(false, counted, string_size(counted))
 }
 
-/// The measure of a verbatim string, whose head counts its format and the colon behind that.
+/// The measure of a verbatim string, whose head counts its format and the colon after that.
 #[inline]
 pub(crate) fn measure_verbatim(format: &[u8; 3], text: &[u8]) -> Measure
     ensures found { (version : Version) →

@@ -13,7 +13,7 @@ use bytes::BytesMut;
 /// LF.
 const LONGEST_HEAD: u64 = 23;
 
-/// Makes room for so many more bytes, and leaves the bytes that are there.
+/// Makes room for `size` more bytes, and leaves the bytes that are there.
 #[inline]
 pub(crate) fn reserve(out: &mut BytesMut, size: usize) -> Result<(), EncodeError>
     ensures items { out.new.items ≡ out.old.items }
@@ -34,7 +34,7 @@ pub(crate) fn room(out: &BytesMut) -> u64
     (out.capacity() - out.len()) as u64
 }
 
-/// Whether there is surely room for a head with this number and so many bytes behind it. The digits
+/// Whether there is surely room for a head with this number and the bytes after it. The digits
 /// are counted only where there is little room.
 #[inline(always)]
 pub(crate) fn has_room_for_head(out: &BytesMut, number: u64, behind: u64) -> bool

@@ -69,7 +69,7 @@ fn checked_words_size(limits: &Limits, words: &[Vec<u8>]) -> Result<usize, Encod
     checked_size(&found, Version::Two, limits)
 }
 
-/// Whether `encode_words` takes these words: it answers as that does, but never want of memory.
+/// Whether `encode_words` takes these words: it answers as that does, but never OutOfMemory.
 /// Takes no memory.
 pub fn check_words(limits: &Limits, words: &[Vec<u8>]) -> Result<(), EncodeError>
     ensures verdict { IsVerdict (rules_under Two limits.now) (command_of (texts_of words.now))

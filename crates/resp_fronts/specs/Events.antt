@@ -68,7 +68,7 @@ abbrev pub number_events : NumberKind → Sign → List ℕ → ℕ → List Tim
 number_events t.Int sign digits last = record { at = last; event = Int (signed_value sign digits) } ∷ []
 number_events t.Big sign digits last = big_events (is_below_zero sign digits) (significant_digits digits) last
 
--- content begins behind the length's line, and that of a verbatim string behind its format and the `:`
+-- content begins after the length's line, and that of a verbatim string after its format and the `:`
 abbrev pub string_events : StringKind → ℕ → List ℕ → List ℕ → ℕ → List Timed
 string_events t.Bulk from digits s last = text_events Bulk (from + length digits + 2) (from + length digits + 3) s last
 string_events t.BulkError from digits s last = text_events BulkError (from + length digits + 2)
@@ -131,7 +131,7 @@ abbrev pub without_places : List Timed → List Event
 without_places [] = []
 without_places (e ∷ es) = e.event ∷ without_places es
 
--- the events that come at the first so many bytes
+-- the events that come within this many bytes
 abbrev pub events_due : ℕ → List Timed → List Event
 events_due n [] = []
 events_due n (e ∷ es) = cond (ltb e.at n) (e.event ∷ events_due n es) (events_due n es)

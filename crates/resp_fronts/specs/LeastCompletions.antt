@@ -16,6 +16,6 @@ pub record Continues (rules : Rules) (rule : Rule) (front rest : List ℕ) : Typ
   pub spells : Spells tree (front ++ rest)
   pub keeps : Keeps rules rule tree
 
--- the least length of a rest that some tree within every rule but total spells behind the front
+-- the least length of a rest that some tree within every rule but total spells after the front
 abbrev pub IsLeast : Rules → List ℕ → ℕ → Type 0
 IsLeast rules front n = HasLeast (Continues rules WithinItems front) n

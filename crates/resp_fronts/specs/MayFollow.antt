@@ -88,7 +88,7 @@ CanAllEnd L N [] = Unit {0}
 CanAllEnd L N (frame ∷ frames) = CanEnd N (length frames) frame.kind frame.form (suc (count frame.done)) ×
     AreTrees frame.done × HoldsFromEach L N (suc (length frames)) frame.done × CanAllEnd L N frames
 
--- the bytes that an aggregate with n members needs, and the rest behind it
+-- the bytes that an aggregate with n members needs, and the rest after it
 abbrev pub members_needed : Kind → Form → ℕ → ℕ → ℕ
 members_needed k form n rest = 3 * members_missing k form n + length (close form) + rest
 

@@ -29,7 +29,7 @@ AreLevelsOf [] [] = Unit {0}
 AreLevelsOf (v ∷ vs) (f ∷ fs) = (v.kind ≡ f.kind) × HasShape f.kind v.shape f.form (count f.done) × AreLevelsOf vs fs
 AreLevelsOf _ _ = ⊥
 
--- what a scanner that waits for a member stands behind
+-- what a scanner that waits for a member stands after
 abbrev pub AreReady : LeafRule → NodeRule → List Frame → Type 0
 AreReady L N [] = Unit {0}
 AreReady L N (f ∷ fs) = CanEnd N (length fs) f.kind f.form (count f.done) × AreTrees f.done ×

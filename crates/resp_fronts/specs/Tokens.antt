@@ -14,7 +14,7 @@ abbrev pub IsTextLine : LineKind → Type 0
 IsTextLine Double = ⊥
 IsTextLine _ = Unit {0}
 
--- the bytes are the line of a leaf that has nothing behind its line
+-- the bytes are the line of a leaf that has nothing after its line
 pub record IsLineOf (r : Rules) (l : Leaf) (level : ℕ) (bytes : List ℕ) : Type 0 where
   pub is_leaf : IsLeaf l
   pub keeps : LeafKeeps r WithinItems level l
@@ -27,7 +27,7 @@ pub record IsReturned (r : Rules) (l : Leaf) (level : ℕ) (bytes : List ℕ) : 
   pub line_of : IsLineOf r l level begun
   pub returned : bytes ≡ begun ++ codes "\r"
 
--- the line of a simple string or of an error, with so many bytes of text
+-- the line of a simple string or of an error, with this many bytes of text
 pub record IsTextToken (r : Rules) (k : LineKind) (n : ℕ) (level : ℕ) (bytes : List ℕ) : Type 0 where
   pub content : List ℕ
   pub is_text_line : IsTextLine k
@@ -84,7 +84,7 @@ pub record IsLengthToken (r : Rules) (k : StringKind) (first : ℕ) (digits : Li
   pub fits : number (first ∷ digits) ≤ r.limits.length
   pub are : bytes ≡ string_byte k ∷ first ∷ digits
 
--- behind a length's line, begun bytes of a payload of which so many are left
+-- after a length's line, begun bytes of a payload of which this many are left
 pub record IsContentToken (r : Rules) (k : StringKind) (first : ℕ) (digits begun : List ℕ) (left : ℕ) (level : ℕ)
     (bytes : List ℕ) : Type 0 where
   pub are_digits : IsDigits (first ∷ digits)
@@ -104,7 +104,7 @@ pub record IsContentToken (r : Rules) (k : StringKind) (first : ℕ) (digits beg
 abbrev pub HasStreamed : Rules → Type 0
 HasStreamed r = (r.version ≡ Two → ⊥) × (r.limits.streamed ≡ false → ⊥)
 
--- so many zeros
+-- this many zeros
 abbrev pub zeros : ℕ → List ℕ
 zeros zero = []
 zeros (suc n) = byte "0" ∷ zeros n

@@ -5,5 +5,5 @@ pub mod Parts
 pub mod Counts
 pub mod Kinds
 pub mod Laws
--- The machine behind it, which no public clause names.
+-- The machine after it, which no public clause names.
 pub mod Machine

@@ -36,7 +36,7 @@ pub record StopsWithin (HasStopped : Events → Type 0) (given more : Events) : 
   pub parts : more ≡ told ++ later
   pub has_stopped : HasStopped (given ++ told)
 
--- A listener is told more events behind those that it has heard since whatever origin. Where it goes on it has heard
+-- A listener is told more events after those that it has heard since whatever origin. Where it goes on it has heard
 -- these too since then, and else it has stopped.
 abbrev pub Hears : {O : Type 0} → (O → Events → Type 0) → (O → Events → Type 0) → (O → Events → Type 0) → Events →
     Bool → Type 0
@@ -94,7 +94,7 @@ abbrev pub WhereHeard : {O : Type 0} → Place → (O → Events → Type 0) →
 WhereHeard s HasHeard P = (since : _) (front : List ℕ) (given : Events) → HasRead s front given →
     HasHeard since given → P since front
 
--- where a value has ended behind so many bytes
+-- where a value has ended after this many bytes
 abbrev pub IfWhole : Result Scanned error.ScanError → (ℕ → Type 0) → Type 0
 IfWhole result P = IfOk result (λ scanned. scanned.is_whole ≡ true → P scanned.used)
 
@@ -120,7 +120,7 @@ OnStopped (stop.Stopped taken) P = P taken
 abbrev pub IfStopped : Result Scanned error.ScanError → (ℕ → Type 0) → Type 0
 IfStopped result P = IfErr result (λ stop. OnStopped stop P)
 
--- the fault that stands behind it
+-- the fault that stands after it
 abbrev pub fault_of : error.ScanError → Fault
 fault_of (stop.Fault fault) = fault
 fault_of (stop.Stopped taken) = record { cause = cause.OutOfMemory; at = taken }

@@ -46,7 +46,7 @@ pub record IsSpelled (r : Rules) (front : List ℕ) : Type 0 where
   pub spells : Spells tree front
   pub keeps : Keeps r WithinTotal tree
 
--- the input may end behind the front: no value was begun, or one is whole
+-- the input may end after the front: no value was begun, or one is whole
 abbrev pub MayEnd : Rules → List ℕ → Type 0
 MayEnd r front = (front ≡ []) ⊎ IsSpelled r front
 

@@ -1,4 +1,4 @@
-//! Aggregates: they open behind their heads, and the streamed ones close by a line of their own.
+//! Aggregates: they open after their heads, and the streamed ones close by a line of their own.
 
 ghost use Rattle.std.specs.Prelude.{◌≡◌, ◌≤◌, ◌<◌, ◌+◌, ◌*◌, ◌^◌, ◌++◌, ◌∷◌, [], length, drop, Some, slice_index};
 
@@ -15,7 +15,7 @@ impl Machine {
     ghost use Rattle.resp_scan.specs.Machine.Moves.{may_close};
     ghost use Rattle.resp_scan.specs.Machine.Tokens.{at, Open, AtOpenCr, AtOpenLf, AtStart, AtCloseCr, AtCloseLf};
 
-    /// An aggregate opens, with this number in its head and so many members.
+    /// An aggregate opens, with `number` in its head and `members` members.
     #[inline]
     pub fn open(&mut self, used: usize, kind: OpenKind, number: u64, members: u64) -> Taken
         requires level { length self.old.frames.items < 128 }
@@ -43,7 +43,7 @@ impl Machine {
         self.frames.push(frame);
     }
 
-    /// Behind the `?` of a streamed aggregate.
+    /// After the `?` of a streamed aggregate.
     #[inline]
     pub fn open_cr(&mut self, piece: &[u8], i: usize, kind: OpenKind) -> Taken
         requires within { i ≤ length piece.now }
@@ -62,7 +62,7 @@ impl Machine {
         self.open_lf(piece, i + 1, kind)
     }
 
-    /// The LF of a streamed aggregate's head, behind which the aggregate is open.
+    /// The LF of a streamed aggregate's head, after which the aggregate is open.
     #[inline]
     pub fn open_lf(&mut self, piece: &[u8], i: usize, kind: OpenKind) -> Taken
         requires within { i ≤ length piece.now }
@@ -121,7 +121,7 @@ impl Machine {
         self.close_cr(piece, 1)
     }
 
-    /// Behind the `.` that closes a streamed aggregate, where only CR follows.
+    /// After the `.` that closes a streamed aggregate, where only CR follows.
     #[inline]
     pub fn close_cr(&mut self, piece: &[u8], i: usize) -> Taken
         requires { i ≤ length piece.now }

@@ -12,7 +12,7 @@ impl Machine {
     ghost use Rattle.resp_scan.specs.Machine.Tokens.{at, Text, AtBigSign, AtBigFirst, InBigZeros, AtBigZeroLf, AtBigDigit, InBig};
     ghost use Rattle.resp_scan.specs.declared.event.TextKind.TheVariants as text;
 
-    /// Behind `(`. A sign brings the end no nearer.
+    /// After `(`. A sign brings the end no nearer.
     #[inline]
     pub fn big_sign(&mut self, piece: &[u8], i: usize) -> Taken
         requires { i ≤ length piece.now }
@@ -35,7 +35,7 @@ impl Machine {
         }
     }
 
-    /// Behind `(` or a sign: the first digit, without which there is no big number.
+    /// After `(` or a sign: the first digit, without which there is no big number.
     #[inline]
     pub fn big_first(&mut self, piece: &[u8], i: usize, negative: bool) -> Taken
         requires { i ≤ length piece.now }
@@ -56,7 +56,7 @@ impl Machine {
         self.big_digit(i, negative, byte)
     }
 
-    /// Behind one zero or more.
+    /// After one zero or more.
     #[inline]
     pub fn big_zeros(&mut self, piece: &[u8], from: usize, negative: bool) -> Taken
         requires { from ≤ length piece.now }
@@ -97,7 +97,7 @@ impl Machine {
         self.gives(i + 1, EventTag::Big)
     }
 
-    /// Behind zeros alone and the CR.
+    /// After zeros alone and the CR.
     #[inline]
     pub fn big_zero_lf(&mut self, piece: &[u8], i: usize) -> Taken
         requires { i ≤ length piece.now }

@@ -11,7 +11,7 @@ impl Machine {
     ghost use Rattle.resp_scan.specs.Machine.Tokens.{at, at_boundary, TextEnd, AtStreamCr, AtStreamLf, AtChunk, InChunk, AtChunkCr, AtChunkLf};
     ghost use Rattle.resp_scan.specs.Machine.Heads.{chunk_at};
 
-    /// Behind `$?`.
+    /// After `$?`.
     #[inline]
     pub fn stream_cr(&mut self, piece: &[u8], i: usize) -> Taken
         requires { i ≤ length piece.now }
@@ -62,7 +62,7 @@ impl Machine {
         self.head_first(piece, i + 1, Head::Chunk { room })
     }
 
-    /// Behind a chunk's head: its content, or the text's end where it has none.
+    /// After a chunk's head: its content, or the text's end where it has none.
     #[inline]
     pub fn chunk_begins(&mut self, piece: &[u8], i: usize, count: u64, room: u64) -> Taken
         requires within { i ≤ length piece.now }
@@ -98,7 +98,7 @@ impl Machine {
         self.gives(i + run as usize, EventTag::ChunkPart)
     }
 
-    /// So many bytes of a chunk are still to come.
+    /// `count` bytes of a chunk are still to come.
     #[inline]
     fn chunk_rests(&mut self, count: u64)
         ensures start { self.new.part_start ≡ self.old.part_start }
@@ -112,7 +112,7 @@ impl Machine {
         };
     }
 
-    /// Behind a chunk's content, where only CR follows.
+    /// After a chunk's content, where only CR follows.
     #[inline]
     pub fn chunk_cr(&mut self, piece: &[u8]) -> Taken
         ensures { out_of result self.new ≡
@@ -127,7 +127,7 @@ impl Machine {
         self.chunk_lf(piece, 1)
     }
 
-    /// The LF behind a chunk's content, after which the next chunk begins.
+    /// The LF after a chunk's content, after which the next chunk begins.
     #[inline]
     pub fn chunk_lf(&mut self, piece: &[u8], i: usize) -> Taken
         requires { i ≤ length piece.now }

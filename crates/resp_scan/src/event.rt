@@ -45,7 +45,7 @@ pub enum Event<'a> {
     /// An aggregate begins, with the number of its members, or of its pairs in a map or an
     /// attribute; none where it is streamed. Its members follow, and then [`Event::Close`].
     Open(OpenKind, Option<u64>),
-    /// The innermost aggregate has ended. An attribute ends behind the value that it annotates.
+    /// The innermost aggregate has ended. An attribute ends after the value that it annotates.
     Close,
     /// The value at the top is whole.
     Done,
@@ -57,13 +57,13 @@ pub struct Step<'a> {
     /// The number of bytes taken from the front of the piece; the whole piece where there is no
     /// event.
     pub used: usize,
-    /// The event that stands behind them.
+    /// The event that stands after them.
     pub event: Option<Event<'a>>,
 }
 
 /// The refusal of a byte, or of an input that ends inside a value.
 #[derive(Clone, Copy, Debug, PartialEq, Eq, Error)]
-#[error("the value is refused")]
+#[error("{cause:?} at byte {at} of the value")]
 pub struct Fault {
     /// Why.
     pub cause: Cause,
@@ -77,7 +77,7 @@ pub struct Scanned {
     /// The number of bytes taken from the front of the piece; the whole piece where no value has
     /// ended.
     pub used: usize,
-    /// Whether a value has ended behind them.
+    /// Whether a value has ended after them.
     pub is_whole: bool,
 }
 
@@ -85,10 +85,10 @@ pub struct Scanned {
 #[derive(Clone, Copy, Debug, PartialEq, Eq, Error)]
 pub enum ScanError {
     /// A byte was refused.
-    #[error("the value is refused")]
+    #[error(transparent)]
     Fault(Fault),
     /// The listener stopped.
-    #[error("the listener stopped")]
+    #[error("the listener stopped after {taken} bytes of the value")]
     Stopped {
         /// The number of bytes of the value that were taken, with those of what it was told last.
         taken: u64,

@@ -13,9 +13,9 @@ pub struct Frame {
 /// an attribute and the value that it annotates are members of it.
 #[derive(Clone, Copy)]
 pub enum Shape {
-    /// So many members haven't begun, and no more may.
+    /// How many members are still to begin.
     Left(u64),
-    /// So many members of a streamed aggregate have begun.
+    /// How many members of a streamed aggregate have begun.
     Begun(u64),
 }
 

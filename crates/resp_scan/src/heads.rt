@@ -11,7 +11,7 @@ use resp_value::cause::Cause;
 use resp_value::kind::OpenKind;
 use resp_value::version::Version;
 
-/// Behind a number of at least this the digits are judged one by one, so that none is too great to
+/// After a number of at least this the digits are judged one by one, so that none is too great to
 /// be counted. Few numbers are.
 const MOST_JUDGED: u64 = 1 << 30;
 
@@ -23,7 +23,7 @@ impl Machine {
     ghost use Rattle.resp_scan.specs.Machine.Moves.{full_cause};
     ghost use Rattle.resp_scan.specs.Machine.Sound.{IsWithinRoom};
 
-    /// Behind `$`: a number, `-1` for the null, or `?` for a streamed string.
+    /// After `$`: a number, `-1` for the null, or `?` for a streamed string.
     #[inline(always)]
     pub fn bulk_head(&mut self, piece: &[u8], i: usize) -> Taken
         requires { i ≤ length piece.now }
@@ -47,7 +47,7 @@ impl Machine {
         }
     }
 
-    /// Behind `*`: a number, `-1` for the null, or `?` for a streamed array.
+    /// After `*`: a number, `-1` for the null, or `?` for a streamed array.
     #[inline(never)]
     pub fn array_head(&mut self, piece: &[u8], i: usize) -> Taken
         requires { i ≤ length piece.now }
@@ -75,7 +75,7 @@ impl Machine {
         self.head_first(piece, i, Head::Array)
     }
 
-    /// What refuses this byte behind the `*` of an array that would be a level too deep.
+    /// What refuses this byte after the `*` of an array that would be a level too deep.
     #[inline]
     fn full_cause(&self, byte: u8) -> Cause
         ensures { result ≡ full_cause (place_of self.now) byte }
@@ -209,7 +209,7 @@ impl Machine {
         }
     }
 
-    /// Behind a head's digit, digit by digit.
+    /// After a head's digit, digit by digit.
     #[inline(never)]
     pub fn head_more(&mut self, piece: &[u8], from: usize, head: Head, first: u64) -> Taken
         requires within { from ≤ length piece.now }
@@ -270,7 +270,7 @@ impl Machine {
         self.over_total(used, needed_behind(head, number))
     }
 
-    /// The LF of a head with this number, behind which a string, a chunk or an aggregate begins.
+    /// The LF of a head with this number, after which a string, a chunk or an aggregate begins.
     #[inline(always)]
     pub fn head_lf(&mut self, piece: &[u8], i: usize, head: Head, number: u64) -> Taken
         requires within { i ≤ length piece.now }

@@ -1,4 +1,4 @@
-//! Integers: digits behind a sign or none, of which 64 bits hold the number.
+//! Integers: digits after a sign or none, of which 64 bits hold the number.
 
 ghost use Rattle.std.specs.Prelude.{◌≡◌, ◌≤◌, ◌<◌, length, drop};
 ghost use Rattle.resp_scan.specs.Machine.Magnitudes.{greatest_magnitude};
@@ -12,7 +12,7 @@ impl Machine {
     ghost use Rattle.resp_scan.specs.Machine.Scan.{scan};
     ghost use Rattle.resp_scan.specs.Machine.Tokens.{at, AtIntSign, AtIntFirst, InInt, AtIntLf};
 
-    /// Behind `:`. A sign brings the end no nearer.
+    /// After `:`. A sign brings the end no nearer.
     #[inline]
     pub fn int_sign(&mut self, piece: &[u8], i: usize) -> Taken
         requires { i ≤ length piece.now }
@@ -32,7 +32,7 @@ impl Machine {
         }
     }
 
-    /// Behind a sign: apart, since few integers have one.
+    /// After a sign: apart, since few integers have one.
     #[inline(never)]
     pub fn int_signed(&mut self, piece: &[u8], i: usize, negative: bool) -> Taken
         requires { i ≤ length piece.now }
@@ -42,7 +42,7 @@ impl Machine {
         self.int_first(piece, i, negative)
     }
 
-    /// Behind `:` or a sign: the first digit, without which there is no integer.
+    /// After `:` or a sign: the first digit, without which there is no integer.
     #[inline(always)]
     pub fn int_first(&mut self, piece: &[u8], i: usize, negative: bool) -> Taken
         requires { i ≤ length piece.now }
@@ -59,7 +59,7 @@ impl Machine {
         self.int_more(piece, i + 1, negative, piece[i] as u64 - b'0' as u64)
     }
 
-    /// Behind a digit. The digits are run over first, and judged together where they end.
+    /// After a digit. The digits are run over first, and judged together where they end.
     #[inline(always)]
     pub fn int_more(&mut self, piece: &[u8], from: usize, negative: bool, first: u64) -> Taken
         requires within { from ≤ length piece.now }

@@ -114,7 +114,7 @@ impl Machine {
         }
     }
 
-    /// Whether a value at the top has ended, behind which the next one may begin. Asked behind each
+    /// Whether a value at the top has ended, after which the next one may begin. Asked after each
     /// event, since one more turn would cost more.
     #[inline(always)]
     #[tactic(auto, using(crate::proofs::Soundness::Places::sound_member))]
@@ -237,7 +237,7 @@ impl Machine {
         }
     }
 
-    /// Tells a text of so many bytes behind the head, with its CR LF.
+    /// Tells a text of so many bytes after the head, with its CR LF.
     #[inline(always)]
     fn tell_whole<L: Listener>(
         &mut self,
@@ -264,8 +264,8 @@ impl Machine {
         told(used, listener.whole_text(kind, &rest[head..head + run]))
     }
 
-    /// How many bytes of a line stand before its CR LF, where these stand in this piece. So many
-    /// bytes before it aren't counted yet.
+    /// How many bytes of a line stand before its CR LF, where these stand in this piece. The
+    /// `head` bytes before it aren't counted yet.
     #[inline(always)]
     fn whole_line(&self, piece: &[u8], head: usize) -> Option<usize>
         requires { head ≤ 2 ^ 63 }

@@ -15,7 +15,7 @@ use resp_value::kind::OpenKind;
 ///
 /// What a listener has heard it says in the words of a ghost member, so that it needn't keep the
 /// events themselves: a decoder says that it holds their values, a counter that it has their
-/// number, and a writer that their text was written behind what it held before.
+/// number, and a writer that their text was written after what it held before.
 pub trait Listener {
     /// What it has to know of the time before it listened, such as what was held then.
     ghost Origin: { Type 0 };
@@ -64,7 +64,7 @@ pub trait Listener {
         ensures { Hears (has_heard self.old) (has_heard self.new) (has_stopped self.new)
             (e.Open (kind_of kind) count ∷ []) result };
 
-    /// The innermost aggregate has ended. An attribute ends behind the value that it annotates.
+    /// The innermost aggregate has ended. An attribute ends after the value that it annotates.
     fn close(&mut self) -> bool
         ensures { Hears (has_heard self.old) (has_heard self.new) (has_stopped self.new)
             (e.Close ∷ []) result };

@@ -10,7 +10,7 @@ impl Machine {
     ghost use Rattle.resp_scan.specs.Machine.Scan.{scan};
     ghost use Rattle.resp_scan.specs.Machine.Tokens.{at, AtNullOne, AtNullCr, AtNullLf, AtBool, AtBoolCr, AtBoolLf};
 
-    /// Behind `$-` or `*-`, where only `1` follows.
+    /// After `$-` or `*-`, where only `1` follows.
     #[inline]
     pub fn null_one(&mut self, piece: &[u8], i: usize) -> Taken
         requires { i ≤ length piece.now }
@@ -26,7 +26,7 @@ impl Machine {
         self.null_cr(piece, i + 1)
     }
 
-    /// Behind `_`, `$-1` or `*-1`, where only CR follows.
+    /// After `_`, `$-1` or `*-1`, where only CR follows.
     #[inline]
     pub fn null_cr(&mut self, piece: &[u8], i: usize) -> Taken
         requires { i ≤ length piece.now }
@@ -58,7 +58,7 @@ impl Machine {
         self.at_boundary(i + 1, EventTag::Null)
     }
 
-    /// Behind `#`.
+    /// After `#`.
     #[inline]
     pub fn bool(&mut self, piece: &[u8], i: usize) -> Taken
         requires { i ≤ length piece.now }
@@ -75,7 +75,7 @@ impl Machine {
         }
     }
 
-    /// Behind `#t` or `#f`, where only CR follows.
+    /// After `#t` or `#f`, where only CR follows.
     #[inline]
     pub fn bool_cr(&mut self, piece: &[u8], i: usize, truth: bool) -> Taken
         requires { i ≤ length piece.now }

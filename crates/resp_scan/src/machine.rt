@@ -19,7 +19,7 @@ pub enum Head {
     Bulk,
     BulkError,
     Verbatim,
-    /// A chunk of a streamed string, of which length leaves so many bytes.
+    /// A chunk of a streamed string, and how many bytes the limit of length leaves.
     Chunk { room: u64 },
     Array,
     Set,
@@ -33,7 +33,7 @@ pub enum Head {
 pub enum State {
     /// A value's first byte, or in a streamed aggregate a close.
     Start,
-    /// Behind a value or an aggregate's head: a close or the end is owed, or the next member may
+    /// After a value or an aggregate's head: a close or the end is owed, or the next member may
     /// begin.
     Boundary,
     Line,
@@ -82,7 +82,7 @@ pub enum State {
     Failed,
 }
 
-/// What stands behind the bytes that were taken. What an event carries waits in the machine.
+/// What stands after the bytes that were taken. What an event carries waits in the machine.
 #[derive(Clone, Copy)]
 pub enum EventTag {
     /// The piece has ended.
@@ -110,15 +110,14 @@ pub enum EventTag {
     Done,
 }
 
-/// The number of bytes taken, and what stands behind them.
+/// The number of bytes taken, and what stands after them.
 #[derive(Clone, Copy)]
 pub struct Taken {
     pub used: usize,
     pub tag: EventTag,
 }
 
-/// The state between two bytes. Fields behind `taken` and `owed` mean something in some tokens
-/// alone.
+/// The state between two bytes. The fields from `cause` on mean something in some states alone.
 #[derive(Drop)]
 pub struct Machine {
     pub version: Version,
@@ -169,7 +168,7 @@ impl Machine {
         }
     }
 
-    /// So many bytes of the piece are taken, and this event stands behind them.
+    /// `used` bytes of the piece are taken, and this event stands after them.
     #[inline]
     pub fn gives(&self, used: usize, tag: EventTag) -> Taken
         ensures { result ≡ record { used = used; tag = tag } }
@@ -177,7 +176,7 @@ impl Machine {
         Taken { used, tag }
     }
 
-    /// The byte behind so many is refused for this cause, and so is every later one.
+    /// The byte after `used` bytes is refused for this cause, and so is every later one.
     #[cold]
     #[inline(never)]
     pub fn fail(&mut self, used: usize, cause: Cause) -> Taken
@@ -205,7 +204,7 @@ impl Machine {
             .saturating_sub(self.frames_need)
     }
 
-    /// Whether total leaves room for so many bytes of this piece and so many behind them.
+    /// Whether total leaves room for `used` bytes of this piece and `needed` after them.
     #[inline]
     pub fn has_total_room(&self, used: usize, needed: u64) -> bool
         requires index { used ≤ 2 ^ 63 }
@@ -217,7 +216,7 @@ impl Machine {
         used as u64 + needed <= self.total_room()
     }
 
-    /// Total, unless it leaves room for so many bytes of this piece and so many behind them.
+    /// Total, unless it leaves room for `used` bytes of this piece and `needed` after them.
     #[inline]
     pub fn over_total(&self, used: usize, needed: u64) -> Option<Cause>
         requires index { used ≤ 2 ^ 63 }
@@ -250,7 +249,7 @@ impl Machine {
         self.frames.len() as u64 >= self.limits.depth()
     }
 
-    /// A member begins by the byte at the front of this piece, and so many bytes are needed behind
+    /// A member begins by the byte at the front of this piece, and `needed` bytes are needed after
     /// that byte: unless items or total refuse it.
     #[inline]
     pub fn begin(&mut self, needed: u64) -> Option<Cause>
@@ -299,7 +298,7 @@ impl Machine {
         }
     }
 
-    /// The innermost aggregate gets this shape, and the open ones need so many bytes, unless total
+    /// The innermost aggregate gets this shape, and the open ones need `frames_need` bytes, unless total
     /// refuses that.
     #[inline(always)]
     fn begin_as(&mut self, shape: Shape, frames_need: u64, needed: u64) -> Option<Cause>
@@ -334,7 +333,7 @@ impl Machine {
         }
     }
 
-    /// Behind a value or an aggregate's head, with this event.
+    /// After a value or an aggregate's head, with this event.
     #[inline]
     pub fn at_boundary(&mut self, used: usize, tag: EventTag) -> Taken
         ensures gives { result ≡ record { used = used; tag = tag } }
@@ -345,7 +344,7 @@ impl Machine {
     }
 }
 
-/// Whether a streamed aggregate of so many members has as many items as may be.
+/// Whether a streamed aggregate in which `begun` members have begun has all the items it may.
 #[inline]
 fn has_all(kind: OpenKind, begun: u64, items: u64) -> bool
     ensures { result ≡ has_all kind (Begun begun) items }

@@ -54,7 +54,7 @@ impl Machine {
     }
 }
 
-/// The fewest bytes that complete a value behind its type byte, or a streamed string behind the `;`
+/// The fewest bytes that complete a value after its type byte, or a streamed string after the `;`
 /// of a chunk.
 #[inline]
 pub fn first_needed(head: Head) -> u64
@@ -70,7 +70,7 @@ pub fn first_needed(head: Head) -> u64
     }
 }
 
-/// The fewest bytes that complete a value, or a streamed string, behind a head's digits of this
+/// The fewest bytes that complete a value, or a streamed string, after a head's digits of this
 /// value.
 #[inline]
 pub fn needed_behind(head: Head, number: u64) -> u64

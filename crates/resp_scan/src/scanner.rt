@@ -86,7 +86,7 @@ impl Scanner {
     ///
     /// Refuses the first byte after which nothing can follow, by the first cause that holds in this
     /// order: Syntax, Double, Version, NestedPush, Range, Streamed, Depth, Length, Items, Total.
-    /// Every later step answers the same. Behind a listener's stop it refuses as [`Scanner::scan`].
+    /// Every later step answers the same. After a listener's stop it refuses as [`Scanner::scan`].
     #[inline(always)]
     pub fn step<'a>(&mut self, piece: &'a [u8]) -> Result<Step<'a>, Fault>
         // The piece is used up, no value has ended in it, and all events that are due were given.
@@ -164,7 +164,7 @@ impl Scanner {
     }
 
     /// The end of the input. Refuses it by Truncated inside a value, with the number of its bytes
-    /// that were taken, and by the fault that stands behind a refused byte or a listener's stop.
+    /// that were taken, and by the fault that stands after a refused byte or a listener's stop.
     pub fn finish(&self) -> Result<(), Fault>
         ensures may_end { WhereRead self.now (λ front given.
             IsOk result ↔ MayEnd (rules_of self.now) front) }

@@ -19,7 +19,7 @@ impl Machine {
     ghost use Rattle.resp_scan.specs.Machine.Sound.{IsSound};
     ghost use Rattle.resp_scan.specs.Machine.Tokens.{Place};
 
-    /// Behind a value: its end or its parent's close is owed, or the next member may begin.
+    /// After a value: its end or its parent's close is owed, or the next member may begin.
     #[inline]
     #[tactic(auto, using(crate::proofs::Soundness::Places::sound_member))]
     pub fn after_value(&mut self, piece: &[u8]) -> Taken

@@ -66,6 +66,7 @@ hub_cut_short limits es store last hub view ns store' id old new written found p
       answered = a.answered;
       behind = a.behind;
       whole = a.whole;
+      some = a.some;
       reply = a.reply;
       store = store';
       version = new.version;
@@ -76,7 +77,7 @@ hub_cut_short limits es store last hub view ns store' id old new written found p
           (ap seats_of written ∙ seats-set es id new ∙ ap (with_seat (seats_of es) id) seat);
     })
 
--- the hub stays sound behind what was answered
+-- the hub stays sound after what was answered
 pub answered_sound : (limits : Bounds) (es : List (ℕ × Session)) (store : Store) (last : ℕ) → HubIsSound limits es store last →
     (ns : List (ℕ × Session)) (store' : Store) (id : ℕ) (old new : Session) → ns ≡ set_value (λ other. id == other) es new →
     Some old ≡ lookup (λ other. id == other) es → FitsStore limits store' → rules_of new.decoder.scanner ≡ server_rules limits →

@@ -1,5 +1,5 @@
 -- What a session answers, turn by turn.
-use Rattle.std.proofs.Common.{◌≡◌, ℕ, ◌+◌, ◌-◌, true, false, List, [], ◌++◌, length, take, drop, refl, sym, ap, subst, ◌∙◌, append_assoc, append-nil, take-add}
+use Rattle.std.proofs.Common.{◌≡◌, ℕ, ◌+◌, ◌-◌, ◌<◌, true, false, List, [], ◌++◌, length, take, drop, refl, sym, ap, subst, ◌∙◌, arith, append_assoc, append-nil, length-drop, take-add}
 use Rattle.std.proofs.lemmas.Bool.{false≢true}
 use Rattle.std.proofs.lemmas.List.{take-append-drop, take_rest}
 use Rattle.resp_value.specs.Bounds.{Bounds}
@@ -75,15 +75,16 @@ closed_answered ends limits id store store' before after front piece n k closes 
 -- where memory is wanting, what was answered before stands
 pub cut_short : (limits : Bounds) (id : ℕ) (store store' store'' : Store) (before middle after last : Session) (front piece : List ℕ) (n k : ℕ) →
     middle.closing ≡ false → IsAnswered limits id store store' before middle (front ++ take n piece) k → IsAsBefore store' store'' middle after →
-    last.version ≡ after.version → last.out.items ≡ after.out.items → last.closing ≡ true →
+    last.version ≡ after.version → last.out.items ≡ after.out.items → last.closing ≡ true → n < length piece →
     IsCutShort limits id store store'' before last front piece k
-cut_short limits id store store' store'' before middle after last front piece n k is_open a same version out closes =
+cut_short limits id store store' store'' before middle after last front piece n k is_open a same version out closes left =
     let start = state_with store before.version [] false 0 in
     let text = front ++ take n piece in
     record {
       answered = take n piece;
       behind = drop n piece;
       whole = sym (take-append-drop n piece);
+      some = let is = length-drop n piece in omega (arith, is, left);
       reply = a.reply;
       rest = a.rest;
       replied = out ∙ same.same_out ∙ a.replied;

@@ -31,7 +31,7 @@ number_fits limits version n least short = record {
   within_total = omega (arith, least, short);
 }
 
--- HELLO's reply is what stands before the number, what is replied by the number, and what stands behind it
+-- HELLO's reply is what stands before the number, what is replied by the number, and what stands after it
 pub greeting_text : (version : Version) (n : ℕ) →
     (greeting_begin version ++ canonical_text version (natural n)) ++ greeting_end ≡ canonical_text version (hello_reply version n)
 greeting_text Two n = append_assoc (greeting_begin Two) (canonical_text Two (natural n)) greeting_end ∙

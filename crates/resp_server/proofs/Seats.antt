@@ -2,7 +2,7 @@
 use Rattle.std.proofs.Common.{◌≡◌, ℕ, ◌+◌, ◌==◌, ◌++◌, arith, Bool, true, false, cond, Option, None, Some, List, [], ◌∷◌, IfSome, refl, sym, ap, subst, ◌∙◌}
 use Rattle.std.specs.Map.{lookup, set_value, remove_entry}
 use Rattle.std.specs.Option.{option_map}
-use Rattle.std.proofs.lemmas.Bool.{eqb-true, ne_eqb, cond_both}
+use Rattle.std.proofs.lemmas.Bool.{eq-eqb, eqb-true, ne_eqb, cond_both}
 use Rattle.std.proofs.lemmas.List.{map-append}
 use Rattle.indexmap.specs.IndexMap.{insert_entry}
 use Rattle.resp_value.specs.Bounds.{Bounds}
@@ -161,10 +161,32 @@ insert_last limits last (e ∷ es) new h =
     let other : (last + 1 == e.0) ≡ false = ne_eqb (last + 1) e.0 (λ same. omega (arith, same, earlier)) in
     ap (λ b. cond b ((e.0, new) ∷ es) (e ∷ insert_entry (λ a b. a == b) es (last + 1) new)) other ∙ ap (λ l. e ∷ l) (insert_last limits last es new h.1)
 
+-- no session has the next id
+pub none_next : (limits : Bounds) (last : ℕ) (es : List (ℕ × Session)) → AreSound limits last es →
+    lookup (λ other. last + 1 == other) (seats_of es) ≡ None
+none_next limits last [] h = refl
+none_next limits last (e ∷ es) h =
+    let earlier = h.0.numbered in
+    let other : (last + 1 == e.0) ≡ false = ne_eqb (last + 1) e.0 (λ same. omega (arith, same, earlier)) in
+    ap (λ b. cond b (Some (seat_of e.1)) (lookup (λ x. last + 1 == x) (seats_of es))) other ∙ none_next limits last es h.1
+
+found_later : (here : Bool) (x : Seat) (rest rest' : Option Seat) (seat : Seat) → cond here (Some x) rest ≡ None →
+    (rest ≡ None → rest' ≡ Some seat) → cond here (Some x) rest' ≡ Some seat
+found_later true x rest rest' seat none later = absurd (cc)
+found_later false x rest rest' seat none later = later none
+
+-- one that goes last is found there
+pub found_last : (id : ℕ) (seat : Seat) (es : List (ℕ × Seat)) → lookup (λ other. id == other) es ≡ None →
+    lookup (λ other. id == other) (es ++ (id, seat) ∷ []) ≡ Some seat
+found_last id seat [] none = ap (λ b. cond b (Some seat) None) (eq-eqb id id refl)
+found_last id seat (e ∷ es) none =
+    found_later (id == e.0) e.1 (lookup (λ other. id == other) es) (lookup (λ other. id == other) (es ++ (id, seat) ∷ [])) seat none
+    (found_last id seat es)
+
 pub seats-append : (es more : List (ℕ × Session)) → seats_of (es ++ more) ≡ seats_of es ++ seats_of more
 seats-append es more = map-append (λ (e : ℕ × Session). (e.0, seat_of e.1)) es more
 
--- sessions stay sound behind a new one
+-- sessions stay sound after a new one
 pub sound_append : (limits : Bounds) (last : ℕ) (es : List (ℕ × Session)) (new : Session) → AreSound limits last es →
     SessionIsSound limits (last + 1) (last + 1) new.decoder new.closing → AreSound limits (last + 1) (es ++ (last + 1, new) ∷ [])
 sound_append limits last [] new h s = (s, tt)

@@ -107,7 +107,7 @@ drop_one : (words : List (List ℕ)) (word : List ℕ) → 0 < length words → 
 drop_one [] word full = absurd (omega (arith, full))
 drop_one (first ∷ words) word full = refl
 
--- the words behind the name, and one more
+-- the words after the name, and one more
 pub one_word_more : (words : List (List ℕ)) (i : ℕ) (word : List ℕ) → 1 ≤ i → i < length words → word ≡ get_or words i [] →
     drop 1 (take i words) ++ word ∷ [] ≡ drop 1 (take (i + 1) words)
 one_word_more words i word begun within is =

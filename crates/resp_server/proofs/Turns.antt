@@ -134,7 +134,7 @@ refused_is_named limits bounds front piece fault r =
       near = omega (arith, near, most, size);
     }
 
--- a fault that isn't want of memory has a short name, and stands within the limit of total
+-- a fault that isn't OutOfMemory has a short name, and stands within the limit of total
 pub fault_is_named : (limits : Bounds) → AreBounds limits → (r : Rules) → r ≡ server_rules limits → (front piece : List ℕ) (fault : Fault) →
     RefusesByte r front piece fault ⊎ LacksMemory r front piece fault → (fault.cause ≡ OutOfMemory → ⊥) → IsNamedFault fault
 fault_is_named limits bounds r same front piece fault (inl refused) other =
@@ -154,7 +154,7 @@ some_used decoder front piece r x zero taken s =
     absurd (taken.no_value (length front) s.tree (subst (λ t. Spells s.tree t) (sym whole) s.spells))
 some_used decoder front piece r x (suc n) taken s = omega arith
 
--- a state behind which nothing was run
+-- a state after which nothing was run
 state_same : (store : Store) (version version' : Version) (text : List ℕ) (closing closing' : Bool) (count : ℕ) → version' ≡ version → closing' ≡ closing →
     state_with store version text closing count ≡ state_with store version' text closing' (count + 0)
 state_same store version version' text closing closing' count v b =

@@ -14,19 +14,19 @@ use Rattle.resp_session.specs.Replies.{error}
 use Rattle.resp_session.specs.Stores.{Store}
 use Rattle.resp_server.specs.declared.session.Session.{Session}
 
--- a session over this store that has written this text and run so many commands
+-- a session over this store that has written this text and run this many commands
 abbrev pub state_with : Store → Version → List ℕ → Bool → ℕ → SessionState
 state_with store version text closing count =
     record { store = store; version = version; text = text; closing = closing; count = count }
 
--- behind a value, whatever was written and run before it
+-- after a value, whatever was written and run before it
 pub record IsAnswerTo (id : ℕ) (x : Datum) (store store' : Store) (before after : Session) (commands : ℕ) : Type 0 where
   pub reply : List ℕ
   pub replied : after.out.items ≡ before.out.items ++ reply
   pub state : (text : List ℕ) (count : ℕ) → after_value id (state_with store before.version text false count) x ≡
       state_with store' after.version (text ++ reply) after.closing (count + commands)
 
--- so many bytes of the piece were answered, behind the front that was read, whatever was written and run before them
+-- this many bytes of the piece were answered, after the front that was read, whatever was written and run before them
 pub record IsTurn (limits : Bounds) (id : ℕ) (store store' : Store) (before after : Session) (front piece : List ℕ)
     (used commands : ℕ) : Type 0 where
   pub reply : List ℕ
@@ -39,7 +39,7 @@ pub record IsTurn (limits : Bounds) (id : ℕ) (store store' : Store) (before af
   -- an open session uses a byte at least, where there is one
   pub onward : after.closing ≡ false → 0 < length piece → 0 < used
 
--- the text was answered: the reply waits behind what waited, and of an open session the rest was taken
+-- the text was answered: the reply waits after what waited, and of an open session the rest was taken
 pub record IsAnswered (limits : Bounds) (id : ℕ) (store store' : Store) (before after : Session) (text : List ℕ)
     (commands : ℕ) : Type 0 where
   pub reply : List ℕ
@@ -49,13 +49,14 @@ pub record IsAnswered (limits : Bounds) (id : ℕ) (store store' : Store) (befor
       (state_with store' after.version reply after.closing commands) rest
   pub taking : after.closing ≡ false → HasTaken after.decoder rest
 
--- memory was wanting behind the front and the first bytes of the piece, which were answered: nothing of what stands
--- behind them was done, and the session is closing
+-- memory was wanting after the front and the first bytes of the piece, which were answered: nothing of what stands
+-- after them was done, and the session is closing
 pub record IsCutShort (limits : Bounds) (id : ℕ) (store store' : Store) (before after : Session) (front piece : List ℕ)
     (commands : ℕ) : Type 0 where
   pub answered : List ℕ
   pub behind : List ℕ
   pub whole : piece ≡ answered ++ behind
+  pub some : 0 < length behind
   pub reply : List ℕ
   pub rest : List ℕ
   pub replied : after.out.items ≡ before.out.items ++ reply

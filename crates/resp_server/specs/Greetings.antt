@@ -12,6 +12,6 @@ abbrev pub greeting_begin : Version → List ℕ
 greeting_begin Two = codes "*14\r\n" ++ server_fields ++ codes "$5\r\nproto\r\n:2\r\n$2\r\nid\r\n"
 greeting_begin Three = codes "%7\r\n" ++ server_fields ++ codes "$5\r\nproto\r\n:3\r\n$2\r\nid\r\n"
 
--- what stands behind it
+-- what stands after it
 abbrev pub greeting_end : List ℕ
 greeting_end = codes "$4\r\nmode\r\n$10\r\nstandalone\r\n$4\r\nrole\r\n$6\r\nmaster\r\n$7\r\nmodules\r\n*0\r\n"

@@ -1,5 +1,5 @@
 -- What a hub does with a piece.
-use Rattle.std.specs.Prelude.{◌≡◌, ℕ, Bool, true, false, List, [], ◌++◌, IfSome}
+use Rattle.std.specs.Prelude.{◌≡◌, ℕ, Bool, true, false, List, [], ◌++◌, ◌<◌, length, IfSome}
 use Rattle.resp_value.specs.declared.version.Version.{Version}
 use Rattle.resp_decode.specs.Decoding.{HasTaken}
 use Rattle.resp_decode.specs.declared.decoder.Decoder.{Decoder}
@@ -30,12 +30,13 @@ pub record HasAnswered (old new : HubState) (id : ℕ) (s : Seat) (text : List �
   -- an open session has taken the rest
   pub taking : closing ≡ false → HasTaken decoder rest
 
--- the front and the first bytes of the piece were answered, the session is closing, and nothing else of the hub is
--- changed
+-- the front and the first bytes of the piece were answered and not all of it, the session is closing, and nothing else of
+-- the hub is changed
 pub record HasCutShort (old new : HubState) (id : ℕ) (s : Seat) (front piece : List ℕ) (commands : ℕ) : Type 0 where
   pub answered : List ℕ
   pub behind : List ℕ
   pub whole : piece ≡ answered ++ behind
+  pub some : 0 < length behind
   pub reply : List ℕ
   pub store : Store
   pub version : Version

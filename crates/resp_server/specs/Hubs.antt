@@ -1,13 +1,12 @@
 -- A hub apart from memory: its sessions and the store.
-use Rattle.std.specs.Prelude.{◌≡◌, ◌⊎◌, ℕ, ◌==◌, ◌+◌, ◌<◌, ◌≤◌, ◌^◌, Bool, false, List, [], ◌∷◌, ◌++◌, length, Option, map, cond}
+use Rattle.std.specs.Prelude.{◌≡◌, ◌⊎◌, ℕ, ◌==◌, ◌+◌, ◌<◌, ◌≤◌, ◌^◌, Bool, false, List, [], ◌∷◌, ◌++◌, length, Option, None, Some, map, cond}
 use Rattle.std.specs.List.{AllByRecursion}
 use Rattle.std.specs.Map.{lookup}
 use Rattle.resp_value.specs.Bounds.{Bounds}
 use Rattle.resp_value.specs.Rules.{rules_under}
 use Rattle.resp_value.specs.declared.version.Version.{Version}
 use Rattle.resp_value.specs.declared.version.Version.TheVariants.{Two}
-use Rattle.resp_scan.specs.Kinds.{rules_of}
-use Rattle.resp_decode.specs.Decoding.{HasTaken}
+use Rattle.resp_decode.specs.Decoding.{HasTaken, rules_of}
 use Rattle.resp_decode.specs.declared.decoder.Decoder.{Decoder}
 use Rattle.resp_session.specs.Fitting.{FitsStore}
 use Rattle.resp_session.specs.Stores.{Store}
@@ -58,7 +57,7 @@ without_seat (e ∷ es) id = cond (id == e.0) es (e ∷ without_seat es id)
 -- a session reads version 2 within the hub's limits, and while it is open it has taken a front of a value
 pub record SessionIsSound (limits : Bounds) (last : ℕ) (id : ℕ) (decoder : Decoder) (closing : Bool) : Type 0 where
   pub numbered : id ≤ last
-  pub reading : rules_of decoder.scanner ≡ rules_under Two limits
+  pub reading : rules_of decoder ≡ rules_under Two limits
   pub taking : closing ≡ false → (front : List ℕ) × HasTaken decoder front
 
 abbrev pub AreSound : Bounds → ℕ → List (ℕ × Session) → Type 0
@@ -72,11 +71,13 @@ pub record HubIsSound (limits : Bounds) (sessions : List (ℕ × Session)) (stor
   pub few : last < 2 ^ 63
   pub sound : AreSound limits last sessions
 
--- a session is opened with the next id, behind the others: nothing was read, and nothing waits
+-- a session is opened with the next id, which no other has, after the others: nothing was read, and nothing waits
 pub record IsOpened (old new : HubState) (id : ℕ) : Type 0 where
   pub next : id ≡ old.last + 1
   pub decoder : Decoder
   pub nothing_taken : HasTaken decoder []
+  pub fresh : seat_at old id ≡ None
+  pub there : seat_at new id ≡ Some (record { version = Two; out = []; closing = false; decoder = decoder })
   pub state : new ≡ record old {
     sessions = old.sessions ++ (id, record { version = Two; out = []; closing = false; decoder = decoder }) ∷ [];
     last = id;

@@ -27,7 +27,7 @@ refusal_text Syntax = codes "ERR syntax error"
 refusal_text NoProtocol = codes "NOPROTO unsupported protocol version"
 refusal_text UnknownCommand = codes "ERR unknown command"
 
--- what the command of this name asks with these words behind it
+-- what the command of this name asks with these words after it
 abbrev pub operation_by : Option Verb → List (List ℕ) → spec.Operation
 operation_by (Some Ping) arguments = spec.ping_operation arguments
 operation_by (Some Echo) arguments = spec.echo_operation arguments

@@ -16,7 +16,7 @@ abbrev pub TakesPushes : Option Seat → Type 0
 TakesPushes None = ⊥
 TakesPushes (Some s) = (s.closing ≡ false) × (s.version ≡ Three)
 
--- the session refuses the push for this reason, and has none before it; want of memory comes only where it has none
+-- the session refuses the push for this reason, and has none before it; OutOfMemory comes only where it has none
 abbrev pub RefusesPush : Bounds → Option Seat → Datum → PushError → Type 0
 RefusesPush limits seat push NoSession = seat ≡ None
 RefusesPush limits None push error = ⊥
@@ -28,7 +28,7 @@ RefusesPush limits (Some s) push (OverLimits limit) =
 RefusesPush limits (Some s) push OutOfMemory = TakesPushes (Some s) × Fits (rules_under Three limits) push
 
 -- a push is queued where the session takes pushes and it is within the limits, and else it is refused for the first
--- reason, want of memory aside
+-- reason, OutOfMemory aside
 pub record IsPushVerdict (limits : Bounds) (seat : Option Seat) (push : Datum) (result : Result (Unit {0}) PushError) :
     Type 0 where
   pub taken : OnOk result (TakesPushes seat × Fits (rules_under Three limits) push)

@@ -4,7 +4,7 @@ use Rattle.resp_value.specs.Canonical.{canonical_text}
 use Rattle.resp_session.specs.Stores.{Store, Effect}
 use Rattle.resp_server.specs.declared.session.Session.{Session}
 
--- the store and the session's version are those of the effect, and its reply stands behind what waited
+-- the store and the session's version are those of the effect, and its reply stands after what waited
 pub record HasEffect (store : Store) (before after : Session) (effect : Effect) : Type 0 where
   pub store_of : store ≡ effect.store
   pub version : after.version ≡ effect.version

@@ -1,8 +1,7 @@
 //! What a session answers to a piece.
 
 ghost use Rattle.std.specs.Prelude.{◌≡◌, ◌<◌, ◌^◌, ◌++◌, List, ℕ, false, IfOk, IfErr};
-ghost use Rattle.resp_scan.specs.Kinds.{rules_of};
-ghost use Rattle.resp_decode.specs.Decoding.{HasTaken, WhereTaken};
+ghost use Rattle.resp_decode.specs.Decoding.{HasTaken, WhereTaken, rules_of};
 ghost use Rattle.resp_session.specs.Answers.{server_rules};
 ghost use Rattle.resp_session.specs.Fitting.{FitsStore};
 ghost use Rattle.resp_server.specs.Answering.{IsAnswered, IsCutShort};
@@ -28,14 +27,14 @@ pub(crate) fn answer<S: BuildHasher>(
     requires is_open { session.old.closing ≡ false }
     requires stored { FitsStore limits.now store.old }
     requires small { id < 2 ^ 63 }
-    requires reading { rules_of session.old.decoder.scanner ≡ server_rules limits.now }
+    requires reading { rules_of session.old.decoder ≡ server_rules limits.now }
     requires taking { (front : List ℕ) × HasTaken session.old.decoder front }
     ensures answered { WhereTaken session.old.decoder (λ front. IfOk result (IsAnswered limits.now
         id store.old store.new session.old session.new (front ++ piece.now))) }
     ensures cut_short { WhereTaken session.old.decoder (λ front. IfErr result (IsCutShort limits.now
         id store.old store.new session.old session.new front piece.now)) }
     ensures stored { FitsStore limits.now store.new }
-    ensures reading { rules_of session.new.decoder.scanner ≡ server_rules limits.now }
+    ensures reading { rules_of session.new.decoder ≡ server_rules limits.now }
 {
     laws::answers_go_on();
     laws::answers_end();

@@ -36,7 +36,7 @@ pub enum PushError {
     #[error("a push stands below the top")]
     NestedPush,
     /// The push is over this limit, and over none that is tested before it.
-    #[error("the push is over a limit")]
+    #[error("the push is over the limit {0:?}")]
     OverLimits(Limit),
     /// A growth was refused.
     #[error("out of memory")]
@@ -50,8 +50,8 @@ pub enum HubError {
     #[error("no session has this id")]
     NoSession,
     /// A growth was refused, in a command, in reading one or in the line for a protocol error. What
-    /// was done before stands, nothing of what comes behind was done, and the session is closing.
-    #[error("out of memory behind {commands} commands")]
+    /// was done before stands, nothing of what comes after was done, and the session is closing.
+    #[error("out of memory after {commands} commands")]
     OutOfMemory {
         /// How many commands of the call were run before.
         commands: u64,

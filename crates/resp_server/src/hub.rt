@@ -113,7 +113,7 @@ impl<S: BuildHasher> Hub<S> {
         }
     }
 
-    /// Drops so many bytes, no more than wait, from the front of what waits in a session: those
+    /// Drops `count` bytes, no more than wait, from the front of what waits in a session: those
     /// that were sent. Refuses exactly where no session has this id, and then nothing is changed.
     pub fn sent(&mut self, id: u64, count: usize) -> Result<(), NoSession>
         requires { IfSome (seat_at self.old id) (λ (s : Seat). count ≤ length s.out) }
@@ -130,7 +130,7 @@ impl<S: BuildHasher> Hub<S> {
         Ok(())
     }
 
-    /// Whether a session takes no more commands and pushes, behind a protocol error or for want of
+    /// Whether a session takes no more commands and pushes, after a protocol error or for want of
     /// memory. Refuses exactly where no session has this id.
     pub fn is_closing(&self, id: u64) -> Result<bool, NoSession>
         ensures closing { IfOk result (λ closing.
@@ -167,7 +167,7 @@ impl<S: BuildHasher> Hub<S> {
     /// is given twice.
     ///
     /// Refuses by TooManySessions exactly where 65,536 are open or 9,223,372,036,854,775,807 ids
-    /// were given, and else for want of memory. Then nothing is changed.
+    /// were given, and else when out of memory. Then nothing is changed.
     pub fn open(&mut self) -> Result<u64, OpenError>
         ensures opened { IfOk result (IsOpened self.old self.new) }
         ensures too_many { IsErrOf result OpenError.TooManySessions ↔ IsFull self.old }
@@ -206,14 +206,14 @@ impl<S: BuildHasher> Hub<S> {
     /// takes pieces and runs nothing. Nulls and empty arrays are passed over.
     ///
     /// Refuses by NoSession exactly where no session has this id, and then nothing is changed; and
-    /// for want of memory: the commands run before stand with their replies, nothing of what comes
-    /// behind was done, and the session is closing.
+    /// when out of memory: the commands run before stand with their replies, nothing of what comes
+    /// after was done, and the session is closing.
     pub fn bytes(&mut self, id: u64, piece: &[u8]) -> Result<Handled, HubError>
         // What is queued, and the store, version and closing, are those of the answers to the bytes
         // taken before of a value and the piece.
         ensures answered { WhereOpen self.old id (λ s front. IfOk result (λ handled.
             HasAnswered self.old self.new id s (front ++ piece.now) handled.commands)) }
-        // At want of memory they are those of the answers to the bytes taken before and the first
+        // At OutOfMemory they are those of the answers to the bytes taken before and the first
         // of the piece.
         ensures cut_short { WhereOpen self.old id (λ s front. IfErr result (λ error.
             IfOutOfMemory error (HasCutShort self.old self.new id s front piece.now))) }
@@ -244,11 +244,11 @@ impl<S: BuildHasher> Hub<S> {
         Ok(Handled { commands })
     }
 
-    /// Queues a push of these items behind what waits, in version 3 (Redis serialization protocol
+    /// Queues a push of these items after what waits, in version 3 (Redis serialization protocol
     /// specification, "Pushes").
     ///
     /// Refuses by the first of NoSession, Closing, NotInVersion, NestedPush and OverLimits that
-    /// there is, and else for want of memory, as [`PushError`] says. Then nothing is changed.
+    /// there is, and else when out of memory, as [`PushError`] says. Then nothing is changed.
     pub fn push(&mut self, id: u64, items: &[Value]) -> Result<(), PushError>
         ensures queued { OnOk result (IfSome (seat_at self.old id) (λ (s : Seat).
             self.new ≡ seated self.old id

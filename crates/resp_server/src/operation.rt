@@ -33,7 +33,7 @@ pub(crate) enum Operation {
     Get(Content),
     /// That the key has the value.
     Set(Condition, Content, Content),
-    /// That the keys, the words behind the name, are no more there.
+    /// That the keys, the words after the name, are no more there.
     Del(Words),
     /// What the session is, and the version, if one is named.
     Hello(Option<Version>),

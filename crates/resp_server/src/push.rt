@@ -15,7 +15,7 @@ use resp_value::limits::Limits;
 use resp_value::value::Value;
 use resp_value::version::Version;
 
-/// Queues a push of these items behind what waits in a session.
+/// Queues a push of these items after what waits in a session.
 pub(crate) fn queue_push(
     session: &mut Session,
     limits: &Limits,

@@ -73,7 +73,7 @@ fn greeting_begin(version: Version) -> &'static [u8]
     }
 }
 
-/// What HELLO replies behind the session's number.
+/// What HELLO replies after the session's number.
 fn greeting_end() -> &'static [u8]
     ensures end { result.now ≡ greeting_end }
     ensures short { length result.now ≤ 70 }

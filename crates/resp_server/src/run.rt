@@ -116,7 +116,7 @@ fn set<S: BuildHasher>(
     Ok(())
 }
 
-/// Removes the keys behind the name, and replies how many were there.
+/// Removes the keys after the name, and replies how many were there.
 fn del<S: BuildHasher>(
     words: &Words,
     store: &mut Store<S>,

@@ -3,8 +3,7 @@
 ghost use Rattle.std.specs.Prelude.{◌≡◌, [], false};
 ghost use Rattle.resp_value.specs.Rules.{rules_under};
 ghost use Rattle.resp_value.specs.declared.version.Version.TheVariants.{Two};
-ghost use Rattle.resp_scan.specs.Kinds.{rules_of};
-ghost use Rattle.resp_decode.specs.Decoding.{HasTaken};
+ghost use Rattle.resp_decode.specs.Decoding.{HasTaken, rules_of};
 
 use bytes::BytesMut;
 use resp_decode::Decoder;
@@ -32,7 +31,7 @@ impl Session {
         ensures out { result.out.items ≡ [] }
         ensures open { result.closing ≡ false }
         ensures nothing_taken { HasTaken result.decoder [] }
-        ensures reading { rules_of result.decoder.scanner ≡ rules_under Two limits.now }
+        ensures reading { rules_of result.decoder ≡ rules_under Two limits.now }
     {
         Session {
             decoder: Decoder::new(alloc, Version::Two, limits),

@@ -2,8 +2,7 @@
 
 ghost use Rattle.std.specs.Prelude.{◌≡◌, ◌<◌, ◌≤◌, ◌^◌, List, ℕ, false, IfOk, OnOk, OnErr};
 ghost use Rattle.resp_value.specs.declared.cause.Cause.TheVariants.{OutOfMemory};
-ghost use Rattle.resp_scan.specs.Kinds.{rules_of};
-ghost use Rattle.resp_decode.specs.Decoding.{HasTaken, WhereTaken};
+ghost use Rattle.resp_decode.specs.Decoding.{HasTaken, WhereTaken, rules_of};
 ghost use Rattle.resp_session.specs.Answers.{server_rules};
 ghost use Rattle.resp_session.specs.Fitting.{FitsStore};
 ghost use Rattle.resp_server.specs.Answering.{IsTurn, IsRefused, IsNamedFault};
@@ -42,14 +41,14 @@ pub(crate) fn take_turn<S: BuildHasher>(
     requires is_open { session.old.closing ≡ false }
     requires stored { FitsStore limits.now store.old }
     requires small { id < 2 ^ 63 }
-    requires reading { rules_of session.old.decoder.scanner ≡ server_rules limits.now }
+    requires reading { rules_of session.old.decoder ≡ server_rules limits.now }
     requires taking { (front : List ℕ) × HasTaken session.old.decoder front }
     ensures answered { WhereTaken session.old.decoder (λ front. IfOk result (λ turn.
         IsTurn limits.now id store.old store.new session.old session.new front piece.now turn.used
         turn.commands)) }
     ensures unchanged { OnErr result (IsAsBefore store.old store.new session.old session.new) }
     ensures stored { FitsStore limits.now store.new }
-    ensures reading { rules_of session.new.decoder.scanner ≡ server_rules limits.now }
+    ensures reading { rules_of session.new.decoder ≡ server_rules limits.now }
     ensures at_most_one { IfOk result (λ turn. turn.commands ≤ 1) }
 {
     grammar::no_spelling_is_empty();

@@ -1,4 +1,4 @@
--- Answers behind what was written and run before.
+-- Answers after what was written and run before.
 use Rattle.std.proofs.Common.{◌≡◌, inl, inr, ℕ, Bool, true, false, cond, List, [], ◌∷◌, refl, sym, ap, subst, ◌∙◌, append_assoc, arith, codes}
 use Rattle.resp_value.specs.Canonical.{canonical_text}
 use Rattle.resp_value.specs.Causes.{cause_of, name_of}

@@ -35,7 +35,7 @@ open_end r rest s b (inr (inr u)) e =
     let k = u.closed in
     absurd (cc)
 
--- the texts of the requests that have come, and of those behind them
+-- the texts of the requests that have come, and of those after them
 sent_in_two : (c : Connection) (p : ℕ) → sent_text c ≡ concat (map request_text (take p c.requests)) ++ concat (map request_text (drop p c.requests))
 sent_in_two c p =
     ap (λ l. concat (map request_text l)) (sym (take-append-drop p c.requests)) ∙
@@ -64,7 +64,7 @@ values_of_requests : (limits : Bounds) (requests : List Request) → AllByRecurs
     AreSpellings (server_rules limits) (map command_value requests) (text_of requests)
 values_of_requests limits requests h = spell_all (server_rules limits) (map command_value requests) (map request_text requests) (texts_spell limits requests h)
 
--- the front of what has come is the texts of the requests that came whole, and the rest begins what is behind them
+-- the front of what has come is the texts of the requests that came whole, and the rest begins what is after them
 fronts : NoSpellingBeginsAnother → (limits : Bounds) (c : Connection) (k : ℕ) (rest : List ℕ) (h : Coming limits c k rest) →
     (h.unfinished.front ≡ text_of (old_of c)) × (rest ++ drop c.arrived (sent_text c) ≡ text_of (later_of c))
 fronts apart limits c k rest h =
@@ -177,7 +177,7 @@ back_on c messages more e =
 abbrev arrived_of : List Request → ℕ → List Request
 arrived_of requests arrived = take (whole_within (map request_text requests) arrived) requests
 
--- the session's rest is what of a request has come behind those that came whole
+-- the session's rest is what of a request has come after those that came whole
 still_unfinished : (limits : Bounds) (c next : Connection) (k : ℕ) (rest rest' front : List ℕ) (values : List Request) → Coming limits c k rest →
     next.requests ≡ c.requests → next.arrived ≡ arrived_with k c → new_requests k c ≡ values →
     AreSpellings (server_rules limits) (map command_value values) front → rest ++ coming k c ≡ front ++ rest' → IsUnfinished limits next rest'

@@ -67,7 +67,7 @@ commands_first k i w [] = refl
 commands_first k i w (command ∷ commands) =
     ap (λ v. after_commands v commands) (command_first k i w command) ∙ commands_first k i (after_command w command) commands
 
--- a connection behind commands: the same requests, of which as much has come
+-- a connection after commands: the same requests, of which as much has come
 record Asked (c d : Connection) : Type 0 where
   requests : d.requests ≡ c.requests
   arrived : d.arrived ≡ c.arrived
@@ -94,7 +94,7 @@ all_asked w (command ∷ commands) i c e =
     let (x, then, b) = all_asked (after_command w command) commands i d there in
     (x, then, record { requests = b.requests ∙ a.requests; arrived = b.arrived ∙ a.arrived })
 
--- so many bytes more, and then so many
+-- this many bytes more, and then this many
 arrived_twice : (j k : ℕ) (c : Connection) → with_arrived k (with_arrived j c) ≡ with_arrived (j + k) c
 arrived_twice j k c =
     let all : ℕ = length (sent_text c) in
@@ -118,7 +118,7 @@ news_twice j k c within =
     arrived_then_new k next still ∙ ap arrived_requests (arrived_twice j k c) ∙ sym (arrived_then_new (j + k) c within) in
     append_cancel_left (arrived_requests c) (new_requests j c ++ new_requests k next) (new_requests (j + k) c) whole
 
--- the requests that the second bytes bring, of these requests and behind so much of them
+-- the requests that the second bytes bring, of these requests and after this much of them
 abbrev second_news : ℕ → ℕ → List Request → ℕ → List Request
 second_news j k requests arrived =
     let all : ℕ = length (concat (map request_text requests)) in
@@ -126,7 +126,7 @@ second_news j k requests arrived =
     let texts = map request_text requests in
     drop (length (take (whole_within texts next) requests)) (take (whole_within texts (min (next + k) all)) requests)
 
--- at the connection's session: the commands of the first bytes run before the others come, or behind them
+-- at the connection's session: the commands of the first bytes run before the others come, or after them
 at_session : (w : World) (i j k : ℕ) (c : Connection) → connection_at w.connections i ≡ Some c → c.arrived ≤ length (sent_text c) →
     after_event (after_event w (ToServer i j)) (ToServer i k) ≡ after_event w (ToServer i (j + k))
 at_session w i j k c e within =

@@ -1,4 +1,4 @@
--- Texts that have come, and those behind them.
+-- Texts that have come, and those after them.
 use Rattle.std.proofs.Common.{◌≡◌, ℕ, zero, suc, ◌+◌, ◌-◌, ◌≤◌, List, [], ◌∷◌, ◌++◌, length, take, drop, refl, sym, ap, ◌∙◌, arith, append_assoc, length-append}
 use Rattle.std.specs.List.{concat}
 use Rattle.resp_value.specs.Data.{Datum}
@@ -31,7 +31,7 @@ same_front apart r (x ∷ xs) p q u v m n e =
     let h = same_front apart r xs g g2 u v t t2 d.2 in
     (w ∙ ap (λ z. z ++ g) d.1 ∙ ap (λ z. f2 ++ z) h.0 ∙ sym w2, h.1)
 
--- behind some whole texts, so many more lie whole within more bytes
+-- after some whole texts, this many more lie whole within more bytes
 pub whole_within-add : (texts : List (List ℕ)) (p j : ℕ) → p ≤ length texts →
     whole_within texts (length (concat (take p texts)) + j) ≡ p + whole_within (drop p texts) j
 whole_within-add texts zero j h =

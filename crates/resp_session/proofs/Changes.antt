@@ -1,4 +1,4 @@
--- Connections by their numbers, behind a change of one.
+-- Connections by their numbers, after a change of one.
 use Rattle.std.proofs.Common.{◌≡◌, ◌⊎◌, inl, inr, ℕ, zero, suc, List, [], ◌∷◌, length, Some, refl, ap, arith}
 use Rattle.resp_session.specs.Connections.{Connection}
 use Rattle.resp_session.specs.Worlds.{connection_at, with_change}

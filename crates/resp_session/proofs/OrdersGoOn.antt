@@ -13,7 +13,7 @@ beginning_refl xs = ([], sym (append-nil xs))
 pub beginning_trans : {X : Type 0} (xs ys zs : List X) → IsBeginning xs ys → IsBeginning ys zs → IsBeginning xs zs
 beginning_trans xs ys zs (p, e) (q, f) = (p ++ q, f ∙ ap (λ l. l ++ q) e ∙ append_assoc xs p q)
 
--- the order behind commands is the one before, and then these
+-- the order after commands is the one before, and then these
 pub after_commands-order : (w : World) (commands : List (ℕ × List (List ℕ))) → (after_commands w commands).order ≡ w.order ++ commands
 after_commands-order w [] = sym (append-nil w.order)
 after_commands-order w (c ∷ cs) = after_commands-order (after_command w c) cs ∙ append_assoc w.order (c ∷ []) cs

@@ -139,7 +139,7 @@ pub other_commands : (i j : ℕ) (requests : List Request) → (i ≡ j → ⊥)
 other_commands i j [] e = refl
 other_commands i j (r ∷ rs) e = other_command j (i, request_words r) (commands_for i rs) e ∙ other_commands i j rs e
 
--- where a connection comes from, behind commands
+-- where a connection comes from, after commands
 pub record ComesFrom (w : World) (commands : List (ℕ × List (List ℕ))) (i : ℕ) (c : Connection) : Type 0 where
   pub before : Connection
   pub at : connection_at w.connections i ≡ Some before

@@ -1,4 +1,4 @@
--- Readings in pieces, and behind what is asked later.
+-- Readings in pieces, and after what is asked later.
 use Rattle.std.proofs.Common.{◌≡◌, ℕ, Bool, true, false, cond, Option, None, Some, List, [], ◌∷◌, ◌++◌, refl, sym, ap, subst, ◌∙◌, append_assoc}
 use Rattle.resp_value.specs.Data.{Datum, IsPush, scalar, aggregate, Array, Set, Map, Attr, Push}
 use Rattle.resp_value.specs.Bounds.{Bounds}
@@ -41,7 +41,7 @@ three Three h [] = refl
 three Three h (None ∷ asks) = refl
 three Three h (Some asked ∷ asks) = refl
 
--- what is asked behind the first command that waits doesn't change the version that is read
+-- what is asked after the first command that waits doesn't change the version that is read
 reading_stays : (version : Version) (ask : Option Version) (asks more : List (Option Version)) → reading_version version ((ask ∷ asks) ++ more) ≡
     reading_version version (ask ∷ asks)
 reading_stays version None asks more = refl

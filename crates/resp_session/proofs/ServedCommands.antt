@@ -17,7 +17,7 @@ use Rattle.resp_session.proofs.CommandWords.{meaning_of-command_of}
 abbrev pub command_value : Request → Datum
 command_value request = command_of (request_words request)
 
--- the world behind a command that had this effect
+-- the world after a command that had this effect
 abbrev left_by : Effect → World → ℕ → List (List ℕ) → World
 left_by effect w i words = record {
   connections = with_change (with_effect effect) w.connections i;

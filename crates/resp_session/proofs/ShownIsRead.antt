@@ -51,7 +51,7 @@ nothing_goes_on full empty limits bounds w = record {
   viable = empty (reading_rules limits w) bounds WithinTotal;
 }
 
--- the messages that have come whole within so many bytes
+-- the messages that have come whole within this many bytes
 abbrev whole_messages : List Message → ℕ → List Message
 whole_messages messages n = take (whole_within (map message_text messages) n) messages
 
@@ -129,7 +129,7 @@ whole_within-all (text ∷ texts) n h =
     let here = whole_within-long text texts n (omega (arith, h, both)) in
     omega (arith, here, rest)
 
--- bytes behind the last text change nothing
+-- bytes after the last text change nothing
 whole_within-take : (texts : List (List ℕ)) (n : ℕ) → whole_within texts (length (take n (concat texts))) ≡ whole_within texts n
 whole_within-take texts n = elim (cases_lt n (length (concat texts))) as
     (λ _. whole_within texts (length (take n (concat texts))) ≡ whole_within texts n) [

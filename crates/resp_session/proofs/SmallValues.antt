@@ -171,7 +171,7 @@ hello_no_push version id = (tt, (tt, (tt, (tt, (tt, (tt, (tt, (tt, (tt, (tt, (tt
 hello_in_two : (version : Version) (id : ℕ) → AreInTwo (hello_members version id)
 hello_in_two version id = (tt, (tt, (tt, (tt, (tt, (tt, (tt, (tt, (tt, (tt, (tt, (tt, (tt, ((tt, tt), tt))))))))))))))
 
--- what stands behind the session's number
+-- what stands after the session's number
 abbrev behind_id : List ℕ
 behind_id = codes "$4\r\nmode\r\n$10\r\nstandalone\r\n$4\r\nrole\r\n$6\r\nmaster\r\n$7\r\nmodules\r\n*0\r\n"
 

@@ -1,4 +1,4 @@
--- How many texts lie whole within so many bytes.
+-- How many texts lie whole within this many bytes.
 use Rattle.std.proofs.Common.{◌≡◌, inl, inr, ℕ, ◌+◌, ◌-◌, ◌<◌, ◌≤◌, if◌then◌else◌, List, [], ◌∷◌, ◌++◌, length, sym, ap, ◌∙◌, arith, length-append}
 use Rattle.std.proofs.lemmas.Bool.{lt-ltb, le-ltb, cases_lt}
 use Rattle.std.specs.List.{concat}
@@ -8,7 +8,7 @@ use Rattle.resp_session.specs.Connections.{whole_within}
 pub whole_within-short : (text : List ℕ) (texts : List (List ℕ)) (n : ℕ) → n < length text → whole_within (text ∷ texts) n ≡ 0
 whole_within-short text texts n h = ap (λ b. if b then 0 else (whole_within texts (n - length text) + 1)) (lt-ltb n (length text) h)
 
--- where the first text lies whole in the bytes, it is one more than of those behind it
+-- where the first text lies whole in the bytes, it is one more than of those after it
 pub whole_within-long : (text : List ℕ) (texts : List (List ℕ)) (n : ℕ) → length text ≤ n →
     whole_within (text ∷ texts) n ≡ whole_within texts (n - length text) + 1
 whole_within-long text texts n h = ap (λ b. if b then 0 else (whole_within texts (n - length text) + 1)) (le-ltb n (length text) h)
@@ -32,7 +32,7 @@ whole_within-grows (text ∷ texts) n m h = elim (cases_lt n (length text)) as (
       omega (arith, whole_within-long text texts n l, whole_within-long text texts m k, whole_within-grows texts (n - length text) (m - length text) d)
 ]
 
--- a text that is sent behind the bytes doesn't lie within them
+-- a text that is sent after the bytes doesn't lie within them
 pub whole_within-append : (texts : List (List ℕ)) (text : List ℕ) (n : ℕ) → n ≤ length (concat texts) → 0 < length text →
     whole_within (texts ++ text ∷ []) n ≡ whole_within texts n
 whole_within-append [] text n h full = let l : n < length text = omega (arith, h, full) in whole_within-short text [] n l

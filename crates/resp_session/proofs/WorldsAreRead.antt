@@ -48,7 +48,7 @@ unrefused : (limits : Bounds) (requests : List Request) → AllByRecursion (IsSe
 unrefused limits [] h = tt
 unrefused limits (r ∷ rs) h = (h.0.1, unrefused limits rs h.1)
 
--- the client's connection behind its commands
+-- the client's connection after its commands
 commands_read : VersionThreeSpellsWhatTwoDoes → ReadingsGoOn → ReadingsStay → (limits : Bounds) (w : World) (i : ℕ) (news : List Request) → AreUnrefused news →
     (own : Connection) → connection_at w.connections i ≡ Some own → (requests : List Request) → IsRead limits requests own →
     (c : Connection) → connection_at (after_commands w (commands_for i news)).connections i ≡ Some c → IsRead limits (requests ++ news) c

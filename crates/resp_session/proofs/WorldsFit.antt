@@ -65,7 +65,7 @@ change_fits limits f w i keeps h =
       written = written_with limits f w.connections i keeps h.written;
     }
 
--- behind a command that is spelled within the limits
+-- after a command that is spelled within the limits
 command_fits : CanonicalTextSpellsWhatFits → EffectsFit → (limits : Bounds) → AreBounds limits → (w : World) (i : ℕ) → i < 2 ^ 63 → (request : Request) →
     IsSent limits request → WorldFits limits w → WorldFits limits (after_command w (i, request_words request))
 command_fits spells fit limits bounds w i small request sent h =

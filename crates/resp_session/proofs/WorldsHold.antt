@@ -23,7 +23,7 @@ fewer_then_more n m xs h k =
     ap (take n) (sym (take-append-drop m xs)) ∙ take-append-le n (take m xs) (drop m xs) fits in
     ap (λ i. take n xs ++ drop i (take m xs)) (length-take-le n xs few) ∙ ap (λ l. l ++ drop n (take m xs)) same ∙ take-append-drop n (take m xs)
 
--- the requests that have come, and then those that so many bytes more bring
+-- the requests that have come, and then those that this many bytes more bring
 pub arrived_then_new : (k : ℕ) (c : Connection) → c.arrived ≤ length (sent_text c) →
     arrived_requests c ++ new_requests k c ≡ arrived_requests (with_arrived k c)
 arrived_then_new k c h =
@@ -39,7 +39,7 @@ arrived_of requests arrived = take (whole_within (map request_text requests) arr
 pub one_connection : (x y : Connection) (o : Option Connection) → o ≡ Some x → o ≡ Some y → y ≡ x
 one_connection x y o e f = let g : Some y ≡ Some x = sym f ∙ e in cc
 
--- a connection behind commands that have arrived on another one, or on this one
+-- a connection after commands that have arrived on another one, or on this one
 arrival_on : (w : World) (i k : ℕ) (own : Connection) → connection_at w.connections i ≡ Some own → AllHold w → (j : ℕ) (c : Connection)
     (h : ComesFrom (world_with (with_arrived k) w i) (commands_for i (new_requests k own)) j c) → IsChanged (with_arrived k) w.connections i j h.before →
     Holds j c (w.order ++ commands_for i (new_requests k own))
@@ -110,7 +110,7 @@ step_holds limits w event Done next s all = subst AllHold (sym s.2) (event_holds
 step_holds limits w event (Refused cause) next s all = subst AllHold (sym s.2) all
 step_holds limits w event Gone next s all = subst AllHold (sym s.1) all
 
--- it stands behind events where it stood before them
+-- it stands after events where it stood before them
 pub run_holds : (limits : Bounds) (w : World) (events : List WorldEvent) (last : World) → Run limits w events last → AllHold w → AllHold last
 run_holds limits w [] last r all = subst AllHold (sym r) all
 run_holds limits w (event ∷ events) last r all =

@@ -26,7 +26,7 @@ abbrev pub AnswersEnd : Type 0
 AnswersEnd = (limits : Bounds) (id : ℕ) (a b : SessionState) (text more rest : List ℕ) →
     Answers limits id a text b rest → b.closing ≡ true → Answers limits id a (text ++ more) b (rest ++ more)
 
--- a session behind other commands, of which so many were run, and to which this text was written
+-- a session after other commands, of which this many were run, and to which this text was written
 abbrev pub behind_others : List ℕ → ℕ → SessionState → SessionState
 behind_others written count s = record s { text = written ++ s.text; count = count + s.count }
 
@@ -47,7 +47,7 @@ AnswersAreOfTheCut = (limits : Bounds) (id : ℕ) (a b c : SessionState) (text r
     Cut (server_rules limits) text xs rest' → Ends (server_rules limits) rest' (after_values id a xs) c →
     Answers limits id a text b rest → b ≡ c
 
--- whatever has come of texts that were sent is so many of them, and a viable rest that begins no value
+-- whatever has come of texts that were sent is a number of whole ones, and a viable rest that begins no value
 abbrev pub WhatComesIsWholeTexts : Type 0
 WhatComesIsWholeTexts = (rules : Rules) (xs : List Datum) (texts : List (List ℕ)) (came more : List ℕ) →
     AreBounds rules.limits → SpellEach rules xs texts → came ++ more ≡ concat texts → HasCome rules xs texts came

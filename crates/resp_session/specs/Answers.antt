@@ -25,7 +25,7 @@ pub record SessionState : Type 0 where
   -- how many commands were run
   pub count : ℕ
 
--- behind the line that names a protocol error, which is the last answer
+-- after the line that names a protocol error, which is the last answer
 abbrev pub after_error : List ℕ → ℕ → SessionState → SessionState
 after_error name at s = record s {
   text = s.text ++ canonical_text s.version (error (codes "ERR Protocol error: " ++ name ++ codes " at byte " ++
@@ -33,7 +33,7 @@ after_error name at s = record s {
   closing = true;
 }
 
--- behind a command that had this effect
+-- after a command that had this effect
 abbrev pub after_effect : Effect → SessionState → SessionState
 after_effect effect s = record s {
   store = effect.store;
@@ -42,17 +42,17 @@ after_effect effect s = record s {
   count = s.count + 1;
 }
 
--- behind a value that means this, in an open session of this number
+-- after a value that means this, in an open session of this number
 abbrev pub after_meaning : ℕ → SessionState → Meaning → SessionState
 after_meaning id s (Call name arguments) = after_effect (effect_of s.store s.version id (operation_of name arguments)) s
 after_meaning id s Nothing = s
 after_meaning id s NoCommand = after_error (codes "NotCommand") 0 s
 
--- behind a value; a closing session answers nothing
+-- after a value; a closing session answers nothing
 abbrev pub after_value : ℕ → SessionState → Datum → SessionState
 after_value id s x = if s.closing then s else after_meaning id s (meaning_of x)
 
--- behind values, one after another
+-- after values, one after another
 abbrev pub after_values : ℕ → SessionState → List Datum → SessionState
 after_values id s [] = s
 after_values id s (x ∷ xs) = after_values id (after_value id s x) xs
@@ -82,7 +82,7 @@ pub record IsUnread (before after : SessionState) : Type 0 where
   pub closed : before.closing ≡ true
   pub same : after ≡ before
 
--- what comes of the rest behind the values that were answered
+-- what comes of the rest after the values that were answered
 abbrev pub Ends : Rules → List ℕ → SessionState → SessionState → Type 0
 Ends rules rest before after = Waits rules rest before after ⊎
     (EndsInFault rules rest before after ⊎ IsUnread before after)

@@ -1,4 +1,4 @@
--- What has come of texts that were sent one behind another.
+-- What has come of texts that were sent one after another.
 use Rattle.std.specs.Prelude.{◌≡◌, ℕ, List, [], ◌∷◌, ◌++◌, length, take}
 use Rattle.resp_value.specs.Bounds.{Bounds}
 use Rattle.resp_value.specs.Data.{Datum}

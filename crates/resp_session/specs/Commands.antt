@@ -5,7 +5,7 @@ use Rattle.resp_value.specs.Data as d
 
 -- what a value means to a server
 pub data Meaning : Type 0 where
-  -- a command: its name, and the words behind it
+  -- a command: its name, and the words after it
   Call : List ℕ → List (List ℕ) → Meaning
   -- an empty array or a null, which is passed over
   Nothing : Meaning
@@ -17,7 +17,7 @@ abbrev pub bulk_content : Datum → Option (List ℕ)
 bulk_content (scalar (d.Bulk s)) = Some s
 bulk_content _ = None
 
--- a content and those behind it, where each is there
+-- a content and those after it, where each is there
 abbrev pub contents_with : Option (List ℕ) → Option (List (List ℕ)) → Option (List (List ℕ))
 contents_with (Some content) (Some contents) = Some (content ∷ contents)
 contents_with _ _ = None

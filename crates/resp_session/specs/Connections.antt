@@ -51,7 +51,7 @@ sent_text c = concat (map request_text c.requests)
 abbrev pub back_text : Connection → List ℕ
 back_text c = concat (map message_text c.messages)
 
--- how many of these texts, one behind the other, lie whole within so many bytes
+-- how many of these texts, one after the other, lie whole within this many bytes
 abbrev pub whole_within : List (List ℕ) → ℕ → ℕ
 whole_within [] n = 0
 whole_within (text ∷ texts) n = if nat_lt n (length text) then 0 else whole_within texts (n - length text) + 1
@@ -93,15 +93,15 @@ abbrev pub with_effect : Effect → Connection → Connection
 with_effect effect c = with_message (record { value = effect.reply; version = effect.version })
     (record c { version = effect.version })
 
--- so many bytes more have come to the session, at most those that were sent
+-- this many bytes more have come to the session, at most those that were sent
 abbrev pub with_arrived : ℕ → Connection → Connection
 with_arrived k c = record c { arrived = min (c.arrived + k) (length (sent_text c)) }
 
--- so many bytes more have come to the client, at most those that were sent
+-- this many bytes more have come to the client, at most those that were sent
 abbrev pub with_shown : ℕ → Connection → Connection
 with_shown k c = record c { shown = min (c.shown + k) (length (back_text c)) }
 
--- the requests whose ends so many bytes more reach
+-- the requests whose ends this many bytes more reach
 abbrev pub new_requests : ℕ → Connection → List Request
 new_requests k c = drop (length (arrived_requests c)) (arrived_requests (with_arrived k c))
 

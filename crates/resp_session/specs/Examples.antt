@@ -52,7 +52,7 @@ abbrev pub get_before_set : World
 get_before_set = fold after_event (new_world 2) (Send 1 set_a ∷ Send 2 get_a ∷ ToServer 2 20 ∷ ToServer 1 27 ∷
     ToServer 1 1000 ∷ ToClient 1 1000 ∷ ToServer 2 1000 ∷ ToClient 2 1000 ∷ [])
 
--- one client that asks for version 3, and is sent a push behind the reply
+-- one client that asks for version 3, and is sent a push after the reply
 abbrev pub push_after_hello : World
 push_after_hello = fold after_event (new_world 1) (Greet 1 (Some Three) ∷ ToServer 1 1000 ∷ ToClient 1 148 ∷
     Push 1 (bulk_string (codes "x") ∷ []) ∷ ToClient 1 10 ∷ ToClient 1 1 ∷ [])
@@ -99,7 +99,7 @@ pushes_on (Some c) = shown_pushes c
 abbrev pub pushes_to : World → ℕ → List Datum
 pushes_to w i = pushes_on (connection_at w.connections i)
 
--- under all limits, the event is refused for this cause behind this world
+-- under all limits, the event is refused for this cause after this world
 abbrev pub RefusesEventFor : World → WorldEvent → Cause → Type 0
 RefusesEventFor w event cause = (limits : Bounds) → Step limits w event (Refused cause) w
 

@@ -1,4 +1,4 @@
--- What a command asks, by its name and the words behind it.
+-- What a command asks, by its name and the words after it.
 use Rattle.std.specs.Prelude.{ℕ, Bool, List, [], ◌∷◌, ◌++◌, Option, None, Some, if◌then◌else◌, codes}
 use Rattle.std.specs.Str.{bytes_eq, str_to_ascii_lowercase}
 use Rattle.resp_value.specs.declared.version.Version.{Version}
@@ -84,7 +84,7 @@ hello_operation [] = Hello None
 hello_operation (word ∷ []) = version_operation word
 hello_operation (word ∷ option ∷ options) = syntax_error
 
--- what a command asks, by its name in any case and the words behind it
+-- what a command asks, by its name in any case and the words after it
 abbrev pub operation_of : List ℕ → List (List ℕ) → Operation
 operation_of name arguments =
     if is_name (codes "ping") name then ping_operation arguments else

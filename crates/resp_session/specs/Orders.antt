@@ -11,7 +11,7 @@ abbrev pub part_of_client : ℕ → List (ℕ × List (List ℕ)) → List (List
 part_of_client i order =
     map (λ (c : ℕ × List (List ℕ)). c.1) (filter (λ (c : ℕ × List (List ℕ)). c.0 == i) order)
 
--- the world of so many clients behind these commands, run one after another from the empty store
+-- the world of this many clients after these commands, run one after another from the empty store
 abbrev pub replay_of : ℕ → List (ℕ × List (List ℕ)) → World
 replay_of n order = after_commands (new_world n) order
 

@@ -43,7 +43,7 @@ is_error _ = false
 abbrev pub is_refusal : Datum → Bool
 is_refusal x = is_error (without_attributes x)
 
--- the client's version behind the reply to a command that asked so
+-- the client's version after the reply to a command that asked so
 abbrev pub version_after : Version → Option Version → Datum → Version
 version_after version None x = version
 version_after version (Some asked) x = if is_refusal x then version else asked
@@ -61,7 +61,7 @@ waiting_after w x = if is_push x then w else waiting_after_reply w.version w.ask
 abbrev pub MayBeRead : Waiting → Datum → Type 0
 MayBeRead w x = w.asks ≡ [] → is_push x ≡ true
 
--- the text is spellings of these values in order, each in the version in which it is read, and leaves so much waiting
+-- the text is spellings of these values in order, each in the version in which it is read, and leaves this much waiting
 abbrev pub ReadsAs : Bounds → Waiting → List Datum → List ℕ → Waiting → Type 0
 ReadsAs limits w [] text after = (text ≡ []) × (after ≡ w)
 ReadsAs limits w (x ∷ xs) text after = (front : List ℕ) × (rest : List ℕ) ×

@@ -12,7 +12,7 @@ abbrev pub ReadingsGoOn : Type 0
 ReadingsGoOn = (limits : Bounds) (a b c : Waiting) (xs ys : List Datum) (text more : List ℕ) →
     ReadsAs limits a xs text b → ReadsAs limits b ys more c → ReadsAs limits a (xs ++ ys) (text ++ more) c
 
--- what was read stays so, whatever is asked behind it
+-- what was read stays so, whatever is asked after it
 abbrev pub ReadingsStay : Type 0
 ReadingsStay = (limits : Bounds) (a b : Waiting) (asks : List (Option Version)) (xs : List Datum) (text : List ℕ) →
     ReadsAs limits a xs text b →

@@ -63,7 +63,7 @@ is_unsent_request (Command words) = is_unsent words
 abbrev pub FitsRequest : Bounds → Request → Type 0
 FitsRequest limits request = Fits (rules_under Two limits) (command_of (request_words request))
 
--- why a client that has queued so many requests refuses one: the first of these causes that there is
+-- why a client that has queued this many requests refuses one: the first of these causes that there is
 abbrev pub RefusesRequest : Bounds → ℕ → Request → Cause → Type 0
 RefusesRequest limits count request BadCommand = is_unsent_request request ≡ true
 RefusesRequest limits count request TooLarge = (is_unsent_request request ≡ false) × (FitsRequest limits request → ⊥)

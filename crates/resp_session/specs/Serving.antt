@@ -15,14 +15,14 @@ use Rattle.resp_session.specs.Worlds.{World, WorldEvent, ToServer, ToClient, aft
 abbrev pub session_of : World → Connection → SessionState
 session_of w c = record { store = w.store; version = c.version; text = []; closing = false; count = 0 }
 
--- the rest of what has come to a session, behind the requests that have come whole
+-- the rest of what has come to a session, after the requests that have come whole
 pub record IsUnfinished (limits : Bounds) (c : Connection) (rest : List ℕ) : Type 0 where
   pub front : List ℕ
   pub spelled : AreSpellings (server_rules limits)
       (map (λ (request : Request). command_of (request_words request)) (arrived_requests c)) front
   pub whole : take c.arrived (sent_text c) ≡ front ++ rest
 
--- so many bytes more of what was sent
+-- this many bytes more of what was sent
 abbrev pub coming : ℕ → Connection → List ℕ
 coming k c = take k (drop c.arrived (sent_text c))
 

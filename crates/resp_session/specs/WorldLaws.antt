@@ -31,7 +31,7 @@ abbrev pub ARunIsCut : Type 0
 ARunIsCut = (limits : Bounds) (w v : World) (events more : List WorldEvent) → Run limits w (events ++ more) v →
     (u : World) × Run limits w events u × Run limits u more v
 
--- what was run stays first in the order, so that what is run later stands behind it
+-- what was run stays first in the order, so that what is run later stands after it
 abbrev pub TheOrderOnlyGrows : Type 0
 TheOrderOnlyGrows = (limits : Bounds) (w v : World) (events : List WorldEvent) → Run limits w events v →
     IsBeginning w.order v.order
@@ -61,7 +61,7 @@ HasName request = 0 < length (request_words request)
 abbrev pub request_values : Connection → List Datum
 request_values c = map (λ (request : Request). command_of (request_words request)) c.requests
 
--- what has come to a session is so many whole commands, and a viable rest that begins no value: so no session of a
+-- what has come to a session is a number of whole commands, and a viable rest that begins no value: so no session of a
 -- world answers a fault
 abbrev pub WhatArrivesIsCommands : Type 0
 WhatArrivesIsCommands = (limits : Bounds) (n : ℕ) (events : List WorldEvent) (w : World) → AreBounds limits →

@@ -20,9 +20,9 @@ pub data WorldEvent : Type 0 where
   Send : ℕ → List (List ℕ) → WorldEvent
   -- it asks HELLO, with a version or without
   Greet : ℕ → Option Version → WorldEvent
-  -- so many bytes more come to its session
+  -- this many bytes more come to its session
   ToServer : ℕ → ℕ → WorldEvent
-  -- so many bytes more come to it
+  -- this many bytes more come to it
   ToClient : ℕ → ℕ → WorldEvent
   -- a push of these items is sent to it
   Push : ℕ → List Datum → WorldEvent
@@ -61,7 +61,7 @@ version_of (Some c) = c.version
 abbrev pub world_with : (Connection → Connection) → World → ℕ → World
 world_with f w i = record w { connections = with_change f w.connections i }
 
--- behind a command, of a client and with these words
+-- after a command, of a client and with these words
 abbrev pub after_command : World → ℕ × List (List ℕ) → World
 after_command w command =
     let effect = effect_of_words w.store (version_of (connection_at w.connections command.0)) command.0 command.1 in
@@ -71,7 +71,7 @@ after_command w command =
       store = effect.store;
     }
 
--- behind commands, one after another
+-- after commands, one after another
 abbrev pub after_commands : World → List (ℕ × List (List ℕ)) → World
 after_commands w commands = fold after_command w commands
 
@@ -79,7 +79,7 @@ after_commands w commands = fold after_command w commands
 abbrev pub commands_for : ℕ → List Request → List (ℕ × List (List ℕ))
 commands_for i requests = map (λ (request : Request). (i, request_words request)) requests
 
--- behind so many bytes more that come to the session of this connection
+-- after this many bytes more that come to the session of this connection
 abbrev pub after_arrival : World → ℕ → ℕ → Option Connection → World
 after_arrival w i k None = w
 after_arrival w i k (Some c) = after_commands (world_with (with_arrived k) w i) (commands_for i (new_requests k c))
@@ -93,11 +93,11 @@ after_event w (ToClient i k) = world_with (with_shown k) w i
 after_event w (Push i items) = world_with (with_message (push_message items)) w i
 after_event w (Drop i) = world_with as_dropped w i
 
--- so many connections on which nothing was sent
+-- this many connections on which nothing was sent
 abbrev pub new_connections : ℕ → List Connection
 new_connections zero = []
 new_connections (suc n) = new_connection ∷ new_connections n
 
--- so many clients, of which none has sent anything, over an empty store
+-- this many clients, of which none has sent anything, over an empty store
 abbrev pub new_world : ℕ → World
 new_world n = record { connections = new_connections n; order = []; store = [] }

@@ -56,7 +56,7 @@ pub fn a_text_has_one_answer()
     grammar::a_rest_has_one_fault();
 }
 
-/// Whatever has come of texts that were sent is so many of them, and a viable rest that begins no
+/// Whatever has come of texts that were sent is a number of whole ones, and a viable rest that begins no
 /// value.
 pub fn what_comes_is_whole_texts()
     ensures { WhatComesIsWholeTexts }
@@ -72,7 +72,7 @@ pub fn readings_go_on()
     ensures { ReadingsGoOn }
 {}
 
-/// What was read stays so, whatever is asked behind it. So the version in which a value is read is
+/// What was read stays so, whatever is asked after it. So the version in which a value is read is
 /// fixed, also in the middle of a pipeline.
 pub fn readings_stay()
     ensures { ReadingsStay }
@@ -118,7 +118,7 @@ pub fn a_world_has_one_order()
 {}
 
 /// What was run stays first in the order, and a reply that is shown is of a command that was run.
-/// So a command that is sent behind a shown reply stands behind that reply's command.
+/// So a command that is sent after a shown reply stands after that reply's command.
 pub fn the_order_goes_on()
     ensures cut_anywhere { ARunIsCut }
     ensures only_grows { TheOrderOnlyGrows }
@@ -130,7 +130,7 @@ pub fn what_is_shown_was_sent()
     ensures { WhatIsShownWasSent }
 {}
 
-/// What has come to a session of a world is so many whole commands, and a viable rest that begins
+/// What has come to a session of a world is a number of whole commands, and a viable rest that begins
 /// no value. So no session of a world answers a fault.
 pub fn what_arrives_is_commands()
     ensures { WhatArrivesIsCommands }
@@ -233,7 +233,7 @@ pub fn commands_and_their_replies()
         ≡ codes "-ERR unknown command\r\n" }
     ensures echoes { answers_to (command_of (codes "ECHO" ∷ codes "a" ∷ []) ∷
         command_of (codes "ping" ∷ codes "b" ∷ []) ∷ []) ≡ codes "$1\r\na\r\n$1\r\nb\r\n" }
-    // What is no command closes the session, and what stands behind it is not answered.
+    // What is no command closes the session, and what stands after it is not answered.
     ensures no_command { answers_to (natural 1 ∷ command_of (codes "PING" ∷ []) ∷ [])
         ≡ codes "-ERR Protocol error: NotCommand at byte 0\r\n" }
     ensures closes { (after_values 1 new_session (natural 1 ∷ [])).closing ≡ true }
@@ -333,7 +333,7 @@ pub fn conditions_and_their_replies()
         ≡ (codes "a", codes "3") ∷ (codes "b", codes "2") ∷ [] }
 {}
 
-/// Events, and what a world shows behind them.
+/// Events, and what a world shows after them.
 pub fn events_and_what_they_show()
     ensures order { clients_of get_before_set ≡ 2 ∷ 1 ∷ [] }
     ensures to_the_first { replies_to get_before_set 1 ≡ simple_string (codes "OK") ∷ [] }

@@ -1,4 +1,4 @@
--- What `check` writes, behind a stream of which nothing was written.
+-- What `check` writes, after a stream of which nothing was written.
 use Rattle.std.proofs.Common.{◌≡◌, ℕ, List, [], ◌∷◌, length, flat_map, Option, Err, refl, sym, ap, subst, ◌∙◌}
 use Rattle.resp_value.specs.Data.{Datum}
 use Rattle.resp_value.specs.Devices.{Appends}

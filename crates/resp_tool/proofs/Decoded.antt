@@ -153,7 +153,7 @@ encoder_stops_at r H x y front piece so_far used before after failures failures'
     (subst (λ z. IsFirstRefusal r (datum_of z) error) is refused) unchanged
     (subst (λ z. IfWrite (λ _. BreaksText before after failures failures' (canonical_text r.version (datum_of z))) error) is part)
 
--- what comes of a byte that the decoder refuses, or of want of memory
+-- what comes of a byte that the decoder refuses, or of OutOfMemory
 pub decoder_stops : (r : Rules) (H : List ℕ → List ℕ → Type 0) (front piece so_far : List ℕ) (held : Option (List ℕ)) (fault : Fault) → so_far ≡ [] →
     RefusesByte r front piece fault ⊎ LacksMemory r front piece fault →
     Takes r (canonical_text r.version) (Fits r) LeavesNothing LeavesNothing H front piece so_far held held (Err (stop_at fault))

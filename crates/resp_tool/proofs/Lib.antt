@@ -10,7 +10,3 @@ pub mod Decoded
 pub mod ShownTrees
 pub mod PageLemmas
 pub mod Showing
-pub mod ScriptWords
-pub mod ScriptLines
-pub mod ScriptReading
-pub mod Playing

@@ -110,7 +110,7 @@ whole_shown p k s =
     ∙ ap (λ n. quoted_text s ++ end_of_text (Some (record { is_big = is_big k; size = n }))) (let z : 0 + length s ≡ length s = omega arith in z))
     ∙ append_assoc (beginning p) (text_words k) (quoted_text s ++ end_of_text (Some (record { is_big = is_big k; size = length s })))
 
--- behind it one value more was written
+-- after it one value more was written
 pub whole_page : (p : Page) (k : TextKind) (s : List ℕ) →
     page_after (e.Text k ∷ (content_events s ++ e.TextEnd ∷ [])) p ≡ with_value (record p { text = None })
 whole_page p k s =

@@ -38,7 +38,7 @@ escaped_first rest behind byte n first none h =
     let some : n < length rest = omega (arith, ap length first) in
     ap is_plain (ap (λ xs. get_or xs 0 0) (sym first) ∙ ap (λ k. get_or rest k 0) (sym none)) ∙ h some
 
--- a front that is quoted so, and what lies behind it
+-- a front that is quoted so, and what lies after it
 pub quoted-split : (text front part behind shown : List ℕ) → text ≡ front ++ (part ++ behind) → quoted_text part ≡ shown →
     quoted_text text ≡ quoted_text front ++ (shown ++ quoted_text behind)
 quoted-split text front part behind shown e is_shown =

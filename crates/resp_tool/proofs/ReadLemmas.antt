@@ -71,7 +71,7 @@ pub take-into : (into buffer : List ℕ) (size n : ℕ) → n ≤ length into �
 take-into into buffer size n within room =
     take-take n size (into ++ drop (length into) buffer) (omega arith) ∙ take-append-le n into (drop (length into) buffer) within
 
--- one more of so many
+-- one more of this many
 pub one_more : (n each : ℕ) → (n + 1) * each ≡ n * each + each
 one_more zero each = omega arith
 one_more (suc n) each = omega arith

@@ -26,7 +26,7 @@ use Rattle.resp_tool.proofs.WrittenLemmas.{Appends-append, Appends-none}
 abbrev pub Relation : Type 1
 Relation = List ℕ → List ℕ → Type 0
 
--- spellings, and more behind them
+-- spellings, and more after them
 pub spelled_on : (r : Rules) (xs ys : List Datum) (front next : List ℕ) → AreSpellings r xs front → AreSpellings r ys next →
     AreSpellings r (xs ++ ys) (front ++ next)
 spelled_on r [] ys front next p q = let none : front ≡ [] = p in subst (λ f. AreSpellings r ys (f ++ next)) (sym none) q

@@ -59,12 +59,12 @@ pub no_whole_text : (front : List ℕ) → HasNoValue front → (tree : Tree) �
 no_whole_text front none tree spells =
     none (length front) tree (subst (Spells tree) (sym (take_all (length front) front (omega arith))) spells)
 
--- so a value that ends behind it uses bytes
+-- so a value that ends after it uses bytes
 pub value_uses_some : (front piece : List ℕ) (used : ℕ) (tree : Tree) → HasNoValue front → Spells tree (front ++ take used piece) → 0 < used
 value_uses_some front piece zero tree none spells = absurd (no_whole_text front none tree (subst (Spells tree) (append-nil front) spells))
 value_uses_some front piece (suc used) tree none spells = omega arith
 
--- the byte that is refused is the first behind which nothing can follow
+-- the byte that is refused is the first after which nothing can follow
 pub byte_fault : (r : Rules) (front piece : List ℕ) (fault : Fault) (given : Events) → FrontsOfViableTextsAreViable → IsRefused r front given piece fault →
     IsByteFault r (front ++ piece) fault.cause fault.at
 byte_fault r front piece fault given law w =

@@ -135,7 +135,7 @@ level_lines (e.Open k m ∷ es) p h = absurd (omega (arith, h.opens))
 level_lines (e.Close ∷ es) p h = absurd (omega (arith, h.closes))
 level_lines (e.Done ∷ es) p h = level_lines es p (rest_level e.Done es h)
 
--- as many lines are open behind these events as aggregates
+-- as many lines are open after these events as aggregates
 abbrev pub AreAsDeep : Events → Type 0
 AreAsDeep given = length (page_after given blank).open_lines + close_count given ≡ open_count given
 
@@ -370,7 +370,7 @@ module _ (r : Rules) (since : Start) (front piece : List ℕ) (after : Option (L
       case true is = (whole is).has_heard.none_failed
       case false is = (part is).has_heard.none_failed
 
--- a refused byte, behind which an open line was ended
+-- a refused byte, after which an open line was ended
 pub shows_refused : (r : Rules) (since : Start) (front piece : List ℕ) (lines : Lines) (now after : Option (List ℕ)) (f : ℕ) (fault : Fault) →
     FrontsOfViableTextsAreViable → HearsRefusal r (HasPrinted since lines now f) front piece fault →
     Appends now after (end_of_line (page_of lines).text) →

@@ -35,7 +35,7 @@ shown-append (x ∷ es) fs p =
 abbrev on : List OpenLine → Page
 on lines = record { open_lines = lines; text = None }
 
--- a page on which so much of a text was written
+-- a page on which this much of a text was written
 abbrev in_text : List OpenLine → Bool → ℕ → Page
 in_text lines big size = record { open_lines = lines; text = Some (record { is_big = big; size = size }) }
 
@@ -261,11 +261,11 @@ gives-node lines k n us middle shown inner is =
         of ++ (ind ++ word ++ lf ++ shown ++ ind ++ end ++ number ++ lf)
     node_parts of ind word lf shown end number = simp append_assoc
 
--- what members give, one behind another
+-- what members give, one after another
 members_on : (level : ℕ) (x : Datum) (xs : Data) → lines_on level x ++ member_lines level xs ≡ member_lines level (d.more x xs)
 members_on level x xs = refl
 
--- an aggregate whose members stand one behind another
+-- an aggregate whose members stand one after another
 plain-node : (lines : List OpenLine) (from : ℕ) (k : Kind) (form : Form) (us : Trees) →
     Gives (on (the_line k (declared_count form) 0 ∷ lines)) (without_places (events_each (from + length (form_line form) + 3) us))
     (on (the_line k (declared_count form) (0 + count us) ∷ lines)) (member_lines (suc (length lines)) (values us)) →

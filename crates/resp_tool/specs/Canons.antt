@@ -1,9 +1,8 @@
 -- What `canon` has taken of a value, and what it makes of the encoder's refusals.
 use Rattle.std.specs.Prelude.{◌≡◌, ℕ, List, []}
 use Rattle.resp_value.specs.Rules.{Rules}
-use Rattle.resp_scan.specs.Kinds.{rules_of}
 use Rattle.resp_scan.specs.Reading.{HasNoValue}
-use Rattle.resp_decode.specs.Decoding.{HasTaken}
+use Rattle.resp_decode.specs.Decoding.{HasTaken, rules_of}
 use Rattle.resp_decode.specs.declared.decoder.Decoder.{Decoder}
 use Rattle.resp_encode.specs.declared.error.EncodeError.TheVariants.{OutOfMemory}
 use Rattle.resp_encode.specs.declared.error.EncodeToError.{EncodeToError}
@@ -19,14 +18,14 @@ use Rattle.resp_tool.specs.declared.rendering.Stop.TheVariants.{OverLimits, Writ
 pub record HasDecoded (r : Rules) (d : Decoder) (front so_far : List ℕ) : Type 0 where
   pub takes : HasTaken d front
   pub no_value : HasNoValue front
-  pub same_rules : rules_of d.scanner ≡ r
+  pub same_rules : rules_of d ≡ r
   pub nothing : so_far ≡ []
 
 abbrev pub stop_for : Cause → Fault → Stop
 stop_for cause.OutOfMemory fault = Memory
 stop_for c fault = st.Fault fault
 
--- want of memory, or the fault of a byte
+-- OutOfMemory, or the fault of a byte
 abbrev pub stop_at : Fault → Stop
 stop_at fault = stop_for fault.cause fault
 

@@ -12,7 +12,3 @@ pub mod Canons
 pub mod Counts
 pub mod Laws
 pub mod Runs
-pub mod ScriptSteps
-pub mod Scripts
-pub mod SaidLines
-pub mod Plays

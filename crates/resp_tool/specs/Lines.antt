@@ -39,7 +39,7 @@ abbrev pub size_of_text : Option OpenText → ℕ
 size_of_text None = 0
 size_of_text (Some t) = t.size
 
--- so many more members and bytes can be counted in 64 bits
+-- this many more members and bytes can be counted in 64 bits
 pub record HasRoomFor (n : ℕ) (p : Page) : Type 0 where
   pub members : AllByRecursion (λ l. l.members + n < 2 ^ 64) p.open_lines
   pub size : size_of_text p.text + n < 2 ^ 64

@@ -63,7 +63,7 @@ end_of_text None = []
 end_of_text (Some text) = cond text.is_big (cond (text.size == 0) (codes "0\n") (codes "\n"))
     (codes "\" " ++ decimal text.size ++ codes "\n")
 
--- what stands of a whole text on its line, behind the indentation
+-- what stands of a whole text on its line, after the indentation
 abbrev pub text_line : TextKind → List ℕ → List ℕ
 text_line kind s = text_words kind ++ (quoted_text s ++ end_of_text (Some (record {
   is_big = is_big kind;
@@ -103,7 +103,7 @@ abbrev pub with_byte : Option OpenText → Option OpenText
 with_byte None = None
 with_byte (Some text) = Some (record text { size = text.size + 1 })
 
--- so many bytes more
+-- this many bytes more
 abbrev pub with_bytes : ℕ → Option OpenText → Option OpenText
 with_bytes n None = None
 with_bytes n (Some text) = Some (record text { size = text.size + n })
@@ -112,7 +112,7 @@ with_bytes n (Some text) = Some (record text { size = text.size + n })
 abbrev pub with_value : Page → Page
 with_value p = record p { open_lines = with_member p.open_lines }
 
--- what is open behind an event
+-- what is open after an event
 abbrev pub page_behind : Event → Page → Page
 page_behind e.Null p = with_value p
 page_behind (e.Bool truth) p = with_value p
@@ -126,12 +126,12 @@ page_behind (e.Open kind count) p = record p {
 page_behind e.Close p = record p { open_lines = with_member (without_last p.open_lines) }
 page_behind e.Done p = p
 
--- what is open behind some events
+-- what is open after some events
 abbrev pub page_after : List Event → Page → Page
 page_after [] p = p
 page_after (event ∷ es) p = page_after es (page_behind event p)
 
--- the text of events, behind others that have left a page so
+-- the text of events, after others that have left a page so
 abbrev pub shown_on : Page → List Event → List ℕ
 shown_on p [] = []
 shown_on p (event ∷ es) = piece_of event p ++ shown_on (page_behind event p) es

@@ -49,7 +49,7 @@ abbrev pub WherePrinted : Place → Lines → Option (List ℕ) → ℕ → (Sta
 WherePrinted s lines held failures P = (since : Start) (front : List ℕ) (given : Events) → HasRead s front given →
     HasPrinted since lines held failures given → P since front
 
--- what is open is that behind these events, where the counts and the lines have room for them
+-- what is open is that after these events, where the counts and the lines have room for them
 abbrev pub IsPageBehind : Lines → Lines → Events → Type 0
 IsPageBehind old new more = HasRoomFor (length more) (page_of old) →
     (1 ≤ open_count more → length (page_of old).open_lines < 128) → page_of new ≡ page_after more (page_of old)

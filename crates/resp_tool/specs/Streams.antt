@@ -107,7 +107,7 @@ AtEnd (Err (Refused number cause.Truncated at)) P = P
 AtEnd (Err e) P = Unit {0}
 
 -- What was written of bytes so far: the texts of the values in them, and what is called for by the bytes of the next
--- that were taken. Behind the most values of one run none were.
+-- that were taken. After the most values of one run none were.
 pub record HasRendered (r : Rules) (text : Datum → List ℕ) (IsWritten : Datum → Type 0)
     (HasTaken : List ℕ → List ℕ → Type 0) (bytes : List ℕ) (before after : Option (List ℕ)) (number : ℕ) : Type 0 where
   pub values : List Datum

@@ -83,7 +83,7 @@ pub record WritesPart (r : Rules) (text : Datum → List ℕ) (IsBegun : List �
   pub parts : flat_map text values ++ begun ≡ so_far ++ (more ++ later)
   pub appended : Appends before after more
 
--- what comes of a piece behind a front
+-- what comes of a piece after a front
 abbrev pub Takes : Rules → (Datum → List ℕ) → (Datum → Type 0) → (List ℕ → List ℕ → Type 0) →
     (List ℕ → List ℕ → Type 0) → (List ℕ → List ℕ → Type 0) → List ℕ → List ℕ → List ℕ → Option (List ℕ) →
     Option (List ℕ) → Result Taken Stop → Type 0
@@ -98,7 +98,7 @@ Takes r text IsWritten IsLeft IsBegun HasTaken front piece so_far before after (
 Takes r text IsWritten IsLeft IsBegun HasTaken front piece so_far before after (Err e) =
     WritesPart r text IsBegun (front ++ piece) so_far before after
 
--- what comes of the input's end behind a front
+-- what comes of the input's end after a front
 abbrev pub Ends : Rules → (Datum → List ℕ) → (List ℕ → List ℕ → Type 0) → (List ℕ → List ℕ → Type 0) → List ℕ →
     List ℕ → Option (List ℕ) → Option (List ℕ) → Result (Unit {0}) Stop → Type 0
 Ends r text IsLeft IsBegun front so_far before after (Ok x) = (front ≡ []) × (so_far ≡ []) × Appends before after []

@@ -151,7 +151,7 @@ fn stop_of(error: EncodeToError) -> Stop
 /// Reads the stream by reads of at most `piece` bytes, from 1 to 65,536, and writes the canonical
 /// text of each value in the same version.
 ///
-/// Refuses a stream at its first byte behind which nothing can follow, where it ends inside a
+/// Refuses a stream at its first byte after which nothing can follow, where it ends inside a
 /// value, at the first value whose canonical text is over the limits, or where bytes follow the
 /// first 1,000,000,000 values; the texts of the values before have been written. Where a device or
 /// memory fails, or 4,000,000,000 reads are used up, a first part of the texts was.

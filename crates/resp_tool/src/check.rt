@@ -137,7 +137,7 @@ impl Rendering for Unwritten {
 /// Reads the stream by reads of at most `piece` bytes, from 1 to 65,536, and writes the line of its
 /// counts once it is read whole. It takes memory for the bytes of one read alone.
 ///
-/// Refuses a stream at its first byte behind which nothing can follow, where it ends inside a
+/// Refuses a stream at its first byte after which nothing can follow, where it ends inside a
 /// value, where bytes follow the first 1,000,000,000 values, where reading fails, or where
 /// 4,000,000,000 reads are used up: then nothing was written. Without memory nothing was read
 /// either. Where writing fails a first part of the line was written.

@@ -490,7 +490,7 @@ fn is_double(number: u64, half: u64) -> bool
     number - half == half
 }
 
-/// The text with so many bytes more.
+/// The text with `bytes` bytes more.
 fn longer(text: Option<OpenText>, bytes: u64) -> Option<OpenText>
     ensures { size_of_text (text_of text) + bytes < 2 ^ 64 →
         text_of result ≡ with_bytes bytes (text_of text) }

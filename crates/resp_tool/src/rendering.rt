@@ -14,7 +14,7 @@ use resp_value::device::{Sink, WriteFault};
 pub struct Taken {
     /// The number of bytes taken from the front of the piece.
     pub used: usize,
-    /// Whether a value has ended behind them.
+    /// Whether a value has ended after them.
     pub is_whole: bool,
 }
 

@@ -48,7 +48,7 @@ fn push_words(line: &mut ArrayVec<u8, 128>, kind: TextKind) -> bool
     }
 }
 
-/// Adds what stands behind the content, where there is room and the number has no more than two
+/// Adds what stands after the content, where there is room and the number has no more than two
 /// digits: a quote and the number of its bytes.
 #[inline(always)]
 fn push_size(line: &mut ArrayVec<u8, 128>, size: u64) -> bool

@@ -84,9 +84,9 @@ impl Rendering for Shown {
 /// Reads the stream by reads of at most `piece` bytes, from 1 to 65,536, and writes the lines of
 /// each value as its bytes come. It takes memory for the bytes of one read alone.
 ///
-/// Refuses a stream at its first byte behind which nothing can follow, or where it ends inside a
+/// Refuses a stream at its first byte after which nothing can follow, or where it ends inside a
 /// value; the lines of the values before and of what came of that one have been written. It refuses
-/// bytes behind the first 1,000,000,000 values too. Where a device fails, or 4,000,000,000 reads
+/// bytes after the first 1,000,000,000 values too. Where a device fails, or 4,000,000,000 reads
 /// are used up, a first part of the lines was written. Without memory nothing was read or written.
 pub fn show<R: Source, W: Sink>(
     alloc: Global,

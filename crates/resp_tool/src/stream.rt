@@ -86,8 +86,8 @@ pub fn render_stream<T: Rendering, R: Source, W: Sink>(
     Err(ToolError::TooManyTurns)
 }
 
-/// Writes what the values call for that a piece goes on with, behind so many, and answers the
-/// number of all that are whole.
+/// Writes what the values call for that a piece goes on with, and answers the number of all
+/// that are whole.
 fn render_piece<T: Rendering, W: Sink>(
     rendering: &mut T,
     before: u64,

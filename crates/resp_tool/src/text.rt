@@ -33,7 +33,7 @@ pub fn write_text<W: Sink>(writer: &mut W, text: &[u8]) -> Result<(), WriteFault
     }
 }
 
-/// Writes what is left of a text behind its first bytes.
+/// Writes what is left of a text after its first bytes.
 #[cold]
 #[inline(never)]
 fn write_rest<W: Sink>(writer: &mut W, text: &[u8], written: usize) -> Result<(), WriteFault>

@@ -17,10 +17,10 @@ pub const MOST_VALUES: u64 = 1_000_000_000;
 #[derive(Clone, Copy, Debug, PartialEq, Eq, Error)]
 pub enum ToolError {
     /// The value with this number, counted from 1, was refused at this byte of it, counted from 0.
-    #[error("a value was refused")]
+    #[error("value {value}: {cause:?} at byte {at}")]
     Refused { value: u64, cause: Cause, at: u64 },
     /// The canonical text of the value with this number, counted from 1, is over the limits.
-    #[error("a value's canonical text is over the limits")]
+    #[error("value {value}: its canonical text is over the limits")]
     OverLimits { value: u64 },
     /// Bytes follow the first 1,000,000,000 values.
     #[error("too many values")]

@@ -8,7 +8,7 @@ use Rattle.resp_value.specs.Trees.{Tree, Trees, leaf, node, none, more, Leaf, li
 use Rattle.resp_value.specs.Laws.{TextsOfTreesAreBytes}
 use Rattle.resp_value.proofs.FirstBytes.{all_append, first_byte_is_byte}
 
--- two texts, one behind the other, are a text
+-- two texts, one after the other, are a text
 pub bytes_append : (a b : List ℕ) → IsText a → IsText b → IsText (a ++ b)
 bytes_append a b p q = all_append IsByte a b p q
 

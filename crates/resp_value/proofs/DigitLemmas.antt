@@ -5,7 +5,7 @@ use Rattle.std.proofs.lemmas.Int.Digits.{number_after_append, number_after_ge}
 use Rattle.std.proofs.lemmas.List.{map-append}
 use Rattle.resp_value.specs.Numbers.{number, significant_digits}
 
--- the number of digits with one more behind them
+-- the number of digits with one more after them
 pub number-digit : (digits : List ℕ) (byte : ℕ) → number (digits ++ byte ∷ []) ≡ number digits * 10 + (byte - 48)
 number-digit digits byte =
     ap (number_from_digits 10) (map-append (λ digit. digit - 48) digits (byte ∷ []))

@@ -54,7 +54,7 @@ begins (node k form ts) = (_, refl)
 pub first_byte_is : (t : Tree) (x r : List ℕ) (byte : ℕ) → text t ++ x ≡ byte ∷ r → first_byte t ≡ byte
 first_byte_is t x r byte e = let (cs, h) = begins t in sym (ap (λ z. byte_at_start (z ++ x)) h) ∙ ap byte_at_start e
 
--- what holds of each of two lists holds of one behind the other
+-- what holds of each of two lists holds of one after the other
 pub all_append : (P : ℕ → Type 0) (a b : List ℕ) → AllByRecursion P a → AllByRecursion P b → AllByRecursion P (a ++ b)
 all_append P [] b p q = q
 all_append P (c ∷ a) b p q = (p.0, all_append P a b p.1 q)

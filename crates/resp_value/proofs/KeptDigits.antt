@@ -132,7 +132,7 @@ keeps_digits text digits negative p e t f =
         under (inl z) = sym z
         under (inr z) = absurd (q.1 (k.zero (rw e at z)))
 
--- digits keep a text where their sign is found by testing the first kept digit behind a minus
+-- digits keep a text where their sign is found by testing the first kept digit after a minus
 pub keeps_digits_if_tested : (text digits : List ℕ) (negative : Bool) → IsDigits (unsigned_part text) → digits ≡ kept_digits (unsigned_part text) →
     ((is_minus (sign_at text) ≡ true) × (negative ≡ not (eqb (get_or digits 0 0) 48))) ⊎ ((is_minus (sign_at text) ≡ false) × (negative ≡ false)) →
     KeepsDigits text negative digits × IsKept negative digits

@@ -118,7 +118,7 @@ leaf_unique (string k ds s) (string j es r) x y p q h e =
 leaf_unique (chunked cs z) (chunked ds w) x y p q s e = chunked_unique cs ds z w x y p q e
 leaf_unique _ _ x y p q h e = absurd (cc)
 
--- what follows a member and the members behind it
+-- what follows a member and the members after it
 members_rest : (form : Form) (ts : Trees) (x : List ℕ) → (texts ts ++ close form) ++ x ≡ texts ts ++ (close form ++ x)
 members_rest form ts x = append_assoc (texts ts) (close form) x
 

@@ -58,7 +58,7 @@ members_of Map n = n + n
 members_of Attr n = n + n + 1
 members_of _ n = n
 
--- the number in the head of an aggregate with so many members
+-- the number in the head of an aggregate with this many members
 abbrev pub items_of : Kind → ℕ → ℕ
 items_of Map n = n / 2
 items_of Attr n = n / 2

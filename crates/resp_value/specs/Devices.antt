@@ -6,7 +6,7 @@ use Rattle.resp_value.specs.declared.device.DeviceFault.{DeviceFault}
 abbrev pub last_count : ℕ
 last_count = 18446744073709551615
 
--- a count after so many more: at its last value it stays
+-- a count after this many more: at its last value it stays
 abbrev pub count_after : ℕ → ℕ → ℕ
 count_after n count = min (count + n) last_count
 
@@ -70,16 +70,16 @@ abbrev pub at_most : Option ℕ → ℕ → ℕ
 at_most None n = n
 at_most (Some limit) n = min limit n
 
--- a limit, after so much of it was used
+-- a limit, after this much of it was used
 abbrev pub limit_after : Option ℕ → ℕ → Option ℕ
 limit_after None n = None
 limit_after (Some limit) n = Some (limit - n)
 
--- how many bytes a read moves into so much room
+-- how many bytes a read moves into this much room
 abbrev pub read_count : SourceState → ℕ → ℕ
 read_count source room = at_most source.sound (min source.most (min room (length source.left)))
 
--- a source after a read of so many bytes
+-- a source after a read of this many bytes
 abbrev pub after_read : SourceState → ℕ → SourceState
 after_read source n = record source {
   left = drop n source.left;
@@ -112,7 +112,7 @@ pub record SinkState : Type 0 where
 abbrev pub write_count : SinkState → List ℕ → ℕ
 write_count sink text = min sink.sound (min sink.most (length text))
 
--- a sink after a write that took so many bytes of a text
+-- a sink after a write that took this many bytes of a text
 abbrev pub after_write : SinkState → List ℕ → ℕ → SinkState
 after_write sink text n = record sink {
   held = sink.held ++ take n text;

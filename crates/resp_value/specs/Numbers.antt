@@ -43,7 +43,7 @@ abbrev pub is_minus : Sign → Bool
 is_minus Minus = true
 is_minus _ = false
 
--- the value of digits behind a sign
+-- the value of digits after a sign
 abbrev pub signed_value : Sign → List ℕ → ℤ
 signed_value Minus digits = neg_ℤ (pos (number digits))
 signed_value _ digits = pos (number digits)

@@ -180,7 +180,7 @@ CanStream Attr n = ⊥
 CanStream Push n = ⊥
 CanStream _ n = Unit {0}
 
--- an aggregate of this form may have so many members
+-- an aggregate of this form may have this many members
 abbrev pub HasMembers : Kind → Form → ℕ → Type 0
 HasMembers k (Counted digits) n = IsDigits digits × (members_of k (number digits) ≡ n)
 HasMembers k Streamed n = CanStream k n

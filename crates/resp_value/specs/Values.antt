@@ -35,7 +35,7 @@ list_of members = (out-Members members).items.items
 abbrev pub pairs_of : PairList → List (Value × Value)
 pairs_of pairs = (out-PairList pairs).pairs.items
 
--- data with one more behind them
+-- data with one more after them
 abbrev pub extended : Data → Datum → Data
 extended d.none x = d.more x d.none
 extended (d.more y ys) x = d.more y (extended ys x)

@@ -49,7 +49,7 @@ impl Command {
         self.words.as_slice()
     }
 
-    /// An equal command, or want of memory.
+    /// An equal command, or OutOfMemory.
     pub fn try_clone(&self, alloc: Global) -> Result<Command, AllocError>
         ensures { IfOk result (λ copy. words_of copy ≡ words_of self.now) }
     {

@@ -7,7 +7,7 @@ ghost use Rattle.resp_value.specs.Bytes.{IsText};
 use std::alloc::{AllocError, Global};
 
 /// Any bytes, CR and LF among them: what a bulk string and a bulk error hold, and a verbatim string
-/// behind its format (Redis serialization protocol specification, "Bulk strings", "Bulk errors" and
+/// after its format (Redis serialization protocol specification, "Bulk strings", "Bulk errors" and
 /// "Verbatim strings").
 ///
 /// It has no limit of its own: that of length is met where a value is read or written.

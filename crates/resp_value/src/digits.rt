@@ -54,7 +54,7 @@ fn begins_with_minus(text: &[u8]) -> bool
     !text.is_empty() && text[0] == b'-'
 }
 
-/// The text behind its sign, or the whole text where it begins with neither `-` nor `+`.
+/// The text after its sign, or the whole text where it begins with neither `-` nor `+`.
 fn unsigned_part(text: &[u8]) -> &[u8]
     ensures { result.now ≡ unsigned_part text.now }
 {
@@ -93,7 +93,7 @@ impl Digits {
         }
     }
 
-    /// These digits behind this sign, in the memory that they have. Takes none.
+    /// These digits after this sign, in the memory that they have. Takes none.
     ///
     /// Refuses exactly where a big number doesn't keep them so: other bytes than digits or none, a
     /// leading zero, and a negative `0`.

@@ -210,7 +210,7 @@ pub fn texts_and_their_causes()
     ensures newline_in_a_line { HasCause (codes "+a\n") Grammar }
     // A number has a digit.
     ensures no_digits { HasCause (codes ":\r") Grammar }
-    // A streamed map closes behind whole pairs alone.
+    // A streamed map closes after whole pairs alone.
     ensures map_closed_after_a_key { HasCause (codes "%?\r\n+a\r\n.") Grammar }
     // Pushes and attributes aren't streamed.
     ensures streamed_push { HasCause (codes ">?") Grammar }

@@ -27,7 +27,7 @@ pub struct PairList {
 
 /// A value of the protocol. It says nothing of how it was spelled, and no value is a double.
 ///
-/// Two values are equal where they have the same shape and content, in the same order. Behind each
+/// Two values are equal where they have the same shape and content, in the same order. After each
 /// shape stands its section of the Redis serialization protocol specification; version 2 has nulls,
 /// integers, simple strings and errors, bulk strings and arrays, and version 3 has all.
 #[derive(Debug, PartialEq, Eq, Drop)]

@@ -1,4 +1,4 @@
--- Texts that are answered one behind another, of which nothing was written.
+-- Texts that are answered one after another, of which nothing was written.
 use Rattle.std.specs.Option.{option_map}
 use Rattle.std.proofs.Common.{◌≡◌, inl, inr, ℕ, ◌+◌, Bool, true, false, Some, List, [], ◌++◌, take, drop, replicate, refl, sym, ap, subst, ◌∙◌, arith, append_assoc}
 use Rattle.std.proofs.Math.Seq.{take-add}
@@ -16,11 +16,11 @@ use Rattle.resp_wire.specs.Serving.{IsClosing}
 use Rattle.resp_wire.proofs.Seated.{at_open, seated_twice}
 use Rattle.resp_wire.proofs.ServedTexts.{seat_given, seat_with}
 
--- the session behind an answer
+-- the session after an answer
 abbrev pub seat_behind : (old new : HubState) (id : ℕ) (s : Seat) (text : List ℕ) (n : ℕ) → HasAnswered old new id s text n → Seat
 seat_behind old new id s text n a = seat_with a.version (s.out ++ a.reply) a.closing a.decoder
 
--- what is answered behind an answer is answered to the whole
+-- what is answered after an answer is answered to the whole
 pub answered_on : AnswersGoOn → AnswersAreAdded → (old mid new : HubState) (id : ℕ) (s : Seat) (text piece : List ℕ) (n m : ℕ) →
     (a : HasAnswered old mid id s text n) → a.closing ≡ false → HasAnswered mid new id (seat_behind old mid id s text n a) (a.rest ++ piece) m →
     HasAnswered old new id s (text ++ piece) (n + m)
@@ -52,7 +52,7 @@ answered_on go_on added old mid new id s text piece n m a is_open b =
       taking = b.taking;
     }
 
--- whether a session is closing behind an answer
+-- whether a session is closing after an answer
 closing_is : (old new : HubState) (id : ℕ) (s : Seat) (text : List ℕ) (n : ℕ) → seat_at old id ≡ Some s → (a : HasAnswered old new id s text n) →
     (closing : Bool) → IsClosing new id closing → a.closing ≡ closing
 closing_is old new id s text n here a closing is =
@@ -61,7 +61,7 @@ closing_is old new id s text n here a closing is =
     let same : Some a.closing ≡ Some closing = sym (ap (option_map (λ (t : Seat). t.closing)) there) ∙ is in
     cc
 
--- behind a session that isn't closing
+-- after a session that isn't closing
 pub brings : (old new : HubState) (id : ℕ) (s : Seat) (text order order' : List ℕ) (number n : ℕ) (closing : Bool) → seat_at old id ≡ Some s →
     HasAnswered old new id s text n → IsClosing new id closing → closing ≡ false → order' ≡ order ++ replicate n number →
     HasBrought old new id s text order order' number
@@ -72,7 +72,7 @@ brings old new id s text order order' number n closing here a is open_still adde
   added = added;
 }
 
--- behind one that is
+-- after one that is
 pub closes : (old new : HubState) (id : ℕ) (s : Seat) (front text : List ℕ) (count n : ℕ) (closing : Bool) → seat_at old id ≡ Some s →
     HasAnswered old new id s (front ++ take count text) n → IsClosing new id closing → closing ≡ true → HasClosed old id s front text
 closes old new id s front text count n closing here a is closed = record {
@@ -85,7 +85,7 @@ closes old new id s front text count n closing here a is closed = record {
 
 -- Bytes that are carried by pieces.
 
--- what is left of a client's text behind two pieces
+-- what is left of a client's text after two pieces
 pub sent_twice : (s : ClientState) (m n : ℕ) → without_front n (without_front m s) ≡ without_front (m + n) s
 sent_twice s m n = ap (λ z. record { limits = s.limits; waiting = s.waiting; answered = s.answered; out = z }) (drop-drop n m s.out)
 
@@ -96,11 +96,11 @@ brings_none old id s front out order number closing here a is is_open =
     subst (λ z. HasBrought old old id s z order order number) (sym (append-nil front))
     (brings old old id s front order order number 0 closing here a is is_open (sym (append-nil order)))
 
--- the first bytes, and those behind them
+-- the first bytes, and those after them
 text_on : (front out : List ℕ) (done n : ℕ) → (front ++ take done out) ++ take n (drop done out) ≡ front ++ take (done + n) out
 text_on front out done n = append_assoc front (take done out) (take n (drop done out)) ∙ ap (λ z. front ++ z) (sym (take-add done n out))
 
--- what holds of the session behind what was brought
+-- what holds of the session after what was brought
 behind_brought : (old mid : HubState) (id : ℕ) (s : Seat) (text order order' : List ℕ) (number : ℕ) (P : Seat → List ℕ → Type 0) → seat_at old id ≡ Some s →
     (h : HasBrought old mid id s text order order' number) → WhereOpen mid id P → P (seat_behind old mid id s text h.commands h.answered) h.answered.rest
 behind_brought old mid id s text order order' number P here h w =
@@ -125,7 +125,7 @@ brings_more go_on added old mid new id s front out order order' order'' number d
           ap (λ l. order ++ l) (replicate-append-replicate h.commands b.commands number);
     })
 
--- the session was closed by what came behind
+-- the session was closed by what came after
 closes_more : AnswersGoOn → AnswersAreAdded → (old mid : HubState) (id : ℕ) (s : Seat) (front out order order' : List ℕ) (number done : ℕ) →
     (h : HasBrought old mid id s (front ++ take done out) order order' number) →
     HasClosed mid id (seat_behind old mid id s (front ++ take done out) h.commands h.answered) h.answered.rest (drop done out) → HasClosed old id s front out
@@ -146,7 +146,7 @@ stops_by : AnswersGoOn → AnswersAreAdded → (old mid : HubState) (id : ℕ) (
     failures' failures'' cause → StopsCarrying old id s front out failures failures'' cause
 stops_by go_on added old mid id s front out order order' number done failures failures' failures'' cause h none (inl e) = inl e
 stops_by go_on added old mid id s front out order order' number done failures failures' failures'' cause h none (inr (inl risen)) =
-    inr (inl (subst (λ n. HasRisen n failures'') none risen))
+    inr (inl (subst (λ n. HasRisen n failures'') none risen.0, risen.1))
 stops_by go_on added old mid id s front out order order' number done failures failures' failures'' cause h none (inr (inr c)) =
     inr (inr (closes_more go_on added old mid id s front out order order' number done h c))
 

@@ -26,7 +26,7 @@ all_asked old mid requests q = q.queued ∙ ap (λ z. with_requests z (state_of 
 all_may : (old mid : Client) (requests : List Request) → QueuesFirst old mid requests (length requests) → MayAllBeSent requests (state_of old)
 all_may old mid requests q = subst (λ z. MayAllBeSent z (state_of old)) (take_all (length requests) requests (omega arith)) q.may_be_sent
 
--- nothing waits behind a write of all
+-- nothing waits after a write of all
 all_taken : (count : ℕ) (out : List ℕ) → drop count out ≡ [] → take count out ≡ out
 all_taken count out none = sym (append-nil (take count out)) ∙ ap (λ z. take count out ++ z) (sym none) ∙ take-append-drop count out
 
@@ -85,6 +85,6 @@ no_fault_queued old new requests (error.Fault fault) stops = absurd stops
 no_fault_queued old new requests e stops = tt
 
 -- no write stops by one
-pub no_fault_written : (c : Client) (failures failures' : ℕ) (e : AskError) → FailsWriting failures failures' e → KeepsFault c e
-no_fault_written c failures failures' (error.Fault fault) stops = absurd stops
-no_fault_written c failures failures' e stops = tt
+pub no_fault_written : (c : Client) (failures failures' : ℕ) (waits : List ℕ) (e : AskError) → FailsWriting failures failures' waits e → KeepsFault c e
+no_fault_written c failures failures' waits (error.Fault fault) stops = absurd stops
+no_fault_written c failures failures' waits e stops = tt

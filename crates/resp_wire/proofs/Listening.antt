@@ -24,7 +24,7 @@ use Rattle.resp_wire.specs.declared.error.AskError.{AskError}
 use Rattle.resp_wire.specs.declared.error.AskError.TheVariants as error
 use Rattle.resp_wire.specs.declared.asked.Asked.{Asked}
 
--- What has been heard behind so many turns: the bytes before the rest, of which each turn used one at least.
+-- What has been heard after this many turns: the bytes before the rest, of which each turn used one at least.
 pub record HearsUpTo (s : ClientState) (c : Client) (before after : Asked) (front piece rest : List ℕ) (turns : ℕ) : Type 0 where
   pub done : List ℕ
   pub parts : piece ≡ done ++ rest
@@ -51,12 +51,12 @@ hears_no_bytes c before front h = record {
 pub hears_nothing : (c : Client) (before : Asked) (front piece : List ℕ) → HasTaken c front → HearsUpTo (state_of c) c before before front piece piece 0
 hears_nothing c before front piece h = record { done = []; parts = refl; few = omega arith; hears = hears_no_bytes c before front h }
 
--- The bytes of one turn behind those of the turns before.
+-- The bytes of one turn after those of the turns before.
 bytes_on : (front done piece rest : List ℕ) (used : ℕ) → piece ≡ done ++ rest → piece ≡ (done ++ take used rest) ++ drop used rest
 bytes_on front done piece rest used parts = parts ∙ ap (λ z. done ++ z) (sym (take-append-drop used rest)) ∙ sym (append_assoc done (take used rest) (drop used
     rest))
 
--- what comes behind a rest that was taken
+-- what comes after a rest that was taken
 read_on : (front done text f : List ℕ) (more : List ℕ) → front ++ done ≡ text ++ f → front ++ (done ++ more) ≡ text ++ (f ++ more)
 read_on front done text f more whole = sym (append_assoc front done more) ∙ ap (λ z. z ++ more) whole ∙ append_assoc text f more
 
@@ -85,7 +85,7 @@ adds_more : (before mid after : Asked) (rs qs : List (ℕ × Datum)) (ps os : Li
 adds_more before mid after rs qs ps os a b =
     (b.0 ∙ ap (λ z. z ++ qs) a.0 ∙ append_assoc (replies_in before) rs qs, b.1 ∙ ap (λ z. z ++ os) a.1 ∙ append_assoc (pushes_in before) ps os)
 
--- the number of the reply behind these values
+-- the number of the reply after these values
 numbered_on : (s : ClientState) (c : ClientState) (values : List Datum) → c.answered ≡ s.answered + length (replies_of values) →
     next_number c ≡ next_number s + length (replies_of values)
 numbered_on s c values e = omega (arith, e)
@@ -104,11 +104,11 @@ hears_values goes_on s c before mid after values others qs os answered numbered 
       added.1 ∙ ap (λ z. pushes_in before ++ z) (sym (pushes ∙ ap (λ z. pushes_of values ++ z) pushed)),
     )
 
--- so many replies are among values and more of them
+-- this many replies are among values and more of them
 replies_more : (values others : List Datum) → length (replies_of (values ++ others)) ≡ length (replies_of values) + length (replies_of others)
 replies_more values others = ap length (filter-append (λ y. not (is_push y)) values others) ∙ length-append (replies_of values) (replies_of others)
 
--- What one feed heard, behind what was heard before.
+-- What one feed heard, after what was heard before.
 hears_on : ReadingsGoOn → HearingGoesOn → (s : ClientState) (c new : Client) (before mid after : Asked) (front done rest : List ℕ) (used : ℕ) (what : What) →
     (h : HearsAll s c before mid (front ++ done)) → Hears c new h.rest rest used what → UnlessReplied what (state_of new ≡ state_of c) →
     AddsHeard mid after what → HearsAll s new before after (front ++ (done ++ take used rest))
@@ -188,7 +188,7 @@ pub hears_in_turns : (s : ClientState) (c : Client) (before after : Asked) (fron
 hears_in_turns s c before after front piece rest turns w all =
     omega (arith, w.few, all, ap length w.parts, length-append w.done rest)
 
--- all that came is the values, and behind them what was taken and the rest
+-- all that came is the values, and after them what was taken and the rest
 reads_before : (s : ClientState) (c : Client) (before after : Asked) (front piece rest : List ℕ) (turns : ℕ) →
     (w : HearsUpTo s c before after front piece rest turns) →
     ReadsFrom s w.hears.values (front ++ piece) (state_of c).waiting (w.hears.rest ++ rest)
@@ -259,7 +259,7 @@ hears_none_more s c before mid after front piece rest turns w replies pushes =
       heard = (replies ∙ some.heard.0, pushes ∙ some.heard.1);
     }
 
--- What a piece told, behind what was heard before.
+-- What a piece told, after what was heard before.
 
 reads_on : ReadingsGoOn → (s : ClientState) (c : Client) (values others : List Datum) (front came piece f rest : List ℕ) (after : Waiting) →
     (state_of c).limits ≡ s.limits → ReadsFrom s values (front ++ came) (state_of c).waiting f → ReadsFrom (state_of c) others (f ++ piece) after rest →
@@ -316,7 +316,7 @@ stops_listening s c before after came error.Write h = absurd h
 stops_listening s c before after came error.TooManyTurns h = absurd h
 stops_listening s c before after came error.Ended h = absurd h
 
--- a client stops by a fault or for want of memory
+-- a client stops by a fault or when out of memory
 stops_client : (k : Cause) (fault : Fault) → StopsClient (error_by k fault)
 stops_client cause.OutOfMemory fault = tt
 stops_client k fault = tt

@@ -1,24 +1,24 @@
 -- Why serving stops, by its errors.
-use Rattle.std.proofs.Common.{◌≡◌, ℕ, ◌≤◌, false, Option, None, Some, Err, List, [], ◌++◌, length, IfSome, refl, subst, sym, ◌∙◌}
+use Rattle.std.proofs.Common.{◌≡◌, inl, inr, ℕ, ◌<◌, ◌≤◌, false, Option, None, Some, Err, List, [], ◌++◌, length, IfSome, refl, subst, sym, ◌∙◌}
 use Rattle.std.specs.Prelude.{IsErrOf, Result}
 use Rattle.std.specs.Option.{option_map}
 use Rattle.resp_server.specs.Handling.{IfOutOfMemory}
 use Rattle.resp_server.specs.Hubs.{HubState, Seat}
 use Rattle.resp_server.specs.declared.error.HubError.{HubError}
 use Rattle.resp_server.specs.declared.error.HubError.TheVariants as hub
-use Rattle.resp_wire.specs.Serving.{FailsServing, HasSent, IsClosing, Serves, ServesClosing, StopsAnswering, StopsReading, StopsServing, StopsWriting}
+use Rattle.resp_wire.specs.Serving.{FailsServing, HasSentPart, IsClosing, Serves, ServesClosing, StopsAnswering, StopsReading, StopsServing, StopsWriting}
 use Rattle.resp_wire.specs.declared.error.ServeError.{ServeError}
 use Rattle.resp_wire.specs.declared.error.ServeError.TheVariants.{NoSession, OutOfMemory, Read, Write, TooManyTurns}
 
 -- a write that stopped leaves the rest
 pub stops_writing : (old given new : HubState) (id : ℕ) (s : Seat) (front came : List ℕ) (held held' : Option (List ℕ)) (waits : List ℕ)
-    (failures failures' left : ℕ) (error : ServeError) → StopsWriting failures failures' left error →
+    (failures failures' left : ℕ) (error : ServeError) → StopsWriting failures failures' left error → 0 < length waits →
     Serves old new id s (front ++ came) held held' waits → StopsServing old new id s front came held held' error
-stops_writing old given new id s front came held held' waits failures failures' left NoSession h v = absurd h
-stops_writing old given new id s front came held held' waits failures failures' left OutOfMemory h v = absurd h
-stops_writing old given new id s front came held held' waits failures failures' left Read h v = absurd h
-stops_writing old given new id s front came held held' waits failures failures' left Write h v = (waits, v)
-stops_writing old given new id s front came held held' waits failures failures' left TooManyTurns h v = (waits, v)
+stops_writing old given new id s front came held held' waits failures failures' left NoSession h some v = absurd h
+stops_writing old given new id s front came held held' waits failures failures' left OutOfMemory h some v = absurd h
+stops_writing old given new id s front came held held' waits failures failures' left Read h some v = absurd h
+stops_writing old given new id s front came held held' waits failures failures' left Write h some v = (waits, some, v)
+stops_writing old given new id s front came held held' waits failures failures' left TooManyTurns h some v = (waits, inl some, v)
 
 -- a read that stopped leaves nothing
 pub stops_reading : (old new : HubState) (id : ℕ) (s : Seat) (front came : List ℕ) (held held' : Option (List ℕ))
@@ -28,11 +28,11 @@ stops_reading old new id s front came held held' failures failures' left NoSessi
 stops_reading old new id s front came held held' failures failures' left OutOfMemory h v = absurd h
 stops_reading old new id s front came held held' failures failures' left Read h v = v
 stops_reading old new id s front came held held' failures failures' left Write h v = absurd h
-stops_reading old new id s front came held held' failures failures' left TooManyTurns h v = ([], v.0)
+stops_reading old new id s front came held held' failures failures' left TooManyTurns h v = ([], inr v.1, v.0)
 
 -- of a session that is closing
 pub stops_closing : (old new : HubState) (id : ℕ) (held held' : Option (List ℕ)) (failures failures' left : ℕ) (error : ServeError) →
-    StopsWriting failures failures' left error → (waits : List ℕ) × HasSent old new id held held' waits →
+    StopsWriting failures failures' left error → HasSentPart old new id held held' →
     ServesClosing old new id held held' (Err error)
 stops_closing old new id held held' failures failures' left NoSession h v = absurd h
 stops_closing old new id held held' failures failures' left OutOfMemory h v = absurd h

@@ -1,4 +1,4 @@
--- Texts that are answered and written, one behind another.
+-- Texts that are answered and written, one after another.
 use Rattle.std.specs.Prelude.{⊤}
 use Rattle.std.proofs.Common.{◌≡◌, ℕ, ◌+◌, ◌≤◌, Bool, true, false, Option, Some, List, [], ◌++◌, length, refl, sym, ap, subst, ◌∙◌, arith, append_assoc}
 use Rattle.std.proofs.lemmas.List.{append-nil}
@@ -22,7 +22,7 @@ use Rattle.resp_wire.proofs.Turning.{appends_more, appends_nothing}
 abbrev pub seat_with : Version → List ℕ → Bool → Decoder → Seat
 seat_with version out closing decoder = record { version = version; out = out; closing = closing; decoder = decoder }
 
--- the session behind a change, and its text and its hub behind a write of what waited
+-- the session after a change, and its text and its hub after a write of what waited
 pub seat_given : (old given : HubState) (id : ℕ) (s seat : Seat) (store : Store) → seat_at old id ≡ Some s →
     given ≡ stocked (seated old id seat) store → seat_at given id ≡ Some seat
 seat_given old given id s seat store here is = ap (λ h. seat_at h id) is ∙ seat_here old id s seat here
@@ -45,7 +45,7 @@ hub_sent old given new id s version out closing decoder store held held' waits h
     h.state ∙ ap (λ (t : Seat). seated given id (seat_with t.version waits t.closing t.decoder)) same ∙ ap (λ g. seated g id last) is ∙
     ap (λ g. stocked g store) (seated_twice old id seat last)
 
--- What stands behind a text that was answered and whose replies were all written, in a session that is open.
+-- What stands after a text that was answered and whose replies were all written, in a session that is open.
 pub record Stands (old cur : HubState) (id : ℕ) (s : Seat) (text : List ℕ) (held held' : Option (List ℕ)) : Type 0 where
   pub reply : List ℕ
   pub store : Store
@@ -86,7 +86,7 @@ stands old cur id s text held held' here v o =
 abbrev pub seat_of : (old cur : HubState) (id : ℕ) (s : Seat) (text : List ℕ) (held held' : Option (List ℕ)) → Stands old cur id s text held held' → Seat
 seat_of old cur id s text held held' st = seat_with st.version [] false st.decoder
 
--- what is answered behind it is answered to the whole
+-- what is answered after it is answered to the whole
 answers_on : AnswersGoOn → AnswersAreAdded → (old cur : HubState) (id : ℕ) (s : Seat) (text : List ℕ) (held held' : Option (List ℕ))
     (st : Stands old cur id s text held held') (piece rest reply : List ℕ) (store : Store) (version : Version) (closing : Bool) (commands : ℕ) →
     Answers cur.limits id (state_with cur.store st.version [] false 0) (st.rest ++ piece) (state_with store version reply closing commands) rest →
@@ -105,7 +105,7 @@ answers_on go_on added old cur id s text held held' st piece rest reply store ve
     st.answers refl
     (subst (λ n. Answers old.limits id (state_with st.store st.version st.reply false n) (st.rest ++ piece) whole rest) none behind_text)
 
--- what is written behind it is written behind the whole
+-- what is written after it is written after the whole
 sent_on : (old cur given new : HubState) (id : ℕ) (s : Seat) (text : List ℕ) (held held' held'' : Option (List ℕ)) → seat_at old id ≡ Some s →
     (st : Stands old cur id s text held held') (reply : List ℕ) (store : Store) (version : Version) (closing : Bool) (decoder : Decoder) (waits : List ℕ) →
     given ≡ stocked (seated cur id (seat_with version reply closing decoder)) store → HasSent given new id held' held'' waits →
@@ -128,7 +128,7 @@ sent_on old cur given new id s text held held' held'' here st reply store versio
           sym (ap (λ g. stocked g store) (seated_twice old id all last));
     }
 
--- what is served behind it is served behind the whole
+-- what is served after it is served after the whole
 pub serves_on : AnswersGoOn → AnswersAreAdded → (old cur new : HubState) (id : ℕ) (s : Seat) (text piece : List ℕ) (held held' held'' : Option (List ℕ))
     (waits : List ℕ) → seat_at old id ≡ Some s → (st : Stands old cur id s text held held') →
     Serves cur new id (seat_of old cur id s text held held' st) (st.rest ++ piece) held' held'' waits → Serves old new id s (text ++ piece) held held'' waits
@@ -168,6 +168,7 @@ serves_first_on go_on added old cur new id s front came piece held held' held'' 
         answered = came ++ a.answered;
         behind = a.behind;
         whole = ap (λ z. came ++ z) a.whole ∙ sym (append_assoc came a.answered a.behind);
+        some = a.some;
         reply = st.reply ++ a.reply;
         store = a.store;
         version = a.version;
@@ -203,10 +204,10 @@ stops_piece go_on added old cur new id s front came piece held held' held'' OutO
     (waits, serves_first_on go_on added old cur new id s front came piece held held' held'' waits here st v)
 stops_piece go_on added old cur new id s front came piece held held' held'' Read here st v =
     (serves_piece go_on added old cur new id s front came piece held held' held'' [] here st v.0, v.1)
-stops_piece go_on added old cur new id s front came piece held held' held'' Write here st (waits, v) =
-    (waits, serves_piece go_on added old cur new id s front came piece held held' held'' waits here st v)
-stops_piece go_on added old cur new id s front came piece held held' held'' TooManyTurns here st (waits, v) =
-    (waits, serves_piece go_on added old cur new id s front came piece held held' held'' waits here st v)
+stops_piece go_on added old cur new id s front came piece held held' held'' Write here st (waits, some, v) =
+    (waits, some, serves_piece go_on added old cur new id s front came piece held held' held'' waits here st v)
+stops_piece go_on added old cur new id s front came piece held held' held'' TooManyTurns here st (waits, why, v) =
+    (waits, why, serves_piece go_on added old cur new id s front came piece held held' held'' waits here st v)
 
 -- Where nothing was read yet.
 
@@ -224,7 +225,7 @@ pub serves_given : (old given new : HubState) (id : ℕ) (s : Seat) (text : List
     HasAnswered old given id s text commands → HasSent given new id held held' waits → Serves old new id s text held held' waits
 serves_given old given new id s text held held' waits commands a h = record { given = given; commands = commands; answered = a; sent = h }
 
--- what was answered to a piece behind a front
+-- what was answered to a piece after a front
 pub answered_at : (old given : HubState) (id : ℕ) (piece : List ℕ) (commands : ℕ) →
     WhereOpen old id (λ s front. HasAnswered old given id s (front ++ piece) commands) → (s : Seat) (front : List ℕ) → seat_at old id ≡ Some s →
     s.closing ≡ false → HasTaken s.decoder front → HasAnswered old given id s (front ++ piece) commands
@@ -339,12 +340,12 @@ pub stop_appends : (old new : HubState) (id : ℕ) (s : Seat) (front came : List
 stop_appends old new id s front came held held' NoSession v = absurd v
 stop_appends old new id s front came held held' OutOfMemory (waits, v) = (v.sent.text, v.sent.appended)
 stop_appends old new id s front came held held' Read (v, going) = (v.sent.text, v.sent.appended)
-stop_appends old new id s front came held held' Write (waits, v) = (v.sent.text, v.sent.appended)
-stop_appends old new id s front came held held' TooManyTurns (waits, v) = (v.sent.text, v.sent.appended)
+stop_appends old new id s front came held held' Write (waits, why, v) = (v.sent.text, v.sent.appended)
+stop_appends old new id s front came held held' TooManyTurns (waits, why, v) = (v.sent.text, v.sent.appended)
 
 -- The same of every front of a session.
 
--- what is served of a piece behind what came
+-- what is served of a piece after what came
 pub piece_serves : AnswersGoOn → AnswersAreAdded → (old cur new : HubState) (id : ℕ) (came piece : List ℕ) (held held' held'' : Option (List ℕ)) →
     length piece ≤ 4096 → WhereOpen old id (λ s front. Serves old cur id s (front ++ came) held held' []) → IsOpen cur id →
     WhereOpen cur id (λ s front. Serves cur new id s (front ++ piece) held' held'' [] × ⊤) →

@@ -43,7 +43,7 @@ pub waits_there : (hub : HubState) (id : ℕ) (s : Seat) (text : List ℕ) → s
     option_map (λ (t : Seat). t.out) (seat_at hub id) ≡ Some text → s.out ≡ text
 waits_there hub id s text here is = let z : Some s.out ≡ Some text = sym (ap (option_map (λ (t : Seat). t.out)) here) ∙ is in cc
 
--- What was shown of a session's text, behind what was shown before.
+-- What was shown of a session's text, after what was shown before.
 
 abbrev pub without : ℕ → Seat → Seat
 without count s = seat_with s.version (drop count s.out) s.closing s.decoder
@@ -52,7 +52,7 @@ there_still : (old cur : HubState) (id : ℕ) (s : Seat) (done : ℕ) → seat_a
     seat_at cur id ≡ Some (without done s)
 there_still old cur id s done here state = ap (λ h. seat_at h id) state ∙ seat_here old id s (without done s) here
 
--- so many bytes more wait, where so many were among all that waited
+-- this many bytes more wait, where this many were among all that waited
 waits_by : (old cur : HubState) (id : ℕ) (text : List ℕ) (done n : ℕ) (o : Option Seat) → seat_at old id ≡ o → option_map (λ (t : Seat). t.out) o ≡ Some text →
     IfSome o (λ s. cur ≡ seated old id (without done s)) → done + n ≤ length text → IfSome (seat_at cur id) (λ t. n ≤ length t.out)
 waits_by old cur id text done n None is out dropped within = absurd (cc)
@@ -89,7 +89,7 @@ stops_on : ReadingsGoOn → HearingGoesOn → (s : ClientState) (c : Client) (be
     StopsShowing (state_of c) mid after h.rest (drop done text) failures' failures'' cause → StopsShowing s before after front text failures failures'' cause
 stops_on go_on goes_on s c before mid after front text done failures failures' failures'' cause h none (inl e) = inl e
 stops_on go_on goes_on s c before mid after front text done failures failures' failures'' cause h none (inr (inl risen)) =
-    inr (inl (subst (λ n. HasRisen n failures'') none risen))
+    inr (inl (subst (λ n. HasRisen n failures'') none risen.0, risen.1))
 stops_on go_on goes_on s c before mid after front text done failures failures' failures'' cause h none (inr (inr m)) = inr (inr (record {
   count = done + m.count;
   fault = m.fault;
@@ -108,7 +108,7 @@ stops_more go_on goes_on s c before mid after old cur id seat front done failure
     (at_there cur id (λ t. WhereTaken c (λ f. StopsShowing (state_of c) mid after f t.out failures' failures'' cause)) (without done seat)
     (there_still old cur id seat done here state) more h.rest h.takes)
 
--- a client's stop is want of memory or a fault
+-- a client's stop is OutOfMemory or a fault
 pub stops_showing : (s : ClientState) (before after : Asked) (front text : List ℕ) (n failures failures' : ℕ) (e : AskError) →
     StopsHearing s before after (front ++ take n text) e → StopsShowing s before after front text failures failures' (cause_of e)
 stops_showing s before after front text n failures failures' (error.Fault fault) h =

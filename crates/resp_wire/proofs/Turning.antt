@@ -28,7 +28,7 @@ one_spent : (calls calls' turns turns' : ℕ) → calls' ≡ count_after 1 calls
 one_spent calls calls' turns turns' one left =
     record { count = 1; none = λ e. absurd (omega (arith, e)); some = λ h. one; spent = left }
 
--- so many calls, and then more
+-- this many calls, and then more
 called_more : (m n calls calls' calls'' : ℕ) → (m ≡ 0 → calls' ≡ calls) → (0 < m → calls' ≡ count_after m calls) → (n ≡ 0 → calls'' ≡ calls') →
     (0 < n → calls'' ≡ count_after n calls') → 0 < m + n → calls'' ≡ count_after (m + n) calls
 called_more zero zero calls calls' calls'' none some none' some' any = absurd (omega (arith, any))
@@ -94,7 +94,7 @@ pub appends_nothing : (held : Option (List ℕ)) → Appends held held []
 appends_nothing None = tt
 appends_nothing (Some held) = ap Some (sym (append-nil held))
 
--- so many bytes of a text, and then more of it
+-- this many bytes of a text, and then more of it
 pub appends_part : (a b c : Option (List ℕ)) (text : List ℕ) (count n : ℕ) → Appends a b (take count text) → Appends b c (take n (drop count text)) →
     Appends a c (take (count + n) text)
 appends_part a b c text count n first second =
@@ -118,7 +118,7 @@ pub has_read_same : (a b c : Option (List ℕ)) (came more : List ℕ) → more 
 has_read_same a b c came more none first second =
     subst (HasRead a c) (ap (λ z. came ++ z) none ∙ append-nil came) (has_read_more a b c came more first second)
 
--- the end is told behind what was read
+-- the end is told after what was read
 pub end_behind : (a b c : Option (List ℕ)) (came : List ℕ) → HasRead a b came → TellsEnd b c → TellsEnd a c
 end_behind None b c came first second = tt
 end_behind (Some left) b c came (rest, parts, behind) second = subst (λ z. TellsEnd z c) behind second

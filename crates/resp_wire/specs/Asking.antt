@@ -28,7 +28,7 @@ pub record SendsPart (old new : Client) (requests : List Request) (held held' : 
   pub appended : Appends held held' (take count (asked old requests).out)
   pub waits : state_of new ≡ without_front count (asked old requests)
 
--- writes and reads were made, so many that these turns are left
+-- writes and reads were made, and these turns are left
 pub record SpendsTurns (writes writes' reads reads' turns left : ℕ) : Type 0 where
   pub between : ℕ
   pub written : Spends writes writes' turns between

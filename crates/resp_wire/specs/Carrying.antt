@@ -1,6 +1,5 @@
 -- What is carried between a client and its session.
 use Rattle.std.specs.Prelude.{◌≡◌, ◌⊎◌, ℕ, true, false, List, ◌++◌, take, replicate}
-use Rattle.resp_value.specs.Devices.{HasRisen}
 use Rattle.resp_value.specs.declared.cause.Cause.{Cause}
 use Rattle.resp_value.specs.declared.cause.Cause.TheVariants.{OutOfMemory}
 use Rattle.resp_scan.specs.declared.event.Fault.{Fault}
@@ -10,6 +9,7 @@ use Rattle.resp_client.specs.declared.client.Client.{Client}
 use Rattle.resp_server.specs.Handling.{HasAnswered}
 use Rattle.resp_server.specs.Hubs.{HubState, Seat}
 use Rattle.resp_wire.specs.Hearing.{HearsAll, HearsFault}
+use Rattle.resp_wire.specs.Links.{FailsBy}
 use Rattle.resp_wire.specs.declared.asked.Asked.{Asked}
 use Rattle.resp_wire.specs.declared.error.AskError.{AskError}
 use Rattle.resp_wire.specs.declared.error.AskError.TheVariants as ask
@@ -32,7 +32,7 @@ pub record HasClosed (old : HubState) (id : ℕ) (s : Seat) (front text : List �
 -- Why nothing more is carried: memory was wanting, the link failed, or the session was closed by what came.
 abbrev pub StopsCarrying : HubState → ℕ → Seat → List ℕ → List ℕ → ℕ → ℕ → Cause → Type 0
 StopsCarrying old id s front text failures failures' cause =
-    (cause ≡ OutOfMemory) ⊎ (HasRisen failures failures' ⊎ HasClosed old id s front text)
+    (cause ≡ OutOfMemory) ⊎ (FailsBy failures failures' cause ⊎ HasClosed old id s front text)
 
 -- all that came is heard, and what the client has taken of a value may go on
 pub record HearsOn (s : ClientState) (c : Client) (before after : Asked) (came : List ℕ) : Type 0 where
@@ -49,7 +49,7 @@ pub record MeetsFault (s : ClientState) (before after : Asked) (front text : Lis
 -- Why no more is shown to a client: memory was wanting, the link failed, or the client met a fault.
 abbrev pub StopsShowing : ClientState → Asked → Asked → List ℕ → List ℕ → ℕ → ℕ → Cause → Type 0
 StopsShowing s before after front text failures failures' cause =
-    (cause ≡ OutOfMemory) ⊎ (HasRisen failures failures' ⊎ MeetsFault s before after front text cause)
+    (cause ≡ OutOfMemory) ⊎ (FailsBy failures failures' cause ⊎ MeetsFault s before after front text cause)
 
 -- the cause of a client's stop
 abbrev pub cause_of : AskError → Cause

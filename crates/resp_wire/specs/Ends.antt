@@ -57,7 +57,7 @@ Takes old new request (Refused cause) =
     RefusesRequest (state_of old.client).limits (queued (state_of old.client)) request cause × StaysAs old new
 Takes old new request Gone = ⊥
 
--- what comes of a request that a client doesn't queue: want of memory stops the world
+-- what comes of a request that a client doesn't queue: OutOfMemory stops the world
 abbrev pub outcome_of_send : SendError → Result Outcome Cause
 outcome_of_send BadCommand = Ok (Refused cause.BadCommand)
 outcome_of_send TooLarge = Ok (Refused cause.TooLarge)

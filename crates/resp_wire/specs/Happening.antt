@@ -24,7 +24,7 @@ abbrev pub Happens : {L : Type 0} → (L → Type 0) → WorldState L → WorldS
 Happens {L} is_honest old new event outcome = (limits : Bounds) (w : World) → Shows is_honest old limits w →
     (next : World) × Step limits w event (outcome_of outcome) next × Shows is_honest new limits next
 
--- Over honest links the event stopped for want of memory, or since a link failed.
+-- Over honest links the event stopped when out of memory, or since a link failed.
 abbrev pub Fails : {L : Type 0} → (L → Type 0) → (L → ℕ) → WorldState L → WorldState L → Cause → Type 0
 Fails {L} is_honest failures old new cause = (limits : Bounds) (w : World) → Shows is_honest old limits w →
     StopsBy failures old.links new.links cause
@@ -35,16 +35,16 @@ RunsTo {L} is_honest old new events = (limits : Bounds) (w : World) → Shows is
     (next : World) × Run limits w events next × Shows is_honest new limits next
 
 -- The events before this one came to what they come to in the definitions, and it stopped: at once where the world had
--- stopped before, and else for want of memory or since a link failed.
+-- stopped before, and else since memory was out or a link failed in this run.
 pub record StopsAt {L : Type 0} (is_honest : L → Type 0) (failures : L → ℕ) (old new : WorldState L)
     (events : List WorldEvent) (stop : Stop) : Type 0 where
   pub within : stop.event < length events
   pub between : WorldState L
   pub before : RunsTo is_honest old between (take stop.event events)
   pub stopped : IfSome old.stopped (λ cause. (stop.event ≡ 0) × (stop.cause ≡ cause))
-  pub reason : old.stopped ≡ None → Fails is_honest failures between new stop.cause
+  pub reason : old.stopped ≡ None → Fails is_honest failures old new stop.cause
 
--- so many sessions were opened, each with a client that asked nothing
+-- this many sessions were opened, each with a client that asked nothing
 pub record AreOpened (limits : Bounds) (old new : HubState) (ends : List End) (count : ℕ) : Type 0 where
   pub same_limits : new.limits ≡ old.limits
   pub same_store : new.store ≡ old.store

@@ -35,7 +35,7 @@ AddsHeard before after (Push items) = Adds before after [] (datum_of (value.Push
 AddsHeard before after Shown = Adds before after [] []
 AddsHeard before after More = Adds before after [] []
 
--- Of a front and what came behind it these values were read, by what was waited for, and a rest is left.
+-- Of a front and what came after it these values were read, by what was waited for, and a rest is left.
 pub record ReadsFrom (s : ClientState) (values : List Datum) (came : List ℕ) (waiting : Waiting) (rest : List ℕ) :
     Type 0 where
   pub text : List ℕ

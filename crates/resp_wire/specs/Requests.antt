@@ -12,7 +12,7 @@ abbrev pub request_of : Request → session.Request
 request_of (Hello asked) = session.Hello asked
 request_of (Command command) = session.Command (words_of command)
 
--- behind these requests, which were queued one after another
+-- after these requests, which were queued one after another
 abbrev pub with_requests : List Request → ClientState → ClientState
 with_requests [] s = s
 with_requests (request ∷ requests) s = with_requests requests (with_request (request_of request) s)

@@ -1,5 +1,5 @@
 -- What a server's end comes to, in words of its hub and of what was written.
-use Rattle.std.specs.Prelude.{◌≡◌, ℕ, ◌<◌, ◌≤◌, Bool, true, false, List, [], ◌++◌, length, Option, Some, None, Result, Ok, Err}
+use Rattle.std.specs.Prelude.{◌≡◌, ◌⊎◌, ℕ, ◌<◌, ◌≤◌, Bool, true, false, List, [], ◌++◌, length, Option, Some, None, Result, Ok, Err}
 use Rattle.std.specs.Option.{option_map}
 use Rattle.resp_value.specs.Devices.{Appends, HasRisen}
 use Rattle.resp_decode.specs.Decoding.{HasTaken}
@@ -36,7 +36,11 @@ pub record HasSent (old new : HubState) (id : ℕ) (held held' : Option (List �
   pub appended : Appends held held' text
   pub state : new ≡ seated old id (record seat { out = waits })
 
--- Behind a text: as a hub that was given it whole, and of whose replies all but this rest was then written.
+-- of what waited in a session the first bytes were written, and some are left
+abbrev pub HasSentPart : HubState → HubState → ℕ → Option (List ℕ) → Option (List ℕ) → Type 0
+HasSentPart old new id held held' = (waits : List ℕ) × (0 < length waits) × HasSent old new id held held' waits
+
+-- After a text: as a hub that was given it whole, and of whose replies all but this rest was then written.
 pub record Serves (old new : HubState) (id : ℕ) (s : Seat) (text : List ℕ) (held held' : Option (List ℕ))
     (waits : List ℕ) : Type 0 where
   pub given : HubState
@@ -44,7 +48,7 @@ pub record Serves (old new : HubState) (id : ℕ) (s : Seat) (text : List ℕ) (
   pub answered : HasAnswered old given id s text commands
   pub sent : HasSent given new id held held' waits
 
--- Behind what came, where memory was wanting: as a hub that answered the first bytes of it.
+-- After what came, where memory was wanting: as a hub that answered the first bytes of it.
 pub record ServesFirst (old new : HubState) (id : ℕ) (s : Seat) (front came : List ℕ) (held held' : Option (List ℕ))
     (waits : List ℕ) : Type 0 where
   pub given : HubState
@@ -52,7 +56,8 @@ pub record ServesFirst (old new : HubState) (id : ℕ) (s : Seat) (front came : 
   pub cut_short : HasCutShort old given id s front came commands
   pub sent : HasSent given new id held held' waits
 
--- What stands where serving stopped: behind a failed read nothing waits, and the session goes on.
+-- What stands where serving stopped: after a failed write some of the answers are left, after a failed read none is and
+-- the session goes on. Where no turn is left, one was wanted for a write or for a read.
 abbrev pub StopsServing : HubState → HubState → ℕ → Seat → List ℕ → List ℕ → Option (List ℕ) → Option (List ℕ) →
     ServeError → Type 0
 StopsServing old new id s front came held held' NoSession = ⊥
@@ -61,9 +66,9 @@ StopsServing old new id s front came held held' OutOfMemory =
 StopsServing old new id s front came held held' Read =
     Serves old new id s (front ++ came) held held' [] × IsClosing new id false
 StopsServing old new id s front came held held' Write =
-    (waits : List ℕ) × Serves old new id s (front ++ came) held held' waits
+    (waits : List ℕ) × (0 < length waits) × Serves old new id s (front ++ came) held held' waits
 StopsServing old new id s front came held held' TooManyTurns =
-    (waits : List ℕ) × Serves old new id s (front ++ came) held held' waits
+    (waits : List ℕ) × ((0 < length waits) ⊎ IsClosing new id false) × Serves old new id s (front ++ came) held held' waits
 
 -- Where bytes came, all that was answered before the last piece of them was written before that was read, and the
 -- session went on.
@@ -90,8 +95,8 @@ abbrev pub ServesClosing : HubState → HubState → ℕ → Option (List ℕ) �
     Type 0
 ServesClosing old new id held held' (Ok Ended) = ⊥
 ServesClosing old new id held held' (Ok Closed) = HasSent old new id held held' []
-ServesClosing old new id held held' (Err Write) = (waits : List ℕ) × HasSent old new id held held' waits
-ServesClosing old new id held held' (Err TooManyTurns) = (waits : List ℕ) × HasSent old new id held held' waits
+ServesClosing old new id held held' (Err Write) = HasSentPart old new id held held'
+ServesClosing old new id held held' (Err TooManyTurns) = HasSentPart old new id held held'
 ServesClosing old new id held held' (Err error) = ⊥
 
 -- what each refusal tells: that there is no session, or that the device's count of failures has risen
@@ -102,7 +107,7 @@ FailsServing hub id writes writes' reads reads' Read = HasRisen reads reads'
 FailsServing hub id writes writes' reads reads' Write = HasRisen writes writes'
 FailsServing hub id writes writes' reads reads' TooManyTurns = Unit {0}
 
--- why a write stops, with so many turns left
+-- why a write stops, with this many turns left
 abbrev pub StopsWriting : ℕ → ℕ → ℕ → ServeError → Type 0
 StopsWriting failures failures' left Write = HasRisen failures failures'
 StopsWriting failures failures' left TooManyTurns = left ≡ 0

@@ -1,5 +1,5 @@
 -- Why a client's end stops, and what was heard by then.
-use Rattle.std.specs.Prelude.{◌≡◌, ◌≢◌, ◌≤◌, ℕ, List, [], ◌∷◌, length, take, drop, Option}
+use Rattle.std.specs.Prelude.{◌≡◌, ◌≢◌, ◌<◌, ◌≤◌, ℕ, List, [], ◌∷◌, length, take, drop, Option}
 use Rattle.resp_value.specs.Devices.{HasRisen}
 use Rattle.resp_value.specs.declared.cause.Cause.{Cause}
 use Rattle.resp_value.specs.declared.cause.Cause.TheVariants as cause
@@ -18,7 +18,7 @@ use Rattle.resp_wire.specs.declared.asked.Request.{Request}
 use Rattle.resp_wire.specs.declared.error.AskError.{AskError}
 use Rattle.resp_wire.specs.declared.error.AskError.TheVariants.{Ended, Fault, OutOfMemory, Read, Refused, TooManyTurns, Write}
 
--- want of memory is told apart from the other faults of a client
+-- OutOfMemory is told apart from the other faults of a client
 abbrev pub error_by : Cause → event.Fault.Fault → AskError
 error_by cause.OutOfMemory fault = OutOfMemory
 error_by _ fault = Fault fault
@@ -26,12 +26,12 @@ error_by _ fault = Fault fault
 abbrev pub error_of : event.Fault.Fault → AskError
 error_of fault = error_by fault.cause fault
 
--- want of memory is told apart from the other refusals of a request
+-- OutOfMemory is told apart from the other refusals of a request
 abbrev pub error_at : ℕ → SendError → AskError
 error_at index send.OutOfMemory = OutOfMemory
 error_at index error = Refused index error
 
--- so many of the first requests were queued, each of which may be sent
+-- this many of the first requests were queued, each of which may be sent
 pub record QueuesFirst (old new : Client) (requests : List Request) (count : ℕ) : Type 0 where
   pub within : count ≤ length requests
   pub may_be_sent : MayAllBeSent (take count requests) (state_of old)
@@ -47,11 +47,12 @@ pub record DeclinesAt (old new : Client) (requests : List Request) (index : ℕ)
 
 -- a request is refused, or no memory is found for one
 abbrev pub StopsQueueing : Client → Client → List Request → AskError → Type 0
+StopsQueueing old new requests (Refused index send.OutOfMemory) = ⊥
 StopsQueueing old new requests (Refused index error) = DeclinesAt old new requests index error
 StopsQueueing old new requests OutOfMemory = (index : ℕ) × DeclinesAt old new requests index send.OutOfMemory
 StopsQueueing old new requests _ = ⊥
 
--- a client stops by a fault or for want of memory
+-- a client stops by a fault or when out of memory
 abbrev pub StopsClient : AskError → Type 0
 StopsClient (Fault fault) = Unit {0}
 StopsClient OutOfMemory = Unit {0}
@@ -68,11 +69,11 @@ StopsHearing s before after came (Fault fault) = HearsFault s before after came 
 StopsHearing s before after came OutOfMemory = HearsSome s before after came
 StopsHearing s before after came _ = ⊥
 
--- why what waits isn't written: a write failed, or no turn is left
-abbrev pub FailsWriting : ℕ → ℕ → AskError → Type 0
-FailsWriting failures failures' Write = HasRisen failures failures'
-FailsWriting failures failures' TooManyTurns = Unit {0}
-FailsWriting failures failures' _ = ⊥
+-- why something is left that waits to be written: a write failed, or no turn is left
+abbrev pub FailsWriting : ℕ → ℕ → List ℕ → AskError → Type 0
+FailsWriting failures failures' waits Write = HasRisen failures failures' × (0 < length waits)
+FailsWriting failures failures' waits TooManyTurns = 0 < length waits
+FailsWriting failures failures' waits _ = ⊥
 
 -- What was heard of all that was read, where a call stopped: where no byte was refused and memory was found it is all.
 abbrev pub StopsListening : ClientState → Client → Asked → Asked → List ℕ → AskError → Type 0

@@ -9,7 +9,7 @@ abbrev pub HasRead : Option (List ℕ) → Option (List ℕ) → List ℕ → Ty
 HasRead None after came = Unit {0}
 HasRead (Some left) after came = (rest : List ℕ) × (left ≡ came ++ rest) × (after ≡ Some rest)
 
--- A count of calls has risen by so many, which were spent of the turns that were left.
+-- A count of calls has risen by `count`, which were spent of the turns that were left.
 pub record Spends (calls calls' turns turns' : ℕ) : Type 0 where
   pub count : ℕ
   pub none : count ≡ 0 → calls' ≡ calls

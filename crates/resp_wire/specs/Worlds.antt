@@ -25,6 +25,7 @@ use Rattle.resp_session.specs.Worlds.{World, WorldEvent, connection_at, new_worl
 use Rattle.resp_client.specs.Clients.{queued, state_of}
 use Rattle.resp_client.specs.Hearing.{HasTaken}
 use Rattle.resp_server.specs.Hubs.{HubState, Seat, seat_at}
+use Rattle.resp_wire.specs.Links.{IsLinkCause}
 use Rattle.resp_wire.specs.Requests.{request_of}
 use Rattle.resp_wire.specs.declared.asked.Request.{Request}
 use Rattle.resp_wire.specs.declared.end.End.{End}
@@ -118,11 +119,19 @@ pub record Shows {L : Type 0} (is_honest : L → Type 0) (s : WorldState L) (lim
   pub each : ShowsEach limits s.hub s.ends s.order w
   pub honest : AllByRecursion is_honest s.links
 
+-- one of these counts has risen
+abbrev pub HasFailedIn : List ℕ → List ℕ → Type 0
+HasFailedIn old new = (k : ℕ) × (before : ℕ) × (after : ℕ) × (slice_get old k ≡ Some before) ×
+    (slice_get new k ≡ Some after) × HasRisen before after
+
 -- a link's count of failures has risen
 abbrev pub HasFailed : {L : Type 0} → (L → ℕ) → List L → List L → Type 0
-HasFailed {L} failures old new = (k : ℕ) × (before : L) × (after : L) × (slice_get old k ≡ Some before) ×
-    (slice_get new k ≡ Some after) × HasRisen (failures before) (failures after)
+HasFailed {L} failures old new = HasFailedIn (map failures old) (map failures new)
 
--- why a world stops: memory was wanting, or a link failed
+-- no link has failed
+abbrev pub KeepFailures : {L : Type 0} → (L → ℕ) → List L → List L → Type 0
+KeepFailures {L} failures old new = map failures new ≡ map failures old
+
+-- why a world stops: it is out of memory, or a link failed for a cause of links
 abbrev pub StopsBy : {L : Type 0} → (L → ℕ) → List L → List L → Cause → Type 0
-StopsBy {L} failures old new cause = (cause ≡ OutOfMemory) ⊎ HasFailed failures old new
+StopsBy {L} failures old new cause = (cause ≡ OutOfMemory) ⊎ HasFailed failures old new × IsLinkCause cause

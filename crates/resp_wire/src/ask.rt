@@ -1,6 +1,6 @@
 //! A client's end of a connection.
 
-ghost use Rattle.std.specs.Prelude.{◌≡◌, ◌⊎◌, ◌≤◌, ◌++◌, ℕ, List, [], drop, length, take, IsErrOf, OnOk, OnErr, IfOk, IfErr};
+ghost use Rattle.std.specs.Prelude.{◌≡◌, ◌⊎◌, ◌<◌, ◌≤◌, ◌++◌, ℕ, List, [], drop, length, take, IsErrOf, OnOk, OnErr, IfOk, IfErr};
 ghost use Rattle.resp_client.specs.Clients.{state_of, with_request, without_front};
 ghost use Rattle.resp_client.specs.Sending.{AnswersRequest};
 ghost use Rattle.resp_wire.specs.Requests.{request_of};
@@ -26,7 +26,7 @@ use resp_value::device::{Sink, Source};
 /// Refuses as [`AskError`] says. A refused request is answered before anything is written, and
 /// those before it stay queued. Where a write fails, or no turn is left for one, the rest waits in
 /// the client. Where a read fails, no turn is left for one, or the input ends, what came is heard,
-/// and the other commands wait. Behind want of memory bytes that were read may be lost, and the
+/// and the other commands wait. After OutOfMemory bytes that were read may be lost, and the
 /// connection is to be given up.
 pub fn ask<R: Source, W: Sink>(
     reader: &mut R,
@@ -56,8 +56,8 @@ pub fn ask<R: Source, W: Sink>(
         (reader.new ≡ reader.old) × (heard.new ≡ heard.old)) ⊎
         (SendsPart client.old client.new requests.now (W.written writer.old)
         (W.written writer.new) × KeepsReading client.old client.new ×
-        FailsWriting (W.failures writer.old) (W.failures writer.new) error ×
-        (reader.new ≡ reader.old) × (heard.new ≡ heard.old)) ⊎
+        FailsWriting (W.failures writer.old) (W.failures writer.new) (state_of client.new).out error
+        × (reader.new ≡ reader.old) × (heard.new ≡ heard.old)) ⊎
         (SendsAll client.old requests.now (W.written writer.old) (W.written writer.new) ×
         FailsReading (R.failures reader.old) (R.failures reader.new) (R.remaining reader.old)
         (R.remaining reader.new) (state_of client.new) error × ((came : List ℕ) ×
@@ -127,8 +127,8 @@ fn send_all<W: Sink>(writer: &mut W, client: &mut Client, turns: &mut u64) -> Re
     ensures all { OnOk result ((state_of client.new).out ≡ []) }
     ensures same_reading { KeepsReading client.old client.new }
     ensures turns { Spends (W.calls writer.old) (W.calls writer.new) turns.old turns.new }
-    ensures refusal { IfErr result (FailsWriting (W.failures writer.old)
-        (W.failures writer.new)) }
+    ensures refusal { IfErr result (FailsWriting (W.failures writer.old) (W.failures writer.new)
+        (state_of client.new).out) }
     ensures no_turn_left { IsErrOf result AskError.TooManyTurns → turns.new ≡ 0 }
 {
     let written = write_text(writer, client.out(), turns);
@@ -141,8 +141,8 @@ fn send_all<W: Sink>(writer: &mut W, client: &mut Client, turns: &mut u64) -> Re
 
 /// Why a write that moved no byte stops the call.
 fn unwritten(halt: Halt) -> AskError
-    ensures reason { (failures failures' left : ℕ) → Halts failures failures' left halt →
-        FailsWriting failures failures' result }
+    ensures reason { (failures failures' left : ℕ) (waits : List ℕ) → 0 < length waits →
+        Halts failures failures' left halt → FailsWriting failures failures' waits result }
     ensures no_turn_left { (failures failures' left : ℕ) → Halts failures failures' left halt →
         result ≡ AskError.TooManyTurns → left ≡ 0 }
 {

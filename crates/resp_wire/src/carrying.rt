@@ -24,7 +24,7 @@ use std::hash::BuildHasher;
 /// The most bytes that a link carries at once.
 const PIECE: usize = 1_024;
 
-/// Carries the first bytes that wait in a client to its session, so many or all where fewer wait,
+/// Carries the first `count` bytes that wait in a client to its session, or all where fewer wait,
 /// and adds this number to the order for each command that they bring.
 pub(crate) fn carry_to_server<L: Link, S: BuildHasher>(
     link: &mut L,
@@ -68,7 +68,7 @@ pub(crate) fn carry_to_server<L: Link, S: BuildHasher>(
     Ok(())
 }
 
-/// Carries the first bytes that wait in a session to its client, so many or all where fewer wait,
+/// Carries the first `count` bytes that wait in a session to its client, or all where fewer wait,
 /// and adds what they bring to what was heard.
 pub(crate) fn carry_to_client<L: Link, S: BuildHasher>(
     link: &mut L,
@@ -157,7 +157,7 @@ fn give<L: Link, S: BuildHasher>(
     Ok(())
 }
 
-/// Adds so many commands of this client to the order.
+/// Adds `commands` commands of this client to the order.
 fn add(order: &mut Vec<usize>, number: usize, commands: u64) -> Result<(), Cause>
     ensures added { OnOk result (order.new.items ≡ order.old.items ++ replicate commands number) }
     ensures refusal { IfErr result (λ cause. cause ≡ Cause.OutOfMemory) }
@@ -233,7 +233,7 @@ fn settle(client: &mut Client) -> Result<(), Cause>
     Ok(())
 }
 
-/// So many of the bytes that wait, or all where fewer wait.
+/// `count` of the bytes that wait, or all where fewer wait.
 fn at_most(waiting: usize, count: u64) -> usize
     ensures { result ≡ min count waiting }
 {

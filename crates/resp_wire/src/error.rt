@@ -8,16 +8,16 @@ use thiserror::Error;
 #[derive(Clone, Copy, Debug, PartialEq, Eq, Error)]
 pub enum AskError {
     /// The client refused this request before anything was written. Those before it are queued.
-    #[error("request {index} is refused")]
+    #[error("request {index}: {error}")]
     Refused {
         /// The place of the request, from 0.
         index: usize,
-        /// Why; never for want of memory.
+        /// Why; never when out of memory.
         error: SendError,
     },
     /// A byte of what came is refused, or was asked for by no command. What came before is heard,
     /// and the client answers this fault from then on.
-    #[error("what came is refused")]
+    #[error(transparent)]
     Fault(Fault),
     /// A growth was refused: for a request, before anything was written, or for what came, of which
     /// the first is heard.
@@ -44,7 +44,7 @@ pub enum ServeError {
     /// No session has this id. Nothing was done.
     #[error("no session has this id")]
     NoSession,
-    /// A growth was refused. The commands run before stand, nothing of what comes behind was done,
+    /// A growth was refused. The commands run before stand, nothing of what comes after was done,
     /// and the session is closing.
     #[error("out of memory")]
     OutOfMemory,

@@ -17,9 +17,9 @@ pub enum Event {
     Send(usize, Command),
     /// It asks HELLO, with a version or without.
     Hello(usize, Option<Version>),
-    /// So many of its waiting bytes come to its session, or all where fewer wait.
+    /// This number of its waiting bytes come to its session, or all where fewer wait.
     ToServer(usize, u64),
-    /// So many of its session's waiting bytes come to it, or all where fewer wait.
+    /// This number of its session's waiting bytes come to it, or all where fewer wait.
     ToClient(usize, u64),
     /// A push of these items is sent to it. Its session takes one at version 3 alone.
     Push(usize, Members),
@@ -58,7 +58,7 @@ pub enum Outcome {
 /// Why a world stopped. Each later step stops for the same cause, and nothing is promised of what
 /// the world shows.
 #[derive(Clone, Copy, Debug, PartialEq, Eq, Error)]
-#[error("the world stopped at event {event}")]
+#[error("the world stopped at event {event}: {cause:?}")]
 pub struct Stop {
     /// The index of the event among those of the call, from 0.
     pub event: usize,

@@ -14,7 +14,7 @@ pub fn what_a_world_shows_has_one_order()
 }
 
 /// What was run stays first in the order, and a reply that is shown is of a command that was run.
-/// So a command that is sent behind a shown reply stands behind that reply's command.
+/// So a command that is sent after a shown reply stands after that reply's command.
 pub fn what_a_world_shows_goes_on()
     ensures only_grows { TheOrderOnlyGrows }
     ensures holds_what_is_shown { WhatIsShownWasRun }

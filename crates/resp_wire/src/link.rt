@@ -24,7 +24,7 @@ pub enum Direction {
 
 /// The refusal of a link.
 #[derive(Clone, Copy, Debug, PartialEq, Eq, Error)]
-#[error("the link failed")]
+#[error("the link failed: {cause:?}")]
 pub struct LinkFault {
     /// Why: Read, Write or TooManyTurns.
     pub cause: Cause,
@@ -40,7 +40,7 @@ pub trait Link: Drop {
 
     /// Carries a piece of at most 1,024 bytes to the other end, where `into` has as much room.
     ///
-    /// Refuses by Read, Write or TooManyTurns. Behind a refusal nothing is known of what was
+    /// Refuses by Read, Write or TooManyTurns. After a refusal nothing is known of what was
     /// carried.
     fn carry(
         &mut self,

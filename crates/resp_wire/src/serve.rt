@@ -4,7 +4,7 @@ ghost use Rattle.std.specs.Prelude.{◌≡◌, ◌≢◌, ◌≤◌, ◌++◌, �
 ghost use Rattle.resp_server.specs.Hubs.{Seat, seat_at};
 ghost use Rattle.resp_server.specs.Handling.{HasAnswered, WhereOpen};
 ghost use Rattle.resp_wire.specs.Asking.{SpendsTurns};
-ghost use Rattle.resp_wire.specs.Serving.{EndsBy, FailsServing, HasSent, IsClosing, IsNotAhead, IsOpen, IsThere, Serves, ServesClosing, StopsAnswering, StopsReading, StopsServing, StopsWriting};
+ghost use Rattle.resp_wire.specs.Serving.{EndsBy, FailsServing, HasSent, HasSentPart, IsClosing, IsNotAhead, IsOpen, IsThere, Serves, ServesClosing, StopsAnswering, StopsReading, StopsServing, StopsWriting};
 ghost use Rattle.resp_wire.specs.Turns.{Halts, HasRead, Spends};
 
 use crate::error::ServeError;
@@ -169,8 +169,8 @@ fn write_out<W: Sink, S: BuildHasher>(
     requires { IsThere hub.old id }
     ensures sent { OnOk result (HasSent hub.old hub.new id (W.written writer.old)
         (W.written writer.new) []) }
-    ensures part { OnErr result ((waits : List ℕ) × HasSent hub.old hub.new id
-        (W.written writer.old) (W.written writer.new) waits) }
+    ensures part { OnErr result (HasSentPart hub.old hub.new id (W.written writer.old)
+        (W.written writer.new)) }
     ensures none_failed { OnOk result (W.failures writer.new ≡ W.failures writer.old) }
     ensures refusal { IfErr result (StopsWriting (W.failures writer.old) (W.failures writer.new)
         turns.new) }

@@ -1,4 +1,4 @@
-//! Reads and writes as turns, of which a call may take so many.
+//! Reads and writes as turns, whose number each call bounds.
 
 ghost use Rattle.std.specs.Prelude.{◌≡◌, ◌<◌, ◌≤◌, [], drop, length, take, IfOk, IfErr, OnOk, OnErr};
 ghost use Rattle.resp_value.specs.Devices.{Appends};
@@ -21,7 +21,7 @@ pub(crate) enum Halt {
 /// How much of a text was written.
 #[derive(Clone, Copy, Debug, PartialEq, Eq)]
 pub(crate) struct Written {
-    /// So many of the first bytes.
+    /// How many of the first bytes were written.
     pub(crate) count: usize,
     /// Why no more than these, unless they are all.
     pub(crate) end: Result<(), Halt>,
@@ -33,6 +33,7 @@ pub(crate) fn write_text<W: Sink>(writer: &mut W, text: &[u8], turns: &mut u64) 
     ensures appended { Appends (W.written writer.old) (W.written writer.new)
         (take result.count text.now) }
     ensures whole { OnOk result.end (result.count ≡ length text.now) }
+    ensures part { OnErr result.end (result.count < length text.now) }
     ensures none_failed { OnOk result.end (W.failures writer.new ≡ W.failures writer.old) }
     ensures turns { Spends (W.calls writer.old) (W.calls writer.new) turns.old turns.new }
     ensures halted { IfErr result.end (Halts (W.failures writer.old) (W.failures writer.new)
@@ -97,7 +98,7 @@ pub(crate) fn behind(piece: &[u8], from: usize) -> &[u8]
     &piece[from..]
 }
 
-/// So many of the first bytes.
+/// The first `count` bytes of a piece.
 #[inline]
 pub(crate) fn front(piece: &[u8], count: usize) -> &[u8]
     requires { count ≤ length piece.now }

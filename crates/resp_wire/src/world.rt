@@ -12,7 +12,7 @@ ghost use Rattle.resp_session.specs.Worlds as session;
 ghost use Rattle.resp_session.specs.Worlds.{connection_at, new_world};
 ghost use Rattle.resp_wire.specs.Ends.{outcome_of_push};
 ghost use Rattle.resp_wire.specs.Happening.{AreOpened, Fails, Happens, IsOpenEnd, RunsTo, StopsAt};
-ghost use Rattle.resp_wire.specs.Worlds.{Shows, event_of, pushes_with, requests_of, values_in};
+ghost use Rattle.resp_wire.specs.Worlds.{KeepFailures, Shows, event_of, pushes_with, requests_of, values_in};
 
 use crate::asked::{Asked, Request};
 use crate::carrying::{carry_to_client, carry_to_server};
@@ -69,7 +69,7 @@ impl<L: Link, S: BuildHasher> Model for World<L, S> {
 }
 
 impl<S: BuildHasher + Drop> World<MemoryLink, S> {
-    /// So many clients that asked nothing, over memory and an empty store. Each reads and writes
+    /// `count` clients that asked nothing, over memory and an empty store. Each reads and writes
     /// within these limits, and so does its session.
     ///
     /// Refuses by TooManySessions exactly where there are more than 65,536, and else for want of
@@ -128,8 +128,8 @@ impl<L: Link, S: BuildHasher + Drop> World<L, S> {
 
     /// Takes one event, and answers what came of it. A refused event changes nothing.
     ///
-    /// Stops for want of memory, and where a link fails; over honest links it stops for nothing
-    /// else. Behind a stop each step stops with the same cause, and nothing is promised of what the
+    /// Stops when out of memory, and where a link fails; over honest links it stops for nothing
+    /// else. After a stop each step stops with the same cause, and nothing is promised of what the
     /// world shows. The index of the stop is 0.
     pub fn step(&mut self, event: &Event) -> Result<Outcome, Stop>
         ensures happens { IfOk result (Happens L.is_honest self.old self.new (event_of event.now)) }
@@ -140,6 +140,8 @@ impl<L: Link, S: BuildHasher + Drop> World<L, S> {
         ensures stopped_before { IfSome self.old.stopped (λ cause.
             result ≡ Err (record { event = 0; cause = cause })) }
         ensures index { IfErr result (λ stop. stop.event ≡ 0) }
+        ensures none_failed { OnOk result
+            (KeepFailures L.failures self.old.links self.new.links) }
         ensures as_many { length self.new.ends ≡ length self.old.ends }
     {
         if let Some(cause) = self.stopped {
@@ -165,6 +167,8 @@ impl<L: Link, S: BuildHasher + Drop> World<L, S> {
         ensures remembered { IfErr result (λ stop. self.new.stopped ≡ Some stop.cause) }
         ensures stopped_before { IfSome self.old.stopped (λ cause. 0 < length events.now →
             result ≡ Err (record { event = 0; cause = cause })) }
+        ensures none_failed { OnOk result
+            (KeepFailures L.failures self.old.links self.new.links) }
         ensures as_many { length self.new.ends ≡ length self.old.ends }
     {
         for index in 0..events.len() {
@@ -183,6 +187,8 @@ impl<L: Link, S: BuildHasher + Drop> World<L, S> {
         ensures happens { IfOk result (Happens L.is_honest self.old self.new (event_of event.now)) }
         ensures stops { IfErr result (Fails L.is_honest L.failures self.old self.new) }
         ensures going { self.new.stopped ≡ self.old.stopped }
+        ensures none_failed { OnOk result
+            (KeepFailures L.failures self.old.links self.new.links) }
         ensures as_many { length self.new.ends ≡ length self.old.ends }
     {
         let number = event.client();
@@ -210,6 +216,8 @@ impl<L: Link, S: BuildHasher + Drop> World<L, S> {
             (session.Send number (words_of command.now))) }
         ensures stops { IfErr result (λ cause. cause ≡ Cause.OutOfMemory) }
         ensures going { self.new.stopped ≡ self.old.stopped }
+        ensures none_failed { OnOk result
+            (KeepFailures L.failures self.old.links self.new.links) }
         ensures as_many { length self.new.ends ≡ length self.old.ends }
     {
         laws::readings_stay();
@@ -226,6 +234,8 @@ impl<L: Link, S: BuildHasher + Drop> World<L, S> {
             (session.Greet number asked)) }
         ensures stops { IfErr result (λ cause. cause ≡ Cause.OutOfMemory) }
         ensures going { self.new.stopped ≡ self.old.stopped }
+        ensures none_failed { OnOk result
+            (KeepFailures L.failures self.old.links self.new.links) }
         ensures as_many { length self.new.ends ≡ length self.old.ends }
     {
         laws::readings_stay();
@@ -234,7 +244,7 @@ impl<L: Link, S: BuildHasher + Drop> World<L, S> {
         self.ends[number - 1].hello(asked)
     }
 
-    /// Carries so many of a client's waiting bytes to its session, or all where fewer wait.
+    /// Carries `count` of a client's waiting bytes to its session, or all where fewer wait.
     fn to_server(&mut self, number: usize, count: u64) -> Result<Outcome, Cause>
         requires there { (1 ≤ number) × (number ≤ length self.old.ends) }
         requires is_open { IsOpenEnd self.old.ends (number - 1) }
@@ -242,6 +252,8 @@ impl<L: Link, S: BuildHasher + Drop> World<L, S> {
             (session.ToServer number count)) }
         ensures stops { IfErr result (Fails L.is_honest L.failures self.old self.new) }
         ensures going { self.new.stopped ≡ self.old.stopped }
+        ensures none_failed { OnOk result
+            (KeepFailures L.failures self.old.links self.new.links) }
         ensures as_many { length self.new.ends ≡ length self.old.ends }
     {
         laws::what_arrives_is_answered();
@@ -262,7 +274,7 @@ impl<L: Link, S: BuildHasher + Drop> World<L, S> {
         Ok(Outcome::Done)
     }
 
-    /// Carries so many of a session's waiting bytes to its client, or all where fewer wait, and
+    /// Carries `count` of a session's waiting bytes to its client, or all where fewer wait, and
     /// keeps what they bring.
     fn to_client(&mut self, number: usize, count: u64) -> Result<Outcome, Cause>
         requires there { (1 ≤ number) × (number ≤ length self.old.ends) }
@@ -271,6 +283,8 @@ impl<L: Link, S: BuildHasher + Drop> World<L, S> {
             (session.ToClient number count)) }
         ensures stops { IfErr result (Fails L.is_honest L.failures self.old self.new) }
         ensures going { self.new.stopped ≡ self.old.stopped }
+        ensures none_failed { OnOk result
+            (KeepFailures L.failures self.old.links self.new.links) }
         ensures as_many { length self.new.ends ≡ length self.old.ends }
     {
         laws::readings_go_on();
@@ -299,6 +313,8 @@ impl<L: Link, S: BuildHasher + Drop> World<L, S> {
             (session.Push number (map datum_of (list_of items.now)))) }
         ensures stops { IfErr result (Fails L.is_honest L.failures self.old self.new) }
         ensures going { self.new.stopped ≡ self.old.stopped }
+        ensures none_failed { OnOk result
+            (KeepFailures L.failures self.old.links self.new.links) }
         ensures as_many { length self.new.ends ≡ length self.old.ends }
     {
         laws::what_is_shown_is_read();
@@ -318,6 +334,8 @@ impl<L: Link, S: BuildHasher + Drop> World<L, S> {
             (session.Drop number)) }
         ensures stops { IfErr result (Fails L.is_honest L.failures self.old self.new) }
         ensures going { self.new.stopped ≡ self.old.stopped }
+        ensures none_failed { OnOk result
+            (KeepFailures L.failures self.old.links self.new.links) }
         ensures as_many { length self.new.ends ≡ length self.old.ends }
     {
         laws::a_change_is_of_one_connection();
@@ -392,7 +410,7 @@ fn in_range(limits: &Limits)
     let _items = limits.items();
 }
 
-/// A session for each of so many clients that asked nothing.
+/// A session for each of `count` clients that asked nothing.
 fn open_each<S: BuildHasher>(
     alloc: Global,
     hub: &mut Hub<S>,

@@ -27,7 +27,7 @@ type Row = (&'static [Run], &'static str);
 enum Cut {
     /// In two, before this byte.
     At(usize),
-    /// Behind each byte, where an empty piece comes too.
+    /// After each byte, where an empty piece comes too.
     Everywhere,
 }
 
@@ -269,7 +269,7 @@ fn unfolded(alloc: Global, wanted: &str) -> Result<Vec<u8>, Fail> {
     Ok(out)
 }
 
-/// Every row by both calls, at each cut in two, and byte by byte with an empty piece behind each
+/// Every row by both calls, at each cut in two, and byte by byte with an empty piece after each
 /// byte.
 fn run(
     rt: &impl Abort,

@@ -2,8 +2,6 @@
 
 ghost use Rattle.std.specs.Prelude.{◌≤◌};
 
-mod scripts;
-
 use resp_tool::canon::canon;
 use resp_tool::check::check;
 use resp_tool::command_line::command;

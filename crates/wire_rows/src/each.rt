@@ -21,11 +21,20 @@ fn given_by(text: &str) -> Result<Given<'_>> {
     Ok(Given { name, last, text })
 }
 
-/// Asks the requests with a new client for each value of a number, from 0.
-pub(crate) fn ask(
+/// The end of a connection that is run.
+#[derive(Clone, Copy)]
+pub(crate) enum End<'a> {
+    /// That of a new client, with the requests that it asks.
+    Client(&'a Asking),
+    /// That of a server, with a new session.
+    Server,
+}
+
+/// Runs an end for each value of a number, from 0.
+pub(crate) fn run(
     alloc: Global,
+    end: End<'_>,
     devices: Devices,
-    asking: &Asking,
     given: &str,
     said: &mut String,
 ) -> Result<()> {
@@ -34,30 +43,11 @@ pub(crate) fn ask(
     let mut alike = Alike::new(alloc);
     for value in 0..=last {
         let mut line = String::new(alloc);
-        asking.ask_one(
-            alloc,
-            devices.with(name, value)?,
-            text.as_slice(),
-            &mut line,
-        )?;
-        alike.add(value, line, said)?;
-    }
-    alike.end(last.saturating_add(1), said)
-}
-
-/// Serves a new session for each value of a number, from 0.
-pub(crate) fn serve(alloc: Global, devices: Devices, given: &str, said: &mut String) -> Result<()> {
-    let Given { name, last, text } = given_by(given)?;
-    let text = rows::bytes(alloc, text)?;
-    let mut alike = Alike::new(alloc);
-    for value in 0..=last {
-        let mut line = String::new(alloc);
-        serve_one(
-            alloc,
-            devices.with(name, value)?,
-            text.as_slice(),
-            &mut line,
-        )?;
+        let devices = devices.with(name, value)?;
+        match end {
+            End::Client(asking) => asking.ask_one(alloc, devices, text.as_slice(), &mut line)?,
+            End::Server => serve_one(alloc, devices, text.as_slice(), &mut line)?,
+        }
         alike.add(value, line, said)?;
     }
     alike.end(last.saturating_add(1), said)

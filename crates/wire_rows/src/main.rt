@@ -11,6 +11,7 @@ mod worlds;
 use anyhow::{Context, Result};
 use asking::Asking;
 use devices::{Calls, Devices};
+use each::End;
 use resp_wire::Direction;
 use rows::{Cut, Subject};
 use serving::TestHub;
@@ -37,7 +38,7 @@ impl Talk {
             "queue" => asking.queue(self.alloc, given)?,
             "queue-hello" => asking.queue_hello(given)?,
             "waiting" => asking.say_waiting(said)?,
-            "each-ask" => each::ask(self.alloc, self.devices, asking, given, said)?,
+            "each-ask" => each::run(self.alloc, End::Client(asking), self.devices, given, said)?,
             _ => self.calls = asking.ask(self.alloc, self.devices, given, cut, said)?,
         }
         Ok(())
@@ -50,7 +51,7 @@ impl Talk {
         match name {
             "open" => serving::open(hub, said)?,
             "session" => serving::say_session(hub, given, said)?,
-            "each-serve" => each::serve(alloc, devices, given, said)?,
+            "each-serve" => each::run(alloc, End::Server, devices, given, said)?,
             _ => self.calls = serving::serve_session(alloc, devices, hub, given, cut, said)?,
         }
         Ok(())

@@ -31,7 +31,7 @@ const HAPPENINGS: [Happening; 8] = [
     Happening::ComesBack(1),
 ];
 
-/// Drops each client before each event in turn, and behind the last.
+/// Drops each client before each event in turn, and after the last.
 pub(crate) fn run_all(alloc: Global) -> Result<Tally, AllocError> {
     let mut tally = Tally { worlds: 0, same: 0 };
     for dropped in 0..2 {

@@ -120,7 +120,7 @@ impl Replay {
         count == self.store.len() && world.order() == self.order.as_slice()
     }
 
-    /// Whether the first replies of a client, so many, are those of this replay, and no others.
+    /// Whether a client heard the first `count` replies of this replay to it, and no others.
     pub(crate) fn answers(&self, client: usize, count: usize, replies: &[Value]) -> bool {
         let mut seen: usize = 0;
         for (other, answer) in self.order.iter().zip(self.answers.iter()) {
@@ -149,7 +149,7 @@ fn value_of(store: &[(u8, u8)], key: u8) -> Option<u8> {
     None
 }
 
-/// Sets a key in its place, or behind the others.
+/// Sets a key in its place, or after the others.
 fn set(store: &mut Vec<(u8, u8)>, key: u8, value: u8) -> Result<(), AllocError> {
     for entry in store.iter_mut() {
         if entry.0 == key {

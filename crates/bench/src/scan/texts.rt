@@ -42,7 +42,7 @@ pub(crate) fn map(alloc: Global) -> Result<Vec<u8>, AllocError> {
     Ok(text)
 }
 
-/// So many bytes of content and a line's end.
+/// `length` bytes of content and a line's end.
 fn extend_filled(text: &mut Vec<u8>, length: usize) -> Result<(), AllocError> {
     for _ in 0..length {
         text.push(b'x')?;

@@ -23,7 +23,7 @@ abbrev pub HaveTypes : Version → Data → Type 0
 HaveTypes Two xs = AreInTwo xs
 HaveTypes Three xs = Unit {0}
 
--- nothing of the value is refused but for its total, where so many aggregates may stand inside one another
+-- nothing of the value is refused but for its total, where this many aggregates may stand inside one another
 pub record Suits (version : Version) (bounds : Bounds) (deeper : ℕ) (x : Datum) : Type 0 where
   pub has_types : HasTypes version x
   pub push_at_top : HasPushAtTop x
@@ -66,7 +66,7 @@ pub record AttemptAttributePairs (version : Version) (bounds : Bounds) (deeper i
   pub suits : OnTrue done (SuitEach version bounds (deeper - 1) xs)
   pub part : (text : List ℕ) × Fills old new text
 
--- nothing of a value without members is refused but for its total, and so much room holds its text
+-- nothing of a value without members is refused but for its total, and this much room holds its text
 pub record FitsSpare (version : Version) (bounds : Bounds) (spare : ℕ) (x : Datum) : Type 0 where
   pub has_types : HasTypes version x
   pub within_length : longest x ≤ bounds.length

@@ -1,4 +1,4 @@
--- The first byte behind a front that is between values: its cause, or that a value goes on behind it.
+-- The first byte after a front that is between values: its cause, or that a value goes on after it.
 use Rattle.std.proofs.Common.{◌≡◌, ℕ, zero, suc, ◌<◌, ◌≤◌, Option, None, Some, List, [], ◌∷◌, ◌++◌, length, refl, sym, ap, subst, ◌∙◌, arith, append_assoc, cond}
 use Rattle.resp_value.specs.Data.{items_of}
 use Rattle.resp_value.specs.Trees.{Tree, text}

@@ -15,7 +15,7 @@ use Rattle.resp_fronts.proofs.EventLaws.EventsAround.{next_member_at}
 abbrev pub AreWithin : ℕ → ℕ → List Timed → Type 0
 AreWithin from to es = AllByRecursion (λ e. (from ≤ e.at) × (e.at < to)) es
 
--- one list behind another
+-- one list after another
 pub within-append : (from to : ℕ) (a b : List Timed) → AreWithin from to a → AreWithin from to b → AreWithin from to (a ++ b)
 within-append from to [] b p q = q
 within-append from to (e ∷ a) b p q = (p.0, within-append from to a b p.1 q)

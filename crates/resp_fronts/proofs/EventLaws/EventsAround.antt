@@ -22,7 +22,7 @@ pub next_member_at : (frame : Frame) (frames : List Frame) → length (text_arou
     length (text_around frames []) + length (form_line frame.form) + 3 + length (texts frame.done)
 next_member_at frame frames = omega (arith, length-around frames (open_text frame ++ []), ap length (append-nil (open_text frame)), length-open_text frame)
 
--- the events of trees, one list behind another
+-- the events of trees, one list after another
 pub events_each-joined : (from : ℕ) (ts us : Trees) → events_each from (joined_trees ts us) ≡ events_each from ts ++ events_each (from + length (texts ts)) us
 events_each-joined from none us = let e : from ≡ from + 0 = omega arith in ap (λ n. events_each n us) e
 events_each-joined from (more t ts) us =

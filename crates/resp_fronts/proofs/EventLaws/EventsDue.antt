@@ -15,11 +15,11 @@ use Rattle.resp_fronts.proofs.FrameLaws.Composition.{around-append, text-node, f
 use Rattle.resp_fronts.proofs.EventLaws.EventsAround.{events-node, length-around}
 use Rattle.resp_fronts.proofs.EventLaws.EventPlaces.{AreWithin, within_wider, each_within, around_within}
 
--- each event comes at this byte or behind it
+-- each event comes at this byte or after it
 abbrev pub AreFrom : ℕ → List Timed → Type 0
 AreFrom from es = AllByRecursion (λ e. from ≤ e.at) es
 
--- one list behind another
+-- one list after another
 pub due-append : (n : ℕ) (a b : List Timed) → events_due n (a ++ b) ≡ events_due n a ++ events_due n b
 due-append n [] b = refl
 due-append n (e ∷ a) b = cases (ltb e.at n) (due-append n a b)
@@ -34,7 +34,7 @@ pub due_all : (from n : ℕ) (es : List Timed) → AreWithin from n es → event
 due_all from n [] p = refl
 due_all from n (e ∷ es) p = rw (lt-ltb e.at n p.0.1) (ap (λ z. e.event ∷ z) (due_all from n es p.1))
 
--- events that come behind the first so many bytes are not due
+-- events that come after this many bytes are not due
 pub due_none : (n : ℕ) (es : List Timed) → AreFrom n es → events_due n es ≡ []
 due_none n [] p = refl
 due_none n (e ∷ es) p = rw (le-ltb e.at n p.0) (due_none n es p.1)
@@ -47,7 +47,7 @@ frame_tree L N f fs x p q m =
     let a : MembersThen L N (length fs) f.kind f.form (suc (count f.done)) (MayFollowValue L N fs) m.rest = m.after in
     (a.members, refl)
 
--- each event comes at the byte before this one, or behind it
+-- each event comes at the byte before this one, or after it
 abbrev pub AreAbout : ℕ → List Timed → Type 0
 AreAbout from es = AllByRecursion (λ e. from ≤ e.at + 1) es
 
@@ -63,7 +63,7 @@ about_within : (from to : ℕ) (es : List Timed) → AreWithin from to es → Ar
 about_within from to [] p = tt
 about_within from to (e ∷ es) p = (omega (arith, p.0.0), about_within from to es p.1)
 
--- the events of the tree that a value makes with the frames around it, the later ones at the value's last byte or behind it
+-- the events of the tree that a value makes with the frames around it, the later ones at the value's last byte or after it
 pub record EventsThen (frames : List Frame) (value whole : Tree) : Type 0 where
   pub later : List Timed
   pub are : events 0 whole ≡ events_around frames ++ (events (length (text_around frames [])) value ++ later)

@@ -48,7 +48,7 @@ pub record CompletesReturn (L : LeafRule) (N : NodeRule) (k : ℕ) (a c : List �
   pub line : first_line tree ≡ a
   pub whole : c ≡ 10 ∷ after_line tree
 
--- behind the CR of a first line comes an LF, and what follows the line
+-- after the CR of a first line comes an LF, and what follows the line
 pub completes_return : (L : LeafRule) (N : NodeRule) (k : ℕ) (a c : List ℕ) → IsLine a → CompletesValue L N k (a ++ 13 ∷ []) c → CompletesReturn L N k a c
 completes_return L N k a c p t =
     let w = return_split (first_line t.tree) a (10 ∷ after_line t.tree) c (first_is_line t.tree t.is_tree) p (sym (text_first t.tree) ∙ t.whole ∙

@@ -171,7 +171,7 @@ star_row_deep r k d = record {
       omega (arith, star_deep r k u.tree u.line d u.keep u.begins, ap length u.whole, length-append u.line (crlf (after_line u.tree))));
 }
 
--- behind an aggregate's type byte the line goes on
+-- after an aggregate's type byte the line goes on
 pub line_after : (t : Tree) (j : Kind) (l : List ℕ) → IsTree t → sort_of t ≡ sort (kind_byte j ∷ l) → 0 < length l
 line_after t j (c ∷ l) p e = omega arith
 line_after (leaf x) Array [] p e = absurd (cc)

@@ -77,7 +77,7 @@ number_more_digits Big Unsigned t [] p e = absurd (no_other t e)
 number_more_digits Big Plus t [] p e = absurd (no_digits t Big Plus p e)
 number_more_digits Big Minus t [] p e = absurd (no_digits t Big Minus p e)
 
--- `:`, `(` and a sign behind them: 3
+-- `:`, `(` and a sign after them: 3
 pub number_begin_row : (L : LeafRule) (N : NodeRule) (k : ℕ) (K : NumberKind) (g : Sign) → L k (numeral K g (48 ∷ [])) →
     HasLeast (CompletesValue L N k (number_byte K ∷ (sign_text g ++ []))) 3
 unfolding first_line
@@ -215,7 +215,7 @@ sort_of_signed _ _ first behind h = refl
 pub digit_no_sign : (g : Sign) (digit : ℕ) → IsDigit digit → g ≡ Unsigned → (digit ≡ 43 → ⊥) × (digit ≡ 45 → ⊥)
 digit_no_sign g digit p e = (λ h. omega arith, λ h. omega arith)
 
--- the sort of a number's first line behind a digit
+-- the sort of a number's first line after a digit
 pub sort_of_digits : (K : NumberKind) (g : Sign) (digit : ℕ) (digits behind : List ℕ) → IsDigit digit →
     sort (number_byte K ∷ ((sign_text g ++ digit ∷ digits) ++ behind)) ≡ leaf_of (numeral_sort K g (digit ∷ digits ++ behind))
 sort_of_digits K g digit digits behind p = ap (λ z. sort (number_byte K ∷ z)) (append_assoc (sign_text g) (digit ∷ digits) behind) ∙

@@ -115,7 +115,7 @@ mark_size (leaf x) j i e = absurd (cc)
 mark_size (node k (Counted ds) ts) j i e = absurd (cc)
 mark_size (node k Streamed ts) j i e = omega (arith, length-append (texts ts) (46 ∷ crlf []))
 
--- `?` behind an aggregate's type byte says that it is streamed
+-- `?` after an aggregate's type byte says that it is streamed
 pub sort_mark : (j : Kind) (l : List ℕ) → sort (kind_byte j ∷ 63 ∷ l) ≡ node_of j Streamed
 sort_mark Array l = refl
 sort_mark _ l = refl
@@ -127,7 +127,7 @@ mark_row L N k j s g = line_row L N k (kind_byte j ∷ 63 ∷ []) [] (node j Str
     (g, tt) refl refl
     (λ u l i h e. omega (arith, mark_size u j i (e ∙ sort_mark j l)))
 
--- `?` behind `|` or `>`
+-- `?` after `|` or `>`
 pub mark_refused : (L : LeafRule) (N : NodeRule) (k : ℕ) (j : Kind) (c : List ℕ) → ((n : ℕ) → CanStream j n → ⊥) →
     CompletesValue L N k (kind_byte j ∷ 63 ∷ []) c → ⊥
 mark_refused L N k j c h t =

@@ -37,7 +37,7 @@ next_row L N level begun byte n rest h w e = record {
   );
 }
 
--- behind the CR of a first line one byte more is needed than behind its LF
+-- after the CR of a first line one byte more is needed than after its LF
 pub before_newline_row : (L : LeafRule) (N : NodeRule) (level : ℕ) (line : List ℕ) (n : ℕ) → IsLine line →
     HasLeast (CompletesValue L N level (line ++ crlf [])) n → HasLeast (CompletesValue L N level (line ++ 13 ∷ [])) (suc n)
 before_newline_row L N level line n is_line h = record {

@@ -27,7 +27,7 @@ text-node f us z =
     ∙ ap (λ w. h ++ crlf w) (append_assoc (texts f.done) (texts us ++ close f.form) z)
     ∙ sym (append_assoc h (crlf (texts f.done)) ((texts us ++ close f.form) ++ z))
 
--- rules that hold of two lists of trees hold of one behind the other
+-- rules that hold of two lists of trees hold of one after the other
 pub joined_trees_hold : (L : LeafRule) (N : NodeRule) (k : ℕ) (ts us : Trees) → HoldsFromEach L N k ts → HoldsFromEach L N k us →
     HoldsFromEach L N k (joined_trees ts us)
 joined_trees_hold L N k none us p q = q

@@ -9,7 +9,7 @@ use Rattle.resp_fronts.specs.Frames.{Frame}
 use Rattle.resp_fronts.specs.MayFollow.{CanAllEnd, CanEnd, MayFollowValue, members_missing}
 use Rattle.resp_fronts.specs.OpenLevels.{AreLevelsOf, HasShape, Level, Shape, to_come, so_far}
 
--- that so many members may come behind the open one
+-- that this many members may come after the open one
 abbrev pub MayCount : NodeRule → ℕ → Kind → Shape → ℕ → Type 0
 MayCount N l k (to_come m) c = suc c ≡ m
 MayCount N l k (so_far m) c = CanStream k (suc m + c) × N l k Streamed (suc m + c)
@@ -19,7 +19,7 @@ abbrev pub shape_close : Shape → List ℕ
 shape_close (to_come m) = []
 shape_close (so_far m) = 46 ∷ crlf []
 
--- the members behind the open one, the close, and a rest of which P holds
+-- the members after the open one, the close, and a rest of which P holds
 pub record LaterMembers (L : LeafRule) (N : NodeRule) (l : ℕ) (v : Level) (P : List ℕ → Type 0) (x : List ℕ) : Type 0 where
   pub members : Trees
   pub rest : List ℕ

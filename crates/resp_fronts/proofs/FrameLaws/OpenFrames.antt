@@ -6,7 +6,7 @@ use Rattle.resp_value.specs.Trees.{AreTrees, Form, HasMembers, IsTree, Simple, T
 use Rattle.resp_value.proofs.FirstLines.{first_is_line, first_line, leaf_of, leaf_sort, node_of, sort, sort_is, text_is}
 use Rattle.resp_value.proofs.Splitting.{line_split}
 
--- one list of trees behind another
+-- one list of trees after another
 abbrev pub joined_trees : Trees → Trees → Trees
 joined_trees none us = us
 joined_trees (more t ts) us = more t (joined_trees ts us)

@@ -1,4 +1,4 @@
--- Behind a whole value within open aggregates, and behind the last member of one of them.
+-- After a whole value within open aggregates, and after the last member of one of them.
 use Rattle.std.proofs.Common.{◌≡◌, ℕ, suc, ◌+◌, ◌≤◌, List, [], ◌∷◌, ◌++◌, length, refl, sym, ap, subst, ◌∙◌, arith, append_assoc, length-append}
 use Rattle.resp_value.specs.Bytes.{crlf}
 use Rattle.resp_value.specs.LocalRules.{HoldsFrom, LeafRule, NodeRule}
@@ -30,7 +30,7 @@ follows_value L N fs t c h p m =
     let u = unique v.tree t v.rest c v.is_tree p v.whole in
     subst (MayFollowValue L N fs) u.1 v.after
 
--- behind a whole value the least is what the aggregates around it need
+-- after a whole value the least is what the aggregates around it need
 pub whole_least : (L : LeafRule) (N : NodeRule) (fs : List Frame) (t : Tree) → ((k : ℕ) → L k (line Simple [])) → CanAllEnd L N fs → IsTree t →
     HoldsFrom L N (length fs) t → HasLeast (λ c. IsWholeText L N (text_around fs (text t) ++ c)) (frames_needed fs)
 whole_least L N fs t s h p q =

@@ -1,4 +1,4 @@
--- Bytes that no streamed string has behind whole chunks and what is begun of the next.
+-- Bytes that no streamed string has after whole chunks and what is begun of the next.
 use Rattle.std.proofs.Common.{◌≡◌, ℕ, ◌<◌, List, [], ◌∷◌, ◌++◌, length, refl, sym, ap, subst, ◌∙◌, arith, append_assoc}
 use Rattle.std.specs.List.{AllByRecursion}
 use Rattle.resp_value.specs.Bytes.{crlf}
@@ -16,12 +16,12 @@ use Rattle.resp_fronts.proofs.Refusals.BrokenLines.{behind_return_broken, byte_b
 use Rattle.resp_fronts.proofs.Tokens.StreamedHeads.{mark_line}
 use Rattle.resp_fronts.proofs.Tokens.ChunkTokens.{streamed_text}
 
--- behind `$?` comes CR
+-- after `$?` comes CR
 pub stream_mark_broken : (r : Rules) (level : ℕ) (rest : List ℕ) (byte : ℕ) → (byte ≡ 13 → ⊥) → CompletesUnder r Grammar level (36 ∷ 63 ∷ []) (byte ∷ rest) → ⊥
 stream_mark_broken r level rest byte no_return c = byte_broken (LeafKeeps r Grammar) (NodeKeeps r Grammar) level (36 ∷ 63 ∷ []) rest byte mark_line no_return
     (chunked_broken byte) c
 
--- behind the CR of a streamed string's line comes an LF alone
+-- after the CR of a streamed string's line comes an LF alone
 pub stream_returned_broken : (r : Rules) (level : ℕ) (rest : List ℕ) (byte : ℕ) → (byte ≡ 10 → ⊥) →
     CompletesUnder r Grammar level (36 ∷ 63 ∷ 13 ∷ []) (byte ∷ rest) → ⊥
 stream_returned_broken r level rest byte no_newline c = behind_return_broken (LeafKeeps r Grammar) (NodeKeeps r Grammar) level (36 ∷ 63 ∷ []) rest byte
@@ -42,7 +42,7 @@ chunks_broken r level chunks rest byte p no_mark c =
     let e : 59 ∷ (l.0 ++ crlf l.1) ≡ byte ∷ rest = sym l.3 ∙ u.whole in
     no_mark (cc)
 
--- behind that a digit
+-- after that a digit
 pub chunk_mark_broken : (r : Rules) (level : ℕ) (chunks : List Chunk) (rest : List ℕ) (byte : ℕ) → AllByRecursion IsChunk chunks → (IsDigit byte → ⊥) →
     CompletesUnder r Grammar level (streamed_text chunks (59 ∷ [])) (byte ∷ rest) → ⊥
 chunk_mark_broken r level chunks rest byte p no_digit c =
@@ -54,7 +54,7 @@ chunk_mark_broken r level chunks rest byte p no_digit c =
     cases [] behind q e = let n : 0 < 0 = q.0 in omega arith
     cases (d ∷ digits) behind q e = let h : d ≡ byte = cc in no_digit (subst IsDigit h q.1.0)
 
--- behind digits a digit or CR
+-- after digits a digit or CR
 pub chunk_length_broken : (r : Rules) (level : ℕ) (chunks : List Chunk) (digits rest : List ℕ) (byte : ℕ) → AllByRecursion IsChunk chunks → IsDigits digits →
     (byte ≡ 13 → ⊥) → (IsDigit byte → ⊥) → CompletesUnder r Grammar level (streamed_text chunks (59 ∷ digits)) (byte ∷ rest) → ⊥
 chunk_length_broken r level chunks digits rest byte p are_digits no_return no_digit c =
@@ -70,7 +70,7 @@ chunk_length_broken r level chunks digits rest byte p are_digits no_return no_di
         let k : all ≡ digits ++ d ∷ behind = cc in
         no_digit (subst IsDigit (sym h) (digits_hold digits behind d (subst (AllByRecursion IsDigit) k q.1)))
 
--- behind the CR an LF
+-- after the CR an LF
 pub chunk_length_returned_broken : (r : Rules) (level : ℕ) (chunks : List Chunk) (digits rest : List ℕ) (byte : ℕ) → AllByRecursion IsChunk chunks →
     IsDigits digits → (byte ≡ 10 → ⊥) → CompletesUnder r Grammar level (streamed_text chunks ((59 ∷ digits) ++ 13 ∷ [])) (byte ∷ rest) → ⊥
 chunk_length_returned_broken r level chunks digits rest byte p are_digits no_newline c =
@@ -108,7 +108,7 @@ content_goes_on r level chunks digits part more rest p are_digits some size c =
     let t = length_split s.0 part (crlf s.1) (more ++ rest) (omega (arith, s.2, size)) (s.3 ∙ append_assoc part more rest) in
     (s.1, t.1)
 
--- behind a chunk's content CR
+-- after a chunk's content CR
 pub chunk_content_broken : (r : Rules) (level : ℕ) (chunks : List Chunk) (digits part rest : List ℕ) (byte : ℕ) → AllByRecursion IsChunk chunks →
     IsDigits digits → 0 < number digits → number digits ≡ length part → (byte ≡ 13 → ⊥) →
     CompletesUnder r Grammar level (streamed_text chunks ((59 ∷ digits) ++ crlf (part ++ []))) (byte ∷ rest) → ⊥
@@ -117,7 +117,7 @@ chunk_content_broken r level chunks digits part rest byte p are_digits some size
     let e : 13 ∷ 10 ∷ s.0 ≡ byte ∷ rest = s.1 in
     no_return (cc)
 
--- behind the CR of a chunk's content comes an LF alone
+-- after the CR of a chunk's content comes an LF alone
 pub chunk_returned_broken : (r : Rules) (level : ℕ) (chunks : List Chunk) (digits part rest : List ℕ) (byte : ℕ) → AllByRecursion IsChunk chunks →
     IsDigits digits → 0 < number digits → number digits ≡ length part → (byte ≡ 10 → ⊥) →
     CompletesUnder r Grammar level (streamed_text chunks ((59 ∷ digits) ++ crlf (part ++ 13 ∷ []))) (byte ∷ rest) → ⊥

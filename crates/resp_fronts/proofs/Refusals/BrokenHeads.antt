@@ -1,4 +1,4 @@
--- Bytes that no number, length or count has behind its type byte, its sign and its digits.
+-- Bytes that no number, length or count has after its type byte, its sign and its digits.
 use Rattle.std.proofs.Common.{◌≡◌, ℕ, ◌<◌, List, [], ◌∷◌, ◌++◌, refl, sym, ap, subst, ◌∙◌, arith, append_assoc, append-nil}
 use Rattle.std.proofs.lemmas.Bool.{ne_eqb}
 use Rattle.resp_value.specs.Numbers.{IsDigit, IsDigits, Sign, Unsigned, sign_text, number}
@@ -17,14 +17,14 @@ digits_of_number : (t : Tree) (K : NumberKind) (g : Sign) (a digits : List ℕ) 
     IsDigits digits
 digits_of_number t K g a digits p e s = subst IsTree (tree_of_numeral t K g digits (sort_of-line t p e ∙ s)) p
 
--- behind the type byte of a number come a sign and digits alone, and digits alone behind a sign
+-- after the type byte of a number come a sign and digits alone, and digits alone after a sign
 pub number_begun_broken : (K : NumberKind) (g : Sign) (byte : ℕ) → (g ≡ Unsigned → (byte ≡ 43 → ⊥) × (byte ≡ 45 → ⊥)) → (IsDigit byte → ⊥) →
     NoLineGoesOn (number_byte K ∷ (sign_text g ++ [])) byte
 number_begun_broken K g byte no_sign no_digit t behind p e =
     let h : first_line t ≡ number_byte K ∷ (sign_text g ++ byte ∷ behind) = e ∙ ap (λ z. number_byte K ∷ z) (append_assoc (sign_text g) [] (byte ∷ behind)) in
     no_digit ((digits_of_number t K g (number_byte K ∷ (sign_text g ++ byte ∷ behind)) (byte ∷ behind) p h (sort_of_signed K g byte behind no_sign)).1.0)
 
--- behind a number's digits come digits alone
+-- after a number's digits come digits alone
 pub number_broken : (K : NumberKind) (g : Sign) (digit : ℕ) (digits : List ℕ) (byte : ℕ) → IsDigit digit → (IsDigit byte → ⊥) →
     NoLineGoesOn (number_byte K ∷ (sign_text g ++ digit ∷ digits)) byte
 number_broken K g digit digits byte is_digit no_digit t behind p e =
@@ -41,7 +41,7 @@ number_short K g t p e =
     ap (λ z. sort (number_byte K ∷ z)) (sym (append-nil (sign_text g ++ [])))) in
     omega arith
 
--- what stands behind a length's type byte, where it is no digit
+-- what stands after a length's type byte, where it is no digit
 abbrev pub IsNoLength : StringKind → ℕ → Type 0
 IsNoLength Bulk byte = (byte ≡ 45 → ⊥) × (byte ≡ 63 → ⊥) × (IsDigit byte → ⊥)
 IsNoLength BulkError byte = IsDigit byte → ⊥
@@ -50,14 +50,14 @@ IsNoLength (Verbatim format) byte = IsDigit byte → ⊥
 digit_of_length : (t : Tree) (b first : ℕ) (a behind : List ℕ) → IsTree t → first_line t ≡ a → sort a ≡ leaf_of (string_sort b (first ∷ behind)) → IsDigit first
 digit_of_length t b first a behind p e s = let w = string_size t b (first ∷ behind) p (sort_of-line t p e ∙ s) in w.4.1.0
 
--- behind the type byte of a string come digits, and behind `$` also `-` and `?`
+-- after the type byte of a string come digits, and after `$` also `-` and `?`
 pub length_begun_broken : (K : StringKind) (byte : ℕ) → IsNoLength K byte → NoLineGoesOn (string_byte K ∷ []) byte
 length_begun_broken Bulk byte other t behind p e = other.2 (digit_of_length t 36 byte (36 ∷ byte ∷ behind) behind p e
     (rw (ne_eqb byte 45 other.0, ne_eqb byte 63 other.1)))
 length_begun_broken BulkError byte other t behind p e = other (digit_of_length t 33 byte (33 ∷ byte ∷ behind) behind p e refl)
 length_begun_broken (Verbatim format) byte other t behind p e = other (digit_of_length t 61 byte (61 ∷ byte ∷ behind) behind p e refl)
 
--- behind a length's digits come digits alone
+-- after a length's digits come digits alone
 pub length_broken : (K : StringKind) (digit : ℕ) (digits : List ℕ) (byte : ℕ) → IsDigit digit → (IsDigit byte → ⊥) →
     NoLineGoesOn (string_byte K ∷ digit ∷ digits) byte
 length_broken K digit digits byte is_digit no_digit t behind p e =
@@ -77,7 +77,7 @@ verbatim_short digit digits small t p e =
     let w = string_size t 61 (digit ∷ digits) p (sort_of-line t p e) in
     omega (arith, w.5, verbatim_least w.0 w.1 w.2 w.3)
 
--- what stands behind an aggregate's type byte, where it is no digit
+-- what stands after an aggregate's type byte, where it is no digit
 abbrev pub IsNoCount : Kind → ℕ → Type 0
 IsNoCount Array byte = (byte ≡ 45 → ⊥) × (byte ≡ 63 → ⊥) × (IsDigit byte → ⊥)
 IsNoCount Set byte = (byte ≡ 63 → ⊥) × (IsDigit byte → ⊥)
@@ -99,7 +99,7 @@ no_mark k no_stream t behind p e =
     let i : IsTree (node k Streamed w.0) = subst IsTree w.1 p in
     no_stream (count w.0) i.0
 
--- behind the type byte of an aggregate come digits, behind `*` also `-`, and behind `*`, `~` and `%` also `?`
+-- after the type byte of an aggregate come digits, after `*` also `-`, and after `*`, `~` and `%` also `?`
 pub count_begun_broken : (k : Kind) (byte : ℕ) → IsNoCount k byte → NoLineGoesOn (kind_byte k ∷ []) byte
 count_begun_broken Array byte other t behind p e = other.2 (digit_of_count t Array byte (42 ∷ byte ∷ behind) behind p e
     (rw (ne_eqb byte 45 other.0, ne_eqb byte 63 other.1)))
@@ -112,7 +112,7 @@ count_begun_broken Push byte other t behind p e =
     if_equal byte 63 (λ x. ⊥) (λ mark. no_mark Push (λ n s. s) t behind p (e ∙ ap (λ z. 62 ∷ z ∷ behind) mark))
     (λ no_mark. other (digit_of_count t Push byte (62 ∷ byte ∷ behind) behind p e (rw (ne_eqb byte 63 no_mark))))
 
--- behind a count's digits come digits alone
+-- after a count's digits come digits alone
 pub count_broken : (k : Kind) (digit : ℕ) (digits : List ℕ) (byte : ℕ) → IsDigit digit → (IsDigit byte → ⊥) → NoLineGoesOn (kind_byte k ∷ digit ∷ digits) byte
 count_broken k digit digits byte is_digit no_digit t behind p e =
     let w = counted_is t k digit (digits ++ byte ∷ behind) p is_digit e in

@@ -1,4 +1,4 @@
--- Bytes that no first line has behind those that it begins with.
+-- Bytes that no first line has after those that it begins with.
 use Rattle.std.proofs.lemmas.Bool.Decides.{nat_tests}
 use Rattle.std.proofs.Common.{◌≡◌, ℕ, Bool, true, false, eqb, List, [], ◌∷◌, ◌++◌, length, get_or, refl, sym, ap, subst, ◌∙◌, arith, append-nil}
 use Rattle.resp_value.specs.Bytes.{IsLine, crlf}
@@ -43,7 +43,7 @@ pub newline_broken : (L : LeafRule) (N : NodeRule) (level : ℕ) (begun rest : L
 newline_broken L N level begun rest is_line w = byte_broken L N level begun rest 10 is_line (λ e. omega arith)
     (λ t behind p e. (no_break 10 begun behind (subst IsLine e (first_is_line t p))).1 refl) w
 
--- the CR behind a first line
+-- the CR after a first line
 pub return_broken : (L : LeafRule) (N : NodeRule) (level : ℕ) (begun rest : List ℕ) → IsLine begun → NoLineEnds begun →
     CompletesValue L N level begun (13 ∷ rest) → ⊥
 return_broken L N level begun rest is_line no_end w =
@@ -54,7 +54,7 @@ return_broken L N level begun rest is_line no_end w =
     cases t [] p b e = no_end t p (b ∙ append-nil begun)
     cases t (c ∷ behind) p b e = let h : c ≡ 13 = cc in (no_break c begun behind (subst IsLine b (first_is_line t p))).0 h
 
--- a byte with which no line goes on, behind bytes that are no line
+-- a byte with which no line goes on, after bytes that are no line
 pub line_broken : (L : LeafRule) (N : NodeRule) (level : ℕ) (begun rest : List ℕ) (byte : ℕ) → IsLine begun → NoLineEnds begun → NoLineGoesOn begun byte →
     CompletesValue L N level begun (byte ∷ rest) → ⊥
 line_broken L N level begun rest byte is_line no_end no_line w =
@@ -65,7 +65,7 @@ line_broken L N level begun rest byte is_line no_end no_line w =
       | false ↦ λ x. byte_broken L N level begun rest byte is_line (λ b. grind (arith, nat_tests)) no_line w
     ] refl
 
--- another byte than LF behind the CR
+-- another byte than LF after the CR
 pub behind_return_broken : (L : LeafRule) (N : NodeRule) (level : ℕ) (begun rest : List ℕ) (byte : ℕ) → IsLine begun → (byte ≡ 10 → ⊥) →
     CompletesValue L N level (begun ++ 13 ∷ []) (byte ∷ rest) → ⊥
 behind_return_broken L N level begun rest byte is_line no_newline w =
@@ -97,7 +97,7 @@ first_of_chunked : (t : Tree) (a : List ℕ) → IsTree t → first_line t ≡ a
 unfolding first_line
 first_of_chunked t a p e s = let w = tree_of_chunked t (sort_of-line t p e ∙ s) in sym e ∙ ap first_line w.2
 
--- behind `$-` and `*-` comes `1`, and nothing behind that
+-- after `$-` and `*-` comes `1`, and nothing after that
 pub null_begun_broken : (f : NullForm) (first byte : ℕ) → null_line f ≡ first ∷ 45 ∷ 49 ∷ [] → (byte ≡ 49 → ⊥) → NoLineGoesOn (first ∷ 45 ∷ []) byte
 null_begun_broken BulkNull first byte e other t behind p h =
     let h2 : first_line t ≡ 36 ∷ 45 ∷ byte ∷ behind = h ∙ ap (λ z. z ∷ 45 ∷ byte ∷ behind) (sym (ap (λ z. get_or z 0 0) e)) in
@@ -127,7 +127,7 @@ null_short ArrayNull first e t p h = omega (
 )
 null_short PlainNull first e t p h = omega (arith, ap length e)
 
--- behind `#` comes `t` or `f`, and nothing behind that
+-- after `#` comes `t` or `f`, and nothing after that
 pub truth_begun_broken : (byte : ℕ) → (byte ≡ 116 → ⊥) → (byte ≡ 102 → ⊥) → NoLineGoesOn (35 ∷ []) byte
 truth_begun_broken byte no_true no_false t behind p e = cases (eqb byte 116) (first_of_truth t (eqb byte 116) (35 ∷ byte ∷ behind) p e refl)
   where
@@ -135,7 +135,7 @@ truth_begun_broken byte no_true no_false t behind p e = cases (eqb byte 116) (fi
     cases true h = no_true (ap (λ z. get_or z 1 0) h)
     cases false h = no_false (ap (λ z. get_or z 1 0) h)
 
--- behind the letter of a boolean comes nothing more
+-- after the letter of a boolean comes nothing more
 pub truth_broken : (b : Bool) (byte : ℕ) → NoLineGoesOn (truth_line b) byte
 truth_broken true byte t behind p e = omega (arith, ap length (first_of_truth t true (35 ∷ 116 ∷ byte ∷ behind) p e refl))
 truth_broken false byte t behind p e = omega (arith, ap length (first_of_truth t false (35 ∷ 102 ∷ byte ∷ behind) p e refl))
@@ -144,10 +144,10 @@ truth_broken false byte t behind p e = omega (arith, ap length (first_of_truth t
 pub truth_short : NoLineEnds (35 ∷ [])
 truth_short t p e = no_other t (sort_of-line t p e)
 
--- nothing stands behind `?`
+-- nothing stands after `?`
 pub streamed_broken : (k : Kind) (byte : ℕ) → NoLineGoesOn (kind_byte k ∷ 63 ∷ []) byte
 streamed_broken k byte t behind p e = omega (arith, ap length (first_of_streamed t k (kind_byte k ∷ 63 ∷ byte ∷ behind) p e (sort_mark k (byte ∷ behind))))
 
--- nor behind that of a string
+-- nor after that of a string
 pub chunked_broken : (byte : ℕ) → NoLineGoesOn (36 ∷ 63 ∷ []) byte
 chunked_broken byte t behind p e = omega (arith, ap length (first_of_chunked t (36 ∷ 63 ∷ byte ∷ behind) p e refl))

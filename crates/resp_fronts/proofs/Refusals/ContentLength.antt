@@ -43,7 +43,7 @@ string_too_long r k K d ds s p f x n h l =
       some = omega (arith, row.size);
     }
 
--- the length of chunks behind one another
+-- the length of chunks after one another
 pub joined-with : (ds es : List Chunk) → length (joined_content (with_chunks ds es)) ≡ length (joined_content ds) + length (joined_content es)
 joined-with [] es = omega arith
 joined-with (d ∷ ds) es = omega (
@@ -53,7 +53,7 @@ joined-with (d ∷ ds) es = omega (
   length-append d.content (joined_content ds),
 )
 
--- a chunk whose line begins by these digits holds at least so much
+-- a chunk whose line begins by these digits holds at least this much
 chunk_holds : (cs : List Chunk) (z es c : List ℕ) → AllByRecursion IsChunk cs → IsDigits z → number z ≡ 0 → IsDigits es →
     chunks_text cs (last z) ≡ (59 ∷ es) ++ c → number es ≤ length (joined_content cs)
 chunk_holds [] z es c p q y i e =

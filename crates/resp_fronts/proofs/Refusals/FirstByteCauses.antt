@@ -1,4 +1,4 @@
--- Why a first byte is refused on a level, or how a value goes on behind it.
+-- Why a first byte is refused on a level, or how a value goes on after it.
 use Rattle.std.proofs.Common.{◌≡◌, ℕ, zero, suc, ◌<◌, ◌≤◌, true, Option, None, Some, List, [], ◌∷◌, ◌++◌, length, refl, sym, subst, ◌∙◌, arith, append-nil, cond}
 use Rattle.std.specs.Prelude.{codes}
 use Rattle.std.specs.List.{AllByRecursion}
@@ -25,7 +25,7 @@ use Rattle.resp_fronts.proofs.Refusals.RefusedBytes.{IsOther, kind_too_deep, pus
 use Rattle.resp_fronts.proofs.FirstLines.CountRows.{CompletesUnder, IsRefusedHere, count_ends}
 use Rattle.resp_fronts.specs.Tokens.{zeros}
 
--- a value can go on behind these bytes, within the rules up to this one
+-- a value can go on after these bytes, within the rules up to this one
 pub record GoesOn (r : Rules) (rule : Rule) (level : ℕ) (bytes : List ℕ) : Type 0 where
   pub rest : List ℕ
   pub completes : CompletesUnder r rule level bytes rest
@@ -37,7 +37,7 @@ IsAnswered r level bytes None = GoesOn r WithinItems level bytes
 IsAnswered r level bytes (Some rule) = ((rest : List ℕ) → CompletesUnder r rule level bytes rest → ⊥) ×
     ((before : Rule) → rank rule ≡ suc (rank before) → GoesOn r before level bytes)
 
--- a value goes on behind its first byte
+-- a value goes on after its first byte
 leaf_goes_on : (r : Rules) (rule : Rule) (level byte : ℕ) (l : Leaf) (rest : List ℕ) → IsLeaf l → LeafKeeps r rule level l → leaf_text l ≡ byte ∷ rest →
     0 < length rest → GoesOn r rule level (byte ∷ [])
 leaf_goes_on r rule level byte l rest p q e some = record { rest = rest; completes = record { tree = leaf l; is_tree = p; keep = q; whole = e }; some = some }
@@ -107,7 +107,7 @@ later_leaf_in_two : (r : Rules) (level byte : ℕ) (l : Leaf) (rest : List ℕ) 
 later_leaf_in_two r level byte l rest p no_double in_two in_range counted fits e some =
     leaf_goes_on r WithinItems level byte l rest p (leaf_keeps r WithinItems level l no_double (λ is_two. in_two) in_range (λ off. counted) fits) e some
 
--- the shortest aggregate of a kind goes on behind its type byte
+-- the shortest aggregate of a kind goes on after its type byte
 kind_goes_on : (r : Rules) (rule : Rule) (level : ℕ) (k : Kind) → NodeKeeps r rule level k (Counted (48 ∷ [])) (members_of k 0) →
     GoesOn r rule level (kind_byte k ∷ [])
 kind_goes_on r rule level k keeps =
@@ -152,7 +152,7 @@ push_answered r level = later_answered r level 62 (push_refusal r level) (apart_
     cases (suc level) no_two = answered_by r PushAtTop InVersion (suc level) (62 ∷ []) refl
         (push_below r (suc level) (omega arith) (before_push (suc level) no_two))
 
--- what holds of a row, and of those behind it
+-- what holds of a row, and of those after it
 pub and_rows : {A B : Type 0} → A → B → A × B
 and_rows here behind = (here, behind)
 

@@ -95,7 +95,7 @@ pub record Opens (r : Rules) (level : ℕ) (k : Kind) (shape : Shape) (bytes : L
   pub shaped : HasShape k shape form 0
   pub can_end : CanEnd (NodeKeeps r WithinItems) level k form 0
 
--- behind the line of a head a frame more is open
+-- after the line of a head a frame more is open
 pub head_opens : (r : Rules) (T : ℕ → List ℕ → Type 0) (levels : List Level) (front more : List ℕ) (k : Kind) (shape : Shape) → FollowsBy r T levels front →
     ((level : ℕ) (bytes : List ℕ) → level ≡ length levels → T level bytes → Opens r level k shape (bytes ++ more)) →
     IsEnded (LeafKeeps r WithinItems) (NodeKeeps r WithinItems) (within_frames (record { kind = k; shape = shape } ∷ levels)) (front ++ more)

@@ -1,4 +1,4 @@
--- Tokens of streamed strings: whole chunks, and what is begun behind them.
+-- Tokens of streamed strings: whole chunks, and what is begun after them.
 use Rattle.std.proofs.Common.{◌≡◌, ℕ, suc, ◌+◌, ◌<◌, ◌≤◌, List, [], ◌∷◌, ◌++◌, length, refl, sym, ap, subst, ◌∙◌, arith, append_assoc, length-append}
 use Rattle.std.specs.List.{AllByRecursion}
 use Rattle.resp_value.specs.Bytes.{IsByte, IsText, crlf}
@@ -18,7 +18,7 @@ use Rattle.resp_fronts.proofs.Tokens.StreamedHeads.{mark_line}
 use Rattle.resp_fronts.proofs.Tokens.BegunFronts.{IsBegunBy, begun_by}
 use Rattle.resp_fronts.specs.Tokens.{HasStreamed, zeros}
 
--- a streamed string's line, whole chunks, and these bytes behind them
+-- a streamed string's line, whole chunks, and these bytes after them
 abbrev pub streamed_text : List Chunk → List ℕ → List ℕ
 streamed_text chunks begun = 36 ∷ 63 ∷ crlf (chunks_text chunks begun)
 
@@ -28,7 +28,7 @@ pub record AreWhole (r : Rules) (chunks : List Chunk) : Type 0 where
   pub are_chunks : AllByRecursion IsChunk chunks
   pub fits : length (joined_content chunks) ≤ r.limits.length
 
--- the content of chunks behind chunks
+-- the content of chunks after chunks
 pub joined_behind : (cs es : List Chunk) → joined_content (with_chunks cs es) ≡ joined_content cs ++ joined_content es
 joined_behind [] es = refl
 joined_behind (c ∷ cs) es = ap (λ z. c.content ++ z) (joined_behind cs es) ∙ sym (append_assoc c.content (joined_content cs) (joined_content es))
@@ -55,7 +55,7 @@ chunks_begun r level chunks w =
     (chunks_row (LeafKeeps r WithinItems) (NodeKeeps r WithinItems) level chunks w.are_chunks
     (more_keeps r level chunks [] (48 ∷ []) w (omega (arith, w.fits))))
 
--- behind `$?` and CR: 5
+-- after `$?` and CR: 5
 pub stream_returned_begun : (r : Rules) (level : ℕ) → HasStreamed r → IsBegunBy r level (36 ∷ 63 ∷ 13 ∷ []) 5
 stream_returned_begun r level h = record {
   head = 36;
@@ -160,7 +160,7 @@ chunk_length_returned_begun r level chunks digits w are_digits some fits =
           (omega (arith, length-append s (crlf (last (48 ∷ []))), size));
     }
 
--- a chunk's content, of which so many bytes are left: that, and 6
+-- a chunk's content, of which this many bytes are left: that, and 6
 pub chunk_content_begun : (r : Rules) (level : ℕ) (chunks : List Chunk) (digits part : List ℕ) (left : ℕ) → AreWhole r chunks → IsDigits digits → IsText part →
     0 < number digits → number digits ≡ length part + left → length (joined_content chunks) + number digits ≤ r.limits.length →
     IsBegunBy r level (streamed_text chunks ((59 ∷ digits) ++ crlf part)) (left + 6)
@@ -176,7 +176,7 @@ chunk_content_begun r level chunks digits part left w are_digits is_text some si
     streamed_by r level chunks ((59 ∷ digits) ++ crlf part) (left + 6) (omega arith)
     (subst (HasLeast (CompletesUnder r WithinItems level (streamed_text chunks ((59 ∷ digits) ++ crlf part)))) (omega (arith, length-zeros left)) row)
 
--- behind the CR of a whole chunk: 5
+-- after the CR of a whole chunk: 5
 pub chunk_returned_begun : (r : Rules) (level : ℕ) (chunks : List Chunk) (digits part : List ℕ) → AreWhole r chunks → IsDigits digits → IsText part →
     0 < number digits → number digits ≡ length part → length (joined_content chunks) + number digits ≤ r.limits.length →
     IsBegunBy r level (streamed_text chunks ((59 ∷ digits) ++ crlf part) ++ 13 ∷ []) 5

@@ -44,7 +44,7 @@ content_ends r k first digits begun level bytes w = record {
     no_rest [] e = refl
     no_rest (c ∷ cs) e = absurd (omega arith)
 
--- behind its CR one byte is needed
+-- after its CR one byte is needed
 pub content_returned_begun : (r : Rules) (k : StringKind) (first : ℕ) (digits begun : List ℕ) (level : ℕ) (bytes : List ℕ) →
     IsContentToken r k first digits begun 0 level bytes → IsBegunBy r level (bytes ++ 13 ∷ []) 1
 content_returned_begun r k first digits begun level bytes w =
@@ -58,7 +58,7 @@ content_returned_begun r k first digits begun level bytes w =
           (content_ends r k first digits begun level bytes w) refl;
     }
 
--- no other byte than CR goes on behind the content
+-- no other byte than CR goes on after the content
 pub content_broken : (r : Rules) (k : StringKind) (first : ℕ) (digits begun : List ℕ) (level : ℕ) (bytes rest : List ℕ) (byte : ℕ) → (byte ≡ 13 → ⊥) →
     IsContentToken r k first digits begun 0 level bytes → CompletesUnder r Grammar level bytes (byte ∷ rest) → ⊥
 content_broken r k first digits begun level bytes rest byte no_return w c =

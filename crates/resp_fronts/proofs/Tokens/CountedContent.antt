@@ -11,7 +11,7 @@ use Rattle.resp_fronts.specs.MayFollow.{CompletesValue}
 use Rattle.resp_fronts.proofs.FirstLines.BegunLines.{text_first}
 use Rattle.resp_fronts.proofs.FirstLines.FirstLineRows.{is_string, string_line}
 
--- what completes p, that begins the content behind the length's line
+-- what completes p, that begins the content after the length's line
 pub record CompletesContent (L : LeafRule) (k : ℕ) (b : ℕ) (ds p c : List ℕ) : Type 0 where
   pub kind : StringKind
   pub content : List ℕ

@@ -60,7 +60,7 @@ count_token_over r k first digits level digit bytes p past w = (
       (members_of k (number (first ∷ (digits ++ digit ∷ [])))) w.keeps earlier e) past,
 )
 
--- no byte but a digit and CR behind a count's digits
+-- no byte but a digit and CR after a count's digits
 pub count_token_broken : (r : Rules) (k : Kind) (first : ℕ) (digits : List ℕ) (level : ℕ) (bytes rest : List ℕ) (byte : ℕ) → (byte ≡ 13 → ⊥) →
     (IsDigit byte → ⊥) → IsCountToken r k first digits level bytes → CompletesUnder r Grammar level bytes (byte ∷ rest) → ⊥
 count_token_broken r k first digits level bytes rest byte no_return no_digit w c =
@@ -112,7 +112,7 @@ count_ends_empty r k first digits level bytes empty w = record {
       ap (λ z. z ++ 10 ∷ []) (sym (w.returned ∙ ap (λ z. z ++ 13 ∷ []) w.count.are));
 }
 
--- no other byte goes on behind the CR
+-- no other byte goes on after the CR
 pub count_returned_broken : (r : Rules) (k : Kind) (first : ℕ) (digits : List ℕ) (level : ℕ) (bytes rest : List ℕ) (byte : ℕ) → (byte ≡ 10 → ⊥) →
     IsCountReturned r k first digits level bytes → CompletesUnder r Grammar level bytes (byte ∷ rest) → ⊥
 count_returned_broken r k first digits level bytes rest byte no_newline w c =

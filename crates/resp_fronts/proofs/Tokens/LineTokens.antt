@@ -1,4 +1,4 @@
--- Tokens that are one line: texts, numbers, nulls and truth values, and what stands behind their CR.
+-- Tokens that are one line: texts, numbers, nulls and truth values, and what stands after their CR.
 use Rattle.std.proofs.Common.{◌≡◌, ℕ, ◌+◌, ◌≤◌, List, [], ◌∷◌, ◌++◌, length, refl, sym, ap, subst, ◌∙◌, arith, append_assoc, append-nil, length-append}
 use Rattle.resp_value.specs.Bytes.{IsLine, IsPlain, IsByte, IsText, crlf}
 use Rattle.resp_value.specs.Trees.{leaf, Leaf, line, LineKind, line_byte, leaf_line, leaf_text}
@@ -65,14 +65,14 @@ returned_ends r l level bytes w = record {
   whole = returned_whole r l level bytes w;
 }
 
--- no other byte than LF goes on behind a line's CR
+-- no other byte than LF goes on after a line's CR
 pub returned_broken : (r : Rules) (l : Leaf) (level : ℕ) (bytes rest : List ℕ) (byte : ℕ) → (byte ≡ 10 → ⊥) → IsReturned r l level bytes →
     CompletesUnder r Grammar level bytes (byte ∷ rest) → ⊥
 returned_broken r l level bytes rest byte no_newline w c =
     behind_return_broken (LeafKeeps r Grammar) (NodeKeeps r Grammar) level w.begun rest byte (no_break_in_line r l level w.begun w.line_of) no_newline
     (subst (λ z. CompletesUnder r Grammar level z (byte ∷ rest)) w.returned c)
 
--- no byte but CR goes on behind a leaf's line with which no line goes on
+-- no byte but CR goes on after a leaf's line with which no line goes on
 pub line_of_broken : (r : Rules) (l : Leaf) (level : ℕ) (bytes rest : List ℕ) (byte : ℕ) → (byte ≡ 13 → ⊥) → NoLineGoesOn (leaf_line l) byte →
     IsLineOf r l level bytes → CompletesUnder r Grammar level bytes (byte ∷ rest) → ⊥
 line_of_broken r l level bytes rest byte no_return no_line w c =

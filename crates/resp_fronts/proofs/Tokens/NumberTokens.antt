@@ -54,7 +54,7 @@ number_token_begins r k sign level digit bytes p fits w = record {
       ap (λ z. z ++ digit ∷ []) w.1 ∙ ap (λ z. number_byte k ∷ z) (append_assoc (sign_text sign) [] (digit ∷ []));
 }
 
--- a digit more goes on behind a number's digits
+-- a digit more goes on after a number's digits
 pub number_token_more : (r : Rules) (k : NumberKind) (sign : Sign) (digits : List ℕ) (level digit : ℕ) (bytes : List ℕ) → IsDigit digit →
     MayBe r k sign (digits ++ digit ∷ []) → IsNumberToken r k sign digits level bytes →
     IsNumberToken r k sign (digits ++ digit ∷ []) level (bytes ++ digit ∷ [])

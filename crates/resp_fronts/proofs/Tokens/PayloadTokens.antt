@@ -1,4 +1,4 @@
--- Tokens behind a counted string's length, of each kind alike: the format and the content.
+-- Tokens after a counted string's length, of each kind alike: the format and the content.
 use Rattle.std.proofs.Common.{◌≡◌, ℕ, suc, ◌-◌, ◌<◌, ◌≤◌, List, [], ◌∷◌, ◌++◌, length, refl, sym, ap, subst, ◌∙◌, arith, append_assoc, length-append}
 use Rattle.resp_value.specs.Bytes.{IsByte, IsText, crlf}
 use Rattle.resp_value.specs.Numbers.{number}
@@ -15,7 +15,7 @@ use Rattle.resp_fronts.specs.Tokens.{IsContentToken, zeros}
 
 -- Formats.
 
--- the next byte of a format, of which so many are to come behind it
+-- the next byte of a format, of which this many are to come after it
 pub format_more : (r : Rules) (before : List ℕ) (byte behind : ℕ) (first : ℕ) (digits : List ℕ) (left level : ℕ) (bytes : List ℕ) → byte < 256 →
     IsContentToken r (Verbatim (before ++ zeros (suc behind))) first digits before left level bytes →
     IsContentToken r (Verbatim (before ++ byte ∷ zeros behind)) first digits (before ++ byte ∷ []) (left - 1) level (bytes ++ byte ∷ [])
@@ -53,7 +53,7 @@ format_more r before byte behind first digits left level bytes is_byte w =
       are = ap (λ z. z ++ byte ∷ []) w.are ∙ append_assoc (61 ∷ first ∷ digits) (crlf before) (byte ∷ []);
     }
 
--- the colon behind it
+-- the colon after it
 pub format_ends : (r : Rules) (format : List ℕ) (first : ℕ) (digits : List ℕ) (left level : ℕ) (bytes : List ℕ) →
     IsContentToken r (Verbatim format) first digits format left level bytes →
     IsContentToken r (Verbatim format) first digits (payload (Verbatim format) []) (left - 1) level (bytes ++ 58 ∷ [])
@@ -75,7 +75,7 @@ behind : (a b : List ℕ) (byte : ℕ) (rest : List ℕ) → (a ++ crlf b) ++ by
 behind a b byte rest = append_assoc a (crlf b) (byte ∷ rest) ∙ ap (λ z. a ++ crlf z) (sym (append_assoc b (byte ∷ []) rest)) ∙
     sym (append_assoc a (crlf (b ++ byte ∷ [])) rest)
 
--- no other byte than `:` goes on behind a format
+-- no other byte than `:` goes on after a format
 pub format_broken : (r : Rules) (format : List ℕ) (first : ℕ) (digits : List ℕ) (left level : ℕ) (bytes rest : List ℕ) (byte : ℕ) → (byte ≡ 58 → ⊥) →
     IsContentToken r (Verbatim format) first digits format left level bytes → CompletesUnder r Grammar level bytes (byte ∷ rest) → ⊥
 format_broken r format first digits left level bytes rest byte no_colon w c =
@@ -152,7 +152,7 @@ whole_content r k first digits part level bytes w =
       sym (append_assoc (string_byte k ∷ first ∷ digits) (crlf (payload k part)) (crlf [])) ∙ ap (λ z. z ++ crlf []) (sym w.are),
     )
 
--- no byte but LF behind its CR
+-- no byte but LF after its CR
 pub content_returned_broken : (r : Rules) (k : StringKind) (first : ℕ) (digits begun : List ℕ) (level : ℕ) (bytes rest : List ℕ) (byte : ℕ) → (byte ≡ 10 → ⊥) →
     IsContentToken r k first digits begun 0 level bytes → CompletesUnder r Grammar level (bytes ++ 13 ∷ []) (byte ∷ rest) → ⊥
 content_returned_broken r k first digits begun level bytes rest byte no_newline w c =

@@ -56,7 +56,7 @@ streamed_string_off r level no_two off = streamed_string_refused r NotStreamed I
     (λ earlier. at_each_rule (λ a. rank a ≤ 4 → LeafMeets r a level (chunked [] (48 ∷ []))) (λ e. tt) (λ e. tt) (λ e. λ is_two. absurd (no_two is_two))
     (λ e. tt) (λ e. tt) (λ e. absurd (omega arith)) (λ e. tt) (λ e. omega arith) (λ e. tt) (λ e. tt) earlier)
 
--- `?` behind an aggregate's type byte: 5
+-- `?` after an aggregate's type byte: 5
 pub streamed_begun : (r : Rules) (k : Kind) (level : ℕ) → HasStreamed r → CanStream k 0 → IsNoPushBelow level k → level < r.limits.depth →
     IsBegunBy r level (kind_byte k ∷ 63 ∷ []) 5
 streamed_begun r k level h can no_push within_depth =

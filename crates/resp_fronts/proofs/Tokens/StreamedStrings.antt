@@ -20,7 +20,7 @@ use Rattle.resp_fronts.specs.Tokens.{zeros}
 abbrev pub last : List ℕ → List ℕ
 last z = (59 ∷ z) ++ crlf []
 
--- one list of chunks behind another
+-- one list of chunks after another
 abbrev pub with_chunks : List Chunk → List Chunk → List Chunk
 with_chunks [] es = es
 with_chunks (c ∷ cs) es = c ∷ with_chunks cs es

@@ -21,7 +21,7 @@ use Rattle.resp_fronts.specs.Tokens.{HasString, IsContentToken, IsLengthToken, z
 abbrev pub IsStringBegun : Rules → StringKind → List ℕ → Type 0
 IsStringBegun r k bytes = HasString r k × (bytes ≡ string_byte k ∷ [])
 
--- what is no length behind it
+-- what is no length after it
 pub string_begun_broken : (r : Rules) (k : StringKind) (level : ℕ) (bytes rest : List ℕ) (byte : ℕ) → IsNoLength k byte → IsStringBegun r k bytes →
     CompletesUnder r Grammar level bytes (byte ∷ rest) → ⊥
 string_begun_broken r k level bytes rest byte other w c =
@@ -41,14 +41,14 @@ length_token_begins r k level digit bytes p fits w = record {
       ap (λ z. z ++ digit ∷ []) w.1;
 }
 
--- no byte but a digit and CR behind a length's digits
+-- no byte but a digit and CR after a length's digits
 pub length_token_broken : (r : Rules) (k : StringKind) (first : ℕ) (digits : List ℕ) (level : ℕ) (bytes rest : List ℕ) (byte : ℕ) → (byte ≡ 13 → ⊥) →
     (IsDigit byte → ⊥) → IsLengthToken r k first digits level bytes → CompletesUnder r Grammar level bytes (byte ∷ rest) → ⊥
 length_token_broken r k first digits level bytes rest byte no_return no_digit w c =
     byte_broken (LeafKeeps r Grammar) (NodeKeeps r Grammar) level (string_byte k ∷ first ∷ digits) rest byte (string_line k (first ∷ digits) w.are_digits.1)
     no_return (length_broken k first digits byte w.are_digits.1.0 no_digit) (subst (λ z. CompletesUnder r Grammar level z (byte ∷ rest)) w.are c)
 
--- nothing but a digit goes on behind the length of a verbatim string that has no room for a format
+-- nothing but a digit goes on after the length of a verbatim string that has no room for a format
 pub short_token_broken : (r : Rules) (format : List ℕ) (first : ℕ) (digits : List ℕ) (level : ℕ) (bytes rest : List ℕ) (byte : ℕ) →
     number (first ∷ digits) < 4 → (IsDigit byte → ⊥) → IsLengthToken r (Verbatim format) first digits level bytes →
     CompletesUnder r Grammar level bytes (byte ∷ rest) → ⊥
@@ -69,7 +69,7 @@ of_size Bulk n f room = (zeros n, are_zeros n, sym (length-zeros n))
 of_size BulkError n f room = (zeros n, are_zeros n, sym (length-zeros n))
 of_size (Verbatim format) n f room = (zeros (n - 4), are_zeros (n - 4), omega (arith, f.0, length-append format (58 ∷ zeros (n - 4)), length-zeros (n - 4)))
 
--- behind its CR LF the payload begins
+-- after its CR LF the payload begins
 pub payload_begins : (r : Rules) (k : StringKind) (first : ℕ) (digits : List ℕ) (level : ℕ) (bytes : List ℕ) → HasFormat k →
     HasRoom k (number (first ∷ digits)) → IsLengthToken r k first digits level bytes →
     IsContentToken r k first digits [] (number (first ∷ digits)) level (bytes ++ crlf [])
@@ -88,7 +88,7 @@ payload_begins r k first digits level bytes f room w =
       are = ap (λ z. z ++ crlf []) w.are;
     }
 
--- behind its CR one byte more is needed
+-- after its CR one byte more is needed
 pub length_returned_begun : (r : Rules) (k : StringKind) (first : ℕ) (digits : List ℕ) (level : ℕ) (bytes : List ℕ) → HasFormat k →
     HasRoom k (number (first ∷ digits)) → IsLengthToken r k first digits level bytes → IsBegunBy r level (bytes ++ 13 ∷ []) (number (first ∷ digits) + 3)
 length_returned_begun r k first digits level bytes f room w =
@@ -106,7 +106,7 @@ length_returned_begun r k first digits level bytes f room w =
           (subst (HasLeast (CompletesUnder r WithinItems level (line ++ 13 ∷ []))) (omega arith) least);
     }
 
--- no byte but LF goes on behind a length's CR
+-- no byte but LF goes on after a length's CR
 pub length_returned_broken : (r : Rules) (k : StringKind) (first : ℕ) (digits : List ℕ) (level : ℕ) (bytes rest : List ℕ) (byte : ℕ) → (byte ≡ 10 → ⊥) →
     IsLengthToken r k first digits level bytes → CompletesUnder r Grammar level (bytes ++ 13 ∷ []) (byte ∷ rest) → ⊥
 length_returned_broken r k first digits level bytes rest byte no_newline w c =

@@ -72,7 +72,7 @@ closing_some : (r : Rules) (fs : List Frame) (last rest front : List ℕ) (es : 
 closing_some r [] last rest front es some w = absurd w
 closing_some r (f ∷ fs) last rest front es some w = omega (arith, ap length w.whole, longer_around (w.frame ∷ w.outer) last, some)
 
--- between two values, or behind a byte
+-- between two values, or after a byte
 abbrev AtFrontOrBehind : Token → List Frame → List ℕ → Type 0
 AtFrontOrBehind t fs front = ((t ≡ AtStart) × (fs ≡ [])) ⊎ (0 < length front)
 
@@ -269,7 +269,7 @@ finishes (Err fault) s front es sound ok err w = (
   λ m. absurd (let z : None ≡ Some fault.cause = sym ((end_told s front es sound w).0 m) ∙ err.0 in cc),
 )
 
--- the end of the input is refused as a truncation, behind the last byte
+-- the end of the input is refused as a truncation, after the last byte
 pub truncated_at : (result : Result (Unit {0}) Fault) (s : Place) (front : List ℕ) (es : List e.Event) → IsSound s →
     IfErr result (λ fault. (end_cause s ≡ Some fault.cause) × (fault.at ≡ s.taken)) → HasRead s front es →
     IfErr result (λ fault. (fault.cause ≡ cause.Truncated) × (fault.at ≡ length front))

@@ -28,7 +28,7 @@ pub record RefusedAt (r : Rules) (front : List ℕ) (es : List Event) (byte used
   pub looked : IsLookedAt before.token used
   pub cause : IsRefusedFor r (front ++ byte ∷ []) c
 
--- what came of a piece of which so many bytes are used before these, by an answer
+-- what came of a piece of which this many bytes are used before these, by an answer
 abbrev pub Came : Rules → ℕ → List ℕ → List Event → List ℕ → Out → Type 0
 Came r i front es p (More n t) = (n ≡ i + length p) × IsLookedAt t.token n × StandsAfter t (front ++ p) es
 Came r i front es p (Gave n happening t) = (i < n) × (n ≤ i + length p) × StandsAfter t (front ++ take (n - i) p) (es ++ event_of happening ∷ [])

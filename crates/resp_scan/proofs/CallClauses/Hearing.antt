@@ -8,7 +8,7 @@ use Rattle.resp_scan.specs.Reading.{Events}
 use Rattle.resp_scan.specs.Listening.{Hears, MayBeGiven, StopsWithin}
 use Rattle.resp_scan.proofs.DueEvents.Opens.{closes-append, opens-append}
 
--- the first of events that may be given may be given, where those behind them open and close nothing
+-- the first of events that may be given may be given, where those after them open and close nothing
 pub fewer_may_be : (given more : Events) → open_count more ≡ 0 → close_count more ≡ 0 → MayBeGiven (given ++ more) → MayBeGiven given
 fewer_may_be given more opens closes m = record {
   rules = m.rules;
@@ -30,7 +30,7 @@ content_level (c ∷ s) = let h = content_level s in (omega (arith, h.0), omega 
 pub hears_nothing : {O : Type 0} (H S : O → Events → Type 0) → Hears H H S [] true
 hears_nothing H S since given had may = subst (H since) (sym (append-nil given)) had
 
--- events told behind others that it has heard, which open and close nothing
+-- events told after others that it has heard, which open and close nothing
 pub hears-append : {O : Type 0} (A B C S T : O → Events → Type 0) (xs ys : Events) (goes_on : Bool) → open_count ys ≡ 0 → close_count ys ≡ 0 →
     Hears A B S xs true → Hears B C T ys goes_on → Hears A C T (xs ++ ys) goes_on
 hears-append A B C S T xs ys goes_on opens closes f g since given had may =
@@ -49,7 +49,7 @@ hears-append A B C S T xs ys goes_on opens closes f g since given had may =
       has_stopped = subst (T since) (append_assoc given xs h.told) h.has_stopped;
     }
 
--- Where it stops at the first events it is not told those behind them.
+-- Where it stops at the first events it is not told those after them.
 pub stops-append : {O : Type 0} (A B S : O → Events → Type 0) (xs ys : Events) (since : O) (given : Events) → open_count ys ≡ 0 → close_count ys ≡ 0 →
     Hears A B S xs false → A since given → MayBeGiven (given ++ (xs ++ ys)) → StopsWithin (S since) given (xs ++ ys)
 stops-append A B S xs ys since given opens closes f had may =

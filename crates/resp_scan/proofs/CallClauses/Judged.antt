@@ -147,7 +147,7 @@ settle_at token r s front w = settled_here r (at s token) front w refl
 
 -- One byte.
 
--- a byte behind a whole value
+-- a byte after a whole value
 behind_whole : (r : Rules) (front : List ℕ) (es : List e.Event) (b : ℕ) → f.IsWholeValue r front es → IsCause r (front ++ b ∷ []) Grammar
 behind_whole r front es b w = grammar_cause r (front ++ b ∷ []) (λ rest c.
     let u = unique w.tree c.tree (b ∷ rest) [] w.is_tree c.is_tree (ap (λ z. z ++ b ∷ rest) (sym w.whole) ∙ sym (append_assoc front (b ∷ []) rest) ∙

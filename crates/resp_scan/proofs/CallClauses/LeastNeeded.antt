@@ -42,7 +42,7 @@ between_is_least r (f ∷ fs) front es w =
     least_by_texts r front front _ (0 + need_of_frames (f ∷ fs)) refl (omega (arith, waiting_needed f.kind f.shape, frames_needed_is fs w.begun))
     (between_least r (waiting_levels (f ∷ fs)) front (is_between r (f ∷ fs) front es w))
 
--- Behind a whole value.
+-- After a whole value.
 
 frames_are : (fs : List Frame) (gs : List opened.Frame) → HaveBegun fs → AreLevelsOf (busy_levels fs) gs → frames_needed gs ≡ need_of_frames fs
 frames_are fs gs h a = sym (levels_needed_is (busy_levels fs) gs a) ∙ frames_needed_is fs h

@@ -46,7 +46,7 @@ runs_none s H piece sound = record {
   };
 }
 
--- the bytes of one turn behind those of the turns before
+-- the bytes of one turn after those of the turns before
 bytes_on : (front piece : List ℕ) (used n : ℕ) → (front ++ take used piece) ++ take n (drop used piece) ≡ front ++ take (used + n) piece
 bytes_on front piece used n = append_assoc front (take used piece) (take n (drop used piece)) ∙ ap (λ z. front ++ z) (taken_on used n piece)
 

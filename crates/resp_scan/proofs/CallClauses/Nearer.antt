@@ -12,7 +12,7 @@ use Rattle.resp_scan.specs.Machine.Moves.{next}
 use Rattle.resp_scan.specs.Machine.Scan.{Out, More, Gave, Part, Whole, Bad, and_more, answer, content, out_at_end, out_from, out_from_token, scan}
 use Rattle.resp_scan.specs.Machine.Sound.{IsClosed, IsSound, IsTokenSound}
 
--- A scan behind so many bytes uses more of them where it gives an event.
+-- A scan after this many bytes uses more of them where it gives an event.
 abbrev UsesSome : ℕ → Out → Type 0
 UsesSome i (Gave n x t) = i < n
 UsesSome i (Part k n t) = i < n
@@ -60,7 +60,7 @@ used_nearer s (More n t) h = tt
 used_nearer s (Whole t) h = tt
 used_nearer s (Bad n c t) h = tt
 
--- behind a value no more is owed than where it ends
+-- after a value no more is owed than where it ends
 boundary_owed : (fs : List Frame) → length (events_owed_at (token_at_boundary fs) fs) ≤ length (events_owed_at_end fs)
 boundary_owed [] = omega arith
 boundary_owed (f ∷ fs) = by_shape f.kind f.shape

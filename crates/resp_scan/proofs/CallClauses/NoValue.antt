@@ -49,7 +49,7 @@ no_value r front es viable due none n tree spells =
     no_rest [] b h = h
     no_rest (x ∷ a) b h = absurd (omega (arith, ap length h))
 
--- Where the text stops being viable behind such a front, no front of the whole text is a spelling within the rules.
+-- Where the text stops being viable after such a front, no front of the whole text is a spelling within the rules.
 pub no_spelling : (r : Rules) (written : List ℕ) (at : ℕ) (c : Cause) → HasNoValue (take at written) → IsRefusedFor r (take (at + 1) written) c →
     HasNoSpelling r written
 no_spelling r written at c none refused n x = if_within n at (λ b. ⊥)

@@ -35,7 +35,7 @@ use Rattle.resp_scan.proofs.Soundness.Pieces.{used_within}
 use Rattle.resp_scan.proofs.Soundness.Runs.{content_part, line_part, plain_run_le}
 use Rattle.resp_value.proofs.Choices.{if_equal}
 
--- the piece behind a run that CR LF follow
+-- the piece after a run that CR LF follow
 behind_run : (p : List ℕ) (run : ℕ) → EndsAt p run → drop run p ≡ byte "\r" ∷ byte "\n" ∷ drop (run + 2) p
 behind_run p run ends =
     let first : run < length p = omega (arith, ends.within) in
@@ -57,7 +57,7 @@ text_behind (suc n) (b ∷ bs) text = text_behind n bs text.1
 abbrev pub EndsText : Place → Type 0
 EndsText t = (more : List ℕ) → Gave 2 TextEnd (at_boundary t) ≡ out_from t (byte "\r" ∷ byte "\n" ∷ more)
 
--- content of so many bytes leads from one place to another
+-- content of this many bytes leads from one place to another
 abbrev pub RunsTo : Place → Place → List ℕ → ℕ → Type 0
 RunsTo s t p run = (0 < run → Part 0 run t ≡ out_from s p) × (run ≡ 0 → s ≡ t)
 
@@ -77,7 +77,7 @@ after_run s t front given p zero text sound w runs =
     (subst (λ z. HasRead s z (given ++ [])) (sym (append-nil front)) (subst (HasRead s front) (sym (append-nil given)) w))
 after_run s t front given p (suc n) text sound w runs = reads_more s front given p (Part 0 (suc n) t) text sound (runs.0 (omega arith)) w
 
--- CR LF behind content end the text.
+-- CR LF after content end the text.
 ends_here : (t : Place) (p : List ℕ) (run : ℕ) → EndsAt p run → EndsText t → Gave 2 TextEnd (at_boundary t) ≡ out_from t (drop run p)
 ends_here t p run ends ends_text = ends_text (drop (run + 2) p) ∙ ap (out_from t) (sym (behind_run p run ends))
 
@@ -94,7 +94,7 @@ taken_on n m p =
     let shorter : take n (take (n + m) p) ≡ take n p = grind (arith, common_steps) in
     ap (λ z. take n p ++ z) (sym (drop-take n m p)) ∙ ap (λ z. z ++ drop n (take (n + m) p)) (sym shorter) ∙ take-append-drop n (take (n + m) p)
 
--- Behind content and its CR LF the text has ended.
+-- After content and its CR LF the text has ended.
 pub text_ends : (s t : Place) (front : List ℕ) (given : Events) (p : List ℕ) (run : ℕ) → IsText p → IsSound s → HasRead s front given → EndsAt p run →
     RunsTo s t p run → EndsText (after_bytes run t) →
     HasRead (after_bytes 2 (at_boundary (after_bytes run t))) (front ++ take (run + 2) p) (given ++ (content_events (take run p) ++ e.TextEnd ∷ []))
@@ -220,7 +220,7 @@ line_turn s m m' taken run k p HadHeard HasHeard HasStopped goes_on turned text 
 
 -- Counted content.
 
--- a place at which so much content is still to come
+-- a place at which this much content is still to come
 content_runs : (u : Place) (run : ℕ) (p : List ℕ) → 0 < run → run ≤ length p → RunsTo (at u (InContent run)) (content_at 0 u) p run
 content_runs u run p some within = (λ more. sym (part more), λ none. absurd (omega (arith, some, none)))
   where

@@ -79,7 +79,7 @@ big_by_byte (node d.Map form ts) i = absurd (omega arith)
 big_by_byte (node d.Attr form ts) i = absurd (omega arith)
 big_by_byte (node d.Push form ts) i = absurd (omega arith)
 
--- a byte below the digits behind it is its sign
+-- a byte below the digits after it is its sign
 signed_by : (byte : ℕ) (sign : Sign) (digits behind : List ℕ) → byte < 48 → IsDigits digits → (sign_text sign ++ digits) ++ crlf [] ≡ byte ∷ behind →
     1 ≤ length (sign_text sign)
 signed_by byte Plus digits behind below are same = omega arith

@@ -29,7 +29,7 @@ length-chunks cs rest = sym (ap length (chunks_text-append cs [] rest)) ∙ leng
 length-chunk : (c : Chunk) (rest : List ℕ) → length ((59 ∷ c.digits) ++ crlf (c.content ++ crlf rest)) ≡ length c.digits + length c.content + 5 + length rest
 length-chunk c rest = omega (arith, length-append (59 ∷ c.digits) (crlf (c.content ++ crlf rest)), length-append c.content (crlf rest))
 
--- chunks behind chunks
+-- chunks after chunks
 chunk_events-with : (at : ℕ) (cs more : List Chunk) → chunk_events at (with_chunks cs more) ≡ chunk_events at cs ++
     chunk_events (at + length (chunks_text cs [])) more
 chunk_events-with at [] more = let here : at ≡ at + 0 = omega arith in ap (λ n. chunk_events n more) here
@@ -55,7 +55,7 @@ chunks_all n at (c ∷ cs) l =
     ∙ ap (λ z. content_events c.content ++ z) (chunks_all n next cs (omega (arith, l, size)))
     ∙ sym (content_events-append c.content (joined_content cs))
 
--- whole chunks first, and then what is due behind them
+-- whole chunks first, and then what is due after them
 stream_due : (from n : ℕ) (cs more : List Chunk) (zeros : List ℕ) (shown : List Event) → from + 4 + length (chunks_text cs []) ≤ n →
     events_due n (chunk_events (from + 4 + length (chunks_text cs [])) more ++
     record { at = last_of from (leaf_text (chunked (with_chunks cs more) zeros)); event = e.TextEnd } ∷ []) ≡ shown →
@@ -162,7 +162,7 @@ returned_in_line digits are others after behind same =
 
 -- Within a chunk.
 
--- the chunk that is begun, with more content, and those behind it
+-- the chunk that is begun, with more content, and those after it
 record IsChunkOf (digits part : List ℕ) (n : ℕ) (more : List Chunk) : Type 0 where
   pub content : List ℕ
   pub rest : List Chunk
@@ -188,7 +188,7 @@ chunk_of (c ∷ cs) zeros digits part behind n chunks zero are some valued goes_
     let c0 : c ≡ record { digits = digits; content = part ++ l } = λ i. record { digits = same i; content = h i } in
     record { content = l; rest = cs; are = ap (λ z. z ∷ cs) c0; size = omega (arith, size, ap length h, length-append part l) }
 
--- nothing behind its content, or its CR
+-- nothing after its content, or its CR
 abbrev pub IsBehind : ℕ → List ℕ → Type 0
 IsBehind n [] = Unit {0}
 IsBehind n (c ∷ cs) = (n ≡ 0) × (length cs ≡ 0)

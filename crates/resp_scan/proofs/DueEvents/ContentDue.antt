@@ -151,7 +151,7 @@ content_due r n level bytes shown w from value behind is_tree whole =
     ∙ string_due from at at w.kind digits w.part l place (omega arith) (omega arith) (bytes_later at at l (omega arith))
     ∙ sym w.told
 
--- the events due behind the CR of a string's content
+-- the events due after the CR of a string's content
 pub content_returned_due : (r : Rules) (level : ℕ) (bytes : List ℕ) (shown : List Event) → ContentReturned r level bytes shown → AreDueWithin bytes shown
 content_returned_due r level bytes shown w from value behind is_tree whole =
     let c = w.content in

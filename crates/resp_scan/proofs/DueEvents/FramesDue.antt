@@ -24,7 +24,7 @@ done_later n whole before =
     ∙ ap (λ z. events_due n (events 0 whole) ++ z) (due_none n (record { at = last_of 0 (text whole); event = e.Done } ∷ []) (omega arith, tt))
     ∙ append-nil (events_due n (events 0 whole))
 
--- events at a byte or behind it, from a place before
+-- events at a byte or after it, from a place before
 pub from_later : (low n : ℕ) (es : List Timed) → n ≤ low → AreFrom low es → AreFrom n es
 from_later low n [] l p = tt
 from_later low n (x ∷ es) l p = (omega (arith, p.0), from_later low n es l p.1)
@@ -34,7 +34,7 @@ pub from_within : (low high : ℕ) (es : List Timed) → AreWithin low high es �
 from_within low high [] p = tt
 from_within low high (x ∷ es) p = (p.0.0, from_within low high es p.1)
 
--- one list behind another
+-- one list after another
 pub from-append : (n : ℕ) (a b : List Timed) → AreFrom n a → AreFrom n b → AreFrom n (a ++ b)
 from-append n [] b p q = q
 from-append n (x ∷ a) b p q = (p.0, from-append n a b p.1 q)
@@ -62,7 +62,7 @@ due_in gs begun rest whole b unfinished spelled =
 abbrev pub IsStop : List ℕ → Type 0
 IsStop last = (last ≡ []) ⊎ ((x : List ℕ) × (last ≡ 46 ∷ x))
 
--- members behind those taken, or the close, don't come before a begun close
+-- members after those taken, or the close, don't come before a begun close
 later_members : (n at : ℕ) (last : List ℕ) (us : Trees) (form : Form) (behind rest : List ℕ) → n ≡ at + length last → IsStop last →
     (texts us ++ close form) ++ behind ≡ last ++ rest → AreFrom n (events_each at us)
 later_members n at last t.none form behind rest place stop same = tt

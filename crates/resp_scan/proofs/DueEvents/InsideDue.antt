@@ -34,7 +34,7 @@ longer_front (c ∷ a) (d ∷ b) x y e l =
     let h0 : a ≡ b ++ z = h in
     (z, cc)
 
--- a value whose bytes have begun goes on behind them
+-- a value whose bytes have begun goes on after them
 goes_behind : (r : Rules) (level : ℕ) (bytes : List ℕ) (n : ℕ) (value : Tree) (behind rest : List ℕ) → IsBegunBy r level bytes n → IsTree value →
     text value ++ behind ≡ bytes ++ rest → (length bytes < length (text value)) × ((c : List ℕ) × (text value ≡ bytes ++ c))
 goes_behind r level bytes n value behind rest b is_tree e =

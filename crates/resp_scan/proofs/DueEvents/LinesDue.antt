@@ -50,7 +50,7 @@ line_begun_due r room level bytes shown w from value behind is_tree whole =
     ∙ line_due from k content l w.token.is_text_line
     ∙ sym w.told
 
--- behind its CR a leaf is all that the value can be
+-- after its CR a leaf is all that the value can be
 pub returned_is : (r : Rules) (l : Leaf) (level : ℕ) (bytes : List ℕ) (value : Tree) (behind : List ℕ) → IsReturned r l level bytes → IsTree value →
     text value ≡ bytes ++ behind → value ≡ leaf l
 returned_is r l level bytes value behind w is_tree whole =

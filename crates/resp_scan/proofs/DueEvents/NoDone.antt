@@ -11,7 +11,7 @@ use Rattle.resp_scan.specs.Reading.{HasNoDone}
 use Rattle.resp_scan.proofs.TokenMoves.LeafEvents.{given-big, given-chunked, given-line, given-string}
 use Rattle.resp_scan.proofs.TokenMoves.Moves.{given-append}
 
--- one list behind another
+-- one list after another
 pub no_done-append : (a b : List Event) → HasNoDone a → HasNoDone b → HasNoDone (a ++ b)
 no_done-append [] b p q = q
 no_done-append (x ∷ a) b p q = (p.0, no_done-append a b p.1 q)

@@ -12,11 +12,11 @@ use Rattle.resp_scan.specs.Kinds.{content_events}
 use Rattle.resp_scan.proofs.TokenMoves.LeafEvents.{given-big, given-chunked, given-line, given-string}
 use Rattle.resp_scan.proofs.TokenMoves.Moves.{given-append}
 
--- that so many more aggregates open than close
+-- that this many more aggregates open than close
 abbrev pub LeaveOpen : ℕ → List Event → Type 0
 LeaveOpen n es = open_count es ≡ n + close_count es
 
--- the opens of one list behind another
+-- the opens of one list after another
 pub opens-append : (a b : List Event) → open_count (a ++ b) ≡ open_count a + open_count b
 opens-append [] b = omega arith
 opens-append (x ∷ a) b = omega (arith, opens-append a b)
@@ -26,7 +26,7 @@ pub closes-append : (a b : List Event) → close_count (a ++ b) ≡ close_count 
 closes-append [] b = omega arith
 closes-append (x ∷ a) b = omega (arith, closes-append a b)
 
--- one list behind another
+-- one list after another
 pub open-append : (m n : ℕ) (a b : List Event) → LeaveOpen m a → LeaveOpen n b → LeaveOpen (m + n) (a ++ b)
 open-append m n a b p q = omega (arith, opens-append a b, closes-append a b)
 

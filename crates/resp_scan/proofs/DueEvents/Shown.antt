@@ -71,7 +71,7 @@ content_shown r n level bytes shown w = text_shown bytes _ w.part shown w.told
       content_in_payload w.kind w.part,
     ))
 
--- bytes behind chunks that are no more than these
+-- bytes after chunks that are no more than these
 chunks_shown : (r : Rules) (room : ℕ) (begun : List ℕ) (level : ℕ) (bytes : List ℕ) (shown : List Event) → ChunksBegun r room begun level bytes shown →
     LeaveOpen 0 shown × HasNoDone shown × (length shown + length begun ≤ length bytes)
 chunks_shown r room begun level bytes shown w = (

@@ -8,7 +8,7 @@ use Rattle.resp_fronts.proofs.EventLaws.EventsDue.{AreFrom, due_none}
 use Rattle.resp_scan.specs.Kinds.{content_events}
 use Rattle.resp_scan.proofs.DueEvents.FramesDue.{from-append}
 
--- content that comes behind a byte
+-- content that comes after a byte
 pub bytes_later : (n from : ℕ) (s : List ℕ) → n ≤ from → AreFrom n (bytes_from from s)
 bytes_later n from [] l = tt
 bytes_later n from (b ∷ s) l = (l, bytes_later n (from + 1) s (omega (arith, l)))
@@ -26,7 +26,7 @@ chunks_later n at (c ∷ cs) l =
     (bytes_later n (at + length c.digits + 3) c.content (omega (arith, l)))
     (chunks_later n (at + length c.digits + length c.content + 5) cs (omega (arith, l)))
 
--- the content before a byte, where the rest comes behind it
+-- the content before a byte, where the rest comes after it
 pub due_bytes : (n from : ℕ) (a b : List ℕ) (behind : List Timed) → from + length a ≤ n → AreFrom n (bytes_from (from + length a) b ++ behind) →
     events_due n (bytes_from from (a ++ b) ++ behind) ≡ content_events a
 due_bytes n from [] b behind l p =

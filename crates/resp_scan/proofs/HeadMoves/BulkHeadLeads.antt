@@ -57,7 +57,7 @@ mark_leads s used front es c w = cases s.version s.bounds.streamed refl refl
           streamed_string_off (rules_of s) level (λ two. (let x : version.Three ≡ version.Two = sym e ∙ two in absurd (cc))) o,
         ))
 
--- every byte behind `$`
+-- every byte after `$`
 pub bulk_head_leads : (s : Place) → ALead (at s AtBulkHead)
 bulk_head_leads s used byte front es is_byte c w = by_byte (at s AtBulkHead) front es 45 byte _ _
     (λ is_minus. subst (λ z. StandsAfter (at s AtNullOne) (front ++ z ∷ []) es) (sym is_minus)

@@ -69,7 +69,7 @@ plain : (r : Rules) (room n level : ℕ) (bytes : List ℕ) (shown : List Event)
     ChunksBegun r room (59 ∷ w.digits) level bytes shown
 plain r room n level bytes shown w = subst (λ z. ChunksBegun r room (59 ∷ z) level bytes shown) (append-nil w.digits) w.chunks
 
--- what is needed behind the digits
+-- what is needed after the digits
 pub length_row : (r : Rules) (room n level : ℕ) (bytes : List ℕ) (shown : List Event) → ChunkLength r room n [] level bytes shown →
     IsBegunBy r level bytes (chunk_needed n)
 length_row r room n level bytes shown w =
@@ -95,7 +95,7 @@ chunk_digit_leads s room n used byte front es digit c w =
     (λ level bytes shown i t. with_digit r room n level byte bytes shown digit within t))
     (λ level bytes shown i t. length_row r room m level bytes shown t)
 
--- every byte behind `;`
+-- every byte after `;`
 pub chunk_heads_lead : (s : Place) (room : ℕ) → ALead (at s (AtHead (Chunk room)))
 chunk_heads_lead s room used byte front es is_byte c w =
     let r = rules_of s in
@@ -113,7 +113,7 @@ chunk_heads_lead s room used byte front es is_byte c w =
     (λ level bytes shown t. record { digits = []; are_digits = tt; valued = refl; chunks = t }))))
     dead)
 
--- every byte behind the digits of a chunk's length
+-- every byte after the digits of a chunk's length
 pub chunk_lengths_lead : (s : Place) (room n : ℕ) → ALead (at s (InHead (Chunk room) n))
 chunk_lengths_lead s room n used byte front es is_byte c w =
     let r = rules_of s in
@@ -150,7 +150,7 @@ returned_text r room n level bytes shown w = w.chunks.are ∙ ap (λ z. 36 ∷ 6
 unfoldable pub returned_needed : ℕ → ℕ
 returned_needed n = cond (eqb n 0) 1 (n + 7)
 
--- what is needed behind the CR
+-- what is needed after the CR
 pub returned_row : (r : Rules) (room n level : ℕ) (bytes : List ℕ) (shown : List Event) → ChunkLength r room n (13 ∷ []) level bytes shown →
     IsBegunBy r level bytes (returned_needed n)
 unfolding returned_needed
@@ -197,7 +197,7 @@ content_begins r room n level bytes shown some w =
       told = sym (append-nil shown);
     }
 
--- every byte behind the CR of a chunk's length
+-- every byte after the CR of a chunk's length
 pub chunk_length_ends_lead : (s : Place) (room n : ℕ) → ALead (at s (AtHeadLf (Chunk room) n))
 chunk_length_ends_lead s room n used byte front es is_byte c w =
     let r = rules_of s in

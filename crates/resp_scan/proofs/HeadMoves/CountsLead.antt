@@ -30,7 +30,7 @@ items_of-members_of d.Map n = omega arith
 items_of-members_of d.Attr n = omega arith
 items_of-members_of _ n = refl
 
--- behind a count's digits the line's end and the members
+-- after a count's digits the line's end and the members
 pub count_row : (r : Rules) (k : Kind) (n needed level : ℕ) (bytes : List ℕ) (shown : List Event) → 3 * members_of k n + 2 ≡ needed →
     CountBegun r k n level bytes shown → IsBegunBy r level bytes needed
 count_row r k n needed level bytes shown e w = subst (IsBegunBy r level bytes) (ap (λ m. 3 * members_of k m + 2) w.valued ∙ e)
@@ -120,7 +120,7 @@ count_leads s h k n needed used byte front es e c w counts ends =
     (λ digit. digit_leads p k n needed used byte (InHead h m) front es e digit c w (λ x. counts m (front ++ byte ∷ []) x))
     (λ no_digit. return_leads p k n byte (AtHeadLf h n) front es no_digit w (λ x. ends (front ++ 13 ∷ []) x))
 
--- every byte behind the digits of an aggregate's head
+-- every byte after the digits of an aggregate's head
 pub counts_lead : (s : Place) (h : Head) (n : ℕ) → IsOfAggregate h → ALead (at s (InHead h n))
 counts_lead s head.Array n h used byte front es is_byte c w = count_leads s head.Array d.Array n ((n * 10 + (byte - 48)) * 3 + 2) used byte front es
     (omega arith) c w (λ m longer x. x) (λ longer x. x)

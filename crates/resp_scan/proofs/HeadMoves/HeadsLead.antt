@@ -176,7 +176,7 @@ pub aggregate_row : (r : Rules) (k : Kind) (level : ℕ) (bytes : List ℕ) (sho
     IsBegunBy r level bytes 3
 aggregate_row r k level bytes shown none_yet w = subst (λ z. IsBegunBy r level z 3) (sym w.are) (aggregate_begun r k level w.no_two w.no_push w.below none_yet)
 
--- behind a type byte a digit, or the mark of streamed ones
+-- after a type byte a digit, or the mark of streamed ones
 head_leads : (s : Place) (T : ℕ → List ℕ → List Event → Type 0) (h : Head) (k : Kind) (least needed used byte : ℕ) (marked : Move) (front : List ℕ)
     (es : List Event) → 3 * members_of k (byte - 48) + 2 ≡ needed → HasCountsOf s used front → IsInside (rules_of s) T s.frames front es →
     ((level : ℕ) (bytes : List ℕ) (shown : List Event) → level ≡ length s.frames → T level bytes shown →
@@ -213,12 +213,12 @@ no_stream_leads s k least byte front es no_stream w row is =
     broken (rules_of s) (AggregateBegun (rules_of s) k) s.frames front es least byte w (λ level bytes shown i t. row level bytes shown t)
     (λ level bytes rest shown t dead. mark_dead (rules_of s) k level byte bytes rest is no_stream t.are dead)
 
--- the type byte of an attribute list needs 6 bytes more, since a value comes behind it
+-- the type byte of an attribute list needs 6 bytes more, since a value comes after it
 pub attribute_row : (r : Rules) (level : ℕ) (bytes : List ℕ) (shown : List Event) → AggregateBegun r d.Attr level bytes shown →
     IsBegunBy r level bytes 6
 attribute_row r level bytes shown w = subst (λ z. IsBegunBy r level z 6) (sym w.are) (attribute_begun r level w.no_two w.below)
 
--- every byte behind the type byte of an aggregate other than an array
+-- every byte after the type byte of an aggregate other than an array
 pub heads_lead : (s : Place) (h : Head) → IsOfAggregate h → ALead (at s (AtHead h))
 heads_lead s head.Array h used byte front es is_byte c w = absurd w.took
 heads_lead s head.Set h used byte front es is_byte c w =
@@ -246,7 +246,7 @@ heads_lead s head.Push h used byte front es is_byte c w =
     (no_stream_leads p d.Push 3 byte front es (λ n can. can) w row) (λ no_mark_here no_digit. no_digit) (λ x. x)
 heads_lead s _ h used byte front es is_byte c w = absurd h
 
--- Arrays, which version 2 has too, and whose depth is tested behind `*`.
+-- Arrays, which version 2 has too, and whose depth is tested after `*`.
 
 null_begins : (s : Place) (used byte : ℕ) (front : List ℕ) (es : List Event) → byte ≡ 45 → HasCountsOf (at s AtArrayHead) used front →
     StandsAfter (at s AtArrayHead) front es → Leads (at s AtArrayHead) front es byte
@@ -335,7 +335,7 @@ array_first_leads s used byte front es no_minus below c w =
     (λ is. mark_leads p T kind.Array used byte front es is tt c w (may_count s below) (λ level i two. streamed_array_in_two r level two) below)
     (λ no_mark_here no_digit. (no_minus, no_mark_here, no_digit)) (λ x. x)
 
--- every byte behind `*`
+-- every byte after `*`
 pub array_head_leads : (s : Place) → ALead (at s AtArrayHead)
 array_head_leads s used byte front es is_byte c w =
     let p = at s AtArrayHead in
@@ -348,7 +348,7 @@ array_head_leads s used byte front es is_byte c w =
 
 -- The line of a streamed head.
 
--- every byte behind the `?` of an aggregate's head
+-- every byte after the `?` of an aggregate's head
 pub open_cr_leads : (s : Place) (kind : OpenKind) → ALead (at s (AtOpenCr kind))
 open_cr_leads s o used byte front es is_byte c w =
     let r = rules_of s in
@@ -415,7 +415,7 @@ stream_opens r o level bytes shown w =
       told = ap (λ z. z ++ e.Open (kind_of o) None ∷ []) w.told;
     }
 
--- every byte behind the CR of a streamed aggregate's head
+-- every byte after the CR of a streamed aggregate's head
 pub open_end_leads : (s : Place) (kind : OpenKind) → ALead (at s (AtOpenLf kind))
 open_end_leads s o used byte front es is_byte c w =
     let r = rules_of s in

@@ -34,7 +34,7 @@ use Rattle.resp_scan.proofs.TokenMoves.Moves.{at_level, given-append, longer, AL
 use Rattle.resp_scan.proofs.TokenMoves.ByteTests.{wants_leads}
 use Rattle.resp_scan.specs.declared.machine.Head.{Head}
 
--- a form in which so many members haven't begun, or have
+-- a form in which this many members haven't begun, or have
 abbrev Shaped : Kind → Shape → Form → Type 0
 Shaped k (Left n) form = (digits : List ℕ) × (form ≡ Counted digits) × IsDigits digits × (members_of k (number digits) ≡ n)
 Shaped k (Begun n) form = (form ≡ Streamed) × (n ≡ 0)
@@ -86,7 +86,7 @@ opens_as r T fs front es k (Begun n) w form (is, none_yet) c p told e t = record
   told = t;
 }
 
--- behind a head's LF a place stands within the aggregate
+-- after a head's LF a place stands within the aggregate
 pub opens_lie : (r : Rules) (T : ℕ → List ℕ → List Event → Type 0) (fs : List Frame) (front bytes_more : List ℕ) (es new : List Event) (k : OpenKind)
     (shape : Shape) → IsInside r T fs front es → ((level : ℕ) (bytes : List ℕ) (shown : List Event) → level ≡ length fs → T level bytes shown →
     Opened r k shape level (bytes ++ bytes_more) (shown ++ new)) →
@@ -101,7 +101,7 @@ opens_lie r T fs front bytes_more es new k shape w opens =
 
 -- Counted heads.
 
--- a count's LF opens an aggregate of so many members
+-- a count's LF opens an aggregate of this many members
 count_opens : (r : Rules) (k : OpenKind) (n m level : ℕ) (bytes : List ℕ) (shown : List Event) → members_of (kind_of k) n ≡ m →
     CountReturned r (kind_of k) n level bytes shown → Opened r k (Left m) level (bytes ++ 10 ∷ []) (shown ++ e.Open (kind_of k) (Some n) ∷ [])
 count_opens r k n m level bytes shown all w =
@@ -117,7 +117,7 @@ count_opens r k n m level bytes shown all w =
       told = ap (λ z. z ++ e.Open (kind_of k) (Some n) ∷ []) w.told ∙ ap (λ z. e.Open (kind_of k) (Some z) ∷ []) (sym w.valued);
     }
 
--- behind a count's CR its LF and the members
+-- after a count's CR its LF and the members
 pub count_row : (r : Rules) (k : Kind) (n level : ℕ) (bytes : List ℕ) (shown : List Event) → CountReturned r k n level bytes shown →
     IsBegunBy r level bytes (3 * members_of k n + 1)
 count_row r k n level bytes shown w = subst (λ m. IsBegunBy r level bytes (3 * members_of k m + 1)) w.valued
@@ -137,7 +137,7 @@ head_end_leads s o n m used byte front es all w =
     (opens_lie r T s.frames front (10 ∷ []) es (e.Open (kind_of o) (Some n) ∷ []) o (Left m) w
     (λ level bytes shown i t. count_opens r o n m level bytes shown all t)))
 
--- every byte behind the CR of an aggregate's head
+-- every byte after the CR of an aggregate's head
 pub head_ends_lead : (s : Place) (h : Head) (n : ℕ) → IsOfAggregate h → ALead (at s (AtHeadLf h n))
 head_ends_lead s head.Array n h used byte front es is_byte c w = head_end_leads (at s (AtHeadLf head.Array n)) kind.Array n n used byte front es refl w
 head_ends_lead s head.Set n h used byte front es is_byte c w = head_end_leads (at s (AtHeadLf head.Set n)) kind.Set n n used byte front es refl w

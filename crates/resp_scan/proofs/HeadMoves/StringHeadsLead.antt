@@ -52,7 +52,7 @@ first_digit_leads s h kind k used byte front es digit c w =
     })))
     (λ level bytes shown e t. k.row r (byte - 48) level bytes shown (omega arith) (k.length r (byte - 48) level bytes shown t))
 
--- what stands behind a type byte where no `?` may
+-- what stands after a type byte where no `?` may
 pub string_head_leads : (s : Place) (h : Head) (kind : StringKind) (k : IsStringHead h kind) (used byte : ℕ) (front : List ℕ) (es : List Event) →
     HasCountsOf s used front → IsInside (rules_of s) (TypeByte (rules_of s) kind) s.frames front es → ((IsDigit byte → ⊥) → IsNoLength kind byte) →
     Leads s front es byte (head_first s (used + 1) h byte)
@@ -66,7 +66,7 @@ string_head_leads s h kind k used byte front es c w none =
     (λ is_mark. subst (λ z. Leads s front es byte (streamed_move s (used + 1) z)) (sym k.not_streamed) (dead (λ d. omega (arith, d.1))))
     (λ no_mark. by_digit s front es byte _ _ (λ digit. first_digit_leads s h kind k used byte front es digit c w) dead)
 
--- every byte behind the type byte of a bulk error or a verbatim string, or behind `$`
+-- every byte after the type byte of a bulk error or a verbatim string, or after `$`
 pub string_heads_lead : (s : Place) (h : Head) → IsOfString h → ALead (at s (AtHead h))
 string_heads_lead s head.Bulk p used byte front es is_byte c w = absurd w.took
 string_heads_lead s head.BulkError p used byte front es is_byte c w =
@@ -115,7 +115,7 @@ string_length_leads s h kind k n used byte front es c w =
     (λ short. broken r (LengthBegun r kind n) s.frames front es (head_needed h n) byte w (λ level bytes shown e t. k.row r n level bytes shown (omega arith) t)
     (λ level bytes rest shown t d. k.short r n level bytes rest shown byte short other t d)))
 
--- every byte behind the digits of a string's length
+-- every byte after the digits of a string's length
 pub string_lengths_lead : (s : Place) (h : Head) (n : ℕ) → IsOfString h → ALead (at s (InHead h n))
 string_lengths_lead s head.Bulk n p used byte front es is_byte c w =
     string_length_leads (at s (InHead head.Bulk n)) head.Bulk t.Bulk bulk n used byte front es c w

@@ -14,7 +14,7 @@ use Rattle.resp_scan.proofs.Soundness.Sound.{is_move}
 use Rattle.resp_scan.proofs.Soundness.SoundMoves.{is_outside, IsPlain, IsNext, IsInside, IsMove}
 use Rattle.resp_scan.proofs.Soundness.SoundFrames.{sound_ended, sound_closed}
 
--- a digit stands behind no byte
+-- a digit stands after no byte
 abbrev pub IsGiven : ℕ → Happening → Type 0
 IsGiven n (Digit d) = (n ≡ 0) × (is_digit d ≡ true)
 IsGiven n _ = Unit {0}

@@ -37,7 +37,7 @@ within_open f fs (Left n) e h = ap token_in_shape e ∙ cond_if (λ t. t ≡ AtS
     (λ z. absurd (h (ap Left (let w : n ≡ 0 = grind (arith, nat_tests) in w)))) (λ z. refl)
 within_open f fs (Begun n) e h = ap token_in_shape e
 
--- behind a member that isn't the last of its aggregate the next may begin
+-- after a member that isn't the last of its aggregate the next may begin
 pub sound_member : (m : Machine) (f : Frame) (fs : List Frame) → IsSound (place_of m) → m.state ≡ state.Boundary → (place_of m).frames ≡ f ∷ fs →
     f.shape ≢ Left 0 → IsSound (at (place_of m) AtStart)
 sound_member m f fs h e q n = subst (λ t. IsSound (at (place_of m) t)) (ap token_at_boundary q ∙ within_open f fs f.shape refl n) (there m state.Boundary h e)
@@ -46,7 +46,7 @@ sound_member m f fs h e q n = subst (λ t. IsSound (at (place_of m) t)) (ap toke
 pub int_most : (m : Machine) → IsSound (place_of m) → m.state ≡ state.Int → m.magnitude ≤ greatest_magnitude m.negative
 int_most m h e = (there m state.Int h e).token
 
--- an integer behind its CR is no greater than it may be
+-- an integer after its CR is no greater than it may be
 pub int_lf_most : (m : Machine) → IsSound (place_of m) → m.state ≡ state.IntLf → m.magnitude ≤ greatest_magnitude m.negative
 int_lf_most m h e = (there m state.IntLf h e).token
 

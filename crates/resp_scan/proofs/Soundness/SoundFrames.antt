@@ -68,7 +68,7 @@ is_pushed s t f i n h l k e q =
           (omega (arith, l)) (k, h.counted) (omega (arith, o, e)) (omega (arith, w, q));
     }
 
--- a place whose aggregate of so many members has opened
+-- a place whose aggregate of this many members has opened
 pub is_opened : (s : Place) (t : Token) (k : OpenKind) (n i : ℕ) → IsSoundBy i (at s t) → length s.frames < s.bounds.depth →
     n * 3 + 1 ≤ token_needed t s.bounds.depth s.frames → IsNext (i + 1) s (after_open s k n)
 is_opened s t k n i h l q = is_pushed s t (record { kind = k; shape = Left n }) i (n * 3) h l (omega arith) refl q

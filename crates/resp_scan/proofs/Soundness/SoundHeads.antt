@@ -52,7 +52,7 @@ is_head_first s t i x b h l =
     cond_if (IsMove (i + 1) s) (eqb b 63) _ _ (λ e. is_open_streamed s t i (streamed_kind x) h) (λ e.
     cond_if (IsMove (i + 1) s) (is_digit b) _ _ (λ e. is_head_digit s t i x (b - 48) h l) (λ e. tt))
 
--- the byte behind `$` keeps the numbers of a place
+-- the byte after `$` keeps the numbers of a place
 pub is_bulk_head : (s : Place) (i b : ℕ) → IsSoundBy i (at s AtBulkHead) → IsMove (i + 1) s (bulk_head s (i + 1) b)
 is_bulk_head s i b h =
     cond_if (IsMove (i + 1) s) (eqb b 45) _ _ (λ e. less s AtBulkHead AtNullOne i h (omega arith) tt refl) (λ e.
@@ -62,14 +62,14 @@ is_bulk_head s i b h =
     within_total s AtBulkHead AtStreamCr i 6 h (total_room s (i + 1) 6 x.1 (omega arith)) (omega arith) tt refl)) (λ e.
     is_head_first s AtBulkHead i head.Bulk b h (λ o. absurd (false≢true o))))
 
--- the byte behind `*` keeps the numbers of a place
+-- the byte after `*` keeps the numbers of a place
 pub is_array_head : (s : Place) (i b : ℕ) → IsSoundBy i (at s AtArrayHead) → IsMove (i + 1) s (array_head s (i + 1) b)
 is_array_head s i b h =
     cond_if (IsMove (i + 1) s) (eqb b 45) _ _ (λ e. unless_is (i + 1) s (over_total s (i + 1) 3) _
     (λ c. within_total s AtArrayHead AtNullOne i 3 h (total_room s (i + 1) 3 c (omega arith)) (omega arith) tt refl)) (λ e.
     cond_if (IsMove (i + 1) s) (is_full s) _ _ (λ e. tt) (λ e. is_head_first s AtArrayHead i head.Array b h (λ o. not_full s e)))
 
--- a place with so many bytes of content to come keeps its numbers
+-- a place with this many bytes of content to come keeps its numbers
 pub is_content_at : (s : Place) (t : Token) (i n : ℕ) → IsSoundBy i (at s t) → n + 3 ≤ token_needed t s.bounds.depth s.frames →
     IsInside (i + 1) s (content_at n s)
 is_content_at s t i n h q =
@@ -77,7 +77,7 @@ is_content_at s t i n h q =
     (λ e. less s t AtContentCr i h (omega (arith, q)) tt refl)
     (λ e. less s t (InContent n) i h (omega (arith, q)) (let w : 0 < n = grind (arith, nat_tests) in w) refl)
 
--- a place with so many bytes of a chunk's content to come keeps its numbers
+-- a place with this many bytes of a chunk's content to come keeps its numbers
 pub is_chunk_at : (s : Place) (t : Token) (i room n : ℕ) → IsSoundBy i (at s t) → n + 7 ≤ token_needed t s.bounds.depth s.frames →
     IsInside (i + 1) s (chunk_at room n s)
 is_chunk_at s t i room n h q =

@@ -44,7 +44,7 @@ abbrev pub IsPlain : Happening → Type 0
 IsPlain (Digit d) = ⊥
 IsPlain _ = Unit {0}
 
--- a move from a place of so many bytes keeps its numbers
+-- a move from a place of this many bytes keeps its numbers
 abbrev pub IsMove : ℕ → Place → Move → Type 0
 IsMove i s (Go t) = IsInside i s t
 IsMove i s (Byte t) = IsInside i s t
@@ -53,7 +53,7 @@ IsMove i s (Refuse c) = Unit {0}
 
 -- Causes that refuse nothing.
 
--- a move behind a cause keeps them where the move by itself does
+-- a move after a cause keeps them where the move by itself does
 pub unless_is : (i : ℕ) (s : Place) (o : Option Cause) (v : Move) → (o ≡ None → IsMove i s v) → IsMove i s (move_unless o v)
 unless_is i s None v f = f refl
 unless_is i s (Some c) v f = tt
@@ -68,7 +68,7 @@ pub none_then : (b : Bool) (c : Cause) (o : Option Cause) → cond b o (Some c) 
 none_then true c o e = (refl, e)
 none_then false c o e = absurd (cc)
 
--- where a cause of version 3 is none, so is the cause behind it
+-- where a cause of version 3 is none, so is the cause after it
 pub none_version : (v : Version) (o : Option Cause) → cause_in_three v o ≡ None → o ≡ None
 none_version version.Two o e = absurd (cc)
 none_version version.Three o e = e

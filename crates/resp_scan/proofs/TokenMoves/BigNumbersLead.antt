@@ -1,4 +1,4 @@
--- Big numbers: leading zeros, the first digit that isn't zero, and digits behind it.
+-- Big numbers: leading zeros, the first digit that isn't zero, and digits after it.
 use Rattle.std.specs.Prelude.{Bool, true, false, cond, eqb}
 use Rattle.std.proofs.lemmas.Bool.Decides.{nat_tests}
 use Rattle.std.proofs.Common.{◌≡◌, ℕ, ◌+◌, ◌-◌, ◌<◌, ◌≤◌, List, [], ◌∷◌, ◌++◌, length, refl, sym, ap, subst, ◌∙◌, arith, append-nil, length-append}
@@ -33,7 +33,7 @@ use Rattle.resp_scan.proofs.TokenMoves.ByteTests.{by_digit, wants_leads}
 
 -- Digits without leading zeros.
 
--- one more, behind zeros
+-- one more, after zeros
 stripped-first : (digits : List ℕ) (digit : ℕ) → significant_digits digits ≡ [] →
     significant_digits (digits ++ digit ∷ []) ≡ cond (eqb digit 48) [] (digit ∷ [])
 stripped-first [] digit e = refl
@@ -45,7 +45,7 @@ stripped-first (c ∷ digits) digit e = case (eqb c 48) e (stripped-first digits
     case true e h = h e
     case false e h = absurd (omega (arith, ap length e))
 
--- and behind others
+-- and after others
 stripped-more : (digits : List ℕ) (digit x : ℕ) (xs : List ℕ) → significant_digits digits ≡ x ∷ xs → significant_digits (digits ++ digit ∷ []) ≡ x ∷
     (xs ++ digit ∷ [])
 stripped-more [] digit x xs e = absurd (omega (arith, ap length e))
@@ -92,7 +92,7 @@ digit_more r negative level byte bytes roomy d w =
       zero = λ n. kept_of-zero byte d (omega (arith, number-digit (w.first ∷ w.digits) byte, n));
     }
 
--- a first digit, behind the type byte or a sign
+-- a first digit, after the type byte or a sign
 digit_begins : (r : Rules) (negative : Bool) (byte level : ℕ) (bytes : List ℕ) (shown : List Event) → IsDigit byte →
     AnySign r Big negative byte level bytes shown → BigBegun r negative (kept_of byte) level (bytes ++ byte ∷ [])
 digit_begins r negative byte level bytes shown d w = record {
@@ -138,14 +138,14 @@ first_leads s T negative byte front es roomy w any = first_digit_leads s T Big n
     (λ d. big_digit_leads s T negative byte front es roomy w (λ level bytes shown t. (any level bytes shown t).told)
     (λ level bytes shown t. digit_begins (rules_of s) negative byte level bytes shown d (any level bytes shown t)))
 
--- every byte behind `(`
+-- every byte after `(`
 pub big_sign_leads : (s : Place) → ALead (at s AtBigSign)
 big_sign_leads s used byte front es is_byte c w =
     signs_lead (at s AtBigSign) Big AtBigFirst used byte _ front es c w (λ sign level bytes t. t.0) (λ negative x. x)
     (λ no_plus no_minus. first_leads (at s AtBigSign) (b.TokenHas (rules_of s) AtBigSign) false byte front es c.sound.bounds.length_in_range.0 w
     (λ level bytes shown t. unsigned_any (rules_of s) Big byte level bytes shown no_plus no_minus t))
 
--- every byte behind a big number's sign
+-- every byte after a big number's sign
 pub big_first_leads : (s : Place) (negative : Bool) → ALead (at s (AtBigFirst negative))
 big_first_leads s negative used byte front es is_byte c w =
     first_leads (at s (AtBigFirst negative)) (SignBegun (rules_of s) Big negative) negative byte front es c.sound.bounds.length_in_range.0 w
@@ -179,7 +179,7 @@ zeros_digit_leads s negative used byte front es d c w =
     (λ level bytes shown i t. row_of r negative (kept_of byte) level bytes t)
     (big_digit_leads q T negative byte front es roomy w (λ level bytes shown t. t.1) more)
 
--- every byte behind a big number's zeros
+-- every byte after a big number's zeros
 pub big_zeros_lead : (s : Place) (negative : Bool) → ALead (at s (InBigZeros negative))
 big_zeros_lead s negative used byte front es is_byte c w =
     let r = rules_of s in
@@ -211,7 +211,7 @@ zero_ends r level bytes shown w =
           ap (λ x. without_places (big_events false x last)) w.left ∙ ap (λ z. (z ++ e.Text (e.Big false) ∷ []) ++ e.TextEnd ∷ []) (sym w.told);
     }
 
--- every byte behind the CR of a big number of zeros alone
+-- every byte after the CR of a big number of zeros alone
 pub big_zero_end_leads : (s : Place) → ALead (at s AtBigZeroLf)
 big_zero_end_leads s used byte front es is_byte c w =
     let r = rules_of s in
@@ -338,7 +338,7 @@ big_byte_leads s room used byte front es d c w =
     fits_or_total (at s (InBig room)) (BigShown r (room - 1)) front es (es ++ e.Byte byte ∷ []) used byte 2 (Byte (at s (InBig (room - 1)))) c more
     (λ level bytes shown i t. shown_row r (room - 1) level bytes shown t) more)
 
--- every byte behind a big number's digits
+-- every byte after a big number's digits
 pub big_leads : (s : Place) (room : ℕ) → ALead (at s (InBig room))
 big_leads s room used byte front es is_byte c w =
     let r = rules_of s in

@@ -27,7 +27,7 @@ pub by_test : (s : Place) (front : List ℕ) (es : List Event) (byte : ℕ) (b :
 by_test s front es byte true v w holds fails = holds refl
 by_test s front es byte false v w holds fails = fails refl
 
--- a move behind a test that refuses leads on where the cause is the front's and where the move does
+-- a move after a test that refuses leads on where the cause is the front's and where the move does
 pub unless_test : (s : Place) (front : List ℕ) (es : List Event) (byte : ℕ) (b : Bool) (c : Cause) (other : Option Cause) (v : Move) →
     (b ≡ true → IsRefusedFor (rules_of s) (front ++ byte ∷ []) c) → (b ≡ false → Leads s front es byte (move_unless other v)) →
     Leads s front es byte (move_unless (cond b (Some c) other) v)
@@ -49,7 +49,7 @@ pub wanted : (s : Place) (front : List ℕ) (es : List Event) (x byte : ℕ) (v 
     ((byte ≡ x → ⊥) → IsRefusedFor (rules_of s) (front ++ byte ∷ []) cause.Syntax) → Leads s front es byte (only_byte x byte v)
 wanted s front es x byte v = by_byte s front es x byte v (Refuse cause.Syntax)
 
--- one byte alone goes on behind what a token has; any other is refused by the grammar
+-- one byte alone goes on after what a token has; any other is refused by the grammar
 pub wants_leads : (s : Place) (T : ℕ → List ℕ → List Event → Type 0) (front : List ℕ) (es : List Event) (n byte x : ℕ) (v : Move) →
     IsInside (rules_of s) T s.frames front es → ((level : ℕ) (bytes : List ℕ) (shown : List Event) → level ≡ length s.frames → T level bytes shown →
     IsBegunBy (rules_of s) level bytes n) → ((byte ≡ x → ⊥) → (level : ℕ) (bytes rest : List ℕ) (shown : List Event) → T level bytes shown →

@@ -73,7 +73,7 @@ chunk_content_leads s room n used byte front es is_byte c w =
     (tells r (λ level bytes shown. ChunkBegun r room n [] level bytes shown × (0 < n)) (ChunkBegun r room (n - 1) []) s.frames front (byte ∷ []) es
     (e.Byte byte ∷ []) w (λ level bytes shown i t. chunk_more r room n level byte bytes shown is_byte t.1 t.0))
 
--- the CR behind its content
+-- the CR after its content
 chunk_returns : (r : Rules) (room level : ℕ) (bytes : List ℕ) (shown : List Event) → ChunkBegun r room 0 [] level bytes shown →
     ChunkBegun r room 0 (13 ∷ []) level (bytes ++ 13 ∷ []) shown
 chunk_returns r room level bytes shown w =
@@ -104,7 +104,7 @@ content_row r room n level bytes shown w =
     (fits r room n [] level bytes shown w) in
     subst (λ z. IsBegunBy r level z (n + 6)) (ap (λ z. streamed_text w.chunks.chunks (chunk_text w.digits z)) (sym (append-nil w.part)) ∙ sym w.chunks.are) row
 
--- every byte behind a chunk's content
+-- every byte after a chunk's content
 pub chunk_returns_lead : (s : Place) (room : ℕ) → ALead (at s (AtChunkCr room))
 chunk_returns_lead s room used byte front es is_byte c w =
     let r = rules_of s in
@@ -137,7 +137,7 @@ chunk_ends r room level bytes shown w =
           ap (λ z. e.Text e.Bulk ∷ z) (sym (ap content_events all ∙ content_events-append (joined_content cs) w.part));
     }
 
--- behind the CR of its content
+-- after the CR of its content
 pub returned_row : (r : Rules) (room level : ℕ) (bytes : List ℕ) (shown : List Event) → ChunkBegun r room 0 (13 ∷ []) level bytes shown →
     IsBegunBy r level bytes 5
 returned_row r room level bytes shown w =
@@ -149,7 +149,7 @@ returned_row r room level bytes shown w =
     ap (λ z. streamed_text cs z) (text_grows w.digits w.part (13 ∷ [])) ∙ sym w.chunks.are in
     subst (λ z. IsBegunBy r level z 5) e row
 
--- every byte behind the CR of a chunk's content
+-- every byte after the CR of a chunk's content
 pub chunk_ends_lead : (s : Place) (room : ℕ) → ALead (at s (AtChunkLf room))
 chunk_ends_lead s room used byte front es is_byte c w =
     let r = rules_of s in

@@ -17,7 +17,7 @@ pub text_more : {r : Rules} {room : ℕ} {begun : List ℕ} {level : ℕ} {bytes
     (w : ChunksBegun r room begun level bytes shown) → bytes ++ more ≡ streamed_text w.chunks (begun ++ more)
 text_more {begun = begun} more w = ap (λ z. z ++ more) w.are ∙ ap (λ z. 36 ∷ 63 ∷ crlf z) (chunks_text-append w.chunks begun more)
 
--- more bytes are begun behind them
+-- more bytes are begun after them
 pub chunks_more : (r : Rules) (room : ℕ) (begun more : List ℕ) (level : ℕ) (bytes : List ℕ) (shown : List Event) → ChunksBegun r room begun level bytes shown →
     ChunksBegun r room (begun ++ more) level (bytes ++ more) shown
 chunks_more r room begun more level bytes shown w = record {

@@ -81,7 +81,7 @@ stop_follows L N f fs behind streamed m = case m.members m.whole
     case (t.more u us) e = absurd (not_close u ((texts us ++ close f.form) ++ m.rest) behind (sym (append_assoc (text u) (texts us ++ close f.form) m.rest) ∙
         ap (λ z. z ++ m.rest) (sym (append_assoc (text u) (texts us) (close f.form))) ∙ e))
 
--- what completes a front behind `.` completes its line
+-- what completes a front after `.` completes its line
 line_follows : (r : Rules) (k : OpenKind) (fs : List Frame) (last rest front behind : List ℕ) (es : List Event) →
     (w : IsClosing r k fs (46 ∷ last) rest front es) → w.frame.form ≡ Streamed → CompletesFront r Grammar front behind →
     (more : List ℕ) × (last ++ behind ≡ 13 ∷ 10 ∷ more)
@@ -118,7 +118,7 @@ no_newline r k fs front es byte other w rest c =
     let is : 13 ∷ byte ∷ rest ≡ 13 ∷ 10 ∷ x.0 = x.1 in
     other cc
 
--- every byte behind the `.` of a close
+-- every byte after the `.` of a close
 pub close_cr_leads : (s : Place) → ALead (at s AtCloseCr)
 close_cr_leads s used byte front es is_byte c w = case s.frames w
   where
@@ -131,7 +131,7 @@ close_cr_leads s used byte front es is_byte c w = case s.frames w
         (closes_more (rules_of s) f.kind fs (46 ∷ []) (10 ∷ []) front es 13 w))
         (λ other. syntax (rules_of s) (front ++ byte ∷ []) (no_return (rules_of s) f.kind fs front es byte other w))
 
--- every byte behind a close's CR
+-- every byte after a close's CR
 pub close_end_leads : (s : Place) → ALead (at s AtCloseLf)
 close_end_leads s used byte front es is_byte c w = case s.frames w
   where

@@ -48,7 +48,7 @@ content_leads s n used byte front es is_byte c w =
     (tells (rules_of s) (λ level bytes shown. ContentBegun (rules_of s) n level bytes shown × (0 < n)) (ContentBegun (rules_of s) (n - 1)) s.frames front
     (byte ∷ []) es (e.Byte byte ∷ []) w (λ level bytes shown i t. content_more (rules_of s) n level byte bytes shown is_byte t.1 t.0))
 
--- every byte behind a string's content
+-- every byte after a string's content
 pub content_returns_lead : (s : Place) → ALead (at s AtContentCr)
 content_returns_lead s used byte front es is_byte c w = wanted (at s AtContentCr) front es 13 byte (Go (at s AtContentLf))
     (λ is_return. subst (λ z. StandsAfter (at s AtContentLf) (front ++ z ∷ []) es) (sym is_return)
@@ -72,7 +72,7 @@ content_ends_value r level bytes shown w =
           ap (λ z. z ++ e.TextEnd ∷ []) (sym t.told));
     }
 
--- every byte behind the CR of a string's content
+-- every byte after the CR of a string's content
 pub content_ends_lead : (s : Place) → ALead (at s AtContentLf)
 content_ends_lead s used byte front es is_byte c w = wanted (at s AtContentLf) front es 10 byte (Give TextEnd (at_boundary s))
     (λ is_newline. subst (λ z. StandsAfter (at_boundary s) (front ++ z ∷ []) (es ++ e.TextEnd ∷ [])) (sym is_newline)

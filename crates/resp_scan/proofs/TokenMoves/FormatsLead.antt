@@ -1,4 +1,4 @@
--- Formats of verbatim strings, and the colon behind them.
+-- Formats of verbatim strings, and the colon after them.
 use Rattle.std.proofs.Common.{◌≡◌, ℕ, suc, ◌+◌, ◌-◌, ◌<◌, List, [], ◌∷◌, ◌++◌, refl, sym, ap, subst, arith}
 use Rattle.resp_value.specs.Trees as t
 use Rattle.resp_value.specs.Rules.{Rules}
@@ -18,7 +18,7 @@ use Rattle.resp_scan.proofs.TokenMoves.ContentLead.{content_lies}
 use Rattle.resp_scan.proofs.TokenMoves.Moves.{goes, tells, ALead}
 use Rattle.resp_scan.proofs.TokenMoves.RefusedMoves.{broken}
 
--- the next byte of a format, of which so many are to come behind it; any byte is one
+-- the next byte of a format, of which this many are to come after it; any byte is one
 format_byte_goes : (s : Place) (before : List ℕ) (behind left next byte : ℕ) (front : List ℕ) (es : List Event) → byte < 256 → left - 1 ≡ next →
     IsInside (rules_of s) (FormatBegun (rules_of s) (before ++ zeros (suc behind)) before left) s.frames front es →
     IsInside (rules_of s) (FormatBegun (rules_of s) (before ++ byte ∷ zeros behind) (before ++ byte ∷ []) next) s.frames (front ++ byte ∷ []) es
@@ -38,11 +38,11 @@ format_byte_goes s before behind left next byte front es is_byte fewer w =
 pub formats_lead : (s : Place) (n : ℕ) → ALead (at s (AtFormat n))
 formats_lead s n used byte front es is_byte c w = format_byte_goes s [] 2 n (n - 1) byte front es is_byte refl w
 
--- every byte behind the first byte of a format
+-- every byte after the first byte of a format
 pub second_format_bytes_lead : (s : Place) (x n : ℕ) → ALead (at s (AtFormatSecond x n))
 second_format_bytes_lead s x n used byte front es is_byte c w = format_byte_goes s (x ∷ []) 1 (n - 1) (n - 2) byte front es is_byte (omega arith) w
 
--- every byte behind the second byte of a format
+-- every byte after the second byte of a format
 pub third_format_bytes_lead : (s : Place) (x y n : ℕ) → ALead (at s (AtFormatThird x y n))
 third_format_bytes_lead s x y n used byte front es is_byte c w = format_byte_goes s (x ∷ y ∷ []) 0 (n - 2) (n - 3) byte front es is_byte (omega arith) w
 
@@ -58,7 +58,7 @@ colon_begins r format n level bytes shown f = record {
   told = ap (λ z. z ++ e.Text (e.Verbatim format) ∷ []) f.told;
 }
 
--- every byte behind a format
+-- every byte after a format
 pub colons_lead : (s : Place) (format : List ℕ) (n : ℕ) → ALead (at s (AtFormatColon format n))
 colons_lead s format n used byte front es is_byte c w =
     let r = rules_of s in

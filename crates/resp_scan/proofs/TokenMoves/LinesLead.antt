@@ -95,7 +95,7 @@ lines_lead s room used byte front es is_byte c w =
           ] refl
     ] refl
 
--- the LF behind the CR of a leaf's line ends its text
+-- the LF after the CR of a leaf's line ends its text
 returned_text_ends : (r : Rules) (level : ℕ) (bytes : List ℕ) (shown : List Event) → TextReturned r level bytes shown →
     Ends r level (bytes ++ 10 ∷ []) (shown ++ e.TextEnd ∷ [])
 returned_text_ends r level bytes shown w =
@@ -107,7 +107,7 @@ returned_text_ends r level bytes shown w =
       told = leaf_told w.leaf (shown ++ e.TextEnd ∷ []) w.told;
     }
 
--- every byte behind a line's CR
+-- every byte after a line's CR
 pub line_ends_lead : (s : Place) → ALead (at s AtLineLf)
 line_ends_lead s used byte front es is_byte c w =
     let r = rules_of s in

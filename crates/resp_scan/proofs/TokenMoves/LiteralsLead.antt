@@ -60,7 +60,7 @@ null_whole r level bytes shown none (inr is) = record {
   told = none;
 }
 
--- every byte behind `$-` or `*-`
+-- every byte after `$-` or `*-`
 pub null_one_leads : (s : Place) → ALead (at s AtNullOne)
 null_one_leads s used byte front es is_byte c w =
     let r = rules_of s in
@@ -73,7 +73,7 @@ null_one_leads s used byte front es is_byte c w =
 null_returns : (r : Rules) (level : ℕ) (bytes : List ℕ) (shown : List Event) → NullLine r level bytes shown → NullReturned r level (bytes ++ 13 ∷ []) shown
 null_returns r level bytes shown w = record { form = w.form; returned = record { begun = bytes; line_of = w.token; returned = refl }; told = w.told }
 
--- every byte behind the line of a null
+-- every byte after the line of a null
 pub null_cr_leads : (s : Place) → ALead (at s AtNullCr)
 null_cr_leads s used byte front es is_byte c w =
     let r = rules_of s in
@@ -94,7 +94,7 @@ null_ends r level bytes shown w = record {
   told = λ from. ap (λ z. z ++ e.Null ∷ []) (sym w.told);
 }
 
--- every byte behind a null's CR
+-- every byte after a null's CR
 pub null_end_leads : (s : Place) → ALead (at s AtNullLf)
 null_end_leads s used byte front es is_byte c w =
     let r = rules_of s in
@@ -121,7 +121,7 @@ goes_true : (s : Place) (x : Bool) (byte : ℕ) (front : List ℕ) (es : List Ev
 goes_true s x byte front es is w = goes (rules_of s) (b.TokenHas (rules_of s) AtBool) (b.TokenHas (rules_of s) (AtBoolCr x)) s.frames front (byte ∷ []) es w
     (λ level bytes shown i t. (truth_is (rules_of s) x level byte bytes t.0 is t.1, t.2))
 
--- every byte behind `#`
+-- every byte after `#`
 pub bool_leads : (s : Place) → ALead (at s AtBool)
 bool_leads s used byte front es is_byte c w =
     let r = rules_of s in
@@ -132,7 +132,7 @@ bool_leads s used byte front es is_byte c w =
     (λ no_f level bytes rest shown t dead. hash_dead r level byte bytes rest no_t no_f t.1 dead)
     (λ is. goes_true s false byte front es (ap (λ z. 35 ∷ z ∷ []) (sym is)) w))
 
--- every byte behind the letter of a boolean
+-- every byte after the letter of a boolean
 pub bool_cr_leads : (s : Place) (truth : Bool) → ALead (at s (AtBoolCr truth))
 bool_cr_leads s x used byte front es is_byte c w =
     let r = rules_of s in
@@ -154,7 +154,7 @@ truth_ends r x level bytes shown w none = record {
   told = λ from. ap (λ z. z ++ e.Bool x ∷ []) (sym none);
 }
 
--- every byte behind a boolean's CR
+-- every byte after a boolean's CR
 pub bool_end_leads : (s : Place) (truth : Bool) → ALead (at s (AtBoolLf truth))
 bool_end_leads s x used byte front es is_byte c w =
     let r = rules_of s in

@@ -38,14 +38,14 @@ begun_line Int Unsigned = ((λ z. omega arith, λ z. omega arith), tt)
 begun_line Big Unsigned = ((λ z. omega arith, λ z. omega arith), tt)
 begun_line _ _ = ((λ z. omega arith, λ z. omega arith), ((λ z. omega arith, λ z. omega arith), tt))
 
--- no byte but a sign or a digit goes on behind a number's type byte, and none but a digit behind its sign
+-- no byte but a sign or a digit goes on after a number's type byte, and none but a digit after its sign
 pub begun_dead : (r : Rules) (k : NumberKind) (sign : Sign) (level byte : ℕ) (bytes rest : List ℕ) → (sign ≡ Unsigned → (byte ≡ 43 → ⊥) × (byte ≡ 45 → ⊥)) →
     (IsDigit byte → ⊥) → IsNumberBegun r k sign level bytes → CompletesUnder r Grammar level bytes (byte ∷ rest) → ⊥
 begun_dead r k sign level byte bytes rest no_sign no_digit w c =
     line_broken (LeafKeeps r Grammar) (NodeKeeps r Grammar) level (number_byte k ∷ (sign_text sign ++ [])) rest byte (begun_line k sign) (number_short k sign)
     (number_begun_broken k sign byte no_sign no_digit) (subst (λ z. CompletesUnder r Grammar level z (byte ∷ rest)) w.1 c)
 
--- no byte but a digit or CR goes on behind a number's digits
+-- no byte but a digit or CR goes on after a number's digits
 pub digits_dead : (r : Rules) (k : NumberKind) (sign : Sign) (first level byte : ℕ) (digits bytes rest : List ℕ) → (byte ≡ 13 → ⊥) → (IsDigit byte → ⊥) →
     IsNumberToken r k sign (first ∷ digits) level bytes → CompletesUnder r Grammar level bytes (byte ∷ rest) → ⊥
 digits_dead r k sign first level byte digits bytes rest no_return no_digit w =
@@ -57,7 +57,7 @@ pub begun_row : (r : Rules) (k : NumberKind) (negative : Bool) (level : ℕ) (by
     IsBegunBy r level bytes 3
 begun_row r k negative level bytes shown w = number_begun r k w.sign level bytes w.token
 
--- behind a digit it needs the end alone
+-- after a digit it needs the end alone
 pub digits_row : (r : Rules) (k : NumberKind) (sign : Sign) (digits : List ℕ) (level : ℕ) (bytes : List ℕ) → IsNumberToken r k sign digits level bytes →
     IsBegunBy r level bytes 2
 digits_row r k sign digits level bytes w = line_begun r (numeral k sign digits) level bytes (number_token_line r k sign digits level bytes w)
@@ -133,7 +133,7 @@ int_begins r negative byte level bytes shown d w = record {
   told = w.told;
 }
 
--- a first digit, behind the type byte or a sign: any other byte is refused
+-- a first digit, after the type byte or a sign: any other byte is refused
 pub first_digit_leads : (s : Place) (T : ℕ → List ℕ → List Event → Type 0) (k : NumberKind) (negative : Bool) (byte : ℕ) (v : Move) (front : List ℕ)
     (es : List Event) → IsInside (rules_of s) T s.frames front es → ((level : ℕ) (bytes : List ℕ) (shown : List Event) → T level bytes shown →
     AnySign (rules_of s) k negative byte level bytes shown) → (IsDigit byte → Leads s front es byte v) →
@@ -151,7 +151,7 @@ first_leads s T negative byte front es w any = first_digit_leads s T Int negativ
     (λ d. goes (rules_of s) T (IntBegun (rules_of s) negative (byte - 48)) s.frames front (byte ∷ []) es w
     (λ level bytes shown i t. int_begins (rules_of s) negative byte level bytes shown d (any level bytes shown t)))
 
--- behind the type byte a sign that total lets stand, or what stands there without one
+-- after the type byte a sign that total lets stand, or what stands there without one
 pub signs_lead : (s : Place) (k : NumberKind) (first : Bool → Token) (used byte : ℕ) (unsigned : Move) (front : List ℕ) (es : List Event) →
     HasCountsOf s used front → IsInside (rules_of s) (λ level bytes shown. IsNumberBegun (rules_of s) k Unsigned level bytes × (shown ≡ [])) s.frames front es →
     ((sign : Sign) (level : ℕ) (bytes : List ℕ) → IsNumberBegun (rules_of s) k Unsigned level bytes → MayBe (rules_of s) k sign (48 ∷ [])) →
@@ -178,14 +178,14 @@ signs_lead s k first used byte unsigned front es c w may_be lies leads =
         (fits_or_total s (SignBegun r k negative) front es es used byte 3 (Go (at s (first negative))) c more
         (λ level bytes shown i t. begun_row r k negative level bytes shown t) (lies negative more))
 
--- every byte behind `:`
+-- every byte after `:`
 pub int_sign_leads : (s : Place) → ALead (at s AtIntSign)
 int_sign_leads s used byte front es is_byte c w =
     signs_lead (at s AtIntSign) Int AtIntFirst used byte _ front es c w (λ sign level bytes t. one_digit sign 48 (omega arith, omega arith)) (λ negative x. x)
     (λ no_plus no_minus. first_leads (at s AtIntSign) (b.TokenHas (rules_of s) AtIntSign) false byte front es w
     (λ level bytes shown t. unsigned_any (rules_of s) Int byte level bytes shown no_plus no_minus t))
 
--- every byte behind an integer's sign
+-- every byte after an integer's sign
 pub int_first_leads : (s : Place) (negative : Bool) → ALead (at s (AtIntFirst negative))
 int_first_leads s negative used byte front es is_byte c w =
     first_leads (at s (AtIntFirst negative)) (SignBegun (rules_of s) Int negative) negative byte front es w
@@ -240,7 +240,7 @@ pub int_row : (r : Rules) (negative : Bool) (n level : ℕ) (bytes : List ℕ) (
     IsBegunBy r level bytes 2
 int_row r negative n level bytes shown w = digits_row r Int w.sign (w.first ∷ w.digits) level bytes w.token
 
--- every byte behind an integer's digits
+-- every byte after an integer's digits
 pub int_leads : (s : Place) (negative : Bool) (n : ℕ) → ALead (at s (InInt negative n))
 int_leads s negative n used byte front es is_byte c w =
     let r = rules_of s in
@@ -272,7 +272,7 @@ int_ends r negative n level bytes shown w = record {
   told = λ from. ap (λ z. e.Int z ∷ []) w.valued ∙ ap (λ z. z ++ e.Int (machine.with_sign negative n) ∷ []) (sym w.told);
 }
 
--- every byte behind an integer's CR
+-- every byte after an integer's CR
 pub int_end_leads : (s : Place) (negative : Bool) (n : ℕ) → ALead (at s (AtIntLf negative n))
 int_end_leads s negative n used byte front es is_byte c w =
     let r = rules_of s in

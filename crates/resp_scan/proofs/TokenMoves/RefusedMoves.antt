@@ -109,7 +109,7 @@ broken r T fs front es n byte w row dead = record {
       (λ level bytes e t. row level bytes t.0 (level_is fs level e) t.1) (λ level bytes rest e t. dead level bytes rest t.0 t.1);
 }
 
--- by total: where it leaves no room for the byte and what is needed behind it
+-- by total: where it leaves no room for the byte and what is needed after it
 pub fits_or_past : (s : Place) (T : ℕ → List ℕ → List Event → Type 0) (front : List ℕ) (es told : List Event) (used byte n : ℕ) (v : Move) →
     s.frames_need ≡ need_of_frames s.frames → length front ≡ s.taken + used → IsInside (rules_of s) T s.frames (front ++ byte ∷ []) told →
     ((level : ℕ) (bytes : List ℕ) (shown : List Event) → level ≡ length s.frames → T level bytes shown → IsBegunBy (rules_of s) level bytes n) →

@@ -239,7 +239,7 @@ close_leads s front es w = case s.frames w
 
 -- The bytes, one by one.
 
--- `*`, behind which only a null may come where no further aggregate may open
+-- `*`, after which only a null may come where no further aggregate may open
 pub star_row : (s : Place) (level : ℕ) → level ≡ length s.frames → (bytes : List ℕ) → bytes ≡ 42 ∷ [] →
     IsBegunBy (rules_of s) level bytes (cond (is_full s) 4 3)
 star_row s level i bytes are =

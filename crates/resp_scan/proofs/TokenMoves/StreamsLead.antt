@@ -24,7 +24,7 @@ use Rattle.resp_scan.proofs.TokenMoves.RefusedMoves.{broken}
 abbrev IsStream : Rules → List ℕ → ℕ → List ℕ → List Event → Type 0
 IsStream r line level bytes shown = HasStreamed r × (bytes ≡ line) × (shown ≡ [])
 
--- every byte behind `$?`
+-- every byte after `$?`
 pub streams_lead : (s : Place) → ALead (at s AtStreamCr)
 streams_lead s used byte front es is_byte c w =
     let r = rules_of s in
@@ -49,7 +49,7 @@ chunks_begin r level bytes shown t = record {
       ap (λ z. z ++ e.Text e.Bulk ∷ []) t.2;
 }
 
--- every byte behind the CR of `$?`
+-- every byte after the CR of `$?`
 pub stream_ends_lead : (s : Place) → ALead (at s AtStreamLf)
 stream_ends_lead s used byte front es is_byte c w =
     let r = rules_of s in

@@ -1,4 +1,4 @@
--- The LF behind a string's length, where its content or its format begins.
+-- The LF after a string's length, where its content or its format begins.
 use Rattle.std.proofs.Common.{◌≡◌, ℕ, ◌+◌, List, [], ◌∷◌, ◌++◌, refl, sym, ap, subst, ◌∙◌, append_assoc}
 use Rattle.resp_value.specs.Bytes.{crlf}
 use Rattle.resp_value.specs.Trees as t
@@ -28,7 +28,7 @@ use Rattle.resp_scan.proofs.HeadMoves.StringHeads.{IsStringHead, bulk, bulk_erro
 abbrev Returned : Rules → StringKind → ℕ → ℕ → List ℕ → List Event → Type 0
 Returned r kind n level bytes shown = HasRoom kind n × LengthReturned r kind n level bytes shown
 
--- behind its LF the payload begins
+-- after its LF the payload begins
 payload_token : (r : Rules) (kind : StringKind) (n level : ℕ) (bytes : List ℕ) (shown : List Event) → HasFormat kind →
     (w : Returned r kind n level bytes shown) → IsContentToken r kind w.1.length.first w.1.length.digits [] n level (bytes ++ 10 ∷ [])
 payload_token r kind n level bytes shown f w =
@@ -38,7 +38,7 @@ payload_token r kind n level bytes shown f w =
     subst (IsContentToken r kind t.first t.digits [] n level) (sym (append_assoc w.1.before (13 ∷ []) (10 ∷ [])) ∙ ap (λ z. z ++ 10 ∷ []) (sym w.1.returned))
     said
 
--- behind a length's CR its LF, the content and the line's end
+-- after a length's CR its LF, the content and the line's end
 pub returned_row : (r : Rules) (h : Head) (kind : StringKind) (k : IsStringHead h kind) (n level : ℕ) (bytes : List ℕ) (shown : List Event) →
     HeadReturned r h n level bytes shown → IsBegunBy r level bytes (n + 3)
 returned_row r h kind k n level bytes shown u =
@@ -80,7 +80,7 @@ content_begins_at s kind n front es f plain w =
       told = ap (λ z. z ++ e.Text (string_text_kind kind) ∷ []) u.1.length.told;
     }))
 
--- every byte behind the CR of a string's length
+-- every byte after the CR of a string's length
 pub string_length_ends_lead : (s : Place) (h : Head) (n : ℕ) → IsOfString h → ALead (at s (AtHeadLf h n))
 string_length_ends_lead s head.Bulk n p used byte front es is_byte c w =
     length_end_leads (at s (AtHeadLf head.Bulk n)) head.Bulk t.Bulk bulk n byte front es _ w

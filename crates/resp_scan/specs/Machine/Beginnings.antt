@@ -29,7 +29,7 @@ line_text_kind t.Simple = e.Simple
 line_text_kind t.Error = e.Error
 line_text_kind t.Double = e.Error
 
--- a line's text so far, of which length leaves so many bytes
+-- a line's text so far, of which length leaves this many bytes
 pub record LineBegun (r : Rules) (room : ℕ) (level : ℕ) (bytes : List ℕ) (shown : List Event) : Type 0 where
   pub kind : LineKind
   pub size : ℕ
@@ -96,7 +96,7 @@ pub record BigDigitOwed (r : Rules) (digit room : ℕ) (level : ℕ) (bytes : Li
   pub leaves : room + 1 ≡ r.limits.length
   pub told : shown ≡ e.Text (e.Big negative) ∷ []
 
--- its digits from that one on, of which length leaves so many
+-- its digits from that one on, of which length leaves this many
 pub record BigShown (r : Rules) (room : ℕ) (level : ℕ) (bytes : List ℕ) (shown : List Event) : Type 0 where
   pub negative : Bool
   pub digit : ℕ
@@ -161,7 +161,7 @@ pub record LengthReturned (r : Rules) (k : StringKind) (n : ℕ) (level : ℕ) (
   pub length : LengthBegun r k n level before shown
   pub returned : bytes ≡ before ++ codes "\r"
 
--- of a verbatim string's payload these bytes have come, and so many are left
+-- of a verbatim string's payload these bytes have come, and this many are left
 pub record FormatBegun (r : Rules) (format begun : List ℕ) (n : ℕ) (level : ℕ) (bytes : List ℕ)
     (shown : List Event) : Type 0 where
   pub first : ℕ
@@ -169,7 +169,7 @@ pub record FormatBegun (r : Rules) (format begun : List ℕ) (n : ℕ) (level : 
   pub token : IsContentToken r (t.Verbatim format) first digits begun n level bytes
   pub told : shown ≡ []
 
--- content so far, and so many bytes left
+-- content so far, and this many bytes left
 pub record ContentBegun (r : Rules) (n : ℕ) (level : ℕ) (bytes : List ℕ) (shown : List Event) : Type 0 where
   pub kind : StringKind
   pub first : ℕ
@@ -186,7 +186,7 @@ pub record ContentReturned (r : Rules) (level : ℕ) (bytes : List ℕ) (shown :
 
 -- Streamed strings.
 
--- whole chunks, of whose string length leaves so many bytes, and then these bytes
+-- whole chunks, of whose string length leaves this many bytes, and then these bytes
 pub record ChunksBegun (r : Rules) (room : ℕ) (begun : List ℕ) (level : ℕ) (bytes : List ℕ) (shown : List Event) : Type
     0 where
   pub chunks : List Chunk
@@ -196,7 +196,7 @@ pub record ChunksBegun (r : Rules) (room : ℕ) (begun : List ℕ) (level : ℕ)
   pub are : bytes ≡ byte "$" ∷ byte "?" ∷ crlf (chunks_text chunks begun)
   pub told : shown ≡ e.Text e.Bulk ∷ content_events (joined_content chunks)
 
--- whole chunks and the digits of one, and bytes behind them
+-- whole chunks and the digits of one, and bytes after them
 pub record ChunkLength (r : Rules) (room n : ℕ) (behind : List ℕ) (level : ℕ) (bytes : List ℕ)
     (shown : List Event) : Type 0 where
   pub digits : List ℕ
@@ -205,7 +205,7 @@ pub record ChunkLength (r : Rules) (room n : ℕ) (behind : List ℕ) (level : �
   pub fits : n ≤ room
   pub chunks : ChunksBegun r room ((byte ";" ∷ digits) ++ behind) level bytes shown
 
--- whole chunks, and one that is begun, of which so many bytes are left; length leaves so many behind it
+-- whole chunks, and one that is begun, of which this many bytes are left; length leaves this many after it
 pub record ChunkBegun (r : Rules) (room n : ℕ) (behind : List ℕ) (level : ℕ) (bytes : List ℕ)
     (shown : List Event) : Type 0 where
   pub digits : List ℕ
@@ -292,7 +292,7 @@ HeadReturned r head.Map n level bytes shown = CountReturned r d.Map n level byte
 HeadReturned r head.Attr n level bytes shown = CountReturned r d.Attr n level bytes shown
 HeadReturned r head.Push n level bytes shown = CountReturned r d.Push n level bytes shown
 
--- what a token inside a value has of it, on a level; between values and behind a close there is none
+-- what a token inside a value has of it, on a level; between values and after a close there is none
 abbrev pub TokenHas : Rules → Token → ℕ → List ℕ → List Event → Type 0
 TokenHas r AtStart level bytes shown = ⊥
 TokenHas r AtEnd level bytes shown = ⊥

@@ -69,7 +69,7 @@ place_of m = record {
   frames_need = m.frames_need;
 }
 
--- what an answer of this tag says, with so many bytes used
+-- what an answer of this tag says, with this many bytes used
 abbrev pub out_by : EventTag → ℕ → Machine → Out
 out_by tag.More n m = More n (place_of m)
 out_by tag.Failed n m = Bad n m.cause (place_of m)

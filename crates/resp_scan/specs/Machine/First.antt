@@ -8,7 +8,7 @@ use Rattle.resp_scan.specs.Machine.Tokens.{Place, Move, Refuse, AtNullCr, AtBool
 use Rattle.resp_scan.specs.Machine.Moves.{begin_move, aggregate_move, push_move, move_in_three}
 use Rattle.resp_scan.specs.Machine.Scan.{Out, answer, scan, content}
 
--- what comes of a first byte's move, and the bytes behind it
+-- what comes of a first byte's move, and the bytes after it
 abbrev pub after_first : Move → Place → List ℕ → Out
 after_first v s p = answer v 0 s (λ t. scan 1 t p) (λ t. content 1 t p)
 

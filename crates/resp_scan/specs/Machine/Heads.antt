@@ -37,7 +37,7 @@ verbatim_needed n = cond (eqb n 0) 9 (cond (nat_lt n 4) (n * 10 + 5) (n + 4))
 abbrev pub chunk_needed : ℕ → ℕ
 chunk_needed n = cond (eqb n 0) 2 (n + 8)
 
--- the fewest bytes that complete a value, or a streamed string, behind a head's digits
+-- the fewest bytes that complete a value, or a streamed string, after a head's digits
 abbrev pub head_needed : Head → ℕ → ℕ
 head_needed Bulk n = n + 4
 head_needed BulkError n = n + 4
@@ -85,7 +85,7 @@ abbrev pub aggregate_cause : Place → ℕ → Option Cause
 aggregate_cause s used = cause_in_three s.version
     (cond s.bounds.streamed (cond (is_full s) (Some cause.Depth) (over_total s used 5)) (Some cause.Streamed))
 
--- an aggregate opens with so many members
+-- an aggregate opens with this many members
 abbrev pub after_open : Place → OpenKind → ℕ → Place
 after_open s k n = at_boundary (record s {
   frames = record { kind = k; shape = Left n } ∷ s.frames;
@@ -105,7 +105,7 @@ after_streamed_open s k = at_boundary (record s {
 abbrev pub content_at : ℕ → Place → Place
 content_at n s = at s (cond (eqb n 0) AtContentCr (InContent n))
 
--- a chunk's content begins, or its end where it has none, of a string of which length leaves so many bytes
+-- a chunk's content begins, or its end where it has none, of a string of which length leaves this many bytes
 abbrev pub chunk_at : ℕ → ℕ → Place → Place
 chunk_at room n s = at s (cond (eqb n 0) (AtChunkCr room) (InChunk room n))
 
@@ -121,7 +121,7 @@ is_aggregate _ = true
 abbrev pub HasFrame : Place → Head → Type 0
 HasFrame s h = is_aggregate h ≡ true → length s.frames < 128
 
--- what stands behind a head
+-- what stands after a head
 abbrev pub head_move : Place → Head → ℕ → Move
 head_move s Bulk n = Give (Text text.Bulk) (content_at n s)
 head_move s BulkError n = Give (Text text.BulkError) (content_at n s)

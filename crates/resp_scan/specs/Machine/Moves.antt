@@ -57,7 +57,7 @@ big_digit s negative b = cond (eqb b (byte "0")) (Go (at s (InBigZeros negative)
 abbrev pub big_first : Place → Bool → ℕ → Move
 big_first s negative b = cond (is_digit b) (big_digit s negative b) (Refuse cause.Syntax)
 
--- a byte of content of which length leaves so many, unless length or total refuses it
+-- a byte of content of which length leaves this many, unless length or total refuses it
 abbrev pub content_byte : Place → ℕ → ℕ → (ℕ → Token) → Move
 content_byte s used room token = cond (eqb room 0) (Refuse cause.Length)
     (cond (has_total_room s used 2) (Byte (at s (token (room - 1)))) (Refuse cause.Total))
@@ -73,13 +73,13 @@ streamed_move s used (Some k) = move_unless (aggregate_cause s used) (Go (at s (
 abbrev pub head_digit : Place → ℕ → Head → ℕ → Move
 head_digit s used h n = move_unless (over s used h n) (Go (at s (InHead h n)))
 
--- a head's first byte behind its type byte
+-- a head's first byte after its type byte
 abbrev pub head_first : Place → ℕ → Head → ℕ → Move
 head_first s used h b =
     cond (eqb b (byte "?")) (streamed_move s used (streamed_kind h))
     (cond (is_digit b) (head_digit s used h (b - byte "0")) (Refuse cause.Syntax))
 
--- the byte behind `$`
+-- the byte after `$`
 abbrev pub bulk_head : Place → ℕ → ℕ → Move
 bulk_head s used b =
     cond (eqb b (byte "-")) (Go (at s AtNullOne))
@@ -90,12 +90,12 @@ abbrev pub full_streamed : Version → Bool → Cause
 full_streamed version.Two streamed = cause.Version
 full_streamed version.Three streamed = cond streamed cause.Depth cause.Streamed
 
--- what refuses a byte, other than `-`, behind the `*` of an array that would be a level too deep
+-- what refuses a byte, other than `-`, after the `*` of an array that would be a level too deep
 abbrev pub full_cause : Place → ℕ → Cause
 full_cause s b = cond (eqb b (byte "?")) (full_streamed s.version s.bounds.streamed)
     (cond (is_digit b) cause.Depth cause.Syntax)
 
--- the byte behind `*`
+-- the byte after `*`
 abbrev pub array_head : Place → ℕ → ℕ → Move
 array_head s used b =
     cond (eqb b (byte "-")) (move_unless (over_total s used 3) (Go (at s AtNullOne)))
@@ -103,7 +103,7 @@ array_head s used b =
 
 -- A value's first byte.
 
--- a member begins that needs so many bytes behind this one
+-- a member begins that needs this many bytes after this one
 abbrev pub begin_move : Place → ℕ → Token → Move
 begin_move s needed t = move_unless (begin_cause s needed) (Go (at (after_begin s) t))
 
@@ -239,6 +239,6 @@ next_in AtCloseLf s used b = only_byte (byte "\n") b
     (Give Close (at_boundary (record s { frames = without_first s.frames })))
 next_in (Dead c) s used b = Refuse c
 
--- what one byte more does, the last of so many of the piece
+-- what one byte more does, the last of this many of the piece
 abbrev pub next : Place → ℕ → ℕ → Move
 next s used b = next_in s.token s used b

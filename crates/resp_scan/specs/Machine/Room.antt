@@ -13,11 +13,11 @@ use Rattle.resp_scan.specs.Machine.Tokens.{Place}
 abbrev pub total_room : Place → ℕ
 total_room s = (s.bounds.total - s.taken) - s.frames_need
 
--- whether total leaves room for so many bytes of the piece, and so many behind them
+-- whether total leaves room for this many bytes of the piece, and this many after them
 abbrev pub has_total_room : Place → ℕ → ℕ → Bool
 has_total_room s used needed = nat_le (used + needed) (total_room s)
 
--- total, unless it leaves so much room
+-- total, unless it leaves this much room
 abbrev pub over_total : Place → ℕ → ℕ → Option Cause
 over_total s used needed = cond (has_total_room s used needed) None (Some cause.Total)
 
@@ -70,7 +70,7 @@ abbrev pub items_cause : List Frame → ℕ → Option Cause → Option Cause
 items_cause [] items other = other
 items_cause (f ∷ fs) items other = cond (has_all f.kind f.shape items) (Some cause.Items) other
 
--- what refuses the first byte of a member that needs so many bytes behind it: items, and then total
+-- what refuses the first byte of a member that needs this many bytes after it: items, and then total
 abbrev pub begin_cause : Place → ℕ → Option Cause
 begin_cause s needed = items_cause s.frames s.bounds.items (over_total (after_begin s) 1 needed)
 

@@ -5,7 +5,7 @@ use Rattle.resp_scan.specs.declared.frame.Frame.{Frame}
 use Rattle.resp_scan.specs.Machine.Tokens.{Token, Place, Happening, Move, Go, Byte, Give, Refuse, at, at_boundary, TextEnd, Close, Digit, AtStart, AtEnd, AtBigDigit, InBig, AtTextEnd, Dead}
 use Rattle.resp_scan.specs.Machine.Moves.{next}
 
--- the bytes of the piece that are used, and what stands behind them
+-- the bytes of the piece that are used, and what stands after them
 pub data Out : Type 0 where
   -- the piece has ended
   More : ℕ → Place → Out
@@ -16,7 +16,7 @@ pub data Out : Type 0 where
   Whole : Place → Out
   Bad : ℕ → Cause → Place → Out
 
--- goes on behind a byte of content, and else stops
+-- goes on after a byte of content, and else stops
 abbrev pub and_more : Move → ℕ × Place → (Place → ℕ × Place) → ℕ × Place
 and_more (Byte t) stop more = more t
 and_more (Go t) stop more = stop
@@ -35,7 +35,7 @@ answer (Byte t) i s more rest = Part i (rest t).0 (rest t).1
 answer (Give e t) i s more rest = Gave (i + 1) e t
 answer (Refuse c) i s more rest = Bad i c (at s (Dead c))
 
--- of a piece of which so many bytes are used, the rest
+-- of a piece of which this many bytes are used, the rest
 abbrev pub scan : ℕ → Place → List ℕ → Out
 scan i s [] = More i s
 scan i s (b ∷ bs) = answer (next s (i + 1) b) i s (λ t. scan (i + 1) t bs) (λ t. content (i + 1) t bs)

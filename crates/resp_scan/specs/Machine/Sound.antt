@@ -26,7 +26,7 @@ abbrev pub need_of_frame : OpenKind → Shape → ℕ
 need_of_frame k (Left n) = n * 3
 need_of_frame k (Begun n) = need_of_streamed k n
 
--- the fewest bytes by which frames end: members of three bytes, a map's value behind its key, and streamed ones' closes
+-- the fewest bytes by which frames end: members of three bytes, a map's value after its key, and streamed ones' closes
 abbrev pub need_of_frames : List Frame → ℕ
 need_of_frames [] = 0
 need_of_frames (f ∷ fs) = need_of_frame f.kind f.shape + need_of_frames fs
@@ -142,7 +142,7 @@ IsTokenSound AtCloseCr depth fs = IsClosed fs
 IsTokenSound AtCloseLf depth fs = IsClosed fs
 IsTokenSound _ depth fs = Unit {0}
 
--- where so many bytes of a piece are used
+-- where this many bytes of a piece are used
 pub record IsSoundBy (used : ℕ) (s : Place) : Type 0 where
   pub bounds : AreBounds s.bounds
   pub nested : length s.frames ≤ s.bounds.depth

@@ -129,7 +129,7 @@ StandsAfter s front es = StandsAfterAt (rules_of s) s.token s.frames front es
 
 -- Bytes.
 
--- the numbers that a place keeps are those of the front, of which so many bytes are the piece's
+-- the numbers that a place keeps are those of the front, of which this many bytes are the piece's
 pub record HasCountsOf (s : Place) (used : ℕ) (front : List ℕ) : Type 0 where
   pub sound : IsSoundBy used s
   pub taken : length front ≡ s.taken + used

@@ -7,7 +7,7 @@ use Rattle.resp_scan.specs.declared.event.Fault.{Fault}
 use Rattle.resp_scan.specs.Machine.Tokens.{Place, Null, Truth, Int, Text, Digit, TextEnd, Open, Close}
 use Rattle.resp_scan.specs.Machine.Scan.{Out, More, Gave, Part, Whole, Bad}
 
--- so many bytes more are taken
+-- this many bytes more are taken
 abbrev pub after_bytes : ℕ → Place → Place
 after_bytes n s = record s { taken = s.taken + n }
 
@@ -24,7 +24,7 @@ abbrev pub out_of_part : Bool → ℕ → List ℕ → Place → Out
 out_of_part true n p s = Gave n (Digit (get_or p 0 0)) s
 out_of_part false n p s = Part (n - length p) n s
 
--- what a step's event says, with so many bytes used
+-- what a step's event says, with this many bytes used
 abbrev pub out_of_event : ℕ → Option Event → Place → Out
 out_of_event n None s = More n s
 out_of_event n (Some event.Null) s = Gave n Null s
@@ -37,7 +37,7 @@ out_of_event n (Some (event.Open k c)) s = Gave n (Open k c) s
 out_of_event n (Some event.Close) s = Gave n Close s
 out_of_event n (Some event.Done) s = Whole (after_bytes n s)
 
--- what is heard where so many bytes were taken before, and where it leads
+-- what is heard where this many bytes were taken before, and where it leads
 abbrev pub out_of_step : ℕ → Result Step Fault → Place → Out
 out_of_step t (Ok r) s = out_of_event r.used r.event s
 out_of_step t (Err f) s = Bad (f.at - t) f.cause s

@@ -16,7 +16,7 @@ pub data Token : Type 0 where
   AtStart : Token
   -- an aggregate's close, or the value's end, is owed
   AtEnd : Token
-  -- a line, of which length leaves so many bytes
+  -- a line, of which length leaves this many bytes
   InLine : ℕ → Token
   AtLineLf : Token
   AtIntSign : Token
@@ -28,7 +28,7 @@ pub data Token : Type 0 where
   AtBigFirst : Bool → Token
   InBigZeros : Bool → Token
   AtBigZeroLf : Token
-  -- a digit is owed as a part; length leaves so many more
+  -- a digit is owed as a part; length leaves this many more
   AtBigDigit : ℕ → ℕ → Token
   InBig : ℕ → Token
   -- a text's end is owed
@@ -50,13 +50,13 @@ pub data Token : Type 0 where
   AtFormatSecond : ℕ → ℕ → Token
   AtFormatThird : ℕ → ℕ → ℕ → Token
   AtFormatColon : List ℕ → ℕ → Token
-  -- counted content, of which so many bytes are to come
+  -- counted content, of which this many bytes are to come
   InContent : ℕ → Token
   AtContentCr : Token
   AtContentLf : Token
   AtStreamCr : Token
   AtStreamLf : Token
-  -- a streamed string, of which length leaves so many bytes, and the bytes to come of a chunk
+  -- a streamed string, of which length leaves this many bytes, and the bytes to come of a chunk
   AtChunk : ℕ → Token
   InChunk : ℕ → ℕ → Token
   AtChunkCr : ℕ → Token
@@ -103,7 +103,7 @@ pub data Move : Type 0 where
 abbrev pub at : Place → Token → Place
 at s t = record s { token = t }
 
--- behind a member of a counted aggregate its close may be owed
+-- after a member of a counted aggregate its close may be owed
 abbrev pub token_in_shape : Shape → Token
 token_in_shape (Left n) = cond (eqb n 0) AtEnd AtStart
 token_in_shape (Begun n) = AtStart
@@ -113,6 +113,6 @@ abbrev pub token_at_boundary : List Frame → Token
 token_at_boundary [] = AtEnd
 token_at_boundary (f ∷ fs) = token_in_shape f.shape
 
--- the place behind a value's end or an aggregate's head
+-- the place after a value's end or an aggregate's head
 abbrev pub at_boundary : Place → Place
 at_boundary s = record s { token = token_at_boundary s.frames }

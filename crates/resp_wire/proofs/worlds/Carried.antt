@@ -86,7 +86,7 @@ never_closed answered limits hub ends order w at i e c seat its s h =
     let is_closing = h.is_closing in
     absurd (cc)
 
--- the client behind bytes that it sent
+-- the client after bytes that it sent
 abbrev pub with_client : End → Client → End
 with_client e client = record e { client = client }
 
@@ -168,7 +168,7 @@ heard_of go_on limits w i k c e seat s values text rest after reads whole = reco
       sym (append_assoc s.text text rest);
 }
 
--- the session behind bytes that were sent
+-- the session after bytes that were sent
 abbrev pub sent_seat : ℕ → Seat → Seat
 sent_seat k s = record s { out = drop k s.out }
 

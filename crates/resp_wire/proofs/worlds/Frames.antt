@@ -25,7 +25,7 @@ pub possible_on : (events : List WorldEvent) (event : WorldEvent) → AllByRecur
 possible_on [] event all one = (one, tt)
 possible_on (first ∷ events) event all one = (all.0, possible_on events event all.1 one)
 
--- the run behind an event that happened
+-- the run after an event that happened
 pub record Behind (limits : Bounds) (n : ℕ) (w : World) : Type 0 where
   pub events : List WorldEvent
   pub run : Run limits (new_world n) events w
@@ -64,7 +64,7 @@ one_client limits hub hub' ends order w next i e' c' at f within there one k e c
     subst (λ seat. ShowsClient limits seat e c) (sym (f.seats (suc k) apart))
     (at.each k e c (sym (others_there ends i k e' differs.1) ∙ here) (sym (f.others (suc k) apart) ∙ its))
 
--- behind an event that happened each client shows what its connection shows, where its own client does
+-- after an event that happened each client shows what its connection shows, where its own client does
 pub framed : (limits : Bounds) (hub hub' : HubState) (ends : List End) (order order' : List ℕ) (w next : World) (i : ℕ) (e' : End) (c' : Connection) →
     (at : ShowsEach limits hub ends order w) → Behind limits at.n next → IsFramed i hub hub' w next → order' ≡ clients_in next → i < length ends →
     connection_at next.connections (suc i) ≡ Some c' → ShowsClient limits (seat_at hub' (suc i)) e' c' →

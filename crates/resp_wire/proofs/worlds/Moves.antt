@@ -1,8 +1,9 @@
 -- What the bytes, pushes and drops of a world leave of it.
 use Rattle.std.proofs.Common.{◌≡◌, inl, inr, ℕ, zero, suc, ◌-◌, ◌<◌, ◌≤◌, false, None, Some, Option, List, [], ◌∷◌, ◌++◌, length, get_or, map, set, slice_get, take, true, IfErr, IfOk, IfSome, Ok, Err, Result, refl, sym, ap, subst, ◌∙◌, arith}
 use Rattle.std.proofs.lemmas.List.{get_or-set_same}
-use Rattle.std.proofs.lemmas.Option.{slice_get_read}
+use Rattle.std.proofs.lemmas.Option.{slice_get-map, slice_get_read}
 use Rattle.std.specs.List.{AllByRecursion}
+use Rattle.std.specs.Option.{option_map}
 use Rattle.resp_value.specs.Bounds.{Bounds}
 use Rattle.resp_value.specs.Canonical.{IsValue}
 use Rattle.resp_value.specs.Devices.{HasRisen}
@@ -32,7 +33,7 @@ use Rattle.resp_wire.specs.Carrying.{HasBrought, HearsOn, StopsCarrying, StopsSh
 use Rattle.resp_wire.specs.Ends.{Keeps, outcome_of_push}
 use Rattle.resp_wire.specs.Happening.{Fails, Happens, IsOpenEnd}
 use Rattle.resp_wire.specs.Hearing.{pushes_in, replies_in}
-use Rattle.resp_wire.specs.Worlds.{HasFailed, Shows, ShowsEach, Stands, StopsBy, WorldState, outcome_of}
+use Rattle.resp_wire.specs.Worlds.{HasFailed, KeepFailures, Shows, ShowsEach, Stands, StopsBy, WorldState, outcome_of}
 use Rattle.resp_wire.specs.declared.asked.Asked.{Asked}
 use Rattle.resp_wire.specs.declared.end.End.{End}
 use Rattle.resp_wire.specs.declared.event.Outcome.{Outcome}
@@ -74,7 +75,7 @@ end_there [] i within = absurd (omega (arith, within))
 end_there (e ∷ es) zero within = (e, refl)
 end_there (e ∷ es) (suc i) within = end_there es i (omega (arith, within))
 
--- what comes of an event in a world that is shown, and what is shown behind it
+-- what comes of an event in a world that is shown, and what is shown after it
 abbrev Leads : {L : Type 0} → (L → Type 0) → Bounds → World → WorldState L → WorldEvent → Outcome → Type 0
 Leads {L} is_honest limits w new event outcome = (next : World) × Step limits w event (outcome_of outcome) next × Shows is_honest new limits next
 
@@ -122,7 +123,18 @@ its_link {L} is_honest ends links number link honest as_many there link_is =
 failed_at : {L : Type 0} (failures : L → ℕ) (links : List L) (i : ℕ) (link link' : L) → i < length links → link ≡ get_or links i link →
     HasRisen (failures link) (failures link') → HasFailed failures links (set links i link')
 failed_at {L} failures links i link link' within is risen =
-    (i, link, link', slice_get_read links (length links) i link refl within is, set_there links i link' within, risen)
+    let old : slice_get (map failures links) i ≡ Some (failures link) =
+    slice_get-map failures links i ∙ ap (option_map failures) (slice_get_read links (length links) i link refl within is) in
+    let new : slice_get (map failures (set links i link')) i ≡ Some (failures link') =
+    slice_get-map failures (set links i link') i ∙ ap (option_map failures) (set_there links i link' within) in
+    (i, failures link, failures link', old, new, risen)
+
+-- where a link's count is as before, so is each
+pub keep_failures : {L : Type 0} (failures : L → ℕ) (links : List L) (i : ℕ) (link link' : L) → link ≡ get_or links i link →
+    failures link' ≡ failures link → KeepFailures failures links (set links i link')
+keep_failures {L} failures [] i link link' is same = refl
+keep_failures {L} failures (x ∷ links) zero link link' is same = ap (λ n. n ∷ map failures links) (same ∙ ap failures is)
+keep_failures {L} failures (x ∷ links) (suc i) link link' is same = ap (λ l. failures x ∷ l) (keep_failures failures links i link link' is same)
 
 pub moves_to_server : {L : Type 0} (is_honest : L → Type 0) → WhatArrivesIsAnswered → WhatIsReadIsShown → WhatIsLeftMayGoOn → WhatHasComeWasSent →
     (hub hub' : HubState) (ends : List End) (links : List L) (order order' : List ℕ) (stopped : Option Cause) (number count : ℕ) (e : End)
@@ -178,7 +190,7 @@ stops_to_server {L} is_honest failures answered hub hub' ends ends' links order 
     s.there s.is_open s.taking in
     elim why as (λ _. StopsBy failures links (set links i link') cause) [
       | inl memory ↦ inl memory
-      | inr (inl risen) ↦ inr (failed_at failures links i link link' its.within link_is risen)
+      | inr (inl risen) ↦ inr (failed_at failures links i link link' its.within link_is risen.0, risen.1)
       | inr (inr closed) ↦ absurd (never_closed answered limits hub ends order w shows.each (suc i) e c (seat_at hub (suc i)) a.its s closed)
     ]
 
@@ -249,12 +261,12 @@ stops_to_client {L} is_honest failures go_on no_fault change hub hub' ends ends'
     StopsShowing (state_of e.client) fresh heard front t.out (failures link) (failures link') cause))) (sym is) (refused its.honest)) s.rest s.reading in
     elim why as (λ _. StopsBy failures links (set links i link') cause) [
       | inl memory ↦ inl memory
-      | inr (inl risen) ↦ inr (failed_at failures links i link link' its.within link_is risen)
+      | inr (inl risen) ↦ inr (failed_at failures links i link link' its.within link_is risen.0, risen.1)
       | inr (inr met) ↦ absurd (never_refused go_on no_fault change limits hub ends order w shows.each i e c (seat_at hub (suc i)) fresh heard cause a.its
           a.is_open s met)
     ]
 
--- a stop for want of memory
+-- a stop when out of memory
 pub stops_for_memory : {L : Type 0} (is_honest : L → Type 0) (failures : L → ℕ) (old new : WorldState L) (cause : Cause) → cause ≡ OutOfMemory →
     Fails is_honest failures old new cause
 stops_for_memory {L} is_honest failures old new cause memory limits w shows = inl memory
@@ -331,7 +343,7 @@ pub err_of : {T E : Type 0} (r : Result T E) (P : E → Type 0) → ((e : E) →
 err_of {T} {E} (Ok x) P f = tt
 err_of {T} {E} (Err e) P f = f e refl
 
--- why a session that is open refuses a push: a refusal of the push, or want of memory
+-- why a session that is open refuses a push: a refusal of the push, or OutOfMemory
 push_refused : (limits : Bounds) (s : Seat) (version : Version) (x : Datum) (error : PushError) → s.version ≡ version →
     server.RefusesPush limits (Some s) x error →
     IfOk (outcome_of_push error) (λ outcome. (cause : Cause) × (outcome ≡ Refused cause) × RefusesPush limits version x cause)

@@ -94,7 +94,7 @@ not_full : (limits : Bounds) (old hub : HubState) (ends : List End) (count : ℕ
 not_full limits old hub ends count o few (inl sessions) = let so_many = o.few in omega (arith, few, so_many, sessions)
 not_full limits old hub ends count o few (inr ids) = let last = o.last in omega (arith, few, last, ids)
 
--- a hub that is not full refuses a session for want of memory alone
+-- a hub that is not full refuses a session when out of memory alone
 pub memory_alone : (limits : Bounds) (old hub : HubState) (ends : List End) (count : ℕ) (error : OpenError) → AreOpened limits old hub ends count →
     count < 65536 → (IsErrOf {T = ℕ} {E = OpenError} (Err error) TooManySessions → IsFull hub) → error ≡ OutOfMemory
 memory_alone limits old hub ends count OutOfMemory o few full = refl
@@ -107,7 +107,7 @@ still_there_by : (id : ℕ) (d e : ℕ × Seat) (es : List (ℕ × Seat)) (s : S
 still_there_by id d e es s true later found = found
 still_there_by id d e es s false later found = later found
 
--- a session that is there stays where one is opened behind
+-- a session that is there stays where one is opened after
 still_there : (id : ℕ) (es : List (ℕ × Seat)) (e : ℕ × Seat) (s : Seat) → lookup (λ other. id == other) es ≡ Some s →
     lookup (λ other. id == other) (es ++ e ∷ []) ≡ Some s
 still_there id [] e s found = absurd (cc)
@@ -120,7 +120,7 @@ found_behind_by : (id : ℕ) (d e : ℕ × Seat) (es : List (ℕ × Seat)) (here
 found_behind_by id d e es true later none = absurd (cc)
 found_behind_by id d e es false later none = later none
 
--- what isn't there is found behind
+-- what isn't there is found after
 found_behind : (id : ℕ) (es : List (ℕ × Seat)) (e : ℕ × Seat) → lookup (λ other. id == other) es ≡ None →
     lookup (λ other. id == other) (es ++ e ∷ []) ≡ cond (id == e.0) (Some e.1) None
 found_behind id [] e none = refl

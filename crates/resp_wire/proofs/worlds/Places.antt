@@ -27,7 +27,7 @@ others_there {X} (y ∷ ys) zero (suc j) x other = refl
 others_there {X} (y ∷ ys) (suc i) zero x other = refl
 others_there {X} (y ∷ ys) (suc i) (suc j) x other = others_there ys i j x (λ e. other (ap suc e))
 
--- of each index within there is a connection, by the number behind it
+-- of each index within there is a connection, by the number after it
 pub connection_there : (cs : List Connection) (k : ℕ) → k < length cs → (c : Connection) × (connection_at cs (suc k) ≡ Some c)
 connection_there [] k within = absurd (omega (arith, within))
 connection_there (c ∷ cs) zero within = (c, refl)

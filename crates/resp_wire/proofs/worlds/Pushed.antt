@@ -74,7 +74,7 @@ push_not_refused limits s version x same is_open v cause.BadDigits r = r
 push_not_refused limits s version x same is_open v cause.Busy r = r
 push_not_refused limits s version x same is_open v cause.BadLimits r = r
 
--- the session behind a push
+-- the session after a push
 abbrev pub pushed_seat : Datum → Seat → Seat
 pushed_seat x s = record s { out = s.out ++ canonical_text Three x }
 

@@ -42,13 +42,13 @@ drop_nothing : (k : ℕ) → drop {A = ℕ} k [] ≡ []
 drop_nothing zero = refl
 drop_nothing (suc k) = refl
 
--- what is left behind a part of what was left
+-- what is left after a part of what was left
 pub drop_on : (n m : ℕ) (xs : List ℕ) → drop m (drop n xs) ≡ drop (n + m) xs
 drop_on zero m xs = let same : m ≡ 0 + m = omega arith in ap (λ k. drop k xs) same
 drop_on (suc n) m [] = drop_nothing m ∙ sym (drop_nothing (suc n + m))
 drop_on (suc n) m (x ∷ xs) = let same : suc (n + m) ≡ suc n + m = omega arith in drop_on n m xs ∙ ap (λ k. drop k (x ∷ xs)) same
 
--- what waits where so many more have come, at most all
+-- what waits where this many more have come, at most all
 pub waits_on : (n k : ℕ) (xs : List ℕ) → drop k (drop n xs) ≡ drop (min (n + k) (length xs)) xs
 waits_on n k xs = drop_on n k xs ∙ sym (drop_min (n + k) xs)
 

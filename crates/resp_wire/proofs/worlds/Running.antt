@@ -1,10 +1,10 @@
 -- Events of a world one after another.
-use Rattle.std.proofs.Common.{◌≡◌, ℕ, zero, suc, ◌+◌, ◌<◌, None, Some, Option, IfSome, List, [], ◌∷◌, ◌++◌, length, map, take, slice_get, slice_index_or, refl, sym, ap, subst, ◌∙◌, arith, Result, Ok, Err}
+use Rattle.std.proofs.Common.{◌≡◌, inl, inr, ℕ, zero, suc, ◌+◌, ◌<◌, None, Some, Option, IfSome, List, [], ◌∷◌, ◌++◌, length, map, take, slice_get, slice_index_or, refl, sym, ap, subst, ◌∙◌, arith, Result, Ok, Err}
 use Rattle.resp_value.specs.declared.cause.Cause.{Cause}
 use Rattle.resp_session.specs.Runs.{Run}
 use Rattle.resp_session.specs.Worlds.{WorldEvent}
-use Rattle.resp_wire.specs.Happening.{Happens, RunsTo}
-use Rattle.resp_wire.specs.Worlds.{WorldState, event_of, outcome_of}
+use Rattle.resp_wire.specs.Happening.{Fails, Happens, RunsTo}
+use Rattle.resp_wire.specs.Worlds.{HasFailedIn, KeepFailures, StopsBy, WorldState, event_of, outcome_of}
 use Rattle.resp_wire.specs.declared.event.Event.{Event}
 use Rattle.resp_wire.specs.declared.event.Outcome.{Outcome}
 use Rattle.resp_wire.specs.declared.event.Stop.{Stop}
@@ -39,6 +39,17 @@ runs_one_more {L} is_honest a b c events k event outcome before here happens lim
           (run_on limits w mid next (take k events) event (outcome_of outcome) run step),
       next_shown,
     )
+
+-- where a link failed after events at which none did, it failed in the run
+pub fails_in_run : {L : Type 0} (is_honest : L → Type 0) (failures : L → ℕ) (old between new : WorldState L) (events : List WorldEvent) (cause : Cause) →
+    RunsTo is_honest old between events → KeepFailures failures old.links between.links → Fails is_honest failures between new cause →
+    Fails is_honest failures old new cause
+fails_in_run {L} is_honest failures old between new events cause runs keep fails limits w shown =
+    let (next, run, next_shown) = runs limits w shown in
+    elim (fails limits next next_shown) as (λ _. StopsBy failures old.links new.links cause) [
+      | inl memory ↦ inl memory
+      | inr failed ↦ inr (subst (λ l. HasFailedIn l (map failures new.links)) keep failed.0, failed.1)
+    ]
 
 -- an event was taken
 abbrev pub taken : Outcome → Result Outcome Stop

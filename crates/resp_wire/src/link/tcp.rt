@@ -1,6 +1,6 @@
 //! A link over TCP.
 
-ghost use Rattle.std.specs.Prelude.{◌≡◌, IfErr};
+ghost use Rattle.std.specs.Prelude.{◌≡◌, IfErr, OnOk};
 ghost use Rattle.resp_wire.specs.Links.{IsLinkCause};
 
 use super::{Direction, Link, LinkFault};
@@ -13,12 +13,12 @@ use std::net::{Net, TcpListener, TcpStream};
 /// How many reads and writes one carry may take.
 const TURNS: u64 = 65_536;
 
-/// Both ends of a connection of this machine to itself, in one thread. It claims nothing of its
-/// bytes: that they come as they were written is for the machine to keep.
+/// Both ends of a connection of this machine to itself, in one thread. It gives the bytes that it
+/// takes, since it compares them.
 ///
 /// It carries by at most 65,536 reads and writes, and refuses by TooManyTurns where these are used
-/// up, by Write where a write fails or takes no byte, and by Read where a read fails or the input
-/// ends before the piece has come.
+/// up, by Write where a write fails or takes no byte, and by Read where a read fails, the input ends
+/// before the piece has come, or other bytes came than were written.
 #[derive(Debug, Drop)]
 pub struct TcpLink {
     client_end: TcpStream,
@@ -73,7 +73,7 @@ fn connect(
 }
 
 impl Link for TcpLink {
-    ghost is_honest = { λ _. ⊥ };
+    ghost is_honest = { λ _. Unit {0} };
 
     ghost failures = { λ link. link.failures };
 
@@ -83,12 +83,26 @@ impl Link for TcpLink {
         piece: &[u8],
         into: &mut [u8],
     ) -> Result<(), LinkFault> {
-        let passed = self.pass_along(direction, piece, into);
+        let passed = match self.pass_along(direction, piece, into) {
+            Ok(()) => compare(piece, into),
+            Err(fault) => Err(fault),
+        };
         if passed.is_err() {
             self.failures = self.failures.saturating_add(1);
         }
         passed
     }
+}
+
+/// Whether the bytes that came are those that were written. Refuses by Read where they aren't.
+fn compare(written: &[u8], came: &[u8]) -> Result<(), LinkFault>
+    ensures same { OnOk result (came.now ≡ written.now) }
+    ensures refusal { IfErr result (λ fault. IsLinkCause fault.cause) }
+{
+    if came != written {
+        return Err(LinkFault { cause: Cause::Read });
+    }
+    Ok(())
 }
 
 /// Writes a piece at one end, and reads as many bytes at the other as there is room for.

@@ -1,4 +1,4 @@
-//! What a listener hears of a piece, and what is answered behind its stop. Wanted values are worked
+//! What a listener hears of a piece, and what is answered after its stop. Wanted values are worked
 //! out by hand from the table of spellings.
 
 use super::{add, add_event, add_refusal, is_answered_for_good, joined};

@@ -1,4 +1,4 @@
-//! What is needed before the first byte of a text and behind each of its bytes.
+//! What is needed before the first byte of a text and after each of its bytes.
 //!
 //! Each number is worked out by hand, from the table of least completions in docs/protocol.md.
 
@@ -11,10 +11,10 @@ use resp_value::version::Version;
 use std::process::Abort;
 use std::test::Fail;
 
-/// A text, and what is needed before its first byte and behind each one. Behind a whole value, 0.
+/// A text, and what is needed before its first byte and after each one. After a whole value, 0.
 type Row = (&'static [u8], &'static [u64]);
 
-/// Compares what is needed with the number behind the bytes taken. Where the value's end was told
+/// Compares what is needed with the number after the bytes taken. Where the value's end was told
 /// none is taken, and the first number holds again.
 fn compare(rt: &impl Abort, scanner: &Scanner, row: &Row) {
     let (text, needed) = row;
@@ -27,7 +27,7 @@ fn compare(rt: &impl Abort, scanner: &Scanner, row: &Row) {
     );
 }
 
-/// Gives the scanner a piece by steps, and compares behind each step.
+/// Gives the scanner a piece by steps, and compares after each step.
 fn feed_by_steps(
     rt: &impl Abort,
     scanner: &mut Scanner,
@@ -47,7 +47,7 @@ fn feed_by_steps(
     Err("endless".into())
 }
 
-/// Gives the scanner a piece by calls of `scan`, and compares behind each call.
+/// Gives the scanner a piece by calls of `scan`, and compares after each call.
 fn feed_by_scan(
     rt: &impl Abort,
     scanner: &mut Scanner,
@@ -115,7 +115,7 @@ fn by_bytes(rt: &impl Abort, call: Call, scanner: &mut Scanner, row: &Row) -> Re
     Ok(())
 }
 
-/// Every row by both calls: byte by byte, then cut short behind each byte, and then whole and at
+/// Every row by both calls: byte by byte, then cut short after each byte, and then whole and at
 /// each cut in two.
 fn run(rt: &impl Abort, version: Version, limits: &Limits, rows: &[Row]) -> Result<(), Fail> {
     for call in BOTH {

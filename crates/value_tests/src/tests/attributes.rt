@@ -1,29 +1,35 @@
 //! A value without the attributes before it.
 
-use resp_value::value::{Members, PairList, Value};
+use super::build::{array, attribute};
+use super::check_equal;
+use resp_value::value::Value;
 use std::alloc::Global;
-use std::test::Fail;
+use std::process::Abort;
 
-fn annotated(alloc: Global, value: Value) -> Result<Value, Fail> {
-    let pairs = PairList::new(vec![in alloc; (Value::Int(1), Value::Int(2))]?);
-    Ok(Value::Attr(pairs, Box::new(alloc, value)?))
+fn annotated(alloc: Global, value: Option<Value>) -> Option<Value> {
+    attribute(alloc, &[(1, 2)], value)
+}
+
+/// That this is left of a value without the attributes before it.
+fn check_left(rt: &impl Abort, value: &Option<Value>, left: &Option<Value>) {
+    match (value, left) {
+        (Some(value), Some(left)) => check_equal(rt, value.without_attributes(), left),
+        _ => panic!(rt; "out of memory"),
+    }
 }
 
 #[test]
-fn takes_away_each_attribute_before_a_value(rt: HostRuntime) -> Result<(), Fail> {
+fn takes_away_each_attribute_before_a_value(rt: HostRuntime) {
     let alloc = rt.alloc();
-    let once = annotated(alloc, Value::Int(3))?;
-    let twice = annotated(alloc, annotated(alloc, Value::Int(3))?)?;
-    assert_eq!(rt; *once.without_attributes(), Value::Int(3));
-    assert_eq!(rt; *twice.without_attributes(), Value::Int(3));
-    Ok(())
+    let three = Some(Value::Int(3));
+    let once = annotated(alloc, Some(Value::Int(3)));
+    check_left(&rt, &once, &three);
+    let twice = annotated(alloc, once);
+    check_left(&rt, &twice, &three);
 }
 
 #[test]
-fn leaves_attributes_of_members(rt: HostRuntime) -> Result<(), Fail> {
-    let alloc = rt.alloc();
-    let member = annotated(alloc, Value::Int(3))?;
-    let array = Value::Array(Members::new(vec![in alloc; member]?));
-    assert_eq!(rt; *array.without_attributes(), array);
-    Ok(())
+fn leaves_attributes_of_members(rt: HostRuntime) {
+    let array = array(rt.alloc(), [annotated(rt.alloc(), Some(Value::Int(3)))]);
+    check_left(&rt, &array, &array);
 }

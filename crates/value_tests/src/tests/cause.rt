@@ -1,45 +1,58 @@
 //! The number and the name of each cause.
 
+use super::check_equal;
 use resp_value::cause::{Cause, Limit};
+use std::process::Abort;
+
+fn check(rt: &impl Abort, cause: Cause, number: u32, name: &str) {
+    check_equal(rt, (cause.number(), cause.name()), (number, name));
+}
 
 #[test]
-fn numbers_and_names(rt: HostRuntime) {
-    for (cause, number, name) in [
-        (Cause::Syntax, 1, "Syntax"),
-        (Cause::Double, 2, "Double"),
-        (Cause::Version, 3, "Version"),
-        (Cause::NestedPush, 4, "NestedPush"),
-        (Cause::Range, 5, "Range"),
-        (Cause::Depth, 6, "Depth"),
-        (Cause::Length, 7, "Length"),
-        (Cause::Total, 8, "Total"),
-        (Cause::Truncated, 9, "Truncated"),
-        (Cause::OutOfMemory, 10, "OutOfMemory"),
-        (Cause::Streamed, 12, "Streamed"),
-        (Cause::Items, 13, "Items"),
-        (Cause::Unasked, 20, "Unasked"),
-        (Cause::TooLarge, 21, "TooLarge"),
-        (Cause::BadCommand, 22, "BadCommand"),
-        (Cause::TooMany, 24, "TooMany"),
-        (Cause::TooManySessions, 30, "TooManySessions"),
-        (Cause::NoSession, 31, "NoSession"),
-        (Cause::Closing, 32, "Closing"),
-        (Cause::NotInVersion, 40, "NotInVersion"),
-        (Cause::PushBelowTop, 41, "NestedPush"),
-        (Cause::OverLimits(Limit::Depth), 42, "OverLimits"),
-        (Cause::OverLimits(Limit::Length), 42, "OverLimits"),
-        (Cause::OverLimits(Limit::Items), 42, "OverLimits"),
-        (Cause::OverLimits(Limit::Total), 42, "OverLimits"),
-        (Cause::Read, 50, "Read"),
-        (Cause::Write, 51, "Write"),
-        (Cause::TooManyTurns, 52, "TooManyTurns"),
-        (Cause::Ended, 53, "Ended"),
-        (Cause::BadLine, 60, "BadLine"),
-        (Cause::BadDigits, 61, "BadDigits"),
-        (Cause::Busy, 62, "Busy"),
-        (Cause::BadLimits, 63, "BadLimits"),
-    ] {
-        assert_eq!(rt; cause.number(), number, "number of {cause:?}");
-        assert_eq!(rt; cause.name(), name, "name of {cause:?}");
-    }
+fn causes_of_what_is_read(rt: HostRuntime) {
+    check(&rt, Cause::Syntax, 1, "Syntax");
+    check(&rt, Cause::Double, 2, "Double");
+    check(&rt, Cause::Version, 3, "Version");
+    check(&rt, Cause::NestedPush, 4, "NestedPush");
+    check(&rt, Cause::Range, 5, "Range");
+    check(&rt, Cause::Depth, 6, "Depth");
+    check(&rt, Cause::Length, 7, "Length");
+    check(&rt, Cause::Total, 8, "Total");
+    check(&rt, Cause::Truncated, 9, "Truncated");
+    check(&rt, Cause::OutOfMemory, 10, "OutOfMemory");
+    check(&rt, Cause::Streamed, 12, "Streamed");
+    check(&rt, Cause::Items, 13, "Items");
+}
+
+#[test]
+fn causes_of_clients_and_servers(rt: HostRuntime) {
+    check(&rt, Cause::Unasked, 20, "Unasked");
+    check(&rt, Cause::TooLarge, 21, "TooLarge");
+    check(&rt, Cause::BadCommand, 22, "BadCommand");
+    check(&rt, Cause::TooMany, 24, "TooMany");
+    check(&rt, Cause::TooManySessions, 30, "TooManySessions");
+    check(&rt, Cause::NoSession, 31, "NoSession");
+    check(&rt, Cause::Closing, 32, "Closing");
+}
+
+#[test]
+fn causes_of_what_is_encoded(rt: HostRuntime) {
+    check(&rt, Cause::NotInVersion, 40, "NotInVersion");
+    check(&rt, Cause::PushBelowTop, 41, "NestedPush");
+    check(&rt, Cause::OverLimits(Limit::Depth), 42, "OverLimits");
+    check(&rt, Cause::OverLimits(Limit::Length), 42, "OverLimits");
+    check(&rt, Cause::OverLimits(Limit::Items), 42, "OverLimits");
+    check(&rt, Cause::OverLimits(Limit::Total), 42, "OverLimits");
+}
+
+#[test]
+fn causes_of_devices_and_of_what_is_handed_in(rt: HostRuntime) {
+    check(&rt, Cause::Read, 50, "Read");
+    check(&rt, Cause::Write, 51, "Write");
+    check(&rt, Cause::TooManyTurns, 52, "TooManyTurns");
+    check(&rt, Cause::Ended, 53, "Ended");
+    check(&rt, Cause::BadLine, 60, "BadLine");
+    check(&rt, Cause::BadDigits, 61, "BadDigits");
+    check(&rt, Cause::Busy, 62, "Busy");
+    check(&rt, Cause::BadLimits, 63, "BadLimits");
 }

@@ -1,14 +1,20 @@
 //! What content keeps.
 
-use resp_value::content::Content;
-use std::test::Fail;
+use super::build::content;
+use super::check_equal;
+use std::process::Abort;
+
+fn check_content<R: Abort + AllocGlobal>(rt: &R, bytes: &[u8]) {
+    let Some(content) = content(rt.alloc(), bytes) else {
+        panic!(rt; "out of memory");
+    };
+    check_equal(rt, content.list(), bytes);
+    check_equal(rt, content.into_vec().as_slice(), bytes);
+}
 
 #[test]
-fn keeps_any_bytes(rt: HostRuntime) -> Result<(), Fail> {
-    for bytes in [b"".as_slice(), b"foo", b"a\r\n\0\xff"] {
-        let content = Content::new(bytes.to_vec(rt.alloc())?);
-        assert_eq!(rt; content.list(), bytes);
-        assert_eq!(rt; content.into_vec().as_slice(), bytes);
-    }
-    Ok(())
+fn keeps_any_bytes(rt: HostRuntime) {
+    check_content(&rt, b"");
+    check_content(&rt, b"foo");
+    check_content(&rt, b"a\r\n\0\xff");
 }

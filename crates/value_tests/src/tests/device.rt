@@ -1,11 +1,12 @@
 //! What no clause says: that the calls succeed, and what a few runs give.
 
+use super::check_equal;
 use resp_value::device::{
     Device, DeviceFault, MemorySink, MemorySource, Sink, Source, WriteFault, write_all,
 };
-use std::alloc::AllocError;
 use std::io;
 use std::io::Read;
+use std::process::Abort;
 
 /// A reader that fails, and a writer that does.
 #[derive(Drop)]
@@ -27,92 +28,100 @@ impl io::Write for Broken {
     }
 }
 
+/// Reads to room for four bytes, and looks at the answer and at what stands there then.
+fn check_read<T: Source>(
+    rt: &impl Abort,
+    source: &mut T,
+    answer: Result<usize, DeviceFault>,
+    room: [u8; 4],
+) {
+    let mut into = *b"....";
+    check_equal(rt, source.read(&mut into), answer);
+    check_equal(rt, into, room);
+}
+
 #[test]
 fn source_reads_to_its_end(rt: HostRuntime) {
     let mut source = MemorySource::new(b"hello", 3);
-    let mut into = [0; 4];
-    assert_eq!(rt; source.read(&mut into), Ok(3));
-    assert_eq!(rt; into, *b"hel\0");
-    assert_eq!(rt; source.read(&mut into), Ok(2));
-    assert_eq!(rt; into, *b"lol\0");
-    assert_eq!(rt; source.read(&mut into), Ok(0));
-    assert_eq!(rt; (source.calls(), source.failures()), (3, 0));
+    check_read(&rt, &mut source, Ok(3), *b"hel.");
+    check_read(&rt, &mut source, Ok(2), *b"lo..");
+    check_read(&rt, &mut source, Ok(0), *b"....");
+    check_equal(&rt, (source.calls(), source.failures()), (3, 0));
 }
 
 #[test]
 fn source_fails_after_some_bytes(rt: HostRuntime) {
     let mut source = MemorySource::new(b"hello", 2).failing_from(3);
-    let mut into = [0; 4];
-    assert_eq!(rt; source.read(&mut into), Ok(2));
-    assert_eq!(rt; source.read(&mut into), Ok(1));
-    assert_eq!(rt; source.read(&mut into), Err(DeviceFault));
-    assert_eq!(rt; into, *b"le\0\0");
-    assert_eq!(rt; source.read(&mut into), Err(DeviceFault));
-    assert_eq!(rt; (source.calls(), source.failures()), (4, 2));
+    check_read(&rt, &mut source, Ok(2), *b"he..");
+    check_read(&rt, &mut source, Ok(1), *b"l...");
+    check_read(&rt, &mut source, Err(DeviceFault), *b"....");
+    check_read(&rt, &mut source, Err(DeviceFault), *b"....");
+    check_equal(&rt, (source.calls(), source.failures()), (4, 2));
+}
+
+fn memory_sink<R: Abort + AllocGlobal>(rt: &R, most: usize, fails_from: usize) -> MemorySink {
+    let Ok(sink) = MemorySink::new(rt.alloc(), most, fails_from) else {
+        panic!(rt; "out of memory");
+    };
+    sink
 }
 
 #[test]
-fn sink_holds_what_is_written(rt: HostRuntime) -> Result<(), AllocError> {
-    let mut sink = MemorySink::new(rt.alloc(), 2, 5)?;
-    assert_eq!(rt; write_all(&mut sink, b"hello"), Ok(()));
-    assert_eq!(rt; (sink.calls(), sink.failures()), (3, 0));
-    assert_eq!(rt; sink.bytes(), b"hello".as_slice());
-    assert_eq!(rt; sink.into_vec().as_slice(), b"hello".as_slice());
-    Ok(())
+fn sink_holds_what_is_written(rt: HostRuntime) {
+    let mut sink = memory_sink(&rt, 2, 5);
+    check_equal(&rt, write_all(&mut sink, b"hello"), Ok(()));
+    check_equal(&rt, (sink.calls(), sink.failures()), (3, 0));
+    check_equal(&rt, sink.bytes(), b"hello".as_slice());
+    check_equal(&rt, sink.into_vec().as_slice(), b"hello".as_slice());
 }
 
 #[test]
-fn sink_fails_after_some_bytes(rt: HostRuntime) -> Result<(), AllocError> {
-    let mut sink = MemorySink::new(rt.alloc(), 2, 3)?;
-    assert_eq!(rt;
-        write_all(&mut sink, b"hello"),
-        Err(WriteFault { written: 3 })
-    );
-    assert_eq!(rt; sink.bytes(), b"hel".as_slice());
-    assert_eq!(rt; (sink.calls(), sink.failures()), (3, 1));
-    Ok(())
+fn sink_fails_after_some_bytes(rt: HostRuntime) {
+    let mut sink = memory_sink(&rt, 2, 3);
+    let fault = WriteFault { written: 3 };
+    check_equal(&rt, write_all(&mut sink, b"hello"), Err(fault));
+    check_equal(&rt, sink.bytes(), b"hel".as_slice());
+    check_equal(&rt, (sink.calls(), sink.failures()), (3, 1));
 }
 
 #[test]
-fn sink_that_takes_no_byte_fails(rt: HostRuntime) -> Result<(), AllocError> {
-    let mut sink = MemorySink::new(rt.alloc(), 0, 3)?;
-    assert_eq!(rt; sink.write(b"hello"), Ok(0));
-    assert_eq!(rt;
-        write_all(&mut sink, b"hello"),
-        Err(WriteFault { written: 0 })
-    );
-    assert_eq!(rt; (sink.calls(), sink.failures()), (2, 2));
-    Ok(())
+fn sink_that_takes_no_byte_fails(rt: HostRuntime) {
+    let mut sink = memory_sink(&rt, 0, 3);
+    check_equal(&rt, sink.write(b"hello"), Ok(0));
+    let fault = WriteFault { written: 0 };
+    check_equal(&rt, write_all(&mut sink, b"hello"), Err(fault));
+    check_equal(&rt, (sink.calls(), sink.failures()), (2, 2));
 }
 
 #[test]
-fn device_moves_the_bytes_of_std(rt: HostRuntime) {
+fn device_reads_the_bytes_of_std(rt: HostRuntime) {
     let mut reader = Device::new(b"hello".as_slice());
-    let mut into = [0; 4];
-    assert_eq!(rt; reader.read(&mut into), Ok(4));
-    assert_eq!(rt; into, *b"hell");
-    assert_eq!(rt; (reader.calls(), reader.failures()), (1, 0));
-    assert_eq!(rt; reader.into_inner(), b"o".as_slice());
+    check_read(&rt, &mut reader, Ok(4), *b"hell");
+    check_equal(&rt, (reader.calls(), reader.failures()), (1, 0));
+    check_equal(&rt, reader.into_inner(), b"o".as_slice());
+}
 
+#[test]
+fn device_writes_the_bytes_of_std(rt: HostRuntime) {
     let mut writer = Device::new(Vec::new(rt.alloc()));
-    assert_eq!(rt; write_all(&mut writer, b"hello"), Ok(()));
-    assert_eq!(rt; (writer.calls(), writer.failures()), (1, 0));
-    assert_eq!(rt; writer.into_inner().as_slice(), b"hello".as_slice());
+    check_equal(&rt, write_all(&mut writer, b"hello"), Ok(()));
+    check_equal(&rt, (writer.calls(), writer.failures()), (1, 0));
+    check_equal(&rt, writer.into_inner().as_slice(), b"hello".as_slice());
 }
 
 #[test]
 fn device_counts_failures(rt: HostRuntime) {
     let mut broken = Device::new(Broken);
-    let mut into = [0; 4];
-    assert_eq!(rt; broken.read(&mut into), Err(DeviceFault));
-    assert_eq!(rt; broken.write(b"hello"), Err(DeviceFault));
-    assert_eq!(rt; (broken.calls(), broken.failures()), (2, 2));
+    check_read(&rt, &mut broken, Err(DeviceFault), *b"....");
+    check_equal(&rt, broken.write(b"hello"), Err(DeviceFault));
+    check_equal(&rt, (broken.calls(), broken.failures()), (2, 2));
+}
 
+#[test]
+fn device_counts_a_write_that_is_cut_short(rt: HostRuntime) {
     let mut room = [0; 2];
     let mut full = Device::new(room.as_mut_slice());
-    assert_eq!(rt;
-        write_all(&mut full, b"hello"),
-        Err(WriteFault { written: 2 })
-    );
-    assert_eq!(rt; (full.calls(), full.failures()), (2, 1));
+    let fault = WriteFault { written: 2 };
+    check_equal(&rt, write_all(&mut full, b"hello"), Err(fault));
+    check_equal(&rt, (full.calls(), full.failures()), (2, 1));
 }

@@ -1,42 +1,46 @@
 //! What a big number keeps, and which texts are none.
 
+use super::check_equal;
 use resp_value::digits::{Digits, DigitsError};
-use std::test::Fail;
+use std::alloc::Global;
+use std::process::Abort;
 
-#[test]
-fn keeps_sign_and_digits(rt: HostRuntime) -> Result<(), Fail> {
-    for (text, negative, digits) in [
-        (b"7".as_slice(), false, b"7".as_slice()),
-        (b"+007", false, b"7"),
-        (b"-00120", true, b"120"),
-        (b"-0", false, b"0"),
-        (b"+0", false, b"0"),
-        (b"000", false, b"0"),
-        (b"-000", false, b"0"),
-        (b"100", false, b"100"),
-        (b"-98765432109876543210", true, b"98765432109876543210"),
-    ] {
-        let kept = Digits::new(rt.alloc(), text)?;
-        assert_eq!(rt; kept.is_negative(), negative, "sign of {text:?}");
-        assert_eq!(rt; kept.digits(), digits, "digits of {text:?}");
-    }
-    Ok(())
+fn check_kept<R: Abort + AllocGlobal>(rt: &R, text: &[u8], is_negative: bool, digits: &[u8]) {
+    let Ok(number) = Digits::new(rt.alloc(), text) else {
+        panic!(rt; "no number");
+    };
+    check_equal(rt, number.is_negative(), is_negative);
+    check_equal(rt, number.digits(), digits);
 }
 
 #[test]
-fn takes_digits_as_they_are_kept(rt: HostRuntime) -> Result<(), Fail> {
-    for (negative, digits, is_kept) in [
-        (false, b"0".as_slice(), true),
-        (true, b"120", true),
-        (true, b"0", false),
-        (false, b"07", false),
-        (false, b"", false),
-        (false, b"-7", false),
-    ] {
-        let taken = Digits::of_kept(negative, digits.to_vec(rt.alloc())?);
-        assert_eq!(rt; taken.is_some(), is_kept, "{digits:?}");
-    }
-    Ok(())
+fn keeps_sign_and_digits(rt: HostRuntime) {
+    check_kept(&rt, b"7", false, b"7");
+    check_kept(&rt, b"+007", false, b"7");
+    check_kept(&rt, b"-00120", true, b"120");
+    check_kept(&rt, b"-0", false, b"0");
+    check_kept(&rt, b"+0", false, b"0");
+    check_kept(&rt, b"000", false, b"0");
+    check_kept(&rt, b"-000", false, b"0");
+    check_kept(&rt, b"100", false, b"100");
+    check_kept(&rt, b"-98765432109876543210", true, b"98765432109876543210");
+}
+
+/// Whether digits are taken as they are kept, or `None` where memory is refused.
+fn is_kept(alloc: Global, is_negative: bool, digits: &[u8]) -> Option<bool> {
+    let digits = digits.to_vec(alloc).ok()?;
+    Some(Digits::of_kept(is_negative, digits).is_some())
+}
+
+#[test]
+fn takes_digits_as_they_are_kept(rt: HostRuntime) {
+    let alloc = rt.alloc();
+    check_equal(&rt, is_kept(alloc, false, b"0"), Some(true));
+    check_equal(&rt, is_kept(alloc, true, b"120"), Some(true));
+    check_equal(&rt, is_kept(alloc, true, b"0"), Some(false));
+    check_equal(&rt, is_kept(alloc, false, b"07"), Some(false));
+    check_equal(&rt, is_kept(alloc, false, b""), Some(false));
+    check_equal(&rt, is_kept(alloc, false, b"-7"), Some(false));
 }
 
 #[test]
@@ -58,6 +62,6 @@ fn refuses_other_texts(rt: HostRuntime) {
         b":",
     ] {
         let refused = Digits::new(rt.alloc(), text);
-        assert_eq!(rt; refused, Err(DigitsError::BadDigits), "{text:?}");
+        check_equal(&rt, refused, Err(DigitsError::BadDigits));
     }
 }

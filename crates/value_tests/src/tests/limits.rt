@@ -1,64 +1,66 @@
 //! What limits keep, and their ranges.
 
-use resp_value::limits::Limits;
-use std::test::Fail;
+use super::check_equal;
+use resp_value::limits::{BadLimits, Limits};
+use std::process::Abort;
+
+fn check_limits(rt: &impl Abort, limits: Limits, numbers: [u64; 4], streamed: bool) {
+    check_equal(rt, limits.depth(), numbers[0]);
+    check_equal(rt, limits.length(), numbers[1]);
+    check_equal(rt, limits.total(), numbers[2]);
+    check_equal(rt, limits.items(), numbers[3]);
+    check_equal(rt, limits.streamed(), streamed);
+}
 
 #[test]
-fn keeps_each_limit(rt: HostRuntime) -> Result<(), Fail> {
+fn keeps_each_limit(rt: HostRuntime) -> Result<(), BadLimits> {
     let limits = Limits::new(5, 100, 300)?;
-    assert_eq!(rt; limits.items(), 1_099_511_627_776);
-    assert!(rt; limits.streamed());
+    check_limits(&rt, limits, [5, 100, 300, 1_099_511_627_776], true);
     let limits = limits.with_items(17)?.with_streamed(false);
-    assert_eq!(rt; limits.depth(), 5);
-    assert_eq!(rt; limits.length(), 100);
-    assert_eq!(rt; limits.total(), 300);
-    assert_eq!(rt; limits.items(), 17);
-    assert!(rt; !limits.streamed());
-    assert!(rt; limits.with_streamed(true).streamed());
+    check_limits(&rt, limits, [5, 100, 300, 17], false);
+    check_limits(&rt, limits.with_streamed(true), [5, 100, 300, 17], true);
     Ok(())
 }
 
 #[test]
 fn standard_limits(rt: HostRuntime) {
-    let limits = Limits::standard();
-    assert_eq!(rt; limits.depth(), 32);
-    assert_eq!(rt; limits.length(), 536_870_912);
-    assert_eq!(rt; limits.total(), 1_073_741_824);
-    assert_eq!(rt; limits.items(), 1_099_511_627_776);
-    assert!(rt; limits.streamed());
+    let numbers = [32, 536_870_912, 1_073_741_824, 1_099_511_627_776];
+    check_limits(&rt, Limits::standard(), numbers, true);
+}
+
+fn takes_depth(depth: u64) -> bool {
+    Limits::new(depth, 64, 256).is_ok()
+}
+
+fn takes_length(length: u64) -> bool {
+    Limits::new(4, length, 256).is_ok()
+}
+
+fn takes_total(total: u64) -> bool {
+    Limits::new(4, 64, total).is_ok()
+}
+
+fn takes_items(items: u64) -> bool {
+    Limits::standard().with_items(items).is_ok()
 }
 
 #[test]
 fn ranges_hold_both_their_ends(rt: HostRuntime) {
-    for (depth, taken) in [(0, false), (3, false), (4, true), (128, true), (129, false)] {
-        let limits = Limits::new(depth, 64, 256);
-        assert_eq!(rt; limits.is_ok(), taken, "depth {depth}");
-    }
-    for (length, taken) in [
-        (63, false),
-        (64, true),
-        (1_073_741_824, true),
-        (1_073_741_825, false),
-    ] {
-        let limits = Limits::new(4, length, 256);
-        assert_eq!(rt; limits.is_ok(), taken, "length {length}");
-    }
-    for (total, taken) in [
-        (255, false),
-        (256, true),
-        (1_099_511_627_776, true),
-        (1_099_511_627_777, false),
-    ] {
-        let limits = Limits::new(4, 64, total);
-        assert_eq!(rt; limits.is_ok(), taken, "total {total}");
-    }
-    for (items, taken) in [
-        (15, false),
-        (16, true),
-        (1_099_511_627_776, true),
-        (1_099_511_627_777, false),
-    ] {
-        let limits = Limits::standard().with_items(items);
-        assert_eq!(rt; limits.is_ok(), taken, "items {items}");
-    }
+    check_equal(&rt, takes_depth(0), false);
+    check_equal(&rt, takes_depth(3), false);
+    check_equal(&rt, takes_depth(4), true);
+    check_equal(&rt, takes_depth(128), true);
+    check_equal(&rt, takes_depth(129), false);
+    check_equal(&rt, takes_length(63), false);
+    check_equal(&rt, takes_length(64), true);
+    check_equal(&rt, takes_length(1_073_741_824), true);
+    check_equal(&rt, takes_length(1_073_741_825), false);
+    check_equal(&rt, takes_total(255), false);
+    check_equal(&rt, takes_total(256), true);
+    check_equal(&rt, takes_total(1_099_511_627_776), true);
+    check_equal(&rt, takes_total(1_099_511_627_777), false);
+    check_equal(&rt, takes_items(15), false);
+    check_equal(&rt, takes_items(16), true);
+    check_equal(&rt, takes_items(1_099_511_627_776), true);
+    check_equal(&rt, takes_items(1_099_511_627_777), false);
 }

@@ -1,115 +1,112 @@
 //! Which values are equal, and what lists keep.
 
-use resp_value::content::Content;
+use super::build::{array, attribute, content, line, members, pairs};
+use super::check_equal;
 use resp_value::digits::Digits;
-use resp_value::line::Line;
 use resp_value::value::{Members, PairList, Value};
 use std::alloc::Global;
 use std::process::Abort;
-use std::test::Fail;
 
-fn line(alloc: Global, text: &[u8]) -> Result<Line, Fail> {
-    Ok(Line::new(text.to_vec(alloc)?)?)
+fn digits(alloc: Global, text: &[u8]) -> Option<Value> {
+    Digits::new(alloc, text).ok().map(Value::Big)
 }
 
-fn content(alloc: Global, bytes: &[u8]) -> Result<Content, Fail> {
-    Ok(Content::new(bytes.to_vec(alloc)?))
+fn verbatim(alloc: Global, format: [u8; 3]) -> Option<Value> {
+    Some(Value::Verbatim(format, content(alloc, b"7")?))
 }
 
-fn members(alloc: Global, numbers: &[i64]) -> Result<Members, Fail> {
-    let mut items = Vec::new(alloc);
-    for number in numbers {
-        items.push(Value::Int(*number))?;
-    }
-    Ok(Members::new(items))
+fn scalars(alloc: Global) -> [Option<Value>; 15] {
+    [
+        Some(Value::Null),
+        Some(Value::Bool(false)),
+        Some(Value::Bool(true)),
+        Some(Value::Int(7)),
+        Some(Value::Int(-7)),
+        line(alloc, b"7").map(Value::Simple),
+        line(alloc, b"").map(Value::Simple),
+        line(alloc, b"7").map(Value::Error),
+        content(alloc, b"7").map(Value::Bulk),
+        content(alloc, b"7\r").map(Value::Bulk),
+        content(alloc, b"7").map(Value::BulkError),
+        verbatim(alloc, *b"txt"),
+        verbatim(alloc, *b"mkd"),
+        digits(alloc, b"7"),
+        digits(alloc, b"-7"),
+    ]
 }
 
-fn pairs(alloc: Global, numbers: &[(i64, i64)]) -> Result<PairList, Fail> {
-    let mut pairs = Vec::new(alloc);
-    for (key, value) in numbers {
-        pairs.push((Value::Int(*key), Value::Int(*value)))?;
-    }
-    Ok(PairList::new(pairs))
+fn aggregates(alloc: Global) -> [Option<Value>; 15] {
+    [
+        members(alloc, &[]).map(Value::Array),
+        members(alloc, &[1]).map(Value::Array),
+        members(alloc, &[1, 2]).map(Value::Array),
+        members(alloc, &[2, 1]).map(Value::Array),
+        array(alloc, [members(alloc, &[1, 2]).map(Value::Array)]),
+        members(alloc, &[1, 2]).map(Value::Set),
+        members(alloc, &[2, 1]).map(Value::Set),
+        members(alloc, &[1, 2]).map(Value::Push),
+        pairs(alloc, &[(1, 2)]).map(Value::Map),
+        pairs(alloc, &[(1, 2), (3, 4)]).map(Value::Map),
+        pairs(alloc, &[(3, 4), (1, 2)]).map(Value::Map),
+        pairs(alloc, &[(1, 2), (1, 2)]).map(Value::Map),
+        attribute(alloc, &[(1, 2)], Some(Value::Int(3))),
+        attribute(alloc, &[(1, 2)], Some(Value::Int(4))),
+        attribute(alloc, &[], Some(Value::Int(3))),
+    ]
 }
 
-fn scalars(alloc: Global) -> Result<Vec<Value>, Fail> {
-    Ok(vec![in alloc;
-        Value::Null,
-        Value::Bool(false),
-        Value::Bool(true),
-        Value::Int(7),
-        Value::Int(-7),
-        Value::Simple(line(alloc, b"7")?),
-        Value::Simple(line(alloc, b"")?),
-        Value::Error(line(alloc, b"7")?),
-        Value::Bulk(content(alloc, b"7")?),
-        Value::Bulk(content(alloc, b"7\r")?),
-        Value::BulkError(content(alloc, b"7")?),
-        Value::Verbatim(*b"txt", content(alloc, b"7")?),
-        Value::Verbatim(*b"mkd", content(alloc, b"7")?),
-        Value::Big(Digits::new(alloc, b"7")?),
-        Value::Big(Digits::new(alloc, b"-7")?),
-    ]?)
-}
-
-fn aggregates(alloc: Global) -> Result<Vec<Value>, Fail> {
-    let nested = vec![in alloc; Value::Array(members(alloc, &[1, 2])?)]?;
-    Ok(vec![in alloc;
-        Value::Array(members(alloc, &[])?),
-        Value::Array(members(alloc, &[1])?),
-        Value::Array(members(alloc, &[1, 2])?),
-        Value::Array(members(alloc, &[2, 1])?),
-        Value::Array(Members::new(nested)),
-        Value::Set(members(alloc, &[1, 2])?),
-        Value::Set(members(alloc, &[2, 1])?),
-        Value::Push(members(alloc, &[1, 2])?),
-        Value::Map(pairs(alloc, &[(1, 2)])?),
-        Value::Map(pairs(alloc, &[(1, 2), (3, 4)])?),
-        Value::Map(pairs(alloc, &[(3, 4), (1, 2)])?),
-        Value::Map(pairs(alloc, &[(1, 2), (1, 2)])?),
-        Value::Attr(pairs(alloc, &[(1, 2)])?, Box::new(alloc, Value::Int(3))?),
-        Value::Attr(pairs(alloc, &[(1, 2)])?, Box::new(alloc, Value::Int(4))?),
-        Value::Attr(pairs(alloc, &[])?, Box::new(alloc, Value::Int(3))?),
-    ]?)
-}
-
-fn each_equals_itself_alone(rt: &impl Abort, values: &[Value], again: &[Value]) {
+fn check_each_equals_itself_alone(
+    rt: &impl Abort,
+    values: &[Option<Value>],
+    again: &[Option<Value>],
+) {
     for (i, value) in values.iter().enumerate() {
+        assert!(rt; value.is_some());
         for (j, other) in again.iter().enumerate() {
-            assert_eq!(rt; value == other, i == j, "{i} and {j}");
+            check_equal(rt, (i, j, value == other), (i, j, i == j));
         }
     }
 }
 
 #[test]
-fn equal_where_shape_and_content_are(rt: HostRuntime) -> Result<(), Fail> {
-    let alloc = rt.alloc();
-    each_equals_itself_alone(&rt, scalars(alloc)?.as_slice(), scalars(alloc)?.as_slice());
-    each_equals_itself_alone(
-        &rt,
-        aggregates(alloc)?.as_slice(),
-        aggregates(alloc)?.as_slice(),
-    );
-    Ok(())
+fn scalars_equal_themselves_alone(rt: HostRuntime) {
+    let (values, again) = (scalars(rt.alloc()), scalars(rt.alloc()));
+    check_each_equals_itself_alone(&rt, &values, &again);
 }
 
 #[test]
-fn members_keep_their_list(rt: HostRuntime) -> Result<(), Fail> {
-    let kept = members(rt.alloc(), &[1, 2, 1])?;
+fn aggregates_equal_themselves_alone(rt: HostRuntime) {
+    let (values, again) = (aggregates(rt.alloc()), aggregates(rt.alloc()));
+    check_each_equals_itself_alone(&rt, &values, &again);
+}
+
+fn check_members(rt: &impl Abort, members: Option<Members>, wanted: &[Value]) {
+    let Some(members) = members else {
+        panic!(rt; "out of memory");
+    };
+    check_equal(rt, members.list(), wanted);
+    check_equal(rt, members.into_vec().as_slice(), wanted);
+}
+
+#[test]
+fn members_keep_their_list(rt: HostRuntime) {
     let wanted = [Value::Int(1), Value::Int(2), Value::Int(1)];
-    assert_eq!(rt; kept.list(), wanted.as_slice());
-    assert_eq!(rt; kept.into_vec().as_slice(), wanted.as_slice());
-    Ok(())
+    check_members(&rt, members(rt.alloc(), &[1, 2, 1]), &wanted);
+}
+
+fn check_pairs(rt: &impl Abort, pairs: Option<PairList>, wanted: &[(Value, Value)]) {
+    let Some(pairs) = pairs else {
+        panic!(rt; "out of memory");
+    };
+    check_equal(rt, pairs.list(), wanted);
+    check_equal(rt, pairs.into_vec().as_slice(), wanted);
 }
 
 #[test]
-fn pairs_keep_their_list(rt: HostRuntime) -> Result<(), Fail> {
-    let kept = pairs(rt.alloc(), &[(1, 2), (1, 3)])?;
+fn pairs_keep_their_list(rt: HostRuntime) {
     let wanted = [
         (Value::Int(1), Value::Int(2)),
         (Value::Int(1), Value::Int(3)),
     ];
-    assert_eq!(rt; kept.list(), wanted.as_slice());
-    assert_eq!(rt; kept.into_vec().as_slice(), wanted.as_slice());
-    Ok(())
+    check_pairs(&rt, pairs(rt.alloc(), &[(1, 2), (1, 3)]), &wanted);
 }

@@ -1,57 +1,62 @@
 //! What a value asks of a session.
 
-use resp_session::words::{Asked, asked_by};
-use resp_value::content::Content;
-use resp_value::line::Line;
-use resp_value::value::{Members, Value};
+use super::build::{array, content, line};
+use super::check_equal;
+use resp_session::words::{Asked, Words, asked_by};
+use resp_value::value::Value;
 use std::alloc::Global;
-use std::test::Fail;
+use std::process::Abort;
 
-fn bulk(alloc: Global, bytes: &[u8]) -> Result<Value, Fail> {
-    Ok(Value::Bulk(Content::new(bytes.to_vec(alloc)?)))
+fn bulk(alloc: Global, bytes: &[u8]) -> Option<Value> {
+    content(alloc, bytes).map(Value::Bulk)
+}
+
+fn check_words<R: Abort + AllocGlobal>(rt: &R, mut words: Words) {
+    check_equal(rt, words.len(), 2);
+    if words.len() == 2 {
+        check_equal(rt, words.word(0), b"GET".as_slice());
+        check_equal(rt, words.word(1), b"a\r\n".as_slice());
+    }
+    check_equal(rt, words.pop(), content(rt.alloc(), b"a\r\n"));
+    check_equal(rt, words.pop(), content(rt.alloc(), b"GET"));
+    check_equal(rt, words.pop(), None);
+}
+
+/// What a value asks, or `None` where memory is refused.
+fn asked(value: Option<Value>) -> Option<Asked> {
+    Some(asked_by(value?))
 }
 
 #[test]
-fn a_command_has_its_words(rt: HostRuntime) -> Result<(), Fail> {
+fn a_command_has_its_words(rt: HostRuntime) {
     let alloc = rt.alloc();
-    let members = vec![in alloc; bulk(alloc, b"GET")?, bulk(alloc, b"a\r\n")?]?;
-    let asked = asked_by(Value::Array(Members::new(members)));
-    let Asked::Command(mut words) = asked else {
-        panic!(rt; "no command");
-    };
-    assert_eq!(rt; words.len(), 2);
-    assert!(rt; words.len() == 2 && words.word(0) == b"GET".as_slice());
-    assert!(rt; words.len() == 2 && words.word(1) == b"a\r\n".as_slice());
-    let last = words.pop();
-    assert_eq!(rt; last, Some(Content::new(b"a\r\n".to_vec(alloc)?)));
-    let first = words.pop();
-    assert_eq!(rt; first, Some(Content::new(b"GET".to_vec(alloc)?)));
-    let none = words.pop();
-    assert_eq!(rt; none, None);
-    Ok(())
+    let get = array(alloc, [bulk(alloc, b"GET"), bulk(alloc, b"a\r\n")]);
+    match asked(get) {
+        Some(Asked::Command(words)) => check_words(&rt, words),
+        _ => panic!(rt; "no command"),
+    }
+}
+
+fn check_nothing(rt: &impl Abort, value: Option<Value>) {
+    assert!(rt; matches!(asked(value), Some(Asked::Nothing)));
 }
 
 #[test]
-fn nulls_and_empty_arrays_ask_nothing(rt: HostRuntime) -> Result<(), Fail> {
-    let empty = Value::Array(Members::new(Vec::new(rt.alloc())));
-    assert!(rt; matches!(asked_by(empty), Asked::Nothing));
-    assert!(rt; matches!(asked_by(Value::Null), Asked::Nothing));
-    Ok(())
+fn nulls_and_empty_arrays_ask_nothing(rt: HostRuntime) {
+    check_nothing(&rt, array(rt.alloc(), []));
+    check_nothing(&rt, Some(Value::Null));
+}
+
+fn check_no_command(rt: &impl Abort, value: Option<Value>) {
+    assert!(rt; matches!(asked(value), Some(Asked::NoCommand)));
 }
 
 #[test]
-fn other_values_are_no_command(rt: HostRuntime) -> Result<(), Fail> {
+fn other_values_are_no_command(rt: HostRuntime) {
     let alloc = rt.alloc();
-    assert!(rt; matches!(asked_by(Value::Int(1)), Asked::NoCommand));
-    assert!(rt; matches!(asked_by(bulk(alloc, b"PING")?), Asked::NoCommand));
-    let line = Line::new(b"PING".to_vec(alloc)?)?;
-    assert!(rt; matches!(asked_by(Value::Simple(line)), Asked::NoCommand));
-    let mixed = vec![in alloc; bulk(alloc, b"GET")?, Value::Int(1)]?;
-    assert!(rt;
-        matches!(
-            asked_by(Value::Array(Members::new(mixed))),
-            Asked::NoCommand
-        )
-    );
-    Ok(())
+    check_no_command(&rt, Some(Value::Int(1)));
+    check_no_command(&rt, bulk(alloc, b"PING"));
+    check_no_command(&rt, line(alloc, b"PING").map(Value::Simple));
+    let mixed = array(alloc, [bulk(alloc, b"GET"), Some(Value::Int(1))]);
+    check_no_command(&rt, mixed);
 }

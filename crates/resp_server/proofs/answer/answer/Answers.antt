@@ -24,6 +24,7 @@ returns-in-Err-clause-cut_short g c front taken =
     let last : Session = record { decoder = after.decoder; version = after.version; out = after.out; closing = true } in
     cut_short c.args.limits.now c.args.id c.args.store.now c.loop-used.store c.take_turn.new.store c.args.session.now c.loop-used.session
     after last front c.args.piece.now c.loop-used.used c.loop-used.commands i.is_open (i.answered front taken) c.in-Err.ensures.unchanged refl refl refl
+    (omega arith)
 
 pub returns-then-session-clause-answered : goal.returns-then-session-clause-answered
 returns-then-session-clause-answered g c front taken =

@@ -12,7 +12,7 @@ Appends-append (Some held) b c xs ys first second =
     let then_second : Appends (Some (held ++ xs)) c ys = subst (λ v. Appends v c ys) first second in
     then_second ∙ ap Some (append_assoc held xs ys)
 
--- the front of a list is a shorter front, and then what stands behind that
+-- the front of a list is a shorter front, and then what stands after that
 take_on : (xs : List ℕ) (i n : ℕ) → take (i + n) xs ≡ take i xs ++ take n (take (length xs - i) (drop i xs))
 take_on xs i n = rw take_rest (take-add i n xs)
 

@@ -1,4 +1,5 @@
 use Rattle.std.proofs.Common.{◌++◌, inl, inr, refl, subst}
+use Rattle.resp_client.specs.Clients.{state_of}
 use Rattle.resp_wire.specs.Hearing.{HearsAll}
 use Rattle.resp_wire.specs.Stops.{StopsListening}
 use Rattle.resp_wire.proofs.Exchanges.{all_sent, no_fault_queued, no_fault_written, queue_takes_no_turn, sends_all, sends_part, spends_no_turns, spends_writes}
@@ -31,8 +32,8 @@ returns-in-Err-send_all-clause-refusal g c =
 
 pub returns-in-Err-send_all-clause-fault_is_kept : goal.returns-in-Err-send_all-clause-fault_is_kept
 returns-in-Err-send_all-clause-fault_is_kept g c =
-    no_fault_written c.send_all.new.client (g.W.Sink.failures c.args.writer.now) (g.W.Sink.failures c.send_all.new.writer) c.in-Err-send_all.error
-    c.in-Err-send_all.ensures.refusal
+    no_fault_written c.send_all.new.client (g.W.Sink.failures c.args.writer.now) (g.W.Sink.failures c.send_all.new.writer)
+    (state_of c.send_all.new.client).out c.in-Err-send_all.error c.in-Err-send_all.ensures.refusal
 
 pub returns-in-Err-send_all-clause-turns : goal.returns-in-Err-send_all-clause-turns
 returns-in-Err-send_all-clause-turns g c = (

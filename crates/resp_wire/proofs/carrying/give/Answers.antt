@@ -9,7 +9,7 @@ use Rattle.resp_wire.proofs.carrying.give.Goals as goal
 
 pub returns-in-Err-clause-refusal : goal.returns-in-Err-clause-refusal
 returns-in-Err-clause-refusal g c honest = where_open c.args.hub.now c.args.id _ (λ s here not_closing front taken.
-    inr (inl (has_risen (g.L.Link.failures c.args.link.now) (g.L.Link.failures c.carry.new.self) c.in-Err.ensures.failures)))
+    inr (inl (has_risen (g.L.Link.failures c.args.link.now) (g.L.Link.failures c.carry.new.self) c.in-Err.ensures.failures, c.in-Err.ensures.cause)))
 
 pub returns-in_default-is_closing-clause-refusal :
     goal.returns-in_default-is_closing-clause-refusal

@@ -36,11 +36,11 @@ returns-in-Err-write_out-clause-answered g c =
     let piece = c.args.piece.now in
     let held = g.W.Sink.written c.args.writer.now in
     let held' = g.W.Sink.written c.write_out.new.writer in
-    let (waits, sent) = c.in-Err-write_out.ensures.part in
+    let (waits, some, sent) = c.in-Err-write_out.ensures.part in
     where_open old id _ (λ s here not_closing front taken. (
       tt,
       stops_writing old given new id s front piece held held' waits (g.W.Sink.failures c.args.writer.now) (g.W.Sink.failures c.write_out.new.writer)
-          c.write_out.new.turns c.in-Err-write_out.error c.in-Err-write_out.ensures.refusal
+          c.write_out.new.turns c.in-Err-write_out.error c.in-Err-write_out.ensures.refusal some
           (serves_given old given new id s (front ++ piece) held held' waits c.in_default.field-0.commands
           (answered_at old given id piece c.in_default.field-0.commands c.in_default.ensures.answered s front here not_closing taken) sent),
     ))

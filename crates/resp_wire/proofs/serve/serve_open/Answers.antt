@@ -16,13 +16,13 @@ returns-in-Err-clause-served g c =
     let id = c.args.id in
     let held = g.W.Sink.written c.args.writer.now in
     let held' = g.W.Sink.written c.write_out.new.writer in
-    let (waits, sent) = c.in-Err.ensures.part in (
+    let (waits, some, sent) = c.in-Err.ensures.part in (
       [],
       reads_none (g.R.Source.remaining c.args.reader.now),
       where_open old id _ (λ s here not_closing front taken. (
         tt,
         stops_writing old old new id s front [] held held' waits (g.W.Sink.failures c.args.writer.now) (g.W.Sink.failures c.write_out.new.writer)
-            c.write_out.new.turns c.in-Err.error c.in-Err.ensures.refusal
+            c.write_out.new.turns c.in-Err.error c.in-Err.ensures.refusal some
             (serves_nothing old new id s front held held' waits
             (at_open old id (λ t f. HasAnswered old old id t f 0) s front c.requires.waiting here not_closing taken) sent),
         none_ahead old id s front held held' sent.text sent.appended,

@@ -1,4 +1,4 @@
-use Rattle.std.proofs.Common.{drop, subst}
+use Rattle.std.proofs.Common.{◌<◌, arith, drop, length, length-drop, subst}
 use Rattle.resp_wire.specs.Serving.{HasSent}
 use Rattle.resp_wire.proofs.Seated.{all_dropped, sent_part}
 use Rattle.resp_wire.proofs.Turning.{if_err, if_ok}
@@ -20,8 +20,11 @@ pub returns-in-Err-clause-part : goal.returns-in-Err-clause-part
 returns-in-Err-clause-part g c =
     let old = c.args.hub.now in
     let text = c.in-Ok.out.now in
-    let written = c.write_text-written.result in (
+    let written = c.write_text-written.result in
+    let part = if_err written.end c.in-Err.halt c.in-Err.is (λ _. written.count < length text) c.write_text-written.ensures.part in
+    let rest = length-drop written.count text in (
       drop written.count text,
+      omega (arith, part, rest),
       sent_part old c.sent.new.self c.args.id text written.count (g.W.Sink.written c.args.writer.now)
           (g.W.Sink.written c.write_text-written.new.writer) c.in-Ok.ensures.waiting c.write_text-written.ensures.within c.in-Ok-sent.ensures.dropped
           c.write_text-written.ensures.appended,

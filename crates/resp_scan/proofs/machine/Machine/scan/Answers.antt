@@ -17,7 +17,7 @@ use Rattle.resp_scan.proofs.CallClauses.WholeTexts.{text_behind}
 use Rattle.resp_scan.proofs.machine.Machine.scan.Given as given
 use Rattle.resp_scan.proofs.machine.Machine.scan.Goals as goal
 
--- what stood behind the event
+-- what stood after the event
 went_on : (g : given.Over) (c : goal.Then-begins_anew g) → Runs g.L.Listener.Origin (place_of c.args.self.now) (place_of c.turn-turned.new.self)
     (g.L.Listener.has_heard c.args.listener.now) (g.L.Listener.has_heard c.turn-turned.new.listener) c.args.piece.now
     (c.loop-self.used + c.turn-turned.result.used)

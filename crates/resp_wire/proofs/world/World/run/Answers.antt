@@ -1,14 +1,15 @@
-use Rattle.std.proofs.Common.{◌≡◌, ◌∙◌, ◌<◌, None, arith, length, map, refl, subst, sym}
+use Rattle.std.proofs.Common.{◌≡◌, ◌∙◌, ◌<◌, None, arith, length, map, refl, subst, sym, take}
 use Rattle.resp_wire.specs.Happening.{RunsTo}
 use Rattle.resp_wire.specs.Worlds.{event_of}
 use Rattle.resp_wire.proofs.world.World.run.Goals as goal
-use Rattle.resp_wire.proofs.worlds.Running.{among, event_there, runs_none, runs_one_more, stopped_at_once, stops_again, takes_none, up_to_last, was_going}
+use Rattle.resp_wire.proofs.worlds.Running.{among, event_there, fails_in_run, runs_none, runs_one_more, stopped_at_once, stops_again, takes_none, up_to_last, was_going}
 
 pub loop-index-init : goal.loop-index-init
 loop-index-init g c = record {
   within = omega arith;
   happens = runs_none g.L.Link.is_honest c.args.self.now;
   same = refl;
+  keep = refl;
   as_many = refl;
   going = λ less. absurd (omega (arith, less));
 }
@@ -22,7 +23,8 @@ returns-in-Err-clause-stops g c =
       before = i.happens;
       stopped = stopped_at_once c.args.self.now.stopped c.loop-index.self.stopped c.loop-index.index c.in-Err.stop i.same i.going
           c.in-Err.ensures.stopped_before;
-      reason = λ none. c.in-Err.ensures.stops (i.same ∙ none);
+      reason = λ none. fails_in_run g.L.Link.is_honest g.L.Link.failures c.args.self.now c.loop-index.self c.step.new.self (take c.loop-index.index (map event_of
+          c.args.events.now)) c.in-Err.stop.cause i.happens i.keep (c.in-Err.ensures.stops (i.same ∙ none));
     }
 
 pub returns-in-Err-clause-stopped_before : goal.returns-in-Err-clause-stopped_before
@@ -44,6 +46,7 @@ loop-index-preserved g c =
           (event_of event) c.in_default.field-0 i.happens (event_there c.args.events.now c.loop-index.index event less c.index-events-index.is)
           c.in_default.ensures.happens;
       same = c.in_default.ensures.going ∙ sym none;
+      keep = c.in_default.ensures.none_failed ∙ i.keep;
       as_many = c.step.ensures.as_many ∙ i.as_many;
       going = λ _. none;
     }

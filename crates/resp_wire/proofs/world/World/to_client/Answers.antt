@@ -3,11 +3,11 @@ use Rattle.resp_value.specs.declared.cause.Cause.TheVariants.{OutOfMemory}
 use Rattle.resp_session.specs.Worlds.{ToClient}
 use Rattle.resp_wire.specs.Ends.{Keeps}
 use Rattle.resp_wire.specs.Happening.{Fails, Happens, IsOpenEnd}
-use Rattle.resp_wire.specs.Worlds.{WorldState}
+use Rattle.resp_wire.specs.Worlds.{KeepFailures, WorldState}
 use Rattle.resp_wire.specs.declared.event.Outcome.TheVariants.{Done}
 use Rattle.resp_wire.proofs.worlds.Carried.{with_client}
 use Rattle.resp_wire.proofs.worlds.Events.{both_ok}
-use Rattle.resp_wire.proofs.worlds.Moves.{err_of, moves_to_client, stops_for_memory, stops_to_client}
+use Rattle.resp_wire.proofs.worlds.Moves.{err_of, keep_failures, moves_to_client, stops_for_memory, stops_to_client}
 use Rattle.resp_wire.proofs.worlds.Places.{world_of}
 use Rattle.resp_wire.proofs.world.World.to_client.Goals as goal
 
@@ -55,3 +55,15 @@ returns-in-Err-clause-stops g c =
     c.a_change_is_of_one_connection.ensures s.hub carried.hub s.ends.items ends' s.links.items s.order.items s.order.items s.stopped n e c.index_mut.result.now
     carried.link c.new-heard.result carried.heard c.in-Err.cause c.self.invariant there is_open c.index_mut-2.ensures.value c.index_mut.ensures.value
     c.in-Err.ensures.refusal) c.requires.there c.requires.is_open
+
+pub returns-clause-none_failed : goal.returns-clause-none_failed
+returns-clause-none_failed g c =
+    let s = c.self.inside in
+    let n = c.args.number in
+    let link' = c.carry_to_client-carried.new.link in
+    let kept : KeepFailures g.L.Link.failures s.links.items (set s.links.items (n - 1) link') =
+    keep_failures g.L.Link.failures s.links.items (n - 1) c.index_mut.result.now link' c.index_mut.ensures.value c.in_default.ensures.none_failed in
+    both_ok c.keep.result (λ _. Keeps c.index_mut-3.result.now c.keep.new.self c.carry_to_client-carried.new.heard) (λ outcome. outcome ≡ Done) (λ _.
+    KeepFailures g.L.Link.failures c.args.self.now.links (set s.links.items (n - 1) link')) c.keep.ensures.kept c.keep.ensures.done
+    (λ outcome kept_heard done.
+    subst (λ (z : WorldState g.row.L.Denot). KeepFailures g.L.Link.failures z.links (set s.links.items (n - 1) link')) c.self.view_is kept)

@@ -1,10 +1,10 @@
 use Rattle.std.proofs.Common.{◌-◌, ◌≤◌, length, set, subst}
 use Rattle.resp_session.specs.Worlds.{ToServer}
 use Rattle.resp_wire.specs.Happening.{Fails, Happens, IsOpenEnd}
-use Rattle.resp_wire.specs.Worlds.{WorldState}
+use Rattle.resp_wire.specs.Worlds.{KeepFailures, WorldState}
 use Rattle.resp_wire.specs.declared.event.Outcome.TheVariants.{Done}
 use Rattle.resp_wire.proofs.worlds.Carried.{with_client}
-use Rattle.resp_wire.proofs.worlds.Moves.{moves_to_server, stops_to_server}
+use Rattle.resp_wire.proofs.worlds.Moves.{keep_failures, moves_to_server, stops_to_server}
 use Rattle.resp_wire.proofs.worlds.Places.{world_of}
 use Rattle.resp_wire.proofs.world.World.to_server.Goals as goal
 
@@ -37,3 +37,12 @@ returns-in-Err-clause-stops g c =
     (λ there is_open. stops_to_server g.L.Link.is_honest g.L.Link.failures c.what_arrives_is_answered.ensures s.hub carried.hub s.ends.items ends' s.links.items
     s.order.items carried.order.items s.stopped n e c.index_mut.result.now carried.link c.in-Err.cause c.self.invariant there is_open
     c.index_mut-2.ensures.value c.index_mut.ensures.value c.in-Err.ensures.refusal) c.requires.there c.requires.is_open
+
+pub returns-clause-none_failed : goal.returns-clause-none_failed
+returns-clause-none_failed g c =
+    let s = c.self.inside in
+    let n = c.args.number in
+    let link' = c.carry_to_server-carried.new.link in
+    let kept : KeepFailures g.L.Link.failures s.links.items (set s.links.items (n - 1) link') =
+    keep_failures g.L.Link.failures s.links.items (n - 1) c.index_mut.result.now link' c.index_mut.ensures.value c.in_default.ensures.none_failed in
+    subst (λ (z : WorldState g.row.L.Denot). KeepFailures g.L.Link.failures z.links (set s.links.items (n - 1) link')) c.self.view_is kept

@@ -1,0 +1,4 @@
+pub mod ScriptWords
+pub mod ScriptLines
+pub mod ScriptReading
+pub mod Playing

@@ -1,0 +1,4 @@
+pub mod ScriptSteps
+pub mod Scripts
+pub mod SaidLines
+pub mod Plays

@@ -1,0 +1,109 @@
+-- Scripts: their lines, what these say together, and the first bad one.
+use Rattle.std.specs.Prelude.{◌≡◌, ◌⊎◌, ℕ, ◌+◌, ◌≤◌, ◌==◌, Bool, true, false, not, List, [], ◌∷◌, ◌++◌, length, map, filter, sum_by, min, All, Option, None, Some, codes, decimal, if◌then◌else◌}
+use Rattle.std.specs.List.{before_first, enumerate_from}
+use Rattle.std.specs.Str.{byte}
+use Rattle.resp_wire.specs.declared.event.Event.{Event}
+use Rattle.resp_script.specs.ScriptSteps.{SaysStep, SaysClients, joined, clients_words, step_words}
+use Rattle.resp_script.specs.declared.script.Script.{Script}
+use Rattle.resp_script.specs.declared.script.ScriptError.{ScriptError}
+use Rattle.resp_script.specs.declared.script.ScriptError.TheVariants.{BadScript, Memory}
+
+-- lines whose first one has this byte before it
+abbrev pub onto_first_line : ℕ → List (List ℕ) → List (List ℕ)
+onto_first_line b [] = (b ∷ []) ∷ []
+onto_first_line b (line ∷ lines) = (b ∷ line) ∷ lines
+
+-- the lines of a text: each ends by LF, which the last may lack
+abbrev pub lines_of : List ℕ → List (List ℕ)
+lines_of [] = []
+lines_of (b ∷ text) = (if b == byte "\n" then [] ∷ lines_of text else onto_first_line b (lines_of text))
+
+-- whether the line is empty or begins with `#`
+abbrev pub is_passed_over : List ℕ → Bool
+is_passed_over [] = true
+is_passed_over (b ∷ line) = b == byte "#"
+
+-- the lines that aren't passed over, each with its number, from 1
+abbrev pub said_lines : List (List ℕ) → List (ℕ × List ℕ)
+said_lines lines = filter (λ line. not (is_passed_over line.1)) (enumerate_from 1 lines)
+
+-- the line for a step, with its number
+abbrev pub step_line : ℕ × Option Event → ℕ × List ℕ
+step_line step = (step.0, joined (step_words step.1))
+
+-- The lines say this number of clients, and after it these steps, each with the number of its line. Nothing else
+-- stands there but what is passed over.
+pub record SayScript (clients : ℕ) (lines : List (List ℕ)) (steps : List (ℕ × Option Event)) : Type 0 where
+  pub number : ℕ
+  pub in_turn : said_lines lines ≡ (number, joined (clients_words clients)) ∷ map step_line steps
+  pub clients_named : SaysClients (joined (clients_words clients)) clients
+  pub steps_said : All (λ step. SaysStep clients (joined (step_words step.1)) step.1) steps
+
+-- what lines say so far: nothing, or the number of clients and steps
+abbrev pub SaySoFar : Option ℕ → List (List ℕ) → List (ℕ × Option Event) → Type 0
+SaySoFar None lines steps = (said_lines lines ≡ []) × (steps ≡ [])
+SaySoFar (Some clients) lines steps = SayScript clients lines steps
+
+-- how many bytes of a text stand up to the end of these first lines of it, with the LF after each
+abbrev pub bytes_to_end : List ℕ → List (List ℕ) → ℕ
+bytes_to_end text lines = min (length text) (sum_by (λ line. length line + 1) lines)
+
+-- the first lines of a text are within the limits of a script
+pub record AreWithin (text : List ℕ) (lines : List (List ℕ)) : Type 0 where
+  pub few : length lines ≤ 10000
+  pub short : All (λ line. length line ≤ 4096) lines
+  pub small : bytes_to_end text lines ≤ 1048576
+
+-- the text is a script that says this
+pub record IsScript (text : List ℕ) (script : Script) : Type 0 where
+  pub said : SayScript script.clients (lines_of text) script.steps.items
+  pub within : AreWithin text (lines_of text)
+
+-- a line that a script may have where this many clients were named, or none yet
+abbrev pub SaysSomething : Option ℕ → List ℕ → Type 0
+SaysSomething None line = (clients : ℕ) × SaysClients line clients
+SaysSomething (Some clients) line = (step : Option Event) × SaysStep clients line step
+
+-- a line that isn't passed over and says nothing
+abbrev pub SaysNothing : Option ℕ → List ℕ → Type 0
+SaysNothing named line = (is_passed_over line ≡ false) × (SaysSomething named line → ⊥)
+
+-- the line of this number is bad, and those before it are not
+pub record IsFirstBad (text : List ℕ) (number : ℕ) : Type 0 where
+  pub before : List (List ℕ)
+  pub bad : List ℕ
+  pub behind : List (List ℕ)
+  pub whole : lines_of text ≡ before ++ bad ∷ behind
+  pub counted : length before + 1 ≡ number
+  pub named : Option ℕ
+  pub steps : List (ℕ × Option Event)
+  pub said : SaySoFar named before steps
+  pub within : AreWithin text before
+  pub is_bad : (AreWithin text (before ++ bad ∷ []) → ⊥) ⊎ SaysNothing named bad
+
+-- the first word of a line
+abbrev pub first_word : List ℕ → List ℕ
+first_word line = before_first (λ b. b == byte " ") line
+
+-- the first word of none of these lines is `clients`
+abbrev pub NameNoClients : List (List ℕ) → Type 0
+NameNoClients lines = All (λ line. first_word line ≡ codes "clients" → ⊥) lines
+
+-- why a text is no script: its first bad line, or line 1 where no line names the number of clients
+abbrev pub IsRefusedAt : List ℕ → ℕ → Type 0
+IsRefusedAt text number =
+    NameNoClients (lines_of text) × (number ≡ 1) ⊎ (NameNoClients (lines_of text) → ⊥) × IsFirstBad text number
+
+abbrev pub IsRefused : List ℕ → ScriptError → Type 0
+IsRefused text (BadScript number) = IsRefusedAt text number
+IsRefused text Memory = Unit {0}
+
+-- the line that says why a script is not taken
+abbrev pub script_fault_line : ScriptError → List ℕ
+script_fault_line (BadScript line) = codes "line " ++ decimal line ++ codes ": BadScript\n"
+script_fault_line Memory = codes "out of memory\n"
+
+-- 1 for a bad script, and 3 when out of memory
+abbrev pub script_status : ScriptError → ℕ
+script_status (BadScript line) = 1
+script_status Memory = 3

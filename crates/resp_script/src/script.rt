@@ -1,0 +1,149 @@
+//! The script of `loop`: lines, each an event for the client of a number.
+
+ghost use Rattle.std.specs.Prelude.{◌≡◌, ◌+◌, ◌-◌, ◌<◌, [], ◌∷◌, length, IfOk, IfErr, IfSome, IfNone, MatchBool};
+ghost use Rattle.resp_script.specs.Scripts.{IsRefused, IsScript, NameNoClients, lines_of};
+ghost use Rattle.resp_tool.specs.Written.{WritesText};
+
+mod steps;
+mod words;
+
+use memchr::memchr;
+use resp_tool::text::{write_number, write_text};
+use resp_value::device::{Sink, WriteFault};
+use resp_wire::Event;
+use std::alloc::Global;
+use steps::{Saying, said};
+use thiserror::Error;
+use words::LineFault;
+
+/// The most bytes of a script.
+pub const MOST_BYTES: usize = 1_048_576;
+
+/// The most lines of a script.
+const MOST_LINES: u64 = 10_000;
+
+/// The most bytes of a line, without its LF.
+const MOST_IN_LINE: usize = 4_096;
+
+/// What a script says.
+#[derive(Debug, PartialEq, Eq, Drop)]
+pub struct Script {
+    /// How many clients there are, from 1 to 16.
+    pub clients: usize,
+    /// The events in their order, each with the number of its line, from 1. None is `flush`.
+    pub steps: Vec<(u64, Option<Event>)>,
+}
+
+/// Why a script is not taken.
+#[derive(Clone, Copy, Debug, PartialEq, Eq, Error)]
+pub enum ScriptError {
+    /// This line, counted from 1, is the first bad one; or it is line 1, and no line begins with
+    /// the word `clients`.
+    #[error("line {line} of the script is bad")]
+    BadScript { line: u64 },
+    /// A growth was refused.
+    #[error("out of memory")]
+    Memory,
+}
+
+impl ScriptError {
+    ghost use Rattle.resp_script.specs.Scripts.{script_fault_line, script_status};
+
+    /// Writes the line that says what was refused, with an LF. Refuses where a write fails, and
+    /// then the first bytes of the line were written.
+    pub fn line<W: Sink>(&self, writer: &mut W) -> Result<(), WriteFault>
+        ensures { WritesText (W.written writer.old) (W.written writer.new) (W.failures writer.old)
+            (W.failures writer.new) result (script_fault_line self.now) }
+    {
+        match self {
+            ScriptError::BadScript { line } => {
+                write_number(writer, b"line ", *line, b": BadScript\n")
+            }
+            ScriptError::Memory => write_text(writer, b"out of memory\n"),
+        }
+    }
+
+    /// The status that the program ends with: 1 for a bad script, and 3 when out of memory.
+    pub fn status(&self) -> u8
+        ensures { result ≡ script_status self.now }
+    {
+        match self {
+            ScriptError::BadScript { .. } => 1,
+            ScriptError::Memory => 3,
+        }
+    }
+}
+
+/// Reads a script: at most 1,048,576 bytes and 10,000 lines, and in each line at most 4,096 bytes
+/// without its LF and 64 words.
+///
+/// Refuses it by its first bad line, or by line 1 where no line begins with the word `clients`, and
+/// when out of memory.
+pub fn read_script(alloc: Global, bytes: &[u8]) -> Result<Script, ScriptError>
+    ensures script { IfOk result (λ script. IsScript bytes.now script) }
+    ensures refused { IfErr result (λ error. IsRefused bytes.now error) }
+{
+    if !names_clients(bytes) {
+        return Err(ScriptError::BadScript { line: 1 });
+    }
+    let mut clients = None;
+    let mut steps = Vec::new(alloc);
+    let mut line: u64 = 0;
+    let mut rest = bytes;
+    while let Some((content, behind)) = first_line(rest) {
+        line += 1;
+        let read = bytes.len() - behind.len();
+        if line > MOST_LINES || content.len() > MOST_IN_LINE || read > MOST_BYTES {
+            return Err(ScriptError::BadScript { line });
+        }
+        match said(alloc, clients, content) {
+            Ok(Saying::Nothing) => {}
+            Ok(Saying::Clients(count)) => clients = Some(count),
+            Ok(Saying::Step(step)) => {
+                if steps.push((line, step)).is_err() {
+                    return Err(ScriptError::Memory);
+                }
+            }
+            Err(LineFault::Bad) => return Err(ScriptError::BadScript { line }),
+            Err(LineFault::Memory) => return Err(ScriptError::Memory),
+        }
+        rest = behind;
+    }
+    match clients {
+        Some(clients) => Ok(Script { clients, steps }),
+        None => Err(ScriptError::BadScript { line: 1 }),
+    }
+}
+
+/// The first line of a text, without its LF, and what stands after that.
+fn first_line(text: &[u8]) -> Option<(&[u8], &[u8])>
+    ensures line { IfSome result (λ parts.
+        lines_of text.now ≡ parts.0.now ∷ lines_of parts.1.now) }
+    ensures left { IfSome result (λ parts.
+        length parts.1.now ≡ length text.now - (length parts.0.now + 1)) }
+    ensures shorter { IfSome result (λ parts. length parts.1.now < length text.now) }
+    ensures end { IfNone result (text.now ≡ []) }
+{
+    if text.is_empty() {
+        return None;
+    }
+    match memchr(b'\n', text) {
+        Some(at) => Some((&text[..at], &text[at + 1..])),
+        None => Some((text, &[])),
+    }
+}
+
+/// Whether the first word of a line is `clients`.
+fn names_clients(text: &[u8]) -> bool
+    ensures { MatchBool result (NameNoClients (lines_of text.now) → ⊥)
+        (NameNoClients (lines_of text.now)) }
+{
+    let mut rest = text;
+    while let Some((line, behind)) = first_line(rest) {
+        if words::first_word(line) == b"clients".as_slice() {
+            return true;
+        }
+        rest = behind;
+    }
+    false
+}

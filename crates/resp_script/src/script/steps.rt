@@ -1,0 +1,262 @@
+//! What a line of a script says.
+
+ghost use Rattle.std.specs.Prelude.{◌≡◌, ℕ, ◌≤◌, ◌<◌, List, [], ◌∷◌, length, map, Option, IsErrOf, IfOk, IfSome, IfNone, decimal};
+ghost use Rattle.resp_value.specs.Words.{texts_of};
+ghost use Rattle.resp_script.specs.ScriptSteps.{arguments_of, asked_words, client_of, clients_words, item_word, name_of, step_words, verb_of, HasRange, IsInRange, IsMoved};
+ghost use Rattle.resp_script.specs.Scripts.{is_passed_over, SaysNothing};
+ghost use Rattle.resp_script.specs.SaidLines.{Says};
+
+use crate::script::words::{LineFault, number_of, words_of};
+use resp_value::command::Command;
+use resp_value::content::Content;
+use resp_value::value::{Members, Value};
+use resp_value::version::Version;
+use resp_wire::Event;
+use std::alloc::{AllocError, Global};
+
+/// The most clients of a script.
+const MOST_CLIENTS: u64 = 16;
+
+/// The most bytes that one event moves.
+const MOST_MOVED: u64 = 1_000_000_000;
+
+/// What a line says.
+#[derive(Debug, PartialEq, Eq, Drop)]
+pub enum Saying {
+    /// It is passed over.
+    Nothing,
+    /// How many clients there are.
+    Clients(usize),
+    /// An event, or none for `flush`.
+    Step(Option<Event>),
+}
+
+/// What happens in an event.
+#[derive(Clone, Copy, Debug, PartialEq, Eq)]
+enum Verb {
+    Send,
+    Hello,
+    Server,
+    Client,
+    Push,
+    Drop,
+}
+
+/// What a line says, where the number of clients was named, or not yet. Refuses by Bad where it says
+/// nothing there, and when out of memory.
+pub fn said(alloc: Global, clients: Option<usize>, line: &[u8]) -> Result<Saying, LineFault>
+    ensures said { IfOk result (λ said. Says clients line.now said) }
+    ensures bad { IsErrOf result LineFault.Bad → SaysNothing clients line.now }
+{
+    if is_passed_over(line) {
+        return Ok(Saying::Nothing);
+    }
+    let words = match words_of(alloc, line) {
+        Ok(words) => words,
+        Err(fault) => return Err(fault),
+    };
+    match clients {
+        None => match clients_of(words.as_slice()) {
+            Some(count) => Ok(Saying::Clients(count)),
+            None => Err(LineFault::Bad),
+        },
+        Some(clients) => match step_of(alloc, clients, words.as_slice()) {
+            Ok(step) => Ok(Saying::Step(step)),
+            Err(fault) => Err(fault),
+        },
+    }
+}
+
+/// Whether the line is passed over: it is empty or begins with `#`.
+fn is_passed_over(line: &[u8]) -> bool
+    ensures { result ≡ is_passed_over line.now }
+{
+    match line.first() {
+        Some(byte) => *byte == b'#',
+        None => true,
+    }
+}
+
+/// The number of clients that these words name.
+fn clients_of(words: &[&[u8]]) -> Option<usize>
+    ensures clients { IfSome result (λ clients.
+        (map (λ word. word.now) words.now ≡ clients_words clients) ×
+        (1 ≤ clients) × (clients ≤ 16)) }
+    ensures none { IfNone result ((clients : ℕ) →
+        map (λ word. word.now) words.now ≡ clients_words clients → 1 ≤ clients →
+        clients ≤ 16 → ⊥) }
+{
+    match words {
+        [name, number] if *name == b"clients".as_slice() => {
+            match number_of(number, MOST_CLIENTS) {
+                Some(count) => Some(count as usize),
+                None => None,
+            }
+        }
+        _ => None,
+    }
+}
+
+/// The step that these words say, where there are `clients` clients.
+fn step_of(alloc: Global, clients: usize, words: &[&[u8]]) -> Result<Option<Event>, LineFault>
+    ensures step { IfOk result (λ step.
+        (map (λ word. word.now) words.now ≡ step_words step) × IsInRange clients step) }
+    ensures bad { IsErrOf result LineFault.Bad → (step : Option Event) →
+        map (λ word. word.now) words.now ≡ step_words step → IsInRange clients step → ⊥ }
+{
+    let Some((name, behind)) = words.split_first() else {
+        return Err(LineFault::Bad);
+    };
+    if *name == b"flush".as_slice() {
+        return if behind.is_empty() {
+            Ok(None)
+        } else {
+            Err(LineFault::Bad)
+        };
+    }
+    let Some(verb) = verb_of(name) else {
+        return Err(LineFault::Bad);
+    };
+    let Some((number, arguments)) = behind.split_first() else {
+        return Err(LineFault::Bad);
+    };
+    let Some(client) = number_of(number, clients as u64) else {
+        return Err(LineFault::Bad);
+    };
+    match event_of(alloc, verb, client as usize, arguments) {
+        Ok(event) => Ok(Some(event)),
+        Err(fault) => Err(fault),
+    }
+}
+
+/// What the first word of a line says.
+fn verb_of(name: &[u8]) -> Option<Verb>
+    ensures verb { IfSome result (λ verb. name.now ≡ name_of verb) }
+    ensures none { IfNone result ((verb : Verb) → name.now ≡ name_of verb → ⊥) }
+{
+    if name == b"send".as_slice() {
+        Some(Verb::Send)
+    } else if name == b"hello".as_slice() {
+        Some(Verb::Hello)
+    } else if name == b"server".as_slice() {
+        Some(Verb::Server)
+    } else if name == b"client".as_slice() {
+        Some(Verb::Client)
+    } else if name == b"push".as_slice() {
+        Some(Verb::Push)
+    } else if name == b"drop".as_slice() {
+        Some(Verb::Drop)
+    } else {
+        None
+    }
+}
+
+/// The event of this client with these words after its number.
+fn event_of(alloc: Global, verb: Verb, client: usize, words: &[&[u8]]) -> Result<Event, LineFault>
+    ensures event { IfOk result (λ event. (verb_of event ≡ verb) × (client_of event ≡ client) ×
+        (map (λ word. word.now) words.now ≡ arguments_of event) × HasRange event) }
+    ensures bad { IsErrOf result LineFault.Bad → (event : Event) → verb_of event ≡ verb →
+        map (λ word. word.now) words.now ≡ arguments_of event → HasRange event → ⊥ }
+{
+    match verb {
+        Verb::Send => sent(alloc, client, words),
+        Verb::Hello => match asked(words) {
+            Some(asked) => Ok(Event::Hello(client, asked)),
+            None => Err(LineFault::Bad),
+        },
+        Verb::Server => match moved(words) {
+            Some(count) => Ok(Event::ToServer(client, count)),
+            None => Err(LineFault::Bad),
+        },
+        Verb::Client => match moved(words) {
+            Some(count) => Ok(Event::ToClient(client, count)),
+            None => Err(LineFault::Bad),
+        },
+        Verb::Push => match items_of(alloc, words) {
+            Ok(items) => Ok(Event::Push(client, Members::new(items))),
+            Err(AllocError) => Err(LineFault::Memory),
+        },
+        Verb::Drop => {
+            if words.is_empty() {
+                Ok(Event::Drop(client))
+            } else {
+                Err(LineFault::Bad)
+            }
+        }
+    }
+}
+
+/// The command of these words, asked by this client.
+fn sent(alloc: Global, client: usize, words: &[&[u8]]) -> Result<Event, LineFault>
+    ensures event { IfOk result (λ event. (verb_of event ≡ Verb.Send) ×
+        (client_of event ≡ client) × (map (λ word. word.now) words.now ≡ arguments_of event) ×
+        HasRange event) }
+    ensures bad { IsErrOf result LineFault.Bad → words.now ≡ [] }
+{
+    let copies = match copies(alloc, words) {
+        Ok(copies) => copies,
+        Err(AllocError) => return Err(LineFault::Memory),
+    };
+    match Command::new(copies) {
+        Ok(command) => Ok(Event::Send(client, command)),
+        Err(_) => Err(LineFault::Bad),
+    }
+}
+
+/// The version that HELLO asks by these words, if it asks one.
+fn asked(words: &[&[u8]]) -> Option<Option<Version>>
+    ensures asked { IfSome result (λ asked.
+        map (λ word. word.now) words.now ≡ asked_words asked) }
+    ensures none { IfNone result ((asked : Option Version) →
+        map (λ word. word.now) words.now ≡ asked_words asked → ⊥) }
+{
+    match words {
+        [] => Some(None),
+        [word] => {
+            if *word == b"2".as_slice() {
+                Some(Some(Version::Two))
+            } else if *word == b"3".as_slice() {
+                Some(Some(Version::Three))
+            } else {
+                None
+            }
+        }
+        _ => None,
+    }
+}
+
+/// The number of bytes to move that is the one word here.
+fn moved(words: &[&[u8]]) -> Option<u64>
+    ensures moved { IfSome result (λ count.
+        (map (λ word. word.now) words.now ≡ decimal count ∷ []) × IsMoved count) }
+    ensures none { IfNone result ((count : ℕ) →
+        map (λ word. word.now) words.now ≡ decimal count ∷ [] → IsMoved count → ⊥) }
+{
+    match words {
+        [word] => number_of(word, MOST_MOVED),
+        _ => None,
+    }
+}
+
+/// Each word in memory of its own.
+fn copies(alloc: Global, words: &[&[u8]]) -> Result<Vec<Vec<u8>>, AllocError>
+    ensures { IfOk result (λ copies. texts_of copies.items ≡ map (λ word. word.now) words.now) }
+{
+    let mut copies = Vec::new(alloc);
+    for word in words {
+        copies.push(Vec::from_slice(alloc, word)?)?;
+    }
+    Ok(copies)
+}
+
+/// Each word as a bulk string.
+fn items_of(alloc: Global, words: &[&[u8]]) -> Result<Vec<Value>, AllocError>
+    ensures { IfOk result (λ items. map item_word items.items ≡ map (λ word. word.now) words.now) }
+{
+    let mut items = Vec::new(alloc);
+    for word in words {
+        let content = Content::new(Vec::from_slice(alloc, word)?);
+        items.push(Value::Bulk(content))?;
+    }
+    Ok(items)
+}

@@ -1,0 +1,5 @@
+//! Tests of scripts, over the public calls of resp_script.
+#![tactic(auto)]
+
+#[cfg(test)]
+mod tests;
