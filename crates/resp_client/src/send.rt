@@ -43,12 +43,7 @@ fn hello_text(asked: Option<Version>) -> &'static [u8]
 fn hello_fits(limits: &Limits, asked: Option<Version>)
     ensures { FitsRequest limits.now (Hello asked) }
 {
-    let _ = (
-        limits.depth(),
-        limits.length(),
-        limits.total(),
-        limits.items(),
-    );
+    limits.are_in_range();
 }
 
 impl Client {

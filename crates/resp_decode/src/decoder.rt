@@ -1,6 +1,6 @@
 //! The decoder, which reads values from pieces of any size.
 
-ghost use Rattle.std.specs.Prelude.{◌≡◌, ◌⊎◌, ◌↔◌, ◌≤◌, ◌++◌, ℕ, length, take, [], Err, IsOk, OnOk, OnErr, IfOk, IfErr};
+ghost use Rattle.std.specs.Prelude.{◌≡◌, ◌⊎◌, ◌↔◌, ◌≤◌, ◌<◌, ◌++◌, ℕ, length, take, [], Err, IsOk, OnOk, OnErr, IfOk, IfErr};
 ghost use Rattle.resp_scan.specs.Listening.{fault_of};
 ghost use Rattle.resp_value.specs.declared.cause.Cause.TheVariants as cause;
 
@@ -59,6 +59,8 @@ impl Decoder {
             RefusesByte (rules_of self.old) front piece.now fault ⊎
             LacksMemory (rules_of self.old) front piece.now fault)) }
 
+        ensures uses_bytes { WhereTaken self.old (λ front. IfOk result (λ fed.
+            0 < length piece.now → 0 < fed.used)) }
         ensures within_piece { IfOk result (λ fed. fed.used ≤ length piece.now) }
         ensures same_rules { rules_of self.new ≡ rules_of self.old }
         ensures fault_is_kept { IfErr result (HasFault self.new) }

@@ -1,7 +1,7 @@
 //! The scanner, which reads values from pieces of any size and gives their events.
 
 ghost use Rattle.resp_value.specs.Bounds.{AreBounds};
-ghost use Rattle.std.specs.Prelude.{◌≡◌, ◌↔◌, ◌≤◌, ◌+◌, ◌++◌, ℕ, length, take, [], false, None, Some, Err, IsOk, OnOk, OnErr, IfOk, IfErr};
+ghost use Rattle.std.specs.Prelude.{◌≡◌, ◌↔◌, ◌≤◌, ◌<◌, ◌+◌, ◌++◌, ℕ, length, take, [], false, None, Some, Err, IsOk, OnOk, OnErr, IfOk, IfErr};
 ghost use Rattle.resp_value.specs.declared.cause.Cause.TheVariants as cause;
 
 use crate::event::{Busy, Event, Fault, ScanError, Scanned, Step};
@@ -44,7 +44,7 @@ impl Scanner {
     ghost use Rattle.resp_scan.specs.Parts.{IsOfPiece};
     ghost use Rattle.resp_scan.specs.Kinds.{rules_of};
     ghost use Rattle.resp_scan.specs.Machine.Sound.{IsSound, needed};
-    ghost use Rattle.resp_scan.specs.Reading.{BeginDue, EndsValue, HasNoDone, HasRead, IfDone, IfNoEvent, IfOtherEvent, IsFaulted, IsRefused, MayEnd, UsesUp, WhereRead, events_of};
+    ghost use Rattle.resp_scan.specs.Reading.{BeginDue, EndsValue, HasNoDone, HasNoValue, HasRead, IfDone, IfNoEvent, IfOtherEvent, IsFaulted, IsRefused, MayEnd, UsesUp, WhereRead, events_of};
     ghost use Rattle.resp_scan.specs.Listening.{HearsPiece, HearsRefusal, HearsValue, IfRefused, IfStopped, IfUsedUp, IfWhole, StopsBehind, WhereHeard, fault_of};
     ghost use Rattle.resp_value.specs.Rules.{WithinTotal, rules_under};
     ghost use Rattle.resp_value.specs.Spellings.{IsViable};
@@ -55,10 +55,11 @@ impl Scanner {
         ensures nothing_read { HasRead result [] [] }
         ensures rules { rules_of result ≡ rules_under version limits.now }
     {
+        limits.are_in_range();
         Scanner {
             machine: Machine {
                 version,
-                limits: in_range(limits),
+                limits: *limits,
                 frames: ArrayVec::new(),
                 state: State::Start,
                 taken: 0,
@@ -151,6 +152,10 @@ impl Scanner {
         ensures stopped { WhereHeard self.old (L.has_heard listener.old) (λ since front.
             IfStopped result (StopsBehind (rules_of self.old) (L.has_stopped listener.new since)
             front piece.now)) }
+
+        // No value has ended before, so that of a piece with a byte at least one is used.
+        ensures uses_bytes { WhereHeard self.old (L.has_heard listener.old) (λ since front.
+            HasNoValue front → IfOk result (λ scanned. 0 < length piece.now → 0 < scanned.used)) }
 
         ensures within_piece { IfOk result (λ scanned. scanned.used ≤ length piece.now) }
         ensures whole_piece { IfOk result (λ scanned.
@@ -275,19 +280,4 @@ impl Scanner {
     {
         self.machine.needed()
     }
-}
-
-/// The limits, of which each is in its range.
-#[inline]
-fn in_range(limits: &Limits) -> Limits
-    ensures same { result ≡ limits.now }
-    ensures in_range { AreBounds result }
-{
-    let _ = (
-        limits.depth(),
-        limits.length(),
-        limits.total(),
-        limits.items(),
-    );
-    *limits
 }

@@ -23,16 +23,6 @@ use resp_value::value::Value;
 use std::alloc::{AllocError, Global};
 use std::hash::BuildHasher;
 
-/// The numbers of these limits are within their ranges.
-pub(crate) fn in_range(limits: &Limits)
-    ensures { AreBounds limits.now }
-{
-    let _depth = limits.depth();
-    let _length = limits.length();
-    let _total = limits.total();
-    let _items = limits.items();
-}
-
 /// Runs a command of these words, and queues the reply. Where memory is wanting, the store, the
 /// session's version and what waits are as before.
 fn run_words<S: BuildHasher>(
@@ -54,7 +44,7 @@ fn run_words<S: BuildHasher>(
     ensures rest { HasSameRest session.old session.new }
 {
     laws::effects_fit();
-    in_range(limits);
+    limits.are_in_range();
     run(operation_of(words), store, session, id, limits)
 }
 

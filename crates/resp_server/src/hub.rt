@@ -190,6 +190,7 @@ impl<S: BuildHasher> Hub<S> {
     pub fn close(&mut self, id: u64) -> Result<(), NoSession>
         ensures closed { OnOk result (self.new ≡
             record self.old { sessions = without_seat self.old.sessions id }) }
+        ensures gone { OnOk result (seat_at self.new id ≡ None) }
         ensures some { OnOk result (seat_at self.old id ≢ None) }
         ensures none { OnErr result (seat_at self.old id ≡ None) }
         ensures unchanged { OnErr result (self.new ≡ self.old) }

@@ -8,7 +8,7 @@ ghost use Rattle.resp_session.specs.Fitting.{FitsStore};
 ghost use Rattle.resp_server.specs.Answering.{IsTurn, IsRefused, IsNamedFault};
 ghost use Rattle.resp_server.specs.Running.{IsAsBefore};
 
-use crate::answer_value::{answer_value, in_range};
+use crate::answer_value::answer_value;
 use crate::fault_line::append_fault;
 use crate::session::Session;
 use crate::store::Store;
@@ -53,7 +53,7 @@ pub(crate) fn take_turn<S: BuildHasher>(
 {
     grammar::no_spelling_is_empty();
     grammar::the_empty_text_is_viable();
-    in_range(limits);
+    limits.are_in_range();
     let fed = match session.decoder.feed(piece) {
         Ok(fed) => fed,
         Err(fault) => {

@@ -8,11 +8,13 @@ pub mod ClientFaults
 pub mod Hearing
 pub mod OrdersGoOn
 pub mod Replays
+pub mod NamedRequests
 pub mod WholeTexts
 pub mod Changes
 pub mod Parts
 pub mod WorldsHold
 pub mod WorldLaws
+pub mod Pushed
 pub mod InlineCommand
 pub mod FittingWords
 pub mod Elements

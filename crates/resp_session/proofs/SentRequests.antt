@@ -63,11 +63,11 @@ request_is_sent spells limits bounds count request bytes named sent unrefused =
           (words_fit limits words bounds (λ h. unrefused TooLarge (sent, h))),
     )
 
-has_name : (words : List (List ℕ)) → is_unsent words ≡ false → 0 < length words
+pub has_name : (words : List (List ℕ)) → is_unsent words ≡ false → 0 < length words
 has_name [] e = absurd (cc)
 has_name (word ∷ words) e = omega arith
 
-hello_has_name : (asked : Option Version) → HasName (Hello asked)
+pub hello_has_name : (asked : Option Version) → HasName (Hello asked)
 hello_has_name None = omega arith
 hello_has_name (Some version) = omega arith
 

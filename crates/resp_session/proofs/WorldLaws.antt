@@ -12,7 +12,7 @@ use Rattle.resp_session.specs.Runs.{Run}
 use Rattle.resp_session.specs.Orders.{IsBeginning, part_of_client, sent_replies}
 use Rattle.resp_session.specs.WorldLaws.{AWorldHasOneOrder, ARunIsCut, ShownRepliesAreOfTheOrder, WhatIsShownWasSent}
 use Rattle.resp_session.proofs.Parts.{Holds}
-use Rattle.resp_session.proofs.Replays.{agrees_with_its_order}
+use Rattle.resp_session.proofs.Replays.{a_run_keeps}
 use Rattle.resp_session.proofs.WorldsHold.{run_holds, new_world_holds}
 
 -- what stands of a connection of a world of a run
@@ -31,8 +31,10 @@ part_begins i c order h =
     )
 
 pub a_world_has_one_order : AWorldHasOneOrder
-a_world_has_one_order limits n events w r = record {
-  replay = agrees_with_its_order limits n events w r;
+a_world_has_one_order limits n events w r = let kept = a_run_keeps limits n events w r in record {
+  count = kept.count;
+  clients = kept.clients;
+  replay = kept.agrees;
   parts = λ i c at. part_begins i c w.order (holds_at limits n events w r i c at);
 }
 

@@ -1,11 +1,13 @@
 -- Words of the worked examples.
-use Rattle.std.specs.Prelude.{ℕ, true, false, List, [], ◌∷◌, ◌++◌, Option, None, Some, map, fold, codes}
+use Rattle.std.specs.Prelude.{◌≡◌, ℕ, true, false, List, [], ◌∷◌, ◌++◌, Option, None, Some, map, fold, codes}
 use Rattle.resp_value.specs.Bounds.{Bounds, AreBounds}
 use Rattle.resp_value.specs.Data.{Datum, Attr, aggregate, more, none}
 use Rattle.resp_value.specs.declared.cause.Cause.{Cause}
+use Rattle.resp_value.specs.declared.cause.Cause.TheVariants.{TooMany}
 use Rattle.resp_value.specs.declared.version.Version.TheVariants.{Two, Three}
 use Rattle.resp_session.specs.Runs.{Step, Refused, Gone}
-use Rattle.resp_session.specs.Replies.{bulk_string}
+use Rattle.resp_session.specs.Replies.{bulk_string, simple_string}
+use Rattle.resp_session.specs.Requests.{Request, FitsRequest, RefusesRequest, is_unsent_request}
 use Rattle.resp_session.specs.Answers.{SessionState, Answers, after_values}
 use Rattle.resp_session.specs.Connections.{Connection, shown_replies, shown_pushes, push_message}
 use Rattle.resp_session.specs.Worlds.{World, WorldEvent, Send, Greet, ToServer, ToClient, Push, Drop, new_world, after_event, connection_at}
@@ -78,6 +80,19 @@ push_of_one content = (push_message (bulk_string content ∷ [])).value
 -- the value with an attribute of no pairs before it
 abbrev pub annotated : Datum → Datum
 annotated x = aggregate Attr (more x none)
+
+-- the value with an attribute of one pair before it, which maps a line to this
+abbrev pub annotated_with : Datum → Datum → Datum
+annotated_with note x = aggregate Attr (more (simple_string (codes "k")) (more note (more x none)))
+
+-- a client that has queued as many commands as this refuses no request since its numbers are used up
+abbrev pub HasNumberAfter : ℕ → Type 0
+HasNumberAfter count = (limits : Bounds) (request : Request) → RefusesRequest limits count request TooMany → ⊥
+
+-- a client that has queued as many commands as this refuses each that it would send, since its numbers are used up
+abbrev pub HasNoNumberAfter : ℕ → Type 0
+HasNoNumberAfter count = (limits : Bounds) (request : Request) → is_unsent_request request ≡ false →
+    FitsRequest limits request → RefusesRequest limits count request TooMany
 
 -- the clients of the commands, in the order in which these were run
 abbrev pub clients_of : World → List ℕ

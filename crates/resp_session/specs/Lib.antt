@@ -19,3 +19,4 @@ pub mod ReadingLaws
 pub mod WorldLaws
 pub mod Examples
 pub mod Serving
+pub mod Pushed

@@ -1,19 +1,52 @@
 -- One order of all commands.
-use Rattle.std.specs.Prelude.{◌≡◌, ℕ, ◌==◌, not, List, ◌++◌, map, filter, Some}
+use Rattle.std.specs.Prelude.{◌≡◌, ℕ, ◌==◌, ◌≤◌, not, List, [], ◌∷◌, ◌++◌, length, map, filter, fold, Some, if◌then◌else◌}
+use Rattle.std.specs.List.{AllByRecursion}
 use Rattle.resp_value.specs.declared.version.Version.{Version}
+use Rattle.resp_value.specs.declared.version.Version.TheVariants.{Two}
 use Rattle.resp_session.specs.Heard.{is_push}
+use Rattle.resp_session.specs.Operations.{operation_of}
 use Rattle.resp_session.specs.Requests.{request_words}
+use Rattle.resp_session.specs.Stores.{Store, Effect, effect_of}
 use Rattle.resp_session.specs.Connections.{Connection, Message}
-use Rattle.resp_session.specs.Worlds.{World, connection_at, after_commands, new_world}
+use Rattle.resp_session.specs.Worlds.{World, connection_at}
 
 -- the words of one client's commands, in their order
 abbrev pub part_of_client : ℕ → List (ℕ × List (List ℕ)) → List (List (List ℕ))
 part_of_client i order =
     map (λ (c : ℕ × List (List ℕ)). c.1) (filter (λ (c : ℕ × List (List ℕ)). c.0 == i) order)
 
--- the world of this many clients after these commands, run one after another from the empty store
-abbrev pub replay_of : ℕ → List (ℕ × List (List ℕ)) → World
-replay_of n order = after_commands (new_world n) order
+-- what commands leave that are run one after another: one store, and for the client of each number the version of its
+-- session and the replies to it
+pub record Replay : Type 0 where
+  pub store : Store
+  pub version : ℕ → Version
+  pub replies : ℕ → List Message
+
+-- before any command: an empty store, version 2 for all, and no replies
+abbrev pub nothing_run : Replay
+nothing_run = record { store = []; version = λ i. Two; replies = λ i. [] }
+
+-- the same for each number but this one, for which it is x
+abbrev pub with_at : {X : Type 0} → ℕ → X → (ℕ → X) → ℕ → X
+with_at {X} i x f j = if j == i then x else f j
+
+-- a command of this client has had this effect: its reply is the last of those to the client, and no other client is told
+abbrev pub replay_effect : Replay → ℕ → Effect → Replay
+replay_effect r i effect = record {
+  store = effect.store;
+  version = with_at i effect.version r.version;
+  replies = with_at i (r.replies i ++ (record { value = effect.reply; version = effect.version }) ∷ []) r.replies;
+}
+
+-- after a command of this client with these words, which runs on the store that all commands before it have left
+abbrev pub replay_words : Replay → ℕ → List (List ℕ) → Replay
+replay_words r i [] = r
+replay_words r i (name ∷ arguments) =
+    replay_effect r i (effect_of r.store (r.version i) i (operation_of name arguments))
+
+-- what these commands leave, run one after another
+abbrev pub replay_of : List (ℕ × List (List ℕ)) → Replay
+replay_of order = fold (λ r (c : ℕ × List (List ℕ)). replay_words r c.0 c.1) nothing_run order
 
 -- the one list is a beginning of the other
 abbrev pub IsBeginning : {X : Type 0} → List X → List X → Type 0
@@ -23,23 +56,17 @@ IsBeginning {X} xs ys = (rest : List X) × (ys ≡ xs ++ rest)
 abbrev pub sent_replies : Connection → List Message
 sent_replies c = filter (λ (m : Message). not (is_push m.value)) c.messages
 
--- the versions of the sessions
-abbrev pub versions_of : World → List Version
-versions_of w = map (λ (c : Connection). c.version) w.connections
+-- the world has the store that commands leave, and each session the version and the replies
+pub record Agrees (w : World) (r : Replay) : Type 0 where
+  pub store : w.store ≡ r.store
+  pub versions : (i : ℕ) (c : Connection) → connection_at w.connections i ≡ Some c → c.version ≡ r.version i
+  pub replies : (i : ℕ) (c : Connection) → connection_at w.connections i ≡ Some c → sent_replies c ≡ r.replies i
 
--- the replies that the sessions have sent
-abbrev pub all_replies : World → List (List Message)
-all_replies w = map sent_replies w.connections
-
--- two worlds have one store, and each session has the same version in both and has sent the same replies
-pub record Agrees (w v : World) : Type 0 where
-  pub store : w.store ≡ v.store
-  pub versions : versions_of w ≡ versions_of v
-  pub replies : all_replies w ≡ all_replies v
-
--- one order of all commands: store, versions and replies are those of the commands run one after another, and each
--- client's part is a beginning of what it asked
+-- one order of all commands of this many clients: store, versions and replies are those of the commands run one after
+-- another, and each client's part is a beginning of what it asked
 pub record OneOrder (n : ℕ) (w : World) : Type 0 where
-  pub replay : Agrees w (replay_of n w.order)
+  pub count : length w.connections ≡ n
+  pub clients : AllByRecursion (λ (c : ℕ × List (List ℕ)). (1 ≤ c.0) × (c.0 ≤ n)) w.order
+  pub replay : Agrees w (replay_of w.order)
   pub parts : (i : ℕ) (c : Connection) → connection_at w.connections i ≡ Some c →
       IsBeginning (part_of_client i w.order) (map request_words c.requests)

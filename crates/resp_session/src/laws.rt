@@ -1,22 +1,23 @@
 //! Laws of the definitions of sessions and worlds, each the contract of a function whose body is
 //! empty or calls other laws.
 
-ghost use Rattle.std.specs.Prelude.{◌≡◌, [], ◌∷◌, ◌++◌, Some, codes, length, true, false};
+ghost use Rattle.std.specs.Prelude.{◌≡◌, ◌-◌, ◌^◌, [], ◌∷◌, ◌++◌, Some, codes, length, true, false};
 ghost use Rattle.resp_value.specs.Words.{command_of};
 ghost use Rattle.resp_session.specs.Answers.{after_values};
 ghost use Rattle.resp_session.specs.AnswerLaws.{ACommandIsItsWords, AnswersGoOn, AnswersEnd, AnswersAreAdded, ATextHasOneAnswer, AnswersAreOfTheCut, WhatComesIsWholeTexts};
-ghost use Rattle.resp_session.specs.Examples.{new_session, answers_to, set_a, get_a, AnInlineCommandIsRefused, get_before_set, hello_in_two, hello_in_three, push_after_hello, clients_of, replies_to, pushes_to, RefusesEventFor, IsOfNobody, get_after_set, more_pushes, dropped_before_set, push_of_one, annotated};
+ghost use Rattle.resp_session.specs.Examples.{new_session, answers_to, set_a, get_a, AnInlineCommandIsRefused, get_before_set, hello_in_two, hello_in_three, push_after_hello, clients_of, replies_to, pushes_to, RefusesEventFor, IsOfNobody, get_after_set, more_pushes, dropped_before_set, push_of_one, annotated, annotated_with, HasNumberAfter, HasNoNumberAfter};
 ghost use Rattle.resp_session.specs.Worlds.{Push, Drop, Send, ToServer};
 ghost use Rattle.resp_value.specs.declared.cause.Cause.TheVariants.{NotInVersion};
 ghost use Rattle.resp_session.specs.ReadingLaws.{ReadingsGoOn, ReadingsStay, ATextHasOneReading, ARestHasOneClientFault, HearingGoesOn, NothingMayGoOn};
 ghost use Rattle.resp_session.specs.Replies.{simple_string, error, bulk_string, natural, null, hello_reply};
 ghost use Rattle.resp_session.specs.Requests.{is_unsent};
 ghost use Rattle.resp_session.specs.Reading.{version_after};
-ghost use Rattle.resp_value.specs.Data.{scalar, BulkError};
+ghost use Rattle.resp_value.specs.Data.{scalar, aggregate, more, none, Array, BulkError};
 ghost use Rattle.resp_value.specs.declared.version.Version.TheVariants.{Two, Three};
 ghost use Rattle.resp_session.specs.WorldLaws.{AWorldHasOneOrder, ARunIsCut, TheOrderOnlyGrows, ShownRepliesAreOfTheOrder, WhatIsShownWasSent, WhatArrivesIsCommands, EachMessageIsWritten, WhatIsWrittenIsRead, WhatIsShownIsRead, WhatIsReadIsShown, WhatIsLeftMayGoOn, NoClientMeetsAFault, AChangeIsOfOneConnection};
 ghost use Rattle.resp_session.specs.Fitting.{EffectsFit, NumbersAreShort};
 ghost use Rattle.resp_session.specs.Connections.{push_message};
+ghost use Rattle.resp_session.specs.Pushed.{PushesAreOfEvents, ShownPushesAreOfEvents};
 ghost use Rattle.resp_session.specs.Serving.{ArrivalsGoOn, ArrivalsStay, WhatArrivesIsAnswered, WhatHasComeWasSent};
 
 use resp_value::laws as grammar;
@@ -111,8 +112,9 @@ pub fn hearing_goes_on()
     ensures { HearingGoesOn }
 {}
 
-/// Whatever happens, one order of all commands gives the store, the versions and the replies, and
-/// each client's part of it is a beginning of what the client asked.
+/// Whatever happens, one order of all commands, each of a client of the world, gives the store, the
+/// versions and the replies: each command runs on what all before it left. Each client's part of it
+/// is a beginning of what the client asked.
 pub fn a_world_has_one_order()
     ensures { AWorldHasOneOrder }
 {}
@@ -128,6 +130,13 @@ pub fn the_order_goes_on()
 /// What is shown to a client is a beginning of what its session has sent, replies and pushes apart.
 pub fn what_is_shown_was_sent()
     ensures { WhatIsShownWasSent }
+{}
+
+/// The pushes that a session has sent are those of the events that were neither refused nor of
+/// nobody, in their order, and those that are shown to its client are a beginning of them.
+pub fn pushes_are_of_events()
+    ensures sent { PushesAreOfEvents }
+    ensures shown { ShownPushesAreOfEvents }
 {}
 
 /// What has come to a session of a world is a number of whole commands, and a viable rest that begins
@@ -243,15 +252,27 @@ pub fn commands_and_their_replies()
 pub fn wrong_numbers_of_words()
     ensures ping { answers_to (command_of (codes "PING" ∷ codes "a" ∷ codes "b" ∷ []) ∷ [])
         ≡ codes "-ERR wrong number of arguments for 'ping' command\r\n" }
+    ensures get_of_two { answers_to (command_of (codes "GET" ∷ codes "a" ∷ codes "b" ∷ []) ∷ [])
+        ≡ codes "-ERR wrong number of arguments for 'get' command\r\n" }
     ensures echo { answers_to (command_of (codes "ECHO" ∷ []) ∷ [])
         ≡ codes "-ERR wrong number of arguments for 'echo' command\r\n" }
+    ensures echo_of_two { answers_to (command_of (codes "ECHO" ∷ codes "a" ∷ codes "b" ∷ []) ∷ [])
+        ≡ codes "-ERR wrong number of arguments for 'echo' command\r\n" }
     ensures set { answers_to (command_of (codes "SET" ∷ codes "a" ∷ []) ∷ [])
+        ≡ codes "-ERR wrong number of arguments for 'set' command\r\n" }
+    ensures set_alone { answers_to (command_of (codes "SET" ∷ []) ∷ [])
         ≡ codes "-ERR wrong number of arguments for 'set' command\r\n" }
     ensures del { answers_to (command_of (codes "DEL" ∷ []) ∷ [])
         ≡ codes "-ERR wrong number of arguments for 'del' command\r\n" }
     // A SET has one option at most.
     ensures set_of_five { answers_to (command_of (codes "SET" ∷ codes "a" ∷ codes "1" ∷
         codes "NX" ∷ codes "XX" ∷ []) ∷ []) ≡ codes "-ERR syntax error\r\n" }
+    ensures set_of_six { answers_to (command_of (codes "SET" ∷ codes "a" ∷ codes "1" ∷
+        codes "NX" ∷ codes "EX" ∷ codes "9" ∷ []) ∷ command_of get_a ∷ [])
+        ≡ codes "-ERR syntax error\r\n$-1\r\n" }
+    // HELLO takes no option, so that a word after the version is a wrong one.
+    ensures hello_of_five { answers_to (command_of (codes "HELLO" ∷ codes "3" ∷ codes "AUTH" ∷
+        codes "a" ∷ codes "b" ∷ []) ∷ command_of get_a ∷ []) ≡ codes "-ERR syntax error\r\n$-1\r\n" }
     // Of two keys that are there both are removed, and counted.
     ensures del_of_two { answers_to (command_of set_a ∷
         command_of (codes "SET" ∷ codes "b" ∷ codes "2" ∷ []) ∷
@@ -265,13 +286,28 @@ pub fn commands_that_are_not_sent()
     ensures hello { is_unsent (codes "Hello" ∷ codes "3" ∷ []) ≡ true }
     ensures reset { is_unsent (codes "RESET" ∷ []) ≡ true }
     ensures monitor { is_unsent (codes "monitor" ∷ []) ≡ true }
+    ensures sync { is_unsent (codes "SYNC" ∷ []) ≡ true }
+    ensures psync { is_unsent (codes "psync" ∷ codes "?" ∷ codes "-1" ∷ []) ≡ true }
+    ensures unsubscribe { is_unsent (codes "UNSUBSCRIBE" ∷ []) ≡ true }
+    ensures psubscribe { is_unsent (codes "PSubscribe" ∷ codes "a" ∷ []) ≡ true }
+    ensures punsubscribe { is_unsent (codes "PUNSUBSCRIBE" ∷ []) ≡ true }
+    ensures ssubscribe { is_unsent (codes "ssubscribe" ∷ codes "a" ∷ []) ≡ true }
+    ensures sunsubscribe { is_unsent (codes "SUNSUBSCRIBE" ∷ []) ≡ true }
     ensures subscribe { is_unsent (codes "SubScribe" ∷ codes "a" ∷ []) ≡ true }
     ensures client_reply { is_unsent (codes "client" ∷ codes "REPLY" ∷ codes "off" ∷ []) ≡ true }
     ensures client_id { is_unsent (codes "client" ∷ codes "id" ∷ []) ≡ false }
+    ensures client_alone { is_unsent (codes "CLIENT" ∷ []) ≡ false }
+    ensures another_name { is_unsent (codes "resets" ∷ []) ≡ false }
     ensures another_word { is_unsent (codes "get" ∷ codes "reset" ∷ []) ≡ false }
 {}
 
-/// What the replies to HELLO 3 leave of version 2.
+/// After how many commands a client has no number for another one: 2^63, from 0 to 2^63 - 1.
+pub fn numbers_of_commands()
+    ensures last { HasNumberAfter (2 ^ 63 - 1) }
+    ensures none_left { HasNoNumberAfter (2 ^ 63) }
+{}
+
+/// What the replies to HELLO 3 leave of version 2, and others of theirs.
 pub fn versions_after_replies()
     ensures map { version_after Two (Some Three) (hello_reply Three 1) ≡ Three }
     ensures error { version_after Two (Some Three) (error (codes "NOPROTO")) ≡ Two }
@@ -280,6 +316,22 @@ pub fn versions_after_replies()
         (annotated (error (codes "NOPROTO"))) ≡ Two }
     ensures line_after_attribute { version_after Two (Some Three)
         (annotated (simple_string (codes "OK"))) ≡ Three }
+    ensures error_after_two_attributes { version_after Two (Some Three)
+        (annotated (annotated (error (codes "NOPROTO")))) ≡ Two }
+    ensures bulk_error_after_attribute { version_after Two (Some Three)
+        (annotated (scalar (BulkError (codes "no")))) ≡ Two }
+    // An error within an attribute or within an array refuses nothing.
+    ensures error_in_attribute { version_after Two (Some Three)
+        (annotated_with (error (codes "no")) (simple_string (codes "OK"))) ≡ Three }
+    ensures error_after_pair { version_after Two (Some Three)
+        (annotated_with (simple_string (codes "OK")) (error (codes "no"))) ≡ Two }
+    ensures error_in_array { version_after Two (Some Three)
+        (aggregate Array (more (error (codes "no")) none)) ≡ Three }
+    // What is refused leaves version 3 too, and what asks no version leaves either.
+    ensures refused_in_three { version_after Three (Some Two) (error (codes "NOPROTO")) ≡ Three }
+    ensures back_to_two { version_after Three (Some Two) (hello_reply Two 1) ≡ Two }
+    ensures asks_nothing { version_after Two None (hello_reply Three 1) ≡ Two }
+    ensures asks_nothing_in_three { version_after Three None (hello_reply Two 1) ≡ Three }
 {}
 
 /// What a new session answers to a command as a bare line of words.
@@ -309,6 +361,28 @@ pub fn greetings_and_their_replies()
     ensures hello_option { answers_to
         (command_of (codes "hello" ∷ codes "3" ∷ codes "x" ∷ []) ∷ [])
         ≡ codes "-ERR syntax error\r\n" }
+    // What is refused leaves version 3, as HELLO without a version does.
+    ensures four_in_three { answers_to (command_of (codes "HELLO" ∷ codes "3" ∷ []) ∷
+        command_of (codes "HELLO" ∷ codes "4" ∷ []) ∷ command_of get_a ∷ []) ≡
+        hello_in_three ++ codes "-NOPROTO unsupported protocol version\r\n_\r\n" }
+    ensures option_in_three { answers_to (command_of (codes "HELLO" ∷ codes "3" ∷ []) ∷
+        command_of (codes "HELLO" ∷ codes "2" ∷ codes "x" ∷ []) ∷ command_of get_a ∷ []) ≡
+        hello_in_three ++ codes "-ERR syntax error\r\n_\r\n" }
+    ensures alone_in_three { answers_to (command_of (codes "HELLO" ∷ codes "3" ∷ []) ∷
+        command_of (codes "HELLO" ∷ []) ∷ command_of get_a ∷ []) ≡
+        hello_in_three ++ hello_in_three ++ codes "_\r\n" }
+    ensures back_to_two { answers_to (command_of (codes "HELLO" ∷ codes "3" ∷ []) ∷
+        command_of (codes "HELLO" ∷ codes "2" ∷ []) ∷ command_of get_a ∷ []) ≡
+        hello_in_three ++ hello_in_two ++ codes "$-1\r\n" }
+    // Nor does another command change it.
+    ensures others_in_three { answers_to (command_of (codes "HELLO" ∷ codes "3" ∷ []) ∷
+        command_of (codes "PING" ∷ []) ∷ command_of get_a ∷
+        command_of (codes "ECHO" ∷ codes "b" ∷ []) ∷ command_of get_a ∷
+        command_of (codes "INCR" ∷ []) ∷ command_of get_a ∷
+        command_of set_a ∷ command_of (codes "SET" ∷ codes "a" ∷ codes "2" ∷ codes "NX" ∷ []) ∷
+        command_of get_a ∷ command_of (codes "DEL" ∷ codes "a" ∷ []) ∷ command_of get_a ∷ []) ≡
+        hello_in_three ++ codes "+PONG\r\n_\r\n$1\r\nb\r\n_\r\n-ERR unknown command\r\n_\r\n" ++
+        codes "+OK\r\n_\r\n$1\r\n1\r\n:1\r\n_\r\n" }
     // A null is written in the version that HELLO brought.
     ensures null_in_three { answers_to (command_of (codes "HELLO" ∷ codes "3" ∷ []) ∷
         command_of get_a ∷ []) ≡ hello_in_three ++ codes "_\r\n" }

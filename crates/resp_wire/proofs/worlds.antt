@@ -8,6 +8,7 @@ pub mod Pushed
 pub mod Opened
 pub mod Events
 pub mod Moves
+pub mod Lacking
 pub mod Parts
 pub mod Kept
 pub mod Memory

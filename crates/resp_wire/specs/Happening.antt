@@ -3,11 +3,13 @@ use Rattle.std.specs.Prelude.{◌≡◌, ℕ, suc, ◌<◌, false, List, [], len
 use Rattle.std.specs.List.{slice_get}
 use Rattle.resp_value.specs.Bounds.{Bounds}
 use Rattle.resp_value.specs.declared.cause.Cause.{Cause}
+use Rattle.resp_value.specs.declared.cause.Cause.TheVariants.{OutOfMemory}
 use Rattle.resp_value.specs.declared.version.Version.TheVariants.{Two}
 use Rattle.resp_decode.specs.Decoding.{HasTaken}
 use Rattle.resp_decode.specs.declared.decoder.Decoder.{Decoder}
+use Rattle.resp_session.specs.Runs as runs
 use Rattle.resp_session.specs.Runs.{Run, Step}
-use Rattle.resp_session.specs.Worlds.{World, WorldEvent}
+use Rattle.resp_session.specs.Worlds.{World, WorldEvent, Drop, after_event}
 use Rattle.resp_server.specs.Hubs.{HubState, seat_at}
 use Rattle.resp_wire.specs.Ends.{IsNew}
 use Rattle.resp_wire.specs.Worlds.{Shows, StopsBy, WorldState, outcome_of}
@@ -29,13 +31,24 @@ abbrev pub Fails : {L : Type 0} → (L → Type 0) → (L → ℕ) → WorldStat
 Fails {L} is_honest failures old new cause = (limits : Bounds) (w : World) → Shows is_honest old limits w →
     StopsBy failures old.links new.links cause
 
+-- a drop takes no memory
+abbrev pub IsNoDrop : WorldEvent → Type 0
+IsNoDrop (Drop i) = ⊥
+IsNoDrop _ = Unit {0}
+
+-- Memory may be out at this event: it is no drop, and in the definitions it is done, so that it is neither refused nor
+-- of nobody.
+pub record MayLackMemory {L : Type 0} (is_honest : L → Type 0) (s : WorldState L) (event : WorldEvent) : Type 0 where
+  pub no_drop : IsNoDrop event
+  pub done : (limits : Bounds) (w : World) → Shows is_honest s limits w → Step limits w event runs.Done (after_event w event)
+
 -- The events came to what they come to in the definitions, and the world shows what they leave there.
 abbrev pub RunsTo : {L : Type 0} → (L → Type 0) → WorldState L → WorldState L → List WorldEvent → Type 0
 RunsTo {L} is_honest old new events = (limits : Bounds) (w : World) → Shows is_honest old limits w →
     (next : World) × Run limits w events next × Shows is_honest new limits next
 
 -- The events before this one came to what they come to in the definitions, and it stopped: at once where the world had
--- stopped before, and else since memory was out or a link failed in this run.
+-- stopped before, and else since memory was out at an event at which it may be, or a link failed in this run.
 pub record StopsAt {L : Type 0} (is_honest : L → Type 0) (failures : L → ℕ) (old new : WorldState L)
     (events : List WorldEvent) (stop : Stop) : Type 0 where
   pub within : stop.event < length events
@@ -43,6 +56,8 @@ pub record StopsAt {L : Type 0} (is_honest : L → Type 0) (failures : L → ℕ
   pub before : RunsTo is_honest old between (take stop.event events)
   pub stopped : IfSome old.stopped (λ cause. (stop.event ≡ 0) × (stop.cause ≡ cause))
   pub reason : old.stopped ≡ None → Fails is_honest failures old new stop.cause
+  pub memory : old.stopped ≡ None → stop.cause ≡ OutOfMemory →
+      IfSome (slice_get events stop.event) (MayLackMemory is_honest between)
 
 -- this many sessions were opened, each with a client that asked nothing
 pub record AreOpened (limits : Bounds) (old new : HubState) (ends : List End) (count : ℕ) : Type 0 where

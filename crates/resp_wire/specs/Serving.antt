@@ -107,6 +107,26 @@ FailsServing hub id writes writes' reads reads' Read = HasRisen reads reads'
 FailsServing hub id writes writes' reads reads' Write = HasRisen writes writes'
 FailsServing hub id writes writes' reads reads' TooManyTurns = Unit {0}
 
+-- whether the stop is by a failed write
+abbrev pub is_of_writer : ServeError → Bool
+is_of_writer Write = true
+is_of_writer _ = false
+
+-- and whether it is by a failed read
+abbrev pub is_of_reader : ServeError → Bool
+is_of_reader Read = true
+is_of_reader _ = false
+
+-- whether a call stopped by a failed write
+abbrev pub failed_to_write : {T : Type 0} → Result T ServeError → Bool
+failed_to_write (Ok done) = false
+failed_to_write (Err error) = is_of_writer error
+
+-- and whether it stopped by a failed read
+abbrev pub failed_to_read : {T : Type 0} → Result T ServeError → Bool
+failed_to_read (Ok done) = false
+failed_to_read (Err error) = is_of_reader error
+
 -- why a write stops, with this many turns left
 abbrev pub StopsWriting : ℕ → ℕ → ℕ → ServeError → Type 0
 StopsWriting failures failures' left Write = HasRisen failures failures'

@@ -1,5 +1,5 @@
 -- Why a client's end stops, and what was heard by then.
-use Rattle.std.specs.Prelude.{◌≡◌, ◌≢◌, ◌<◌, ◌≤◌, ℕ, List, [], ◌∷◌, length, take, drop, Option}
+use Rattle.std.specs.Prelude.{◌≡◌, ◌≢◌, ◌<◌, ◌≤◌, ℕ, Bool, true, false, List, [], ◌∷◌, length, take, drop, Option, Result, Ok, Err}
 use Rattle.resp_value.specs.Devices.{HasRisen}
 use Rattle.resp_value.specs.declared.cause.Cause.{Cause}
 use Rattle.resp_value.specs.declared.cause.Cause.TheVariants as cause
@@ -68,6 +68,26 @@ abbrev pub StopsHearing : ClientState → Asked → Asked → List ℕ → AskEr
 StopsHearing s before after came (Fault fault) = HearsFault s before after came fault
 StopsHearing s before after came OutOfMemory = HearsSome s before after came
 StopsHearing s before after came _ = ⊥
+
+-- whether the stop is by a failed write
+abbrev pub is_of_writer : AskError → Bool
+is_of_writer Write = true
+is_of_writer _ = false
+
+-- and whether it is by a failed read
+abbrev pub is_of_reader : AskError → Bool
+is_of_reader Read = true
+is_of_reader _ = false
+
+-- whether a call stopped by a failed write
+abbrev pub failed_to_write : Result (Unit {0}) AskError → Bool
+failed_to_write (Ok done) = false
+failed_to_write (Err error) = is_of_writer error
+
+-- and whether it stopped by a failed read
+abbrev pub failed_to_read : Result (Unit {0}) AskError → Bool
+failed_to_read (Ok done) = false
+failed_to_read (Err error) = is_of_reader error
 
 -- why something is left that waits to be written: a write failed, or no turn is left
 abbrev pub FailsWriting : ℕ → ℕ → List ℕ → AskError → Type 0

@@ -1,5 +1,5 @@
 -- What the reads and writes of one end come to.
-use Rattle.std.specs.Prelude.{◌≡◌, ℕ, ◌+◌, ◌<◌, List, [], ◌++◌, Option, None, Some}
+use Rattle.std.specs.Prelude.{◌≡◌, ℕ, ◌+◌, ◌<◌, Bool, true, false, List, [], ◌++◌, Option, None, Some, Result, Ok, Err}
 use Rattle.resp_value.specs.Devices.{HasRisen, count_after}
 use Rattle.resp_wire.specs.declared.turns.Halt.{Halt}
 use Rattle.resp_wire.specs.declared.turns.Halt.TheVariants.{Failed, NoTurn}
@@ -20,6 +20,16 @@ pub record Spends (calls calls' turns turns' : ℕ) : Type 0 where
 abbrev pub Halts : ℕ → ℕ → ℕ → Halt → Type 0
 Halts failures failures' left Failed = HasRisen failures failures'
 Halts failures failures' left NoTurn = left ≡ 0
+
+-- whether it was the device that failed
+abbrev pub has_failed : Halt → Bool
+has_failed Failed = true
+has_failed NoTurn = false
+
+-- and whether what stopped so, if anything did
+abbrev pub is_failed : {T : Type 0} → Result T Halt → Bool
+is_failed (Ok x) = false
+is_failed (Err halt) = has_failed halt
 
 -- a device that told its bytes before tells that none is left
 abbrev pub TellsEnd : Option (List ℕ) → Option (List ℕ) → Type 0

@@ -1,5 +1,5 @@
 -- What a world shows, and how its clients and their sessions stand to the world of the definitions.
-use Rattle.std.specs.Prelude.{◌≡◌, ◌⊎◌, ℕ, suc, ◌<◌, ◌^◌, false, List, ◌++◌, length, map, take, drop, Option, Some}
+use Rattle.std.specs.Prelude.{◌≡◌, ◌⊎◌, ℕ, suc, ◌<◌, ◌^◌, true, false, List, ◌++◌, length, map, take, drop, Option, None, Some}
 use Rattle.std.specs.List.{AllByRecursion, slice_get}
 use Rattle.resp_value.specs.Bounds.{Bounds, AreBounds}
 use Rattle.resp_value.specs.Commands.{words_of}
@@ -82,12 +82,13 @@ pub record Stands (limits : Bounds) (seat : Option Seat) (e : End) (c : Connecti
   pub whole : take c.shown (back_text c) ≡ text ++ rest
   pub reading : HasTaken e.client rest
 
--- a client shows what the connection shows
+-- a client shows what the connection shows, and one that was dropped has no session
 pub record ShowsClient (limits : Bounds) (seat : Option Seat) (e : End) (c : Connection) : Type 0 where
   pub asked : requests_of e.asked.items ≡ c.requests
   pub replies : values_in e.replies.items ≡ shown_replies c
   pub pushes : pushes_with e.pushes.items ≡ shown_pushes c
   pub dropped : e.is_dropped ≡ c.dropped
+  pub gone : c.dropped ≡ true → seat ≡ None
   pub stands : c.dropped ≡ false → Stands limits seat e c
 
 -- Clients, sessions and their store stand as events leave them.

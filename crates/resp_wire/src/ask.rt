@@ -1,15 +1,15 @@
 //! A client's end of a connection.
 
-ghost use Rattle.std.specs.Prelude.{◌≡◌, ◌⊎◌, ◌<◌, ◌≤◌, ◌++◌, ℕ, List, [], drop, length, take, IsErrOf, OnOk, OnErr, IfOk, IfErr};
+ghost use Rattle.std.specs.Prelude.{◌≡◌, ◌⊎◌, ◌<◌, ◌≤◌, ◌++◌, ℕ, List, [], false, drop, length, take, IsErrOf, OnOk, OnErr, IfOk, IfErr};
 ghost use Rattle.resp_client.specs.Clients.{state_of, with_request, without_front};
 ghost use Rattle.resp_client.specs.Sending.{AnswersRequest};
 ghost use Rattle.resp_wire.specs.Requests.{request_of};
 ghost use Rattle.resp_client.specs.Hearing.{KeepsReading, WhereTaken};
-ghost use Rattle.resp_value.specs.Devices.{Appends};
+ghost use Rattle.resp_value.specs.Devices.{Appends, failures_after};
 ghost use Rattle.resp_wire.specs.Hearing.{HearsAll};
 ghost use Rattle.resp_wire.specs.Asking.{SendsAll, SendsPart, SpendsTurns, sent};
-ghost use Rattle.resp_wire.specs.Stops.{FailsReading, FailsWriting, KeepsFault, QueuesFirst, StopsListening, StopsQueueing, error_at};
-ghost use Rattle.resp_wire.specs.Turns.{Halts, HasRead, Spends};
+ghost use Rattle.resp_wire.specs.Stops.{FailsReading, FailsWriting, KeepsFault, QueuesFirst, StopsListening, StopsQueueing, error_at, failed_to_read, failed_to_write, is_of_reader, is_of_writer};
+ghost use Rattle.resp_wire.specs.Turns.{Halts, HasRead, Spends, has_failed};
 
 use crate::asked::{Asked, Request};
 use crate::error::AskError;
@@ -48,6 +48,12 @@ pub fn ask<R: Source, W: Sink>(
         (R.calls reader.old) (R.calls reader.new) turns left ×
         (IsErrOf result AskError.TooManyTurns → left ≡ 0) }
 
+    // A device fails once where the answer says so, and else never.
+    ensures write_failures { W.failures writer.new ≡
+        failures_after (failed_to_write result) (W.failures writer.old) }
+    ensures read_failures { R.failures reader.new ≡
+        failures_after (failed_to_read result) (R.failures reader.old) }
+
     // A request is refused before anything is written, or a write fails before anything is read, or
     // all was written, and what came before the stop is heard.
     ensures refusal { IfErr result (λ error.
@@ -84,6 +90,7 @@ fn queue(client: &mut Client, requests: &[Request]) -> Result<(), AskError>
     ensures all_queued { OnOk result (QueuesFirst client.old client.new requests.now
         (length requests.now)) }
     ensures refusal { IfErr result (StopsQueueing client.old client.new requests.now) }
+    ensures no_device { (failed_to_write result ≡ false) × (failed_to_read result ≡ false) }
     ensures same_reading { KeepsReading client.old client.new }
 {
     for index in 0..requests.len() {
@@ -110,7 +117,8 @@ fn queue_one(client: &mut Client, request: &Request) -> Result<u64, SendError>
 
 /// Why a refused request stops the call.
 fn refused(index: usize, error: SendError) -> AskError
-    ensures { result ≡ error_at index error }
+    ensures error { result ≡ error_at index error }
+    ensures no_device { (is_of_writer result ≡ false) × (is_of_reader result ≡ false) }
 {
     match error {
         SendError::OutOfMemory => AskError::OutOfMemory,
@@ -126,6 +134,9 @@ fn send_all<W: Sink>(writer: &mut W, client: &mut Client, turns: &mut u64) -> Re
         (state_of client.new ≡ without_front count (state_of client.old)) }
     ensures all { OnOk result ((state_of client.new).out ≡ []) }
     ensures same_reading { KeepsReading client.old client.new }
+    ensures failures { W.failures writer.new ≡
+        failures_after (failed_to_write result) (W.failures writer.old) }
+    ensures no_read { failed_to_read result ≡ false }
     ensures turns { Spends (W.calls writer.old) (W.calls writer.new) turns.old turns.new }
     ensures refusal { IfErr result (FailsWriting (W.failures writer.old) (W.failures writer.new)
         (state_of client.new).out) }
@@ -145,6 +156,8 @@ fn unwritten(halt: Halt) -> AskError
         Halts failures failures' left halt → FailsWriting failures failures' waits result }
     ensures no_turn_left { (failures failures' left : ℕ) → Halts failures failures' left halt →
         result ≡ AskError.TooManyTurns → left ≡ 0 }
+    ensures of_writer { is_of_writer result ≡ has_failed halt }
+    ensures not_of_reader { is_of_reader result ≡ false }
 {
     match halt {
         Halt::Failed => AskError::Write,
@@ -166,6 +179,9 @@ fn hear_all<R: Source>(
         (front ++ came)) × IfErr result (StopsListening (state_of client.old) client.new heard.old
         heard.new (front ++ came))) }
     ensures all_answered { OnOk result ((state_of client.new).waiting.asks ≡ []) }
+    ensures failures { R.failures reader.new ≡
+        failures_after (failed_to_read result) (R.failures reader.old) }
+    ensures no_write { failed_to_write result ≡ false }
     ensures turns { Spends (R.calls reader.old) (R.calls reader.new) turns.old turns.new }
     ensures refusal { IfErr result (FailsReading (R.failures reader.old) (R.failures reader.new)
         (R.remaining reader.old) (R.remaining reader.new) (state_of client.new)) }

@@ -1,6 +1,6 @@
 //! A client of a world, with what it asked and what it heard.
 
-ghost use Rattle.std.specs.Prelude.{◌≡◌, ◌++◌, ℕ, map, IfErr, IfOk, OnOk};
+ghost use Rattle.std.specs.Prelude.{◌≡◌, ◌++◌, ℕ, map, IfErr, IfOk, OnErr, OnOk};
 ghost use Rattle.resp_value.specs.Commands.{words_of};
 ghost use Rattle.resp_session.specs.Requests as session;
 ghost use Rattle.resp_value.specs.declared.value.Value.{Value};
@@ -28,6 +28,8 @@ pub(crate) struct End {
 }
 
 impl End {
+    ghost use Rattle.resp_client.specs.Clients.{state_of};
+    ghost use Rattle.resp_client.specs.Sending.{MayBeSent};
     ghost use Rattle.resp_wire.specs.Ends.{IsNew, Keeps, Takes};
 
     /// A client that asked nothing. Takes no memory.
@@ -50,6 +52,8 @@ impl End {
         ensures bytes { IfOk result (λ outcome. outcome ≡ Outcome.Done →
             session.HasBytes (session.Command (words_of command.now))) }
         ensures memory { IfErr result (λ cause. cause ≡ Cause.OutOfMemory) }
+        ensures may_be_sent { OnErr result
+            (MayBeSent (state_of self.old.client) (session.Command (words_of command.now))) }
     {
         if let Err(error) = self.client.send(command) {
             return outcome_of_send(error);
@@ -67,6 +71,8 @@ impl End {
     pub(crate) fn hello(&mut self, asked: Option<Version>) -> Result<Outcome, Cause>
         ensures takes { IfOk result (Takes self.old self.new (session.Hello asked)) }
         ensures memory { IfErr result (λ cause. cause ≡ Cause.OutOfMemory) }
+        ensures may_be_sent { OnErr result
+            (MayBeSent (state_of self.old.client) (session.Hello asked)) }
     {
         if let Err(error) = self.client.hello(asked) {
             return outcome_of_send(error);

@@ -3,9 +3,10 @@
 ghost use Rattle.std.specs.Prelude.{◌≡◌, ◌≢◌, ◌≤◌, ◌++◌, ℕ, List, [], length, true, false, None, Err, IfSome, IfOk, IfErr, IsErrOf, OnOk, OnErr};
 ghost use Rattle.resp_server.specs.Hubs.{Seat, seat_at};
 ghost use Rattle.resp_server.specs.Handling.{HasAnswered, WhereOpen};
+ghost use Rattle.resp_value.specs.Devices.{failures_after};
 ghost use Rattle.resp_wire.specs.Asking.{SpendsTurns};
-ghost use Rattle.resp_wire.specs.Serving.{EndsBy, FailsServing, HasSent, HasSentPart, IsClosing, IsNotAhead, IsOpen, IsThere, Serves, ServesClosing, StopsAnswering, StopsReading, StopsServing, StopsWriting};
-ghost use Rattle.resp_wire.specs.Turns.{Halts, HasRead, Spends};
+ghost use Rattle.resp_wire.specs.Serving.{EndsBy, FailsServing, HasSent, HasSentPart, IsClosing, IsNotAhead, IsOpen, IsThere, Serves, ServesClosing, StopsAnswering, StopsReading, StopsServing, StopsWriting, failed_to_read, failed_to_write, is_of_reader, is_of_writer};
+ghost use Rattle.resp_wire.specs.Turns.{Halts, HasRead, Spends, has_failed};
 
 use crate::error::ServeError;
 use crate::turns::{Halt, PIECE, front, read_some, write_text};
@@ -58,6 +59,11 @@ pub fn serve<R: Source, W: Sink, S: BuildHasher>(
         (W.written writer.new) result) }
     ensures refusal { IfErr result (FailsServing hub.old id (W.failures writer.old)
         (W.failures writer.new) (R.failures reader.old) (R.failures reader.new)) }
+    // A device fails once where the answer says so, and else never.
+    ensures write_failures { W.failures writer.new ≡
+        failures_after (failed_to_write result) (W.failures writer.old) }
+    ensures read_failures { R.failures reader.new ≡
+        failures_after (failed_to_read result) (R.failures reader.old) }
     ensures no_session { seat_at hub.old id ≡ None → (result ≡ Err ServeError.NoSession) ×
         (hub.new ≡ hub.old) × (reader.new ≡ reader.old) × (writer.new ≡ writer.old) }
     ensures turns { (left : ℕ) × SpendsTurns (W.calls writer.old) (W.calls writer.new)
@@ -100,6 +106,10 @@ fn serve_open<R: Source, W: Sink, S: BuildHasher>(
         (R.remaining reader.new)) }
     ensures refusal { IfErr result (FailsServing hub.old id (W.failures writer.old)
         (W.failures writer.new) (R.failures reader.old) (R.failures reader.new)) }
+    ensures write_failures { W.failures writer.new ≡
+        failures_after (failed_to_write result) (W.failures writer.old) }
+    ensures read_failures { R.failures reader.new ≡
+        failures_after (failed_to_read result) (R.failures reader.old) }
     ensures turns { SpendsTurns (W.calls writer.old) (W.calls writer.new)
         (R.calls reader.old) (R.calls reader.new) turns.old turns.new }
     ensures no_turn_left { IsErrOf result ServeError.TooManyTurns → turns.new ≡ 0 }
@@ -143,6 +153,9 @@ fn answer<W: Sink, S: BuildHasher>(
     ensures closing { IfOk result (IsClosing hub.new id) }
     ensures is_open { IfOk result (λ closing. closing ≡ false → IsOpen hub.new id) }
     ensures none_failed { OnOk result (W.failures writer.new ≡ W.failures writer.old) }
+    ensures failures { W.failures writer.new ≡
+        failures_after (failed_to_write result) (W.failures writer.old) }
+    ensures no_read { failed_to_read result ≡ false }
     ensures refusal { IfErr result (StopsAnswering (W.failures writer.old)
         (W.failures writer.new) turns.new) }
     ensures turns { Spends (W.calls writer.old) (W.calls writer.new) turns.old turns.new }
@@ -172,6 +185,9 @@ fn write_out<W: Sink, S: BuildHasher>(
     ensures part { OnErr result (HasSentPart hub.old hub.new id (W.written writer.old)
         (W.written writer.new)) }
     ensures none_failed { OnOk result (W.failures writer.new ≡ W.failures writer.old) }
+    ensures failures { W.failures writer.new ≡
+        failures_after (failed_to_write result) (W.failures writer.old) }
+    ensures no_read { failed_to_read result ≡ false }
     ensures refusal { IfErr result (StopsWriting (W.failures writer.old) (W.failures writer.new)
         turns.new) }
     ensures turns { Spends (W.calls writer.old) (W.calls writer.new) turns.old turns.new }
@@ -202,8 +218,10 @@ fn unanswered(error: HubError) -> ServeError
 
 /// Why a read that moved no byte stops the call.
 fn unread(halt: Halt) -> ServeError
-    ensures { (failures failures' left : ℕ) → Halts failures failures' left halt →
+    ensures stops { (failures failures' left : ℕ) → Halts failures failures' left halt →
         StopsReading failures failures' left result }
+    ensures of_reader { is_of_reader result ≡ has_failed halt }
+    ensures not_of_writer { is_of_writer result ≡ false }
 {
     match halt {
         Halt::Failed => ServeError::Read,
@@ -213,8 +231,10 @@ fn unread(halt: Halt) -> ServeError
 
 /// Why a write that moved no byte stops the call.
 fn unwritten(halt: Halt) -> ServeError
-    ensures { (failures failures' left : ℕ) → Halts failures failures' left halt →
+    ensures stops { (failures failures' left : ℕ) → Halts failures failures' left halt →
         StopsWriting failures failures' left result }
+    ensures of_writer { is_of_writer result ≡ has_failed halt }
+    ensures not_of_reader { is_of_reader result ≡ false }
 {
     match halt {
         Halt::Failed => ServeError::Write,

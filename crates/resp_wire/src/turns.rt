@@ -1,8 +1,8 @@
 //! Reads and writes as turns, whose number each call bounds.
 
 ghost use Rattle.std.specs.Prelude.{◌≡◌, ◌<◌, ◌≤◌, [], drop, length, take, IfOk, IfErr, OnOk, OnErr};
-ghost use Rattle.resp_value.specs.Devices.{Appends};
-ghost use Rattle.resp_wire.specs.Turns.{Halts, HasRead, Spends, TellsEnd};
+ghost use Rattle.resp_value.specs.Devices.{Appends, failures_after};
+ghost use Rattle.resp_wire.specs.Turns.{Halts, HasRead, Spends, TellsEnd, is_failed};
 
 use resp_value::device::{Sink, Source};
 
@@ -35,6 +35,8 @@ pub(crate) fn write_text<W: Sink>(writer: &mut W, text: &[u8], turns: &mut u64) 
     ensures whole { OnOk result.end (result.count ≡ length text.now) }
     ensures part { OnErr result.end (result.count < length text.now) }
     ensures none_failed { OnOk result.end (W.failures writer.new ≡ W.failures writer.old) }
+    ensures failures { W.failures writer.new ≡
+        failures_after (is_failed result.end) (W.failures writer.old) }
     ensures turns { Spends (W.calls writer.old) (W.calls writer.new) turns.old turns.new }
     ensures halted { IfErr result.end (Halts (W.failures writer.old) (W.failures writer.new)
         turns.new) }
@@ -74,6 +76,8 @@ pub(crate) fn read_some<R: Source>(
         TellsEnd (R.remaining reader.old) (R.remaining reader.new)) }
     ensures unread { OnErr result (HasRead (R.remaining reader.old) (R.remaining reader.new) []) }
     ensures none_failed { OnOk result (R.failures reader.new ≡ R.failures reader.old) }
+    ensures failures { R.failures reader.new ≡
+        failures_after (is_failed result) (R.failures reader.old) }
     ensures turns { Spends (R.calls reader.old) (R.calls reader.new) turns.old turns.new }
     ensures onward { OnOk result (turns.new < turns.old) }
     ensures halted { IfErr result (Halts (R.failures reader.old) (R.failures reader.new)

@@ -1,6 +1,6 @@
 //! Worlds: clients and their sessions over one store, and events that happen one after another.
 
-ghost use Rattle.std.specs.Prelude.{◌≡◌, ◌↔◌, ◌+◌, ◌<◌, ◌≤◌, ◌-◌, ℕ, [], ◌∷◌, length, map, false, None, Some, Err, IfErr, IfOk, IfSome, IsErrOf, OnOk};
+ghost use Rattle.std.specs.Prelude.{◌≡◌, ◌↔◌, ◌+◌, ◌<◌, ◌≤◌, ◌-◌, ℕ, [], ◌∷◌, length, map, false, None, Some, Err, IfErr, IfOk, IfSome, IsErrOf, OnErr, OnOk};
 ghost use Rattle.std.specs.List.{AllByRecursion};
 ghost use Rattle.resp_value.specs.Bounds.{AreBounds, Bounds};
 ghost use Rattle.resp_value.specs.Commands.{words_of};
@@ -11,7 +11,7 @@ ghost use Rattle.resp_session.specs.Serving.{clients_in};
 ghost use Rattle.resp_session.specs.Worlds as session;
 ghost use Rattle.resp_session.specs.Worlds.{connection_at, new_world};
 ghost use Rattle.resp_wire.specs.Ends.{outcome_of_push};
-ghost use Rattle.resp_wire.specs.Happening.{AreOpened, Fails, Happens, IsOpenEnd, RunsTo, StopsAt};
+ghost use Rattle.resp_wire.specs.Happening.{AreOpened, Fails, Happens, IsOpenEnd, MayLackMemory, RunsTo, StopsAt};
 ghost use Rattle.resp_wire.specs.Worlds.{KeepFailures, Shows, event_of, pushes_with, requests_of, values_in};
 
 use crate::asked::{Asked, Request};
@@ -110,7 +110,7 @@ impl<L: Link, S: BuildHasher + Drop> World<L, S> {
         if links.len() > MOST_CLIENTS {
             return Err(OpenError::TooManySessions);
         }
-        in_range(&limits);
+        limits.are_in_range();
         let mut hub = Hub::new(alloc, limits, hasher);
         let ends = match open_each(alloc, &mut hub, &limits, links.len()) {
             Ok(ends) => ends,
@@ -129,13 +129,17 @@ impl<L: Link, S: BuildHasher + Drop> World<L, S> {
     /// Takes one event, and answers what came of it. A refused event changes nothing.
     ///
     /// Stops when out of memory, and where a link fails; over honest links it stops for nothing
-    /// else. After a stop each step stops with the same cause, and nothing is promised of what the
-    /// world shows. The index of the stop is 0.
+    /// else. An event that is refused or of nobody takes no memory, nor does a drop. After a stop
+    /// each step stops with the same cause, and nothing is promised of what the world shows. The
+    /// index of the stop is 0.
     pub fn step(&mut self, event: &Event) -> Result<Outcome, Stop>
         ensures happens { IfOk result (Happens L.is_honest self.old self.new (event_of event.now)) }
         ensures going { OnOk result (self.new.stopped ≡ None) }
         ensures stops { IfErr result (λ stop. self.old.stopped ≡ None →
             Fails L.is_honest L.failures self.old self.new stop.cause) }
+        ensures memory { IfErr result (λ stop. self.old.stopped ≡ None →
+            stop.cause ≡ Cause.OutOfMemory →
+            MayLackMemory L.is_honest self.old (event_of event.now)) }
         ensures remembered { IfErr result (λ stop. self.new.stopped ≡ Some stop.cause) }
         ensures stopped_before { IfSome self.old.stopped (λ cause.
             result ≡ Err (record { event = 0; cause = cause })) }
@@ -186,6 +190,8 @@ impl<L: Link, S: BuildHasher + Drop> World<L, S> {
     fn happen(&mut self, event: &Event) -> Result<Outcome, Cause>
         ensures happens { IfOk result (Happens L.is_honest self.old self.new (event_of event.now)) }
         ensures stops { IfErr result (Fails L.is_honest L.failures self.old self.new) }
+        ensures memory { IfErr result (λ cause. cause ≡ Cause.OutOfMemory →
+            MayLackMemory L.is_honest self.old (event_of event.now)) }
         ensures going { self.new.stopped ≡ self.old.stopped }
         ensures none_failed { OnOk result
             (KeepFailures L.failures self.old.links self.new.links) }
@@ -215,6 +221,8 @@ impl<L: Link, S: BuildHasher + Drop> World<L, S> {
         ensures happens { IfOk result (Happens L.is_honest self.old self.new
             (session.Send number (words_of command.now))) }
         ensures stops { IfErr result (λ cause. cause ≡ Cause.OutOfMemory) }
+        ensures memory { OnErr result (MayLackMemory L.is_honest self.old
+            (session.Send number (words_of command.now))) }
         ensures going { self.new.stopped ≡ self.old.stopped }
         ensures none_failed { OnOk result
             (KeepFailures L.failures self.old.links self.new.links) }
@@ -233,6 +241,8 @@ impl<L: Link, S: BuildHasher + Drop> World<L, S> {
         ensures happens { IfOk result (Happens L.is_honest self.old self.new
             (session.Greet number asked)) }
         ensures stops { IfErr result (λ cause. cause ≡ Cause.OutOfMemory) }
+        ensures memory { OnErr result (MayLackMemory L.is_honest self.old
+            (session.Greet number asked)) }
         ensures going { self.new.stopped ≡ self.old.stopped }
         ensures none_failed { OnOk result
             (KeepFailures L.failures self.old.links self.new.links) }
@@ -251,6 +261,8 @@ impl<L: Link, S: BuildHasher + Drop> World<L, S> {
         ensures happens { IfOk result (Happens L.is_honest self.old self.new
             (session.ToServer number count)) }
         ensures stops { IfErr result (Fails L.is_honest L.failures self.old self.new) }
+        ensures memory { OnErr result (MayLackMemory L.is_honest self.old
+            (session.ToServer number count)) }
         ensures going { self.new.stopped ≡ self.old.stopped }
         ensures none_failed { OnOk result
             (KeepFailures L.failures self.old.links self.new.links) }
@@ -282,6 +294,8 @@ impl<L: Link, S: BuildHasher + Drop> World<L, S> {
         ensures happens { IfOk result (Happens L.is_honest self.old self.new
             (session.ToClient number count)) }
         ensures stops { IfErr result (Fails L.is_honest L.failures self.old self.new) }
+        ensures memory { OnErr result (MayLackMemory L.is_honest self.old
+            (session.ToClient number count)) }
         ensures going { self.new.stopped ≡ self.old.stopped }
         ensures none_failed { OnOk result
             (KeepFailures L.failures self.old.links self.new.links) }
@@ -312,6 +326,8 @@ impl<L: Link, S: BuildHasher + Drop> World<L, S> {
         ensures happens { IfOk result (Happens L.is_honest self.old self.new
             (session.Push number (map datum_of (list_of items.now)))) }
         ensures stops { IfErr result (Fails L.is_honest L.failures self.old self.new) }
+        ensures memory { OnErr result (MayLackMemory L.is_honest self.old
+            (session.Push number (map datum_of (list_of items.now)))) }
         ensures going { self.new.stopped ≡ self.old.stopped }
         ensures none_failed { OnOk result
             (KeepFailures L.failures self.old.links self.new.links) }
@@ -333,6 +349,7 @@ impl<L: Link, S: BuildHasher + Drop> World<L, S> {
         ensures happens { IfOk result (Happens L.is_honest self.old self.new
             (session.Drop number)) }
         ensures stops { IfErr result (Fails L.is_honest L.failures self.old self.new) }
+        ensures memory { IfErr result (λ cause. cause ≡ Cause.NoSession) }
         ensures going { self.new.stopped ≡ self.old.stopped }
         ensures none_failed { OnOk result
             (KeepFailures L.failures self.old.links self.new.links) }
@@ -398,16 +415,6 @@ impl<L: Link, S: BuildHasher + Drop> World<L, S> {
     {
         self.hub.entries()
     }
-}
-
-/// The numbers of these limits are within their ranges.
-fn in_range(limits: &Limits)
-    ensures { AreBounds limits.now }
-{
-    let _depth = limits.depth();
-    let _length = limits.length();
-    let _total = limits.total();
-    let _items = limits.items();
 }
 
 /// A session for each of `count` clients that asked nothing.

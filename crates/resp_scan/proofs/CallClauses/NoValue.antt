@@ -1,7 +1,8 @@
 -- Of a viable text whose due events were given without a Done, no front is a spelling.
-use Rattle.std.specs.Prelude.{take, drop, cond, ltb}
-use Rattle.std.proofs.Common.{◌≡◌, ℕ, ◌+◌, ◌<◌, ◌≤◌, List, [], ◌∷◌, ◌++◌, length, sym, ap, subst, ◌∙◌, arith, append_assoc, append-nil, length-append}
+use Rattle.std.specs.Prelude.{take, drop, cond, ltb, false, true, Bool, IfOk, Result, Ok, Err}
+use Rattle.std.proofs.Common.{◌≡◌, refl, ℕ, zero, suc, ◌+◌, ◌<◌, ◌≤◌, List, [], ◌∷◌, ◌++◌, length, sym, ap, subst, ◌∙◌, arith, append_assoc, append-nil, length-append}
 use Rattle.std.proofs.lemmas.Grind.{common_steps}
+use Rattle.std.proofs.lemmas.List.{take_all}
 use Rattle.resp_value.specs.declared.cause.Cause.{Cause}
 use Rattle.resp_value.specs.Rules.{Rules, WithinTotal}
 use Rattle.resp_value.proofs.SpellingLaws.{up_to_total}
@@ -13,7 +14,11 @@ use Rattle.resp_fronts.specs.Events as e
 use Rattle.resp_fronts.specs.Events.{all_events, events, events_due, last_of}
 use Rattle.resp_fronts.proofs.EventLaws.EventsDue.{due-append}
 use Rattle.resp_value.proofs.DefaultLimits.{text_at_least}
-use Rattle.resp_scan.specs.Reading.{AreDue, HasNoDone, HasNoSpelling, HasNoValue}
+use Rattle.resp_scan.specs.Listening.{HearsValue, IfWhole}
+use Rattle.resp_scan.specs.Machine.Tokens.{Place}
+use Rattle.resp_scan.specs.Reading.{AreDue, Events, HasNoDone, HasNoSpelling, HasNoValue}
+use Rattle.resp_scan.specs.declared.event.ScanError.{ScanError}
+use Rattle.resp_scan.specs.declared.event.Scanned.{Scanned}
 use Rattle.resp_scan.proofs.DueEvents.NoDone.{no_done_behind}
 use Rattle.resp_value.proofs.Choices.{if_below, if_within}
 
@@ -69,3 +74,23 @@ no_spelling r written at c none refused n x = if_within n at (λ b. ⊥)
       where
         again : at < n → take (at + 1) written ≡ take (at + 1) (take n written)
         again longer = grind (arith, common_steps)
+
+-- a value that ends in the piece uses a byte of it where none has ended before
+value_uses_bytes : (r : Rules) (s : Place) (HasHeard : Events → Type 0) (front piece : List ℕ) (used : ℕ) → HasNoValue front →
+    HearsValue r s HasHeard (front ++ take used piece) → 0 < used
+value_uses_bytes r s HasHeard front piece (suc used) none heard = omega arith
+value_uses_bytes r s HasHeard front piece zero none heard =
+    absurd (none (length front) heard.is_value.tree
+    (subst (Spells heard.is_value.tree) (append-nil front ∙ sym (take_all (length front) front (omega arith))) heard.is_value.spells))
+
+-- and one that is used up uses all
+pub uses_bytes : (r : Rules) (s : Place) (HasHeard : Events → Type 0) (front piece : List ℕ) (result : Result Scanned ScanError) → HasNoValue front →
+    IfWhole result (λ used. HearsValue r s HasHeard (front ++ take used piece)) →
+    IfOk result (λ scanned. scanned.is_whole ≡ false → scanned.used ≡ length piece) →
+    IfOk result (λ scanned. 0 < length piece → 0 < scanned.used)
+uses_bytes r s HasHeard front piece (Err stop) none whole up = tt
+uses_bytes r s HasHeard front piece (Ok scanned) none whole up = λ some. case scanned.is_whole refl some
+  where
+    case : (is_whole : Bool) → scanned.is_whole ≡ is_whole → 0 < length piece → 0 < scanned.used
+    case true is some = value_uses_bytes r s HasHeard front piece scanned.used none (whole is)
+    case false is some = omega (arith, up is)

@@ -16,6 +16,7 @@ use Rattle.resp_client.specs.Clients.{ClientState, queued, state_of}
 use Rattle.resp_wire.specs.Ends.{Queues, StaysAs}
 use Rattle.resp_wire.specs.Worlds.{ShowsClient, ShowsEach}
 use Rattle.resp_wire.specs.declared.end.End.{End}
+use Rattle.resp_wire.proofs.worlds.Places.{never_gone}
 use Rattle.resp_wire.proofs.worlds.Reading.{one_more_request}
 
 -- what may be sent is refused for no cause
@@ -77,6 +78,7 @@ with_one_more readings sent arrivals limits hub ends order w at i e e' c request
       replies = q.same_heard.replies ∙ old.replies;
       pushes = q.same_heard.pushes ∙ old.pushes;
       dropped = q.same_heard.dropped ∙ old.dropped;
+      gone = never_gone c _ is_open;
       stands = λ _. record {
         session = s.session;
         there = s.there;
@@ -107,6 +109,7 @@ as_before limits seat e e' c old same = record {
   replies = same.same_heard.replies ∙ old.replies;
   pushes = same.same_heard.pushes ∙ old.pushes;
   dropped = same.same_heard.dropped ∙ old.dropped;
+  gone = old.gone;
   stands = λ is_open. let s = old.stands is_open in record {
     session = s.session;
     there = s.there;

@@ -33,7 +33,7 @@ use Rattle.resp_wire.specs.declared.asked.Asked.{Asked}
 use Rattle.resp_wire.specs.declared.end.End.{End}
 use Rattle.resp_wire.proofs.Seated.{seat_here}
 use Rattle.resp_wire.proofs.worlds.Frames.{Behind, IsFramed, behind, framed}
-use Rattle.resp_wire.proofs.worlds.Places.{seats_elsewhere}
+use Rattle.resp_wire.proofs.worlds.Places.{never_gone, seats_elsewhere}
 use Rattle.resp_wire.proofs.worlds.Reading.{come_on, counted, unnumbered, waits_on}
 
 -- what is read stays what it is where more is answered
@@ -122,6 +122,7 @@ arrived answered nothing_else goes_on sent limits hub hub' ends order order' w a
       replies = old.replies ∙ ap replies_of same.0;
       pushes = old.pushes ∙ ap pushes_of same.0;
       dropped = old.dropped ∙ sym left.dropped;
+      gone = never_gone left.next _ (left.dropped ∙ is_open);
       stands = λ _. record {
         session = seat;
         there = ap (λ h. seat_at h (suc i)) a.state ∙ seat_here hub (suc i) s.session seat s.there;
@@ -240,6 +241,7 @@ shown_on go_on nothing_else change limits hub hub' ends order w at i k e e' clie
       pushes = kept.pushes ∙ ap (λ l. l ++ pushes_in heard) old.pushes ∙ ap (λ l. shown_pushes c ++ l) pushed ∙ sym (filter-append is_push xs ys) ∙ ap
           pushes_of same;
       dropped = kept.dropped ∙ old.dropped;
+      gone = never_gone c _ is_open;
       stands = λ _. record {
         session = sent_seat k s.session;
         there = ap (λ g. seat_at g (suc i)) now ∙ seat_here hub (suc i) s.session (sent_seat k s.session) s.there;

@@ -80,12 +80,12 @@ abbrev Leads : {L : Type 0} → (L → Type 0) → Bounds → World → WorldSta
 Leads {L} is_honest limits w new event outcome = (next : World) × Step limits w event (outcome_of outcome) next × Shows is_honest new limits next
 
 -- a client that was not dropped, and how it and its session stand
-record IsAtWork (limits : Bounds) (hub : HubState) (ends : List End) (order : List ℕ) (w : World) (number : ℕ) (e : End) : Type 0 where
+pub record IsAtWork (limits : Bounds) (hub : HubState) (ends : List End) (order : List ℕ) (w : World) (number : ℕ) (e : End) : Type 0 where
   pub is : suc (number - 1) ≡ number
   pub at : IsAt limits hub ends order w (number - 1) e
   pub stands : Stands limits (seat_at hub (suc (number - 1))) e at.connection
 
-at_work : (limits : Bounds) (hub : HubState) (ends : List End) (order : List ℕ) (w : World) (number : ℕ) (e : End) → ShowsEach limits hub ends order w →
+pub at_work : (limits : Bounds) (hub : HubState) (ends : List End) (order : List ℕ) (w : World) (number : ℕ) (e : End) → ShowsEach limits hub ends order w →
     (1 ≤ number) × (number ≤ length ends) → IsOpenEnd ends (number - 1) → e ≡ get_or ends (number - 1) e → IsAtWork limits hub ends order w number e
 at_work limits hub ends order w number e each there open_end e_is =
     let (least, most) = there in
@@ -97,7 +97,7 @@ at_work limits hub ends order w number e each there open_end e_is =
     }
 
 -- a client of each number is at work that was not dropped
-some_at_work : (limits : Bounds) (hub : HubState) (ends : List End) (order : List ℕ) (w : World) (number : ℕ) → ShowsEach limits hub ends order w →
+pub some_at_work : (limits : Bounds) (hub : HubState) (ends : List End) (order : List ℕ) (w : World) (number : ℕ) → ShowsEach limits hub ends order w →
     (1 ≤ number) × (number ≤ length ends) → IsOpenEnd ends (number - 1) → (e : End) × IsAtWork limits hub ends order w number e
 some_at_work limits hub ends order w number each there open_end =
     let (least, most) = there in
@@ -306,16 +306,16 @@ pushes {L} is_honest nothing_else goes_on sent change hub hub' ends links order 
 
 pub drops : {L : Type 0} (is_honest : L → Type 0) → AChangeIsOfOneConnection → (hub hub' : HubState) (ends : List End) (links : List L)
     (order : List ℕ) (stopped : Option Cause) (number : ℕ) (e : End) → (1 ≤ number) × (number ≤ length ends) → IsOpenEnd ends (number - 1) →
-    e ≡ get_or ends (number - 1) e → hub' ≡ record hub { sessions = without_seat hub.sessions number } →
+    e ≡ get_or ends (number - 1) e → hub' ≡ record hub { sessions = without_seat hub.sessions number } → seat_at hub' number ≡ None →
     Happens is_honest (world_of hub ends links order stopped)
     (world_of hub' (set ends (number - 1) (record e { is_dropped = true })) links order stopped) (Drop number) Done
-drops {L} is_honest change hub hub' ends links order stopped number e there open_end e_is now limits w shows =
+drops {L} is_honest change hub hub' ends links order stopped number e there open_end e_is now none limits w shows =
     let i = number - 1 in
     let work = at_work limits hub ends order w number e shows.each there open_end e_is in
     let is = work.is in
     let a = work.at in
     let done = dropped change limits hub hub' ends order w shows.each i e a.connection a.here a.its a.is_open a.within
-    (subst (λ n. hub' ≡ record hub { sessions = without_seat hub.sessions n }) (sym is) now) in
+    (subst (λ n. hub' ≡ record hub { sessions = without_seat hub.sessions n }) (sym is) now) (ap (seat_at hub') is ∙ none) in
     subst (λ n. Leads is_honest limits w (world_of hub' (set ends i (record e { is_dropped = true })) links order stopped) (Drop n) Done) is (
       after_event w
           (Drop (suc i)),
@@ -364,7 +364,7 @@ push_stopped limits s x (push.OverLimits limit) is_open r = tt
 push_stopped limits s x push.OutOfMemory is_open r = refl
 
 -- the session's reason for its refusal of a push
-session_refuses : (limits : Bounds) (hub : HubState) (ends : List End) (order : List ℕ) (w : World) (number : ℕ) (x : Datum) (error : PushError)
+pub session_refuses : (limits : Bounds) (hub : HubState) (ends : List End) (order : List ℕ) (w : World) (number : ℕ) (x : Datum) (error : PushError)
     (at : ShowsEach limits hub ends order w) (seat : Seat) → seat_at hub number ≡ Some seat →
     server.IsPushVerdict hub.limits (seat_at hub number) x (Err error) → server.RefusesPush limits (Some seat) x error
 session_refuses limits hub ends order w number x error at seat there verdict =

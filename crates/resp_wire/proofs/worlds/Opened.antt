@@ -18,6 +18,7 @@ use Rattle.resp_wire.specs.Ends.{IsNew}
 use Rattle.resp_wire.specs.Happening.{AreOpened}
 use Rattle.resp_wire.specs.Worlds.{ShowsClient, ShowsEach}
 use Rattle.resp_wire.specs.declared.end.End.{End}
+use Rattle.resp_wire.proofs.worlds.Places.{never_gone}
 
 new_at : (n k : ℕ) (c : Connection) → connection_at (new_connections n) (suc k) ≡ Some c → c ≡ new_connection
 new_at zero k c e = absurd (cc)
@@ -36,6 +37,7 @@ new_shown limits hub k e decoder new nothing there = record {
   replies = new.replies;
   pushes = new.pushes;
   dropped = new.is_open;
+  gone = never_gone new_connection _ refl;
   stands = λ _. record {
     session = record { version = Two; out = []; closing = false; decoder = decoder };
     there = there;

@@ -9,6 +9,10 @@ use Rattle.resp_server.specs.Hubs.{HubState, Seat, seat_at, seated, with_seat, w
 use Rattle.resp_wire.specs.Worlds.{WorldState}
 use Rattle.resp_wire.specs.declared.end.End.{End}
 
+-- what is not dropped has a session, whatever one would say of what is
+pub never_gone : (c : Connection) (P : Type 0) → c.dropped ≡ false → c.dropped ≡ true → P
+never_gone c P is_open gone = let never : false ≡ true = sym is_open ∙ gone in absurd (cc)
+
 -- a world of these parts
 abbrev pub world_of : {L : Type 0} → HubState → List End → List L → List ℕ → Option Cause → WorldState L
 world_of {L} hub ends links order stopped = record { hub = hub; ends = ends; links = links; order = order; stopped = stopped }

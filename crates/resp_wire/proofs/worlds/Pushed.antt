@@ -1,8 +1,9 @@
 -- Pushes and drops in a world.
-use Rattle.std.proofs.Common.{◌≡◌, ℕ, suc, ◌<◌, true, false, Some, List, [], ◌∷◌, ◌++◌, length, map, drop, set, slice_get, refl, sym, ap, subst, ◌∙◌, Ok}
+use Rattle.std.proofs.Common.{◌≡◌, ℕ, suc, ◌<◌, true, false, Some, List, [], ◌∷◌, ◌++◌, length, map, drop, set, slice_get, refl, sym, ap, subst, ◌∙◌, None, Ok, Result}
 use Rattle.std.proofs.lemmas.List.{append-nil, drop-append-le, map-append}
 use Rattle.std.proofs.lemmas.List.Folds.{concat-append}
 use Rattle.std.specs.List.{concat}
+use Rattle.std.specs.Prelude.{IsErrOf}
 use Rattle.resp_value.specs.Bounds.{Bounds}
 use Rattle.resp_value.specs.Canonical.{IsValue, canonical_text}
 use Rattle.resp_value.specs.Data.{Datum}
@@ -21,6 +22,7 @@ use Rattle.resp_session.specs.WorldLaws.{AChangeIsOfOneConnection, WhatIsLeftMay
 use Rattle.resp_session.specs.Worlds.{Drop, Push, World, after_event, connection_at}
 use Rattle.resp_server.specs.Hubs.{HubState, Seat, seat_at, seated, without_seat}
 use Rattle.resp_server.specs.PushRefusals as server
+use Rattle.resp_server.specs.declared.error.PushError.{PushError}
 use Rattle.resp_server.specs.declared.error.PushError.TheVariants as push
 use Rattle.resp_client.specs.Clients.{state_of}
 use Rattle.resp_wire.specs.Worlds.{ShowsClient, ShowsEach, Stands}
@@ -28,51 +30,45 @@ use Rattle.resp_wire.specs.declared.end.End.{End}
 use Rattle.resp_wire.proofs.Seated.{seat_here}
 use Rattle.resp_wire.proofs.worlds.Carried.{still_shown}
 use Rattle.resp_wire.proofs.worlds.Frames.{IsFramed, behind, framed}
-use Rattle.resp_wire.proofs.worlds.Places.{seats_elsewhere, seats_left}
+use Rattle.resp_wire.proofs.worlds.Places.{never_gone, seats_elsewhere, seats_left}
 
--- a session that took a push refuses it for no cause
-pub push_not_refused : (limits : Bounds) (s : Seat) (version : Version) (x : Datum) → s.version ≡ version → s.closing ≡ false →
-    server.IsPushVerdict limits (Some s) x (Ok tt) → (cause : Cause) → RefusesPush limits version x cause → ⊥
-push_not_refused limits s version x same is_open v cause.Syntax r = r
-push_not_refused limits s version x same is_open v cause.Double r = r
-push_not_refused limits s version x same is_open v cause.Version r = r
-push_not_refused limits s version x same is_open v cause.NestedPush r = r
-push_not_refused limits s version x same is_open v cause.Range r = r
-push_not_refused limits s version x same is_open v cause.Depth r = r
-push_not_refused limits s version x same is_open v cause.Length r = r
-push_not_refused limits s version x same is_open v cause.Total r = r
-push_not_refused limits s version x same is_open v cause.Truncated r = r
-push_not_refused limits s version x same is_open v cause.OutOfMemory r = r
-push_not_refused limits s version x same is_open v cause.Streamed r = r
-push_not_refused limits s version x same is_open v cause.Items r = r
-push_not_refused limits s version x same is_open v cause.Unasked r = r
-push_not_refused limits s version x same is_open v cause.TooLarge r = r
-push_not_refused limits s version x same is_open v cause.BadCommand r = r
-push_not_refused limits s version x same is_open v cause.TooMany r = r
-push_not_refused limits s version x same is_open v cause.TooManySessions r = r
-push_not_refused limits s version x same is_open v cause.NoSession r = r
-push_not_refused limits s version x same is_open v cause.Closing r = r
-push_not_refused limits s version x same is_open v cause.NotInVersion r = let e = v.every push.NotInVersion (λ e. absurd (cc)) (is_open, same ∙ r) in absurd
-    (cc)
-push_not_refused limits s version x same is_open v cause.PushBelowTop r = let e = v.every push.NestedPush (λ e. absurd (cc)) ((is_open, same ∙ r.0), r.1) in
-    absurd (cc)
-push_not_refused limits s version x same is_open v (cause.OverLimits limit) r = let e = v.every (push.OverLimits limit) (λ e. absurd (cc)) (
-  (
-    is_open,
-    same ∙
-        r.0,
-  ),
-  r.1,
-  r.2,
-) in absurd (cc)
-push_not_refused limits s version x same is_open v cause.Read r = r
-push_not_refused limits s version x same is_open v cause.Write r = r
-push_not_refused limits s version x same is_open v cause.TooManyTurns r = r
-push_not_refused limits s version x same is_open v cause.Ended r = r
-push_not_refused limits s version x same is_open v cause.BadLine r = r
-push_not_refused limits s version x same is_open v cause.BadDigits r = r
-push_not_refused limits s version x same is_open v cause.Busy r = r
-push_not_refused limits s version x same is_open v cause.BadLimits r = r
+-- a session that took a push, or had no memory for it, refuses it for no cause
+pub push_not_refused : (limits : Bounds) (s : Seat) (version : Version) (x : Datum) (answer : Result (Unit {0}) PushError) → s.version ≡ version →
+    s.closing ≡ false → server.IsPushVerdict limits (Some s) x answer → ((error : PushError) → IsErrOf answer error → error ≡ push.OutOfMemory) →
+    (cause : Cause) → RefusesPush limits version x cause → ⊥
+push_not_refused limits s version x answer same is_open v only cause.Syntax r = r
+push_not_refused limits s version x answer same is_open v only cause.Double r = r
+push_not_refused limits s version x answer same is_open v only cause.Version r = r
+push_not_refused limits s version x answer same is_open v only cause.NestedPush r = r
+push_not_refused limits s version x answer same is_open v only cause.Range r = r
+push_not_refused limits s version x answer same is_open v only cause.Depth r = r
+push_not_refused limits s version x answer same is_open v only cause.Length r = r
+push_not_refused limits s version x answer same is_open v only cause.Total r = r
+push_not_refused limits s version x answer same is_open v only cause.Truncated r = r
+push_not_refused limits s version x answer same is_open v only cause.OutOfMemory r = r
+push_not_refused limits s version x answer same is_open v only cause.Streamed r = r
+push_not_refused limits s version x answer same is_open v only cause.Items r = r
+push_not_refused limits s version x answer same is_open v only cause.Unasked r = r
+push_not_refused limits s version x answer same is_open v only cause.TooLarge r = r
+push_not_refused limits s version x answer same is_open v only cause.BadCommand r = r
+push_not_refused limits s version x answer same is_open v only cause.TooMany r = r
+push_not_refused limits s version x answer same is_open v only cause.TooManySessions r = r
+push_not_refused limits s version x answer same is_open v only cause.NoSession r = r
+push_not_refused limits s version x answer same is_open v only cause.Closing r = r
+push_not_refused limits s version x answer same is_open v only cause.NotInVersion r =
+    let e = only push.NotInVersion (v.every push.NotInVersion (λ e. absurd (cc)) (is_open, same ∙ r)) in absurd (cc)
+push_not_refused limits s version x answer same is_open v only cause.PushBelowTop r =
+    let e = only push.NestedPush (v.every push.NestedPush (λ e. absurd (cc)) ((is_open, same ∙ r.0), r.1)) in absurd (cc)
+push_not_refused limits s version x answer same is_open v only (cause.OverLimits limit) r =
+    let e = only (push.OverLimits limit) (v.every (push.OverLimits limit) (λ e. absurd (cc)) ((is_open, same ∙ r.0), r.1, r.2)) in absurd (cc)
+push_not_refused limits s version x answer same is_open v only cause.Read r = r
+push_not_refused limits s version x answer same is_open v only cause.Write r = r
+push_not_refused limits s version x answer same is_open v only cause.TooManyTurns r = r
+push_not_refused limits s version x answer same is_open v only cause.Ended r = r
+push_not_refused limits s version x answer same is_open v only cause.BadLine r = r
+push_not_refused limits s version x answer same is_open v only cause.BadDigits r = r
+push_not_refused limits s version x answer same is_open v only cause.Busy r = r
+push_not_refused limits s version x answer same is_open v only cause.BadLimits r = r
 
 -- the session after a push
 abbrev pub pushed_seat : Datum → Seat → Seat
@@ -98,7 +94,7 @@ pushed nothing_else goes_on sent change limits hub hub' ends order w at i items 
     let next = after_event w event in
     let old = at.each i e c here its in
     let refuses : (cause : Cause) → RefusesEvent limits (connection_of w event) event cause → ⊥ =
-    λ cause r. push_not_refused limits s.session c.version (push_message (map datum_of items)).value s.version s.is_open verdict cause
+    λ cause r. push_not_refused limits s.session c.version (push_message (map datum_of items)).value (Ok tt) s.version s.is_open verdict (λ error e. absurd (cc)) cause
     (subst (λ o. RefusesEvent limits o event cause) its r) in
     let step : Step limits w event Done next = (ap is_gone its ∙ is_open, refuses, refl) in
     let b = behind limits hub ends order w next event at step is_value in
@@ -121,6 +117,7 @@ pushed nothing_else goes_on sent change limits hub hub' ends order w at i items 
       replies = old.replies ∙ ap replies_of same.0;
       pushes = old.pushes ∙ ap pushes_of same.0;
       dropped = old.dropped;
+      gone = never_gone c _ is_open;
       stands = λ _. record {
         session = seat;
         there = ap (λ h. seat_at h (suc i)) now ∙ seat_here hub (suc i) s.session seat s.there;
@@ -146,10 +143,10 @@ pushed nothing_else goes_on sent change limits hub hub' ends order w at i items 
 pub dropped : AChangeIsOfOneConnection → (limits : Bounds) (hub hub' : HubState) (ends : List End) (order : List ℕ) (w : World)
     (at : ShowsEach limits hub ends order w) (i : ℕ) (e : End) (c : Connection) → slice_get ends i ≡ Some e →
     connection_at w.connections (suc i) ≡ Some c → (is_open : c.dropped ≡ false) → i < length ends →
-    hub' ≡ record hub { sessions = without_seat hub.sessions (suc i) } →
+    hub' ≡ record hub { sessions = without_seat hub.sessions (suc i) } → seat_at hub' (suc i) ≡ None →
     Step limits w (Drop (suc i)) Done (after_event w (Drop (suc i))) ×
     ShowsEach limits hub' (set ends i (record e { is_dropped = true })) order (after_event w (Drop (suc i)))
-dropped change limits hub hub' ends order w at i e c here its is_open within now =
+dropped change limits hub hub' ends order w at i e c here its is_open within now none =
     let event = Drop (suc i) in
     let next = after_event w event in
     let old = at.each i e c here its in
@@ -169,6 +166,7 @@ dropped change limits hub hub' ends order w at i e c here its is_open within now
       replies = old.replies;
       pushes = old.pushes;
       dropped = refl;
+      gone = λ _. none;
       stands = λ open_still. let never : true ≡ false = open_still in absurd (cc);
     } in
     (step, framed limits hub hub' ends order order w next i (record e { is_dropped = true }) (as_dropped c) at b frame at.ordered within there client)

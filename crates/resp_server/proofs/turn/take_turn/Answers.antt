@@ -11,7 +11,7 @@ use Rattle.resp_server.proofs.turn.take_turn.Goals as goal
 pub refuse-requires : goal.refuse-requires
 refuse-requires g c =
     let (front, taken) = c.requires.taking in
-    fault_is_named c.args.limits.now c.in_range.ensures (rules_of c.args.session.now.decoder.scanner) c.requires.reading front c.args.piece.now c.in-Err.fault
+    fault_is_named c.args.limits.now c.are_in_range.ensures (rules_of c.args.session.now.decoder.scanner) c.requires.reading front c.args.piece.now c.in-Err.fault
     (c.in-Err.ensures.refusal front taken)
 
 pub returns-in-Err-clause-answered : goal.returns-in-Err-clause-answered
@@ -43,7 +43,7 @@ returns-clause-answered g c front taken =
     let middle : Session = record { decoder = c.feed.new.self; version = before.version; out = before.out; closing = before.closing } in
     let answered = subst (λ v. IsAnswerTo c.args.id (datum_of v) c.args.store.now c.answer_value.new.store middle c.answer_value.new.session
     c.in_ok-commands.commands) c.in-Some.value-is c.in_ok-commands.ensures.answered in
-    value_turn c.no_spelling_is_empty.ensures c.the_empty_text_is_viable.ensures c.args.limits.now c.in_range.ensures c.args.id c.args.store.now
+    value_turn c.no_spelling_is_empty.ensures c.the_empty_text_is_viable.ensures c.args.limits.now c.are_in_range.ensures c.args.id c.args.store.now
     c.answer_value.new.store before c.answer_value.new.session front c.args.piece.now (rules_of c.args.session.now.decoder.scanner)
     c.feed.new.self c.in-Some.value c.in-Ok.fed.used c.in_ok-commands.commands c.requires.reading taken given c.in-Ok.ensures.within_piece
     c.answer_value.ensures.same_decoder

@@ -9,7 +9,7 @@ returns-in-Err-clause-refusal c =
     let requests = c.args.requests.now in
     let index = c.loop-index.index in
     let request = c.index-requests-index.result in
-    subst (StopsQueueing c.args.client.now c.queue_one.new.client requests) (sym c.refused.ensures)
+    subst (StopsQueueing c.args.client.now c.queue_one.new.client requests) (sym c.refused.ensures.error)
     (stops_queueing c.args.client.now c.loop-index.client c.queue_one.new.client requests (drop (index + 1) requests) request index c.in-Err.error i.queued
     (next_request requests index request c.index-requests-index.is (search rules)) c.in-Err.ensures.answer c.in-Err.ensures.unchanged)
 

@@ -98,7 +98,7 @@ returns-in-Err-read_some-clause-served g c =
           let v = at_open old id (λ t f. Serves old cur id t (f ++ came) held held' []) s front served here not_closing taken in (
             tt,
             stops_reading old cur id s front came held held' (g.R.Source.failures c.loop-count.reader) (g.R.Source.failures c.read_some.new.reader)
-                c.read_some.new.turns c.unread.result (c.unread.ensures _ _ _ c.in-Err-read_some.ensures.halted)
+                c.read_some.new.turns c.unread.result (c.unread.ensures.stops _ _ _ c.in-Err-read_some.ensures.halted)
                 (v, open_is cur id c.loop-count.invariant.is_open),
             all_written old cur id s front came held held' v c.loop-count.invariant.is_open,
           )),
@@ -110,7 +110,7 @@ returns-in-Err-read_some-clause-refusal g c =
     (g.R.Source.failures c.read_some.new.reader) c.unread.result) c.loop-count.invariant.reads
     (fails_reading c.args.hub.now c.args.id (g.W.Sink.failures c.args.writer.now) (g.W.Sink.failures c.loop-count.writer)
     (g.R.Source.failures c.loop-count.reader) (g.R.Source.failures c.read_some.new.reader) c.read_some.new.turns c.unread.result
-    (c.unread.ensures _ _ _ c.in-Err-read_some.ensures.halted))
+    (c.unread.ensures.stops _ _ _ c.in-Err-read_some.ensures.halted))
 
 pub returns-in-Err-read_some-clause-turns : goal.returns-in-Err-read_some-clause-turns
 returns-in-Err-read_some-clause-turns g c = spends_both (g.W.Sink.calls c.args.writer.now) (g.W.Sink.calls c.loop-count.writer)
@@ -122,7 +122,7 @@ pub returns-in-Err-read_some-clause-no_turn_left :
     goal.returns-in-Err-read_some-clause-no_turn_left
 returns-in-Err-read_some-clause-no_turn_left g c is =
     no_turn_to_read _ _ (g.R.Source.failures c.loop-count.reader) (g.R.Source.failures c.read_some.new.reader) c.read_some.new.turns c.unread.result refl
-    (c.unread.ensures _ _ _ c.in-Err-read_some.ensures.halted) is
+    (c.unread.ensures.stops _ _ _ c.in-Err-read_some.ensures.halted) is
 
 pub returns-in-Err-answer-clause-served : goal.returns-in-Err-answer-clause-served
 returns-in-Err-answer-clause-served g c =

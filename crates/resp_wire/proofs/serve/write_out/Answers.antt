@@ -32,4 +32,4 @@ returns-in-Err-clause-part g c =
 
 pub returns-in-Err-clause-refusal : goal.returns-in-Err-clause-refusal
 returns-in-Err-clause-refusal g c =
-    c.unwritten.ensures _ _ _ (if_err c.write_text-written.result.end c.in-Err.halt c.in-Err.is _ c.write_text-written.ensures.halted)
+    c.unwritten.ensures.stops _ _ _ (if_err c.write_text-written.result.end c.in-Err.halt c.in-Err.is _ c.write_text-written.ensures.halted)

@@ -43,3 +43,9 @@ returns-clause-used_up c = λ front w none.
     let whole : c.in-Ok.scanned.is_whole ≡ true = search rules in
     let heard = c.in-Ok.ensures.value_whole tt front w.given w.reads w.heard whole in
     absurd (holds_some_value r c.scan.new.self c.scan.new.listener written heard (sym c.take_whole-value.ensures.taken ∙ ap maybe_datum none))
+
+pub returns-then-not-scanned-clause-uses_bytes : goal.returns-then-not-scanned-clause-uses_bytes
+returns-then-not-scanned-clause-uses_bytes c = λ front w. c.in-Ok.ensures.uses_bytes tt front w.given w.reads w.heard w.no_value
+
+pub returns-clause-uses_bytes : goal.returns-clause-uses_bytes
+returns-clause-uses_bytes c = λ front w. c.in-Ok.ensures.uses_bytes tt front w.given w.reads w.heard w.no_value

@@ -1,4 +1,4 @@
-use Rattle.std.proofs.Common.{None, subst, sym, ap, ◌∙◌}
+use Rattle.std.proofs.Common.{None, refl, subst, sym, ap, ◌∙◌}
 use Rattle.resp_server.specs.Hubs.{HubState, AreSound, seats_of, without_seat}
 use Rattle.resp_server.proofs.Seats.{seat_is, seat_is_there, seats-remove, sound_remove}
 use Rattle.resp_server.proofs.hub.Hub.close.Goals as goal
@@ -29,3 +29,8 @@ pub returns-clause-some : goal.returns-clause-some
 returns-clause-some g c =
     let i = c.self.inside in
     seat_is_there i.limits i.sessions.entries i.store i.last c.args.self.now c.self.view_is c.args.id c.in-Some._session c.in-Some.ensures.value
+
+pub returns-clause-gone : goal.returns-clause-gone
+returns-clause-gone g c =
+    let i = c.self.inside in
+    seat_is i.limits c.shift_remove.new.self.entries i.store i.last _ refl c.args.id None (sym c.in-Some.ensures.updates.1)

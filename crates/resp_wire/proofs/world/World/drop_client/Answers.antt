@@ -28,4 +28,4 @@ returns-clause-happens g c =
     Happens g.L.Link.is_honest z new (Drop n) Done) c.self.view_is
     (λ there is_open. drops g.L.Link.is_honest c.a_change_is_of_one_connection.ensures s.hub c.close.new.self s.ends.items s.links.items s.order.items
     s.stopped n e
-    there is_open c.index_mut.ensures.value c.in_default.ensures.closed) c.requires.there c.requires.is_open
+    there is_open c.index_mut.ensures.value c.in_default.ensures.closed c.in_default.ensures.gone) c.requires.there c.requires.is_open

@@ -1,10 +1,12 @@
-use Rattle.std.proofs.Common.{◌≡◌, ◌∙◌, ◌<◌, ◌⊎◌, IfOk, inl, inr, length, map, rules, ap, subst, sym}
+use Rattle.std.proofs.Common.{◌≡◌, ◌∙◌, ◌<◌, ◌⊎◌, IfOk, OnErr, inl, inr, length, map, rules, ap, subst, sym}
 use Rattle.resp_value.specs.Commands.{words_of}
 use Rattle.resp_value.specs.Values.{datum_of, list_of}
 use Rattle.resp_session.specs.Worlds as session
 use Rattle.resp_session.specs.Worlds.{client_of}
 use Rattle.resp_wire.specs.Happening.{Happens}
 use Rattle.resp_wire.specs.Worlds.{event_of}
+use Rattle.resp_wire.specs.Happening.{MayLackMemory}
+use Rattle.resp_wire.proofs.worlds.Lacking.{if_err_of, never_memory}
 use Rattle.resp_wire.proofs.world.World.happen.Goals as goal
 use Rattle.resp_wire.proofs.world.World.happen.Goals.{then-number-eq0-via-then-number-eq0, then-number-eq0-via-else-number-eq0+then-number-len}
 use Rattle.resp_wire.proofs.worlds.Parts.{nobody, of_dropped, open_end}
@@ -86,3 +88,36 @@ returns-in-Drop-clause-happens g c =
     subst (λ e. IfOk c.drop_client.result (Happens g.L.Link.is_honest c.args.self.now c.drop_client.new.self e))
     (ap (λ n. session.Drop n) (c.client-number.ensures ∙ ap (λ e. client_of (event_of e)) c.in-Drop.is) ∙
     sym (ap event_of c.in-Drop.is)) c.drop_client.ensures.happens
+
+pub returns-in-Send-clause-memory : goal.returns-in-Send-clause-memory
+returns-in-Send-clause-memory g c =
+    if_err_of c.send.result _ _ (subst (λ e. OnErr c.send.result (MayLackMemory g.L.Link.is_honest c.args.self.now e))
+    (ap (λ n. session.Send n (words_of c.in-Send.command)) (c.client-number.ensures ∙ ap (λ e. client_of (event_of e)) c.in-Send.is) ∙
+    sym (ap event_of c.in-Send.is)) c.send.ensures.memory)
+
+pub returns-in-Hello-clause-memory : goal.returns-in-Hello-clause-memory
+returns-in-Hello-clause-memory g c =
+    if_err_of c.hello.result _ _ (subst (λ e. OnErr c.hello.result (MayLackMemory g.L.Link.is_honest c.args.self.now e))
+    (ap (λ n. session.Greet n c.in-Hello.asked) (c.client-number.ensures ∙ ap (λ e. client_of (event_of e)) c.in-Hello.is) ∙
+    sym (ap event_of c.in-Hello.is)) c.hello.ensures.memory)
+
+pub returns-in-ToServer-clause-memory : goal.returns-in-ToServer-clause-memory
+returns-in-ToServer-clause-memory g c =
+    if_err_of c.to_server.result _ _ (subst (λ e. OnErr c.to_server.result (MayLackMemory g.L.Link.is_honest c.args.self.now e))
+    (ap (λ n. session.ToServer n c.in-ToServer.count) (c.client-number.ensures ∙ ap (λ e. client_of (event_of e)) c.in-ToServer.is) ∙
+    sym (ap event_of c.in-ToServer.is)) c.to_server.ensures.memory)
+
+pub returns-in-ToClient-clause-memory : goal.returns-in-ToClient-clause-memory
+returns-in-ToClient-clause-memory g c =
+    if_err_of c.to_client.result _ _ (subst (λ e. OnErr c.to_client.result (MayLackMemory g.L.Link.is_honest c.args.self.now e))
+    (ap (λ n. session.ToClient n c.in-ToClient.count) (c.client-number.ensures ∙ ap (λ e. client_of (event_of e)) c.in-ToClient.is) ∙
+    sym (ap event_of c.in-ToClient.is)) c.to_client.ensures.memory)
+
+pub returns-in-Push-clause-memory : goal.returns-in-Push-clause-memory
+returns-in-Push-clause-memory g c =
+    if_err_of c.push.result _ _ (subst (λ e. OnErr c.push.result (MayLackMemory g.L.Link.is_honest c.args.self.now e))
+    (ap (λ n. session.Push n (map datum_of (list_of c.in-Push.items))) (c.client-number.ensures ∙ ap (λ e. client_of (event_of e)) c.in-Push.is) ∙
+    sym (ap event_of c.in-Push.is)) c.push.ensures.memory)
+
+pub returns-in-Drop-clause-memory : goal.returns-in-Drop-clause-memory
+returns-in-Drop-clause-memory g c = never_memory c.drop_client.result _ c.drop_client.ensures.memory

@@ -9,7 +9,7 @@ pub returns-clause-shows : goal.returns-clause-shows
 returns-clause-shows g c honest =
     let few : c.len-2.result ≤ 65536 = search rules in
     let count : c.len-2.result ≡ length c.args.links.items = search rules in
-    let opened = opened_shows c.args.limits _ c.open_each.new.hub c.in-Ok.ends.items c.len-2.result c.in_range.ensures few
+    let opened = opened_shows c.args.limits _ c.open_each.new.hub c.in-Ok.ends.items c.len-2.result c.are_in_range.ensures few
     (ap (λ (h : HubState). h.limits) c.new-hub.ensures) (ap (λ (h : HubState). h.store) c.new-hub.ensures) c.in-Ok.ensures.opened in
     record {
       each = subst (λ order. ShowsEach c.args.limits c.open_each.new.hub c.in-Ok.ends.items order (new_world (length c.args.links.items)))

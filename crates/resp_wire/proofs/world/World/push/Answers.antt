@@ -1,4 +1,4 @@
-use Rattle.std.proofs.Common.{◌≡◌, ◌-◌, ◌≤◌, length, map, subst, IfErr, IfOk, IfSome, Ok, Err}
+use Rattle.std.proofs.Common.{◌≡◌, ◌-◌, ◌≤◌, length, map, subst, IfErr, IfOk, IfSome, OnErr, sym, Ok, Err}
 use Rattle.resp_value.specs.Canonical.{IsValue}
 use Rattle.resp_value.specs.Values.{datum_of, list_of}
 use Rattle.resp_session.specs.Connections.{push_message}
@@ -11,6 +11,8 @@ use Rattle.resp_wire.specs.declared.event.Outcome.TheVariants.{Done}
 use Rattle.resp_wire.proofs.worlds.Moves.{pushes, refuses_push, stops_push}
 use Rattle.resp_wire.proofs.worlds.Pushed.{pushed_seat}
 use Rattle.resp_wire.proofs.worlds.Places.{world_of}
+use Rattle.resp_wire.specs.Happening.{MayLackMemory}
+use Rattle.resp_wire.proofs.worlds.Lacking.{push_lacks}
 use Rattle.resp_wire.proofs.world.World.push.Goals as goal
 
 pub returns-clause-happens : goal.returns-clause-happens
@@ -58,3 +60,17 @@ returns-in-Err-clause-stops g c =
     IfErr c.outcome_of_push.result (Fails g.L.Link.is_honest g.L.Link.failures z new)) c.self.view_is
     (λ there is_open. stops_push g.L.Link.is_honest g.L.Link.failures s.hub s.ends.items s.links.items s.order.items s.stopped new n items c.in-Err.error
     c.outcome_of_push.result c.outcome_of_push.ensures verdict there is_open) c.requires.there c.requires.is_open
+
+pub returns-in-Err-clause-memory : goal.returns-in-Err-clause-memory
+returns-in-Err-clause-memory g c =
+    let s = c.self.inside in
+    let n = c.args.number in
+    let items = list_of c.args.items.now in
+    let verdict = subst (λ l. IsPushVerdict s.hub.limits (seat_at s.hub n) (push_message (map datum_of l)).value (Err c.in-Err.error)) c.list.ensures
+    c.in-Err.ensures.verdict in
+    subst (λ (z : WorldState g.row.L.Denot). (1 ≤ n) × (n ≤ length z.ends) → IsOpenEnd z.ends (n - 1) →
+    OnErr c.outcome_of_push.result (MayLackMemory g.L.Link.is_honest z (Push n (map datum_of items)))) c.self.view_is
+    (λ there is_open. subst (λ r. OnErr r (MayLackMemory g.L.Link.is_honest (world_of s.hub s.ends.items s.links.items s.order.items s.stopped)
+    (Push n (map datum_of items)))) (sym c.outcome_of_push.ensures)
+    (push_lacks g.L.Link.is_honest s.hub s.ends.items s.links.items s.order.items s.stopped n (map datum_of items) c.in-Err.error verdict there is_open))
+    c.requires.there c.requires.is_open

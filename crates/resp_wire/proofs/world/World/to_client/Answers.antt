@@ -9,6 +9,8 @@ use Rattle.resp_wire.proofs.worlds.Carried.{with_client}
 use Rattle.resp_wire.proofs.worlds.Events.{both_ok}
 use Rattle.resp_wire.proofs.worlds.Moves.{err_of, keep_failures, moves_to_client, stops_for_memory, stops_to_client}
 use Rattle.resp_wire.proofs.worlds.Places.{world_of}
+use Rattle.resp_wire.specs.Happening.{MayLackMemory}
+use Rattle.resp_wire.proofs.worlds.Lacking.{all_errs, to_client_lacks}
 use Rattle.resp_wire.proofs.world.World.to_client.Goals as goal
 
 pub returns-clause-happens : goal.returns-clause-happens
@@ -67,3 +69,21 @@ returns-clause-none_failed g c =
     KeepFailures g.L.Link.failures c.args.self.now.links (set s.links.items (n - 1) link')) c.keep.ensures.kept c.keep.ensures.done
     (λ outcome kept_heard done.
     subst (λ (z : WorldState g.row.L.Denot). KeepFailures g.L.Link.failures z.links (set s.links.items (n - 1) link')) c.self.view_is kept)
+
+pub returns-in-Err-clause-memory : goal.returns-in-Err-clause-memory
+returns-in-Err-clause-memory g c =
+    let s = c.self.inside in
+    let n = c.args.number in
+    subst (λ (z : WorldState g.row.L.Denot). (1 ≤ n) × (n ≤ length z.ends) → IsOpenEnd z.ends (n - 1) →
+    MayLackMemory g.L.Link.is_honest z (ToClient n c.args.count)) c.self.view_is
+    (λ there is_open. to_client_lacks g.L.Link.is_honest s.hub s.ends.items s.links.items s.order.items s.stopped n c.args.count there is_open)
+    c.requires.there c.requires.is_open
+
+pub returns-clause-memory : goal.returns-clause-memory
+returns-clause-memory g c = all_errs c.keep.result _ (
+    let s = c.self.inside in
+    let n = c.args.number in
+    subst (λ (z : WorldState g.row.L.Denot). (1 ≤ n) × (n ≤ length z.ends) → IsOpenEnd z.ends (n - 1) →
+    MayLackMemory g.L.Link.is_honest z (ToClient n c.args.count)) c.self.view_is
+    (λ there is_open. to_client_lacks g.L.Link.is_honest s.hub s.ends.items s.links.items s.order.items s.stopped n c.args.count there is_open)
+    c.requires.there c.requires.is_open)

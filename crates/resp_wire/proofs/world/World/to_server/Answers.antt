@@ -6,6 +6,8 @@ use Rattle.resp_wire.specs.declared.event.Outcome.TheVariants.{Done}
 use Rattle.resp_wire.proofs.worlds.Carried.{with_client}
 use Rattle.resp_wire.proofs.worlds.Moves.{keep_failures, moves_to_server, stops_to_server}
 use Rattle.resp_wire.proofs.worlds.Places.{world_of}
+use Rattle.resp_wire.specs.Happening.{MayLackMemory}
+use Rattle.resp_wire.proofs.worlds.Lacking.{to_server_lacks}
 use Rattle.resp_wire.proofs.world.World.to_server.Goals as goal
 
 pub returns-clause-happens : goal.returns-clause-happens
@@ -46,3 +48,12 @@ returns-clause-none_failed g c =
     let kept : KeepFailures g.L.Link.failures s.links.items (set s.links.items (n - 1) link') =
     keep_failures g.L.Link.failures s.links.items (n - 1) c.index_mut.result.now link' c.index_mut.ensures.value c.in_default.ensures.none_failed in
     subst (λ (z : WorldState g.row.L.Denot). KeepFailures g.L.Link.failures z.links (set s.links.items (n - 1) link')) c.self.view_is kept
+
+pub returns-in-Err-clause-memory : goal.returns-in-Err-clause-memory
+returns-in-Err-clause-memory g c =
+    let s = c.self.inside in
+    let n = c.args.number in
+    subst (λ (z : WorldState g.row.L.Denot). (1 ≤ n) × (n ≤ length z.ends) → IsOpenEnd z.ends (n - 1) →
+    MayLackMemory g.L.Link.is_honest z (ToServer n c.args.count)) c.self.view_is
+    (λ there is_open. to_server_lacks g.L.Link.is_honest s.hub s.ends.items s.links.items s.order.items s.stopped n c.args.count there is_open)
+    c.requires.there c.requires.is_open

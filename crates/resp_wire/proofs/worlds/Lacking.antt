@@ -1,0 +1,165 @@
+-- Memory is out only at an event that is done in the definitions, and at no drop.
+use Rattle.std.proofs.Common.{◌≡◌, ℕ, ◌-◌, ◌<◌, ◌≤◌, false, None, Some, Option, List, length, get_or, map, slice_get, IfErr, IfSome, OnErr, Ok, Err, Result, refl, sym, ap, subst, ◌∙◌, arith}
+use Rattle.resp_value.specs.Bounds.{Bounds}
+use Rattle.resp_value.specs.Data.{Datum}
+use Rattle.resp_value.specs.Values.{datum_of}
+use Rattle.resp_value.specs.declared.cause.Cause.{Cause}
+use Rattle.resp_value.specs.declared.cause.Cause.TheVariants.{NoSession, OutOfMemory}
+use Rattle.resp_value.specs.declared.value.Value.{Value}
+use Rattle.resp_value.specs.declared.version.Version.{Version}
+use Rattle.resp_session.specs.Connections.{Connection, push_message}
+use Rattle.resp_session.specs.Requests.{Command, FitsRequest, Hello, RefusesRequest, Request}
+use Rattle.resp_session.specs.Runs.{Done, RefusesEvent, Step, connection_of, is_gone}
+use Rattle.resp_session.specs.Worlds.{Greet, Push, Send, ToClient, ToServer, World, WorldEvent, after_event, connection_at}
+use Rattle.resp_client.specs.Clients.{queued, state_of}
+use Rattle.resp_client.specs.Sending.{MayBeSent}
+use Rattle.resp_server.specs.PushRefusals as server
+use Rattle.resp_server.specs.declared.error.PushError.{PushError}
+use Rattle.resp_server.specs.declared.error.PushError.TheVariants as push
+use Rattle.resp_server.specs.Hubs.{HubState, Seat, seat_at}
+use Rattle.resp_wire.specs.Ends.{outcome_of_push}
+use Rattle.resp_wire.specs.Happening.{IsNoDrop, IsOpenEnd, MayLackMemory}
+use Rattle.resp_wire.specs.Worlds.{Shows, ShowsEach, WorldState}
+use Rattle.resp_wire.specs.declared.end.End.{End}
+use Rattle.resp_wire.specs.declared.event.Outcome.{Outcome}
+use Rattle.resp_wire.proofs.worlds.Asked.{not_refused}
+use Rattle.resp_wire.proofs.worlds.Moves.{at_work, session_refuses, some_at_work}
+use Rattle.resp_wire.proofs.worlds.Places.{world_of}
+use Rattle.resp_wire.proofs.worlds.Pushed.{push_not_refused}
+
+-- bytes of a client that was not dropped are never refused
+bytes_lack : {L : Type 0} (is_honest : L → Type 0) (hub : HubState) (ends : List End) (links : List L) (order : List ℕ) (stopped : Option Cause)
+    (number : ℕ) (event : WorldEvent) → IsNoDrop event → ((w : World) → connection_of w event ≡ connection_at w.connections number) →
+    ((limits : Bounds) (c : Option Connection) (cause : Cause) → RefusesEvent limits c event cause → ⊥) →
+    (1 ≤ number) × (number ≤ length ends) → IsOpenEnd ends (number - 1) →
+    MayLackMemory is_honest (world_of hub ends links order stopped) event
+bytes_lack {L} is_honest hub ends links order stopped number event no_drop its never there open_end = record {
+  no_drop = no_drop;
+  done = λ limits w shows.
+      let (e, work) = some_at_work limits hub ends order w number shows.each there open_end in
+      let at : connection_of w event ≡ Some work.at.connection = its w ∙ ap (connection_at w.connections) (sym work.is) ∙ work.at.its in
+      (ap is_gone at ∙ work.at.is_open, never limits (connection_of w event), refl);
+}
+
+pub to_server_lacks : {L : Type 0} (is_honest : L → Type 0) (hub : HubState) (ends : List End) (links : List L) (order : List ℕ)
+    (stopped : Option Cause) (number count : ℕ) → (1 ≤ number) × (number ≤ length ends) → IsOpenEnd ends (number - 1) →
+    MayLackMemory is_honest (world_of hub ends links order stopped) (ToServer number count)
+to_server_lacks {L} is_honest hub ends links order stopped number count =
+    bytes_lack is_honest hub ends links order stopped number (ToServer number count) tt (λ w. refl) (λ limits c cause r. r)
+
+pub to_client_lacks : {L : Type 0} (is_honest : L → Type 0) (hub : HubState) (ends : List End) (links : List L) (order : List ℕ)
+    (stopped : Option Cause) (number count : ℕ) → (1 ≤ number) × (number ≤ length ends) → IsOpenEnd ends (number - 1) →
+    MayLackMemory is_honest (world_of hub ends links order stopped) (ToClient number count)
+to_client_lacks {L} is_honest hub ends links order stopped number count =
+    bytes_lack is_honest hub ends links order stopped number (ToClient number count) tt (λ w. refl) (λ limits c cause r. r)
+
+-- nor is a request that the client may send
+request_lacks : {L : Type 0} (is_honest : L → Type 0) (hub : HubState) (ends : List End) (links : List L) (order : List ℕ) (stopped : Option Cause)
+    (number : ℕ) (e : End) (event : WorldEvent) (request : Request) → IsNoDrop event →
+    ((w : World) → connection_of w event ≡ connection_at w.connections number) →
+    ((limits : Bounds) (c : Connection) (cause : Cause) → RefusesEvent limits (Some c) event cause →
+    RefusesRequest limits (length c.requests) request cause) →
+    (1 ≤ number) × (number ≤ length ends) → IsOpenEnd ends (number - 1) → e ≡ get_or ends (number - 1) e → MayBeSent (state_of e.client) request →
+    MayLackMemory is_honest (world_of hub ends links order stopped) event
+request_lacks {L} is_honest hub ends links order stopped number e event request no_drop its refusing there open_end e_is may = record {
+  no_drop = no_drop;
+  done = λ limits w shows.
+      let work = at_work limits hub ends order w number e shows.each there open_end e_is in
+      let c = work.at.connection in
+      let s = work.stands in
+      let few = may.number_left in
+      let counts = s.same_count in
+      let at : connection_of w event ≡ Some c = its w ∙ ap (connection_at w.connections) (sym work.is) ∙ work.at.its in
+      let refused : (cause : Cause) → RefusesEvent limits (connection_of w event) event cause → ⊥ =
+      λ cause r. not_refused limits (length c.requests) request may.is_sent (subst (λ l. FitsRequest l request) s.same_limits may.fits)
+      (omega (arith, few, counts)) cause (refusing limits c cause (subst (λ o. RefusesEvent limits o event cause) at r)) in
+      (ap is_gone at ∙ work.at.is_open, refused, refl);
+}
+
+pub send_lacks : {L : Type 0} (is_honest : L → Type 0) (hub : HubState) (ends : List End) (links : List L) (order : List ℕ) (stopped : Option Cause)
+    (number : ℕ) (e : End) (words : List (List ℕ)) → (1 ≤ number) × (number ≤ length ends) → IsOpenEnd ends (number - 1) →
+    e ≡ get_or ends (number - 1) e → MayBeSent (state_of e.client) (Command words) →
+    MayLackMemory is_honest (world_of hub ends links order stopped) (Send number words)
+send_lacks {L} is_honest hub ends links order stopped number e words =
+    request_lacks is_honest hub ends links order stopped number e (Send number words) (Command words) tt (λ w. refl) (λ limits c cause r. r)
+
+pub hello_lacks : {L : Type 0} (is_honest : L → Type 0) (hub : HubState) (ends : List End) (links : List L) (order : List ℕ) (stopped : Option Cause)
+    (number : ℕ) (e : End) (asked : Option Version) → (1 ≤ number) × (number ≤ length ends) → IsOpenEnd ends (number - 1) →
+    e ≡ get_or ends (number - 1) e → MayBeSent (state_of e.client) (Hello asked) →
+    MayLackMemory is_honest (world_of hub ends links order stopped) (Greet number asked)
+hello_lacks {L} is_honest hub ends links order stopped number e asked =
+    request_lacks is_honest hub ends links order stopped number e (Greet number asked) (Hello asked) tt (λ w. refl) (λ limits c cause r. r)
+
+-- nor is a push that an open session has no memory for
+push_done : (limits : Bounds) (hub : HubState) (ends : List End) (order : List ℕ) (w : World) (number : ℕ) (items : List Datum) (error : PushError) →
+    ShowsEach limits hub ends order w → server.IsPushVerdict hub.limits (seat_at hub number) (push_message items).value (Err error) →
+    (1 ≤ number) × (number ≤ length ends) → IsOpenEnd ends (number - 1) →
+    OnErr (outcome_of_push error) (Step limits w (Push number items) Done (after_event w (Push number items)))
+push_done limits hub ends order w number items error each verdict there open_end =
+    let (e, work) = some_at_work limits hub ends order w number each there open_end in
+    let s = work.stands in
+    let seat : seat_at hub number ≡ Some s.session = ap (seat_at hub) (sym work.is) ∙ s.there in
+    let at : connection_at w.connections number ≡ Some work.at.connection = ap (connection_at w.connections) (sym work.is) ∙ work.at.its in
+    by_error limits s.session work.at.connection w number items error at work.at.is_open s.version s.is_open
+    (subst (λ o. server.IsPushVerdict limits o (push_message items).value (Err error)) seat
+    (subst (λ l. server.IsPushVerdict l (seat_at hub number) (push_message items).value (Err error)) each.same_limits verdict))
+  where
+    by_error : (limits : Bounds) (s : Seat) (c : Connection) (w : World) (number : ℕ) (items : List Datum) (error : PushError) →
+        connection_at w.connections number ≡ Some c → c.dropped ≡ false → s.version ≡ c.version → s.closing ≡ false →
+        server.IsPushVerdict limits (Some s) (push_message items).value (Err error) →
+        OnErr (outcome_of_push error) (Step limits w (Push number items) Done (after_event w (Push number items)))
+    by_error limits s c w number items push.NoSession at here version is_open verdict = let never = verdict.first in absurd (cc)
+    by_error limits s c w number items push.Closing at here version is_open verdict = let never = verdict.first in absurd (cc)
+    by_error limits s c w number items push.NotInVersion at here version is_open verdict = tt
+    by_error limits s c w number items push.NestedPush at here version is_open verdict = tt
+    by_error limits s c w number items (push.OverLimits limit) at here version is_open verdict = tt
+    by_error limits s c w number items push.OutOfMemory at here version is_open verdict = (
+      ap is_gone at ∙ here,
+      λ cause r. push_not_refused limits s c.version (push_message items).value (Err push.OutOfMemory) version is_open verdict (λ error e. let same : push.OutOfMemory ≡ error = cc in sym same) cause
+          (subst (λ o. RefusesEvent limits o (Push number items) cause) at r),
+      refl,
+    )
+
+pub push_lacks : {L : Type 0} (is_honest : L → Type 0) (hub : HubState) (ends : List End) (links : List L) (order : List ℕ) (stopped : Option Cause)
+    (number : ℕ) (items : List Datum) (error : PushError) →
+    server.IsPushVerdict hub.limits (seat_at hub number) (push_message items).value (Err error) →
+    (1 ≤ number) × (number ≤ length ends) → IsOpenEnd ends (number - 1) →
+    OnErr (outcome_of_push error) (MayLackMemory is_honest (world_of hub ends links order stopped) (Push number items))
+push_lacks {L} is_honest hub ends links order stopped number items push.NotInVersion verdict there open_end = tt
+push_lacks {L} is_honest hub ends links order stopped number items push.NestedPush verdict there open_end = tt
+push_lacks {L} is_honest hub ends links order stopped number items (push.OverLimits limit) verdict there open_end = tt
+push_lacks {L} is_honest hub ends links order stopped number items push.NoSession verdict there open_end = record {
+  no_drop = tt;
+  done = λ limits w shows. push_done limits hub ends order w number items push.NoSession shows.each verdict there open_end;
+}
+push_lacks {L} is_honest hub ends links order stopped number items push.Closing verdict there open_end = record {
+  no_drop = tt;
+  done = λ limits w shows. push_done limits hub ends order w number items push.Closing shows.each verdict there open_end;
+}
+push_lacks {L} is_honest hub ends links order stopped number items push.OutOfMemory verdict there open_end = record {
+  no_drop = tt;
+  done = λ limits w shows. push_done limits hub ends order w number items push.OutOfMemory shows.each verdict there open_end;
+}
+
+-- where memory was out at the event of an index, it may be
+pub lacks_at : {L : Type 0} (is_honest : L → Type 0) (s : WorldState L) (events : List WorldEvent) (k : ℕ) (event : WorldEvent) →
+    slice_get events k ≡ Some event → MayLackMemory is_honest s event → IfSome (slice_get events k) (MayLackMemory is_honest s)
+lacks_at {L} is_honest s events k event here lacks = subst (λ o. IfSome o (MayLackMemory is_honest s)) (sym here) lacks
+
+-- Facts of results.
+pub if_err : {T E : Type 0} (r : Result T E) (P Q : Type 0) → OnErr r P → (P → Q) → OnErr r Q
+if_err {T} {E} (Ok x) P Q p f = tt
+if_err {T} {E} (Err e) P Q p f = f p
+
+pub all_errs : {T E : Type 0} (r : Result T E) (Q : Type 0) → Q → OnErr r Q
+all_errs {T} {E} (Ok x) Q q = tt
+all_errs {T} {E} (Err e) Q q = q
+
+pub if_err_of : {T E : Type 0} (r : Result T E) (P : E → Type 0) (Q : Type 0) → OnErr r Q → IfErr r (λ e. P e → Q)
+if_err_of {T} {E} (Ok x) P Q q = tt
+if_err_of {T} {E} (Err e) P Q q = λ _. q
+
+-- a drop stops for no memory
+pub never_memory : {T : Type 0} (r : Result T Cause) (Q : Type 0) → IfErr r (λ cause. cause ≡ NoSession) → IfErr r (λ cause. cause ≡ OutOfMemory → Q)
+never_memory {T} (Ok x) Q no_session = tt
+never_memory {T} (Err cause) Q no_session = λ memory. let both : NoSession ≡ OutOfMemory = sym no_session ∙ memory in absurd (cc)
