@@ -85,6 +85,7 @@ pub(crate) fn ask_server(
         requests.push(request(alloc, index)?)?;
     }
     let stream = TcpStream::connect(net, ("127.0.0.1", port))?;
+    stream.set_nodelay(true)?;
     let mut client = Client::new(alloc, &Limits::standard());
     let mut heard = Asked::new(alloc);
     ask(

@@ -24,6 +24,7 @@ pub(crate) fn serve_clients<S: BuildHasher + Drop>(
     let mut hub = Hub::new(alloc, Limits::standard(), hasher);
     for stream in listener.incoming() {
         let stream = stream?;
+        stream.set_nodelay(true)?;
         let id = hub.open()?;
         let _served = serve(
             &mut Device::new(&stream),

@@ -47,6 +47,18 @@ impl Client {
     /// Refuses by Unasked the first byte of a value that is no push while no command waits, each
     /// other byte as the decoder does, and by OutOfMemory where no memory is found for what came.
     /// Every later call answers the same, and what was queued stays.
+    ///
+    /// What is heard in a piece, in [example_client](../../example_client/src/main.rt):
+    ///
+    /// ```rust
+    /// let heard = client.feed(rest)?;
+    /// rest = &rest[heard.used..];
+    /// match &heard.what {
+    ///     What::Reply { number, value } => println!(rt; "reply {number}: {value:?}")?,
+    ///     What::Push(items) => println!(rt; "push: {:?}", items.list())?,
+    ///     _ => break,
+    /// }
+    /// ```
     pub fn feed(&mut self, piece: &[u8]) -> Result<Heard, Fault>
         ensures heard { WhereTaken self.old (λ front. IfOk result (λ heard.
             Hears self.old self.new front piece.now heard.used heard.what)) }

@@ -54,8 +54,20 @@ impl Client {
 
     /// Queues the text of a command, and answers the number that its reply will have.
     ///
-    /// Refuses by the first of BadCommand, TooLarge and TooMany that there is, and else for want of
+    /// Refuses by the first of BadCommand, TooLarge and TooMany that there is, and else when out of
     /// memory, as [`SendError`] says. Then nothing is changed.
+    ///
+    /// A pipeline, in [example_client](../../example_client/src/main.rt):
+    ///
+    /// ```rust
+    /// let mut client = Client::new(alloc, &Limits::standard());
+    /// client.hello(Some(Version::Three))?;
+    /// client.send(&command(alloc, b"INCR", b"a")?)?;
+    /// client.send(&command(alloc, b"GET", b"b")?)?;
+    /// // client.out() is what is to be written.
+    /// let length = client.out().len();
+    /// client.sent(length);
+    /// ```
     pub fn send(&mut self, command: &Command) -> Result<u64, SendError>
         ensures answer { AnswersRequest (state_of self.old) (request.Command (words_of command.now))
             result }
@@ -85,7 +97,7 @@ impl Client {
     /// Queues HELLO with the version that is asked, if one is, and answers the number that its
     /// reply will have. With the reply the client takes that version, unless it is an error.
     ///
-    /// Refuses by TooMany where as many commands were queued as can be, and else for want of
+    /// Refuses by TooMany where as many commands were queued as can be, and else when out of
     /// memory. Then nothing is changed.
     pub fn hello(&mut self, asked: Option<Version>) -> Result<u64, SendError>
         ensures answer { AnswersRequest (state_of self.old) (Hello asked) result }

@@ -44,6 +44,17 @@ impl Decoder {
     /// Refuses the first byte after which nothing can follow, by the first cause that holds in the
     /// order of [`Scanner::step`], and by OutOfMemory where no memory is found for what came. Every
     /// later call answers the same.
+    ///
+    /// Each value of a piece, in [example_decode](../../example_decode/src/main.rt):
+    ///
+    /// ```rust
+    /// let fed = decoder.feed(rest)?;
+    /// rest = &rest[fed.used..];
+    /// match &fed.value {
+    ///     Some(value) => print_value(rt, value)?,
+    ///     None => break,
+    /// }
+    /// ```
     pub fn feed(&mut self, piece: &[u8]) -> Result<Fed, Fault>
         // The bytes are a spelling of the value, and the next value may begin.
         ensures value_whole { WhereTaken self.old (λ front. IfValue result (λ used.

@@ -31,6 +31,17 @@ use resp_value::version::Version;
 /// below the top; the value is over the limit of depth, of length, of items or of total; a growth
 /// of the buffer was refused. The last never comes where the spare room of the buffer holds the
 /// text. After a refusal the buffer holds what it held.
+///
+/// A reply of three members, in [example_encode](../../example_encode/src/main.rt):
+///
+/// ```rust
+/// let hello = Value::Bulk(Content::new(Vec::from_slice(alloc, b"hello")?));
+/// let members = vec![in alloc; Value::Int(42), hello, Value::Null]?;
+/// let reply = Value::Array(Members::new(members));
+///
+/// let mut text = BytesMut::new(alloc);
+/// encode(Version::Three, &Limits::standard(), &reply, &mut text)?;
+/// ```
 pub fn encode(
     version: Version,
     limits: &Limits,

@@ -298,8 +298,8 @@ impl Machine {
         }
     }
 
-    /// The innermost aggregate gets this shape, and the open ones need `frames_need` bytes, unless total
-    /// refuses that.
+    /// The innermost aggregate gets this shape, and the open ones need `frames_need` bytes, unless
+    /// total refuses that.
     #[inline(always)]
     fn begin_as(&mut self, shape: Shape, frames_need: u64, needed: u64) -> Option<Cause>
         requires needed { needed < 2 ^ 10 }

@@ -88,6 +88,18 @@ impl Scanner {
     /// Refuses the first byte after which nothing can follow, by the first cause that holds in this
     /// order: Syntax, Double, Version, NestedPush, Range, Streamed, Depth, Length, Items, Total.
     /// Every later step answers the same. After a listener's stop it refuses as [`Scanner::scan`].
+    ///
+    /// Each event of a piece, in [example_events](../../example_events/src/main.rt):
+    ///
+    /// ```rust
+    /// let step = scanner.step(rest)?;
+    /// rest = &rest[step.used..];
+    /// match &step.event {
+    ///     Some(Event::Part(bytes)) => println!(rt; "Part(\"{}\")", bytes.escape_ascii())?,
+    ///     Some(event) => println!(rt; "{event:?}")?,
+    ///     None => break,
+    /// }
+    /// ```
     #[inline(always)]
     pub fn step<'a>(&mut self, piece: &'a [u8]) -> Result<Step<'a>, Fault>
         // The piece is used up, no value has ended in it, and all events that are due were given.

@@ -30,8 +30,8 @@ pub record HasAnswered (old new : HubState) (id : ℕ) (s : Seat) (text : List �
   -- an open session has taken the rest
   pub taking : closing ≡ false → HasTaken decoder rest
 
--- the front and the first bytes of the piece were answered and not all of it, the session is closing, and nothing else of
--- the hub is changed
+-- the front and the first bytes of the piece were answered and not all of it, the session is closing, and nothing else
+-- of the hub is changed
 pub record HasCutShort (old new : HubState) (id : ℕ) (s : Seat) (front piece : List ℕ) (commands : ℕ) : Type 0 where
   pub answered : List ℕ
   pub behind : List ℕ

@@ -15,6 +15,7 @@ pub mod Parts
 pub mod WorldsHold
 pub mod WorldLaws
 pub mod Pushed
+pub mod FittingSent
 pub mod InlineCommand
 pub mod FittingWords
 pub mod Elements

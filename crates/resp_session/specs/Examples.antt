@@ -85,11 +85,11 @@ annotated x = aggregate Attr (more x none)
 abbrev pub annotated_with : Datum → Datum → Datum
 annotated_with note x = aggregate Attr (more (simple_string (codes "k")) (more note (more x none)))
 
--- a client that has queued as many commands as this refuses no request since its numbers are used up
+-- a client that has queued this many commands refuses no request by TooMany
 abbrev pub HasNumberAfter : ℕ → Type 0
 HasNumberAfter count = (limits : Bounds) (request : Request) → RefusesRequest limits count request TooMany → ⊥
 
--- a client that has queued as many commands as this refuses each that it would send, since its numbers are used up
+-- a client that has queued this many commands refuses by TooMany each request that it would send otherwise
 abbrev pub HasNoNumberAfter : ℕ → Type 0
 HasNoNumberAfter count = (limits : Bounds) (request : Request) → is_unsent_request request ≡ false →
     FitsRequest limits request → RefusesRequest limits count request TooMany

@@ -30,7 +30,8 @@ nothing_run = record { store = []; version = λ i. Two; replies = λ i. [] }
 abbrev pub with_at : {X : Type 0} → ℕ → X → (ℕ → X) → ℕ → X
 with_at {X} i x f j = if j == i then x else f j
 
--- a command of this client has had this effect: its reply is the last of those to the client, and no other client is told
+-- a command of this client has had this effect: its reply comes last to the client, and the other clients keep what
+-- they have
 abbrev pub replay_effect : Replay → ℕ → Effect → Replay
 replay_effect r i effect = record {
   store = effect.store;

@@ -1,13 +1,19 @@
 -- The pushes of a run.
-use Rattle.std.specs.Prelude.{◌≡◌, ℕ, ◌==◌, List, [], ◌∷◌, ◌++◌, Some, if◌then◌else◌}
-use Rattle.resp_value.specs.Bounds.{Bounds}
+use Rattle.std.specs.Prelude.{◌≡◌, ℕ, ◌==◌, ◌<◌, ◌^◌, false, List, [], ◌∷◌, ◌++◌, Some, if◌then◌else◌, codes}
+use Rattle.resp_value.specs.Bounds.{Bounds, AreBounds}
+use Rattle.resp_value.specs.Canonical.{Fits}
 use Rattle.resp_value.specs.Data.{Datum, aggregate, data_of_list}
 use Rattle.resp_value.specs.Data as d
+use Rattle.resp_value.specs.Rules.{rules_under}
+use Rattle.resp_value.specs.declared.cause.Cause.{Cause}
+use Rattle.resp_value.specs.declared.version.Version.TheVariants.{Three}
 use Rattle.resp_session.specs.Connections.{Connection, shown_pushes, values_of}
 use Rattle.resp_session.specs.Heard.{pushes_of}
 use Rattle.resp_session.specs.Orders.{IsBeginning}
-use Rattle.resp_session.specs.Runs.{Outcome, Done, Refused, Gone, Run}
-use Rattle.resp_session.specs.Worlds.{World, WorldEvent, Push, connection_at, new_world}
+use Rattle.resp_session.specs.Replies.{bulk_string}
+use Rattle.resp_session.specs.Requests.{Request, FitsRequest, RefusesRequest, is_unsent_request}
+use Rattle.resp_session.specs.Runs.{Outcome, Done, Refused, Gone, RefusesPush, Run}
+use Rattle.resp_session.specs.Worlds.{World, WorldEvent, Greet, ToServer, Push, connection_at, new_world}
 
 -- the push to this client that an event with this outcome is, if it is one
 abbrev pub pushed_by : ℕ → Outcome → WorldEvent → List Datum
@@ -35,3 +41,24 @@ abbrev pub ShownPushesAreOfEvents : Type 0
 ShownPushesAreOfEvents = (limits : Bounds) (n : ℕ) (events : List WorldEvent) (w : World)
     (run : Run limits (new_world n) events w) (i : ℕ) (c : Connection) → connection_at w.connections i ≡ Some c →
     IsBeginning (shown_pushes c) (pushed_in i limits (new_world n) events w run)
+
+-- a request that a client sends is refused for no cause where it is within the limits and a number is left
+abbrev pub RequestsThatFitAreSent : Type 0
+RequestsThatFitAreSent = (limits : Bounds) (count : ℕ) (request : Request) → is_unsent_request request ≡ false →
+    FitsRequest limits request → count < 2 ^ 63 → (cause : Cause) → RefusesRequest limits count request cause → ⊥
+
+-- a push that is within the limits is refused for no cause by a session of version 3
+abbrev pub PushesThatFitAreSent : Type 0
+PushesThatFitAreSent = (limits : Bounds) (push : Datum) → Fits (rules_under Three limits) push →
+    (cause : Cause) → RefusesPush limits Three push cause → ⊥
+
+-- a client asks for version 3, and then x is pushed to it
+abbrev pub greeted_and_pushed : List WorldEvent
+greeted_and_pushed = Greet 1 (Some Three) ∷ ToServer 1 1000 ∷ Push 1 (bulk_string (codes "x") ∷ []) ∷ []
+
+-- under any limits that push happens
+abbrev pub APushHappens : Type 0
+APushHappens = (limits : Bounds) → AreBounds limits → (w : World) ×
+    (run : Run limits (new_world 1) greeted_and_pushed w) ×
+    (pushed_in 1 limits (new_world 1) greeted_and_pushed w run ≡
+    aggregate d.Push (data_of_list (bulk_string (codes "x") ∷ [])) ∷ [])

@@ -17,7 +17,7 @@ ghost use Rattle.resp_value.specs.declared.version.Version.TheVariants.{Two, Thr
 ghost use Rattle.resp_session.specs.WorldLaws.{AWorldHasOneOrder, ARunIsCut, TheOrderOnlyGrows, ShownRepliesAreOfTheOrder, WhatIsShownWasSent, WhatArrivesIsCommands, EachMessageIsWritten, WhatIsWrittenIsRead, WhatIsShownIsRead, WhatIsReadIsShown, WhatIsLeftMayGoOn, NoClientMeetsAFault, AChangeIsOfOneConnection};
 ghost use Rattle.resp_session.specs.Fitting.{EffectsFit, NumbersAreShort};
 ghost use Rattle.resp_session.specs.Connections.{push_message};
-ghost use Rattle.resp_session.specs.Pushed.{PushesAreOfEvents, ShownPushesAreOfEvents};
+ghost use Rattle.resp_session.specs.Pushed.{PushesAreOfEvents, ShownPushesAreOfEvents, RequestsThatFitAreSent, PushesThatFitAreSent, APushHappens};
 ghost use Rattle.resp_session.specs.Serving.{ArrivalsGoOn, ArrivalsStay, WhatArrivesIsAnswered, WhatHasComeWasSent};
 
 use resp_value::laws as grammar;
@@ -57,8 +57,8 @@ pub fn a_text_has_one_answer()
     grammar::a_rest_has_one_fault();
 }
 
-/// Whatever has come of texts that were sent is a number of whole ones, and a viable rest that begins no
-/// value.
+/// Whatever has come of texts that were sent is a number of whole ones, and a viable rest that
+/// begins no value.
 pub fn what_comes_is_whole_texts()
     ensures { WhatComesIsWholeTexts }
 {
@@ -139,8 +139,17 @@ pub fn pushes_are_of_events()
     ensures shown { ShownPushesAreOfEvents }
 {}
 
-/// What has come to a session of a world is a number of whole commands, and a viable rest that begins
-/// no value. So no session of a world answers a fault.
+/// A request that a client sends is refused for no cause where it is within the limits and a number
+/// is left, and so is a push within the limits by a session of version 3.
+pub fn what_fits_is_sent()
+    ensures requests { RequestsThatFitAreSent }
+    ensures pushes { PushesThatFitAreSent }
+    // A push after HELLO 3 happens.
+    ensures a_push { APushHappens }
+{}
+
+/// What has come to a session of a world is a number of whole commands, and a viable rest that
+/// begins no value. So no session of a world answers a fault.
 pub fn what_arrives_is_commands()
     ensures { WhatArrivesIsCommands }
 {
@@ -272,7 +281,8 @@ pub fn wrong_numbers_of_words()
         ≡ codes "-ERR syntax error\r\n$-1\r\n" }
     // HELLO takes no option, so that a word after the version is a wrong one.
     ensures hello_of_five { answers_to (command_of (codes "HELLO" ∷ codes "3" ∷ codes "AUTH" ∷
-        codes "a" ∷ codes "b" ∷ []) ∷ command_of get_a ∷ []) ≡ codes "-ERR syntax error\r\n$-1\r\n" }
+        codes "a" ∷ codes "b" ∷ []) ∷ command_of get_a ∷ [])
+        ≡ codes "-ERR syntax error\r\n$-1\r\n" }
     // Of two keys that are there both are removed, and counted.
     ensures del_of_two { answers_to (command_of set_a ∷
         command_of (codes "SET" ∷ codes "b" ∷ codes "2" ∷ []) ∷

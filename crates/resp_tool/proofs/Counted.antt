@@ -30,6 +30,7 @@ pub counts_all : (r : Rules) (bytes : List ℕ) (before mid after : Option (List
 counts_all r bytes before mid after totals s line = record {
   values = s.values;
   cut = s.all.cut;
+  few = s.all.few;
   appended = Appends-append before mid after [] (counts_line (length s.values) (length bytes)) (nothing_before r bytes before mid totals s)
       (subst (Appends mid after) (same_line r bytes before mid totals s) line);
 }
@@ -39,6 +40,7 @@ pub counts_part : (r : Rules) (bytes : List ℕ) (before mid after : Option (Lis
 counts_part r bytes before mid after totals s line = record {
   values = s.values;
   cut = s.all.cut;
+  few = s.all.few;
   appended = record {
     part = line.part;
     behind = line.behind;

@@ -1,5 +1,5 @@
 -- What was written for the bytes so far, and what more bytes add to it.
-use Rattle.std.proofs.Common.{◌≡◌, ◌⊎◌, inl, inr, ℕ, ◌+◌, ◌-◌, ◌<◌, true, false, List, [], ◌∷◌, ◌++◌, length, take, drop, flat_map, MatchBool, Option, Result, Ok, Err, refl, sym, ap, subst, ◌∙◌, arith, append_assoc, append-nil, length-append, take-append-drop}
+use Rattle.std.proofs.Common.{◌≡◌, ◌≤◌, ◌⊎◌, inl, inr, ℕ, ◌+◌, ◌-◌, ◌<◌, true, false, List, [], ◌∷◌, ◌++◌, length, take, drop, flat_map, MatchBool, Option, Result, Ok, Err, refl, sym, ap, subst, ◌∙◌, arith, append_assoc, append-nil, length-append, take-append-drop}
 use Rattle.std.specs.List.{AllByRecursion}
 use Rattle.std.proofs.lemmas.Grind.{flat_map-append}
 use Rattle.std.proofs.lemmas.List.{length-drop, take_all}
@@ -306,8 +306,9 @@ EndsOf r text L B H mid after result = (front so_far : List ℕ) → H front so_
 -- the end between two values
 pub renders_counted : (r : Rules) (text : Datum → List ℕ) (W : Datum → Type 0) (L B H : List ℕ → List ℕ → Type 0) (bytes : List ℕ)
     (start mid after : Option (List ℕ)) (totals : Totals) (x : Unit {0}) → NoSpellingIsEmpty → EndsOf r text L B H mid after (Ok x) →
-    HasRendered r text W H bytes start mid totals.values → totals.bytes ≡ length bytes → RendersCounted r text W bytes start after totals
-renders_counted r text W L B H bytes start mid after totals x law ends s size =
+    HasRendered r text W H bytes start mid totals.values → totals.values ≤ most_values → totals.bytes ≡ length bytes →
+    RendersCounted r text W bytes start after totals
+renders_counted r text W L B H bytes start mid after totals x law ends s few size =
     let (none, nothing, appended) = ends s.begun s.so_far s.takes in
     record {
       values = s.values;
@@ -318,6 +319,7 @@ renders_counted r text W L B H bytes start mid after totals x law ends s size =
           whole = s.whole ∙ ap (λ z. s.front ++ z) none;
           no_more = λ y next behind spelling is. law r y (subst (IsSpelling r y) (none_before next behind is) spelling);
         };
+        few = subst (λ n. n ≤ most_values) (sym s.counted) few;
         all_written = s.all_written;
         appended =
             let same : (flat_map text s.values ++ s.so_far) ++ [] ≡ flat_map text s.values =

@@ -1,10 +1,10 @@
 -- What `check` writes of a stream.
-use Rattle.std.specs.Prelude.{ℕ, List, [], ◌++◌, length, codes, decimal, Option, Result, Ok, Err}
+use Rattle.std.specs.Prelude.{ℕ, ◌≤◌, List, [], ◌++◌, length, codes, decimal, Option, Result, Ok, Err}
 use Rattle.resp_value.specs.Data.{Datum}
 use Rattle.resp_value.specs.Devices.{Appends}
 use Rattle.resp_value.specs.Rules.{Rules}
 use Rattle.resp_value.specs.Spellings.{Cut}
-use Rattle.resp_tool.specs.Streams.{RendersStopped}
+use Rattle.resp_tool.specs.Streams.{RendersStopped, most_values}
 use Rattle.resp_tool.specs.Scans.{IsNothing}
 use Rattle.resp_tool.specs.Written.{AppendsPart}
 use Rattle.resp_tool.specs.declared.tool_error.ToolError.{ToolError}
@@ -18,12 +18,14 @@ counts_line values bytes = codes "values " ++ decimal values ++ codes " bytes " 
 pub record CountsAll (r : Rules) (bytes : List ℕ) (before after : Option (List ℕ)) : Type 0 where
   pub values : List Datum
   pub cut : Cut r bytes values []
+  pub few : length values ≤ most_values
   pub appended : Appends before after (counts_line (length values) (length bytes))
 
 -- the bytes are values and nothing more, and a first part of the line was appended
 pub record CountsPart (r : Rules) (bytes : List ℕ) (before after : Option (List ℕ)) : Type 0 where
   pub values : List Datum
   pub cut : Cut r bytes values []
+  pub few : length values ≤ most_values
   pub appended : AppendsPart before after (counts_line (length values) (length bytes))
 
 -- nothing is written for a value

@@ -1,5 +1,5 @@
 -- What a call has read of its stream, and what it has written for that.
-use Rattle.std.specs.Prelude.{◌≡◌, ◌⊎◌, ℕ, ◌+◌, ◌<◌, List, [], ◌++◌, length, take, flat_map, Option, None, Some, Result, Ok, Err}
+use Rattle.std.specs.Prelude.{◌≡◌, ◌⊎◌, ℕ, ◌+◌, ◌<◌, ◌≤◌, Bool, true, false, List, [], ◌++◌, length, take, flat_map, Option, None, Some, Result, Ok, Err}
 use Rattle.std.specs.List.{AllByRecursion}
 use Rattle.resp_value.specs.Data.{Datum}
 use Rattle.resp_value.specs.Rules.{Rules}
@@ -21,10 +21,22 @@ AreRead (Some left) after bytes = (rest : List ℕ) × (after ≡ Some rest) × 
 abbrev pub most_values : ℕ
 most_values = 1000000000
 
--- the bytes are values that are written and nothing more, and their texts were appended, in order
+-- whether the stop is by a failed read
+abbrev pub is_of_reader : ToolError → Bool
+is_of_reader Read = true
+is_of_reader _ = false
+
+-- and whether a call stopped so
+abbrev pub failed_to_read : {X : Type 0} → Result X ToolError → Bool
+failed_to_read (Ok x) = false
+failed_to_read (Err error) = is_of_reader error
+
+-- the bytes are values that are written and nothing more, no more than the most of one run, and their texts were
+-- appended, in order
 pub record RendersAll (r : Rules) (text : Datum → List ℕ) (IsWritten : Datum → Type 0) (bytes : List ℕ)
     (before after : Option (List ℕ)) (values : List Datum) : Type 0 where
   pub cut : Cut r bytes values []
+  pub few : length values ≤ most_values
   pub all_written : AllByRecursion IsWritten values
   pub appended : Appends before after (flat_map text values)
 

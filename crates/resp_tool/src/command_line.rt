@@ -79,8 +79,8 @@ fn run<R: Source, W: Sink>(
     writer: &mut W,
 ) -> Result<(), ToolError>
     requires { (1 ≤ options.now.piece) × (options.now.piece ≤ 65536) }
-    ensures ran { (bytes : List ℕ) × AreRead (R.remaining reader.old) (R.remaining reader.new) bytes ×
-        RunsTo options.now.task (rules_under options.now.version options.now.limits) bytes
+    ensures ran { (bytes : List ℕ) × AreRead (R.remaining reader.old) (R.remaining reader.new)
+        bytes × RunsTo options.now.task (rules_under options.now.version options.now.limits) bytes
         (W.written writer.old) (W.written writer.new) result }
     ensures read_to_its_end { AtEnd result (IfSome (R.remaining reader.old) (λ _.
         R.remaining reader.new ≡ Some [])) }

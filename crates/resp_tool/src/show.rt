@@ -1,11 +1,11 @@
 //! `show`: each value of a stream as lines of text.
 
-ghost use Rattle.std.specs.Prelude.{◌≡◌, ◌+◌, ◌≤◌, ℕ, List, [], Some, IfErr, IfSome, IsErrOf};
+ghost use Rattle.std.specs.Prelude.{◌≡◌, ◌+◌, ◌≤◌, ℕ, List, [], Some, IfErr, IfSome, IsErrOf, OnOk};
 ghost use Rattle.resp_tool.specs.Counts.{IsAny};
 ghost use Rattle.resp_tool.specs.Scans.{IsShownIn, IsShownOf};
 ghost use Rattle.resp_tool.specs.Shown.{shown_text};
-ghost use Rattle.resp_tool.specs.Streams.{AreRead, AtEnd, IsNeverOver, Renders};
-ghost use Rattle.resp_value.specs.Devices.{count_after, HasRisen};
+ghost use Rattle.resp_tool.specs.Streams.{AreRead, AtEnd, IsNeverOver, Renders, failed_to_read};
+ghost use Rattle.resp_value.specs.Devices.{count_after, failures_after, HasRisen};
 ghost use Rattle.resp_value.specs.Rules.{rules_under};
 
 use crate::lines::Lines;
@@ -108,12 +108,13 @@ pub fn show<R: Source, W: Sink>(
 
     // A device or memory that failed.
     ensures reads_bounded { R.calls reader.new ≤ R.calls reader.old + MOST_READS }
-    ensures reader_failed { IsErrOf result ToolError.Read →
-        HasRisen (R.failures reader.old) (R.failures reader.new) }
+    ensures read_failures { R.failures reader.new ≡
+        failures_after (failed_to_read result) (R.failures reader.old) }
     ensures reads_used_up { IsErrOf result ToolError.TooManyTurns →
         R.calls reader.new ≡ count_after MOST_READS (R.calls reader.old) }
     ensures writer_failed { IsErrOf result ToolError.Write →
         HasRisen (W.failures writer.old) (W.failures writer.new) }
+    ensures none_failed { OnOk result (W.failures writer.new ≡ W.failures writer.old) }
     ensures no_buffer { IsErrOf result ToolError.Memory →
         (writer.new ≡ writer.old) × (reader.new ≡ reader.old) }
 {

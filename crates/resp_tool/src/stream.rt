@@ -1,8 +1,8 @@
 //! The loop that reads a stream, which `show`, `check` and `canon` share.
 
 ghost use Rattle.std.specs.Prelude.{◌≡◌, ◌⊎◌, ◌+◌, ◌≤◌, ◌++◌, ℕ, List, [], Option, Some, IfErr, IfOk, IfSome, IsErrOf, OnOk};
-ghost use Rattle.resp_tool.specs.Streams.{AreRead, AtEnd, HasRendered, IsBeforeEnd, IsRenderingError, RendersStopped, RendersStream};
-ghost use Rattle.resp_value.specs.Devices.{count_after, HasRisen};
+ghost use Rattle.resp_tool.specs.Streams.{AreRead, AtEnd, HasRendered, IsBeforeEnd, IsRenderingError, RendersStopped, RendersStream, failed_to_read};
+ghost use Rattle.resp_value.specs.Devices.{count_after, failures_after, HasRisen};
 
 use crate::rendering::Rendering;
 use crate::tool_error::{MOST_VALUES, ToolError};
@@ -44,8 +44,8 @@ pub fn render_stream<T: Rendering, R: Source, W: Sink>(
 
     // A device or memory that failed.
     ensures reads_bounded { R.calls reader.new ≤ R.calls reader.old + MOST_READS }
-    ensures reader_failed { IsErrOf result ToolError.Read →
-        HasRisen (R.failures reader.old) (R.failures reader.new) }
+    ensures read_failures { R.failures reader.new ≡
+        failures_after (failed_to_read result) (R.failures reader.old) }
     ensures reads_used_up { IsErrOf result ToolError.TooManyTurns →
         R.calls reader.new ≡ count_after MOST_READS (R.calls reader.old) }
     ensures writer_failed { IsErrOf result ToolError.Write →

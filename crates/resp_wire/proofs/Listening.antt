@@ -18,7 +18,7 @@ use Rattle.resp_client.specs.Hearing.{HasFault, HasTaken, Hears, Refuses, Unless
 use Rattle.resp_client.specs.declared.client.Client.{Client}
 use Rattle.resp_client.specs.declared.heard.What.{What}
 use Rattle.resp_client.specs.declared.heard.What.TheVariants.{Reply, Push, Shown, More}
-use Rattle.resp_wire.specs.Hearing.{Adds, AddsHeard, HearsAll, HearsFault, HearsSome, ReadsFrom, pushes_in, replies_in}
+use Rattle.resp_wire.specs.Hearing.{Adds, AddsHeard, HearsAll, HearsFault, HearsSome, ReadsFrom, WaitsForLast, pushes_in, replies_in}
 use Rattle.resp_wire.specs.Stops.{FailsReading, KeepsFault, StopsClient, StopsHearing, StopsListening, error_by, error_of}
 use Rattle.resp_wire.specs.declared.error.AskError.{AskError}
 use Rattle.resp_wire.specs.declared.error.AskError.TheVariants as error
@@ -46,6 +46,33 @@ hears_no_bytes c before front h = record {
   answered = omega arith;
   same_limits = refl;
   same_out = refl;
+}
+
+-- no byte has come, so that none was read ahead
+pub waits_for_none : (c : Client) (before : Asked) (front : List ℕ) → HasTaken c front → WaitsForLast (state_of c) before front []
+waits_for_none c before front h = record {
+  earlier = [];
+  last = [];
+  parts = refl;
+  short = omega arith;
+  between = c;
+  heard_earlier = before;
+  hears = hears_no_bytes c before front h;
+  waited = λ some. absurd (omega (arith, some));
+}
+
+-- a piece that is read while a command waits is the last
+pub waits_for_piece : (s : ClientState) (c : Client) (before mid : Asked) (front came piece : List ℕ) → HearsAll s c before mid (front ++ came) →
+    length piece ≤ 4096 → 0 < length (state_of c).waiting.asks → WaitsForLast s before front (came ++ piece)
+waits_for_piece s c before mid front came piece heard short waits = record {
+  earlier = came;
+  last = piece;
+  parts = refl;
+  short = short;
+  between = c;
+  heard_earlier = mid;
+  hears = heard;
+  waited = λ some none. let same = ap length none in omega (arith, waits, same);
 }
 
 pub hears_nothing : (c : Client) (before : Asked) (front piece : List ℕ) → HasTaken c front → HearsUpTo (state_of c) c before before front piece piece 0

@@ -40,7 +40,8 @@ IsNoDrop _ = Unit {0}
 -- of nobody.
 pub record MayLackMemory {L : Type 0} (is_honest : L → Type 0) (s : WorldState L) (event : WorldEvent) : Type 0 where
   pub no_drop : IsNoDrop event
-  pub done : (limits : Bounds) (w : World) → Shows is_honest s limits w → Step limits w event runs.Done (after_event w event)
+  pub done : (limits : Bounds) (w : World) → Shows is_honest s limits w →
+      Step limits w event runs.Done (after_event w event)
 
 -- The events came to what they come to in the definitions, and the world shows what they leave there.
 abbrev pub RunsTo : {L : Type 0} → (L → Type 0) → WorldState L → WorldState L → List WorldEvent → Type 0

@@ -68,7 +68,8 @@ StopsServing old new id s front came held held' Read =
 StopsServing old new id s front came held held' Write =
     (waits : List ℕ) × (0 < length waits) × Serves old new id s (front ++ came) held held' waits
 StopsServing old new id s front came held held' TooManyTurns =
-    (waits : List ℕ) × ((0 < length waits) ⊎ IsClosing new id false) × Serves old new id s (front ++ came) held held' waits
+    (waits : List ℕ) × ((0 < length waits) ⊎ IsClosing new id false) ×
+    Serves old new id s (front ++ came) held held' waits
 
 -- Where bytes came, all that was answered before the last piece of them was written before that was read, and the
 -- session went on.

@@ -6,7 +6,7 @@ ghost use Rattle.resp_client.specs.Sending.{AnswersRequest};
 ghost use Rattle.resp_wire.specs.Requests.{request_of};
 ghost use Rattle.resp_client.specs.Hearing.{KeepsReading, WhereTaken};
 ghost use Rattle.resp_value.specs.Devices.{Appends, failures_after};
-ghost use Rattle.resp_wire.specs.Hearing.{HearsAll};
+ghost use Rattle.resp_wire.specs.Hearing.{HearsAll, WaitsForLast};
 ghost use Rattle.resp_wire.specs.Asking.{SendsAll, SendsPart, SpendsTurns, sent};
 ghost use Rattle.resp_wire.specs.Stops.{FailsReading, FailsWriting, KeepsFault, QueuesFirst, StopsListening, StopsQueueing, error_at, failed_to_read, failed_to_write, is_of_reader, is_of_writer};
 ghost use Rattle.resp_wire.specs.Turns.{Halts, HasRead, Spends, has_failed};
@@ -28,6 +28,23 @@ use resp_value::device::{Sink, Source};
 /// the client. Where a read fails, no turn is left for one, or the input ends, what came is heard,
 /// and the other commands wait. After OutOfMemory bytes that were read may be lost, and the
 /// connection is to be given up.
+///
+/// Over a socket, in [example_tcp](../../example_tcp/src/asking.rt):
+///
+/// ```rust
+/// let stream = TcpStream::connect(net, ("127.0.0.1", port))?;
+/// stream.set_nodelay(true)?;
+/// let mut client = Client::new(alloc, &Limits::standard());
+/// let mut heard = Asked::new(alloc);
+/// ask(
+///     &mut Device::new(&stream),
+///     &mut Device::new(&stream),
+///     &mut client,
+///     requests.as_slice(),
+///     &mut heard,
+///     TURNS,
+/// )?;
+/// ```
 pub fn ask<R: Source, W: Sink>(
     reader: &mut R,
     writer: &mut W,
@@ -36,13 +53,15 @@ pub fn ask<R: Source, W: Sink>(
     heard: &mut Asked,
     turns: u64,
 ) -> Result<(), AskError>
-    // All requests and what waited before were written, and all that came is heard.
+    // All requests and what waited before were written, and all that came is heard. Each piece was
+    // read while a command waited.
     ensures sent { OnOk result (SendsAll client.old requests.now (W.written writer.old)
         (W.written writer.new)) }
     ensures heard { OnOk result ((came : List ℕ) ×
         HasRead (R.remaining reader.old) (R.remaining reader.new) came ×
         WhereTaken client.old (λ front. HearsAll (sent client.old requests.now) client.new
-        heard.old heard.new (front ++ came))) }
+        heard.old heard.new (front ++ came) ×
+        WaitsForLast (sent client.old requests.now) heard.old front came)) }
     ensures all_answered { OnOk result ((state_of client.new).waiting.asks ≡ []) }
     ensures turns { (left : ℕ) × SpendsTurns (W.calls writer.old) (W.calls writer.new)
         (R.calls reader.old) (R.calls reader.new) turns left ×
@@ -69,7 +88,8 @@ pub fn ask<R: Source, W: Sink>(
         (R.remaining reader.new) (state_of client.new) error × ((came : List ℕ) ×
         HasRead (R.remaining reader.old) (R.remaining reader.new) came ×
         WhereTaken client.old (λ front. StopsListening (sent client.old requests.now) client.new
-        heard.old heard.new (front ++ came) error)))) }
+        heard.old heard.new (front ++ came) error ×
+        WaitsForLast (sent client.old requests.now) heard.old front came)))) }
     ensures fault_is_kept { IfErr result (KeepsFault client.new) }
 {
     if let Err(error) = queue(client, requests) {
@@ -177,7 +197,7 @@ fn hear_all<R: Source>(
         WhereTaken client.old (λ front.
         OnOk result (HearsAll (state_of client.old) client.new heard.old heard.new
         (front ++ came)) × IfErr result (StopsListening (state_of client.old) client.new heard.old
-        heard.new (front ++ came))) }
+        heard.new (front ++ came)) × WaitsForLast (state_of client.old) heard.old front came) }
     ensures all_answered { OnOk result ((state_of client.new).waiting.asks ≡ []) }
     ensures failures { R.failures reader.new ≡
         failures_after (failed_to_read result) (R.failures reader.old) }

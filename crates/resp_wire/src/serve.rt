@@ -32,7 +32,28 @@ pub enum Served {
 ///
 /// Refuses by NoSession where no session has this id, and then nothing was done. Where a read fails
 /// all that was answered is written. Where a write fails, or no turn is left, the rest waits in the
-/// hub. Where memory was wanting the session is closing, and what waits is still to be written.
+/// hub. When out of memory the session is closing, and what waits is still to be written.
+///
+/// Over a socket set `set_nodelay`: without it a pipeline of more than one piece waits for the
+/// delayed acknowledgement of each. One connection after another, in
+/// [example_tcp](../../example_tcp/src/serving.rt):
+///
+/// ```rust
+/// let mut hub = Hub::new(alloc, Limits::standard(), hasher);
+/// for stream in listener.incoming() {
+///     let stream = stream?;
+///     stream.set_nodelay(true)?;
+///     let id = hub.open()?;
+///     let _served = serve(
+///         &mut Device::new(&stream),
+///         &mut Device::new(&stream),
+///         &mut hub,
+///         id,
+///         TURNS,
+///     );
+///     hub.close(id)?;
+/// }
+/// ```
 pub fn serve<R: Source, W: Sink, S: BuildHasher>(
     reader: &mut R,
     writer: &mut W,

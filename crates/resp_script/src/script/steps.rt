@@ -42,8 +42,8 @@ enum Verb {
     Drop,
 }
 
-/// What a line says, where the number of clients was named, or not yet. Refuses by Bad where it says
-/// nothing there, and when out of memory.
+/// What a line says, where the number of clients was named, or not yet. Refuses by Bad where it
+/// says nothing there, and when out of memory.
 pub fn said(alloc: Global, clients: Option<usize>, line: &[u8]) -> Result<Saying, LineFault>
     ensures said { IfOk result (λ said. Says clients line.now said) }
     ensures bad { IsErrOf result LineFault.Bad → SaysNothing clients line.now }

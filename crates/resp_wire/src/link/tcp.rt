@@ -17,8 +17,8 @@ const TURNS: u64 = 65_536;
 /// takes, since it compares them.
 ///
 /// It carries by at most 65,536 reads and writes, and refuses by TooManyTurns where these are used
-/// up, by Write where a write fails or takes no byte, and by Read where a read fails, the input ends
-/// before the piece has come, or other bytes came than were written.
+/// up, by Write where a write fails or takes no byte, and by Read where a read fails, the input
+/// ends before the piece has come, or other bytes came than were written.
 #[derive(Debug, Drop)]
 pub struct TcpLink {
     client_end: TcpStream,
@@ -69,6 +69,8 @@ fn connect(
     let listener = TcpListener::bind(net, ("127.0.0.1", 0))?;
     let client_end = TcpStream::connect(net, listener.local_addr()?)?;
     let (server_end, _) = listener.accept()?;
+    client_end.set_nodelay(true)?;
+    server_end.set_nodelay(true)?;
     Ok((client_end, server_end))
 }
 

@@ -1,7 +1,8 @@
-use Rattle.std.proofs.Common.{[], Err, refl, ap, subst}
+use Rattle.std.proofs.Common.{◌≡◌, [], Err, refl, ap, subst}
 use Rattle.resp_value.specs.Rules.{rules_under}
 use Rattle.resp_tool.specs.Counts.{IsAny, LeavesNothing, no_text}
 use Rattle.resp_tool.specs.Streams.{RendersCounted, RendersStopped}
+use Rattle.resp_tool.specs.declared.tool_error.ToolError.TheVariants.{Write}
 use Rattle.resp_tool.proofs.Counted.{counts_all, counts_part, counts_stopped}
 use Rattle.resp_tool.proofs.Scanned.{scanned_nothing}
 use Rattle.resp_tool.proofs.check.check.Goals as goal
@@ -41,3 +42,11 @@ returns-in-Err-write_counts-clause-counted g c =
           (subst (λ r. RendersCounted r no_text IsAny bytes (g.W.Sink.written c.args.writer.now) (g.W.Sink.written c.render_stream.new.writer) c.in-Ok.totals)
           c.new.ensures.rules rendered) c.in-Err-write_counts.ensures.0,
     )
+
+pub returns-in-Err-clause-read_before_written : goal.returns-in-Err-clause-read_before_written
+returns-in-Err-clause-read_before_written g c is_write =
+    let same : c.in-Err.error ≡ Write = cc in
+    absurd (c.in-Err.ensures.writes (ap Err same))
+
+pub returns-in-Err-write_counts-clause-read_before_written : goal.returns-in-Err-write_counts-clause-read_before_written
+returns-in-Err-write_counts-clause-read_before_written g c is_write = c.in-Ok.ensures.read_to_its_end

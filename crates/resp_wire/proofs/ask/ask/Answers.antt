@@ -1,6 +1,6 @@
 use Rattle.std.proofs.Common.{◌++◌, inl, inr, refl, subst}
 use Rattle.resp_client.specs.Clients.{state_of}
-use Rattle.resp_wire.specs.Hearing.{HearsAll}
+use Rattle.resp_wire.specs.Hearing.{HearsAll, WaitsForLast}
 use Rattle.resp_wire.specs.Stops.{StopsListening}
 use Rattle.resp_wire.proofs.Exchanges.{all_sent, no_fault_queued, no_fault_written, queue_takes_no_turn, sends_all, sends_part, spends_no_turns, spends_writes}
 use Rattle.resp_wire.proofs.Queueing.{keeps_on}
@@ -60,9 +60,11 @@ returns-in-Err-hear_all-clause-refusal g c =
         came,
         read,
         λ front h. subst
-            (λ s. StopsListening s c.hear_all.new.client c.args.heard.now c.hear_all.new.heard (front ++ came) c.in-Err-hear_all.error)
+            (λ s. StopsListening s c.hear_all.new.client c.args.heard.now c.hear_all.new.heard (front ++ came) c.in-Err-hear_all.error ×
+            WaitsForLast s c.args.heard.now front came)
             (all_sent old mid new requests held held' q c.send_all.ensures.sent c.in_default-send_all.ensures.all)
-            (heard front (c.send_all.ensures.same_reading.same_front front (c.queue.ensures.same_reading.same_front front h))).1,
+            (let (_, stops, waits) = heard front (c.send_all.ensures.same_reading.same_front front (c.queue.ensures.same_reading.same_front front h)) in
+            (stops, waits)),
       ),
     ))
 
@@ -76,8 +78,10 @@ returns-clause-heard g c =
       came,
       read,
       λ front h. subst
-          (λ s. HearsAll s c.hear_all.new.client c.args.heard.now c.hear_all.new.heard (front ++ came))
+          (λ s. HearsAll s c.hear_all.new.client c.args.heard.now c.hear_all.new.heard (front ++ came) ×
+          WaitsForLast s c.args.heard.now front came)
           (all_sent c.args.client.now c.queue.new.client c.send_all.new.client c.args.requests.now (g.W.Sink.written c.args.writer.now)
           (g.W.Sink.written c.send_all.new.writer) c.in_default.ensures.all_queued c.send_all.ensures.sent c.in_default-send_all.ensures.all)
-          (heard front (c.send_all.ensures.same_reading.same_front front (c.queue.ensures.same_reading.same_front front h))).0,
+          (let (all, _, waits) = heard front (c.send_all.ensures.same_reading.same_front front (c.queue.ensures.same_reading.same_front front h)) in
+          (all, waits)),
     )
