@@ -1,6 +1,6 @@
 //! What a value asks of a server, in memory.
 
-ghost use Rattle.std.specs.Prelude.{◌≡◌, ◌<◌, [], ◌∷◌, ◌++◌, ◌↔◌, length, slice_index_or, map, None, IsSome, IfSome};
+ghost use Rattle.std.specs.Prelude.{◌≡◌, ◌<◌, [], ◌∷◌, ◌++◌, ◌↔◌, length, slice_index_or, map, None, IsSome, IfSome, IfNone};
 ghost use Rattle.std.specs.Bool.{MatchBool};
 ghost use Rattle.std.specs.List.{AllByRecursion};
 ghost use Rattle.resp_value.specs.Data.{data_of_list};
@@ -122,6 +122,7 @@ impl Words {
         ensures last { IfSome result (λ content.
             self.old ≡ self.new ++ content_bytes content ∷ []) }
         ensures some { IsSome result ↔ (0 < length self.old) }
+        ensures unchanged { IfNone result (self.new ≡ self.old) }
     {
         let Some(last) = self.members.pop() else {
             return None;

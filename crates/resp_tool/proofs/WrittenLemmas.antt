@@ -67,3 +67,10 @@ counts_parts values bytes =
     ap (λ z. (z ++ bytes) ++ codes "\n") (sym (append_assoc first (codes " ") (codes "bytes ")))
     ∙ ap (λ z. z ++ codes "\n") (append_assoc behind (codes "bytes ") bytes)
     ∙ append_assoc behind (codes "bytes " ++ bytes) (codes "\n")
+
+-- whatever came of it, a part of the text was appended
+pub part_of_text : {X E : Type 0} (r : Result X E) (before after : Option (List ℕ)) (failures failures' : ℕ) (text : List ℕ) →
+    WritesText before after failures failures' r text → AppendsPart before after text
+part_of_text (Ok x) before after failures failures' text written =
+    record { part = text; behind = []; whole = sym (append-nil text); appended = written.0 }
+part_of_text (Err e) before after failures failures' text written = written.0

@@ -1,9 +1,10 @@
 //! The command line of the program: what its words bring about, and the status.
 
 ghost use Rattle.std.specs.Prelude.{◌≡◌, ◌≢◌, ◌⊎◌, ◌≤◌, ◌+◌, ℕ, List, [], Some, IfSome};
-ghost use Rattle.resp_tool.specs.Faults.{status_of};
-ghost use Rattle.resp_tool.specs.Runs.{HasRun, RunsTo};
+ghost use Rattle.resp_tool.specs.Faults.{fault_line, status_of};
+ghost use Rattle.resp_tool.specs.Runs.{HasRun, RunsTo, TellsFailure};
 ghost use Rattle.resp_tool.specs.Streams.{AreRead, AtEnd};
+ghost use Rattle.resp_tool.specs.Written.{AppendsPart};
 ghost use Rattle.resp_value.specs.Rules.{rules_under};
 
 use crate::canon::canon;
@@ -31,6 +32,9 @@ fn explain<W: Sink, F: Sink>(
 ) -> u8
     ensures never_one { (result ≡ 0) ⊎ (2 ≤ result) × (result ≤ 3) }
     ensures bad_words_write_nothing { result ≡ 2 → writer.new ≡ writer.old }
+    ensures nothing_told_at_zero { result ≡ 0 → faults.new ≡ faults.old }
+    ensures told_at_three { result ≡ 3 → TellsFailure (F.written faults.old)
+        (F.written faults.new) }
 {
     let text = match format!(in alloc; "{error}") {
         Ok(text) => text,
@@ -48,9 +52,11 @@ fn explain<W: Sink, F: Sink>(
     }
 }
 
-/// Says why the program stops, and answers the status.
+/// Says why the program stops, or as much of it as `faults` takes, and answers the status.
 pub fn stop<F: Sink>(error: &ToolError, faults: &mut F) -> u8
-    ensures { result ≡ status_of error.now }
+    ensures status { result ≡ status_of error.now }
+    ensures told { AppendsPart (F.written faults.old) (F.written faults.new)
+        (fault_line error.now) }
 {
     let _ = error.line(faults);
     error.status()
@@ -109,8 +115,12 @@ pub fn command<S: AsStr, R: Source, W: Sink, F: Sink>(
 ) -> u8
     ensures at_most_three { result ≤ 3 }
     ensures ran { ((reader.new ≡ reader.old) × (result ≢ 1)) ⊎ HasRun (R.remaining reader.old)
-        (R.remaining reader.new) (W.written writer.old) (W.written writer.new) result }
+        (R.remaining reader.new) (W.written writer.old) (W.written writer.new)
+        (F.written faults.old) (F.written faults.new) result }
     ensures reads_bounded { R.calls reader.new ≤ R.calls reader.old + MOST_READS }
+    ensures nothing_told_at_zero { result ≡ 0 → faults.new ≡ faults.old }
+    ensures told_at_three { result ≡ 3 → TellsFailure (F.written faults.old)
+        (F.written faults.new) }
     ensures nothing_at_two { result ≡ 2 →
         (reader.new ≡ reader.old) × (writer.new ≡ writer.old) }
 {
