@@ -1,7 +1,5 @@
 //! Rows of what a client hears.
 
-ghost use Rattle.std.specs.Prelude.{◌≤◌, length, IfOk};
-
 use anyhow::Result;
 use resp_client::{Client, Fault, Heard, PushList, PushSink, What};
 use resp_value::value::Members;
@@ -16,38 +14,9 @@ pub fn hear(
     cut: Cut,
     said: &mut String,
 ) -> Result<()> {
-    hear_pieces(alloc, client, &mut None, given, cut, said)
-}
-
-/// `show TEXT` is as `hear TEXT` with a sink, and says at its end the pushes that this was shown.
-pub fn show(
-    alloc: Global,
-    client: &mut Client,
-    given: &str,
-    cut: Cut,
-    said: &mut String,
-) -> Result<()> {
-    let list: Box<dyn PushSink> = Box::new(alloc, PushList::new(alloc))?;
-    let mut sink = Some(list);
-    hear_pieces(alloc, client, &mut sink, given, cut, said)?;
-    match &sink {
-        Some(sink) => say_pushes(sink.shown(), said),
-        None => Ok(()),
-    }
-}
-
-/// Says what is heard of a text, where there is a sink by it.
-fn hear_pieces(
-    alloc: Global,
-    client: &mut Client,
-    sink: &mut Option<Box<dyn PushSink>>,
-    given: &str,
-    cut: Cut,
-    said: &mut String,
-) -> Result<()> {
     let text = rows::bytes(alloc, given)?;
     for piece in rows::pieces(alloc, text.as_slice(), cut)? {
-        if !hear_piece(client, sink, piece, said)? {
+        if !hear_piece(client, piece, said)? {
             break;
         }
     }
@@ -55,15 +24,10 @@ fn hear_pieces(
 }
 
 /// Says what is heard in a piece. Whether the client goes on.
-fn hear_piece(
-    client: &mut Client,
-    sink: &mut Option<Box<dyn PushSink>>,
-    piece: &[u8],
-    said: &mut String,
-) -> Result<bool> {
+fn hear_piece(client: &mut Client, piece: &[u8], said: &mut String) -> Result<bool> {
     let mut rest = piece;
     for _ in 0..=piece.len() {
-        match feed_by(client, sink, rest) {
+        match client.feed(rest) {
             Ok(Heard { used, what }) => {
                 rest = &rest[used..];
                 if what == What::More {
@@ -79,20 +43,6 @@ fn hear_piece(
         }
     }
     Ok(true)
-}
-
-/// One call, with the sink where there is one.
-fn feed_by(
-    client: &mut Client,
-    sink: &mut Option<Box<dyn PushSink>>,
-    piece: &[u8],
-) -> Result<Heard, Fault>
-    ensures within_piece { IfOk result (λ heard. heard.used ≤ length piece.now) }
-{
-    match sink {
-        Some(sink) => client.feed_with(piece, sink),
-        None => client.feed(piece),
-    }
 }
 
 /// Says where a fault isn't answered again.
@@ -113,6 +63,38 @@ pub fn feed(alloc: Global, client: &mut Client, given: &str, said: &mut String) 
         }
         Err(fault) => say_fault(fault, said),
     }
+}
+
+/// `show TEXT` is as `hear TEXT` with a sink, and says at its end the pushes that this was shown.
+pub fn show(
+    alloc: Global,
+    client: &mut Client,
+    given: &str,
+    cut: Cut,
+    said: &mut String,
+) -> Result<()> {
+    let text = rows::bytes(alloc, given)?;
+    let mut sink: Box<dyn PushSink> = Box::new(alloc, PushList::new(alloc))?;
+    for piece in rows::pieces(alloc, text.as_slice(), cut)? {
+        let mut rest = piece;
+        for _ in 0..=piece.len() {
+            match client.feed_with(rest, &mut sink) {
+                Ok(Heard { used, what }) => {
+                    rest = &rest[used..];
+                    if what == What::More {
+                        break;
+                    }
+                    say_what(&what, said)?;
+                }
+                Err(fault) => {
+                    say_fault(fault, said)?;
+                    say_change(client, rest, fault, said)?;
+                    return say_pushes(sink.shown(), said);
+                }
+            }
+        }
+    }
+    say_pushes(sink.shown(), said)
 }
 
 fn say_pushes(pushes: &[Members], said: &mut String) -> Result<()> {

@@ -1,112 +1,80 @@
 //! Makes each call that takes memory once, so that a test can refuse each allocation in turn.
 //!
-//! First it makes as many allocations as standard input has bytes. Then it prints the name of each
-//! part, and `whole`, or `out of memory` where an allocation of the part was refused and all stands
-//! that has to stand after that, or else `wrong`.
+//! It makes as many allocations before as standard input has bytes. Of each part it then prints the
+//! name, and `whole`, or `out of memory` where that was refused in it and all stands that has to
+//! stand after a refusal, or else `wrong`.
 #![tactic(auto)]
 
 mod decoding;
 mod encoding;
-mod given;
+mod engines;
 mod outcome;
 mod pipelining;
 mod serving;
 mod worlds;
 
 use anyhow::Result;
-use bytes::BytesMut;
-use decoding::Reading;
-use outcome::{Outcome, word};
-use pipelining::Talk;
-use serving::Call;
+use outcome::Outcome;
 use std::alloc::Global;
-use std::io;
+use std::io::Read;
 
-/// What is done in a part.
-#[derive(Clone, Copy)]
-enum Part {
-    /// A new decoder is fed texts.
-    Read(Reading),
-    DecodeAll,
-    CloneValue,
-    Encode,
-    EncodePush,
-    EncodeWords,
-    EncodeTo,
-    CloneCommand,
-    Talk(Talk),
-    Call(Call),
-    World,
+/// The number of bytes that stand in the input.
+fn count_input(input: &mut impl Read) -> Result<usize> {
+    let mut count: usize = 0;
+    let mut piece = [0; 64];
+    for _ in 0..u64::MAX {
+        let read = input.read(&mut piece)?;
+        if read == 0 {
+            break;
+        }
+        count = count.saturating_add(read);
+    }
+    Ok(count)
 }
 
-/// The parts by their names.
-const PARTS: &[(&str, Part)] = &[
-    ("decode a piece", Part::Read(decoding::A_PIECE)),
-    ("decode bytes", Part::Read(decoding::BYTES)),
-    ("decode streamed", Part::Read(decoding::STREAMED)),
-    ("decode scalars", Part::Read(decoding::SCALARS)),
-    ("decode array head", Part::Read(decoding::ARRAY_HEAD)),
-    ("decode bulk head", Part::Read(decoding::BULK_HEAD)),
-    ("decode_all", Part::DecodeAll),
-    ("try_clone", Part::CloneValue),
-    ("encode", Part::Encode),
-    ("encode_push", Part::EncodePush),
-    ("encode_words", Part::EncodeWords),
-    ("encode_to", Part::EncodeTo),
-    ("command", Part::CloneCommand),
-    ("send", Part::Talk(Talk::Send)),
-    ("hello", Part::Talk(Talk::Hello)),
-    ("client feed", Part::Talk(pipelining::FEED)),
-    ("client feed_with", Part::Talk(Talk::FeedWith)),
-    ("client integer", Part::Talk(pipelining::FEED_INTEGER)),
-    ("ask", Part::Talk(Talk::Ask)),
-    ("hub open", Part::Call(Call::Open)),
-    ("hub set", Part::Call(serving::SET)),
-    ("hub get", Part::Call(serving::GET)),
-    ("hub del", Part::Call(serving::DEL)),
-    ("hub hello", Part::Call(serving::HELLO)),
-    ("hub protocol error", Part::Call(serving::PROTOCOL_ERROR)),
-    ("hub push", Part::Call(Call::Push)),
-    ("serve", Part::Call(Call::Serve)),
-    ("world", Part::World),
-];
-
-/// Makes `count` allocations.
-fn allocate(alloc: Global, count: u64) -> Result<()> {
+/// Makes so many allocations.
+fn allocate(alloc: Global, count: usize) -> Result<()> {
     for _ in 0..count {
         let _byte = Vec::from_slice(alloc, b"x")?;
     }
     Ok(())
 }
 
-/// What comes of a part. What it compares is written to `out`, which has room for it.
-fn outcome_of(alloc: Global, out: &mut BytesMut, part: Part) -> Outcome {
-    match part {
-        Part::Read(reading) => decoding::outcome_of(alloc, out, reading),
-        Part::DecodeAll => encoding::decode_values(alloc),
-        Part::CloneValue => encoding::clone_value(alloc, out),
-        Part::Encode => encoding::encode_value(alloc),
-        Part::EncodePush => encoding::encode_items(alloc),
-        Part::EncodeWords => encoding::encode_command(alloc),
-        Part::EncodeTo => encoding::write_value(alloc),
-        Part::CloneCommand => encoding::clone_command(alloc),
-        Part::Talk(talk) => pipelining::outcome_of(alloc, out, talk),
-        Part::Call(call) => serving::outcome_of(alloc, call),
-        Part::World => worlds::outcome_of(alloc),
-    }
-}
-
-fn print_each(rt: &impl Print, alloc: Global, out: &mut BytesMut) -> Result<()> {
-    for (name, part) in PARTS {
-        let word = word(outcome_of(alloc, out, *part));
-        println!(rt; "{name}: {word}")?;
-    }
+fn print(rt: &impl Print, name: &str, outcome: Outcome) -> Result<()> {
+    let word = outcome.word();
+    println!(rt; "{name}: {word}")?;
     Ok(())
 }
 
 fn main(rt: HostRuntime) -> Result<()> {
     let alloc = rt.alloc();
-    let mut out = BytesMut::with_capacity(alloc, 1_024)?;
-    allocate(alloc, io::copy(&mut rt.stdin(), &mut io::sink())?)?;
-    print_each(&rt, alloc, &mut out)
+    allocate(alloc, count_input(&mut rt.stdin())?)?;
+
+    print(&rt, "decode a piece", decoding::of_one_piece(alloc))?;
+    print(&rt, "decode bytes", decoding::of_single_bytes(alloc))?;
+    print(&rt, "decode streamed", decoding::of_streamed_forms(alloc))?;
+    print(&rt, "decode scalars", decoding::of_scalars(alloc))?;
+    print(&rt, "decode heads", decoding::of_heads(alloc))?;
+    print(&rt, "decode_all", decoding::of_all(alloc))?;
+    print(&rt, "try_clone", encoding::of_clone(alloc))?;
+    print(&rt, "encode", encoding::of_value(alloc))?;
+    print(&rt, "encode_push", encoding::of_push(alloc))?;
+    print(&rt, "encode_words", encoding::of_words(alloc))?;
+    print(&rt, "encode_to", encoding::to_writer(alloc))?;
+    print(&rt, "command", encoding::of_command(alloc))?;
+    print(&rt, "send", pipelining::of_send(alloc))?;
+    print(&rt, "hello", pipelining::of_hello(alloc))?;
+    print(&rt, "client feed", pipelining::of_feed(alloc))?;
+    print(&rt, "client feed_with", pipelining::of_feed_with(alloc))?;
+    print(&rt, "client integer", pipelining::of_integer(alloc))?;
+    print(&rt, "hub open", serving::of_open(alloc))?;
+    print(&rt, "hub set", serving::of_set(alloc))?;
+    print(&rt, "hub get", serving::of_get(alloc))?;
+    print(&rt, "hub del", serving::of_del(alloc))?;
+    print(&rt, "hub hello", serving::of_hello(alloc))?;
+    print(&rt, "hub protocol error", serving::of_protocol_error(alloc))?;
+    print(&rt, "hub push", serving::of_push(alloc))?;
+    print(&rt, "ask", engines::of_ask(alloc))?;
+    print(&rt, "serve", engines::of_serve(alloc))?;
+    print(&rt, "world", worlds::of_run(alloc))
 }

@@ -1,22 +1,43 @@
-//! What comes of a part.
+//! What came of a part.
 
 use std::alloc::AllocError;
 
-/// What comes of a part: whether all is as it has to be, or that an allocation was refused and all
-/// stands that has to stand after that.
-pub(crate) type Outcome = Result<bool, AllocError>;
-
-/// What comes of a part whose call was refused memory, where `stands` says whether all stands that
-/// has to stand after that.
-pub(crate) fn refused(stands: bool) -> Outcome {
-    if stands { Err(AllocError) } else { Ok(false) }
+#[derive(Clone, Copy, Debug, PartialEq, Eq)]
+pub(crate) enum Outcome {
+    Whole,
+    OutOfMemory,
+    Wrong,
 }
 
-/// The word that is printed for an outcome.
-pub(crate) fn word(outcome: Outcome) -> &'static str {
-    match outcome {
-        Ok(true) => "whole",
-        Ok(false) => "wrong",
-        Err(_) => "out of memory",
+impl Outcome {
+    pub(crate) fn word(self) -> &'static str {
+        match self {
+            Outcome::Whole => "whole",
+            Outcome::OutOfMemory => "out of memory",
+            Outcome::Wrong => "wrong",
+        }
+    }
+
+    /// Whole where this holds, and wrong where it doesn't.
+    pub(crate) fn of(holds: bool) -> Outcome {
+        if holds {
+            Outcome::Whole
+        } else {
+            Outcome::Wrong
+        }
+    }
+
+    /// Out of memory where this stands after the refusal, and wrong where it doesn't.
+    pub(crate) fn refused(stands: bool) -> Outcome {
+        if stands {
+            Outcome::OutOfMemory
+        } else {
+            Outcome::Wrong
+        }
+    }
+
+    /// That of a part, which was out of memory where that was refused outside the call it is about.
+    pub(crate) fn from(part: Result<Outcome, AllocError>) -> Outcome {
+        part.unwrap_or(Outcome::OutOfMemory)
     }
 }
