@@ -10,7 +10,7 @@ use resp_value::value::Value;
 use resp_value::version::Version;
 use std::alloc::{AllocError, Global};
 
-/// A fault after so many bytes is OutOfMemory, and is answered for good.
+/// The fault is OutOfMemory, within the `given` bytes, and is answered for good.
 fn refused(decoder: &mut Decoder, fault: Fault, given: usize) -> Outcome {
     Outcome::refused(
         fault.cause == Cause::OutOfMemory
@@ -22,7 +22,7 @@ fn refused(decoder: &mut Decoder, fault: Fault, given: usize) -> Outcome {
     )
 }
 
-/// The text is one value, in pieces of so many bytes, and this is its canonical text.
+/// The text is one value, in pieces of `size` bytes, and this is its canonical text.
 fn of_pieces(
     alloc: Global,
     text: &[u8],

@@ -65,7 +65,7 @@ fn asks(alloc: Global) -> Result<Outcome, AllocError> {
     })
 }
 
-/// Where memory is wanting, whole requests wait or all were written, and the first replies are
+/// When out of memory, whole requests wait or all were written, and the first replies are
 /// heard.
 pub(crate) fn of_ask(alloc: Global) -> Outcome {
     Outcome::from(asks(alloc))
@@ -96,7 +96,7 @@ fn serves(alloc: Global) -> Result<Outcome, AllocError> {
     })
 }
 
-/// Where memory is wanting, the commands before are run and their replies written, nothing of the
+/// When out of memory, the commands before are run and their replies written, nothing of the
 /// refused one is done, and the session is closing.
 pub(crate) fn of_serve(alloc: Global) -> Outcome {
     Outcome::from(serves(alloc))

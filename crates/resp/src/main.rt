@@ -22,7 +22,7 @@ const DEVICE_FAILED: u8 = 3;
 /// The most bytes that are said of what is wrong.
 const MOST_FAULTS: usize = 16_384;
 
-/// Runs the program and exits with its status, or says that memory is wanting and exits with 3.
+/// Runs the program and exits with its status, or says that it is out of memory and exits with 3.
 fn main(rt: HostRuntime) -> ExitCode {
     match run(&rt) {
         Ok(status) => ExitCode::from(status),

@@ -27,7 +27,7 @@ pub record AppendsWhole (old new : Filled) (text : List ℕ) (result : Result (U
   pub appended : OnOk result (new.items ≡ old.items ++ text)
   -- after a refusal the buffer has the bytes that it had
   pub unchanged : OnErr result (new.items ≡ old.items)
-  -- memory is wanting only where the spare room did not hold the text
+  -- out of memory only where the spare room did not hold the text
   pub memory : IsErrOf result OutOfMemory → old.spare < length text
   -- the text takes no more of the spare room than its length
   pub spare_left : OnOk result (old.spare ≤ new.spare + length text)

@@ -24,7 +24,7 @@ pub enum EncodeError {
 /// Why a value was not written whole to a device.
 #[derive(Clone, Copy, Debug, PartialEq, Eq, Error)]
 pub enum EncodeToError {
-    /// The value was refused, or memory was wanting for its text, before anything was written.
+    /// The value was refused, or there was no memory for its text, before anything was written.
     #[error(transparent)]
     Refused(EncodeError),
     /// A write failed, or took no byte.

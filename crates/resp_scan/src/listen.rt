@@ -237,7 +237,7 @@ impl Machine {
         }
     }
 
-    /// Tells a text of so many bytes after the head, with its CR LF.
+    /// Tells a text of `run` bytes after the first `head`, with its CR LF.
     #[inline(always)]
     fn tell_whole<L: Listener>(
         &mut self,

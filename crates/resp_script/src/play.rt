@@ -90,7 +90,7 @@ impl PlayError {
 /// and how many keys there are. The world is to have as many clients as the script names: of an
 /// event of another it is written that the client is gone.
 ///
-/// Refuses where the world stops, with the line of that event, where a write fails, and for want of
+/// Refuses where the world stops, with the line of that event, where a write fails, and when out of
 /// memory.
 pub fn play<L: Link, S: BuildHasher + Drop, W: Sink>(
     alloc: Global,

@@ -49,7 +49,7 @@ pub record IsAnswered (limits : Bounds) (id : ℕ) (store store' : Store) (befor
       (state_with store' after.version reply after.closing commands) rest
   pub taking : after.closing ≡ false → HasTaken after.decoder rest
 
--- memory was wanting after the front and the first bytes of the piece, which were answered: nothing of what stands
+-- memory was out after the front and the first bytes of the piece, which were answered: nothing of what stands
 -- after them was done, and the session is closing
 pub record IsCutShort (limits : Bounds) (id : ℕ) (store store' : Store) (before after : Session) (front piece : List ℕ)
     (commands : ℕ) : Type 0 where

@@ -47,7 +47,7 @@ pub record HasCutShort (old new : HubState) (id : ℕ) (s : Seat) (front piece :
   pub state : new ≡ stocked (seated old id
       (record { version = version; out = s.out ++ reply; closing = true; decoder = decoder })) store
 
--- where memory was wanting, this holds of the commands run before
+-- where the session was out of memory, this holds of the commands run before
 abbrev pub IfOutOfMemory : HubError → (ℕ → Type 0) → Type 0
 IfOutOfMemory NoSession P = Unit {0}
 IfOutOfMemory (OutOfMemory commands) P = P commands

@@ -23,7 +23,7 @@ use resp_value::value::Value;
 use std::alloc::{AllocError, Global};
 use std::hash::BuildHasher;
 
-/// Runs a command of these words, and queues the reply. Where memory is wanting, the store, the
+/// Runs a command of these words, and queues the reply. When out of memory the store, the
 /// session's version and what waits are as before.
 fn run_words<S: BuildHasher>(
     words: Words,
@@ -48,8 +48,8 @@ fn run_words<S: BuildHasher>(
     run(operation_of(words), store, session, id, limits)
 }
 
-/// Answers a value that was read, and tells how many commands that were run: one or none. Where
-/// memory is wanting, the store, the session's version and what waits are as before.
+/// Answers a value that was read, and tells how many commands were run: one or none. When out of
+/// memory the store, the session's version and what waits are as before.
 pub(crate) fn answer_value<S: BuildHasher>(
     value: Value,
     store: &mut Store<S>,

@@ -130,7 +130,7 @@ impl<S: BuildHasher> Hub<S> {
         Ok(())
     }
 
-    /// Whether a session takes no more commands and pushes, after a protocol error or for want of
+    /// Whether a session takes no more commands and pushes, after a protocol error or when out of
     /// memory. Refuses exactly where no session has this id.
     pub fn is_closing(&self, id: u64) -> Result<bool, NoSession>
         ensures closing { IfOk result (λ closing.

@@ -15,8 +15,8 @@ use resp_value::value::Value;
 use resp_value::version::Version;
 use std::alloc::AllocError;
 
-/// Appends a reply that is within the limits, whole or not at all. Want of memory comes only where
-/// the room that is there doesn't hold it.
+/// Appends a reply that is within the limits, whole or not at all. Refuses when out of memory, and
+/// only where the room that is there doesn't hold it.
 pub(crate) fn reply(
     out: &mut BytesMut,
     version: Version,

@@ -53,7 +53,7 @@ impl<S: BuildHasher> Store<S> {
         Entries::new(self.entries.iter())
     }
 
-    /// Sets the value of a key. Want of memory changes nothing.
+    /// Sets the value of a key. When out of memory nothing is changed.
     pub(crate) fn set(&mut self, key: Content, value: Content) -> Result<(), AllocError>
         ensures set { OnOk result (self.new ≡
             store_with self.old (content_bytes key) (content_bytes value)) }

@@ -127,7 +127,7 @@ fn write_canonical<W: Sink>(
     }
 }
 
-/// Want of memory, or the fault of a byte.
+/// Out of memory, or the fault of a byte.
 fn stop_at(fault: Fault) -> Stop
     ensures { result ≡ stop_at fault }
 {

@@ -29,7 +29,7 @@ pub record HasClosed (old : HubState) (id : ℕ) (s : Seat) (front text : List �
   pub answered : HasAnswered old new id s (front ++ take count text) commands
   pub is_closing : answered.closing ≡ true
 
--- Why nothing more is carried: memory was wanting, the link failed, or the session was closed by what came.
+-- Why nothing more is carried: memory was out, the link failed, or the session was closed by what came.
 abbrev pub StopsCarrying : HubState → ℕ → Seat → List ℕ → List ℕ → ℕ → ℕ → Cause → Type 0
 StopsCarrying old id s front text failures failures' cause =
     (cause ≡ OutOfMemory) ⊎ (FailsBy failures failures' cause ⊎ HasClosed old id s front text)
@@ -46,7 +46,7 @@ pub record MeetsFault (s : ClientState) (before after : Asked) (front text : Lis
   pub met : HearsFault s before after (front ++ take count text) fault
   pub named : fault.cause ≡ cause
 
--- Why no more is shown to a client: memory was wanting, the link failed, or the client met a fault.
+-- Why no more is shown to a client: memory was out, the link failed, or the client met a fault.
 abbrev pub StopsShowing : ClientState → Asked → Asked → List ℕ → List ℕ → ℕ → ℕ → Cause → Type 0
 StopsShowing s before after front text failures failures' cause =
     (cause ≡ OutOfMemory) ⊎ (FailsBy failures failures' cause ⊎ MeetsFault s before after front text cause)

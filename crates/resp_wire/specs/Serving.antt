@@ -48,7 +48,7 @@ pub record Serves (old new : HubState) (id : ℕ) (s : Seat) (text : List ℕ) (
   pub answered : HasAnswered old given id s text commands
   pub sent : HasSent given new id held held' waits
 
--- After what came, where memory was wanting: as a hub that answered the first bytes of it.
+-- After what came, when out of memory: as a hub that answered the first bytes of it.
 pub record ServesFirst (old new : HubState) (id : ℕ) (s : Seat) (front came : List ℕ) (held held' : Option (List ℕ))
     (waits : List ℕ) : Type 0 where
   pub given : HubState
@@ -134,7 +134,7 @@ StopsWriting failures failures' left Write = HasRisen failures failures'
 StopsWriting failures failures' left TooManyTurns = left ≡ 0
 StopsWriting failures failures' left _ = ⊥
 
--- why an answer stops: memory was wanting, or a write stopped
+-- why an answer stops: memory was out, or a write stopped
 abbrev pub StopsAnswering : ℕ → ℕ → ℕ → ServeError → Type 0
 StopsAnswering failures failures' left OutOfMemory = Unit {0}
 StopsAnswering failures failures' left error = StopsWriting failures failures' left error

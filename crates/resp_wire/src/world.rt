@@ -72,7 +72,7 @@ impl<S: BuildHasher + Drop> World<MemoryLink, S> {
     /// `count` clients that asked nothing, over memory and an empty store. Each reads and writes
     /// within these limits, and so does its session.
     ///
-    /// Refuses by TooManySessions exactly where there are more than 65,536, and else for want of
+    /// Refuses by TooManySessions exactly where there are more than 65,536, and else when out of
     /// memory.
     pub fn new(alloc: Global, count: usize, limits: Limits, hasher: S) -> Result<Self, OpenError>
         ensures shows { IfOk result (λ world.
@@ -97,7 +97,7 @@ impl<L: Link, S: BuildHasher + Drop> World<L, S> {
     /// A client that asked nothing for each of these links, over an empty store. Each reads and
     /// writes within these limits, and so does its session.
     ///
-    /// Refuses by TooManySessions exactly where there are more than 65,536, and else for want of
+    /// Refuses by TooManySessions exactly where there are more than 65,536, and else when out of
     /// memory.
     pub fn over(alloc: Global, links: Vec<L>, limits: Limits, hasher: S) -> Result<Self, OpenError>
         ensures shows { IfOk result (λ world. AllByRecursion L.is_honest links.items →

@@ -9,7 +9,7 @@ use Rattle.resp_server.specs.Hubs.{HubState, Seat, seat_at, seated, with_seat, w
 use Rattle.resp_wire.specs.Worlds.{WorldState}
 use Rattle.resp_wire.specs.declared.end.End.{End}
 
--- what is not dropped has a session, whatever one would say of what is
+-- an open connection was not dropped
 pub never_gone : (c : Connection) (P : Type 0) → c.dropped ≡ false → c.dropped ≡ true → P
 never_gone c P is_open gone = let never : false ≡ true = sym is_open ∙ gone in absurd (cc)
 
