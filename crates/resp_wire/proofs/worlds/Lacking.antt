@@ -115,7 +115,8 @@ push_done limits hub ends order w number items error each verdict there open_end
     by_error limits s c w number items (push.OverLimits limit) at here version is_open verdict = tt
     by_error limits s c w number items push.OutOfMemory at here version is_open verdict = (
       ap is_gone at ∙ here,
-      λ cause r. push_not_refused limits s c.version (push_message items).value (Err push.OutOfMemory) version is_open verdict (λ error e. let same : push.OutOfMemory ≡ error = cc in sym same) cause
+      λ cause r. push_not_refused limits s c.version (push_message items).value (Err push.OutOfMemory) version is_open verdict
+          (λ error e. let same : push.OutOfMemory ≡ error = cc in sym same) cause
           (subst (λ o. RefusesEvent limits o (Push number items) cause) at r),
       refl,
     )

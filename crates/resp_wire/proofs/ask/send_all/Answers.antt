@@ -12,7 +12,9 @@ returns-in-Err-clause-refusal g c =
     let part = if_err c.write_text-written.result.end c.in-Err.halt c.in-Err.is (λ _. count < length text) c.write_text-written.ensures.part in
     let same = ap length c.out.ensures in
     let left : 0 < length (drop count out) = omega (arith, rest, part, same) in
-    c.unwritten.ensures.reason _ _ _ (state_of c.sent.new.self).out (subst (λ (s : ClientState). 0 < length s.out) (sym c.sent.ensures.dropped) left) (if_err c.write_text-written.result.end c.in-Err.halt c.in-Err.is _ c.write_text-written.ensures.halted)
+    c.unwritten.ensures.reason _ _ _ (state_of c.sent.new.self).out
+    (subst (λ (s : ClientState). 0 < length s.out) (sym c.sent.ensures.dropped) left)
+    (if_err c.write_text-written.result.end c.in-Err.halt c.in-Err.is _ c.write_text-written.ensures.halted)
 
 pub returns-in-Err-clause-no_turn_left : goal.returns-in-Err-clause-no_turn_left
 returns-in-Err-clause-no_turn_left g c is =
