@@ -168,7 +168,7 @@ static void run(const char *name, const char *unit, size_t length, int rounds)
 	free(all);
 }
 
-/* Reads texts of so many bytes of content behind this head. */
+/* Reads texts of so many bytes of content after this head. */
 static void run_filled(const char *name, const char *head, size_t length, int rounds)
 {
 	static char unit[UNIT_ROOM];
@@ -179,7 +179,7 @@ static void run_filled(const char *name, const char *head, size_t length, int ro
 	run(name, unit, used + length + 2, rounds);
 }
 
-/* Reads texts of so many equal members behind this head. */
+/* Reads texts of so many equal members after this head. */
 static void run_members(const char *name, const char *head, const char *member, int members, int rounds)
 {
 	static char unit[UNIT_ROOM];

@@ -5,6 +5,7 @@
 //! run. With the argument `times` it does so 10,000 times, a million commands in all, and prints
 //! microseconds too; with `once` a single time in the same form.
 
+use crate::{has, nanos};
 use anyhow::Result;
 use resp_client::client::Client;
 use resp_client::heard::What;
@@ -12,7 +13,6 @@ use resp_value::command::Command;
 use resp_value::limits::Limits;
 use resp_value::value::Value;
 use std::alloc::Global;
-use std::time::CpuClock;
 
 /// The commands of a pipeline.
 const PIPELINE: usize = 100;
@@ -21,21 +21,25 @@ const PIPELINE: usize = 100;
 const ROUNDS: usize = 10_000;
 
 /// What both clients count.
-#[derive(Drop)]
+#[derive(Clone, Copy)]
 struct Tally {
     queued: u64,
     replies: u64,
     content: u64,
 }
 
-/// The commands `GET key:NNNNNNN` of a pipeline.
+/// The command `GET key:NNNNNNN`.
+fn command(alloc: Global, number: usize) -> Result<Command> {
+    let key = format!(in alloc; "key:{number:07}")?;
+    let name = b"GET".to_vec(alloc)?;
+    Ok(Command::new(vec![in alloc; name, key.into_bytes()]?)?)
+}
+
+/// The commands of a pipeline.
 fn commands(alloc: Global) -> Result<Vec<Command>> {
     let mut all = Vec::new(alloc);
     for number in 0..PIPELINE {
-        let name = b"GET".to_vec(alloc)?;
-        let key = format!(in alloc; "key:{number:07}")?;
-        let words = vec![in alloc; name, key.into_bytes()]?;
-        all.push(Command::new(words)?)?;
+        all.push(command(alloc, number)?)?;
     }
     Ok(all)
 }
@@ -67,12 +71,7 @@ fn hear(client: &mut Client, text: &[u8], tally: &mut Tally) -> Result<()> {
         let heard = client.feed(rest)?;
         rest = &rest[heard.used..];
         match &heard.what {
-            What::Reply { number: _, value } => {
-                tally.replies = tally.replies.saturating_add(1);
-                if let Value::Bulk(content) = value {
-                    tally.content = tally.content.saturating_add(content.list().len() as u64);
-                }
-            }
+            What::Reply { number: _, value } => tally.add(value),
             What::More => break,
             _ => {}
         }
@@ -80,60 +79,66 @@ fn hear(client: &mut Client, text: &[u8], tally: &mut Tally) -> Result<()> {
     Ok(())
 }
 
-/// Sends `rounds` pipelines, and hears the replies to each.
+impl Tally {
+    #[inline(always)]
+    fn add(&mut self, reply: &Value) {
+        self.replies = self.replies.saturating_add(1);
+        if let Value::Bulk(content) = reply {
+            self.content = self.content.saturating_add(content.list().len() as u64);
+        }
+    }
+}
+
+/// Sends `rounds` pipelines, and hears the replies to each. How many nanoseconds that took.
 fn converse(
+    rt: &HostRuntime,
     client: &mut Client,
     commands: &[Command],
     text: &[u8],
     rounds: usize,
     tally: &mut Tally,
-) -> Result<()> {
+) -> Result<u128> {
+    let start = nanos(rt)?;
     for _ in 0..rounds {
         queue(client, commands, tally)?;
         hear(client, text, tally)?;
     }
-    Ok(())
+    Ok(nanos(rt)?.saturating_sub(start))
 }
 
-/// How many pipelines the words ask for, and whether they are timed.
-fn asked_for(words: &[String]) -> (usize, bool) {
-    let mut asked = (1, false);
-    for word in words {
-        match word.as_str() {
-            "times" => asked = (ROUNDS, true),
-            "once" => asked = (1, true),
-            _ => {}
-        }
-    }
-    asked
+/// Converses by a new client.
+fn converse_anew(
+    rt: &HostRuntime,
+    commands: &[Command],
+    text: &[u8],
+    rounds: usize,
+    tally: &mut Tally,
+) -> Result<u128> {
+    let mut client = Client::new(rt.alloc(), &Limits::standard());
+    converse(rt, &mut client, commands, text, rounds, tally)
 }
 
 /// Runs it as the words ask.
-pub(crate) fn bench(rt: &(impl Print + CpuClock), alloc: Global, words: &[String]) -> Result<()> {
-    let (rounds, timed) = asked_for(words);
-    let commands = commands(alloc)?;
-    let text = replies(alloc)?;
-    let mut client = Client::new(alloc, &Limits::standard());
+pub(crate) fn bench(rt: &HostRuntime, words: &[String]) -> Result<()> {
+    let rounds = if has(words, "times") { ROUNDS } else { 1 };
+    let commands = commands(rt.alloc())?;
+    let text = replies(rt.alloc())?;
     let mut tally = Tally {
         queued: 0,
         replies: 0,
         content: 0,
     };
-    let start = rt.thread_cpu_time()?.as_nanos();
-    converse(
-        &mut client,
-        commands.as_slice(),
-        text.as_slice(),
-        rounds,
-        &mut tally,
-    )?;
-    let end = rt.thread_cpu_time()?.as_nanos();
-    let (queued, replies, content) = (tally.queued, tally.replies, tally.content);
-    print!(rt; "GET in pipelines: {queued} bytes queued, {replies} replies, {content} bytes;")?;
-    if timed {
-        let micros = end.saturating_sub(start) / 1_000;
-        print!(rt; " {micros} us")?;
+    let nanos = converse_anew(rt, commands.as_slice(), text.as_slice(), rounds, &mut tally)?;
+    print_tally(rt, &tally)?;
+    if has(words, "times") || has(words, "once") {
+        print!(rt; " {} us", nanos / 1_000)?;
     }
     println!(rt; "")?;
+    Ok(())
+}
+
+fn print_tally(rt: &HostRuntime, tally: &Tally) -> Result<()> {
+    let (queued, replies, content) = (tally.queued, tally.replies, tally.content);
+    print!(rt; "GET in pipelines: {queued} bytes queued, {replies} replies, {content} bytes;")?;
     Ok(())
 }

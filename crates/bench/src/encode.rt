@@ -3,16 +3,17 @@
 //! It encodes few values and prints the length of each text, the same on every run. With the
 //! argument `times` it encodes a million of each and prints nanoseconds.
 
-mod values;
-
-use anyhow::Result;
+use crate::texts::{ARRAY_10, BULK_16, BULK_1024, INTEGER, MAP, SIMPLE, Text};
+use crate::{has, nanos};
+use anyhow::{Context, Result};
 use bytes::BytesMut;
-use resp_encode::{encode, size};
+use resp_decode::{Decoder, Fed};
+use resp_encode::encode;
+use resp_scan::event::Fault;
 use resp_value::limits::Limits;
 use resp_value::value::Value;
 use resp_value::version::Version;
 use std::alloc::Global;
-use std::time::CpuClock;
 
 /// How many texts the buffer has room for.
 const BATCH: usize = 100;
@@ -46,71 +47,77 @@ fn copy_all(text: &[u8], rounds: usize, out: &mut BytesMut) -> Result<()> {
 
 /// Prints a line of times: nanoseconds a value, those to copy its text, and their ratio.
 fn measure(
-    rt: &(impl Print + CpuClock),
+    rt: &HostRuntime,
     name: &str,
     value: &Value,
     text: &[u8],
     out: &mut BytesMut,
 ) -> Result<()> {
     encode_all(value, 1, out)?;
-    let start = rt.thread_cpu_time()?.as_nanos();
+    let start = nanos(rt)?;
     encode_all(value, ROUNDS, out)?;
-    let middle = rt.thread_cpu_time()?.as_nanos();
+    let middle = nanos(rt)?;
     copy_all(text, ROUNDS, out)?;
-    let end = rt.thread_cpu_time()?.as_nanos();
-    let encoded = middle.saturating_sub(start);
-    let copied = end.saturating_sub(middle).max(1);
-    print!(rt; "{name}: ")?;
-    print_hundredths(rt, encoded / NANOS_IN_HUNDREDTHS)?;
-    print!(rt; " ns a value, ")?;
-    print_hundredths(rt, copied / NANOS_IN_HUNDREDTHS)?;
-    print!(rt; " ns to copy, ratio ")?;
-    print_hundredths(rt, encoded.saturating_mul(100) / copied)?;
-    println!(rt; "")?;
+    let copied = nanos(rt)?.saturating_sub(middle).max(1);
+    print_times(rt, name, middle.saturating_sub(start), copied)
+}
+
+fn print_times(rt: &HostRuntime, name: &str, encoded: u128, copied: u128) -> Result<()> {
+    let ratio = encoded.saturating_mul(100) / copied.max(1);
+    let (encoded, copied) = (encoded / NANOS_IN_HUNDREDTHS, copied / NANOS_IN_HUNDREDTHS);
+    println!(rt;
+        "{name}: {}.{:02} ns a value, {}.{:02} ns to copy, ratio {}.{:02}",
+        encoded / 100,
+        encoded % 100,
+        copied / 100,
+        copied % 100,
+        ratio / 100,
+        ratio % 100
+    )?;
     Ok(())
 }
 
-fn print_hundredths(rt: &impl Print, hundredths: u128) -> Result<()> {
-    let (whole, rest) = (hundredths / 100, hundredths % 100);
-    print!(rt; "{whole}.{rest:02}")?;
-    Ok(())
-}
-
-fn run(
-    rt: &(impl Print + CpuClock),
-    alloc: Global,
-    timed: bool,
+/// Prints the length of the text of a value and that of a batch of them.
+fn count(
+    rt: &HostRuntime,
     name: &str,
     value: &Value,
+    length: usize,
+    out: &mut BytesMut,
 ) -> Result<()> {
-    let length = size(Version::Three, value).unwrap_or(0);
-    let mut text = BytesMut::new(alloc);
-    encode(Version::Three, &Limits::standard(), value, &mut text)?;
-    let mut out = BytesMut::new(alloc);
-    out.reserve(text.len().saturating_mul(BATCH))?;
+    encode_all(value, 1, out)?;
+    println!(rt; "{name}: {length} bytes a value, {} in a batch", out.len())?;
+    Ok(())
+}
+
+/// The value that a text spells.
+fn value(alloc: Global, text: &[u8]) -> Result<Value> {
+    let mut decoder = Decoder::new(alloc, Version::Three, &Limits::standard());
+    let fed = decoder.feed(text);
+    value_of(fed)
+}
+
+fn value_of(fed: Result<Fed, Fault>) -> Result<Value> {
+    fed?.value.context("no value")
+}
+
+fn run(rt: &HostRuntime, timed: bool, text: &Text) -> Result<()> {
+    let bytes = text.bytes(rt.alloc())?;
+    let value = value(rt.alloc(), bytes.as_slice())?;
+    let room = bytes.len().saturating_mul(BATCH);
+    let mut out = BytesMut::with_capacity(rt.alloc(), room)?;
     if timed {
-        measure(rt, name, value, text.as_slice(), &mut out)
+        measure(rt, text.name, &value, bytes.as_slice(), &mut out)
     } else {
-        encode_all(value, 1, &mut out)?;
-        let all = out.len();
-        println!(rt; "{name}: {length} bytes a value, {all} in a batch")?;
-        Ok(())
+        count(rt, text.name, &value, bytes.len(), &mut out)
     }
 }
 
 /// Runs it for each kind of value, as the words ask.
-pub(crate) fn bench(rt: &(impl Print + CpuClock), alloc: Global, words: &[String]) -> Result<()> {
-    let timed = words.iter().any(|word| word.as_str() == "times");
-    run(rt, alloc, timed, "simple OK", &values::simple(alloc)?)?;
-    run(rt, alloc, timed, "integers", &Value::Int(123_456))?;
-    run(rt, alloc, timed, "16-byte bulks", &values::bulk(alloc, 16)?)?;
-    run(rt, alloc, timed, "1 KiB bulks", &values::bulk(alloc, 1024)?)?;
-    run(
-        rt,
-        alloc,
-        timed,
-        "arrays of ten bulks",
-        &values::array(alloc)?,
-    )?;
-    run(rt, alloc, timed, "maps of ten pairs", &values::map(alloc)?)
+pub(crate) fn bench(rt: &HostRuntime, words: &[String]) -> Result<()> {
+    let timed = has(words, "times");
+    for text in [SIMPLE, INTEGER, BULK_16, BULK_1024, ARRAY_10, MAP] {
+        run(rt, timed, &text)?;
+    }
+    Ok(())
 }

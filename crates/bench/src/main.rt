@@ -9,35 +9,44 @@ mod client;
 mod encode;
 mod scan;
 mod server;
+mod texts;
 
 use anyhow::Result;
 use std::env;
+use std::time::CpuClock;
 
 /// Whether one of the words is this name.
 fn has(words: &[String], name: &str) -> bool {
     words.iter().any(|word| word.as_str() == name)
 }
 
-fn main(rt: HostRuntime) -> Result<()> {
-    let alloc = rt.alloc();
-    let mut words = Vec::new(alloc);
-    for word in env::args(&rt)? {
-        words.push(word)?;
-    }
-    let words = words.as_slice();
+/// How many nanoseconds of processor time this thread has had.
+fn nanos(rt: &HostRuntime) -> Result<u128> {
+    Ok(rt.thread_cpu_time()?.as_nanos())
+}
+
+/// Runs the parts that the words name, or each where they name none.
+fn bench(rt: &HostRuntime, words: &[String]) -> Result<()> {
     let names = ["encode", "scan", "client", "server"];
     let all = !names.iter().any(|name| has(words, name));
-    if all || has(words, "encode") {
-        encode::bench(&rt, alloc, words)?;
-    }
-    if all || has(words, "scan") {
-        scan::bench(&rt, alloc, words)?;
-    }
-    if all || has(words, "client") {
-        client::bench(&rt, alloc, words)?;
-    }
-    if all || has(words, "server") {
-        server::bench(&rt, alloc, words)?;
+    for name in names {
+        if all || has(words, name) {
+            bench_part(rt, name, words)?;
+        }
     }
     Ok(())
+}
+
+fn bench_part(rt: &HostRuntime, name: &str, words: &[String]) -> Result<()> {
+    match name {
+        "encode" => encode::bench(rt, words),
+        "scan" => scan::bench(rt, words),
+        "client" => client::bench(rt, words),
+        _ => server::bench(rt, words),
+    }
+}
+
+fn main(rt: HostRuntime) -> Result<()> {
+    let words: Vec<String> = env::args(&rt)?.collect(rt.alloc())?;
+    bench(&rt, words.as_slice())
 }

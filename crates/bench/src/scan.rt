@@ -8,40 +8,56 @@
 //! strings and nothing else.
 
 mod tally;
-mod texts;
 mod trees;
 
 use self::tally::{Call, Tally, scan_text, step_text};
 use self::trees::decode_text;
+use crate::texts::{ARRAY_3, BULK_16, BULK_1024, BULK_65536, INTEGER, LINE, MAP, SIMPLE, Text};
+use crate::{has, nanos};
 use anyhow::Result;
 use resp_decode::Decoder;
+use resp_scan::event::Fault;
 use resp_scan::scanner::Scanner;
 use resp_value::limits::Limits;
 use resp_value::version::Version;
 use std::alloc::Global;
-use std::time::CpuClock;
-
-/// The least length of a text that is only counted.
-const SHORT: usize = 4_096;
-
-/// The least length of a text that is timed, which a processor's cache holds, as it holds what was
-/// just received.
-const LONG: usize = 262_144;
-
-/// How often such a text is scanned for its time: 32 MiB in all.
-const ROUNDS: usize = 128;
 
 /// The size of the pieces of a text that is measured for its memory.
 const PIECE: usize = 16_384;
 
 /// What is done with each text.
 #[derive(Clone, Copy)]
-enum Task {
-    /// It is read in pieces of several sizes by each call, and counted.
-    Count,
-    /// It is read so often by one call, and timed.
-    Measure { call: Call, rounds: usize },
+struct Task {
+    /// The calls by which it is read.
+    calls: &'static [Call],
+    /// The sizes of the pieces.
+    sizes: &'static [usize],
+    /// The least length of the text.
+    least: usize,
+    /// How often it is read.
+    rounds: usize,
+    /// Whether microseconds are printed, and not events.
+    timed: bool,
 }
+
+/// It is read in pieces of several sizes by each call, and counted.
+const COUNT: Task = Task {
+    calls: &[Call::Step, Call::Scan, Call::Decode],
+    sizes: &[1, 7, 1_000, 4_096, 16_384],
+    least: 4_096,
+    rounds: 1,
+    timed: false,
+};
+
+/// It is read by the loop and timed: a text which a processor's cache holds, as it holds what was
+/// just received, 32 MiB in all.
+const MEASURE: Task = Task {
+    calls: &[Call::Scan],
+    sizes: &[4_096, 16_384],
+    least: 262_144,
+    rounds: 128,
+    timed: true,
+};
 
 /// A scanner and a decoder, of which a call takes one.
 #[derive(Drop)]
@@ -68,6 +84,25 @@ impl Readers {
         Ok(())
     }
 
+    /// Reads a text so often, and answers how many nanoseconds that took.
+    fn read_rounds(
+        &mut self,
+        rt: &HostRuntime,
+        call: Call,
+        task: &Task,
+        text: &[u8],
+        size: usize,
+        tally: &mut Tally,
+    ) -> Result<u128> {
+        let start = nanos(rt)?;
+        for _ in 0..task.rounds {
+            self.read(call, text, size, tally)?;
+        }
+        let end = nanos(rt)?;
+        self.finish()?;
+        Ok(end.saturating_sub(start))
+    }
+
     fn finish(&self) -> Result<()> {
         self.scanner.finish()?;
         self.decoder.finish()?;
@@ -75,51 +110,42 @@ impl Readers {
     }
 }
 
-/// Prints a line of counts, and with them the events.
-fn count(
-    rt: &impl Print,
-    alloc: Global,
+/// Prints a line of what is counted of a text, and with it the events or microseconds of this
+/// thread's processor time.
+fn print_read(
+    rt: &HostRuntime,
+    task: &Task,
     call: Call,
     name: &str,
     text: &[u8],
     size: usize,
 ) -> Result<()> {
-    let mut readers = Readers::new(alloc);
     let mut tally = Tally::new();
-    readers.read(call, text, size, &mut tally)?;
-    readers.finish()?;
-    let events = tally.events();
+    let nanos = read_anew(rt, call, task, text, size, &mut tally)?;
     print_counts(rt, name, size, &tally)?;
-    println!(rt; "{events} events")?;
+    if task.timed {
+        println!(rt; "{} us", nanos / 1_000)?;
+    } else {
+        println!(rt; "{} events", tally.events())?;
+    }
     Ok(())
 }
 
-/// Prints a line of counts, and with them microseconds of this thread's processor time.
-fn measure(
-    rt: &(impl Print + CpuClock),
-    alloc: Global,
+/// Reads a text by new readers, and answers how many nanoseconds that took.
+fn read_anew(
+    rt: &HostRuntime,
     call: Call,
-    rounds: usize,
-    name: &str,
+    task: &Task,
     text: &[u8],
     size: usize,
-) -> Result<()> {
-    let mut readers = Readers::new(alloc);
-    let mut tally = Tally::new();
-    let start = rt.thread_cpu_time()?.as_nanos();
-    for _ in 0..rounds {
-        readers.read(call, text, size, &mut tally)?;
-    }
-    let end = rt.thread_cpu_time()?.as_nanos();
-    readers.finish()?;
-    let micros = end.saturating_sub(start) / 1_000;
-    print_counts(rt, name, size, &tally)?;
-    println!(rt; "{micros} us")?;
-    Ok(())
+    tally: &mut Tally,
+) -> Result<u128> {
+    let mut readers = Readers::new(rt.alloc());
+    readers.read_rounds(rt, call, task, text, size, tally)
 }
 
 /// Prints what both readers count of a text.
-fn print_counts(rt: &impl Print, name: &str, size: usize, tally: &Tally) -> Result<()> {
+fn print_counts(rt: &HostRuntime, name: &str, size: usize, tally: &Tally) -> Result<()> {
     let (replies, values) = (tally.replies, tally.values);
     let (content, sum) = (tally.content, tally.sum);
     print!(rt;
@@ -129,95 +155,69 @@ fn print_counts(rt: &impl Print, name: &str, size: usize, tally: &Tally) -> Resu
 }
 
 /// Reads a text that is made of this one, in pieces of each size.
-fn run(
-    rt: &(impl Print + CpuClock),
-    alloc: Global,
-    task: Task,
-    name: &str,
-    text: &Vec<u8>,
-) -> Result<()> {
-    match task {
-        Task::Measure { call, rounds } => {
-            let all = texts::repeated(alloc, text.as_slice(), LONG)?;
-            for size in [4_096, 16_384] {
-                measure(rt, alloc, call, rounds, name, all.as_slice(), size)?;
-            }
-        }
-        Task::Count => {
-            let all = texts::repeated(alloc, text.as_slice(), SHORT)?;
-            for size in [1, 7, 1_000, 4_096, 16_384] {
-                count(rt, alloc, Call::Step, name, all.as_slice(), size)?;
-                count(rt, alloc, Call::Scan, name, all.as_slice(), size)?;
-                count(rt, alloc, Call::Decode, name, all.as_slice(), size)?;
-            }
+fn run(rt: &HostRuntime, task: &Task, text: &Text) -> Result<()> {
+    let bytes = text.repeated(rt.alloc(), task.least)?;
+    for size in task.sizes {
+        for call in task.calls {
+            print_read(rt, task, *call, text.name, bytes.as_slice(), *size)?;
         }
     }
     Ok(())
 }
 
 /// Decodes one array of a million bulk strings of eight bytes, in pieces of a thousand members.
-fn decode_million(rt: &impl Print, alloc: Global) -> Result<()> {
-    let mut piece = Vec::new(alloc);
+fn decode_million(rt: &HostRuntime) -> Result<()> {
+    let mut piece = Vec::new(rt.alloc());
     for _ in 0..1_000 {
         piece.extend_from_slice(b"$8\r\nxxxxxxxx\r\n")?;
     }
-    let mut decoder = Decoder::new(alloc, Version::Three, &Limits::standard());
     let mut tally = Tally::new();
-    decode_text(&mut decoder, b"*1000000\r\n", PIECE, &mut tally)?;
-    for _ in 0..1_000 {
-        decode_text(&mut decoder, piece.as_slice(), PIECE, &mut tally)?;
-    }
+    decode_array(rt.alloc(), piece.as_slice(), &mut tally)?;
     print_counts(rt, "array of a million bulks", PIECE, &tally)?;
     println!(rt; "one value")?;
     Ok(())
 }
 
-/// What is done.
-enum Asked {
-    Texts(Task),
-    Peak,
+/// Decodes an array of a million members, of which this piece has a thousand.
+fn decode_array(alloc: Global, piece: &[u8], tally: &mut Tally) -> Result<(), Fault> {
+    let mut decoder = Decoder::new(alloc, Version::Three, &Limits::standard());
+    feed_array(&mut decoder, piece, tally)
 }
 
-fn asked_for(words: &[String]) -> Asked {
-    let mut call = Call::Scan;
-    let mut rounds = 0;
-    for word in words {
-        match word.as_str() {
-            "times" => rounds = ROUNDS,
-            "once" => rounds = 1,
-            "steps" => call = Call::Step,
-            "trees" => call = Call::Decode,
-            "peak" => return Asked::Peak,
-            _ => {}
-        }
+fn feed_array(decoder: &mut Decoder, piece: &[u8], tally: &mut Tally) -> Result<(), Fault> {
+    decode_text(decoder, b"*1000000\r\n", PIECE, tally)?;
+    for _ in 0..1_000 {
+        decode_text(decoder, piece, PIECE, tally)?;
     }
-    if rounds == 0 {
-        return Asked::Texts(Task::Count);
+    Ok(())
+}
+
+/// What the words ask to be done with each text.
+fn asked_for(words: &[String]) -> Task {
+    let mut task = MEASURE;
+    if has(words, "once") {
+        task.rounds = 1;
+    } else if !has(words, "times") {
+        return COUNT;
     }
-    Asked::Texts(Task::Measure { call, rounds })
+    if has(words, "steps") {
+        task.calls = &[Call::Step];
+    } else if has(words, "trees") {
+        task.calls = &[Call::Decode];
+    }
+    task
 }
 
 /// Runs it for each text, as the words ask.
-pub(crate) fn bench(rt: &(impl Print + CpuClock), alloc: Global, words: &[String]) -> Result<()> {
-    let task = match asked_for(words) {
-        Asked::Texts(task) => task,
-        Asked::Peak => return decode_million(rt, alloc),
-    };
-    let bulk_16 = texts::bulk(alloc, b"$16\r\n", 16)?;
-    let bulk_1024 = texts::bulk(alloc, b"$1024\r\n", 1_024)?;
-    let bulk_65536 = texts::bulk(alloc, b"$65536\r\n", 65_536)?;
-    run(rt, alloc, task, "simple OK", &texts::simple(alloc)?)?;
-    run(rt, alloc, task, "integers", &texts::integer(alloc)?)?;
-    run(rt, alloc, task, "80-byte lines", &texts::line(alloc)?)?;
-    run(rt, alloc, task, "16-byte bulks", &bulk_16)?;
-    run(rt, alloc, task, "1 KiB bulks", &bulk_1024)?;
-    run(rt, alloc, task, "64 KiB bulks", &bulk_65536)?;
-    run(
-        rt,
-        alloc,
-        task,
-        "arrays of three bulks",
-        &texts::array(alloc)?,
-    )?;
-    run(rt, alloc, task, "maps of ten pairs", &texts::map(alloc)?)
+pub(crate) fn bench(rt: &HostRuntime, words: &[String]) -> Result<()> {
+    if has(words, "peak") {
+        return decode_million(rt);
+    }
+    let task = asked_for(words);
+    for text in [
+        SIMPLE, INTEGER, LINE, BULK_16, BULK_1024, BULK_65536, ARRAY_3, MAP,
+    ] {
+        run(rt, &task, &text)?;
+    }
+    Ok(())
 }

@@ -5,12 +5,12 @@
 //! the same on every run. With the argument `times` a million of each are sent, and microseconds
 //! are printed too; with `once` 10,000 of each.
 
+use crate::{has, nanos};
 use anyhow::Result;
 use resp_server::Hub;
 use resp_value::limits::Limits;
 use std::alloc::{AllocError, Global};
 use std::hash::{BuildHasherDefault, FoldHasher};
-use std::time::CpuClock;
 
 /// How many bytes a session is given at once.
 const PIECE: usize = 16_384;
@@ -32,7 +32,7 @@ enum Kind {
 }
 
 /// What came of what was sent.
-#[derive(Drop)]
+#[derive(Clone, Copy)]
 struct Tally {
     commands: u64,
     replied: u64,
@@ -63,6 +63,17 @@ fn commands(alloc: Global, kind: Kind, count: u64) -> Result<Vec<u8>> {
     Ok(text)
 }
 
+/// Sends a piece, and drops what is replied to it.
+#[inline(always)]
+fn send_piece(hub: &mut BenchHub, piece: &[u8], tally: &mut Tally) -> Result<()> {
+    let handled = hub.bytes(SESSION, piece)?;
+    tally.commands = tally.commands.saturating_add(handled.commands);
+    let waiting = hub.out(SESSION)?.len();
+    tally.replied = tally.replied.saturating_add(waiting as u64);
+    hub.sent(SESSION, waiting)?;
+    Ok(())
+}
+
 /// Sends the text in pieces, and drops what is replied to each.
 fn send(hub: &mut BenchHub, text: &[u8]) -> Result<Tally> {
     let mut tally = Tally {
@@ -70,55 +81,58 @@ fn send(hub: &mut BenchHub, text: &[u8]) -> Result<Tally> {
         replied: 0,
     };
     for piece in text.chunks(PIECE) {
-        let handled = hub.bytes(SESSION, piece)?;
-        tally.commands = tally.commands.saturating_add(handled.commands);
-        let waiting = hub.out(SESSION)?.len();
-        tally.replied = tally.replied.saturating_add(waiting as u64);
-        hub.sent(SESSION, waiting)?;
+        send_piece(hub, piece, &mut tally)?;
     }
     Ok(tally)
 }
 
-/// A hub that holds all keys that may be drawn.
-fn filled(alloc: Global, count: u64) -> Result<BenchHub> {
-    let mut hub = Hub::new(alloc, Limits::standard(), BuildHasherDefault::new());
+/// Sends a SET of each key that may be drawn.
+fn fill(alloc: Global, hub: &mut BenchHub, count: u64) -> Result<()> {
     hub.open()?;
     for key in 0..count.min(KEYS) {
         let set = command(alloc, Kind::Set, key)?;
-        send(&mut hub, set.as_bytes())?;
+        send(hub, set.as_bytes())?;
     }
-    Ok(hub)
+    Ok(())
 }
 
-/// How many commands of each kind the words ask for, and whether they are timed.
-fn asked_for(words: &[String]) -> (u64, bool) {
-    let mut asked = (100, false);
-    for word in words {
-        match word.as_str() {
-            "times" => asked = (1_000_000, true),
-            "once" => asked = (10_000, false),
-            _ => {}
-        }
+/// How many commands of each kind the words ask for.
+fn asked_for(words: &[String]) -> u64 {
+    if has(words, "times") {
+        1_000_000
+    } else if has(words, "once") {
+        10_000
+    } else {
+        100
     }
-    asked
+}
+
+/// Sends all commands of a text, and prints what came of them.
+fn run(rt: &HostRuntime, hub: &mut BenchHub, timed: bool, kind: Kind, text: &[u8]) -> Result<()> {
+    let start = nanos(rt)?;
+    let tally = send(hub, text)?;
+    let nanos = nanos(rt)?.saturating_sub(start);
+    let (commands, replied) = (tally.commands, tally.replied);
+    print!(rt; "{kind:?}: {commands} commands, {replied} bytes replied;")?;
+    if timed {
+        print!(rt; " {} us", nanos / 1_000)?;
+    }
+    println!(rt; "")?;
+    Ok(())
+}
+
+/// Fills a hub, and sends it so many commands of each kind.
+fn run_all(rt: &HostRuntime, hub: &mut BenchHub, count: u64, timed: bool) -> Result<()> {
+    fill(rt.alloc(), hub, count)?;
+    for kind in [Kind::Set, Kind::Get, Kind::Ping] {
+        let text = commands(rt.alloc(), kind, count)?;
+        run(rt, hub, timed, kind, text.as_slice())?;
+    }
+    Ok(())
 }
 
 /// Runs it for each kind of command, as the words ask.
-pub(crate) fn bench(rt: &(impl Print + CpuClock), alloc: Global, words: &[String]) -> Result<()> {
-    let (count, timed) = asked_for(words);
-    let mut hub = filled(alloc, count)?;
-    for kind in [Kind::Set, Kind::Get, Kind::Ping] {
-        let text = commands(alloc, kind, count)?;
-        let start = rt.thread_cpu_time()?.as_nanos();
-        let tally = send(&mut hub, text.as_slice())?;
-        let end = rt.thread_cpu_time()?.as_nanos();
-        let (commands, replied) = (tally.commands, tally.replied);
-        print!(rt; "{kind:?}: {commands} commands, {replied} bytes replied;")?;
-        if timed {
-            let micros = end.saturating_sub(start) / 1_000;
-            print!(rt; " {micros} us")?;
-        }
-        println!(rt; "")?;
-    }
-    Ok(())
+pub(crate) fn bench(rt: &HostRuntime, words: &[String]) -> Result<()> {
+    let mut hub = Hub::new(rt.alloc(), Limits::standard(), BuildHasherDefault::new());
+    run_all(rt, &mut hub, asked_for(words), has(words, "times"))
 }

@@ -17,21 +17,6 @@ fn command(alloc: Global, name: &[u8], key: &[u8]) -> Result<Command> {
     Ok(Command::new(words)?)
 }
 
-/// Prints what is heard in a piece. What the piece leaves unfinished, the client keeps.
-fn print_heard(rt: &impl Print, client: &mut Client, piece: &[u8]) -> Result<()> {
-    let mut rest = piece;
-    for _ in 0..u64::MAX {
-        let heard = client.feed(rest)?;
-        rest = &rest[heard.used..];
-        match &heard.what {
-            What::Reply { number, value } => println!(rt; "reply {number}: {value:?}")?,
-            What::Push(items) => println!(rt; "push: {:?}", items.list())?,
-            _ => break,
-        }
-    }
-    Ok(())
-}
-
 fn main(rt: HostRuntime) -> Result<()> {
     let alloc = rt.alloc();
     let mut client = Client::new(alloc, &Limits::standard());
@@ -41,6 +26,11 @@ fn main(rt: HostRuntime) -> Result<()> {
     println!(rt; "{}", client.out().escape_ascii())?;
     let length = client.out().len();
     client.sent(length);
+    print_replies(&rt, &mut client)
+}
+
+/// Prints what is heard of standard input, up to its end.
+fn print_replies(rt: &HostRuntime, client: &mut Client) -> Result<()> {
     let mut input = rt.stdin();
     let mut piece = [0; PIECE];
     for _ in 0..u64::MAX {
@@ -48,7 +38,22 @@ fn main(rt: HostRuntime) -> Result<()> {
         if count == 0 {
             break;
         }
-        print_heard(&rt, &mut client, &piece[..count])?;
+        print_heard(rt, client, &piece[..count])?;
+    }
+    Ok(())
+}
+
+/// Prints what is heard in a piece. What the piece leaves unfinished, the client keeps.
+fn print_heard(rt: &HostRuntime, client: &mut Client, piece: &[u8]) -> Result<()> {
+    let mut rest = piece;
+    for _ in 0..u64::MAX {
+        let heard = client.feed(rest)?;
+        rest = &rest[heard.used..];
+        match &heard.what {
+            What::Reply { number, value } => println!(rt; "reply {number}: {value:?}")?,
+            What::Push(items) => println!(rt; "push: {:?}", items.list())?,
+            _ => break,
+        }
     }
     Ok(())
 }

@@ -10,7 +10,7 @@ use resp_value::version::Version;
 use resp_wire::ask::ask;
 use resp_wire::{Asked, Request};
 use std::alloc::Global;
-use std::net::{Net, TcpStream};
+use std::net::TcpStream;
 
 /// How many commands the pipeline has.
 const COMMANDS: usize = 10_000;
@@ -74,16 +74,18 @@ fn is_reply(alloc: Global, index: usize, reply: &Value) -> Result<bool> {
     Ok(matches!(reply, Value::Bulk(content) if content.list() == text.as_bytes()))
 }
 
-/// Asks the server on this port, and answers how many replies and pushes came.
-pub(crate) fn ask_server(
-    net: &impl Net<Stream = TcpStream>,
-    alloc: Global,
-    port: u16,
-) -> Result<(usize, usize)> {
+/// The commands of the pipeline.
+fn requests(alloc: Global) -> Result<Vec<Request>> {
     let mut requests = Vec::new(alloc);
     for index in 0..COMMANDS {
         requests.push(request(alloc, index)?)?;
     }
+    Ok(requests)
+}
+
+/// Asks the server on this port, and answers how many replies and pushes came.
+pub(crate) fn ask_server(net: &HostRuntime, alloc: Global, port: u16) -> Result<(usize, usize)> {
+    let requests = requests(alloc)?;
     let stream = TcpStream::connect(net, ("127.0.0.1", port))?;
     stream.set_nodelay(true)?;
     let mut client = Client::new(alloc, &Limits::standard());
@@ -96,19 +98,19 @@ pub(crate) fn ask_server(
         &mut heard,
         TURNS,
     )?;
-    check(alloc, &heard)?;
-    Ok((heard.replies.len(), heard.pushes.len()))
+    check(alloc, &heard)
 }
 
-/// Each command has its reply.
-fn check(alloc: Global, heard: &Asked) -> Result<()> {
-    if heard.replies.len() != COMMANDS {
-        bail!("{} replies to {COMMANDS} commands", heard.replies.len());
+/// How many replies and pushes came, where each command has its reply.
+fn check(alloc: Global, heard: &Asked) -> Result<(usize, usize)> {
+    let count = heard.replies.len();
+    if count != COMMANDS {
+        bail!("{count} replies to {COMMANDS} commands");
     }
     for (index, (number, reply)) in heard.replies.iter().enumerate() {
         if *number != index as u64 + 1 || !is_reply(alloc, index, reply)? {
             bail!("reply {number} is another command's: {reply:?}");
         }
     }
-    Ok(())
+    Ok((count, heard.pushes.len()))
 }

@@ -10,7 +10,7 @@ mod asking;
 mod serving;
 
 use anyhow::Result;
-use std::env::{self, Env};
+use std::env;
 use std::hash::RandomState;
 
 /// What the words of the command line ask for.
@@ -20,7 +20,7 @@ enum Task {
     Serve(u16),
 }
 
-fn asked_for(rt: &(impl Env + Alloc)) -> Result<Task> {
+fn asked_for(rt: &HostRuntime) -> Result<Task> {
     let mut words = env::args(rt)?.skip(1);
     let (Some(name), Some(port)) = (words.next(), words.next()) else {
         return Ok(Task::Usage);

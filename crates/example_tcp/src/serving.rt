@@ -6,18 +6,18 @@ use resp_value::device::Device;
 use resp_value::limits::Limits;
 use resp_wire::serve::serve;
 use std::alloc::Global;
-use std::hash::BuildHasher;
-use std::net::{Net, TcpListener, TcpStream};
+use std::hash::RandomState;
+use std::net::TcpListener;
 
 /// How many reads and writes are allowed for a connection.
 const TURNS: u64 = 4_000_000_000;
 
 /// Serves each connection to this port, the next one once the last has ended. A client that goes
 /// away in the midst of its commands ends its own connection alone.
-pub(crate) fn serve_clients<S: BuildHasher + Drop>(
-    net: &impl Net<Listener = TcpListener, Stream = TcpStream>,
+pub(crate) fn serve_clients(
+    net: &HostRuntime,
     alloc: Global,
-    hasher: S,
+    hasher: RandomState,
     port: u16,
 ) -> Result<()> {
     let listener = TcpListener::bind(net, ("127.0.0.1", port))?;

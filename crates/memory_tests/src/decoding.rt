@@ -2,92 +2,119 @@
 
 use crate::encoding::{SAMPLE, is_written_so};
 use crate::outcome::Outcome;
-use resp_decode::{Decoder, decode_all};
+use resp_decode::{AllFault, Decoder, decode_all};
 use resp_scan::event::Fault;
 use resp_value::cause::Cause;
 use resp_value::limits::Limits;
 use resp_value::value::Value;
 use resp_value::version::Version;
-use std::alloc::{AllocError, Global};
+use std::alloc::Global;
+
+/// The value that ends with a piece.
+fn feed(decoder: &mut Decoder, piece: &[u8]) -> Result<Option<Value>, Fault> {
+    Ok(decoder.feed(piece)?.value)
+}
+
+/// Whether this is answered to a further piece.
+fn refuses(decoder: &mut Decoder, fault: Fault) -> bool {
+    match feed(decoder, b":7\r\n") {
+        Ok(_) => false,
+        Err(again) => again == fault,
+    }
+}
+
+/// Whether this is answered for good, and nothing is held.
+fn is_final(decoder: &mut Decoder, fault: Fault) -> bool {
+    refuses(decoder, fault)
+        && decoder.finish() == Err(fault)
+        && decoder.taken() == fault.at
+        && decoder.weight() == 0
+}
 
 /// The fault is OutOfMemory, within the `given` bytes, and is answered for good.
 fn refused(decoder: &mut Decoder, fault: Fault, given: usize) -> Outcome {
-    Outcome::refused(
-        fault.cause == Cause::OutOfMemory
-            && fault.at <= given as u64
-            && decoder.feed(b":7\r\n").err() == Some(fault)
-            && decoder.finish() == Err(fault)
-            && decoder.taken() == fault.at
-            && decoder.weight() == 0,
-    )
+    let is_refusal = fault.cause == Cause::OutOfMemory && fault.at <= given as u64;
+    Outcome::refused(is_refusal && is_final(decoder, fault))
+}
+
+/// The value that ends with a piece, where the decoder then holds no more than it took.
+fn feed_piece(decoder: &mut Decoder, piece: &[u8], given: usize) -> Result<Option<Value>, Outcome> {
+    match feed(decoder, piece) {
+        Ok(value) if decoder.weight() <= decoder.taken() => Ok(value),
+        Ok(_) => Err(Outcome::Wrong),
+        Err(fault) => Err(refused(decoder, fault, given)),
+    }
+}
+
+/// The value that ends with the last of the pieces of `size` bytes.
+fn feed_all(decoder: &mut Decoder, text: &[u8], size: usize) -> Result<Option<Value>, Outcome> {
+    let mut given: usize = 0;
+    let mut last = None;
+    for piece in text.chunks(size.max(1)) {
+        given = given.saturating_add(piece.len());
+        last = feed_piece(decoder, piece, given)?;
+    }
+    Ok(last)
 }
 
 /// The text is one value, in pieces of `size` bytes, and this is its canonical text.
-fn of_pieces(
-    alloc: Global,
-    text: &[u8],
-    size: usize,
-    canonical: &[u8],
-) -> Result<Outcome, AllocError> {
+fn of_pieces(alloc: Global, text: &[u8], size: usize, canonical: &[u8]) -> Outcome {
     let mut decoder = Decoder::new(alloc, Version::Three, &Limits::standard());
-    let mut given: usize = 0;
-    let mut whole = None;
-    for piece in text.chunks(size.max(1)) {
-        given = given.saturating_add(piece.len());
-        match decoder.feed(piece) {
-            Ok(fed) => whole = fed.value,
-            Err(fault) => return Ok(refused(&mut decoder, fault, given)),
-        }
-        if decoder.weight() > decoder.taken() {
-            return Ok(Outcome::Wrong);
-        }
-    }
-    match whole {
-        Some(value) => is_written_so(alloc, &value, canonical),
-        None => Ok(Outcome::Wrong),
+    match feed_all(&mut decoder, text, size) {
+        Ok(Some(value)) => is_written_so(alloc, &value, canonical),
+        Ok(None) => Outcome::Wrong,
+        Err(outcome) => outcome,
     }
 }
 
 pub(crate) fn of_one_piece(alloc: Global) -> Outcome {
-    Outcome::from(of_pieces(alloc, SAMPLE, SAMPLE.len(), SAMPLE))
+    of_pieces(alloc, SAMPLE, SAMPLE.len(), SAMPLE)
 }
 
 pub(crate) fn of_single_bytes(alloc: Global) -> Outcome {
-    Outcome::from(of_pieces(alloc, SAMPLE, 1, SAMPLE))
+    of_pieces(alloc, SAMPLE, 1, SAMPLE)
 }
 
 pub(crate) fn of_streamed_forms(alloc: Global) -> Outcome {
     let text = b"*?\r\n$?\r\n;2\r\nab\r\n;1\r\nc\r\n;0\r\n%?\r\n+k\r\n:1\r\n.\r\n.\r\n";
     let canonical = b"*2\r\n$3\r\nabc\r\n%1\r\n+k\r\n:1\r\n";
-    Outcome::from(of_pieces(alloc, text, 2, canonical))
+    of_pieces(alloc, text, 2, canonical)
+}
+
+/// Whether a piece is taken, and the value goes on.
+fn goes_on(decoder: &mut Decoder, piece: &[u8]) -> bool {
+    match feed(decoder, piece) {
+        Ok(None) => true,
+        _ => false,
+    }
+}
+
+/// Whether these bytes, one by one, end a value and no earlier one, which takes no memory.
+fn reads(decoder: &mut Decoder, text: &[u8], value: &Value) -> bool {
+    for byte in text {
+        if !goes_on(decoder, &[*byte]) {
+            return false;
+        }
+    }
+    match feed(decoder, b"\n") {
+        Ok(Some(read)) => read == *value,
+        _ => false,
+    }
 }
 
 /// Truth values, integers and nulls of one line take no memory: no refusal may reach them.
 pub(crate) fn of_scalars(alloc: Global) -> Outcome {
     let mut decoder = Decoder::new(alloc, Version::Three, &Limits::standard());
-    let mut truths: u64 = 0;
-    let mut sum: i64 = 0;
-    let mut nulls: u64 = 0;
-    for byte in b"#t\r\n:7\r\n_\r\n".chunks(1) {
-        let Ok(fed) = decoder.feed(byte) else {
-            return Outcome::Wrong;
-        };
-        match fed.value {
-            Some(Value::Bool(true)) => truths = truths.saturating_add(1),
-            Some(Value::Int(number)) => sum = sum.saturating_add(number),
-            Some(Value::Null) => nulls = nulls.saturating_add(1),
-            Some(_) => return Outcome::Wrong,
-            None => {}
-        }
-    }
-    Outcome::of(truths == 1 && sum == 7 && nulls == 1)
+    let is_truth = reads(&mut decoder, b"#t\r", &Value::Bool(true));
+    let is_number = reads(&mut decoder, b":7\r", &Value::Int(7));
+    let is_null = reads(&mut decoder, b"_\r", &Value::Null);
+    Outcome::of(is_truth && is_number && is_null)
 }
 
 /// Whether the head is taken, and the value goes on.
 fn takes_head(alloc: Global, limits: &Limits, head: &[u8]) -> bool {
     let mut decoder = Decoder::new(alloc, Version::Three, limits);
-    let goes_on = decoder.feed(head).is_ok_and(|fed| fed.value.is_none());
-    goes_on && decoder.taken() == head.len() as u64
+    goes_on(&mut decoder, head) && decoder.taken() == head.len() as u64
 }
 
 /// A number in a head takes no memory for what hasn't come: no refusal may reach them.
@@ -100,17 +127,21 @@ pub(crate) fn of_heads(alloc: Global) -> Outcome {
     )
 }
 
-fn all_of(alloc: Global, text: &[u8]) -> Result<Outcome, AllocError> {
-    let values = match decode_all(alloc, Version::Three, &Limits::standard(), text) {
-        Ok(values) => values,
-        Err(refusal) => return Ok(Outcome::refused(refusal.fault.cause == Cause::OutOfMemory)),
-    };
-    match values.as_slice() {
-        [Value::Int(7), simple, Value::Null] => is_written_so(alloc, simple, b"+OK\r\n"),
-        _ => Ok(Outcome::Wrong),
-    }
+/// The values that a text of version 3 spells.
+pub(crate) fn values(alloc: Global, text: &[u8]) -> Result<Vec<Value>, AllFault> {
+    decode_all(alloc, Version::Three, &Limits::standard(), text)
 }
 
 pub(crate) fn of_all(alloc: Global) -> Outcome {
-    Outcome::from(all_of(alloc, b":7\r\n+OK\r\n$-1\r\n"))
+    match values(alloc, b":7\r\n+OK\r\n$-1\r\n") {
+        Ok(values) => are_read(alloc, values.as_slice()),
+        Err(refusal) => Outcome::refused(refusal.fault.cause == Cause::OutOfMemory),
+    }
+}
+
+fn are_read(alloc: Global, values: &[Value]) -> Outcome {
+    match values {
+        [Value::Int(7), simple, Value::Null] => is_written_so(alloc, simple, b"+OK\r\n"),
+        _ => Outcome::Wrong,
+    }
 }

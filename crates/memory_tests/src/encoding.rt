@@ -1,14 +1,14 @@
 //! Parts on values and on the encoder.
 
+use crate::decoding::values;
+use crate::given::{command, words};
 use crate::outcome::Outcome;
 use bytes::BytesMut;
 use resp_encode::{EncodeError, EncodeToError, encode, encode_push, encode_to, encode_words};
 use resp_value::command::Command;
-use resp_value::content::Content;
 use resp_value::device::MemorySink;
 use resp_value::limits::Limits;
-use resp_value::line::Line;
-use resp_value::value::{Members, PairList, Value};
+use resp_value::value::Value;
 use resp_value::version::Version;
 use std::alloc::{AllocError, Global};
 
@@ -34,110 +34,99 @@ fn appended(answer: Result<(), EncodeError>, out: &BytesMut, text: &[u8]) -> Out
 }
 
 /// Whether this is the canonical text of the value in version 3.
-pub(crate) fn is_written_so(
-    alloc: Global,
-    value: &Value,
-    text: &[u8],
-) -> Result<Outcome, AllocError> {
-    let mut out = standing(alloc)?;
+pub(crate) fn is_written_so(alloc: Global, value: &Value, text: &[u8]) -> Outcome {
+    let Ok(mut out) = standing(alloc) else {
+        return Outcome::OutOfMemory;
+    };
     let answer = encode(Version::Three, &Limits::standard(), value, &mut out);
-    Ok(appended(answer, &out, text))
-}
-
-fn bulk(alloc: Global, bytes: &[u8]) -> Result<Value, AllocError> {
-    let copy = Vec::from_slice(alloc, bytes)?;
-    Ok(Value::Bulk(Content::new(copy)))
+    appended(answer, &out, text)
 }
 
 /// A map of one pair, whose value is an array of two.
-fn sample(alloc: Global) -> Result<Value, AllocError> {
-    let members = vec![in alloc; Value::Int(-7), bulk(alloc, b"second")?]?;
-    let array = Value::Array(Members::new(members));
-    let pairs = vec![in alloc; (bulk(alloc, b"key")?, array)]?;
-    Ok(Value::Map(PairList::new(pairs)))
-}
-
 const SAMPLE_MAP: &[u8] = b"%1\r\n$3\r\nkey\r\n*2\r\n:-7\r\n$6\r\nsecond\r\n";
 
-fn cloned(alloc: Global) -> Result<Outcome, AllocError> {
-    let copy = sample(alloc)?.try_clone(alloc)?;
-    is_written_so(alloc, &copy, SAMPLE_MAP)
+fn sample(alloc: Global) -> Option<Value> {
+    values(alloc, SAMPLE_MAP).ok()?.pop()
+}
+
+fn is_copied(alloc: Global, value: &Value) -> Outcome {
+    match value.try_clone(alloc) {
+        Ok(copy) => is_written_so(alloc, &copy, SAMPLE_MAP),
+        Err(AllocError) => Outcome::OutOfMemory,
+    }
 }
 
 pub(crate) fn of_clone(alloc: Global) -> Outcome {
-    Outcome::from(cloned(alloc))
-}
-
-fn encoded(alloc: Global) -> Result<Outcome, AllocError> {
-    let value = sample(alloc)?;
-    is_written_so(alloc, &value, SAMPLE_MAP)
+    match sample(alloc) {
+        Some(value) => is_copied(alloc, &value),
+        None => Outcome::OutOfMemory,
+    }
 }
 
 pub(crate) fn of_value(alloc: Global) -> Outcome {
-    Outcome::from(encoded(alloc))
+    match sample(alloc) {
+        Some(value) => is_written_so(alloc, &value, SAMPLE_MAP),
+        None => Outcome::OutOfMemory,
+    }
 }
 
-fn pushed(alloc: Global) -> Result<Outcome, AllocError> {
-    let items = vec![in alloc; bulk(alloc, b"message")?, Value::Int(1)]?;
-    let mut out = standing(alloc)?;
-    let answer = encode_push(&Limits::standard(), items.as_slice(), &mut out);
-    Ok(appended(answer, &out, b">2\r\n$7\r\nmessage\r\n:1\r\n"))
+fn is_pushed(alloc: Global, items: &[Value]) -> Outcome {
+    let Ok(mut out) = standing(alloc) else {
+        return Outcome::OutOfMemory;
+    };
+    let answer = encode_push(&Limits::standard(), items, &mut out);
+    appended(answer, &out, b">2\r\n$7\r\nmessage\r\n:1\r\n")
 }
 
 pub(crate) fn of_push(alloc: Global) -> Outcome {
-    Outcome::from(pushed(alloc))
+    match values(alloc, b"$7\r\nmessage\r\n:1\r\n") {
+        Ok(items) => is_pushed(alloc, items.as_slice()),
+        Err(_) => Outcome::OutOfMemory,
+    }
 }
 
-fn get_a(alloc: Global) -> Result<Vec<Vec<u8>>, AllocError> {
-    let words = vec![in alloc;
-        Vec::from_slice(alloc, b"GET")?,
-        Vec::from_slice(alloc, b"a")?,
-    ]?;
-    Ok(words)
-}
-
-fn queued(alloc: Global) -> Result<Outcome, AllocError> {
-    let words = get_a(alloc)?;
-    let mut out = standing(alloc)?;
-    let answer = encode_words(&Limits::standard(), words.as_slice(), &mut out);
-    Ok(appended(answer, &out, b"*2\r\n$3\r\nGET\r\n$1\r\na\r\n"))
+fn are_written(alloc: Global, words: &[Vec<u8>]) -> Outcome {
+    let Ok(mut out) = standing(alloc) else {
+        return Outcome::OutOfMemory;
+    };
+    let answer = encode_words(&Limits::standard(), words, &mut out);
+    appended(answer, &out, b"*2\r\n$3\r\nGET\r\n$1\r\na\r\n")
 }
 
 pub(crate) fn of_words(alloc: Global) -> Outcome {
-    Outcome::from(queued(alloc))
+    match words(alloc, &[b"GET", b"a"]) {
+        Ok(words) => are_written(alloc, words.as_slice()),
+        Err(AllocError) => Outcome::OutOfMemory,
+    }
 }
 
-fn written(alloc: Global) -> Result<Outcome, AllocError> {
-    let value = sample(alloc)?;
-    let mut sink = MemorySink::new(alloc, 5, 4_096)?;
-    let answer = encode_to(
-        alloc,
-        Version::Three,
-        &Limits::standard(),
-        &value,
-        &mut sink,
-    );
-    Ok(match answer {
+fn is_sent(alloc: Global, value: &Value, sink: &mut MemorySink) -> Outcome {
+    match encode_to(alloc, Version::Three, &Limits::standard(), value, sink) {
         Ok(_) => Outcome::of(sink.bytes() == SAMPLE_MAP),
         Err(EncodeToError::Refused(EncodeError::OutOfMemory)) => {
             Outcome::refused(sink.bytes().is_empty())
         }
         Err(_) => Outcome::Wrong,
-    })
+    }
 }
 
 pub(crate) fn to_writer(alloc: Global) -> Outcome {
-    Outcome::from(written(alloc))
+    match (sample(alloc), MemorySink::new(alloc, 5, 4_096)) {
+        (Some(value), Ok(mut sink)) => is_sent(alloc, &value, &mut sink),
+        _ => Outcome::OutOfMemory,
+    }
 }
 
-fn copied(alloc: Global) -> Result<Outcome, AllocError> {
-    let Ok(command) = Command::new(get_a(alloc)?) else {
-        return Ok(Outcome::Wrong);
-    };
-    let copy = command.try_clone(alloc)?;
-    Ok(Outcome::of(copy.words() == command.words()))
+fn is_same(alloc: Global, command: &Command) -> Outcome {
+    match command.try_clone(alloc) {
+        Ok(copy) => Outcome::of(copy.words() == command.words()),
+        Err(AllocError) => Outcome::OutOfMemory,
+    }
 }
 
 pub(crate) fn of_command(alloc: Global) -> Outcome {
-    Outcome::from(copied(alloc))
+    match command(alloc, &[b"GET", b"a"]) {
+        Ok(command) => is_same(alloc, &command),
+        Err(AllocError) => Outcome::OutOfMemory,
+    }
 }

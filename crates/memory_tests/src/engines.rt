@@ -1,9 +1,9 @@
 //! Parts on the two ends of a connection.
 
+use crate::given::command;
 use crate::outcome::Outcome;
 use resp_client::Client;
 use resp_server::Hub;
-use resp_value::command::Command;
 use resp_value::device::{MemorySink, MemorySource};
 use resp_value::limits::Limits;
 use resp_wire::ask::ask;
@@ -19,85 +19,117 @@ const TWO_PINGS: &[u8] = b"*1\r\n$4\r\nPING\r\n*1\r\n$4\r\nPING\r\n";
 /// SET, 27 bytes, and GET.
 const SET_GET: &[u8] = b"*3\r\n$3\r\nSET\r\n$1\r\na\r\n$1\r\n1\r\n*2\r\n$3\r\nGET\r\n$1\r\na\r\n";
 
-fn ping(alloc: Global) -> Result<Request, AllocError> {
-    let words = vec![in alloc; Vec::from_slice(alloc, b"PING")?]?;
-    Command::new(words)
-        .map(Request::Command)
-        .map_err(|_| AllocError)
-}
-
 /// Whether the numbers of the replies are the first ones.
 fn are_first(heard: &Asked) -> bool {
     let mut count: u64 = 0;
-    for reply in &heard.replies {
+    for (number, _) in &heard.replies {
+        let number = *number;
         count = count.saturating_add(1);
-        if reply.0 != count {
+        if number != count {
             return false;
         }
     }
     true
 }
 
-fn asks(alloc: Global) -> Result<Outcome, AllocError> {
-    let mut client = Client::new(alloc, &Limits::standard());
-    let mut heard = Asked::new(alloc);
-    let requests = [ping(alloc)?, ping(alloc)?];
+/// Whether whole requests wait and none was written, or all were.
+fn are_whole(waiting: &[u8], written: &[u8]) -> bool {
+    if waiting.is_empty() {
+        written.is_empty() || written == TWO_PINGS
+    } else {
+        written.is_empty() && (waiting == PING || waiting == TWO_PINGS)
+    }
+}
+
+/// Asks two PINGs.
+fn ask_all(
+    client: &mut Client,
+    requests: &[Request],
+    writer: &mut MemorySink,
+    heard: &mut Asked,
+) -> Result<(), AskError> {
     let mut reader = MemorySource::new(b"$5\r\nhello\r\n+PONG\r\n", 4_096);
-    let mut writer = MemorySink::new(alloc, 4_096, 4_096)?;
-    let answer = ask(
-        &mut reader,
-        &mut writer,
-        &mut client,
-        &requests,
-        &mut heard,
-        100,
-    );
-    let written = writer.bytes();
-    // Whole requests wait and none was written, or all were.
-    let sends = match client.out() {
-        b"" => written.is_empty() || written == TWO_PINGS,
-        out => written.is_empty() && (out == PING || out == TWO_PINGS),
-    };
-    Ok(match answer {
-        Ok(()) => Outcome::of(written == TWO_PINGS && heard.replies.len() == 2),
-        Err(AskError::OutOfMemory) => Outcome::refused(sends && are_first(&heard)),
-        Err(_) => Outcome::Wrong,
-    })
+    ask(&mut reader, writer, client, requests, heard, 100)
 }
 
 /// When out of memory, whole requests wait or all were written, and the first replies are
 /// heard.
-pub(crate) fn of_ask(alloc: Global) -> Outcome {
-    Outcome::from(asks(alloc))
+fn asks(
+    client: &mut Client,
+    requests: &[Request],
+    writer: &mut MemorySink,
+    heard: &mut Asked,
+) -> Outcome {
+    match ask_all(client, requests, writer, heard) {
+        Ok(()) => Outcome::of(writer.bytes() == TWO_PINGS && heard.replies.len() == 2),
+        Err(AskError::OutOfMemory) => {
+            Outcome::refused(are_whole(client.out(), writer.bytes()) && are_first(heard))
+        }
+        Err(_) => Outcome::Wrong,
+    }
 }
 
-fn serves(alloc: Global) -> Result<Outcome, AllocError> {
-    let mut hub: Hub<BuildHasherDefault<FoldHasher>> = Hub::new(
-        alloc,
-        Limits::standard(),
-        BuildHasherDefault::new(),
-    );
-    let Ok(id) = hub.open() else {
-        return Err(AllocError);
+/// This many PINGs.
+fn pings(alloc: Global, count: usize) -> Result<Vec<Request>, AllocError> {
+    let mut requests = Vec::new(alloc);
+    for _ in 0..count {
+        requests.push(Request::Command(command(alloc, &[b"PING"])?))?;
+    }
+    Ok(requests)
+}
+
+pub(crate) fn of_ask(alloc: Global) -> Outcome {
+    let mut client = Client::new(alloc, &Limits::standard());
+    let mut heard = Asked::new(alloc);
+    let Ok(mut writer) = MemorySink::new(alloc, 4_096, 4_096) else {
+        return Outcome::OutOfMemory;
     };
+    match pings(alloc, 2) {
+        Ok(requests) => asks(&mut client, requests.as_slice(), &mut writer, &mut heard),
+        Err(AllocError) => Outcome::OutOfMemory,
+    }
+}
+
+type TestHub = Hub<BuildHasherDefault<FoldHasher>>;
+
+/// Serves SET and GET to a session.
+fn serve_all(hub: &mut TestHub, id: u64, writer: &mut MemorySink) -> Result<Served, ServeError> {
     let mut reader = MemorySource::new(SET_GET, 27);
-    let mut writer = MemorySink::new(alloc, 4_096, 4_096)?;
-    let answer = serve(&mut reader, &mut writer, &mut hub, id, 100);
-    let is_set = hub.get(b"a") == Some(b"1".as_slice());
-    let written = writer.bytes();
-    Ok(match answer {
-        Ok(Served::Ended) => Outcome::of(is_set && written == b"+OK\r\n$1\r\n1\r\n".as_slice()),
-        Err(ServeError::OutOfMemory) => Outcome::refused(
-            hub.out(id) == Ok(b"".as_slice())
-                && hub.is_closing(id) == Ok(true)
-                && written == if is_set { b"+OK\r\n".as_slice() } else { b"" },
-        ),
-        _ => Outcome::Wrong,
-    })
+    serve(&mut reader, writer, hub, id, 100)
+}
+
+/// Whether nothing waits to be sent and the session is closing.
+fn is_ended(hub: &TestHub, id: u64) -> bool {
+    hub.out(id) == Ok(b"".as_slice()) && hub.is_closing(id) == Ok(true)
+}
+
+fn is_set(hub: &TestHub) -> bool {
+    hub.get(b"a") == Some(b"1".as_slice())
 }
 
 /// When out of memory, the commands before are run and their replies written, nothing of the
 /// refused one is done, and the session is closing.
+fn serves(hub: &mut TestHub, id: u64, writer: &mut MemorySink) -> Outcome {
+    let answer = serve_all(hub, id, writer);
+    let is_set = is_set(hub);
+    let written = writer.bytes();
+    match answer {
+        Ok(Served::Ended) => Outcome::of(is_set && written == b"+OK\r\n$1\r\n1\r\n".as_slice()),
+        Err(ServeError::OutOfMemory) => {
+            let replies = if is_set { b"+OK\r\n".as_slice() } else { b"" };
+            Outcome::refused(written == replies && is_ended(hub, id))
+        }
+        _ => Outcome::Wrong,
+    }
+}
+
 pub(crate) fn of_serve(alloc: Global) -> Outcome {
-    Outcome::from(serves(alloc))
+    let mut hub: TestHub = Hub::new(alloc, Limits::standard(), BuildHasherDefault::new());
+    let Ok(mut writer) = MemorySink::new(alloc, 4_096, 4_096) else {
+        return Outcome::OutOfMemory;
+    };
+    match hub.open() {
+        Ok(id) => serves(&mut hub, id, &mut writer),
+        Err(_) => Outcome::OutOfMemory,
+    }
 }

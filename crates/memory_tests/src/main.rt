@@ -8,6 +8,7 @@
 mod decoding;
 mod encoding;
 mod engines;
+mod given;
 mod outcome;
 mod pipelining;
 mod serving;
@@ -15,7 +16,7 @@ mod worlds;
 
 use anyhow::Result;
 use outcome::Outcome;
-use std::alloc::Global;
+use std::alloc::{AllocError, Global};
 use std::io::Read;
 
 /// The number of bytes that stand in the input.
@@ -33,48 +34,88 @@ fn count_input(input: &mut impl Read) -> Result<usize> {
 }
 
 /// Makes so many allocations.
-fn allocate(alloc: Global, count: usize) -> Result<()> {
+fn allocate(alloc: Global, count: usize) -> Result<(), AllocError> {
     for _ in 0..count {
-        let _byte = Vec::from_slice(alloc, b"x")?;
+        allocate_byte(alloc)?;
     }
     Ok(())
 }
 
-fn print(rt: &impl Print, name: &str, outcome: Outcome) -> Result<()> {
-    let word = outcome.word();
-    println!(rt; "{name}: {word}")?;
+fn allocate_byte(alloc: Global) -> Result<(), AllocError> {
+    let byte = Vec::from_slice(alloc, b"x")?;
+    drop(byte);
     Ok(())
+}
+
+/// A part's name, and what came of it.
+type Part = (&'static str, Outcome);
+
+fn print(rt: &impl Print, parts: &[Part]) -> Result<()> {
+    for (name, outcome) in parts {
+        let word = outcome.word();
+        println!(rt; "{name}: {word}")?;
+    }
+    Ok(())
+}
+
+fn of_decoder(alloc: Global) -> [Part; 6] {
+    [
+        ("decode a piece", decoding::of_one_piece(alloc)),
+        ("decode bytes", decoding::of_single_bytes(alloc)),
+        ("decode streamed", decoding::of_streamed_forms(alloc)),
+        ("decode scalars", decoding::of_scalars(alloc)),
+        ("decode heads", decoding::of_heads(alloc)),
+        ("decode_all", decoding::of_all(alloc)),
+    ]
+}
+
+fn of_encoder(alloc: Global) -> [Part; 6] {
+    [
+        ("try_clone", encoding::of_clone(alloc)),
+        ("encode", encoding::of_value(alloc)),
+        ("encode_push", encoding::of_push(alloc)),
+        ("encode_words", encoding::of_words(alloc)),
+        ("encode_to", encoding::to_writer(alloc)),
+        ("command", encoding::of_command(alloc)),
+    ]
+}
+
+fn of_client(alloc: Global) -> [Part; 5] {
+    [
+        ("send", pipelining::of_send(alloc)),
+        ("hello", pipelining::of_hello(alloc)),
+        ("client feed", pipelining::of_feed(alloc)),
+        ("client feed_with", pipelining::of_feed_with(alloc)),
+        ("client integer", pipelining::of_integer(alloc)),
+    ]
+}
+
+fn of_hub(alloc: Global) -> [Part; 7] {
+    [
+        ("hub open", serving::of_open(alloc)),
+        ("hub set", serving::of_set(alloc)),
+        ("hub get", serving::of_get(alloc)),
+        ("hub del", serving::of_del(alloc)),
+        ("hub hello", serving::of_hello(alloc)),
+        ("hub protocol error", serving::of_protocol_error(alloc)),
+        ("hub push", serving::of_push(alloc)),
+    ]
+}
+
+fn of_wire(alloc: Global) -> [Part; 3] {
+    [
+        ("ask", engines::of_ask(alloc)),
+        ("serve", engines::of_serve(alloc)),
+        ("world", worlds::of_run(alloc)),
+    ]
 }
 
 fn main(rt: HostRuntime) -> Result<()> {
     let alloc = rt.alloc();
     allocate(alloc, count_input(&mut rt.stdin())?)?;
-
-    print(&rt, "decode a piece", decoding::of_one_piece(alloc))?;
-    print(&rt, "decode bytes", decoding::of_single_bytes(alloc))?;
-    print(&rt, "decode streamed", decoding::of_streamed_forms(alloc))?;
-    print(&rt, "decode scalars", decoding::of_scalars(alloc))?;
-    print(&rt, "decode heads", decoding::of_heads(alloc))?;
-    print(&rt, "decode_all", decoding::of_all(alloc))?;
-    print(&rt, "try_clone", encoding::of_clone(alloc))?;
-    print(&rt, "encode", encoding::of_value(alloc))?;
-    print(&rt, "encode_push", encoding::of_push(alloc))?;
-    print(&rt, "encode_words", encoding::of_words(alloc))?;
-    print(&rt, "encode_to", encoding::to_writer(alloc))?;
-    print(&rt, "command", encoding::of_command(alloc))?;
-    print(&rt, "send", pipelining::of_send(alloc))?;
-    print(&rt, "hello", pipelining::of_hello(alloc))?;
-    print(&rt, "client feed", pipelining::of_feed(alloc))?;
-    print(&rt, "client feed_with", pipelining::of_feed_with(alloc))?;
-    print(&rt, "client integer", pipelining::of_integer(alloc))?;
-    print(&rt, "hub open", serving::of_open(alloc))?;
-    print(&rt, "hub set", serving::of_set(alloc))?;
-    print(&rt, "hub get", serving::of_get(alloc))?;
-    print(&rt, "hub del", serving::of_del(alloc))?;
-    print(&rt, "hub hello", serving::of_hello(alloc))?;
-    print(&rt, "hub protocol error", serving::of_protocol_error(alloc))?;
-    print(&rt, "hub push", serving::of_push(alloc))?;
-    print(&rt, "ask", engines::of_ask(alloc))?;
-    print(&rt, "serve", engines::of_serve(alloc))?;
-    print(&rt, "world", worlds::of_run(alloc))
+    print(&rt, &of_decoder(alloc))?;
+    print(&rt, &of_encoder(alloc))?;
+    print(&rt, &of_client(alloc))?;
+    print(&rt, &of_hub(alloc))?;
+    print(&rt, &of_wire(alloc))
 }

@@ -1,8 +1,6 @@
 //! What came of a part.
 
-use std::alloc::AllocError;
-
-#[derive(Clone, Copy, Debug, PartialEq, Eq)]
+#[derive(Clone, Copy)]
 pub(crate) enum Outcome {
     Whole,
     OutOfMemory,
@@ -16,6 +14,10 @@ impl Outcome {
             Outcome::OutOfMemory => "out of memory",
             Outcome::Wrong => "wrong",
         }
+    }
+
+    pub(crate) fn is_whole(self) -> bool {
+        matches!(self, Outcome::Whole)
     }
 
     /// Whole where this holds, and wrong where it doesn't.
@@ -34,10 +36,5 @@ impl Outcome {
         } else {
             Outcome::Wrong
         }
-    }
-
-    /// That of a part, which was out of memory where that was refused outside the call it is about.
-    pub(crate) fn from(part: Result<Outcome, AllocError>) -> Outcome {
-        part.unwrap_or(Outcome::OutOfMemory)
     }
 }

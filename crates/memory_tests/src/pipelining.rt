@@ -1,14 +1,15 @@
 //! Parts on the client.
 
 use crate::encoding::is_written_so;
+use crate::given::command;
 use crate::outcome::Outcome;
-use resp_client::{Client, Fault, PushList, PushSink, SendError, What};
+use resp_client::{Client, Fault, Heard, PushList, PushSink, SendError, What};
 use resp_value::cause::Cause;
 use resp_value::command::Command;
 use resp_value::limits::Limits;
 use resp_value::value::{Members, Value};
 use resp_value::version::Version;
-use std::alloc::{AllocError, Global};
+use std::alloc::Global;
 
 const PING: &[u8] = b"*1\r\n$4\r\nPING\r\n";
 
@@ -23,62 +24,66 @@ fn new_client(alloc: Global) -> Client {
     Client::new(alloc, &Limits::standard())
 }
 
+/// Asks a command, or HELLO where there is none.
+fn send(client: &mut Client, command: Option<&Command>) -> Result<u64, SendError> {
+    match command {
+        Some(command) => client.send(command),
+        None => client.hello(Some(Version::Three)),
+    }
+}
+
 /// Whether these bytes and so many commands wait.
 fn waits(client: &Client, out: &[u8], waiting: u64) -> bool {
     client.out() == out && client.waiting() == waiting
 }
 
-fn sends(alloc: Global) -> Result<Outcome, AllocError> {
-    let words = vec![in alloc; Vec::from_slice(alloc, b"PING")?]?;
-    let Ok(ping) = Command::new(words) else {
-        return Ok(Outcome::Wrong);
-    };
-    let mut client = new_client(alloc);
-    Ok(match client.send(&ping) {
-        Ok(number) => Outcome::of(number == 1 && waits(&client, PING, 1)),
-        Err(SendError::OutOfMemory) => Outcome::refused(
-            waits(&client, b"", 0) && client.send(&ping) == Ok(1) && waits(&client, PING, 1),
-        ),
-        Err(_) => Outcome::Wrong,
-    })
+/// Whether what is asked next has number 1, and is what waits.
+fn is_first(client: &mut Client, command: Option<&Command>, text: &[u8]) -> bool {
+    send(client, command) == Ok(1) && waits(client, text, 1)
 }
 
 /// Where a command is refused nothing is queued, and the client goes on: the next one has the
 /// number that this one would have had.
-pub(crate) fn of_send(alloc: Global) -> Outcome {
-    Outcome::from(sends(alloc))
-}
-
-/// The same of HELLO.
-pub(crate) fn of_hello(alloc: Global) -> Outcome {
-    let mut client = new_client(alloc);
-    match client.hello(Some(Version::Three)) {
-        Ok(number) => Outcome::of(number == 1 && waits(&client, HELLO, 1)),
-        Err(SendError::OutOfMemory) => Outcome::refused(
-            waits(&client, b"", 0)
-                && client.hello(Some(Version::Three)) == Ok(1)
-                && waits(&client, HELLO, 1),
-        ),
+fn sends(client: &mut Client, command: Option<&Command>, text: &[u8]) -> Outcome {
+    match send(client, command) {
+        Ok(number) => Outcome::of(number == 1 && waits(client, text, 1)),
+        Err(SendError::OutOfMemory) => {
+            Outcome::refused(waits(client, b"", 0) && is_first(client, command, text))
+        }
         Err(_) => Outcome::Wrong,
     }
 }
 
-/// A client in which HELLO waits for its reply.
-fn greeting(alloc: Global) -> Result<Client, AllocError> {
+pub(crate) fn of_send(alloc: Global) -> Outcome {
     let mut client = new_client(alloc);
-    match client.hello(Some(Version::Three)) {
-        Ok(_) => Ok(client),
-        Err(_) => Err(AllocError),
+    match command(alloc, &[b"PING"]) {
+        Ok(ping) => sends(&mut client, Some(&ping), PING),
+        Err(_) => Outcome::OutOfMemory,
+    }
+}
+
+pub(crate) fn of_hello(alloc: Global) -> Outcome {
+    let mut client = new_client(alloc);
+    sends(&mut client, None, HELLO)
+}
+
+/// What is heard of a piece.
+fn hear(client: &mut Client, piece: &[u8]) -> Result<What, Fault> {
+    Ok(client.feed(piece)?.what)
+}
+
+/// Whether this is answered to a further piece.
+fn refuses(client: &mut Client, fault: Fault) -> bool {
+    match hear(client, b":7\r\n") {
+        Ok(_) => false,
+        Err(again) => again == fault,
     }
 }
 
 /// A fault is OutOfMemory, is answered for good, and leaves what waits to be sent.
 fn refused(client: &mut Client, fault: Fault) -> Outcome {
-    Outcome::refused(
-        fault.cause == Cause::OutOfMemory
-            && client.feed(b":7\r\n").err() == Some(fault)
-            && client.out() == HELLO,
-    )
+    let is_refusal = fault.cause == Cause::OutOfMemory && refuses(client, fault);
+    Outcome::refused(is_refusal && client.out() == HELLO)
 }
 
 fn is_news(items: &Members) -> bool {
@@ -88,77 +93,118 @@ fn is_news(items: &Members) -> bool {
     }
 }
 
-/// HELLO's reply came whole, and was heard so.
-fn greeted(alloc: Global, client: &Client, reply: &What) -> Result<Outcome, AllocError> {
-    match reply {
-        What::Reply { number: 1, value } if client.version() == Version::Three => {
-            is_written_so(alloc, value, REPLY)
+/// What came of a push: it has to be news, and then the reply to HELLO is heard.
+fn hears(alloc: Global, client: &mut Client) -> Outcome {
+    match hear(client, PUSH) {
+        Ok(What::Push(items)) => {
+            if is_news(&items) {
+                hears_reply(alloc, client)
+            } else {
+                Outcome::Wrong
+            }
         }
-        _ => Ok(Outcome::Wrong),
+        Ok(_) => Outcome::Wrong,
+        Err(fault) => refused(client, fault),
     }
 }
 
-fn hears(alloc: Global) -> Result<Outcome, AllocError> {
-    let mut client = greeting(alloc)?;
-    match client.feed(PUSH) {
-        Ok(heard) => match &heard.what {
-            What::Push(items) if is_news(items) => {}
-            _ => return Ok(Outcome::Wrong),
-        },
-        Err(fault) => return Ok(refused(&mut client, fault)),
+/// HELLO's reply came whole, and was heard so.
+fn hears_reply(alloc: Global, client: &mut Client) -> Outcome {
+    match hear(client, REPLY) {
+        Ok(What::Reply { number: 1, value }) => greeted(alloc, client.version(), &value),
+        Ok(_) => Outcome::Wrong,
+        Err(fault) => refused(client, fault),
     }
-    match client.feed(REPLY) {
-        Ok(heard) => greeted(alloc, &client, &heard.what),
-        Err(fault) => Ok(refused(&mut client, fault)),
+}
+
+fn greeted(alloc: Global, version: Version, reply: &Value) -> Outcome {
+    match version {
+        Version::Two => Outcome::Wrong,
+        Version::Three => is_written_so(alloc, reply, REPLY),
     }
 }
 
 pub(crate) fn of_feed(alloc: Global) -> Outcome {
-    Outcome::from(hears(alloc))
+    let mut client = new_client(alloc);
+    match send(&mut client, None) {
+        Ok(_) => hears(alloc, &mut client),
+        Err(_) => Outcome::OutOfMemory,
+    }
 }
 
-fn shows(alloc: Global) -> Result<Outcome, AllocError> {
-    let mut client = greeting(alloc)?;
-    let mut sink: Box<dyn PushSink> = Box::new(alloc, PushList::new(alloc))?;
-    for shown in 0..6 {
-        match client.feed_with(PUSH, &mut sink) {
-            Ok(heard) if heard.what == What::Shown && sink.shown().len() == shown + 1 => {}
-            Ok(_) => return Ok(Outcome::Wrong),
-            Err(fault) if sink.shown().len() == shown => return Ok(refused(&mut client, fault)),
-            Err(_) => return Ok(Outcome::Wrong),
+/// What came of one more push, where these were shown by now and this many before. Where a push is
+/// refused, those before it are shown and no other.
+fn shown(
+    client: &mut Client,
+    answer: Result<Heard, Fault>,
+    pushes: &[Members],
+    before: usize,
+) -> Outcome {
+    match answer {
+        Ok(heard) => match heard.what {
+            What::Shown => Outcome::of(
+                pushes.len() == before.saturating_add(1) && pushes.iter().all(is_news),
+            ),
+            _ => Outcome::Wrong,
+        },
+        Err(fault) => {
+            if pushes.len() == before {
+                refused(client, fault)
+            } else {
+                Outcome::Wrong
+            }
         }
     }
-    Ok(Outcome::of(sink.shown().iter().all(is_news)))
 }
 
-/// Where a push is refused, those before it are shown and no other.
+/// What came of six pushes that are shown to a sink, up to the first that is refused.
+fn shows(client: &mut Client, list: Box<PushList>) -> Outcome {
+    let mut sink: Box<dyn PushSink> = list;
+    let mut outcome = Outcome::Whole;
+    for before in 0..6 {
+        let answer = client.feed_with(PUSH, &mut sink);
+        outcome = shown(client, answer, sink.shown(), before);
+        if !outcome.is_whole() {
+            break;
+        }
+    }
+    outcome
+}
+
 pub(crate) fn of_feed_with(alloc: Global) -> Outcome {
-    Outcome::from(shows(alloc))
+    let mut client = new_client(alloc);
+    if send(&mut client, None).is_err() {
+        return Outcome::OutOfMemory;
+    }
+    match Box::new(alloc, PushList::new(alloc)) {
+        Ok(list) => shows(&mut client, list),
+        Err(_) => Outcome::OutOfMemory,
+    }
+}
+
+/// Whether a piece is taken, and the reply goes on.
+fn goes_on(client: &mut Client, piece: &[u8]) -> bool {
+    match hear(client, piece) {
+        Ok(What::More) => true,
+        _ => false,
+    }
 }
 
 /// A reply of one line takes no memory: no refusal may reach it.
-fn hears_integer(alloc: Global) -> Result<Outcome, AllocError> {
-    let mut client = greeting(alloc)?;
-    for byte in b":7\r".chunks(1) {
-        if !client
-            .feed(byte)
-            .is_ok_and(|heard| heard.what == What::More)
-        {
-            return Ok(Outcome::Wrong);
-        }
+fn hears_integer(client: &mut Client) -> bool {
+    if !goes_on(client, b":") || !goes_on(client, b"7") || !goes_on(client, b"\r") {
+        return false;
     }
-    Ok(match client.feed(b"\n") {
-        Ok(heard) => Outcome::of(matches!(
-            heard.what,
-            What::Reply {
-                number: 1,
-                value: Value::Int(7)
-            }
-        )),
-        Err(_) => Outcome::Wrong,
-    })
+    match hear(client, b"\n") {
+        Ok(What::Reply { number: 1, value }) => value == Value::Int(7),
+        _ => false,
+    }
 }
 
 pub(crate) fn of_integer(alloc: Global) -> Outcome {
-    Outcome::from(hears_integer(alloc))
+    let mut client = new_client(alloc);
+    match send(&mut client, None) {
+        Ok(_) => Outcome::of(hears_integer(&mut client)),
+        Err(_) => Outcome::OutOfMemory,
+    }
 }

@@ -1,57 +1,63 @@
 //! Parts on the server.
 
+use crate::decoding::values;
 use crate::outcome::Outcome;
 use resp_server::{Hub, HubError, NoSession, OpenError, PushError};
-use resp_value::content::Content;
 use resp_value::limits::Limits;
 use resp_value::value::Value;
 use resp_value::version::Version;
-use std::alloc::{AllocError, Global};
+use std::alloc::Global;
 use std::hash::{BuildHasherDefault, FoldHasher};
 
 type TestHub = Hub<BuildHasherDefault<FoldHasher>>;
 
 /// What stands of session 1 and of the store.
-#[derive(Drop)]
-struct Standing {
-    out: &'static [u8],
+#[derive(Clone, Copy)]
+struct Standing<'a> {
+    out: &'a [u8],
     version: Version,
-    /// Keys and their values, in order.
-    store: &'static [(&'static [u8], &'static [u8])],
+    /// Keys of one byte, each with its value of one byte, in order.
+    store: &'a [u8],
 }
 
-/// After nothing at all.
-const NEW: Standing = Standing {
-    out: b"",
-    version: Version::Two,
-    store: &[],
-};
+/// What stands in version 2.
+fn in_two<'a>(out: &'a [u8], store: &'a [u8]) -> Standing<'a> {
+    Standing {
+        out,
+        version: Version::Two,
+        store,
+    }
+}
 
 fn new_hub(alloc: Global) -> TestHub {
     Hub::new(alloc, Limits::standard(), BuildHasherDefault::new())
 }
 
-/// A hub whose session 1 is open and was sent these bytes.
-fn hub_behind(alloc: Global, piece: &[u8]) -> Result<TestHub, AllocError> {
-    let mut hub = new_hub(alloc);
-    if hub.open().is_err() || hub.bytes(1, piece).is_err() {
-        return Err(AllocError);
-    }
-    Ok(hub)
+/// How many commands of a piece to session 1 were run.
+fn run(hub: &mut TestHub, piece: &[u8]) -> Result<u64, HubError> {
+    Ok(hub.bytes(1, piece)?.commands)
 }
 
-fn holds(hub: &TestHub, store: &[(&[u8], &[u8])]) -> bool {
-    let mut count: usize = 0;
-    for entry in hub.entries() {
-        if store.get(count) != Some(&entry) {
+/// Opens session 1 and sends it these bytes. Whether that was done.
+fn opens(hub: &mut TestHub, piece: &[u8]) -> bool {
+    hub.open() == Ok(1) && run(hub, piece).is_ok()
+}
+
+fn holds(hub: &TestHub, store: &[u8]) -> bool {
+    let mut rest = store;
+    for (key, value) in hub.entries() {
+        let [first, second, others @ ..] = rest else {
+            return false;
+        };
+        if key != [*first].as_slice() || value != [*second].as_slice() {
             return false;
         }
-        count = count.saturating_add(1);
+        rest = others;
     }
-    count == store.len()
+    rest.is_empty()
 }
 
-fn stands(hub: &TestHub, standing: &Standing, closing: bool) -> bool {
+fn stands(hub: &TestHub, standing: Standing<'_>, closing: bool) -> bool {
     hub.out(1) == Ok(standing.out)
         && hub.version(1) == Ok(standing.version)
         && hub.is_closing(1) == Ok(closing)
@@ -59,34 +65,40 @@ fn stands(hub: &TestHub, standing: &Standing, closing: bool) -> bool {
 }
 
 /// A session that is closing runs no command, and all stands as it did.
-fn stays_closing(hub: &mut TestHub, standing: &Standing) -> bool {
-    let ran = hub.bytes(1, b"*1\r\n$4\r\nPING\r\n");
-    ran.is_ok_and(|handled| handled.commands == 0) && stands(hub, standing, true)
+fn stays_closing(hub: &mut TestHub, standing: Standing<'_>) -> bool {
+    run(hub, b"*1\r\n$4\r\nPING\r\n") == Ok(0) && stands(hub, standing, true)
 }
 
 /// What came of a piece, where this is what stands after none of its commands, one, and so on.
-fn run(hub: &mut TestHub, piece: &[u8], behind: &[Standing]) -> Outcome {
-    match hub.bytes(1, piece) {
-        Ok(handled) => match behind.get(handled.commands as usize) {
-            Some(standing) => Outcome::of(
-                (handled.commands as usize).saturating_add(1) == behind.len()
-                    && stands(hub, standing, false),
-            ),
-            None => Outcome::Wrong,
-        },
-        Err(HubError::OutOfMemory { commands }) => match behind.get(commands as usize) {
-            Some(standing) => Outcome::refused(stays_closing(hub, standing)),
-            None => Outcome::Wrong,
-        },
-        Err(HubError::NoSession) => Outcome::Wrong,
+fn runs(hub: &mut TestHub, piece: &[u8], after: &[Standing<'_>]) -> Outcome {
+    let (count, is_refused) = match run(hub, piece) {
+        Ok(commands) => (commands, false),
+        Err(HubError::OutOfMemory { commands }) => (commands, true),
+        Err(HubError::NoSession) => return Outcome::Wrong,
+    };
+    let Some(standing) = after.get(count as usize) else {
+        return Outcome::Wrong;
+    };
+    if is_refused {
+        return Outcome::refused(stays_closing(hub, *standing));
+    }
+    Outcome::of(count.saturating_add(1) == after.len() as u64 && stands(hub, *standing, false))
+}
+
+/// What came of a piece that is sent after another.
+fn of_piece(alloc: Global, before: &[u8], piece: &[u8], after: &[Standing<'_>]) -> Outcome {
+    let mut hub = new_hub(alloc);
+    if opens(&mut hub, before) {
+        runs(&mut hub, piece, after)
+    } else {
+        Outcome::OutOfMemory
     }
 }
 
 /// A refused session is not there, and its id is not used up.
-pub(crate) fn of_open(alloc: Global) -> Outcome {
-    let mut hub = new_hub(alloc);
+fn is_opened(hub: &mut TestHub) -> Outcome {
     match hub.open() {
-        Ok(id) => Outcome::of(id == 1 && stands(&hub, &NEW, false)),
+        Ok(id) => Outcome::of(id == 1 && stands(hub, in_two(b"", b""), false)),
         Err(OpenError::OutOfMemory) => {
             Outcome::refused(hub.out(1) == Err(NoSession) && hub.open() == Ok(1))
         }
@@ -94,129 +106,111 @@ pub(crate) fn of_open(alloc: Global) -> Outcome {
     }
 }
 
-fn set(alloc: Global) -> Result<Outcome, AllocError> {
-    let mut hub = hub_behind(alloc, b"")?;
-    let piece = b"*3\r\n$3\r\nSET\r\n$1\r\na\r\n$1\r\n1\r\n\
-        *3\r\n$3\r\nSET\r\n$1\r\nb\r\n$1\r\n2\r\n";
-    let behind = [
-        NEW,
-        Standing {
-            out: b"+OK\r\n",
-            version: Version::Two,
-            store: &[(b"a", b"1")],
-        },
-        Standing {
-            out: b"+OK\r\n+OK\r\n",
-            version: Version::Two,
-            store: &[(b"a", b"1"), (b"b", b"2")],
-        },
-    ];
-    Ok(run(&mut hub, piece, &behind))
+pub(crate) fn of_open(alloc: Global) -> Outcome {
+    let mut hub = new_hub(alloc);
+    is_opened(&mut hub)
 }
 
 pub(crate) fn of_set(alloc: Global) -> Outcome {
-    Outcome::from(set(alloc))
+    let piece = b"*3\r\n$3\r\nSET\r\n$1\r\na\r\n$1\r\n1\r\n\
+        *3\r\n$3\r\nSET\r\n$1\r\nb\r\n$1\r\n2\r\n";
+    let none = in_two(b"", b"");
+    let one = in_two(b"+OK\r\n", b"a1");
+    let two = in_two(b"+OK\r\n+OK\r\n", b"a1b2");
+    of_piece(alloc, b"", piece, &[none, one, two])
 }
 
 /// Sets `a` to 1.
 const SET_A: &[u8] = b"*3\r\n$3\r\nSET\r\n$1\r\na\r\n$1\r\n1\r\n";
 
-/// What stands after that.
-const WITH_A: Standing = Standing {
-    out: b"+OK\r\n",
-    version: Version::Two,
-    store: &[(b"a", b"1")],
-};
-
-fn get(alloc: Global) -> Result<Outcome, AllocError> {
-    let mut hub = hub_behind(alloc, SET_A)?;
-    let piece = b"*2\r\n$3\r\nGET\r\n$1\r\na\r\n";
-    let behind = [
-        WITH_A,
-        Standing {
-            out: b"+OK\r\n$1\r\n1\r\n",
-            version: Version::Two,
-            store: &[(b"a", b"1")],
-        },
-    ];
-    Ok(run(&mut hub, piece, &behind))
-}
-
 pub(crate) fn of_get(alloc: Global) -> Outcome {
-    Outcome::from(get(alloc))
-}
-
-fn del(alloc: Global) -> Result<Outcome, AllocError> {
-    let mut hub = hub_behind(alloc, SET_A)?;
-    let piece = b"*3\r\n$3\r\nDEL\r\n$1\r\na\r\n$1\r\na\r\n";
-    let behind = [
-        WITH_A,
-        Standing {
-            out: b"+OK\r\n:1\r\n",
-            version: Version::Two,
-            store: &[],
-        },
-    ];
-    Ok(run(&mut hub, piece, &behind))
+    let none = in_two(b"+OK\r\n", b"a1");
+    let one = in_two(b"+OK\r\n$1\r\n1\r\n", b"a1");
+    of_piece(
+        alloc,
+        SET_A,
+        b"*2\r\n$3\r\nGET\r\n$1\r\na\r\n",
+        &[none, one],
+    )
 }
 
 pub(crate) fn of_del(alloc: Global) -> Outcome {
-    Outcome::from(del(alloc))
+    let piece = b"*3\r\n$3\r\nDEL\r\n$1\r\na\r\n$1\r\na\r\n";
+    let none = in_two(b"+OK\r\n", b"a1");
+    let one = in_two(b"+OK\r\n:1\r\n", b"");
+    of_piece(alloc, SET_A, piece, &[none, one])
 }
 
 /// Asks for version 3.
 const HELLO: &[u8] = b"*2\r\n$5\r\nHELLO\r\n$1\r\n3\r\n";
 
-/// What stands after that.
-const GREETED: Standing = Standing {
-    out: b"%7\r\n$6\r\nserver\r\n$9\r\nresp_loop\r\n$7\r\nversion\r\n$5\r\n1.0.0\r\n\
-        $5\r\nproto\r\n:3\r\n$2\r\nid\r\n:1\r\n$4\r\nmode\r\n$10\r\nstandalone\r\n\
-        $4\r\nrole\r\n$6\r\nmaster\r\n$7\r\nmodules\r\n*0\r\n",
-    version: Version::Three,
-    store: &[],
-};
+/// What is replied to that.
+const GREETING: &[u8] = b"%7\r\n$6\r\nserver\r\n$9\r\nresp_loop\r\n$7\r\nversion\r\n$5\r\n1.0.0\r\n\
+    $5\r\nproto\r\n:3\r\n$2\r\nid\r\n:1\r\n$4\r\nmode\r\n$10\r\nstandalone\r\n\
+    $4\r\nrole\r\n$6\r\nmaster\r\n$7\r\nmodules\r\n*0\r\n";
 
-fn hello(alloc: Global) -> Result<Outcome, AllocError> {
-    let mut hub = hub_behind(alloc, b"")?;
-    Ok(run(&mut hub, HELLO, &[NEW, GREETED]))
+/// What stands after that.
+fn greeted() -> Standing<'static> {
+    Standing {
+        out: GREETING,
+        version: Version::Three,
+        store: b"",
+    }
 }
 
 pub(crate) fn of_hello(alloc: Global) -> Outcome {
-    Outcome::from(hello(alloc))
+    of_piece(alloc, b"", HELLO, &[in_two(b"", b""), greeted()])
 }
 
-fn protocol_error(alloc: Global) -> Result<Outcome, AllocError> {
-    let mut hub = hub_behind(alloc, b"")?;
-    let refused = Standing {
-        out: b"-ERR Protocol error: NotCommand at byte 0\r\n",
-        version: Version::Two,
-        store: &[],
-    };
-    Ok(match hub.bytes(1, b":1\r\n") {
-        Ok(_) => Outcome::of(stays_closing(&mut hub, &refused)),
+fn is_refused(hub: &mut TestHub) -> Outcome {
+    let refused = b"-ERR Protocol error: NotCommand at byte 0\r\n";
+    match run(hub, b":1\r\n") {
+        Ok(_) => Outcome::of(stays_closing(hub, in_two(refused, b""))),
         Err(HubError::OutOfMemory { commands: 0 }) => {
-            Outcome::refused(stays_closing(&mut hub, &NEW))
+            Outcome::refused(stays_closing(hub, in_two(b"", b"")))
         }
         Err(_) => Outcome::Wrong,
-    })
+    }
 }
 
 pub(crate) fn of_protocol_error(alloc: Global) -> Outcome {
-    Outcome::from(protocol_error(alloc))
+    let mut hub = new_hub(alloc);
+    if opens(&mut hub, b"") {
+        is_refused(&mut hub)
+    } else {
+        Outcome::OutOfMemory
+    }
 }
 
-/// A push that is longer than what a buffer keeps spare: it is queued whole or not at all.
-fn push(alloc: Global) -> Result<Outcome, AllocError> {
-    let mut hub = hub_behind(alloc, HELLO)?;
-    let word = Vec::from_slice(alloc, &[b'x'; 600])?;
-    let items = [Value::Bulk(Content::new(word))];
-    Ok(match hub.push(1, &items) {
-        Ok(()) => Outcome::of(hub.out(1).is_ok_and(|out| out.len() == 148 + 600 + 12)),
-        Err(PushError::OutOfMemory) => Outcome::refused(stands(&hub, &GREETED, false)),
+/// How many bytes wait to be sent.
+fn waiting(hub: &TestHub) -> usize {
+    hub.out(1).map_or(0, |out| out.len())
+}
+
+fn is_pushed(hub: &mut TestHub, items: &[Value]) -> Outcome {
+    match hub.push(1, items) {
+        Ok(()) => Outcome::of(waiting(hub) == 148 + 600 + 12),
+        Err(PushError::OutOfMemory) => Outcome::refused(stands(hub, greeted(), false)),
         Err(_) => Outcome::Wrong,
-    })
+    }
 }
 
+/// A bulk string of 600 bytes, which is more than what a buffer keeps spare.
+fn long_items(alloc: Global) -> Option<Vec<Value>> {
+    let mut text = [b'x'; 608];
+    text[..6].copy_from_slice(b"$600\r\n");
+    text[606..].copy_from_slice(b"\r\n");
+    values(alloc, &text).ok()
+}
+
+/// A long push is queued whole or not at all.
 pub(crate) fn of_push(alloc: Global) -> Outcome {
-    Outcome::from(push(alloc))
+    let mut hub = new_hub(alloc);
+    if !opens(&mut hub, HELLO) {
+        return Outcome::OutOfMemory;
+    }
+    match long_items(alloc) {
+        Some(items) => is_pushed(&mut hub, items.as_slice()),
+        None => Outcome::OutOfMemory,
+    }
 }

@@ -1,9 +1,9 @@
 //! The part on worlds.
 
+use crate::given::command;
 use crate::outcome::Outcome;
 use resp_server::OpenError;
 use resp_value::cause::Cause;
-use resp_value::command::Command;
 use resp_value::limits::Limits;
 use resp_wire::{Event, MemoryLink, Stop, World};
 use std::alloc::{AllocError, Global};
@@ -14,22 +14,11 @@ type TestWorld = World<MemoryLink, BuildHasherDefault<FoldHasher>>;
 /// More bytes than wait.
 const ALL: u64 = 1_000_000;
 
-fn send(alloc: Global, client: usize, words: &[&[u8]]) -> Result<Event, AllocError> {
-    let mut owned = Vec::new(alloc);
-    for word in words {
-        owned.push(word.to_vec(alloc)?)?;
-    }
-    match Command::new(owned) {
-        Ok(command) => Ok(Event::Send(client, command)),
-        Err(_) => Err(AllocError),
-    }
-}
-
 /// A key is read before it is set, and then all bytes come back.
 fn events(alloc: Global) -> Result<Vec<Event>, AllocError> {
     let mut events = Vec::new(alloc);
-    events.push(send(alloc, 1, &[b"SET", b"a", b"1"])?)?;
-    events.push(send(alloc, 2, &[b"GET", b"a"])?)?;
+    events.push(Event::Send(1, command(alloc, &[b"SET", b"a", b"1"])?))?;
+    events.push(Event::Send(2, command(alloc, &[b"GET", b"a"])?))?;
     events.push(Event::ToServer(2, 20))?;
     events.push(Event::ToServer(1, 27))?;
     events.push(Event::ToClient(1, ALL))?;
@@ -37,12 +26,9 @@ fn events(alloc: Global) -> Result<Vec<Event>, AllocError> {
     Ok(events)
 }
 
-fn count_keys(world: &TestWorld) -> usize {
-    let mut count: usize = 0;
-    for _ in world.entries() {
-        count = count.saturating_add(1);
-    }
-    count
+fn has_one_key(world: &TestWorld) -> bool {
+    let mut entries = world.entries();
+    entries.next().is_some() && entries.next().is_none()
 }
 
 /// One reply each, and one key.
@@ -51,7 +37,7 @@ fn stands(world: &TestWorld) -> bool {
         && world.order() == [2, 1].as_slice()
         && world.replies(1).len() == 1
         && world.replies(2).len() == 1
-        && count_keys(world) == 1
+        && has_one_key(world)
 }
 
 /// A world that stopped when out of memory stops so at each later event.
@@ -64,22 +50,30 @@ fn stays_stopped(world: &mut TestWorld) -> bool {
         })
 }
 
-fn run(alloc: Global) -> Result<Outcome, AllocError> {
-    let events = events(alloc)?;
-    let mut world = match World::new(alloc, 2, Limits::standard(), BuildHasherDefault::new()) {
-        Ok(world) => world,
-        Err(OpenError::OutOfMemory) => return Ok(Outcome::refused(true)),
-        Err(OpenError::TooManySessions) => return Ok(Outcome::Wrong),
-    };
-    match world.run(events.as_slice()) {
-        Ok(()) => Ok(Outcome::of(stands(&world))),
-        Err(stop) if stop.cause == Cause::OutOfMemory => {
-            Ok(Outcome::refused(stays_stopped(&mut world)))
+fn runs(world: &mut TestWorld, events: &[Event]) -> Outcome {
+    match world.run(events) {
+        Ok(()) => Outcome::of(stands(world)),
+        Err(stop) => {
+            if stop.cause == Cause::OutOfMemory {
+                Outcome::refused(stays_stopped(world))
+            } else {
+                Outcome::Wrong
+            }
         }
-        Err(_) => Ok(Outcome::Wrong),
+    }
+}
+
+fn of_events(alloc: Global, events: &[Event]) -> Outcome {
+    match World::new(alloc, 2, Limits::standard(), BuildHasherDefault::new()) {
+        Ok(mut world) => runs(&mut world, events),
+        Err(OpenError::OutOfMemory) => Outcome::OutOfMemory,
+        Err(OpenError::TooManySessions) => Outcome::Wrong,
     }
 }
 
 pub(crate) fn of_run(alloc: Global) -> Outcome {
-    Outcome::from(run(alloc))
+    match events(alloc) {
+        Ok(events) => of_events(alloc, events.as_slice()),
+        Err(AllocError) => Outcome::OutOfMemory,
+    }
 }

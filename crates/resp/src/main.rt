@@ -2,8 +2,11 @@
 //! scripts of clients of one server.
 #![tactic(auto)]
 
+mod input;
+
+use input::read_input;
 use resp_script::play::play;
-use resp_script::script::{MOST_BYTES, read_script};
+use resp_script::script::read_script;
 use resp_tool::command_line::{command, refuse_words, stop};
 use resp_tool::tool_error::ToolError;
 use resp_value::device::{Device, MemorySink, Sink, Source};
@@ -79,24 +82,6 @@ fn is_loop(words: &[String]) -> bool {
     }
 }
 
-/// The bytes of the input, up to a read more than a script may have; none where a read fails.
-fn read_input<R: Source>(alloc: Global, reader: &mut R) -> Result<Option<Vec<u8>>, AllocError> {
-    let mut bytes = Vec::new(alloc);
-    let mut piece = [0; 4_096];
-    // Each turn reads a byte at least.
-    for _ in 0..=MOST_BYTES {
-        if bytes.len() > MOST_BYTES {
-            break;
-        }
-        match reader.read(&mut piece) {
-            Ok(0) => break,
-            Ok(count) => bytes.extend_from_slice(&piece[..count])?,
-            Err(_) => return Ok(None),
-        }
-    }
-    Ok(Some(bytes))
-}
-
 /// Plays the script in the input over TCP, and answers the status.
 fn run_loop<R: Source, W: Sink, F: Sink>(
     net: &impl Net<Listener = TcpListener, Stream = TcpStream>,
@@ -106,8 +91,9 @@ fn run_loop<R: Source, W: Sink, F: Sink>(
     writer: &mut W,
     faults: &mut F,
 ) -> Result<u8, AllocError> {
-    let Some(bytes) = read_input(alloc, reader)? else {
-        return Ok(stop(&ToolError::Read, faults));
+    let bytes = match read_input(alloc, reader) {
+        Ok(bytes) => bytes,
+        Err(error) => return Ok(stop(&error, faults)),
     };
     let script = match read_script(alloc, bytes.as_slice()) {
         Ok(script) => script,

@@ -1,8 +1,10 @@
 -- How a value that was read is told, and what it answers.
-use Rattle.std.proofs.Common.{◌≡◌, ◌≢◌, ℕ, zero, suc, ◌+◌, ◌<◌, true, false, List, [], ◌∷◌, ◌++◌, length, take, Option, refl, sym, ap, subst, ◌∙◌, arith}
-use Rattle.std.proofs.lemmas.List.{append-nil, take_all}
+use Rattle.std.proofs.Common.{◌≡◌, ◌≢◌, ℕ, zero, suc, ◌+◌, ◌<◌, ◌≤◌, None, Some, true, false, List, [], ◌∷◌, ◌++◌, length, take, Option, refl, sym, ap, subst, ◌∙◌, arith, length-append}
+use Rattle.std.proofs.Math.Bridge.{le_prop}
+use Rattle.std.proofs.lemmas.List.{append-nil, length-take-le, take_all}
 use Rattle.resp_value.specs.Bounds.{Bounds}
 use Rattle.resp_value.specs.Data.{Datum}
+use Rattle.resp_value.specs.Rules.{WithinTotal}
 use Rattle.resp_value.specs.Spellings.{IsSpelling}
 use Rattle.resp_value.specs.Trees.{Spells}
 use Rattle.resp_value.specs.Values.{datum_of}
@@ -13,12 +15,13 @@ use Rattle.resp_decode.specs.declared.decoder.Decoder.{Decoder}
 use Rattle.resp_session.specs.Heard.{is_push, numbered_replies}
 use Rattle.resp_session.specs.Reading.{MayBeRead, ReadsAs, Waiting, reading_rules, waiting_after, waiting_after_reply}
 use Rattle.resp_client.specs.Clients.{ClientState, next_number, state_of, with_answer}
-use Rattle.resp_client.specs.Hearing.{GivesPush, GivesReply, Hears, TakesFront, UnlessReplied}
+use Rattle.resp_client.specs.Hearing.{GivesPush, GivesReply, HasFault, Hears, UnlessReplied, WhereTaken}
+use Rattle.resp_client.specs.Standing.{TakesFront, TakesOrStands}
 use Rattle.resp_client.specs.Steps.{Knows, SameReading, TakesValue}
 use Rattle.resp_client.specs.declared.client.Client.{Client}
 use Rattle.resp_client.specs.declared.heard.What.{What}
 use Rattle.resp_client.specs.declared.heard.What.TheVariants.{Reply, Push, Shown, More}
-use Rattle.resp_client.proofs.Fronts.{takes_nothing}
+use Rattle.resp_client.proofs.Fronts.{takes_nothing, where_reading}
 
 -- what a value leaves, by whether it is a push
 after_reply : (w : Waiting) (x : Datum) → is_push x ≡ false → waiting_after w x ≡ waiting_after_reply w.version w.asks x
@@ -35,6 +38,13 @@ pub spelling_of : (limits : Bounds) (w after : Waiting) (x : Datum) (text : List
     IsSpelling (reading_rules limits w) x text
 spelling_of limits w after x text (front, rest, s, may, (none, same), whole) =
     subst (IsSpelling (reading_rules limits w) x) (sym (whole ∙ ap (λ z. front ++ z) none ∙ append-nil front)) s
+
+-- and no longer than the limit of total
+pub read_within : (limits : Bounds) (w after : Waiting) (x : Datum) (text : List ℕ) → ReadsAs limits w (x ∷ []) text after →
+    length text ≤ limits.total
+read_within limits w after x text reads =
+    let is = spelling_of limits w after x text reads in
+    subst (λ z. length z ≤ limits.total) (is.spells.spelled) (is.keeps WithinTotal (omega arith))
 
 may_of : (limits : Bounds) (w after : Waiting) (x : Datum) (text : List ℕ) → ReadsAs limits w (x ∷ []) text after → MayBeRead w x
 may_of limits w after x text (front, rest, s, may, (none, same), whole) = may
@@ -108,3 +118,27 @@ value_uses limits w after d x front piece (suc used) h reads = omega arith
 value_uses limits w after d x front piece zero h reads =
     let is = spelling_of limits w after x (front ++ []) reads in
     absurd (h.no_value (length front) is.tree (subst (Spells is.tree) (append-nil front ∙ sym (take_all (length front) front (omega arith))) is.spells))
+
+-- a client of which no fault stands has none
+pub no_fault : (c : Client) → ((fault : Fault) → HasFault c fault → ⊥) → c.fault ≡ None
+no_fault c never = cases c.fault (λ fault is. never fault is)
+  where
+    cases : (stands : Option Fault) → ((fault : Fault) → stands ≡ Some fault → ⊥) → stands ≡ None
+    cases None h = refl
+    cases (Some fault) h = absurd (h fault refl)
+
+-- what was taken when a push is lost is within the limit of total
+pub loses_within : (old new : Client) (taken used : ℕ) (piece : List ℕ) (x : Datum) →
+    ∥ TakesOrStands old.limits (state_of old).waiting old.decoder old.fault ∥₁ → old.fault ≡ None → WhereTaken old (λ front. taken ≡ length front) →
+    WhereTaken old (λ front. GivesPush old new (front ++ take used piece) x) → used ≤ length piece → state_of new ≡ state_of old →
+    taken + used ≤ new.limits.total
+loses_within old new taken used piece x reading none is given within same =
+    where_reading old.limits (state_of old).waiting old.decoder old.fault reading none le_prop (λ front h.
+    omega (
+      arith,
+      is front h,
+      length-append front (take used piece),
+      length-take-le used piece within,
+      read_within old.limits (state_of old).waiting (state_of old).waiting x (front ++ take used piece) (given front h).reads,
+      ap (λ (z : ClientState). z.limits.total) same,
+    ))

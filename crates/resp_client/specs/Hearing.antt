@@ -1,36 +1,29 @@
 -- What a client hears, in words of texts and values.
-use Rattle.std.specs.Prelude.{◌≡◌, ◌⊎◌, ℕ, Option, None, Some, List, [], ◌∷◌, ◌++◌, ◌+◌, ◌≤◌, length, take, Result, Ok, Err}
-use Rattle.resp_value.specs.Bounds.{Bounds}
+use Rattle.std.specs.Prelude.{◌≡◌, ◌⊎◌, ℕ, Some, List, [], ◌∷◌, ◌++◌, ◌+◌, ◌≤◌, length, take, Result, Ok, Err}
 use Rattle.resp_value.specs.Data.{Datum}
 use Rattle.resp_value.specs.Values.{datum_of}
 use Rattle.resp_value.specs.declared.cause.Cause.TheVariants as cause
 use Rattle.resp_value.specs.declared.value.Value.TheVariants as value
 use Rattle.resp_value.specs.declared.value.Members.{Members}
 use Rattle.resp_scan.specs.declared.event.Fault.{Fault}
-use Rattle.resp_decode.specs.Decoding.{LacksMemory, rules_of}
-use Rattle.resp_decode.specs.Decoding as decode
-use Rattle.resp_decode.specs.declared.decoder.Decoder.{Decoder}
+use Rattle.resp_decode.specs.Decoding.{LacksMemory}
 use Rattle.resp_session.specs.Heard.{numbered_replies}
-use Rattle.resp_session.specs.Reading.{ClientFault, IsUnasked, MayGoOn, ReadsAs, Waiting, reading_rules}
+use Rattle.resp_session.specs.Reading.{ClientFault, IsUnasked, MayGoOn, ReadsAs, reading_rules}
 use Rattle.resp_client.specs.Clients.{ClientState, next_number, state_of, with_answer}
+use Rattle.resp_client.specs.Standing.{TakesFront}
 use Rattle.resp_client.specs.declared.client.Client.{Client}
 use Rattle.resp_client.specs.declared.heard.Heard.{Heard}
 use Rattle.resp_client.specs.declared.heard.What.{What}
 use Rattle.resp_client.specs.declared.heard.What.TheVariants.{Reply, Push, Shown, More}
 
--- the decoder has taken the bytes of this front, under the rules by which the value is read, and they were asked for
-pub record TakesFront (limits : Bounds) (w : Waiting) (d : Decoder) (fault : Option Fault) (front : List ℕ) :
-    Type 0 where
-  pub taken : decode.HasTaken d front
-  pub same_limits : (rules_of d).limits ≡ limits
-  pub read_by : (front ≡ []) ⊎ (rules_of d ≡ reading_rules limits w)
-  pub asked : IsUnasked w front → ⊥
-  pub no_fault : fault ≡ None
-
 -- What a client has taken of a value: the bytes of this front, in the version in which the value is read. How a client
 -- stands to them is opaque to callers: `new` establishes this relation, and each call keeps it until a fault.
 abbrev pub HasTaken : Client → List ℕ → Type 0
 HasTaken c front = TakesFront c.limits (state_of c).waiting c.decoder c.fault front
+
+-- it has taken some front
+abbrev pub HasTakenSome : Client → Type 0
+HasTakenSome c = ∥ ((front : List ℕ) × HasTaken c front) ∥₁
 
 -- this holds of every front that the client has taken
 abbrev pub WhereTaken : Client → (List ℕ → Type 0) → Type 0

@@ -1,5 +1,6 @@
 -- What a caller reads of the client.
 pub mod Clients
+pub mod Standing
 pub mod Hearing
 pub mod Sending
 pub mod PushLists

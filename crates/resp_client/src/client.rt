@@ -1,6 +1,7 @@
 //! The client, and what it shows.
 
-ghost use Rattle.std.specs.Prelude.{◌≡◌, ◌+◌, ◌≤◌, ◌^◌, [], length};
+ghost use Rattle.std.specs.Prelude.{◌≡◌, ◌↔◌, ◌+◌, ◌≤◌, ◌^◌, [], None, Some, length};
+ghost use Rattle.resp_client.specs.Standing.{TakesOrStands};
 
 use bytes::BytesMut;
 use resp_decode::decoder::Decoder;
@@ -29,11 +30,14 @@ pub struct Client {
     /// The fault that stands.
     pub(crate) fault: Option<Fault>,
     ghost in_range: { answered + length asks.items ≤ 2 ^ 63 },
+    /// It has taken some front of a value, or a fault stands.
+    pub ghost reading: { ∥ TakesOrStands limits (record { version = version; asks = asks.items }) decoder fault ∥₁ },
 }
 
 impl Client {
     ghost use Rattle.resp_client.specs.Clients.{new_state, state_of, without_front};
-    ghost use Rattle.resp_client.specs.Hearing.{HasTaken, KeepsReading};
+    ghost use Rattle.resp_client.specs.Hearing.{HasFault, HasTaken, HasTakenSome, KeepsReading, WhereTaken};
+    ghost use Rattle.resp_scan.specs.declared.event.Fault.{Fault};
 
     /// A client in version 2, with nothing queued, which sends and reads within these limits. Takes
     /// no memory.
@@ -82,5 +86,27 @@ impl Client {
         ensures { result ≡ (state_of self.now).waiting.version }
     {
         self.version
+    }
+
+    /// The number of bytes taken of the reply or the push that comes, 0 between two. A refused byte
+    /// isn't among them, and after a fault they are those before its place.
+    pub fn taken(&self) -> u64
+        ensures length_of_front { WhereTaken self.now (λ front. result ≡ length front) }
+        ensures at_a_fault { (fault : Fault) → HasFault self.now fault → result ≡ fault.at }
+        ensures at_most_total { result ≤ (state_of self.now).limits.total }
+    {
+        match self.fault {
+            Some(fault) => fault.at,
+            None => self.decoder.taken(),
+        }
+    }
+
+    /// The fault that stands, if one does, which every later [`Client::feed`] answers.
+    pub fn fault(&self) -> Option<Fault>
+        ensures the_fault { (fault : Fault) → HasFault self.now fault ↔ (result ≡ Some fault) }
+        ensures none_while_reading { WhereTaken self.now (λ front. result ≡ None) }
+        ensures reads_where_none { result ≡ None → HasTakenSome self.now }
+    {
+        self.fault
     }
 }

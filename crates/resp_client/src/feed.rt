@@ -1,11 +1,11 @@
 //! What is heard of the bytes that come.
 
-ghost use Rattle.std.specs.Prelude.{◌≡◌, ◌≢◌, ◌↔◌, ◌<◌, ◌≤◌, ◌++◌, [], length, take, Err, IsTrue, OnOk, OnErr, IfOk, IfErr};
+ghost use Rattle.std.specs.Prelude.{◌≡◌, ◌≢◌, ◌↔◌, ◌<◌, ◌≤◌, ◌++◌, [], length, take, Err, None, IsTrue, OnOk, OnErr, IfOk, IfErr};
 ghost use Rattle.resp_value.specs.Values.{datum_of};
 ghost use Rattle.resp_session.specs.Reading.{IsUnasked, greater_version, is_refusal, reading_version};
 ghost use Rattle.resp_decode.specs.Decoding.{IfNoValue, IfValue};
 ghost use Rattle.resp_client.specs.Clients.{next_number, state_of, with_answer};
-ghost use Rattle.resp_client.specs.Hearing.{HasFault, Hears, HearsAndShows, Refuses, RefusesOrLoses, TakesPiece, UnlessReply, WhereTaken};
+ghost use Rattle.resp_client.specs.Hearing.{HasFault, HasTaken, Hears, HearsAndShows, Refuses, RefusesOrLoses, TakesPiece, UnlessReply, WhereTaken};
 ghost use Rattle.resp_client.specs.Steps.{HasBegun, IsUnaskedFault, Knows, SameReading, TakesValue};
 ghost use Rattle.resp_scan.specs.declared.event.Fault.{Fault};
 
@@ -66,8 +66,7 @@ impl Client {
             (Refuses (state_of self.old) front piece.now)) }
         ensures only_replies_answer { UnlessReply result (state_of self.new ≡ state_of self.old) }
         ensures within_piece { IfOk result (λ heard. heard.used ≤ length piece.now) }
-        ensures uses_bytes { WhereTaken self.old (λ front. IfOk result (λ heard.
-            0 < length piece.now → 0 < heard.used)) }
+        ensures uses_bytes { IfOk result (λ heard. 0 < length piece.now → 0 < heard.used) }
         ensures fault_is_kept { IfErr result (HasFault self.new) }
         ensures fault_is_final { (fault : Fault) → HasFault self.old fault → result ≡ Err fault }
     {
@@ -76,10 +75,7 @@ impl Client {
         }
         let fed = match self.take(piece) {
             Ok(fed) => fed,
-            Err(fault) => {
-                self.fault = Some(fault);
-                return Err(fault);
-            }
+            Err(fault) => return Err(fault),
         };
         let used = fed.used;
         let Some(value) = fed.value else {
@@ -105,8 +101,7 @@ impl Client {
         ensures only_replies_answer { UnlessReply result (state_of self.new ≡ state_of self.old) }
         ensures nothing_shown { OnErr result (pushes sink.new ≡ pushes sink.old) }
         ensures within_piece { IfOk result (λ heard. heard.used ≤ length piece.now) }
-        ensures uses_bytes { WhereTaken self.old (λ front. IfOk result (λ heard.
-            0 < length piece.now → 0 < heard.used)) }
+        ensures uses_bytes { IfOk result (λ heard. 0 < length piece.now → 0 < heard.used) }
         ensures fault_is_kept { IfErr result (HasFault self.new) }
         ensures fault_is_final { (fault : Fault) → HasFault self.old fault → result ≡ Err fault }
     {
@@ -134,8 +129,10 @@ impl Client {
         })
     }
 
-    /// Takes bytes until a value is whole, in the version in which it is read.
+    /// Takes bytes until a value is whole, in the version in which it is read. A fault stands from
+    /// then on.
     fn take(&mut self, piece: &[u8]) -> Result<Fed, Fault>
+        requires { self.old.fault ≡ None }
         ensures value_whole { WhereTaken self.old (λ front. IfValue result (λ used value.
             TakesValue self.old self.new (front ++ take used piece.now) (datum_of value))) }
         ensures used_up { WhereTaken self.old (λ front. IfNoValue result
@@ -144,14 +141,23 @@ impl Client {
             (Refuses (state_of self.old) front piece.now)) }
         ensures within_piece { IfOk result (λ fed. fed.used ≤ length piece.now) }
         ensures same_state { state_of self.new ≡ state_of self.old }
-        ensures same_fault { self.new.fault ≡ self.old.fault }
+        ensures no_fault { OnOk result (self.new.fault ≡ None) }
+        ensures fault_is_kept { IfErr result (HasFault self.new) }
     {
         grammar::no_spelling_is_empty();
         grammar::a_push_begins_with_its_byte();
         if let Err(fault) = self.begin(piece) {
+            self.fault = Some(fault);
             return Err(fault);
         }
-        self.decoder.feed(piece)
+        let fed = self.decoder.feed(piece);
+        if let Err(fault) = &fed {
+            // What was taken before it is within the limits, as the decoder says of it here.
+            let _taken = self.decoder.taken();
+            self.fault = Some(*fault);
+            return fed;
+        }
+        fed
     }
 
     /// Fixes the version of a value whose first byte comes, or refuses that byte.
@@ -160,6 +166,7 @@ impl Client {
             (HasBegun self.new front piece.now)) }
         ensures unasked { WhereTaken self.old (λ front. IfErr result
             (IsUnaskedFault (state_of self.old) front piece.now)) }
+        ensures at_start { IfErr result (λ fault. fault.at ≡ 0) }
         ensures same_state { state_of self.new ≡ state_of self.old }
         ensures same_fault { self.new.fault ≡ self.old.fault }
     {
@@ -201,6 +208,7 @@ impl Client {
 
     /// Tells a value that was read: a push, or the reply to the first command that waits.
     fn hear(&mut self, value: Value) -> What
+        requires { ∥ HasTaken self.old [] ∥₁ }
         ensures known { Knows (state_of self.old) (state_of self.new) (datum_of value) result }
         ensures same_reading { SameReading self.old self.new }
     {
@@ -215,6 +223,7 @@ impl Client {
 
     /// Answers the first command that waits, and gives its number.
     fn answer(&mut self, value: &Value) -> u64
+        requires { ∥ HasTaken self.old [] ∥₁ }
         ensures answered { (state_of self.old).waiting.asks ≢ [] →
             state_of self.new ≡ with_answer (datum_of value.now) (state_of self.old) }
         ensures number { (state_of self.old).waiting.asks ≢ [] →

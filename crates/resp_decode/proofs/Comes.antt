@@ -9,7 +9,6 @@ use Rattle.resp_value.specs.Data as d
 use Rattle.resp_value.specs.Trees as t
 use Rattle.resp_value.specs.Trees.{Tree, Trees, leaf, node, none, more, Leaf, line, numeral, null, truth, string, chunked, Chunk, chunks_text, joined_content, Form, Counted, Streamed, HasMembers, close, form_line, kind_byte, leaf_text, payload, string_byte, text, texts, count, IsTree, AreTrees, IsLeaf}
 use Rattle.resp_value.specs.TreeValues.{value, leaf_value}
-use Rattle.resp_value.specs.Rules.{Every, EveryOf, IsNoDouble, IsAnyNode}
 use Rattle.resp_value.proofs.KeptDigits.{are_kept}
 use Rattle.resp_fronts.specs.Events.{Event, Timed, TextKind, bytes_from, text_events, last_of, big_events, chunk_events, leaf_events, events, events_each, open_event, close_event, without_places, events_due}
 use Rattle.resp_fronts.specs.Events as e
@@ -72,8 +71,8 @@ first_add (x ∷ es) owed b = omega (arith, first_add es owed (with_event x b))
 -- Leaves.
 
 -- events side by side, one list after another
-behind : (a c : List Timed) (xs : List Timed) (last weight : ℕ) (b : Construction) → Come last weight (a ++ (c ++ xs)) b → Come last weight ((a ++ c) ++ xs) b
-behind a c xs last weight b h = subst (λ z. Come last weight z b) (sym (append_assoc a c xs)) h
+beyond : (a c : List Timed) (xs : List Timed) (last weight : ℕ) (b : Construction) → Come last weight (a ++ (c ++ xs)) b → Come last weight ((a ++ c) ++ xs) b
+beyond a c xs last weight b h = subst (λ z. Come last weight z b) (sym (append_assoc a c xs)) h
 
 -- content comes, of which each byte leaves at least this much room
 pub content_comes : (from to room : ℕ) (kind : TextKind) (so_far s : List ℕ) (b : Construction) (last weight : ℕ) (xs : List Timed) → last ≤ from →
@@ -111,7 +110,7 @@ text_comes kind begins from room s ends to b last weight xs h1 h2 light1 light2 
       h1,
       light1,
       may,
-      behind (bytes_from from s) ending xs begins (weight + format_weight kind) (in_text kind [] b)
+      beyond (bytes_from from s) ending xs begins (weight + format_weight kind) (in_text kind [] b)
           (content_comes from (from + length s) room kind [] s b begins (weight + format_weight kind) (ending ++ xs) h2 light2 may.1 (omega arith)
           (λ l v p q. end_comes kind s ends to b l v xs (omega arith) (omega arith) whole may fits k)),
     )
@@ -128,7 +127,7 @@ chunks_come at to kind so_far (c ∷ cs) rest b last weight xs h light unended f
     let next = at + length c.digits + length c.content + 5 in
     let whole : length (chunks_text (c ∷ cs) rest) ≡ length c.digits + length c.content + 5 + length (chunks_text cs rest) =
     omega (arith, length-append (59 ∷ c.digits) (crlf (c.content ++ crlf (chunks_text cs rest))), length-append c.content (crlf (chunks_text cs rest))) in
-    behind first (chunk_events next cs) xs last weight (in_text kind so_far b)
+    beyond first (chunk_events next cs) xs last weight (in_text kind so_far b)
     (content_comes (at + length c.digits + 3) next 0 kind so_far c.content b last weight (chunk_events next cs ++ xs) (omega arith) (omega arith) unended
     (omega arith) (λ l v p q. chunks_come next to kind (so_far ++ c.content) cs rest b l v xs p (omega arith) unended (omega arith)
     (λ l' v' p' q'. subst (λ z. Come l' v' xs (in_text kind z b)) (sym (append_assoc so_far c.content (joined_content cs))) (k l' v' p' q'))))
@@ -159,23 +158,26 @@ big_comes negative (c ∷ s) from end to b last weight xs h light size some room
     (omega arith) (omega arith) (omega arith) room whole may k
 
 -- the events of a leaf
-pub leaf_comes : (from : ℕ) (l : Leaf) (b : Construction) (last weight : ℕ) (xs : List Timed) → IsLeaf l → IsNoDouble l → MayBegin b → last ≤ from →
+pub leaf_comes : (from : ℕ) (l : Leaf) (b : Construction) (last weight : ℕ) (xs : List Timed) → IsLeaf l → MayBegin b → last ≤ from →
     weight ≤ from → GoOn (from + length (leaf_text l)) xs (with_value (scalar (leaf_value l)) b) → Come last weight (leaf_events from l ++ xs) b
-leaf_comes from (line t.Simple s) b last weight xs is p may h light k =
+leaf_comes from (line t.Simple s) b last weight xs is may h light k =
     let n : length (leaf_text (line t.Simple s)) ≡ length s + 3 = omega (arith, length-append s (crlf [])) in
     text_comes e.Simple from (from + 1) 1 s (last_of from (leaf_text (line t.Simple s))) (from + length (leaf_text (line t.Simple s))) b last weight xs h
     (omega arith) (omega arith) (omega arith) (omega arith) (omega arith) (omega arith) is.0 may k
-leaf_comes from (line t.Error s) b last weight xs is p may h light k =
+leaf_comes from (line t.Error s) b last weight xs is may h light k =
     let n : length (leaf_text (line t.Error s)) ≡ length s + 3 = omega (arith, length-append s (crlf [])) in
     text_comes e.Error from (from + 1) 1 s (last_of from (leaf_text (line t.Error s))) (from + length (leaf_text (line t.Error s))) b last weight xs h
     (omega arith) (omega arith) (omega arith) (omega arith) (omega arith) (omega arith) is.0 may k
-leaf_comes from (line t.Double s) b last weight xs is p may h light k = absurd p
-leaf_comes from (numeral t.Int sign digits) b last weight xs is p may h light k =
+leaf_comes from (line t.Double s) b last weight xs is may h light k =
+    let n : length (leaf_text (line t.Double s)) ≡ length s + 3 = omega (arith, length-append s (crlf [])) in
+    text_comes e.Double from (from + 1) 1 s (last_of from (leaf_text (line t.Double s))) (from + length (leaf_text (line t.Double s))) b last weight xs h
+    (omega arith) (omega arith) (omega arith) (omega arith) (omega arith) (omega arith) is.0 may k
+leaf_comes from (numeral t.Int sign digits) b last weight xs is may h light k =
     let n : length (leaf_text (numeral t.Int sign digits)) ≡ length (sign_text sign) + length digits + 3 =
     omega (arith, length-append (58 ∷ (sign_text sign ++ digits)) (crlf []), length-append (sign_text sign) digits) in
     let some = is.0 in
     (omega arith, omega arith, may, k (last_of from (leaf_text (numeral t.Int sign digits))) (weight + 3) (omega arith) (omega arith))
-leaf_comes from (numeral t.Big sign digits) b last weight xs is p may h light k =
+leaf_comes from (numeral t.Big sign digits) b last weight xs is may h light k =
     let n : length (leaf_text (numeral t.Big sign digits)) ≡ length (sign_text sign) + length digits + 3 =
     omega (arith, length-append (40 ∷ (sign_text sign ++ digits)) (crlf []), length-append (sign_text sign) digits) in
     let some = is.0 in
@@ -183,29 +185,29 @@ leaf_comes from (numeral t.Big sign digits) b last weight xs is p may h light k 
     big_comes (is_below_zero sign digits) (significant_digits digits) from (last_of from (leaf_text (numeral t.Big sign digits)))
     (from + length (leaf_text (numeral t.Big sign digits))) b last weight xs h light (omega arith) (omega arith) (omega arith)
     (big_digits_are_kept sign digits is) may k
-leaf_comes from (null t.BulkNull) b last weight xs is p may h light k =
+leaf_comes from (null t.BulkNull) b last weight xs is may h light k =
     (omega arith, omega arith, may, k (last_of from (leaf_text (null t.BulkNull))) (weight + 3) (omega arith) (omega arith))
-leaf_comes from (null t.ArrayNull) b last weight xs is p may h light k =
+leaf_comes from (null t.ArrayNull) b last weight xs is may h light k =
     (omega arith, omega arith, may, k (last_of from (leaf_text (null t.ArrayNull))) (weight + 3) (omega arith) (omega arith))
-leaf_comes from (null t.PlainNull) b last weight xs is p may h light k =
+leaf_comes from (null t.PlainNull) b last weight xs is may h light k =
     (omega arith, omega arith, may, k (last_of from (leaf_text (null t.PlainNull))) (weight + 3) (omega arith) (omega arith))
-leaf_comes from (truth true) b last weight xs is p may h light k =
+leaf_comes from (truth true) b last weight xs is may h light k =
     (omega arith, omega arith, may, k (last_of from (leaf_text (truth true))) (weight + 3) (omega arith) (omega arith))
-leaf_comes from (truth false) b last weight xs is p may h light k =
+leaf_comes from (truth false) b last weight xs is may h light k =
     (omega arith, omega arith, may, k (last_of from (leaf_text (truth false))) (weight + 3) (omega arith) (omega arith))
-leaf_comes from (string t.Bulk digits s) b last weight xs is p may h light k =
+leaf_comes from (string t.Bulk digits s) b last weight xs is may h light k =
     let n : length (leaf_text (string t.Bulk digits s)) ≡ length digits + length s + 5 =
     omega (arith, length-append (36 ∷ digits) (crlf (s ++ crlf [])), length-append s (crlf [])) in
     text_comes e.Bulk (from + length digits + 2) (from + length digits + 3) 1 s (last_of from (leaf_text (string t.Bulk digits s)))
     (from + length (leaf_text (string t.Bulk digits s))) b last weight xs (omega arith) (omega arith) (omega arith) (omega arith) (omega arith)
     (omega arith) (omega arith) tt may k
-leaf_comes from (string t.BulkError digits s) b last weight xs is p may h light k =
+leaf_comes from (string t.BulkError digits s) b last weight xs is may h light k =
     let n : length (leaf_text (string t.BulkError digits s)) ≡ length digits + length s + 5 =
     omega (arith, length-append (33 ∷ digits) (crlf (s ++ crlf [])), length-append s (crlf [])) in
     text_comes e.BulkError (from + length digits + 2) (from + length digits + 3) 1 s (last_of from (leaf_text (string t.BulkError digits s)))
     (from + length (leaf_text (string t.BulkError digits s))) b last weight xs (omega arith) (omega arith) (omega arith) (omega arith) (omega arith)
     (omega arith) (omega arith) tt may k
-leaf_comes from (string (t.Verbatim format) digits s) b last weight xs is p may h light k =
+leaf_comes from (string (t.Verbatim format) digits s) b last weight xs is may h light k =
     let n : length (leaf_text (string (t.Verbatim format) digits s)) ≡ length digits + length format + length s + 6 =
     omega (
       arith,
@@ -216,7 +218,7 @@ leaf_comes from (string (t.Verbatim format) digits s) b last weight xs is p may 
     text_comes (e.Verbatim format) (from + length digits + length format + 3) (from + length digits + length format + 4) 1 s
     (last_of from (leaf_text (string (t.Verbatim format) digits s))) (from + length (leaf_text (string (t.Verbatim format) digits s))) b last weight xs
     (omega arith) (omega arith) (omega arith) (omega arith) (omega arith) (omega arith) (omega arith) is.1.0 may k
-leaf_comes from (chunked cs zeros) b last weight xs is p may h light k =
+leaf_comes from (chunked cs zeros) b last weight xs is may h light k =
     let tail = (59 ∷ zeros) ++ crlf [] in
     let ends = last_of from (leaf_text (chunked cs zeros)) in
     let to = from + length (leaf_text (chunked cs zeros)) in
@@ -227,7 +229,7 @@ leaf_comes from (chunked cs zeros) b last weight xs is p may h light k =
       omega arith,
       omega arith,
       may,
-      behind (chunk_events (from + 4) cs) ending xs (from + 3) (weight + 0) (in_text e.Bulk [] b)
+      beyond (chunk_events (from + 4) cs) ending xs (from + 3) (weight + 0) (in_text e.Bulk [] b)
           (chunks_come (from + 4) mid e.Bulk [] cs tail b (from + 3) (weight + 0) (ending ++ xs) (omega arith) (omega arith) may.1 (omega arith)
           (λ l v q r. end_comes e.Bulk (joined_content cs) ends to b l v xs (omega arith) (omega arith) tt may (omega arith) k)),
     )
@@ -259,10 +261,10 @@ may_have Attr Streamed n h = absurd h
 
 mutual
   -- the events of a tree
-  pub tree_comes : (from : ℕ) (u : Tree) (b : Construction) (last weight : ℕ) (xs : List Timed) → IsTree u → Every IsNoDouble IsAnyNode u → MayBegin b →
+  pub tree_comes : (from : ℕ) (u : Tree) (b : Construction) (last weight : ℕ) (xs : List Timed) → IsTree u → MayBegin b →
       last ≤ from → weight ≤ from → GoOn (from + length (text u)) xs (with_value (value u) b) → Come last weight (events from u ++ xs) b
-  tree_comes from (leaf l) b last weight xs is p may h light k = leaf_comes from l b last weight xs is p may h light k
-  tree_comes from (node kind form us) b last weight xs is p may h light k =
+  tree_comes from (leaf l) b last weight xs is may h light k = leaf_comes from l b last weight xs is may h light k
+  tree_comes from (node kind form us) b last weight xs is may h light k =
       let at = from + length (form_line form) + 3 in
       let ends = last_of from (text (node kind form us)) in
       let ending : List Timed = close_event from (text (node kind form us)) ∷ [] in
@@ -272,8 +274,8 @@ mutual
         omega arith,
         omega arith,
         may,
-        behind (events_each at us) ending xs (from + length (form_line form) + 2) (weight + 3) (in_group kind [] b)
-            (trees_come at us kind [] b (from + length (form_line form) + 2) (weight + 3) (ending ++ xs) is.1 p.1 may (omega arith) (omega arith)
+        beyond (events_each at us) ending xs (from + length (form_line form) + 2) (weight + 3) (in_group kind [] b)
+            (trees_come at us kind [] b (from + length (form_line form) + 2) (weight + 3) (ending ++ xs) is.1 may (omega arith) (omega arith)
             (λ l v q r. (
               omega arith,
               omega arith,
@@ -285,20 +287,20 @@ mutual
 
   -- the events of trees, the members of an aggregate
   pub trees_come : (from : ℕ) (us : Trees) (kind : Kind) (so_far : List Datum) (b : Construction) (last weight : ℕ) (xs : List Timed) → AreTrees us →
-      EveryOf IsNoDouble IsAnyNode us → MayBegin b → last < from → weight ≤ from →
+      MayBegin b → last < from → weight ≤ from →
       GoOn (from + length (texts us)) xs (in_group kind (so_far ++ value_list us) b) → Come last weight (events_each from us ++ xs) (in_group kind so_far b)
-  trees_come from none kind so_far b last weight xs is p may h light k =
+  trees_come from none kind so_far b last weight xs is may h light k =
       subst (λ z. Come last weight xs (in_group kind z b)) (append-nil so_far) (k last weight (omega arith) (omega arith))
-  trees_come from (more u us) kind so_far b last weight xs is p may h light k =
+  trees_come from (more u us) kind so_far b last weight xs is may h light k =
       let next = from + length (text u) in
       let size : length (texts (more u us)) ≡ length (text u) + length (texts us) = length-append (text u) (texts us) in
-      behind (events from u) (events_each next us) xs last weight (in_group kind so_far b)
-      (tree_comes from u (in_group kind so_far b) last weight (events_each next us ++ xs) is.0 p.0 may (omega arith) light
-      (λ l v q r. trees_come next us kind (so_far ++ value u ∷ []) b l v xs is.1 p.1 may q r
+      beyond (events from u) (events_each next us) xs last weight (in_group kind so_far b)
+      (tree_comes from u (in_group kind so_far b) last weight (events_each next us ++ xs) is.0 may (omega arith) light
+      (λ l v q r. trees_come next us kind (so_far ++ value u ∷ []) b l v xs is.1 may q r
       (λ l' v' q' r'. subst (λ z. Come l' v' xs (in_group kind z b)) (sym (append_assoc so_far (value u ∷ []) (value_list us)))
       (k l' v' (omega arith) (omega arith)))))
 
 -- all events of a tree, from nothing on
-pub all_come : (u : Tree) → IsTree u → Every IsNoDouble IsAnyNode u → Come 0 0 (events 0 u ++ record { at = last_of 0 (text u); event = e.Done } ∷ []) nothing
-all_come u is p = tree_comes 0 u nothing 0 0 (record { at = last_of 0 (text u); event = e.Done } ∷ []) is p (refl, refl) (omega arith) (omega arith)
+pub all_come : (u : Tree) → IsTree u → Come 0 0 (events 0 u ++ record { at = last_of 0 (text u); event = e.Done } ∷ []) nothing
+all_come u is = tree_comes 0 u nothing 0 0 (record { at = last_of 0 (text u); event = e.Done } ∷ []) is (refl, refl) (omega arith) (omega arith)
     (λ l v q r. (omega arith, omega arith, tt, tt))

@@ -32,6 +32,7 @@ put_weighs x b unended =
 scalar_weighs : (kind : TextKind) (s : List ℕ) → content_size (scalar_of kind s) + 3 ≡ format_weight kind + length s + end_weight kind s
 scalar_weighs e.Simple s = omega arith
 scalar_weighs e.Error s = omega arith
+scalar_weighs e.Double s = omega arith
 scalar_weighs e.Bulk s = omega arith
 scalar_weighs e.BulkError s = omega arith
 scalar_weighs (e.Verbatim format) s = omega arith

@@ -52,7 +52,9 @@ leaf_elsewhere m n (line t.Simple s) =
 leaf_elsewhere m n (line t.Error s) =
     let whole = leaf_text (line t.Error s) in
     text_elsewhere e.Error (m + 1) (last_of m whole) (n + 1) (last_of n whole) s
-leaf_elsewhere m n (line t.Double s) = refl
+leaf_elsewhere m n (line t.Double s) =
+    let whole = leaf_text (line t.Double s) in
+    text_elsewhere e.Double (m + 1) (last_of m whole) (n + 1) (last_of n whole) s
 leaf_elsewhere m n (numeral t.Int sign digits) = refl
 leaf_elsewhere m n (numeral t.Big sign digits) =
     big_elsewhere (is_below_zero sign digits) (significant_digits digits)
@@ -89,6 +91,6 @@ mutual
   members_elsewhere : (m n : ℕ) (us : Trees) → without_places (events_each m us) ≡ without_places (events_each n us)
   members_elsewhere m n none = refl
   members_elsewhere m n (more u us) =
-      let behind = length (text u) in
-      both (events m u) (events n u) (events_each (m + behind) us) (events_each (n + behind) us)
-      (events_elsewhere m n u) (members_elsewhere (m + behind) (n + behind) us)
+      let beyond = length (text u) in
+      both (events m u) (events n u) (events_each (m + beyond) us) (events_each (n + beyond) us)
+      (events_elsewhere m n u) (members_elsewhere (m + beyond) (n + beyond) us)

@@ -1,6 +1,8 @@
 -- What a decoder has taken, from what its scanner and its listener say.
 use Rattle.std.proofs.Common.{◌≡◌, ◌⊎◌, inl, inr, ℕ, zero, suc, ◌≤◌, ◌<◌, Bool, true, false, cond, ltb, None, Some, List, [], ◌∷◌, ◌++◌, length, take, drop, ◌+◌, ◌-◌, append_assoc, length-append, refl, sym, ap, subst, ◌∙◌, arith}
-use Rattle.std.specs.Prelude.{IsOk, OnOk, ◌↔◌, Result, Ok, Err}
+use Rattle.std.specs.Prelude.{IsOk, OnOk, OnErr, ◌↔◌, Result, Ok, Err}
+use Rattle.std.proofs.Math.Bridge.{le_prop}
+use Rattle.std.proofs.Math.Logic.{∥∥₁_elim, ∥∥₁_map}
 use Rattle.std.proofs.lemmas.List.{append-nil, length-take-le, take-append-drop, take_all}
 use Rattle.std.proofs.lemmas.Bool.{ltb-true}
 use Rattle.std.proofs.Math.Seq.{take-append-add, take-nil}
@@ -14,19 +16,19 @@ use Rattle.resp_value.proofs.SpellingLaws.{text_not_empty}
 use Rattle.resp_value.proofs.ViabilityLaws.{fronts_of_viable_texts_are_viable}
 use Rattle.resp_fronts.specs.Events.{Timed, all_events, events_due}
 use Rattle.resp_scan.specs.Kinds.{rules_of}
-use Rattle.resp_scan.specs.Reading.{AreDue, BeginDue, Events, HasNoValue, HasRead, IsRefused, MayEnd}
-use Rattle.resp_scan.specs.Listening.{HearsRefusal, HearsValue, OnFault, OnStopped, StopsBehind, fault_of}
+use Rattle.resp_scan.specs.Reading.{AreDue, BeginDue, Events, HasNoValue, HasRead, IsFaulted, IsRefused, MayEnd, WhereRead}
+use Rattle.resp_scan.specs.Listening.{HearsPiece, HearsRefusal, HearsValue, OnFault, OnStopped, StopsAfter, WhereHeard, fault_of}
 use Rattle.resp_scan.specs.Machine.Tokens.{Place}
 use Rattle.resp_scan.specs.declared.event.Fault.{Fault}
 use Rattle.resp_scan.specs.declared.event.ScanError.{ScanError}
 use Rattle.resp_scan.specs.declared.event.ScanError.TheVariants as stop
 use Rattle.resp_decode.specs.Brief.{AreBrief, BeginsBrief, WantMemory}
 use Rattle.resp_decode.specs.Builds.{Construction, nothing}
-use Rattle.resp_decode.specs.Decoding.{GivesValue, HasTaken, LacksMemory, RefusesByte}
+use Rattle.resp_decode.specs.Decoding.{LacksMemory, RefusesByte}
 use Rattle.resp_decode.specs.Hearing.{HasHeard}
 use Rattle.resp_decode.specs.Holding.{construction_of}
+use Rattle.resp_decode.specs.Standing.{TakesFront, TakesOrStands}
 use Rattle.resp_decode.specs.Weights.{weight_of}
-use Rattle.resp_decode.specs.declared.decoder.Decoder.{Decoder}
 use Rattle.resp_decode.specs.declared.held.Held.{Held}
 use Rattle.resp_decode.proofs.Counted.{events_weigh}
 use Rattle.resp_decode.proofs.Values.{are_brief, are_good, brief_first, value_is_built}
@@ -52,9 +54,9 @@ given_at_start given due =
     let whole : Tree = leaf (null PlainNull) in
     sym (due (text whole) whole (record { is_tree = tt; spelled = refl })) ∙ due_at_start (all_events whole)
 
--- a decoder has taken nothing where its scanner has read nothing, and nothing is held
-pub takes_nothing : (d : Decoder) → HasRead d.scanner [] [] → construction_of d.held ≡ nothing → d.held.weight ≡ 0 → HasTaken d []
-takes_nothing d reads holds weighs = record {
+-- nothing is taken where the scanner has read nothing, and nothing is held
+pub takes_nothing : (s : Place) (held : Held) → HasRead s [] [] → construction_of held ≡ nothing → held.weight ≡ 0 → TakesFront s held []
+takes_nothing s held reads holds weighs = record {
   given = [];
   reads = reads;
   heard = record { holds = holds; weighs = weighs };
@@ -62,38 +64,49 @@ takes_nothing d reads holds weighs = record {
   no_value = no_value_at_start;
 }
 
--- a decoder between values takes nothing with another scanner that has read nothing
-pub takes_nothing_anew : (d : Decoder) (s : Place) (front : List ℕ) → HasTaken d front → front ≡ [] → HasRead s [] [] →
-    HasTaken (record d { scanner = s }) []
-takes_nothing_anew d s front w none reads =
+-- between values nothing is taken with another scanner that has read nothing
+takes_nothing_anew : (s s' : Place) (held : Held) (front : List ℕ) → TakesFront s held front → front ≡ [] → HasRead s' [] [] → TakesFront s' held []
+takes_nothing_anew s s' held front w none reads =
     let given : w.given ≡ [] = given_at_start w.given (subst (λ z. AreDue z w.given) none w.all_due) in
-    let heard : HasHeard d.held [] = subst (HasHeard d.held) given w.heard in
-    takes_nothing (record d { scanner = s }) reads heard.holds heard.weighs
+    let heard : HasHeard held [] = subst (HasHeard held) given w.heard in
+    takes_nothing s' held reads heard.holds heard.weighs
 
 -- a change of version between values keeps it so
-pub takes_nothing_of_version : {A B : Type 0} (d : Decoder) (s : Place) (front : List ℕ) (result : Result A B) → HasTaken d front →
-    (IsOk result → front ≡ []) → OnOk result (HasRead s [] []) → OnOk result (HasTaken (record d { scanner = s }) [])
-takes_nothing_of_version d s front (Ok x) w between reads = takes_nothing_anew d s front w (between refl) reads
-takes_nothing_of_version d s front (Err x) w between reads = tt
+pub takes_nothing_of_version : {A B : Type 0} (s s' : Place) (held : Held) (front : List ℕ) (result : Result A B) → TakesFront s held front →
+    (IsOk result → front ≡ []) → OnOk result (HasRead s' [] []) → OnOk result (TakesFront s' held [])
+takes_nothing_of_version s s' held front (Ok x) w between reads = takes_nothing_anew s s' held front w (between refl) reads
+takes_nothing_of_version s s' held front (Err x) w between reads = tt
+
+-- and it takes a front or stands at a fault as before
+pub reads_on_in_version : {A B : Type 0} (s s' : Place) (held : Held) (result : Result A B) → ∥ TakesOrStands s held ∥₁ →
+    WhereRead s (λ front given. IsOk result ↔ (front ≡ [])) → WhereRead s (λ front given. OnOk result (HasRead s' [] [])) →
+    OnErr result (s' ≡ s) → ((fault : Fault) → IsFaulted s fault → OnOk result ⊥) → ∥ TakesOrStands s' held ∥₁
+reads_on_in_version s s' held (Err x) reading between reads same never = subst (λ z. ∥ TakesOrStands z held ∥₁) (sym same) reading
+reads_on_in_version s s' held (Ok x) reading between reads same never = ∥∥₁_map reading after
+  where
+    after : TakesOrStands s held → TakesOrStands s' held
+    after (inl (front, w)) =
+        inl ([], takes_nothing_anew s s' held front w ((between front w.given w.reads).0 refl) (reads front w.given w.reads))
+    after (inr (fault, stands)) = absurd (never fault stands.0)
 
 -- the input may end exactly between values
-pub ends_between_values : (d : Decoder) (front : List ℕ) (Ended : Type 0) → HasTaken d front → Ended ↔ MayEnd (rules_of d.scanner) front →
+pub ends_between_values : (s : Place) (held : Held) (front : List ℕ) (Ended : Type 0) → TakesFront s held front → Ended ↔ MayEnd (rules_of s) front →
     Ended ↔ (front ≡ [])
-ends_between_values d front Ended w may = (λ ended. only (may.0 ended), λ none. may.1 (inl none))
+ends_between_values s held front Ended w may = (λ ended. only (may.0 ended), λ none. may.1 (inl none))
   where
-    only : MayEnd (rules_of d.scanner) front → front ≡ []
+    only : MayEnd (rules_of s) front → front ≡ []
     only (inl none) = none
-    only (inr s) = absurd (w.no_value (length front) s.tree (subst (Spells s.tree) (sym (take_all (length front) front (omega arith))) s.spells))
+    only (inr v) = absurd (w.no_value (length front) v.tree (subst (Spells v.tree) (sym (take_all (length front) front (omega arith))) v.spells))
 
 -- the weight kept is that of what is held, and at most the bytes taken
-pub record IsLight (d : Decoder) (front : List ℕ) : Type 0 where
-  pub same : d.held.weight ≡ weight_of (construction_of d.held)
-  pub light : d.held.weight ≤ length front
+pub record IsLight (held : Held) (front : List ℕ) : Type 0 where
+  pub same : held.weight ≡ weight_of (construction_of held)
+  pub light : held.weight ≤ length front
 
-pub is_light : (d : Decoder) (front : List ℕ) → HasTaken d front → IsViable (rules_of d.scanner) WithinTotal front → IsLight d front
-is_light d front w viable =
+pub is_light : (s : Place) (held : Held) (front : List ℕ) → TakesFront s held front → IsViable (rules_of s) WithinTotal front → IsLight held front
+is_light s held front w viable =
     let begin : BeginDue front w.given = λ rest whole spells. ([], w.all_due rest whole spells ∙ sym (append-nil w.given)) in
-    let good = are_good (rules_of d.scanner) front w.given viable begin in
+    let good = are_good (rules_of s) front w.given viable begin in
     let weigh = events_weigh w.given nothing good.may in
     record {
       same = omega (arith, w.heard.weighs, weigh, ap weight_of w.heard.holds);
@@ -107,17 +120,22 @@ value_whole r s held written h =
     let b = value_is_built r written h.heard h.is_value in
     (b.tree, b.spelling, h.has_heard.holds ∙ b.is)
 
+-- the text is a spelling of the value, and nothing is taken of the next
+pub record GivesWhole (r : Rules) (s : Place) (held : Held) (written : List ℕ) (x : Value) : Type 0 where
+  pub spelling : IsSpelling r (datum_of x) written
+  pub takes : TakesFront s held []
+
 -- it is the one that is taken out, and then nothing is held
 pub gives_value : (r : Rules) (s : Place) (held left : Held) (written : List ℕ) (x : Value) → HearsValue r s (HasHeard held) written →
     Some (datum_of x) ≡ (construction_of held).whole → construction_of left ≡ record (construction_of held) { whole = None } →
-    left.weight ≡ 0 → GivesValue r (record { scanner = s; held = left }) written x
+    left.weight ≡ 0 → GivesWhole r s left written x
 gives_value r s held left written x h taken holds weighs =
     let (tree, spelling, is) = value_whole r s held written h in
     let same : Some (datum_of x) ≡ Some (value tree) = taken ∙ ap (λ b. let c : Construction = b in c.whole) is in
     let same_value : value tree ≡ datum_of x = cc in
     record {
       spelling = subst (λ y. IsSpelling r y written) same_value spelling;
-      takes = takes_nothing (record { scanner = s; held = left }) h.reads (holds ∙ ap (λ b. let c : Construction = record b { whole = None } in c) is) weighs;
+      takes = takes_nothing s left h.reads (holds ∙ ap (λ b. let c : Construction = record b { whole = None } in c) is) weighs;
     }
 
 -- so one is taken out
@@ -127,6 +145,41 @@ holds_some_value r s held written h none =
     let (tree, spelling, is) = value_whole r s held written h in
     let wrong : None ≡ Some (value tree) = sym none ∙ ap (λ b. let c : Construction = b in c.whole) is in
     cc
+
+-- whatever came of a piece, a front was taken then, or a fault stands
+pub reads_on_whole : (s s' : Place) (held held' left : Held) (r : Rules) (piece : List ℕ) (used : ℕ) → ∥ TakesOrStands s held ∥₁ →
+    ((fault : Fault) → IsFaulted s fault → ⊥) →
+    WhereHeard s (λ (since : Unit {0}). HasHeard held) (λ since front. HearsValue r s' (HasHeard held') (front ++ take used piece)) →
+    construction_of left ≡ record (construction_of held') { whole = None } → left.weight ≡ 0 → ∥ TakesOrStands s' left ∥₁
+reads_on_whole s s' held held' left r piece used reading never whole holds weighs = ∥∥₁_map reading after
+  where
+    after : TakesOrStands s held → TakesOrStands s' left
+    after (inl (front, w)) =
+        let h = whole tt front w.given w.reads w.heard in
+        let (tree, spelling, is) = value_whole r s' held' (front ++ take used piece) h in
+        inl ([], takes_nothing s' left h.reads (holds ∙ ap (λ b. let c : Construction = record b { whole = None } in c) is) weighs)
+    after (inr (fault, stands)) = absurd (never fault stands.0)
+
+pub reads_on_inside : (s s' : Place) (held held' : Held) (piece : List ℕ) → ∥ TakesOrStands s held ∥₁ →
+    ((fault : Fault) → IsFaulted s fault → ⊥) →
+    WhereHeard s (λ (since : Unit {0}). HasHeard held) (λ since front. HearsPiece s' (HasHeard held') (front ++ piece)) →
+    ∥ TakesOrStands s' held' ∥₁
+reads_on_inside s s' held held' piece reading never heard = ∥∥₁_map reading after
+  where
+    after : TakesOrStands s held → TakesOrStands s' held'
+    after (inl (front, w)) =
+        let h = heard tt front w.given w.reads w.heard in
+        inl (front ++ piece, record { given = h.heard; reads = h.reads; heard = h.has_heard; all_due = h.all_due; no_value = h.no_value })
+    after (inr (fault, stands)) = absurd (never fault stands.0)
+
+-- of a piece with a byte some is used, whatever was taken
+pub some_used : (s : Place) (held : Held) (piece : List ℕ) (used : ℕ) → ∥ TakesOrStands s held ∥₁ → ((fault : Fault) → IsFaulted s fault → ⊥) →
+    WhereHeard s (λ (since : Unit {0}). HasHeard held) (λ since front. HasNoValue front → 0 < length piece → 0 < used) → 0 < length piece → 0 < used
+some_used s held piece used reading never uses some = ∥∥₁_elim reading le_prop of
+  where
+    of : TakesOrStands s held → 0 < used
+    of (inl (front, w)) = uses tt front w.given w.reads w.heard w.no_value some
+    of (inr (fault, stands)) = absurd (never fault stands.0)
 
 -- the first events due of a text that begins an integer, a truth value or a null want no memory
 brief_given : (r : Rules) (written : List ℕ) (n : ℕ) (es : Events) → BeginsBrief written → IsViable r WithinTotal (take n written) →
@@ -147,7 +200,7 @@ refused_byte r front piece fault given w =
       names = w.refused.names;
       fault_of = record {
         front = take (n + 1) text;
-        behind = drop (n + 1) text;
+        beyond = drop (n + 1) text;
         whole = sym (take-append-drop (n + 1) text);
         place = sym (length-take-le (n + 1) text (omega (arith, w.before_end)));
         cause = w.refused.cause;
@@ -162,8 +215,8 @@ refused_byte r front piece fault given w =
     viable_before before byte after is =
         let text = front ++ piece in
         let n = fault.at in
-        let behind = (byte ∷ after) ++ drop (n + 1) text in
-        let whole : text ≡ before ++ behind = sym (take-append-drop (n + 1) text) ∙ ap (λ z. z ++ drop (n + 1) text) is ∙
+        let beyond = (byte ∷ after) ++ drop (n + 1) text in
+        let whole : text ≡ before ++ beyond = sym (take-append-drop (n + 1) text) ∙ ap (λ z. z ++ drop (n + 1) text) is ∙
         append_assoc before (byte ∷ after) (drop (n + 1) text) in
         let m = n - length before in
         let at : n ≡ length before + m = omega (
@@ -172,12 +225,12 @@ refused_byte r front piece fault given w =
           ap length is,
           length-append before (byte ∷ after),
         ) in
-        let split : take n text ≡ before ++ take m behind = ap (λ k. take k text) at ∙ ap (take (length before + m)) whole ∙ take-append-add before behind m in
-        fronts_of_viable_texts_are_viable r WithinTotal before (take m behind) (subst (IsViable r WithinTotal) split w.viable)
+        let split : take n text ≡ before ++ take m beyond = ap (λ k. take k text) at ∙ ap (take (length before + m)) whole ∙ take-append-add before beyond m in
+        fronts_of_viable_texts_are_viable r WithinTotal before (take m beyond) (subst (IsViable r WithinTotal) split w.viable)
 
 -- a call that was refused met a byte after which nothing can follow, or found no memory
 pub refuses_or_lacks : (r : Rules) (HasHeard' : Events → Type 0) (front piece : List ℕ) (s : ScanError) →
-    OnFault s (HearsRefusal r HasHeard' front piece) → OnStopped s (StopsBehind r WantMemory front piece) →
+    OnFault s (HearsRefusal r HasHeard' front piece) → OnStopped s (StopsAfter r WantMemory front piece) →
     RefusesByte r front piece (fault_of s) ⊎ LacksMemory r front piece (fault_of s)
 refuses_or_lacks r H front piece (stop.Fault fault) refused stopped = inl (refused_byte r front piece fault refused.heard refused.refused)
 refuses_or_lacks r H front piece (stop.Stopped taken) refused stopped = inr (record {

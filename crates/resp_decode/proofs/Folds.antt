@@ -7,7 +7,6 @@ use Rattle.resp_value.specs.Data as d
 use Rattle.resp_value.specs.Trees as t
 use Rattle.resp_value.specs.Trees.{Tree, Trees, leaf, node, none, more, Leaf, line, numeral, null, truth, string, chunked, Chunk, joined_content, Form, form_line, leaf_text, text, count, IsTree, AreTrees, IsLeaf}
 use Rattle.resp_value.specs.TreeValues.{value, values, leaf_value}
-use Rattle.resp_value.specs.Rules.{Every, EveryOf, IsNoDouble, IsAnyNode}
 use Rattle.resp_fronts.specs.Events.{Event, Timed, TextKind, bytes_from, text_events, last_of, big_events, chunk_events, leaf_events, events, events_each, open_event, close_event, without_places}
 use Rattle.resp_fronts.specs.Events as e
 use Rattle.resp_decode.specs.Builds.{Group, Construction, with_value, with_value_in, scalar_of, with_event, with_events}
@@ -65,29 +64,29 @@ builds-chunks at kind so_far (c ∷ cs) b =
     ∙ ap (λ z. in_text kind z b) (append_assoc so_far c.content (joined_content cs))
 
 -- the events of a leaf
-pub builds-leaf : (from : ℕ) (l : Leaf) (b : Construction) → IsNoDouble l → Rests b → with_events (without_places (leaf_events from l)) b ≡
+pub builds-leaf : (from : ℕ) (l : Leaf) (b : Construction) → Rests b → with_events (without_places (leaf_events from l)) b ≡
     with_value (scalar (leaf_value l)) b
-builds-leaf from (line t.Simple s) b p rests = builds-text e.Simple from (from + 1) s _ b rests
-builds-leaf from (line t.Error s) b p rests = builds-text e.Error from (from + 1) s _ b rests
-builds-leaf from (line t.Double s) b p rests = absurd p
-builds-leaf from (numeral t.Int sign digits) b p rests = refl
-builds-leaf from (numeral t.Big sign digits) b p rests = big (is_below_zero sign digits) (significant_digits digits)
+builds-leaf from (line t.Simple s) b rests = builds-text e.Simple from (from + 1) s _ b rests
+builds-leaf from (line t.Error s) b rests = builds-text e.Error from (from + 1) s _ b rests
+builds-leaf from (line t.Double s) b rests = builds-text e.Double from (from + 1) s _ b rests
+builds-leaf from (numeral t.Int sign digits) b rests = refl
+builds-leaf from (numeral t.Big sign digits) b rests = big (is_below_zero sign digits) (significant_digits digits)
     (last_of from (leaf_text (numeral t.Big sign digits)))
   where
     big : (negative : Bool) (s : List ℕ) (last : ℕ) → with_events (without_places (big_events negative s last)) b ≡
         with_value (scalar (d.Big negative (zero_if_none s))) b
     big negative [] last = builds-text (e.Big negative) last last [] last b rests
     big negative (c ∷ s) last = builds-text (e.Big negative) (last - 2 - length s) (last - 2 - length s) (c ∷ s) last b rests
-builds-leaf from (null form) b p rests = refl
-builds-leaf from (truth x) b p rests = refl
-builds-leaf from (string t.Bulk digits s) b p rests = builds-text e.Bulk (from + length digits + 2) (from + length digits + 3) s
+builds-leaf from (null form) b rests = refl
+builds-leaf from (truth x) b rests = refl
+builds-leaf from (string t.Bulk digits s) b rests = builds-text e.Bulk (from + length digits + 2) (from + length digits + 3) s
     (last_of from (leaf_text (string t.Bulk digits s))) b rests
-builds-leaf from (string t.BulkError digits s) b p rests = builds-text e.BulkError (from + length digits + 2) (from + length digits + 3) s
+builds-leaf from (string t.BulkError digits s) b rests = builds-text e.BulkError (from + length digits + 2) (from + length digits + 3) s
     (last_of from (leaf_text (string t.BulkError digits s))) b rests
-builds-leaf from (string (t.Verbatim format) digits s) b p rests =
+builds-leaf from (string (t.Verbatim format) digits s) b rests =
     builds-text (e.Verbatim format) (from + length digits + length format + 3) (from + length digits + length format + 4) s
     (last_of from (leaf_text (string (t.Verbatim format) digits s))) b rests
-builds-leaf from (chunked cs zeros) b p rests =
+builds-leaf from (chunked cs zeros) b rests =
     let ending : List Timed = record { at = last_of from (leaf_text (chunked cs zeros)); event = e.TextEnd } ∷ [] in
     let opened : Construction = in_text e.Bulk [] b in
     ap (λ es. with_events es opened) (without_places-append (chunk_events (from + 4) cs) ending)
@@ -118,27 +117,27 @@ put_rests x b rests = case b.groups
 
 mutual
   -- the events of a tree
-  pub builds-tree : (from : ℕ) (u : Tree) (b : Construction) → Every IsNoDouble IsAnyNode u → Rests b → with_events (without_places (events from u)) b ≡
+  pub builds-tree : (from : ℕ) (u : Tree) (b : Construction) → Rests b → with_events (without_places (events from u)) b ≡
       with_value (value u) b
-  builds-tree from (leaf l) b p rests = builds-leaf from l b p rests
-  builds-tree from (node k form us) b p rests =
+  builds-tree from (leaf l) b rests = builds-leaf from l b rests
+  builds-tree from (node k form us) b rests =
       let at = from + length (form_line form) + 3 in
       let ending : List Timed = close_event from (text (node k form us)) ∷ [] in
       let opened : Construction = in_group k [] b in
       ap (λ es. with_events es opened) (without_places-append (events_each at us) ending)
       ∙ with_events-append (without_places (events_each at us)) (e.Close ∷ []) opened
-      ∙ ap (with_events (e.Close ∷ [])) (builds-trees at us k [] b p.1 rests)
+      ∙ ap (with_events (e.Close ∷ [])) (builds-trees at us k [] b rests)
       ∙ ap (λ xs. with_value (aggregate k xs) b) (values_listed us)
 
   -- the events of trees, the members of an aggregate
-  pub builds-trees : (from : ℕ) (us : Trees) (k : Kind) (so_far : List Datum) (b : Construction) → EveryOf IsNoDouble IsAnyNode us → Rests b →
+  pub builds-trees : (from : ℕ) (us : Trees) (k : Kind) (so_far : List Datum) (b : Construction) → Rests b →
       with_events (without_places (events_each from us)) (in_group k so_far b) ≡ in_group k (so_far ++ value_list us) b
-  builds-trees from none k so_far b p rests = ap (λ z. in_group k z b) (sym (append-nil so_far))
-  builds-trees from (more u us) k so_far b p rests =
+  builds-trees from none k so_far b rests = ap (λ z. in_group k z b) (sym (append-nil so_far))
+  builds-trees from (more u us) k so_far b rests =
       let first = events from u in
       let others = events_each (from + length (text u)) us in
       ap (λ es. with_events es (in_group k so_far b)) (without_places-append first others)
       ∙ with_events-append (without_places first) (without_places others) (in_group k so_far b)
-      ∙ ap (with_events (without_places others)) (builds-tree from u (in_group k so_far b) p.0 rests)
-      ∙ builds-trees (from + length (text u)) us k (so_far ++ value u ∷ []) b p.1 rests
+      ∙ ap (with_events (without_places others)) (builds-tree from u (in_group k so_far b) rests)
+      ∙ builds-trees (from + length (text u)) us k (so_far ++ value u ∷ []) b rests
       ∙ ap (λ z. in_group k z b) (append_assoc so_far (value u ∷ []) (value_list us))

@@ -64,21 +64,21 @@ nothing_refused : (r : Rules) (rest : List ℕ) (fault : Fault) → rest ≡ [] 
     fault.cause ≡ cause.OutOfMemory
 nothing_refused r rest fault none (inl refused) =
     let f = refused.fault_of in
-    absurd (omega (arith, f.place, ap length f.whole, ap length none, length-append f.front f.behind))
+    absurd (omega (arith, f.place, ap length f.whole, ap length none, length-append f.front f.beyond))
 nothing_refused r rest fault none (inr (inl ends)) = absurd (omega (arith, ends.begun, ap length none))
 nothing_refused r rest fault none (inr (inr (inl lacks))) = lacks.names
 nothing_refused r rest fault none (inr (inr (inr lacks))) = lacks.names
 
 -- the text of a value isn't refused after such values
-refused_behind : NoSpellingBeginsAnother → NoSpellingIsEmpty → (r : Rules) (x : Datum) (text : List ℕ) (fault : Fault) (values : List Datum)
+refused_after : NoSpellingBeginsAnother → NoSpellingIsEmpty → (r : Rules) (x : Datum) (text : List ℕ) (fault : Fault) (values : List Datum)
     (front rest : List ℕ) → IsSpelling r x text → AreSpellings r values front → text ≡ front ++ rest → RefusesRest r rest fault →
     fault.cause ≡ cause.OutOfMemory
-refused_behind begins empty r x text fault [] front rest is are whole refused =
+refused_after begins empty r x text fault [] front rest is are whole refused =
     not_refused r x text fault is (subst (λ z. RefusesRest r z fault) (sym (whole ∙ ap (λ z. z ++ rest) are)) refused)
-refused_behind begins empty r x text fault (y ∷ ys) front rest is are whole refused =
+refused_after begins empty r x text fault (y ∷ ys) front rest is are whole refused =
     nothing_refused r rest fault (alone begins empty r x y ys text front rest is are whole).nothing_left refused
 
 pub refused_for_memory_alone : NoSpellingBeginsAnother → NoSpellingIsEmpty → (r : Rules) (x : Datum) (text : List ℕ) (refusal : AllFault) →
     IsSpelling r x text → RefusesInput r text refusal → refusal.fault.cause ≡ cause.OutOfMemory
 refused_for_memory_alone begins empty r x text refusal is h =
-    refused_behind begins empty r x text refusal.fault h.values h.front h.rest is h.spelled h.whole h.refused
+    refused_after begins empty r x text refusal.fault h.values h.front h.rest is h.spelled h.whole h.refused

@@ -20,8 +20,8 @@ are_spellings-more : (r : Rules) (xs : List Datum) (x : Datum) (front next : Lis
     AreSpellings r (xs ++ x ∷ []) (front ++ next)
 are_spellings-more r [] x front next are is = (next, [], is, refl, ap (λ z. z ++ next) are ∙ sym (append-nil next))
 are_spellings-more r (y ∷ ys) x front next are is =
-    let (first, behind, spells, others, whole) = are in
-    (first, behind ++ next, spells, are_spellings-more r ys x behind next others is, ap (λ z. z ++ next) whole ∙ append_assoc first behind next)
+    let (first, beyond, spells, others, whole) = are in
+    (first, beyond ++ next, spells, are_spellings-more r ys x beyond next others is, ap (λ z. z ++ next) whole ∙ append_assoc first beyond next)
 
 -- nothing has been read of an input
 pub reads_nothing : (r : Rules) (bytes : List ℕ) (d : Decoder) (values : List Value) → values ≡ [] → HasTaken d [] → rules_of d.scanner ≡ r →
@@ -35,10 +35,10 @@ reads_nothing r bytes d values none takes same = record {
 }
 
 -- a value more has been read
-pub reads_value : (r : Rules) (bytes : List ℕ) (old new : Decoder) (values more : List Value) (x : Value) (rest behind : List ℕ) (used : ℕ) →
+pub reads_value : (r : Rules) (bytes : List ℕ) (old new : Decoder) (values more : List Value) (x : Value) (rest beyond : List ℕ) (used : ℕ) →
     IsReadUpTo r bytes old values rest → GivesValue (rules_of old.scanner) new (take used rest) x → rules_of new.scanner ≡ rules_of old.scanner →
-    more ≡ values ++ x ∷ [] → behind ≡ drop used rest → IsReadUpTo r bytes new more behind
-reads_value r bytes old new values more x rest behind used w given same is left =
+    more ≡ values ++ x ∷ [] → beyond ≡ drop used rest → IsReadUpTo r bytes new more beyond
+reads_value r bytes old new values more x rest beyond used w given same is left =
     let spelled : AreSpellings r (map datum_of values ++ datum_of x ∷ []) (w.front ++ take used rest) =
     are_spellings-more r (map datum_of values) (datum_of x) w.front (take used rest) w.spelled
     (subst (λ z. IsSpelling z (datum_of x) (take used rest)) w.same_rules given.spelling) in
@@ -103,5 +103,5 @@ pub ends_inside : (r : Rules) (d : Decoder) (rest : List ℕ) (used : ℕ) (faul
 ends_inside r d rest used fault w full names place = inr (inl (record { names = names; place = place; begun = full; viable = w.viable; no_value = w.no_value }))
 
 -- the bytes after those used
-pub bytes_behind : (used n : ℕ) (rest : List ℕ) → n ≡ length rest → take (n - used) (drop used rest) ≡ drop used rest
-bytes_behind used n rest size = take_all (n - used) (drop used rest) (omega (arith, length-drop used rest, size))
+pub bytes_after : (used n : ℕ) (rest : List ℕ) → n ≡ length rest → take (n - used) (drop used rest) ≡ drop used rest
+bytes_after used n rest size = take_all (n - used) (drop used rest) (omega (arith, length-drop used rest, size))

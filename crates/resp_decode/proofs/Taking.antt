@@ -134,6 +134,7 @@ takes_in_text old new kind s goes_on three holds weighs may room goes =
 pub content_alone_weighs : (kind : TextKind) (s : List ℕ) → IsContentAlone kind → format_weight kind + end_weight kind s ≡ 3
 content_alone_weighs e.Simple s alone = refl
 content_alone_weighs e.Error s alone = refl
+content_alone_weighs e.Double s alone = refl
 content_alone_weighs e.Bulk s alone = refl
 content_alone_weighs e.BulkError s alone = refl
 content_alone_weighs (e.Verbatim format) s alone = absurd alone

@@ -5,7 +5,7 @@ use Rattle.resp_value.specs.Data as d
 use Rattle.resp_value.specs.Trees as t
 use Rattle.resp_value.specs.Trees.{Tree, Spells, text, leaf, node, line, numeral, null, truth, string, chunked}
 use Rattle.resp_value.specs.TreeValues.{value}
-use Rattle.resp_value.specs.Rules.{Rules, Every, IsNoDouble, IsAnyNode, Keeps, NoDouble, WithinTotal}
+use Rattle.resp_value.specs.Rules.{Rules, WithinTotal}
 use Rattle.resp_value.specs.Spellings.{IsSpelling, IsViable}
 use Rattle.resp_fronts.specs.Events.{Event, Timed, all_events, events_due, events, without_places}
 use Rattle.resp_fronts.specs.Events as e
@@ -18,10 +18,6 @@ use Rattle.resp_decode.proofs.Folds.{builds-tree}
 use Rattle.resp_decode.proofs.Comes.{all_come, due_light, first_add, first_come}
 use Rattle.resp_decode.proofs.Counted.{events_weigh}
 
--- a tree within all rules has no double
-pub no_double : (r : Rules) (u : Tree) → Keeps r WithinTotal u → Every IsNoDouble IsAnyNode u
-no_double r u keeps = keeps NoDouble (omega arith)
-
 -- what is known of the events given of a viable front
 pub record AreGood (front : List ℕ) (es : Events) : Type 0 where
   pub may : MayAllCome es nothing
@@ -31,7 +27,7 @@ pub record AreGood (front : List ℕ) (es : Events) : Type 0 where
 pub are_good : (r : Rules) (front : List ℕ) (es : Events) → IsViable r WithinTotal front → BeginDue front es → AreGood front es
 are_good r front es v begin =
     let (owed, is) = begin v.rest v.tree v.spells in
-    let come = all_come v.tree v.spells.is_tree (no_double r v.tree v.keeps) in
+    let come = all_come v.tree v.spells.is_tree in
     let whole = due_light (length front) 0 0 (all_events v.tree) nothing (omega arith) come in
     let may : MayAllCome (es ++ owed) nothing = subst (λ z. MayAllCome z nothing) is whole.may in
     let first : MayAllCome es nothing = first_come es owed nothing may in
@@ -48,15 +44,15 @@ pub value_is_built : (r : Rules) (front : List ℕ) (es : Events) → IsValue r 
 value_is_built r front es v = record {
   tree = v.tree;
   spelling = record { tree = v.tree; spells = v.spells; keeps = v.keeps; valued = refl };
-  is = ap built_from v.told ∙ builds-tree 0 v.tree nothing (no_double r v.tree v.keeps) refl;
+  is = ap built_from v.told ∙ builds-tree 0 v.tree nothing refl;
 }
 
 -- Values without content.
 
 -- the text begins with another byte
-other_byte : (byte : ℕ) (front rest behind : List ℕ) (wrong : ℕ) → wrong ∷ behind ≡ (byte ∷ front) ++ rest → IsBriefByte byte → (wrong ≡ 58 → ⊥) →
+other_byte : (byte : ℕ) (front rest beyond : List ℕ) (wrong : ℕ) → wrong ∷ beyond ≡ (byte ∷ front) ++ rest → IsBriefByte byte → (wrong ≡ 58 → ⊥) →
     (wrong ≡ 35 → ⊥) → (wrong ≡ 95 → ⊥) → ⊥
-other_byte byte front rest behind wrong same brief a b c =
+other_byte byte front rest beyond wrong same brief a b c =
     let first : wrong ≡ byte = cc in
     elim brief [ inl p ↦ a (first ∙ p) | inr q ↦ elim q [ inl p ↦ b (first ∙ p) | inr p ↦ c (first ∙ p) ] ]
 
@@ -66,7 +62,8 @@ brief_tree (leaf (line t.Simple s)) byte front rest same brief = absurd
     (other_byte byte front rest _ 43 same brief (λ p. omega arith) (λ p. omega arith) (λ p. omega arith))
 brief_tree (leaf (line t.Error s)) byte front rest same brief = absurd
     (other_byte byte front rest _ 45 same brief (λ p. omega arith) (λ p. omega arith) (λ p. omega arith))
-brief_tree (leaf (line t.Double s)) byte front rest same brief = (tt, tt)
+brief_tree (leaf (line t.Double s)) byte front rest same brief = absurd
+    (other_byte byte front rest _ 44 same brief (λ p. omega arith) (λ p. omega arith) (λ p. omega arith))
 brief_tree (leaf (numeral t.Int sign digits)) byte front rest same brief = (tt, (tt, tt))
 brief_tree (leaf (numeral t.Big sign digits)) byte front rest same brief =
     absurd (other_byte byte front rest _ 40 same brief (λ p. omega arith) (λ p. omega arith) (λ p. omega arith))

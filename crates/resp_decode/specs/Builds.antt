@@ -32,6 +32,7 @@ nothing = record { groups = []; text = None; whole = None }
 abbrev pub scalar_of : TextKind → List ℕ → Scalar
 scalar_of e.Simple s = d.Simple s
 scalar_of e.Error s = d.Error s
+scalar_of e.Double s = d.Double s
 scalar_of e.Bulk s = d.Bulk s
 scalar_of e.BulkError s = d.BulkError s
 scalar_of (e.Verbatim format) s = d.Verbatim format s

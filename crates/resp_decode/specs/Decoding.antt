@@ -6,14 +6,12 @@ use Rattle.resp_value.specs.Causes.{cause_of}
 use Rattle.resp_value.specs.Values.{datum_of}
 use Rattle.resp_value.specs.declared.value.Value.{Value}
 use Rattle.resp_value.specs.declared.cause.Cause.TheVariants as cause
-use Rattle.resp_scan.specs.Reading.{AreDue, Events, HasNoSpelling, HasNoValue, HasRead}
+use Rattle.resp_scan.specs.Reading.{AreDue, Events, HasNoSpelling, HasNoValue}
 use Rattle.resp_scan.specs.Kinds as kinds
-use Rattle.resp_scan.specs.Reading as scan
 use Rattle.resp_scan.specs.declared.event.Fault.{Fault}
 use Rattle.resp_decode.specs.Brief.{BeginsBrief, BringMemoryWants}
-use Rattle.resp_decode.specs.Hearing.{HasHeard}
-use Rattle.resp_decode.specs.Builds.{built_from, nothing}
-use Rattle.resp_decode.specs.Holding.{construction_of}
+use Rattle.resp_decode.specs.Builds.{built_from}
+use Rattle.resp_decode.specs.Standing.{StandsAtFault, TakesFront}
 use Rattle.resp_decode.specs.Weights.{weight_of}
 use Rattle.resp_decode.specs.declared.decoder.Decoder.{Decoder}
 use Rattle.resp_decode.specs.declared.fed.Fed.{Fed}
@@ -22,15 +20,10 @@ use Rattle.resp_decode.specs.declared.fed.Fed.{Fed}
 abbrev pub rules_of : Decoder → Rules
 rules_of d = kinds.rules_of d.scanner
 
--- What a decoder has taken of a value: its scanner has read the bytes of this front, no value has ended in them, and
--- what is held is what the events that are due build. How a decoder stands to them is opaque to callers: `new`
--- establishes this relation, and `feed` keeps it.
-pub record HasTaken (d : Decoder) (front : List ℕ) : Type 0 where
-  pub given : Events
-  pub reads : HasRead d.scanner front given
-  pub heard : HasHeard d.held given
-  pub all_due : AreDue front given
-  pub no_value : HasNoValue front
+-- What a decoder has taken of a value: the bytes of this front. How a decoder stands to them is opaque to callers: `new`
+-- establishes this relation, and `feed` keeps it until a fault.
+abbrev pub HasTaken : Decoder → List ℕ → Type 0
+HasTaken d front = TakesFront d.scanner d.held front
 
 -- this holds of every front that the decoder has taken
 abbrev pub WhereTaken : Decoder → (List ℕ → Type 0) → Type 0
@@ -38,7 +31,7 @@ WhereTaken d P = (front : List ℕ) → HasTaken d front → P front
 
 -- a fault is answered for good, and nothing is held after it
 abbrev pub HasFault : Decoder → Fault → Type 0
-HasFault d fault = scan.IsFaulted d.scanner fault × (d.held.weight ≡ 0) × (construction_of d.held ≡ nothing)
+HasFault d fault = StandsAtFault d.scanner d.held fault
 
 -- the weight of what the events that are due of this front build
 abbrev pub WeighsWhatIsDue : ℕ → List ℕ → Type 0

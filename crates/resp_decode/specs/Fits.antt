@@ -12,6 +12,7 @@ use Rattle.resp_decode.specs.Weights.{format_weight}
 abbrev pub IsContentOf : TextKind → List ℕ → Type 0
 IsContentOf e.Simple s = IsLine s
 IsContentOf e.Error s = IsLine s
+IsContentOf e.Double s = IsLine s
 IsContentOf e.Bulk s = Unit {0}
 IsContentOf e.BulkError s = Unit {0}
 IsContentOf (e.Verbatim format) s = length format ≡ 3
@@ -47,6 +48,7 @@ MayClose (g ∷ gs) = IsMemberCount g.kind (length g.members)
 abbrev pub end_weight : TextKind → List ℕ → ℕ
 end_weight e.Simple s = 3
 end_weight e.Error s = 3
+end_weight e.Double s = 3
 end_weight e.Bulk s = 3
 end_weight e.BulkError s = 3
 end_weight (e.Verbatim format) s = 3

@@ -2,7 +2,7 @@
 use Rattle.std.specs.Prelude.{◌≡◌, ◌≤◌, ℕ, List, [], ◌∷◌, length}
 use Rattle.resp_value.specs.Trees.{Tree}
 use Rattle.resp_value.specs.TreeValues.{value}
-use Rattle.resp_value.specs.Rules.{Rules, WithinTotal, Every, IsNoDouble, IsAnyNode}
+use Rattle.resp_value.specs.Rules.{Rules, WithinTotal}
 use Rattle.resp_value.specs.Data.{Datum}
 use Rattle.resp_value.specs.Spellings.{IsSpelling, AreSpellings, IsViable}
 use Rattle.resp_value.specs.declared.cause.Cause.TheVariants as cause
@@ -13,13 +13,9 @@ use Rattle.resp_decode.specs.Inputs.{RefusesInput}
 use Rattle.resp_decode.specs.Weights.{weight_of}
 use Rattle.resp_decode.specs.declared.all.AllFault.{AllFault}
 
--- the tree has no double, of which no event comes
-abbrev pub HasNoDouble : Tree → Type 0
-HasNoDouble tree = Every IsNoDouble IsAnyNode tree
-
 -- trees with equal events have equal values
 abbrev pub EqualEventsGiveEqualValues : Type 0
-EqualEventsGiveEqualValues = (one other : Tree) → HasNoDouble one → HasNoDouble other →
+EqualEventsGiveEqualValues = (one other : Tree) →
     without_places (events 0 one) ≡ without_places (events 0 other) → value one ≡ value other
 
 -- where a tree's text begins is seen in the places of its events alone

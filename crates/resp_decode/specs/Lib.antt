@@ -4,6 +4,7 @@ pub mod Fits
 pub mod Brief
 pub mod Holding
 pub mod Hearing
+pub mod Standing
 pub mod Decoding
 pub mod Inputs
 pub mod Laws

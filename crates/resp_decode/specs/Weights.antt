@@ -43,6 +43,7 @@ weight_of_groups (g ∷ gs) = weight_of_all g.members + 3 + weight_of_groups gs
 abbrev pub format_weight : TextKind → ℕ
 format_weight e.Simple = 0
 format_weight e.Error = 0
+format_weight e.Double = 0
 format_weight e.Bulk = 0
 format_weight e.BulkError = 0
 format_weight (e.Verbatim format) = length format

@@ -1,6 +1,7 @@
 //! The decoder, which reads values from pieces of any size.
 
 ghost use Rattle.std.specs.Prelude.{◌≡◌, ◌⊎◌, ◌↔◌, ◌≤◌, ◌<◌, ◌++◌, ℕ, length, take, [], Err, IsOk, OnOk, OnErr, IfOk, IfErr};
+ghost use Rattle.resp_decode.specs.Standing.{TakesOrStands};
 ghost use Rattle.resp_scan.specs.Listening.{fault_of};
 ghost use Rattle.resp_value.specs.declared.cause.Cause.TheVariants as cause;
 
@@ -19,6 +20,8 @@ use std::alloc::Global;
 pub struct Decoder {
     scanner: Scanner,
     held: Held,
+    /// It has taken some front of a value, or a fault stands.
+    pub ghost reading: { ∥ TakesOrStands scanner held ∥₁ },
 }
 
 impl Decoder {
@@ -70,8 +73,8 @@ impl Decoder {
             RefusesByte (rules_of self.old) front piece.now fault ⊎
             LacksMemory (rules_of self.old) front piece.now fault)) }
 
-        ensures uses_bytes { WhereTaken self.old (λ front. IfOk result (λ fed.
-            0 < length piece.now → 0 < fed.used)) }
+        // Whatever was taken before, of a piece with a byte at least one is used.
+        ensures uses_bytes { IfOk result (λ fed. 0 < length piece.now → 0 < fed.used) }
         ensures within_piece { IfOk result (λ fed. fed.used ≤ length piece.now) }
         ensures same_rules { rules_of self.new ≡ rules_of self.old }
         ensures fault_is_kept { IfErr result (HasFault self.new) }
@@ -123,7 +126,7 @@ impl Decoder {
     pub fn taken(&self) -> u64
         ensures length_of_front { WhereTaken self.now (λ front. result ≡ length front) }
         ensures viable { WhereTaken self.now (IsViable (rules_of self.now) WithinTotal) }
-        ensures behind_a_fault { (fault : Fault) → HasFault self.now fault → result ≡ fault.at }
+        ensures after_a_fault { (fault : Fault) → HasFault self.now fault → result ≡ fault.at }
         ensures at_most_total { result ≤ (rules_of self.now).limits.total }
         ensures limits_in_range { AreBounds (rules_of self.now).limits }
     {
@@ -135,7 +138,7 @@ impl Decoder {
     pub fn weight(&self) -> u64
         ensures weight_of_front { WhereTaken self.now (WeighsWhatIsDue result) }
         ensures at_most_taken { WhereTaken self.now (λ front. result ≤ length front) }
-        ensures nothing_behind_a_fault { (fault : Fault) → HasFault self.now fault → result ≡ 0 }
+        ensures nothing_after_a_fault { (fault : Fault) → HasFault self.now fault → result ≡ 0 }
     {
         // What was taken is viable, as the scanner says of it here.
         let _taken = self.scanner.taken();

@@ -288,6 +288,7 @@ fn content_value(kind: TextKind, bytes: Vec<u8>) -> Value
     match kind {
         TextKind::Simple => Value::Simple(Line::of_plain(bytes)),
         TextKind::Error => Value::Error(Line::of_plain(bytes)),
+        TextKind::Double => Value::Double(Line::of_plain(bytes)),
         TextKind::BulkError => Value::BulkError(Content::new(bytes)),
         _ => Value::Bulk(Content::new(bytes)),
     }

@@ -90,6 +90,10 @@ impl Text {
                 Ok(line) => Some(Value::Error(line)),
                 Err(_) => None,
             },
+            TextKind::Double => match Line::new(bytes) {
+                Ok(line) => Some(Value::Double(line)),
+                Err(_) => None,
+            },
             TextKind::Bulk => Some(Value::Bulk(Content::new(bytes))),
             TextKind::BulkError => Some(Value::BulkError(Content::new(bytes))),
             TextKind::Verbatim(format) => Some(Value::Verbatim(format, Content::new(bytes))),

@@ -6,8 +6,9 @@ use Rattle.resp_value.specs.Bytes.{crlf}
 use Rattle.resp_value.specs.Bounds.{Bounds}
 use Rattle.resp_value.specs.Numbers.{decimal}
 use Rattle.resp_value.specs.Data.{Kind, Attr, Scalar, Int, longest, Datum, Data, none, scalar, aggregate, items_of, count}
+use Rattle.resp_value.specs.Data as d
 use Rattle.resp_value.specs.Trees.{kind_byte, texts}
-use Rattle.resp_value.specs.Canonical.{IsScalarValue, IsWhole, IsKindBelow, IsInTwo, HasNoPush, HasTypes, canonical_text, canonical_trees, Fits}
+use Rattle.resp_value.specs.Canonical.{IsScalarValue, IsWhole, IsKindBelow, IsInTwo, HasNoDouble, HasNoPush, HasTypes, canonical_text, canonical_trees, Fits}
 use Rattle.resp_value.specs.Rules.{Rules}
 use Rattle.resp_value.specs.Values.{extended}
 use Rattle.resp_value.specs.declared.version.Version.{Version}
@@ -17,7 +18,7 @@ use Rattle.resp_value.specs.declared.kind.OpenKind.TheVariants as v
 use Rattle.resp_value.specs.Kinds.{kind_of}
 use Rattle.resp_encode.specs.Walks.Attempts.{HasKind, HaveTypes, Suits, SuitEach, Attempt, AttemptEach, AttemptAttributePairs, FitsSpare}
 use Rattle.resp_encode.specs.Walks.Writings.{Fills}
-use Rattle.resp_encode.proofs.Extended.{in_two_with, no_push_with, values_with, greatest_depth-extended, longest_among-extended, most_items_among-extended, texts-extended}
+use Rattle.resp_encode.proofs.Extended.{in_two_with, no_double_with, no_push_with, values_with, greatest_depth-extended, longest_among-extended, most_items_among-extended, texts-extended}
 use Rattle.resp_encode.proofs.Texts.{Writes-none, Writes-append, aggregate_text, head_split}
 
 -- what holds where a test is true
@@ -44,9 +45,9 @@ pub stopped_each : {version : Version} {bounds : Bounds} {deeper : ℕ} {xs : Da
 stopped_each part = record { whole = tt; suits = tt; part = part }
 
 -- a part after a text
-pub part_behind : {a b c : Filled} {x : List ℕ} → Fills a b x → (text : List ℕ) × Fills b c text →
+pub part_after : {a b c : Filled} {x : List ℕ} → Fills a b x → (text : List ℕ) × Fills b c text →
     (text : List ℕ) × Fills a c text
-part_behind {x = x} first rest = (x ++ rest.0, Writes-append first rest.1)
+part_after {x = x} first rest = (x ++ rest.0, Writes-append first rest.1)
 
 -- a value without members was written
 pub scalar_done : {version : Version} {bounds : Bounds} {spare : ℕ} {s : Scalar} {a b : Filled} →
@@ -55,6 +56,7 @@ pub scalar_done : {version : Version} {bounds : Bounds} {spare : ℕ} {s : Scala
 scalar_done fits value writes deeper = record {
   whole = writes;
   suits = record {
+    allows_doubles = fits.allows_doubles;
     has_types = fits.has_types;
     push_at_top = tt;
     within_depth = omega arith;
@@ -70,11 +72,25 @@ pub in_each : (version : Version) (x : Datum) → IsInTwo x → HasTypes version
 in_each Two x p = p
 in_each Three x p = tt
 
+-- version 2 has no doubles
+two_no_double : (s : Scalar) → IsInTwo (scalar s) → HasNoDouble (scalar s)
+two_no_double d.Null p = tt
+two_no_double (d.Bool b) p = tt
+two_no_double (d.Int i) p = tt
+two_no_double (d.Simple s) p = tt
+two_no_double (d.Error s) p = tt
+two_no_double (d.Double s) p = absurd p
+two_no_double (d.Bulk s) p = tt
+two_no_double (d.BulkError s) p = tt
+two_no_double (d.Verbatim format s) p = tt
+two_no_double (d.Big negative digits) p = tt
+
 -- a scalar of version 2 within the limits, and room for it
 pub room_for : (version : Version) (bounds : Bounds) {spare : ℕ} (s : Scalar) → IsInTwo (scalar s) →
     longest (scalar s) ≤ bounds.length →
     length (canonical_text version (scalar s)) ≤ spare → FitsSpare version bounds spare (scalar s)
 room_for version bounds s two long room = record {
+  allows_doubles = λ off. two_no_double s two;
   has_types = in_each version (scalar s) two;
   within_length =
       long;
@@ -94,6 +110,7 @@ int_length version (negsuc n) = omega (
 -- members, so far
 pub suit_none : (version : Version) (bounds : Bounds) (deeper : ℕ) → SuitEach version bounds deeper none
 suit_none Two bounds deeper = record {
+  no_double = λ off. tt;
   have_types = tt;
   no_push = tt;
   within_depth = omega arith;
@@ -103,6 +120,7 @@ suit_none Two bounds deeper = record {
   are_values = tt;
 }
 suit_none Three bounds deeper = record {
+  no_double = λ off. tt;
   have_types = tt;
   no_push = tt;
   within_depth = omega arith;
@@ -122,6 +140,7 @@ pub suit_with : (version : Version) (bounds : Bounds) (deeper : ℕ) (xs : Data)
     SuitEach version bounds deeper xs → Suits version bounds deeper x →
     HasNoPush x → SuitEach version bounds deeper (extended xs x)
 suit_with version bounds deeper xs x each one below = record {
+  no_double = λ off. no_double_with xs x (each.no_double off) (one.allows_doubles off);
   have_types = have_types_with version xs x each.have_types one.has_types;
   no_push = no_push_with xs x each.no_push below;
   within_depth = omega (arith, each.within_depth, one.within_depth, greatest_depth-extended xs x);
@@ -142,6 +161,7 @@ pub suits_inside : (version : Version) (bounds : Bounds) (deeper : ℕ) (k : Kin
     SuitEach version bounds (deeper - 1) xs →
     Suits version bounds deeper (aggregate k xs)
 suits_inside version bounds deeper k xs items kind deep few same whole each = record {
+  allows_doubles = each.no_double;
   has_types = has_types_inside version k xs kind each.have_types;
   push_at_top = each.no_push;
   within_depth = omega (arith, each.within_depth);
@@ -158,7 +178,7 @@ pub inside_tried : (version : Version) (bounds : Bounds) (deeper : ℕ) (k : Kin
     IsWhole k (count xs) → AttemptEach version bounds (deeper - 1) xs b c done →
     Attempt version bounds deeper (aggregate k xs) a c done
 inside_tried version bounds deeper k xs items false {a = a} {c = c} head kind deep few same whole each =
-    stopped (part_behind head each.part)
+    stopped (part_after head each.part)
 inside_tried version bounds deeper k xs items true {a = a} {c = c} head kind deep few same whole each =
     let text = subst (Fills a c) (head_split (kind_byte k) items (texts (canonical_trees version xs)) ∙
     sym (aggregate_text version k xs items same))
@@ -175,7 +195,7 @@ pub one_more_tried : (version : Version) (bounds : Bounds) (deeper : ℕ) (xs : 
     Fills a b (texts (canonical_trees version xs)) → SuitEach version bounds deeper xs →
     Attempt version bounds deeper x b c done → OnTrue done (HasNoPush x) →
     AttemptEach version bounds deeper (extended xs x) a c done
-one_more_tried version bounds deeper xs x false front each one below = stopped_each (part_behind front one.part)
+one_more_tried version bounds deeper xs x false front each one below = stopped_each (part_after front one.part)
 one_more_tried version bounds deeper xs x true {a = a} {c = c} front each one below =
     let text = subst (Fills a c) (sym (texts-extended version xs x)) (Writes-append front one.whole) in
     record { whole = text; suits = suit_with version bounds deeper xs x each one.suits below; part = (_, text) }
@@ -184,6 +204,7 @@ one_more_tried version bounds deeper xs x true {a = a} {c = c} front each one be
 pub fits_within : (rules : Rules) (x : Datum) → Suits rules.version rules.limits rules.limits.depth x →
     length (canonical_text rules.version x) ≤ rules.limits.total → Fits rules x
 fits_within rules x suits total = record {
+  allows_doubles = suits.allows_doubles;
   has_types = suits.has_types;
   push_at_top = suits.push_at_top;
   within_depth = suits.within_depth;
@@ -205,7 +226,7 @@ attribute_pairs_tried version bounds deeper xs items false head kind deep few ea
       within_depth = tt;
       suits = tt;
       part =
-          part_behind head each.part;
+          part_after head each.part;
     }
 attribute_pairs_tried version bounds deeper xs items true {a = a} {c = c} head kind deep few each =
     let text = subst (Fills a c) (head_split 124 items (texts (canonical_trees version xs)))
@@ -228,7 +249,7 @@ pub annotated_tried : (version : Version) (bounds : Bounds) (deeper : ℕ) (xs :
     Attempt version bounds (deeper - 1) x b c done → OnTrue done (HasNoPush x) →
     Attempt version bounds deeper (aggregate Attr (extended xs x)) a c done
 annotated_tried version bounds deeper xs x items false notes same whole one below =
-    stopped (part_behind notes.whole one.part)
+    stopped (part_after notes.whole one.part)
 annotated_tried version bounds deeper xs x items true {a = a} {c = c} notes same whole one below =
     let front = texts (canonical_trees version xs) in
     let under = canonical_text version x in

@@ -2,7 +2,7 @@
 use Rattle.std.proofs.Common.{◌≡◌, ◌+◌, List, [], ◌∷◌, ◌++◌, length, max, refl, sym, ap, ◌∙◌, arith, append_assoc, append-nil, length-append}
 use Rattle.resp_value.specs.Data.{Datum, Data, none, more, data_of_list, depth, greatest_depth, longest, longest_among, most_items, most_items_among}
 use Rattle.resp_value.specs.Trees.{texts}
-use Rattle.resp_value.specs.Canonical.{IsValue, AreValues, IsInTwo, AreInTwo, HasNoPush, HaveNoPush, canonical_text, canonical_trees}
+use Rattle.resp_value.specs.Canonical.{IsValue, AreValues, IsInTwo, AreInTwo, HasNoDouble, HaveNoDouble, HasNoPush, HaveNoPush, canonical_text, canonical_trees}
 use Rattle.resp_value.specs.Values.{extended}
 use Rattle.resp_value.specs.declared.version.Version.{Version}
 
@@ -17,6 +17,14 @@ in_two_of (more y ys) x p = let q = in_two_of ys x p.1 in ((p.0, q.0), q.1)
 pub in_two_with : (xs : Data) (x : Datum) → AreInTwo xs → IsInTwo x → AreInTwo (extended xs x)
 in_two_with none x p q = (q, tt)
 in_two_with (more y ys) x p q = (p.0, in_two_with ys x p.1 q)
+
+pub no_double_of : (xs : Data) (x : Datum) → HaveNoDouble (extended xs x) → HaveNoDouble xs × HasNoDouble x
+no_double_of none x p = (tt, p.0)
+no_double_of (more y ys) x p = let q = no_double_of ys x p.1 in ((p.0, q.0), q.1)
+
+pub no_double_with : (xs : Data) (x : Datum) → HaveNoDouble xs → HasNoDouble x → HaveNoDouble (extended xs x)
+no_double_with none x p q = (q, tt)
+no_double_with (more y ys) x p q = (p.0, no_double_with ys x p.1 q)
 
 pub no_push_of : (xs : Data) (x : Datum) → HaveNoPush (extended xs x) → HaveNoPush xs × HasNoPush x
 no_push_of none x p = (tt, p.0)

@@ -11,7 +11,7 @@ use Rattle.resp_encode.specs.declared.measure.Measure.{Measure}
 use Rattle.resp_encode.specs.Walks.Sizes.{IsSize}
 use Rattle.resp_encode.specs.Walks.Measures.{Describes, DescribesEach}
 use Rattle.resp_encode.proofs.Texts.{aggregate_text, length-head}
-use Rattle.resp_encode.proofs.Extended.{in_two_of, in_two_with, no_push_of, no_push_with, greatest_depth-extended, longest_among-extended, most_items_among-extended, length-texts-extended}
+use Rattle.resp_encode.proofs.Extended.{in_two_of, in_two_with, no_double_of, no_double_with, no_push_of, no_push_with, greatest_depth-extended, longest_among-extended, most_items_among-extended, length-texts-extended}
 
 -- two tests tell of two facts together
 both_tell : (a b : Bool) {P Q R : Type 0} → (IsTrue a ↔ P) → (IsTrue b ↔ Q) → (R → P × Q) → (P → Q → R) →
@@ -27,6 +27,7 @@ pub describes_with : (version : Version) (xs : Data) (x : Datum) (a b : Measure)
     Describes version x b →
     DescribesEach version (extended xs x) (record {
       in_two = a.in_two && b.in_two;
+      no_double = a.no_double && b.no_double;
       no_push = a.no_push && b.no_push;
       push_at_top = true;
       depth =
@@ -37,6 +38,7 @@ pub describes_with : (version : Version) (xs : Data) (x : Datum) (a b : Measure)
     })
 describes_with version xs x a b most_depth most_length most size d l i s each one = record {
   in_two = both_tell a.in_two b.in_two each.in_two one.in_two (in_two_of xs x) (in_two_with xs x);
+  no_double = both_tell a.no_double b.no_double each.no_double one.no_double (no_double_of xs x) (no_double_with xs x);
   no_push = both_tell a.no_push b.no_push each.no_push one.no_push (no_push_of xs x) (no_push_with xs x);
   depth_found = omega (arith, d, each.depth_found, one.depth_found, greatest_depth-extended xs x);
   longest_found = omega (arith, l, each.longest_found, one.longest_found, longest_among-extended xs x);
@@ -54,6 +56,7 @@ pub describes_inside : (version : Version) (k : Kind) (xs : Data) (a : Measure) 
     DescribesEach version xs a → Describes version (aggregate k xs)
     (record {
       in_two = a.in_two && in_two;
+      no_double = a.no_double;
       no_push = a.no_push && below;
       push_at_top = a.no_push;
       depth = deeper;
@@ -64,6 +67,7 @@ pub describes_inside : (version : Version) (k : Kind) (xs : Data) (a : Measure) 
     })
 describes_inside version k xs a in_two below items deeper most head size t b e d i h s each = record {
   in_two = both_tell a.in_two in_two each.in_two t (λ p. (p.1, p.0)) (λ p q. (q, p));
+  no_double = each.no_double;
   no_push = both_tell a.no_push below each.no_push b (λ p. (p.1, p.0)) (λ p q. (q, p));
   push_at_top = each.no_push;
   depth_found = omega (arith, d, each.depth_found);

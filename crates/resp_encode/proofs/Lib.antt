@@ -8,3 +8,4 @@ pub mod ValueTexts
 pub mod Verdicts
 pub mod Found
 pub mod Attempted
+pub mod ReadValues

@@ -49,9 +49,9 @@ pub line_with : (line : List ℕ) (start byte : ℕ) (end : List ℕ) → length
     take (24 - (start - 1)) (drop (start - 1) (set line (start - 1) byte)) ≡ byte ∷ end
 line_with line start byte end n full within e =
     let at : start - 1 < length line = omega arith in
-    let behind : start - 1 + 1 ≡ start = omega arith in
+    let beyond : start - 1 + 1 ≡ start = omega arith in
     let whole : drop (start - 1) (set line (start - 1) byte) ≡ byte ∷ end = drop-set line (start - 1) byte at ∙
-    ap (λ i. byte ∷ drop i line) behind ∙
+    ap (λ i. byte ∷ drop i line) beyond ∙
     ap (λ xs. byte ∷ xs) e in
     ap (take (24 - (start - 1))) whole ∙ take_all (24 - (start - 1)) (byte ∷ end)
     (omega (arith, ap length e, length-drop start line))

@@ -5,7 +5,7 @@ use Rattle.resp_value.specs.Data.{Datum}
 use Rattle.resp_value.specs.Rules.{Rules}
 use Rattle.resp_value.specs.Spellings.{IsSpelling}
 use Rattle.resp_value.specs.Canonical.{canonical_text, Fits}
-use Rattle.resp_value.specs.Devices.{Appends, HasRisen}
+use Rattle.resp_value.specs.Devices.{Appends, count_after}
 use Rattle.resp_encode.specs.Refusals.{IsFirstFault}
 use Rattle.resp_encode.specs.declared.error.EncodeError.{EncodeError}
 use Rattle.resp_encode.specs.declared.error.EncodeError.TheVariants.{OutOfMemory}
@@ -41,9 +41,9 @@ pub record WritesWhole (held held' : Option (List ℕ)) (failures failures' : �
     pub appended : Appends held held' text
     pub none_failed : failures' ≡ failures
 
--- a write failed when this many bytes were written, which are a beginning of the text and not the whole
+-- one write failed when this many bytes were written, which are a beginning of the text and not the whole
 pub record WritesPart (held held' : Option (List ℕ)) (failures failures' : ℕ) (text : List ℕ) (written : ℕ) : Type 0
   where
     pub not_whole : written < length text
     pub appended : Appends held held' (take written text)
-    pub failure_counted : HasRisen failures failures'
+    pub failure_counted : failures' ≡ count_after 1 failures

@@ -2,5 +2,6 @@
 pub mod Encodings
 pub mod Refusals
 pub mod Pushes
+pub mod Laws
 -- What the walks over a value promise one another, which no public clause names.
 pub mod Walks

@@ -2,10 +2,10 @@
 use Rattle.std.specs.Prelude.{ℕ}
 use Rattle.resp_value.specs.Data.{Datum}
 use Rattle.resp_value.specs.Rules.{Rules}
-use Rattle.resp_value.specs.Canonical.{HasTypes, HasPushAtTop, Fits, IsFirstOver}
+use Rattle.resp_value.specs.Canonical.{HasTypes, HasPushAtTop, AllowsDoubles, Fits, IsFirstOver}
 use Rattle.resp_value.specs.declared.version.Version.{Version}
 use Rattle.resp_encode.specs.declared.error.EncodeError.{EncodeError}
-use Rattle.resp_encode.specs.declared.error.EncodeError.TheVariants.{NotInVersion, NestedPush, OverLimits, OutOfMemory}
+use Rattle.resp_encode.specs.declared.error.EncodeError.TheVariants.{Double, NotInVersion, NestedPush, OverLimits, OutOfMemory}
 use Rattle.resp_encode.specs.declared.error.EncodeToError.{EncodeToError}
 use Rattle.resp_encode.specs.declared.error.EncodeToError.TheVariants.{Refused, Write}
 
@@ -15,9 +15,11 @@ HasText version x = HasTypes version x × HasPushAtTop x
 
 -- the value has this fault, and none before it; OutOfMemory comes only where it has none
 abbrev pub IsFirstFault : Rules → Datum → EncodeError → Type 0
-IsFirstFault rules x NotInVersion = HasTypes rules.version x → ⊥
-IsFirstFault rules x NestedPush = HasTypes rules.version x × (HasPushAtTop x → ⊥)
-IsFirstFault rules x (OverLimits over) = HasText rules.version x × IsFirstOver rules x over
+IsFirstFault rules x Double = AllowsDoubles rules.limits x → ⊥
+IsFirstFault rules x NotInVersion = AllowsDoubles rules.limits x × (HasTypes rules.version x → ⊥)
+IsFirstFault rules x NestedPush = AllowsDoubles rules.limits x × HasTypes rules.version x × (HasPushAtTop x → ⊥)
+IsFirstFault rules x (OverLimits over) = AllowsDoubles rules.limits x × HasText rules.version x ×
+    IsFirstOver rules x over
 IsFirstFault rules x OutOfMemory = Fits rules x
 
 -- the value has the fault that is named, or none where a write failed, since nothing is written before all faults are

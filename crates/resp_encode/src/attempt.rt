@@ -25,8 +25,8 @@ use resp_value::limits::Limits;
 use resp_value::value::Value;
 use resp_value::version::Version;
 use scalars::{
-    attempt_big, attempt_bool, attempt_bulk, attempt_bulk_error, attempt_error, attempt_int,
-    attempt_null, attempt_simple, attempt_verbatim,
+    attempt_big, attempt_bool, attempt_bulk, attempt_bulk_error, attempt_double, attempt_error,
+    attempt_int, attempt_null, attempt_simple, attempt_verbatim,
 };
 
 mod scalars;
@@ -89,6 +89,7 @@ fn attempt_value(
         Value::Int(number) => attempt_int(number, out),
         Value::Simple(line) => attempt_simple(line, version, limits, out),
         Value::Error(line) => attempt_error(line, version, limits, out),
+        Value::Double(text) => attempt_double(text, version, limits, out),
         Value::Bulk(content) => attempt_bulk(content, limits, out),
         Value::BulkError(content) => attempt_bulk_error(content, version, limits, out),
         Value::Verbatim(format, text) => attempt_verbatim(format, text, version, limits, out),

@@ -7,6 +7,9 @@ use thiserror::Error;
 /// the first in this order is named.
 #[derive(Clone, Copy, Debug, PartialEq, Eq, Error)]
 pub enum EncodeError {
+    /// The value holds a double, and the limits allow none.
+    #[error("the limits allow no doubles")]
+    Double,
     /// The value holds a type that the version hasn't.
     #[error("the version has no such type")]
     NotInVersion,

@@ -4,8 +4,9 @@ ghost use Rattle.resp_value.specs.Rules.{rules_under};
 ghost use Rattle.resp_encode.specs.Encodings.{IsVerdict};
 ghost use Rattle.std.specs.Prelude.{◌≡◌, ◌↔◌, IsTrue, IfOk, IsErrOf, length};
 ghost use Rattle.resp_value.specs.Data.{Datum};
-ghost use Rattle.resp_value.specs.Canonical.{IsValue, HasTypes, canonical_text};
+ghost use Rattle.resp_value.specs.Canonical.{IsValue, HasTypes, AllowsDoubles, canonical_text};
 ghost use Rattle.resp_encode.specs.Walks.Measures.{Describes};
+ghost use Rattle.resp_value.specs.declared.version.Version.{Version};
 
 use crate::error::EncodeError;
 use crate::measure::Measure;
@@ -24,6 +25,15 @@ pub(crate) fn has_types(found: &Measure, version: Version) -> bool
     }
 }
 
+/// Whether the limits allow doubles where one was measured.
+#[inline]
+pub(crate) fn are_doubles_allowed(found: &Measure, limits: &Limits) -> bool
+    ensures { (version : Version) (x : Datum) → Describes version x found.now →
+        (IsTrue result ↔ AllowsDoubles limits.now x) }
+{
+    found.no_double || limits.doubles()
+}
+
 /// The bytes of the text of what was measured, or its first fault, which is never OutOfMemory.
 #[inline]
 pub(crate) fn checked_size(
@@ -37,6 +47,9 @@ pub(crate) fn checked_size(
         IfOk result (λ size. size ≡ length (canonical_text version x)) }
     ensures not_memory { IsErrOf result EncodeError.OutOfMemory → ⊥ }
 {
+    if !are_doubles_allowed(found, limits) {
+        return Err(EncodeError::Double);
+    }
     if !has_types(found, version) {
         return Err(EncodeError::NotInVersion);
     }

@@ -10,6 +10,7 @@ mod attempt;
 mod digits;
 mod error;
 mod first_fault;
+pub mod laws;
 mod measure;
 mod measure_value;
 mod room;

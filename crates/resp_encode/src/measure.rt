@@ -15,6 +15,8 @@ use resp_value::kind::OpenKind;
 pub(crate) struct Measure {
     /// Whether version 2 has each type.
     pub(crate) in_two: bool,
+    /// Whether no double stands there.
+    pub(crate) no_double: bool,
     /// Whether no push stands there.
     pub(crate) no_push: bool,
     /// Whether no push stands below the top of the value.
@@ -67,6 +69,7 @@ impl Measure {
     pub(crate) fn scalar(in_two: bool, length: u64, size: u64) -> Measure
         ensures { result ≡ record {
           in_two = in_two;
+          no_double = true;
           no_push = true;
           push_at_top = true;
           depth =
@@ -78,6 +81,7 @@ impl Measure {
     {
         Measure {
             in_two,
+            no_double: true,
             no_push: true,
             push_at_top: true,
             depth: 0,
@@ -95,6 +99,7 @@ impl Measure {
     {
         Measure {
             in_two: self.in_two & next.in_two,
+            no_double: self.no_double & next.no_double,
             no_push: self.no_push & next.no_push,
             push_at_top: true,
             depth: self.depth.max(next.depth),
@@ -113,6 +118,7 @@ impl Measure {
     {
         Measure {
             in_two: self.in_two & kind.is_in_two(),
+            no_double: self.no_double,
             no_push: self.no_push & kind.is_below(),
             push_at_top: self.no_push,
             depth: self.depth.saturating_add(1),

@@ -58,6 +58,20 @@ pub(crate) fn measure_line(text: &[u8]) -> Measure
     Measure::scalar(true, length, length + 3)
 }
 
+/// The measure of a double, which version 2 hasn't.
+#[inline]
+pub(crate) fn measure_double(text: &[u8]) -> Measure
+    ensures found { (version : Version) → Describes version (scalar (d.Double text.now)) result }
+    ensures is_text { IsText text.now }
+{
+    let length = text.len() as u64;
+    let found = Measure::scalar(false, length, length + 3);
+    Measure {
+        no_double: false,
+        ..found
+    }
+}
+
 /// How many bytes a string takes whose head says `counted`: the head, the content, CR and LF.
 #[inline]
 pub(crate) fn string_size(counted: u64) -> u64
@@ -125,6 +139,7 @@ pub(crate) fn measure_value(value: &Value, version: Version) -> Measure
         Value::Int(number) => measure_int(number),
         Value::Simple(line) => measure_line(line.text()),
         Value::Error(line) => measure_line(line.text()),
+        Value::Double(text) => measure_double(text.text()),
         Value::Bulk(content) => measure_bulk(content.list()),
         Value::BulkError(content) => measure_bulk_error(content.list()),
         Value::Verbatim(format, text) => measure_verbatim(format, text.list()),

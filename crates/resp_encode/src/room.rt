@@ -37,10 +37,10 @@ pub(crate) fn room(out: &BytesMut) -> u64
 /// Whether there is surely room for a head with this number and the bytes after it. The digits
 /// are counted only where there is little room.
 #[inline(always)]
-pub(crate) fn has_room_for_head(out: &BytesMut, number: u64, behind: u64) -> bool
-    requires { behind ≤ 2 ^ 63 + 6 }
-    ensures { OnTrue result (length (decimal number) + 3 + behind ≤ out.now.spare) }
+pub(crate) fn has_room_for_head(out: &BytesMut, number: u64, beyond: u64) -> bool
+    requires { beyond ≤ 2 ^ 63 + 6 }
+    ensures { OnTrue result (length (decimal number) + 3 + beyond ≤ out.now.spare) }
 {
     let room = room(out);
-    behind + LONGEST_HEAD <= room || head_size(number) + behind <= room
+    beyond + LONGEST_HEAD <= room || head_size(number) + beyond <= room
 }

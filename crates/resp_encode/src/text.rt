@@ -226,6 +226,7 @@ pub(crate) fn write_value(value: &Value, version: Version, out: &mut BytesMut)
         Value::Int(number) => write_int(out, number),
         Value::Simple(line) => write_line(out, b'+', line.text()),
         Value::Error(line) => write_line(out, b'-', line.text()),
+        Value::Double(text) => write_line(out, b',', text.text()),
         Value::Bulk(content) => write_string(out, b'$', content.list()),
         Value::BulkError(content) => write_string(out, b'!', content.list()),
         Value::Verbatim(format, text) => write_verbatim(out, format, text.list()),

@@ -26,11 +26,12 @@ use resp_value::version::Version;
 /// Appends the canonical text of a value, whole or not at all. Its forms are those that the Redis
 /// serialization protocol specification gives under "RESP protocol description".
 ///
-/// Refuses for the first of these that holds: the version lacks a type of the value (in version 2
-/// all but Null, integers, simple strings, errors, bulk strings and arrays of these); a push stands
-/// below the top; the value is over the limit of depth, of length, of items or of total; a growth
-/// of the buffer was refused. The last never comes where the spare room of the buffer holds the
-/// text. After a refusal the buffer holds what it held.
+/// Refuses for the first of these that holds: the value holds a double and the limits allow none;
+/// the version lacks a type of the value (in version 2 all but Null, integers, simple strings,
+/// errors, bulk strings and arrays of these); a push stands below the top; the value is over the
+/// limit of depth, of length, of items or of total; a growth of the buffer was refused. The last
+/// never comes where the spare room of the buffer holds the text. After a refusal the buffer holds
+/// what it held.
 ///
 /// A reply of three members, in [example_encode](../../example_encode/src/main.rt):
 ///

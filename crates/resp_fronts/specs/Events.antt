@@ -11,6 +11,7 @@ use Rattle.resp_fronts.specs.Frames.{Frame, text_around}
 pub data TextKind : Type 0 where
   Simple : TextKind
   Error : TextKind
+  Double : TextKind
   Bulk : TextKind
   BulkError : TextKind
   -- with its format
@@ -51,11 +52,15 @@ text_events kind begins from content ends = record { at = begins; event = Text k
 abbrev pub last_of : ℕ → List ℕ → ℕ
 last_of from whole = from + length whole - 1
 
+-- the kind of text that a line is
+abbrev pub line_text_kind : LineKind → TextKind
+line_text_kind t.Simple = Simple
+line_text_kind t.Error = Error
+line_text_kind t.Double = Double
+
 -- a text begins at its type byte and ends at its last byte
 abbrev pub line_events : LineKind → ℕ → List ℕ → ℕ → List Timed
-line_events t.Simple from s last = text_events Simple from (from + 1) s last
-line_events t.Error from s last = text_events Error from (from + 1) s last
-line_events t.Double from s last = []
+line_events k from s last = text_events (line_text_kind k) from (from + 1) s last
 
 -- the digits without leading zeros, of which the last has the last index but two; a zero has no content
 abbrev pub big_events : Truth → List ℕ → ℕ → List Timed

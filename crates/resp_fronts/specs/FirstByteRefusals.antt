@@ -25,10 +25,14 @@ abbrev pub push_refusal : Rules → ℕ → Option Rule
 push_refusal r zero = aggregate_refusal r 0
 push_refusal r (suc level) = Some PushAtTop
 
--- each type byte with its answer, and `,`
+-- a double, which version 3 alone has, and only where doubles are allowed
+abbrev pub double_refusal : Rules → Option Rule
+double_refusal r = cond r.limits.doubles (refusal_in_three r.version None) (Some NoDouble)
+
+-- each type byte with its answer
 abbrev pub first_byte_answers : Rules → ℕ → List (ℕ × Option Rule)
 first_byte_answers r level =
-    (byte ",", Some NoDouble)
+    (byte ",", double_refusal r)
     ∷ (byte "+", None) ∷ (byte "-", None) ∷ (byte ":", None) ∷ (byte "$", None) ∷ (byte "*", None)
     ∷ (byte "_", refusal_in_three r.version None)
     ∷ (byte "#", refusal_in_three r.version None)

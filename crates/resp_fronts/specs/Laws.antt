@@ -46,8 +46,8 @@ AFirstByteHasItsCause = (r : Rules) (first : ℕ) → AreBounds r.limits →
 -- events due are those of what the frames have taken, and those due of the value
 abbrev pub EventsDueSplit : Type 0
 EventsDueSplit = (frames : List Frame) (begun rest : List ℕ) (whole : Tree) → AreOpen frames →
-    ((behind : List ℕ) → begun ++ rest ≡ byte "." ∷ behind → ⊥) → Spells whole (text_around frames begun ++ rest) →
-    (value : Tree) × (behind : List ℕ) × IsTree value × (text value ++ behind ≡ begun ++ rest) ×
+    ((beyond : List ℕ) → begun ++ rest ≡ byte "." ∷ beyond → ⊥) → Spells whole (text_around frames begun ++ rest) →
+    (value : Tree) × (beyond : List ℕ) × IsTree value × (text value ++ beyond ≡ begun ++ rest) ×
     (length begun < length (text value) → events_due (length (text_around frames begun)) (events 0 whole) ≡
     without_places (events_around frames) ++ events_due (length (text_around frames begun))
     (events (length (text_around frames [])) value))

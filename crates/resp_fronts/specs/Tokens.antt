@@ -9,10 +9,10 @@ use Rattle.resp_value.specs.Rules.{Rules, WithinItems}
 use Rattle.resp_value.specs.Trees.{Big, Bulk, Counted, Double, HasFormat, Int, IsLeaf, Leaf, LineKind, NumberKind, StringKind, kind_byte, leaf_line, leaf_rest, line_byte, number_byte, payload, string_byte}
 use Rattle.resp_value.specs.declared.version.Version.TheVariants.{Two}
 
--- a simple string or an error
-abbrev pub IsTextLine : LineKind → Type 0
-IsTextLine Double = ⊥
-IsTextLine _ = Unit {0}
+-- whether no rule refuses lines of this kind: doubles are of version 3 alone, and only where they are allowed
+abbrev pub HasLine : Rules → LineKind → Type 0
+HasLine r Double = (r.version ≡ Two → ⊥) × (r.limits.doubles ≡ false → ⊥)
+HasLine r _ = Unit {0}
 
 -- the bytes are the line of a leaf that has nothing after its line
 pub record IsLineOf (r : Rules) (l : Leaf) (level : ℕ) (bytes : List ℕ) : Type 0 where
@@ -27,10 +27,10 @@ pub record IsReturned (r : Rules) (l : Leaf) (level : ℕ) (bytes : List ℕ) : 
   pub line_of : IsLineOf r l level begun
   pub returned : bytes ≡ begun ++ codes "\r"
 
--- the line of a simple string or of an error, with this many bytes of text
+-- the line of a simple string, an error or a double, with this many bytes of text
 pub record IsTextToken (r : Rules) (k : LineKind) (n : ℕ) (level : ℕ) (bytes : List ℕ) : Type 0 where
   pub content : List ℕ
-  pub is_text_line : IsTextLine k
+  pub has_line : HasLine r k
   pub is_line : IsLine content
   pub is_text : IsText content
   pub size : length content ≡ n

@@ -1,6 +1,7 @@
 -- The clauses of the calls.
 pub mod Told
 pub mod Faults
+pub mod AllGiven
 pub mod Heard
 pub mod Answered
 pub mod Hearing

@@ -15,6 +15,7 @@ use Rattle.resp_scan.specs.Machine.Tokens.{Place, Happening, Null, Truth, Int, T
 abbrev pub text_kind_of : TextKind → e.TextKind
 text_kind_of text.Simple = e.Simple
 text_kind_of text.Error = e.Error
+text_kind_of text.Double = e.Double
 text_kind_of text.Bulk = e.Bulk
 text_kind_of text.BulkError = e.BulkError
 text_kind_of (text.Verbatim format) = e.Verbatim format

@@ -48,10 +48,11 @@ Hears HadHeard HasHeard HasStopped more goes_on = (since : _) (given : Events) �
 abbrev pub whole_text_events : TextKind → List ℕ → Events
 whole_text_events kind bytes = e.Text (text_kind_of kind) ∷ (content_events bytes ++ e.TextEnd ∷ [])
 
--- a simple string and an error are lines
+-- a simple string, an error and a double are lines
 abbrev pub IsTextOf : TextKind → List ℕ → Type 0
 IsTextOf text.Simple bytes = IsLine bytes
 IsTextOf text.Error bytes = IsLine bytes
+IsTextOf text.Double bytes = IsLine bytes
 IsTextOf _ bytes = Unit {0}
 
 -- What a call over a piece comes to, for every front that was read and the events that the listener heard of it.
@@ -80,7 +81,7 @@ pub record HearsRefusal (r : Rules) (HasHeard : Events → Type 0) (front piece 
   pub has_heard : HasHeard heard
 
 -- The listener has stopped, told events that are the first of those due of the bytes taken. These are viable.
-pub record StopsBehind (r : Rules) (HasStopped : Events → Type 0) (front piece : List ℕ) (taken : ℕ) : Type 0 where
+pub record StopsAfter (r : Rules) (HasStopped : Events → Type 0) (front piece : List ℕ) (taken : ℕ) : Type 0 where
   pub told : Events
   pub has_stopped : HasStopped told
   pub in_piece : length front ≤ taken

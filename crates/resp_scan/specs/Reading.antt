@@ -1,5 +1,5 @@
 -- What a step promises of what has come, in words of texts and trees.
-use Rattle.std.specs.Prelude.{◌≡◌, ◌⊎◌, ℕ, ◌+◌, ◌<◌, ◌≤◌, List, [], ◌∷◌, ◌++◌, length, take, Option, None, Some, Result, IfOk, IfNone}
+use Rattle.std.specs.Prelude.{◌≡◌, ◌⊎◌, ℕ, ◌+◌, ◌-◌, ◌<◌, ◌≤◌, List, [], ◌∷◌, ◌++◌, length, take, Option, None, Some, Result, IfOk, IfNone}
 use Rattle.std.specs.List.{AllByRecursion}
 use Rattle.resp_value.specs.Trees.{Tree, Spells}
 use Rattle.resp_value.specs.Rules.{Rules, WithinTotal, Keeps}
@@ -88,6 +88,15 @@ events_of event.TextEnd = e.TextEnd ∷ []
 events_of (event.Open kind members) = e.Open (kind_of kind) members ∷ []
 events_of event.Close = e.Close ∷ []
 events_of event.Done = []
+
+-- how many bytes are an event's own: the content of a part, and else the last that was taken
+abbrev pub own_bytes : Event → ℕ
+own_bytes (event.Part bytes) = length bytes.now
+own_bytes _ = 1
+
+-- No event comes late: where bytes were used for it, the events given before it are all that were due before its own.
+abbrev pub ComesInTime : List ℕ → Events → List ℕ → ℕ → Event → Type 0
+ComesInTime front given piece used x = 0 < used → AreDue (front ++ take (used - own_bytes x) piece) given
 
 -- Outcomes of a step.
 

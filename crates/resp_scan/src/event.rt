@@ -5,13 +5,15 @@ use resp_value::kind::OpenKind;
 use thiserror::Error;
 
 /// The kinds of text (Redis serialization protocol specification, "Simple strings", "Simple
-/// errors", "Bulk strings", "Bulk errors", "Verbatim strings" and "Big numbers").
+/// errors", "Doubles", "Bulk strings", "Bulk errors", "Verbatim strings" and "Big numbers").
 #[derive(Clone, Copy, Debug, PartialEq, Eq)]
 pub enum TextKind {
     /// A simple string.
     Simple,
     /// A simple error.
     Error,
+    /// A double, whose text is its line as it came. It comes only where the limits allow doubles.
+    Double,
     /// A bulk string, counted or streamed.
     Bulk,
     /// A bulk error.

@@ -6,7 +6,7 @@ ghost use Rattle.resp_scan.specs.Machine.Moves.{is_digit};
 ghost use Rattle.std.specs.Prelude.{◌≡◌, ◌≢◌, ℕ, ◌≤◌, ◌<◌, ◌+◌, ◌^◌, length, drop, IfNone, true, slice_index};
 
 use crate::machine::{EventTag, Head, Machine, State, Taken};
-use crate::needed::needed_behind;
+use crate::needed::needed_after;
 use resp_value::cause::Cause;
 use resp_value::kind::OpenKind;
 use resp_value::version::Version;
@@ -267,7 +267,7 @@ impl Machine {
                 }
             }
         }
-        self.over_total(used, needed_behind(head, number))
+        self.over_total(used, needed_after(head, number))
     }
 
     /// The LF of a head with this number, after which a string, a chunk or an aggregate begins.

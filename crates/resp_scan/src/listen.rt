@@ -40,7 +40,7 @@ impl Machine {
     ghost use Rattle.resp_scan.specs.Machine.Scan.{out_from};
     ghost use Rattle.resp_scan.specs.Machine.Sound.{IsSound};
     ghost use Rattle.resp_scan.specs.Machine.Tokens.{Dead, Place};
-    ghost use Rattle.resp_scan.specs.Listening.{Hears, HearsPiece, HearsRefusal, HearsValue, IfRefused, IfStopped, IfUsedUp, IfWhole, IsTextOf, StopsBehind, WhereHeard, fault_of, whole_text_events};
+    ghost use Rattle.resp_scan.specs.Listening.{Hears, HearsPiece, HearsRefusal, HearsValue, IfRefused, IfStopped, IfUsedUp, IfWhole, IsTextOf, StopsAfter, WhereHeard, fault_of, whole_text_events};
     ghost use Rattle.resp_scan.specs.Reading.{IsFaulted};
     ghost use Rattle.resp_scan.specs.declared.event.Fault.{Fault};
     ghost use Rattle.resp_scan.specs.Machine.Turns.{IsLineTag, IsTurn, LeavesContent};
@@ -64,7 +64,7 @@ impl Machine {
             IfRefused result (HearsRefusal (rules_of (place_of self.old))
             (L.has_heard listener.new since) front piece.now)) }
         ensures stopped { WhereHeard (place_of self.old) (L.has_heard listener.old) (λ since front.
-            IfStopped result (StopsBehind (rules_of (place_of self.old))
+            IfStopped result (StopsAfter (rules_of (place_of self.old))
             (L.has_stopped listener.new since) front piece.now)) }
         ensures within_piece { IfOk result (λ scanned. scanned.used ≤ length piece.now) }
         ensures whole_piece { IfOk result (λ scanned.
@@ -77,11 +77,11 @@ impl Machine {
     {
         let mut used = 0;
         loop {
-            let turned = self.turn(behind(piece, used), listener);
+            let turned = self.turn(beyond(piece, used), listener);
             used += turned.used;
             match turned.turn {
                 Turn::On => {
-                    if self.begins_anew(behind(piece, used)) {
+                    if self.begins_anew(beyond(piece, used)) {
                         return Ok(Scanned {
                             used,
                             is_whole: true,
@@ -159,6 +159,7 @@ impl Machine {
         match taken.tag {
             EventTag::Simple => self.tell_line(rest, taken, TextKind::Simple, listener),
             EventTag::Error => self.tell_line(rest, taken, TextKind::Error, listener),
+            EventTag::Double => self.tell_line(rest, taken, TextKind::Double, listener),
             EventTag::Bulk => self.tell_content(rest, taken, listener),
             _ => self.tell(rest, taken, listener),
         }
@@ -212,7 +213,7 @@ impl Machine {
         ensures failed { result.turn ≡ Turn.Failed →
             (place_of self.new).token ≡ Dead self.new.cause }
     {
-        let after = behind(rest, taken.used);
+        let after = beyond(rest, taken.used);
         match self.whole_line(after, taken.used) {
             Some(run) => self.tell_whole(rest, taken.used, kind, run, listener),
             None => self.tell(rest, taken, listener),
@@ -230,7 +231,7 @@ impl Machine {
         ensures failed { result.turn ≡ Turn.Failed →
             (place_of self.new).token ≡ Dead self.new.cause }
     {
-        let after = behind(rest, taken.used);
+        let after = beyond(rest, taken.used);
         match self.whole_content(after) {
             Some(run) => self.tell_whole(rest, taken.used, TextKind::Bulk, run, listener),
             None => self.tell(rest, taken, listener),
@@ -334,6 +335,7 @@ impl Machine {
             EventTag::Int => told(used, listener.int(self.value)),
             EventTag::Simple => told(used, listener.text(TextKind::Simple)),
             EventTag::Error => told(used, listener.text(TextKind::Error)),
+            EventTag::Double => told(used, listener.text(TextKind::Double)),
             EventTag::Bulk => told(used, listener.text(TextKind::Bulk)),
             EventTag::BulkError => told(used, listener.text(TextKind::BulkError)),
             EventTag::Verbatim => told(used, listener.text(TextKind::Verbatim(self.format))),
@@ -372,7 +374,7 @@ fn told(used: usize, goes_on: bool) -> Turned
 
 /// The bytes from this index on.
 #[inline]
-fn behind(piece: &[u8], from: usize) -> &[u8]
+fn beyond(piece: &[u8], from: usize) -> &[u8]
     requires { from ≤ length piece.now }
     ensures { result.now ≡ drop from piece.now }
 {

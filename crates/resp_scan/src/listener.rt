@@ -69,7 +69,9 @@ pub trait Listener {
         ensures { Hears (has_heard self.old) (has_heard self.new) (has_stopped self.new)
             (e.Close ∷ []) result };
 
-    /// A simple string, an error or a counted bulk string that lies in the piece with its end.
+    /// A simple string, an error or a counted bulk string that lies in the piece with its end. That
+    /// one is told so is not promised: it may be told by [`Listener::text`], [`Listener::part`] and
+    /// [`Listener::text_end`], as this does where it isn't written.
     fn whole_text(&mut self, kind: TextKind, bytes: &[u8]) -> bool
         requires { IsTextOf kind bytes.now }
         ensures { Hears (has_heard self.old) (has_heard self.new) (has_stopped self.new)

@@ -93,6 +93,7 @@ pub enum EventTag {
     Int,
     Simple,
     Error,
+    Double,
     Bulk,
     BulkError,
     Verbatim,

@@ -38,8 +38,8 @@ impl Machine {
             State::BulkHead => 4,
             State::ArrayHead => { if self.is_full() { 4 } else { 3 } }
             State::HeadFirst => first_needed(self.head),
-            State::HeadMore => needed_behind(self.head, self.count),
-            State::HeadLf => needed_behind(self.head, self.count) - 1,
+            State::HeadMore => needed_after(self.head, self.count),
+            State::HeadLf => needed_after(self.head, self.count) - 1,
             State::FormatFirst | State::Content => self.count + 2,
             State::FormatSecond => self.count + 1,
             State::FormatThird => self.count,
@@ -73,7 +73,7 @@ pub fn first_needed(head: Head) -> u64
 /// The fewest bytes that complete a value, or a streamed string, after a head's digits of this
 /// value.
 #[inline]
-pub fn needed_behind(head: Head, number: u64) -> u64
+pub fn needed_after(head: Head, number: u64) -> u64
     requires { number < 2 ^ 44 }
     ensures more { number ≤ result }
     ensures few { result < 2 ^ 48 }

@@ -44,8 +44,8 @@ impl Scanner {
     ghost use Rattle.resp_scan.specs.Parts.{IsOfPiece};
     ghost use Rattle.resp_scan.specs.Kinds.{rules_of};
     ghost use Rattle.resp_scan.specs.Machine.Sound.{IsSound, needed};
-    ghost use Rattle.resp_scan.specs.Reading.{BeginDue, EndsValue, HasNoDone, HasNoValue, HasRead, IfDone, IfNoEvent, IfOtherEvent, IsFaulted, IsRefused, MayEnd, UsesUp, WhereRead, events_of};
-    ghost use Rattle.resp_scan.specs.Listening.{HearsPiece, HearsRefusal, HearsValue, IfRefused, IfStopped, IfUsedUp, IfWhole, StopsBehind, WhereHeard, fault_of};
+    ghost use Rattle.resp_scan.specs.Reading.{BeginDue, ComesInTime, EndsValue, HasNoDone, HasNoValue, HasRead, IfDone, IfNoEvent, IfOtherEvent, IsFaulted, IsRefused, MayEnd, UsesUp, WhereRead, events_of};
+    ghost use Rattle.resp_scan.specs.Listening.{HearsPiece, HearsRefusal, HearsValue, IfRefused, IfStopped, IfUsedUp, IfWhole, StopsAfter, WhereHeard, fault_of};
     ghost use Rattle.resp_value.specs.Rules.{WithinTotal, rules_under};
     ghost use Rattle.resp_value.specs.Spellings.{IsViable};
     ghost use Rattle.resp_scan.specs.Machine.Tokens.{AtStart};
@@ -116,6 +116,10 @@ impl Scanner {
             IfOtherEvent result (λ used event.
             HasRead self.new (front ++ take used piece.now) (given ++ events_of event))) }
 
+        // The event comes with the last of its bytes, and no other was due before them.
+        ensures in_time { WhereRead self.old (λ front given.
+            IfOtherEvent result (ComesInTime front given piece.now)) }
+
         // The refused byte is the first after which nothing can follow, and the fault names why.
         ensures refusal { WhereRead self.old (λ front given.
             IfErr result (IsRefused (rules_of self.old) front given piece.now)) }
@@ -134,7 +138,8 @@ impl Scanner {
     }
 
     /// Tells the listener what stands in the piece, up to the end of a value: the events that
-    /// [`Scanner::step`] would give, and a text that lies whole in the piece by one call.
+    /// [`Scanner::step`] would give. Those of a text that lies whole in the piece may come by one
+    /// call, [`Listener::whole_text`].
     ///
     /// Refuses the first byte after which nothing can follow, as [`Scanner::step`] does. Where the
     /// listener stops, no byte is read any more: every later call answers OutOfMemory, at the
@@ -162,7 +167,7 @@ impl Scanner {
 
         // The listener stopped where it may, told events that are the first of those due.
         ensures stopped { WhereHeard self.old (L.has_heard listener.old) (λ since front.
-            IfStopped result (StopsBehind (rules_of self.old) (L.has_stopped listener.new since)
+            IfStopped result (StopsAfter (rules_of self.old) (L.has_stopped listener.new since)
             front piece.now)) }
 
         // No value has ended before, so that of a piece with a byte at least one is used.
@@ -276,7 +281,7 @@ impl Scanner {
         ensures no_more_events_than_bytes { WhereRead self.now (λ front given.
             length given ≤ result) }
         ensures no_value_ended { WhereRead self.now (λ front given. HasNoDone given) }
-        ensures behind_a_fault { (fault : Fault) → IsFaulted self.now fault → result ≡ fault.at }
+        ensures after_a_fault { (fault : Fault) → IsFaulted self.now fault → result ≡ fault.at }
         ensures at_most_total { result ≤ (rules_of self.now).limits.total }
         ensures limits_in_range { AreBounds (rules_of self.now).limits }
     {

@@ -19,8 +19,8 @@ impl Machine {
     ghost use Rattle.resp_scan.specs.Machine.Tokens.{at, Text, AtStart, AtHead};
     ghost use Rattle.resp_scan.specs.declared.event.TextKind.TheVariants as text;
 
-    /// A value's first byte, or the `.` that closes a streamed aggregate. Refuses a double, and in
-    /// version 2 what version 3 alone has.
+    /// A value's first byte, or the `.` that closes a streamed aggregate. Refuses a double where
+    /// doubles aren't allowed, and in version 2 what version 3 alone has.
     #[inline]
     #[tactic(auto, using(crate::proofs::Soundness::Starts::first_byte))]
     pub fn start(&mut self, piece: &[u8]) -> Taken
@@ -49,7 +49,7 @@ impl Machine {
                 }
             }
             b'.' => self.close(piece),
-            b',' => self.fail(0, Cause::Double),
+            b',' => self.double_begins(),
             byte => match first_of(byte) {
                 None => self.fail(0, Cause::Syntax),
                 Some(first) => match self.version {
@@ -60,7 +60,24 @@ impl Machine {
         }
     }
 
-    /// A simple string or an error begins, unless items or total refuse it.
+    /// A double begins, unless doubles aren't allowed or the version has none.
+    #[inline(never)]
+    fn double_begins(&mut self) -> Taken
+        requires { IsSound (at (place_of self.old) AtStart) }
+        ensures { (p : List ℕ) → out_of result self.new ≡
+            after_first (m.double_move (at (place_of self.old) AtStart))
+            (at (place_of self.old) AtStart) p }
+    {
+        if !self.limits.doubles() {
+            return self.fail(0, Cause::Double);
+        }
+        match self.version {
+            Version::Two => self.fail(0, Cause::Version),
+            Version::Three => self.line_begins(EventTag::Double),
+        }
+    }
+
+    /// A simple string, an error or a double begins, unless items or total refuse it.
     #[inline]
     #[tactic(auto, using(crate::proofs::Soundness::Starts::lines))]
     fn line_begins(&mut self, tag: EventTag) -> Taken
@@ -72,6 +89,10 @@ impl Machine {
         ensures error { (p : List ℕ) → tag ≡ EventTag.Error →
             out_of result self.new ≡ after_first
             (m.line_move (at (place_of self.old) AtStart) (Text text.Error))
+            (at (place_of self.old) AtStart) p }
+        ensures double { (p : List ℕ) → tag ≡ EventTag.Double →
+            out_of result self.new ≡ after_first
+            (m.line_move (at (place_of self.old) AtStart) (Text text.Double))
             (at (place_of self.old) AtStart) p }
     {
         if let Some(cause) = self.begin(2) {

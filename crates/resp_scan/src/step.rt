@@ -133,6 +133,7 @@ impl Machine {
             EventTag::Int => Some(Event::Int(self.value)),
             EventTag::Simple => Some(Event::Text(TextKind::Simple)),
             EventTag::Error => Some(Event::Text(TextKind::Error)),
+            EventTag::Double => Some(Event::Text(TextKind::Double)),
             EventTag::Bulk => Some(Event::Text(TextKind::Bulk)),
             EventTag::BulkError => Some(Event::Text(TextKind::BulkError)),
             EventTag::Verbatim => Some(Event::Text(TextKind::Verbatim(self.format))),

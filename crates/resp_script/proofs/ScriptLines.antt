@@ -26,15 +26,15 @@ line_without_end (b ∷ next ∷ text) some none =
     ∙ ap (onto_first_line b) (line_without_end (next ∷ text) (omega arith) (λ k below. none (suc k) (omega arith)))
 
 -- the first word of none of the lines after the first is `clients`
-pub none_behind : (text line behind : List ℕ) → lines_of text ≡ line ∷ lines_of behind → NameNoClients (lines_of text) →
-    NameNoClients (lines_of behind)
-none_behind text line behind parts none =
-    All-tail (λ line. first_word line ≡ codes "clients" → ⊥) line (lines_of behind) (subst NameNoClients parts none)
+pub none_after : (text line beyond : List ℕ) → lines_of text ≡ line ∷ lines_of beyond → NameNoClients (lines_of text) →
+    NameNoClients (lines_of beyond)
+none_after text line beyond parts none =
+    All-tail (λ line. first_word line ≡ codes "clients" → ⊥) line (lines_of beyond) (subst NameNoClients parts none)
 
-pub none_with : (text line behind : List ℕ) → lines_of text ≡ line ∷ lines_of behind → (first_word line ≡ codes "clients" → ⊥) →
-    NameNoClients (lines_of behind) → NameNoClients (lines_of text)
-none_with text line behind parts first none =
-    subst NameNoClients (sym parts) (All-cons (λ line. first_word line ≡ codes "clients" → ⊥) line (lines_of behind) first none)
+pub none_with : (text line beyond : List ℕ) → lines_of text ≡ line ∷ lines_of beyond → (first_word line ≡ codes "clients" → ⊥) →
+    NameNoClients (lines_of beyond) → NameNoClients (lines_of text)
+none_with text line beyond parts first none =
+    subst NameNoClients (sym parts) (All-cons (λ line. first_word line ≡ codes "clients" → ⊥) line (lines_of beyond) first none)
 
 -- each line with its number, and one more
 numbered_more : (n : ℕ) (lines : List (List ℕ)) (line : List ℕ) →

@@ -35,20 +35,20 @@ sum_more : (done : List (List ℕ)) (line : List ℕ) →
 sum_more done line = sum_by-append (λ line. length line + 1) done (line ∷ []) ∙ ap (λ n. sum_by (λ line. length line + 1) done + n) (omega arith)
 
 -- how many bytes stand up to the end of a line more
-bytes_more : (text rest behind line : List ℕ) (done : List (List ℕ)) → length rest ≡ length text - sum_by (λ line. length line + 1) done →
-    length behind ≡ length rest - (length line + 1) → bytes_to_end text (done ++ line ∷ []) ≡ length text - length behind
-bytes_more text rest behind line done left left' =
+bytes_more : (text rest beyond line : List ℕ) (done : List (List ℕ)) → length rest ≡ length text - sum_by (λ line. length line + 1) done →
+    length beyond ≡ length rest - (length line + 1) → bytes_to_end text (done ++ line ∷ []) ≡ length text - length beyond
+bytes_more text rest beyond line done left left' =
     let more = sum_more done line in
     omega (arith, left, left', more)
 
-within_more : (text rest behind line : List ℕ) (done : List (List ℕ)) (number : ℕ) → AreWithin text done → length done + 1 ≡ number →
-    length rest ≡ length text - sum_by (λ line. length line + 1) done → length behind ≡ length rest - (length line + 1) → number ≤ 10000 →
-    length line ≤ 4096 → length text - length behind ≤ 1048576 → AreWithin text (done ++ line ∷ [])
-within_more text rest behind line done number within counted left left' few short small = record {
+within_more : (text rest beyond line : List ℕ) (done : List (List ℕ)) (number : ℕ) → AreWithin text done → length done + 1 ≡ number →
+    length rest ≡ length text - sum_by (λ line. length line + 1) done → length beyond ≡ length rest - (length line + 1) → number ≤ 10000 →
+    length line ≤ 4096 → length text - length beyond ≤ 1048576 → AreWithin text (done ++ line ∷ [])
+within_more text rest beyond line done number within counted left left' few short small = record {
   few = omega (arith, length_push done line, counted);
   short = All-push (λ line. length line ≤ 4096) done line within.short short;
   small =
-      let same = bytes_more text rest behind line done left left' in
+      let same = bytes_more text rest beyond line done left left' in
       omega (arith, same);
 }
 
@@ -58,24 +58,24 @@ all_at_last P [] line all = All-head P line [] all
 all_at_last P (first ∷ done) line all = all_at_last P done line (All-tail P first (done ++ line ∷ []) all)
 
 -- where a limit is passed, the lines aren't within the limits
-pub passes_a_limit : (text rest behind line : List ℕ) (done : List (List ℕ)) (number : ℕ) (clients : Option ℕ) (steps : List (ℕ × Option Event)) →
-    HaveRead text rest done number clients steps → length behind ≡ length rest - (length line + 1) →
-    ((number + 1 ≤ 10000) → (length line ≤ 4096) → (length text - length behind ≤ 1048576) → ⊥) → AreWithin text (done ++ line ∷ []) → ⊥
-passes_a_limit text rest behind line done number clients steps read left' over within =
-    let same = bytes_more text rest behind line done read.left left' in
+pub passes_a_limit : (text rest beyond line : List ℕ) (done : List (List ℕ)) (number : ℕ) (clients : Option ℕ) (steps : List (ℕ × Option Event)) →
+    HaveRead text rest done number clients steps → length beyond ≡ length rest - (length line + 1) →
+    ((number + 1 ≤ 10000) → (length line ≤ 4096) → (length text - length beyond ≤ 1048576) → ⊥) → AreWithin text (done ++ line ∷ []) → ⊥
+passes_a_limit text rest beyond line done number clients steps read left' over within =
+    let same = bytes_more text rest beyond line done read.left left' in
     over (omega (arith, within.few, length_push done line, read.counted)) (all_at_last (λ line. length line ≤ 4096) done line within.short)
     (omega (arith, same, within.small))
 
 -- a line more was read, which says this together with those before it
-read_more : (text rest behind line : List ℕ) (done : List (List ℕ)) (number : ℕ) (clients clients' : Option ℕ) (steps steps' : List (ℕ × Option Event)) →
-    HaveRead text rest done number clients steps → lines_of rest ≡ line ∷ lines_of behind → length behind ≡ length rest - (length line + 1) →
-    number + 1 ≤ 10000 → length line ≤ 4096 → length text - length behind ≤ 1048576 → SaySoFar clients' (done ++ line ∷ []) steps' →
-    HaveRead text behind (done ++ line ∷ []) (number + 1) clients' steps'
-read_more text rest behind line done number clients clients' steps steps' read parts left' few short small said = record {
-  lines = read.lines ∙ ap (λ z. done ++ z) parts ∙ sym (append_assoc done (line ∷ []) (lines_of behind));
+read_more : (text rest beyond line : List ℕ) (done : List (List ℕ)) (number : ℕ) (clients clients' : Option ℕ) (steps steps' : List (ℕ × Option Event)) →
+    HaveRead text rest done number clients steps → lines_of rest ≡ line ∷ lines_of beyond → length beyond ≡ length rest - (length line + 1) →
+    number + 1 ≤ 10000 → length line ≤ 4096 → length text - length beyond ≤ 1048576 → SaySoFar clients' (done ++ line ∷ []) steps' →
+    HaveRead text beyond (done ++ line ∷ []) (number + 1) clients' steps'
+read_more text rest beyond line done number clients clients' steps steps' read parts left' few short small said = record {
+  lines = read.lines ∙ ap (λ z. done ++ z) parts ∙ sym (append_assoc done (line ∷ []) (lines_of beyond));
   counted = length_push done line ∙ ap (λ n. n + 1) read.counted;
   said = said;
-  within = within_more text rest behind line done (number + 1) read.within (ap (λ n. n + 1) read.counted) read.left left' few short small;
+  within = within_more text rest beyond line done (number + 1) read.within (ap (λ n. n + 1) read.counted) read.left left' few short small;
   left =
       let more = sum_more done line in
       let before = read.left in
@@ -126,41 +126,41 @@ say_step clients done line number steps step passed counted says said =
 
 -- the answers for one line
 
-pub reads_nothing : (text rest behind line : List ℕ) (done : List (List ℕ)) (number : ℕ) (clients : Option ℕ) (steps : List (ℕ × Option Event)) →
-    HaveRead text rest done number clients steps → lines_of rest ≡ line ∷ lines_of behind → length behind ≡ length rest - (length line + 1) →
-    number + 1 ≤ 10000 → length line ≤ 4096 → length text - length behind ≤ 1048576 → Says clients line Nothing →
-    HaveRead text behind (done ++ line ∷ []) (number + 1) clients steps
-reads_nothing text rest behind line done number clients steps read parts left' few short small says =
-    read_more text rest behind line done number clients clients steps steps read parts left' few short small
+pub reads_nothing : (text rest beyond line : List ℕ) (done : List (List ℕ)) (number : ℕ) (clients : Option ℕ) (steps : List (ℕ × Option Event)) →
+    HaveRead text rest done number clients steps → lines_of rest ≡ line ∷ lines_of beyond → length beyond ≡ length rest - (length line + 1) →
+    number + 1 ≤ 10000 → length line ≤ 4096 → length text - length beyond ≤ 1048576 → Says clients line Nothing →
+    HaveRead text beyond (done ++ line ∷ []) (number + 1) clients steps
+reads_nothing text rest beyond line done number clients steps read parts left' few short small says =
+    read_more text rest beyond line done number clients clients steps steps read parts left' few short small
     (say_nothing_more clients done line steps says read.said)
 
-pub reads_clients : (text rest behind line : List ℕ) (done : List (List ℕ)) (number : ℕ) (clients : Option ℕ) (count : ℕ) (steps : List (ℕ × Option Event)) →
-    HaveRead text rest done number clients steps → lines_of rest ≡ line ∷ lines_of behind → length behind ≡ length rest - (length line + 1) →
-    number + 1 ≤ 10000 → length line ≤ 4096 → length text - length behind ≤ 1048576 → Says clients line (Clients count) →
-    HaveRead text behind (done ++ line ∷ []) (number + 1) (Some count) steps
-reads_clients text rest behind line done number None count steps read parts left' few short small says =
-    read_more text rest behind line done number None (Some count) steps steps read parts left' few short small
+pub reads_clients : (text rest beyond line : List ℕ) (done : List (List ℕ)) (number : ℕ) (clients : Option ℕ) (count : ℕ) (steps : List (ℕ × Option Event)) →
+    HaveRead text rest done number clients steps → lines_of rest ≡ line ∷ lines_of beyond → length beyond ≡ length rest - (length line + 1) →
+    number + 1 ≤ 10000 → length line ≤ 4096 → length text - length beyond ≤ 1048576 → Says clients line (Clients count) →
+    HaveRead text beyond (done ++ line ∷ []) (number + 1) (Some count) steps
+reads_clients text rest beyond line done number None count steps read parts left' few short small says =
+    read_more text rest beyond line done number None (Some count) steps steps read parts left' few short small
     (say_clients count done line (number + 1) steps says.0 (ap (λ n. n + 1) read.counted) says.1 read.said)
-reads_clients text rest behind line done number (Some named) count steps read parts left' few short small says = absurd says
+reads_clients text rest beyond line done number (Some named) count steps read parts left' few short small says = absurd says
 
-pub reads_step : (text rest behind line : List ℕ) (done : List (List ℕ)) (number : ℕ) (clients : Option ℕ) (step : Option Event)
+pub reads_step : (text rest beyond line : List ℕ) (done : List (List ℕ)) (number : ℕ) (clients : Option ℕ) (step : Option Event)
     (steps : List (ℕ × Option Event)) →
-    HaveRead text rest done number clients steps → lines_of rest ≡ line ∷ lines_of behind → length behind ≡ length rest - (length line + 1) →
-    number + 1 ≤ 10000 → length line ≤ 4096 → length text - length behind ≤ 1048576 → Says clients line (Step step) →
-    HaveRead text behind (done ++ line ∷ []) (number + 1) clients (steps ++ (number + 1, step) ∷ [])
-reads_step text rest behind line done number None step steps read parts left' few short small says = absurd says
-reads_step text rest behind line done number (Some clients) step steps read parts left' few short small says =
-    read_more text rest behind line done number (Some clients) (Some clients) steps (steps ++ (number + 1, step) ∷ []) read parts left' few short small
+    HaveRead text rest done number clients steps → lines_of rest ≡ line ∷ lines_of beyond → length beyond ≡ length rest - (length line + 1) →
+    number + 1 ≤ 10000 → length line ≤ 4096 → length text - length beyond ≤ 1048576 → Says clients line (Step step) →
+    HaveRead text beyond (done ++ line ∷ []) (number + 1) clients (steps ++ (number + 1, step) ∷ [])
+reads_step text rest beyond line done number None step steps read parts left' few short small says = absurd says
+reads_step text rest beyond line done number (Some clients) step steps read parts left' few short small says =
+    read_more text rest beyond line done number (Some clients) (Some clients) steps (steps ++ (number + 1, step) ∷ []) read parts left' few short small
     (say_step clients done line (number + 1) steps step says.0 (ap (λ n. n + 1) read.counted) says.1 read.said)
 
 -- the line is the first bad one
-pub is_first_bad : (text rest behind line : List ℕ) (done : List (List ℕ)) (number : ℕ) (clients : Option ℕ) (steps : List (ℕ × Option Event)) →
-    HaveRead text rest done number clients steps → lines_of rest ≡ line ∷ lines_of behind →
+pub is_first_bad : (text rest beyond line : List ℕ) (done : List (List ℕ)) (number : ℕ) (clients : Option ℕ) (steps : List (ℕ × Option Event)) →
+    HaveRead text rest done number clients steps → lines_of rest ≡ line ∷ lines_of beyond →
     (AreWithin text (done ++ line ∷ []) → ⊥) ⊎ SaysNothing clients line → IsFirstBad text (number + 1)
-is_first_bad text rest behind line done number clients steps read parts bad = record {
+is_first_bad text rest beyond line done number clients steps read parts bad = record {
   before = done;
   bad = line;
-  behind = lines_of behind;
+  beyond = lines_of beyond;
   whole = read.lines ∙ ap (λ z. done ++ z) parts;
   counted = ap (λ n. n + 1) read.counted;
   named = clients;

@@ -1,7 +1,7 @@
 -- Why the events of a script are not played to their end.
 use Rattle.std.specs.Prelude.{◌≡◌, ◌⊎◌, ℕ, List, ◌++◌, map, Contains, Option, Some, Result, Ok, Err, codes, decimal}
 use Rattle.resp_value.specs.Causes.{name_of}
-use Rattle.resp_value.specs.Devices.{Appends, HasRisen}
+use Rattle.resp_value.specs.Devices.{Appends, count_after}
 use Rattle.resp_value.specs.declared.cause.Cause.{Cause}
 use Rattle.resp_wire.specs.declared.event.Event.{Event}
 use Rattle.resp_script.specs.declared.play.PlayError.{PlayError}
@@ -33,7 +33,7 @@ abbrev pub IsNoStop : PlayError → Type 0
 IsNoStop (Stopped line cause) = ⊥
 IsNoStop _ = Unit {0}
 
--- the writer's count of failures rose where that was the reason to stop, and else no write failed
+-- one write failed where that was the reason to stop, and else none did
 abbrev pub FailsToWrite : ℕ → ℕ → Result (Unit {0}) PlayError → Type 0
-FailsToWrite failures failures' (Err Write) = HasRisen failures failures'
+FailsToWrite failures failures' (Err Write) = failures' ≡ count_after 1 failures
 FailsToWrite failures failures' _ = failures' ≡ failures

@@ -72,8 +72,8 @@ SaysNothing named line = (is_passed_over line ≡ false) × (SaysSomething named
 pub record IsFirstBad (text : List ℕ) (number : ℕ) : Type 0 where
   pub before : List (List ℕ)
   pub bad : List ℕ
-  pub behind : List (List ℕ)
-  pub whole : lines_of text ≡ before ++ bad ∷ behind
+  pub beyond : List (List ℕ)
+  pub whole : lines_of text ≡ before ++ bad ∷ beyond
   pub counted : length before + 1 ≡ number
   pub named : Option ℕ
   pub steps : List (ℕ × Option Event)

@@ -301,10 +301,10 @@ fn write_indented<W: Sink>(lines: &[u8], writer: &mut W) -> Result<(), PlayError
 {
     let mut rest = lines;
     while let Some(at) = memchr(b'\n', rest) {
-        let (line, behind) = rest.split_at(at + 1);
+        let (line, beyond) = rest.split_at(at + 1);
         write_text(writer, b"  ")?;
         write_text(writer, line)?;
-        rest = behind;
+        rest = beyond;
     }
     Ok(())
 }

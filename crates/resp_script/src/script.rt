@@ -90,9 +90,9 @@ pub fn read_script(alloc: Global, bytes: &[u8]) -> Result<Script, ScriptError>
     let mut steps = Vec::new(alloc);
     let mut line: u64 = 0;
     let mut rest = bytes;
-    while let Some((content, behind)) = first_line(rest) {
+    while let Some((content, beyond)) = first_line(rest) {
         line += 1;
-        let read = bytes.len() - behind.len();
+        let read = bytes.len() - beyond.len();
         if line > MOST_LINES || content.len() > MOST_IN_LINE || read > MOST_BYTES {
             return Err(ScriptError::BadScript { line });
         }
@@ -107,7 +107,7 @@ pub fn read_script(alloc: Global, bytes: &[u8]) -> Result<Script, ScriptError>
             Err(LineFault::Bad) => return Err(ScriptError::BadScript { line }),
             Err(LineFault::Memory) => return Err(ScriptError::Memory),
         }
-        rest = behind;
+        rest = beyond;
     }
     match clients {
         Some(clients) => Ok(Script { clients, steps }),
@@ -139,11 +139,11 @@ fn names_clients(text: &[u8]) -> bool
         (NameNoClients (lines_of text.now)) }
 {
     let mut rest = text;
-    while let Some((line, behind)) = first_line(rest) {
+    while let Some((line, beyond)) = first_line(rest) {
         if words::first_word(line) == b"clients".as_slice() {
             return true;
         }
-        rest = behind;
+        rest = beyond;
     }
     false
 }

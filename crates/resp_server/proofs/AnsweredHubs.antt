@@ -64,7 +64,7 @@ hub_cut_short limits es store last hub view ns store' id old new written found p
     ap (λ b. record { version = new.version; out = old.out.items ++ a.reply; closing = b; decoder = new.decoder }) a.closes in
     record {
       answered = a.answered;
-      behind = a.behind;
+      beyond = a.beyond;
       whole = a.whole;
       some = a.some;
       reply = a.reply;

@@ -82,7 +82,7 @@ cut_short limits id store store' store'' before middle after last front piece n 
     let text = front ++ take n piece in
     record {
       answered = take n piece;
-      behind = drop n piece;
+      beyond = drop n piece;
       whole = sym (take-append-drop n piece);
       some = let is = length-drop n piece in omega (arith, is, left);
       reply = a.reply;

@@ -23,6 +23,7 @@ number_types Three n = tt
 pub number_fits : (limits : Bounds) (version : Version) (n : ℕ) → 256 ≤ limits.total → length (canonical_text version (natural n)) ≤ 22 →
     Fits (rules_under version limits) (natural n)
 number_fits limits version n least short = record {
+  allows_doubles = λ off. tt;
   has_types = number_types version n;
   push_at_top = tt;
   within_depth = omega arith;

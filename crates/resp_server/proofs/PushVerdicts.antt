@@ -5,12 +5,13 @@ use Rattle.resp_value.specs.Data.{Datum}
 use Rattle.resp_server.specs.Hubs.{Seat}
 use Rattle.resp_server.specs.PushRefusals.{RefusesPush, IsPushVerdict}
 use Rattle.resp_server.specs.declared.error.PushError.{PushError}
-use Rattle.resp_server.specs.declared.error.PushError.TheVariants.{NoSession, Closing, NotInVersion, NestedPush, OverLimits, OutOfMemory}
+use Rattle.resp_server.specs.declared.error.PushError.TheVariants.{NoSession, Closing, NotInVersion, Double, NestedPush, OverLimits, OutOfMemory}
 
 only_none : (limits : Bounds) (push : Datum) (error : PushError) → RefusesPush limits None push error → IsErrOf {T = Unit {0}} (Err NoSession) error
 only_none limits push NoSession h = refl
 only_none limits push Closing h = absurd h
 only_none limits push NotInVersion h = absurd h
+only_none limits push Double h = absurd h
 only_none limits push NestedPush h = absurd h
 only_none limits push (OverLimits limit) h = absurd h
 only_none limits push OutOfMemory h = absurd h

@@ -26,20 +26,20 @@ use Rattle.resp_server.specs.declared.session.Session.{Session}
 
 -- no front of the text is a spelling
 no_value_begins : (r : Rules) (text : List ℕ) → HasNoValue text → BeginsNoValue r text
-no_value_begins r text none x front behind s e =
-    none (length front) s.tree (subst (λ t. Spells s.tree t) (sym (ap (take (length front)) e ∙ take_at front behind (length front) refl)) s.spells)
+no_value_begins r text none x front beyond s e =
+    none (length front) s.tree (subst (λ t. Spells s.tree t) (sym (ap (take (length front)) e ∙ take_at front beyond (length front) refl)) s.spells)
 
 no_spelling_begins : (r : Rules) (text : List ℕ) → HasNoSpelling r text → BeginsNoValue r text
-no_spelling_begins r text none x front behind s e =
+no_spelling_begins r text none x front beyond s e =
     none (length front) (record {
       tree = s.tree;
-      spells = subst (λ t. Spells s.tree t) (sym (ap (take (length front)) e ∙ take_at front behind (length front) refl)) s.spells;
+      spells = subst (λ t. Spells s.tree t) (sym (ap (take (length front)) e ∙ take_at front beyond (length front) refl)) s.spells;
       keeps = s.keeps;
     })
 
 nothing_begins : NoSpellingIsEmpty → (r : Rules) → BeginsNoValue r []
-nothing_begins full r x [] behind s e = full r x s
-nothing_begins full r x (b ∷ bs) behind s e = absurd (cc)
+nothing_begins full r x [] beyond s e = full r x s
+nothing_begins full r x (b ∷ bs) beyond s e = absurd (cc)
 
 -- what is waited on
 pub waits_on : (limits : Bounds) (id : ℕ) (s t : SessionState) (text : List ℕ) → s.closing ≡ false → t ≡ s → HasNoValue text →

@@ -54,9 +54,9 @@ pub record IsAnswered (limits : Bounds) (id : ℕ) (store store' : Store) (befor
 pub record IsCutShort (limits : Bounds) (id : ℕ) (store store' : Store) (before after : Session) (front piece : List ℕ)
     (commands : ℕ) : Type 0 where
   pub answered : List ℕ
-  pub behind : List ℕ
-  pub whole : piece ≡ answered ++ behind
-  pub some : 0 < length behind
+  pub beyond : List ℕ
+  pub whole : piece ≡ answered ++ beyond
+  pub some : 0 < length beyond
   pub reply : List ℕ
   pub rest : List ℕ
   pub replied : after.out.items ≡ before.out.items ++ reply

@@ -34,9 +34,9 @@ pub record HasAnswered (old new : HubState) (id : ℕ) (s : Seat) (text : List �
 -- of the hub is changed
 pub record HasCutShort (old new : HubState) (id : ℕ) (s : Seat) (front piece : List ℕ) (commands : ℕ) : Type 0 where
   pub answered : List ℕ
-  pub behind : List ℕ
-  pub whole : piece ≡ answered ++ behind
-  pub some : 0 < length behind
+  pub beyond : List ℕ
+  pub whole : piece ≡ answered ++ beyond
+  pub some : 0 < length beyond
   pub reply : List ℕ
   pub store : Store
   pub version : Version

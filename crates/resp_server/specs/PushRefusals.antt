@@ -1,7 +1,7 @@
 -- Why a session refuses a push.
 use Rattle.std.specs.Prelude.{◌≡◌, ◌≢◌, true, false, Option, None, Some, Result, OnOk, IfErr, IsErrOf}
 use Rattle.resp_value.specs.Bounds.{Bounds}
-use Rattle.resp_value.specs.Canonical.{HasPushAtTop, Fits, IsFirstOver}
+use Rattle.resp_value.specs.Canonical.{HasPushAtTop, AllowsDoubles, Fits, IsFirstOver}
 use Rattle.resp_value.specs.Data.{Datum}
 use Rattle.resp_value.specs.Rules.{rules_under}
 use Rattle.resp_value.specs.declared.version.Version.TheVariants.{Two, Three}
@@ -9,7 +9,7 @@ use Rattle.resp_encode.specs.declared.error.EncodeError.{EncodeError}
 use Rattle.resp_encode.specs.declared.error.EncodeError.TheVariants as encode
 use Rattle.resp_server.specs.Hubs.{Seat}
 use Rattle.resp_server.specs.declared.error.PushError.{PushError}
-use Rattle.resp_server.specs.declared.error.PushError.TheVariants.{NoSession, Closing, NotInVersion, NestedPush, OverLimits, OutOfMemory}
+use Rattle.resp_server.specs.declared.error.PushError.TheVariants.{NoSession, Closing, NotInVersion, Double, NestedPush, OverLimits, OutOfMemory}
 
 -- an open session at version 3
 abbrev pub TakesPushes : Option Seat → Type 0
@@ -22,9 +22,11 @@ RefusesPush limits seat push NoSession = seat ≡ None
 RefusesPush limits None push error = ⊥
 RefusesPush limits (Some s) push Closing = s.closing ≡ true
 RefusesPush limits (Some s) push NotInVersion = (s.closing ≡ false) × (s.version ≡ Two)
-RefusesPush limits (Some s) push NestedPush = TakesPushes (Some s) × (HasPushAtTop push → ⊥)
+RefusesPush limits (Some s) push Double = TakesPushes (Some s) × (AllowsDoubles limits push → ⊥)
+RefusesPush limits (Some s) push NestedPush =
+    TakesPushes (Some s) × AllowsDoubles limits push × (HasPushAtTop push → ⊥)
 RefusesPush limits (Some s) push (OverLimits limit) =
-    TakesPushes (Some s) × HasPushAtTop push × IsFirstOver (rules_under Three limits) push limit
+    TakesPushes (Some s) × AllowsDoubles limits push × HasPushAtTop push × IsFirstOver (rules_under Three limits) push limit
 RefusesPush limits (Some s) push OutOfMemory = TakesPushes (Some s) × Fits (rules_under Three limits) push
 
 -- a push is queued where the session takes pushes and it is within the limits, and else it is refused for the first
@@ -37,6 +39,7 @@ pub record IsPushVerdict (limits : Bounds) (seat : Option Seat) (push : Datum) (
 
 -- why a push is refused that is not encoded for this reason
 abbrev pub push_error : EncodeError → PushError
+push_error encode.Double = Double
 push_error encode.NotInVersion = NotInVersion
 push_error encode.NestedPush = NestedPush
 push_error (encode.OverLimits limit) = OverLimits limit

@@ -32,6 +32,9 @@ pub enum PushError {
     /// The session answers in version 2, which has no pushes.
     #[error("the session's version has no pushes")]
     NotInVersion,
+    /// A double stands among the items, and the limits allow none.
+    #[error("the limits allow no doubles")]
+    Double,
     /// A push stands among the items.
     #[error("a push stands below the top")]
     NestedPush,

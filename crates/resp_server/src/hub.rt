@@ -248,8 +248,8 @@ impl<S: BuildHasher> Hub<S> {
     /// Queues a push of these items after what waits, in version 3 (Redis serialization protocol
     /// specification, "Pushes").
     ///
-    /// Refuses by the first of NoSession, Closing, NotInVersion, NestedPush and OverLimits that
-    /// there is, and else when out of memory, as [`PushError`] says. Then nothing is changed.
+    /// Refuses by the first of NoSession, Closing, NotInVersion, Double, NestedPush and OverLimits
+    /// that there is, and else when out of memory, as [`PushError`] says. Then nothing is changed.
     pub fn push(&mut self, id: u64, items: &[Value]) -> Result<(), PushError>
         ensures queued { OnOk result (IfSome (seat_at self.old id) (λ (s : Seat).
             self.new ≡ seated self.old id

@@ -48,6 +48,7 @@ fn push_error(error: EncodeError) -> PushError
     ensures { result ≡ push_error error }
 {
     match error {
+        EncodeError::Double => PushError::Double,
         EncodeError::NotInVersion => PushError::NotInVersion,
         EncodeError::NestedPush => PushError::NestedPush,
         EncodeError::OverLimits(limit) => PushError::OverLimits(limit),

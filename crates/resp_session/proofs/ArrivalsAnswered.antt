@@ -69,10 +69,10 @@ fronts : NoSpellingBeginsAnother → (limits : Bounds) (c : Connection) (k : ℕ
     (h.unfinished.front ≡ text_of (old_of c)) × (rest ++ drop c.arrived (sent_text c) ≡ text_of (later_of c))
 fronts apart limits c k rest h =
     let u = h.unfinished in
-    let behind : List ℕ = drop c.arrived (sent_text c) in
-    let whole : u.front ++ (rest ++ behind) ≡ text_of (old_of c) ++ text_of (later_of c) =
-    sym (append_assoc u.front rest behind) ∙ ap (λ z. z ++ behind) (sym u.whole) ∙ take-append-drop c.arrived (sent_text c) ∙ sent_in_two c (count_of c) in
-    same_front apart (server_rules limits) (map command_value (old_of c)) u.front (text_of (old_of c)) (rest ++ behind) (text_of (later_of c)) u.spelled
+    let beyond : List ℕ = drop c.arrived (sent_text c) in
+    let whole : u.front ++ (rest ++ beyond) ≡ text_of (old_of c) ++ text_of (later_of c) =
+    sym (append_assoc u.front rest beyond) ∙ ap (λ z. z ++ beyond) (sym u.whole) ∙ take-append-drop c.arrived (sent_text c) ∙ sent_in_two c (count_of c) in
+    same_front apart (server_rules limits) (map command_value (old_of c)) u.front (text_of (old_of c)) (rest ++ beyond) (text_of (later_of c)) u.spelled
     (values_of_requests limits (old_of c) (all_taken (IsSent limits) (count_of c) c.requests h.sent)) whole
 
 -- how many bytes have come, with those that come now
@@ -125,10 +125,10 @@ come : NoSpellingBeginsAnother → WhatComesIsWholeTexts → (limits : Bounds) �
     (h : Coming limits c k rest) →
     HasCome (server_rules limits) (map command_value (later_of c)) (map request_text (later_of c)) (rest ++ coming k c)
 come apart comes limits bounds c k rest h =
-    let behind : List ℕ = drop c.arrived (sent_text c) in
-    let whole : (rest ++ take k behind) ++ drop k behind ≡ text_of (later_of c) =
-    append_assoc rest (take k behind) (drop k behind) ∙ ap (λ z. rest ++ z) (take-append-drop k behind) ∙ (fronts apart limits c k rest h).1 in
-    comes (server_rules limits) (map command_value (later_of c)) (map request_text (later_of c)) (rest ++ coming k c) (drop k behind) bounds
+    let beyond : List ℕ = drop c.arrived (sent_text c) in
+    let whole : (rest ++ take k beyond) ++ drop k beyond ≡ text_of (later_of c) =
+    append_assoc rest (take k beyond) (drop k beyond) ∙ ap (λ z. rest ++ z) (take-append-drop k beyond) ∙ (fronts apart limits c k rest h).1 in
+    comes (server_rules limits) (map command_value (later_of c)) (map request_text (later_of c)) (rest ++ coming k c) (drop k beyond) bounds
     (texts_spell limits (later_of c) (all_dropped (IsSent limits) (count_of c) c.requests h.sent)) whole
 
 -- the requests that come whole now

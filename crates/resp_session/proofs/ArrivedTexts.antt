@@ -45,7 +45,7 @@ whole_within-add (text ∷ texts) (suc p) j h =
     let long : length text ≤ k = omega (arith, size) in
     let less : k - length text ≡ length (concat (take p texts)) + j = omega (arith, size) in
     let few : p ≤ length texts = omega (arith, h) in
-    let behind : whole_within texts (k - length text) ≡ p + whole_within (drop p texts) j =
+    let beyond : whole_within texts (k - length text) ≡ p + whole_within (drop p texts) j =
     ap (whole_within texts) less ∙ whole_within-add texts p j few in
     let first : whole_within (text ∷ texts) k ≡ whole_within texts (k - length text) + 1 = whole_within-long text texts k long in
-    omega (arith, first, behind)
+    omega (arith, first, beyond)

@@ -6,7 +6,7 @@ use Rattle.resp_value.specs.Data.{data_of_list}
 use Rattle.resp_value.specs.Values.{datum_of}
 use Rattle.resp_value.specs.declared.content.Content.{Content}
 use Rattle.resp_value.specs.declared.value.Value.{Value}
-use Rattle.resp_value.specs.declared.value.Value.TheVariants.{Null, Bool, Int, Simple, Error, Bulk, BulkError, Verbatim, Big, Array', Set', Map', Attr', Push'}
+use Rattle.resp_value.specs.declared.value.Value.TheVariants.{Null, Bool, Int, Simple, Error, Double, Bulk, BulkError, Verbatim, Big, Array', Set', Map', Attr', Push'}
 use Rattle.resp_session.specs.Bulks.{bulk_bytes, IsBulk}
 use Rattle.resp_session.specs.Commands.{bulk_content, contents_with, bulk_contents}
 
@@ -24,6 +24,7 @@ other_content (Bool b) other = refl
 other_content (Int i) other = refl
 other_content (Simple line) other = refl
 other_content (Error line) other = refl
+other_content (Double text) other = refl
 other_content (Bulk content) other = absurd (other content refl)
 other_content (BulkError content) other = refl
 other_content (Verbatim format content) other = refl

@@ -15,7 +15,7 @@ goes_on_no_more viable no_cause limits w rest cause at (inl u) m = m.asked u.0
 goes_on_no_more viable no_cause limits w rest cause at (inr b) m =
     let g = b.fault in
     let r = reading_rules limits w in
-    no_cause r g.front b.rule (viable r WithinTotal g.front g.behind (subst (IsViable r WithinTotal) g.whole m.viable)) g.cause
+    no_cause r g.front b.rule (viable r WithinTotal g.front g.beyond (subst (IsViable r WithinTotal) g.whole m.viable)) g.cause
 
 one_fault : ARestHasOneFault → (limits : Bounds) (w : Waiting) (rest : List ℕ) (cause cause' : Cause) (at at' : ℕ) → ClientFault limits w rest cause at →
     ClientFault limits w rest cause' at' → (cause ≡ cause') × (at ≡ at')

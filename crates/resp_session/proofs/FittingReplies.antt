@@ -25,6 +25,7 @@ small_effect limits bounds store version x small h = record { value = small.valu
 -- a bulk string is written alike in both versions
 bulk_fits : (limits : Bounds) (version : Version) (content : List ℕ) → FitsBulk limits content → Fits (rules_under version limits) (bulk_string content)
 bulk_fits limits version content h = record {
+  allows_doubles = λ off. tt;
   has_types = in_each version (bulk_string content) tt;
   push_at_top = tt;
   within_depth = h.1.within_depth;

@@ -1,21 +1,19 @@
 -- What fits is sent.
-use Rattle.std.proofs.Common.{◌≡◌, ℕ, ◌<◌, ◌≤◌, ◌^◌, true, false, List, [], ◌∷◌, ◌++◌, length, Some, refl, sym, ap, ◌∙◌, arith, codes}
+use Rattle.std.proofs.Common.{◌≤◌, [], ◌∷◌, length, Some, refl, arith, codes}
 use Rattle.resp_value.specs.Bounds.{Bounds, AreBounds}
 use Rattle.resp_value.specs.Canonical.{Fits, IsFirstOver, canonical_text}
-use Rattle.resp_value.specs.Data.{Datum, aggregate, data_of_list, depth, longest, most_items}
-use Rattle.resp_value.specs.Data as d
+use Rattle.resp_value.specs.Data.{Datum, depth, longest, most_items}
 use Rattle.resp_value.specs.Rules.{Rules, rules_under}
 use Rattle.resp_value.specs.Words.{command_of}
-use Rattle.resp_value.specs.declared.cause.Cause.{Cause}
 use Rattle.resp_value.specs.declared.cause.Cause.TheVariants as cause
 use Rattle.resp_value.specs.declared.cause.Limit.{Limit}
 use Rattle.resp_value.specs.declared.cause.Limit.TheVariants.{Depth, Length, Items, Total}
 use Rattle.resp_value.specs.declared.version.Version.TheVariants.{Two, Three}
 use Rattle.resp_session.specs.Connections.{push_message}
-use Rattle.resp_session.specs.Pushed.{APushHappens, PushesThatFitAreSent, RequestsThatFitAreSent, greeted_and_pushed, pushed_in}
+use Rattle.resp_session.specs.Pushed.{APushHappens, PushesThatFitAreSent, RequestsThatFitAreSent, greeted_and_pushed}
 use Rattle.resp_session.specs.Replies.{bulk_string}
-use Rattle.resp_session.specs.Requests.{FitsRequest, Hello, RefusesRequest, Request, is_unsent_request, request_words}
-use Rattle.resp_session.specs.Runs.{Done, RefusesPush, Run}
+use Rattle.resp_session.specs.Requests.{FitsRequest, Hello, request_words}
+use Rattle.resp_session.specs.Runs.{Done, Run}
 use Rattle.resp_session.specs.Worlds.{World, Greet, Push, ToServer, after_event, new_world}
 
 pub requests_that_fit_are_sent : RequestsThatFitAreSent
@@ -58,7 +56,7 @@ not_over r x Total over fits = let h = fits.within_total in let k = over.3 in om
 
 pub pushes_that_fit_are_sent : PushesThatFitAreSent
 pushes_that_fit_are_sent limits push fits cause.Syntax r = r
-pushes_that_fit_are_sent limits push fits cause.Double r = r
+pushes_that_fit_are_sent limits push fits cause.Double r = r.1 fits.allows_doubles
 pushes_that_fit_are_sent limits push fits cause.Version r = r
 pushes_that_fit_are_sent limits push fits cause.NestedPush r = r
 pushes_that_fit_are_sent limits push fits cause.Range r = r
@@ -77,8 +75,8 @@ pushes_that_fit_are_sent limits push fits cause.TooManySessions r = r
 pushes_that_fit_are_sent limits push fits cause.NoSession r = r
 pushes_that_fit_are_sent limits push fits cause.Closing r = r
 pushes_that_fit_are_sent limits push fits cause.NotInVersion r = absurd (cc)
-pushes_that_fit_are_sent limits push fits cause.PushBelowTop r = r.1 fits.push_at_top
-pushes_that_fit_are_sent limits push fits (cause.OverLimits limit) r = not_over (rules_under Three limits) push limit r.2 fits
+pushes_that_fit_are_sent limits push fits cause.PushBelowTop r = r.2 fits.push_at_top
+pushes_that_fit_are_sent limits push fits (cause.OverLimits limit) r = not_over (rules_under Three limits) push limit r.3 fits
 pushes_that_fit_are_sent limits push fits cause.Read r = r
 pushes_that_fit_are_sent limits push fits cause.Write r = r
 pushes_that_fit_are_sent limits push fits cause.TooManyTurns r = r
@@ -102,6 +100,7 @@ greeting_fits limits bounds =
     let many : most_items greeting ≤ 16 = omega arith in
     let size : length (canonical_text Two greeting) ≤ 256 = omega arith in
     record {
+      allows_doubles = λ off. (tt, (tt, tt));
       has_types = (tt, (tt, (tt, tt)));
       push_at_top = (tt, (tt, tt));
       within_depth = omega (arith, few, deep);
@@ -124,6 +123,7 @@ push_fits limits bounds =
     let many : most_items push ≤ 16 = omega arith in
     let size : length (canonical_text Three push) ≤ 256 = omega arith in
     record {
+      allows_doubles = λ off. (tt, tt);
       has_types = tt;
       push_at_top = (tt, tt);
       within_depth = omega (arith, few, deep);

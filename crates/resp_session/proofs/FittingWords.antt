@@ -4,7 +4,7 @@ use Rattle.std.proofs.lemmas.Bool.{cases_lt}
 use Rattle.std.specs.List.{AllByRecursion}
 use Rattle.resp_value.specs.Bounds.{Bounds, AreBounds}
 use Rattle.resp_value.specs.Bytes.{IsText}
-use Rattle.resp_value.specs.Canonical.{canonical_text, IsValue, AreValues, AreInTwo, HaveNoPush, Fits}
+use Rattle.resp_value.specs.Canonical.{canonical_text, IsValue, AreValues, AreInTwo, HaveNoDouble, HaveNoPush, Fits}
 use Rattle.resp_value.specs.Data.{data_of_list, greatest_depth, longest, most_items}
 use Rattle.resp_value.specs.Rules.{rules_under}
 use Rattle.resp_value.specs.Words.{word_datum, command_of}
@@ -21,6 +21,10 @@ command_is_value words h = (tt, words_are_values words h)
 words_are_in_two : (words : List (List ℕ)) → AreInTwo (data_of_list (map word_datum words))
 words_are_in_two [] = tt
 words_are_in_two (word ∷ words) = (tt, words_are_in_two words)
+
+words_have_no_double : (words : List (List ℕ)) → HaveNoDouble (data_of_list (map word_datum words))
+words_have_no_double [] = tt
+words_have_no_double (word ∷ words) = (tt, words_have_no_double words)
 
 words_have_no_push : (words : List (List ℕ)) → HaveNoPush (data_of_list (map word_datum words))
 words_have_no_push [] = tt
@@ -45,6 +49,7 @@ words_fit limits words bounds h =
     let flat = words_have_no_depth words in
     let least = bounds.depth_in_range.0 in
     record {
+      allows_doubles = λ off. words_have_no_double words;
       has_types = (tt, words_are_in_two words);
       push_at_top = words_have_no_push words;
       within_depth = omega (arith, flat, least);

@@ -12,11 +12,11 @@ use Rattle.resp_session.specs.Examples.{AnInlineCommandIsRefused}
 other : (byte : ℕ) → eqb 80 byte ≡ false → 80 ≡ byte → ⊥
 other byte h e = let f : eqb 80 80 ≡ false = ap (eqb 80) e ∙ h in absurd (cc)
 
-no_value_begins : NoSpellingIsEmpty → FrontsOfSpellingsAreViable → (r : Rules) → IsCause r (80 ∷ []) Grammar → (x : Datum) (front behind : List ℕ) →
+no_value_begins : NoSpellingIsEmpty → FrontsOfSpellingsAreViable → (r : Rules) → IsCause r (80 ∷ []) Grammar → (x : Datum) (front beyond : List ℕ) →
     IsSpelling r x front →
-    codes "PING\r\n" ≡ front ++ behind → ⊥
-no_value_begins full viable r cause x [] behind s e = full r x s
-no_value_begins full viable r cause x (byte ∷ front) behind s e =
+    codes "PING\r\n" ≡ front ++ beyond → ⊥
+no_value_begins full viable r cause x [] beyond s e = full r x s
+no_value_begins full viable r cause x (byte ∷ front) beyond s e =
     let f : byte ≡ 80 = cc in
     cause.not_viable (viable r x (80 ∷ []) front (subst (λ b. IsSpelling r x (b ∷ front)) f s) Grammar)
 
@@ -69,7 +69,7 @@ an_inline_command_is_refused full viable empty no_other limits bounds =
         at = 0;
         fault = record {
           front = 80 ∷ [];
-          behind = codes "ING\r\n";
+          beyond = codes "ING\r\n";
           whole = refl;
           place = refl;
           cause = cause;

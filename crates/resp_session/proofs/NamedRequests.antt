@@ -1,5 +1,5 @@
 -- Each request of a world has a word.
-use Rattle.std.proofs.Common.{◌≡◌, inl, inr, ℕ, ◌<◌, Bool, true, false, List, [], ◌∷◌, length, take, drop, Option, None, Some, sym, ap, subst}
+use Rattle.std.proofs.Common.{◌≡◌, inl, inr, ℕ, false, List, length, Option, None, Some, sym, subst}
 use Rattle.std.proofs.lemmas.Bool.{false_from_ne_true}
 use Rattle.std.specs.List.{AllByRecursion}
 use Rattle.resp_value.specs.Bounds.{Bounds}
@@ -14,7 +14,7 @@ use Rattle.resp_session.proofs.Changes.{is_changed}
 use Rattle.resp_session.proofs.Elements.{all_and_last, all_taken, all_dropped}
 use Rattle.resp_session.proofs.Parts.{comes_from}
 use Rattle.resp_session.proofs.SentRequests.{has_name, hello_has_name}
-use Rattle.resp_session.proofs.WorldsHold.{arrived_of, new_at}
+use Rattle.resp_session.proofs.WorldsHold.{new_at}
 
 abbrev pub AreNamed : List Request → Type 0
 AreNamed requests = AllByRecursion HasName requests

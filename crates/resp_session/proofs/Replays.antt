@@ -1,12 +1,10 @@
 -- A world and its order's commands, run one after another.
-use Rattle.std.proofs.Common.{◌≡◌, inl, inr, ℕ, zero, suc, ◌<◌, ◌≤◌, ◌==◌, Bool, false, not, cond, filter, List, [], ◌∷◌, ◌++◌, length, fold, Option, None, Some, refl, sym, ap, subst, ◌∙◌, arith, append-nil}
+use Rattle.std.proofs.Common.{◌≡◌, inl, inr, ℕ, zero, suc, ◌<◌, ◌≤◌, Bool, false, not, cond, filter, List, [], ◌∷◌, ◌++◌, length, fold, Option, None, Some, refl, sym, ap, subst, ◌∙◌, arith, append-nil}
 use Rattle.std.proofs.lemmas.Bool.{eq-eqb, ne_eqb}
 use Rattle.std.proofs.lemmas.List.Elements.{filter-append}
 use Rattle.std.proofs.lemmas.List.Sums.{fold-append}
 use Rattle.std.specs.List.{AllByRecursion}
 use Rattle.resp_value.specs.Bounds.{Bounds}
-use Rattle.resp_value.specs.Data.{Datum}
-use Rattle.resp_value.specs.declared.version.Version.{Version}
 use Rattle.resp_session.specs.Heard.{is_push}
 use Rattle.resp_session.specs.Operations.{operation_of}
 use Rattle.resp_session.specs.Requests.{Request, Hello, Command, request_words}
@@ -15,7 +13,6 @@ use Rattle.resp_session.specs.Connections.{Connection, Message, new_requests, pu
 use Rattle.resp_session.specs.Worlds.{World, WorldEvent, Send, Greet, ToServer, ToClient, Push, Drop, after_event, after_arrival, after_command, after_commands, commands_for, connection_at, with_change, world_with, version_of, new_connections, new_world}
 use Rattle.resp_session.specs.Runs.{Outcome, Done, Refused, Gone, Step, Run}
 use Rattle.resp_session.specs.Orders.{Replay, Agrees, nothing_run, with_at, replay_effect, replay_words, replay_of, sent_replies}
-use Rattle.resp_session.specs.WorldLaws.{HasName}
 use Rattle.resp_session.proofs.Changes.{as_many, changed_at, is_changed}
 use Rattle.resp_session.proofs.NamedRequests.{AllNamed, AreNamed, news_are_named, new_named, step_named}
 use Rattle.resp_session.proofs.OrdersGoOn.{after_commands-order}

@@ -21,11 +21,11 @@ use Rattle.resp_session.proofs.TextsInPieces.{Begins, one_begins}
 use Rattle.resp_session.proofs.WholeTexts.{whole_within-long}
 
 -- what shares its first byte with a value that may be read isn't unasked
-is_asked : APushBeginsWithItsByte → (r : Rules) (w : Waiting) (x : Datum) (front behind rest more : List ℕ) → IsSpelling r x front → MayBeRead w x →
-    rest ++ more ≡ front ++ behind → IsUnasked w rest → ⊥
-is_asked begins r w x front behind rest more s may same (none, (byte, others, other, first)) =
+is_asked : APushBeginsWithItsByte → (r : Rules) (w : Waiting) (x : Datum) (front beyond rest more : List ℕ) → IsSpelling r x front → MayBeRead w x →
+    rest ++ more ≡ front ++ beyond → IsUnasked w rest → ⊥
+is_asked begins r w x front beyond rest more s may same (none, (byte, others, other, first)) =
     let (after, push) = (begins r x front s).0 (push_is x (may none)) in
-    let whole : byte ∷ (others ++ more) ≡ 62 ∷ (after ++ behind) = sym (ap (λ l. l ++ more) first) ∙ same ∙ ap (λ l. l ++ behind) push in
+    let whole : byte ∷ (others ++ more) ≡ 62 ∷ (after ++ beyond) = sym (ap (λ l. l ++ more) first) ∙ same ∙ ap (λ l. l ++ beyond) push in
     let equal : byte ≡ 62 = cc in
     other equal
 
@@ -56,13 +56,13 @@ abbrev whole_messages : List Message → ℕ → List Message
 whole_messages messages n = take (whole_within (map message_text messages) n) messages
 
 -- the first message came whole
-one_more : (limits : Bounds) (w : Waiting) (m : Message) (ms : List Message) (came behind : List ℕ) →
-    IsSpelling (reading_rules limits w) m.value (message_text m) → MayBeRead w m.value → came ≡ message_text m ++ behind →
-    HasBeenRead limits (waiting_after w m.value) (values_of (whole_messages ms (length behind))) behind →
+one_more : (limits : Bounds) (w : Waiting) (m : Message) (ms : List Message) (came beyond : List ℕ) →
+    IsSpelling (reading_rules limits w) m.value (message_text m) → MayBeRead w m.value → came ≡ message_text m ++ beyond →
+    HasBeenRead limits (waiting_after w m.value) (values_of (whole_messages ms (length beyond))) beyond →
     HasBeenRead limits w (values_of (whole_messages (m ∷ ms) (length came))) came
-one_more limits w m ms came behind s may e h =
+one_more limits w m ms came beyond s may e h =
     let text = message_text m in
-    let count = sym (long text came behind (map message_text ms) e ∙ add-one (whole_within (map message_text ms) (length behind))) in
+    let count = sym (long text came beyond (map message_text ms) e ∙ add-one (whole_within (map message_text ms) (length beyond))) in
     record {
       front = text ++ h.front;
       rest = h.rest;
@@ -74,8 +74,8 @@ one_more limits w m ms came behind s may e h =
 
 comes_by : NoSpellingBeginsAnother → FrontsOfSpellingsAreViable → APushBeginsWithItsByte → (limits : Bounds) (w : Waiting) (m : Message) (ms : List Message)
     (came more : List ℕ) → IsSpelling (reading_rules limits w) m.value (message_text m) → MayBeRead w m.value →
-    ((behind rest : List ℕ) → behind ++ rest ≡ concat (map message_text ms) →
-    HasBeenRead limits (waiting_after w m.value) (values_of (whole_messages ms (length behind))) behind) →
+    ((beyond rest : List ℕ) → beyond ++ rest ≡ concat (map message_text ms) →
+    HasBeenRead limits (waiting_after w m.value) (values_of (whole_messages ms (length beyond))) beyond) →
     Begins (message_text m) came (concat (map message_text ms)) more ⊎ Begins came (message_text m) more (concat (map message_text ms)) →
     HasBeenRead limits w (values_of (whole_messages (m ∷ ms) (length came))) came
 comes_by apart viable begins limits w m ms came more s may ih (inl (q, e, f)) = one_more limits w m ms came q s may e (ih q more (sym f))
@@ -117,7 +117,7 @@ front_is_read apart full viable empty begins limits bounds w after (m ∷ ms) ca
     let others : ReadsAs limits (waiting_after w m.value) (values_of ms) texts after =
     subst (λ z. ReadsAs limits (waiting_after w m.value) (values_of ms) z after) (sym d.2) t in
     comes_by apart viable begins limits w m ms came more own may
-    (λ behind rest h. front_is_read apart full viable empty begins limits bounds (waiting_after w m.value) after ms behind rest written.1 others h)
+    (λ beyond rest h. front_is_read apart full viable empty begins limits bounds (waiting_after w m.value) after ms beyond rest written.1 others h)
     (one_begins (message_text m) came texts more (sym e))
 
 -- all texts lie whole within the bytes of all and more
@@ -150,11 +150,11 @@ what_is_shown_is_read apart full viable empty begins written read limits n event
     subst (λ k. HasBeenRead limits before (values_of (take k c.messages)) came) (whole_within-take (map message_text c.messages) c.shown) all
 
 -- a value that begins what has come leaves no fault there
-no_fault_before : NoSpellingBeginsAnother → APushBeginsWithItsByte → (limits : Bounds) (w : Waiting) (x : Datum) (f behind v : List ℕ) (cause : Cause)
-    (at : ℕ) → IsSpelling (reading_rules limits w) x f → MayBeRead w x → v ≡ f ++ behind → ClientFault limits w v cause at → ⊥
-no_fault_before apart begins limits w x f behind v cause at s may here (inl unasked) =
-    is_asked begins (reading_rules limits w) w x f behind v [] s may (append-nil v ∙ here) unasked.0
-no_fault_before apart begins limits w x f behind v cause at s may here (inr broken) = broken.no_more x f behind s here
+no_fault_before : NoSpellingBeginsAnother → APushBeginsWithItsByte → (limits : Bounds) (w : Waiting) (x : Datum) (f beyond v : List ℕ) (cause : Cause)
+    (at : ℕ) → IsSpelling (reading_rules limits w) x f → MayBeRead w x → v ≡ f ++ beyond → ClientFault limits w v cause at → ⊥
+no_fault_before apart begins limits w x f beyond v cause at s may here (inl unasked) =
+    is_asked begins (reading_rules limits w) w x f beyond v [] s may (append-nil v ∙ here) unasked.0
+no_fault_before apart begins limits w x f beyond v cause at s may here (inr broken) = broken.no_more x f beyond s here
 
 -- where a text is read up to a rest that may go on, no reading of it ends in a fault
 one_reading_faultless : NoSpellingBeginsAnother → APushBeginsWithItsByte → ARestHasOneClientFault → (limits : Bounds) (w a b : Waiting) (xs ys : List Datum)

@@ -4,7 +4,7 @@ use Rattle.std.proofs.lemmas.Bool.{leb-true}
 use Rattle.std.proofs.lemmas.Int.{ints}
 use Rattle.resp_value.specs.Bounds.{Bounds, AreBounds}
 use Rattle.resp_value.specs.Bytes.{IsText, IsLine, crlf}
-use Rattle.resp_value.specs.Canonical.{canonical_text, IsValue, AreValues, IsInTwo, AreInTwo, HasTypes, HaveNoPush, HasPushAtTop, Fits}
+use Rattle.resp_value.specs.Canonical.{canonical_text, IsValue, AreValues, IsInTwo, AreInTwo, HasTypes, HasNoDouble, HaveNoDouble, HaveNoPush, HasPushAtTop, Fits}
 use Rattle.resp_value.specs.Data.{Datum, Data, Array, aggregate, none, more, data_of_list, in_turn, depth, longest, most_items}
 use Rattle.resp_value.specs.Numbers.{decimal}
 use Rattle.resp_value.specs.Rules.{rules_under}
@@ -17,6 +17,7 @@ use Rattle.resp_session.proofs.DigitCounts.{length-decimal}
 -- a value that every limits leave, in this version
 pub record IsSmall (version : Version) (x : Datum) : Type 0 where
   pub value : IsValue x
+  pub no_double : HasNoDouble x
   pub has_types : HasTypes version x
   pub push_at_top : HasPushAtTop x
   pub depth_at_most : depth x ≤ 4
@@ -26,6 +27,7 @@ pub record IsSmall (version : Version) (x : Datum) : Type 0 where
 
 pub small_fits : (limits : Bounds) → AreBounds limits → (version : Version) (x : Datum) → IsSmall version x → Fits (rules_under version limits) x
 small_fits limits bounds version x s = record {
+  allows_doubles = λ off. s.no_double;
   has_types = s.has_types;
   push_at_top = s.push_at_top;
   within_depth = let least = bounds.depth_in_range.0 in let most = s.depth_at_most in omega (arith, least, most);
@@ -73,6 +75,7 @@ bytes_of text e = (plain_line text e).1
 pub small_simple : (version : Version) (text : List ℕ) → IsShortLine text → IsSmall version (simple_string text)
 small_simple version text (line, bytes, short) = record {
   value = (line, bytes);
+  no_double = tt;
   has_types = in_each version (simple_string text) tt;
   push_at_top = tt;
   depth_at_most = omega arith;
@@ -84,6 +87,7 @@ small_simple version text (line, bytes, short) = record {
 pub small_error : (version : Version) (text : List ℕ) → IsShortLine text → IsSmall version (error text)
 small_error version text (line, bytes, short) = record {
   value = (line, bytes);
+  no_double = tt;
   has_types = in_each version (error text) tt;
   push_at_top = tt;
   depth_at_most = omega arith;
@@ -99,6 +103,7 @@ null_text Three = omega arith
 pub small_null : (version : Version) → IsSmall version null
 small_null version = record {
   value = tt;
+  no_double = tt;
   has_types = in_each version null tt;
   push_at_top = tt;
   depth_at_most = omega arith;
@@ -117,6 +122,7 @@ numbers_are_short version n h = omega (arith, length-decimal-63 n h, length-appe
 pub small_natural : (version : Version) (n : ℕ) → n < 2 ^ 63 → IsSmall version (natural n)
 small_natural version n h = record {
   value = (omega (arith, ints), omega (arith, ints, h));
+  no_double = tt;
   has_types = in_each version (natural n) tt;
   push_at_top = tt;
   depth_at_most = omega arith;
@@ -164,7 +170,10 @@ hello_values version id h =
       ),
     )
 
--- none of the members is a push, and version 2 has the type of each
+-- none of the members is a double or a push, and version 2 has the type of each
+hello_no_double : (version : Version) (id : ℕ) → HaveNoDouble (hello_members version id)
+hello_no_double version id = (tt, (tt, (tt, (tt, (tt, (tt, (tt, (tt, (tt, (tt, (tt, (tt, (tt, (tt, tt))))))))))))))
+
 hello_no_push : (version : Version) (id : ℕ) → HaveNoPush (hello_members version id)
 hello_no_push version id = (tt, (tt, (tt, (tt, (tt, (tt, (tt, (tt, (tt, (tt, (tt, (tt, (tt, ((tt, tt), tt))))))))))))))
 
@@ -172,23 +181,24 @@ hello_in_two : (version : Version) (id : ℕ) → AreInTwo (hello_members versio
 hello_in_two version id = (tt, (tt, (tt, (tt, (tt, (tt, (tt, (tt, (tt, (tt, (tt, (tt, (tt, ((tt, tt), tt))))))))))))))
 
 -- what stands after the session's number
-abbrev behind_id : List ℕ
-behind_id = codes "$4\r\nmode\r\n$10\r\nstandalone\r\n$4\r\nrole\r\n$6\r\nmaster\r\n$7\r\nmodules\r\n*0\r\n"
+abbrev after_id : List ℕ
+after_id = codes "$4\r\nmode\r\n$10\r\nstandalone\r\n$4\r\nrole\r\n$6\r\nmaster\r\n$7\r\nmodules\r\n*0\r\n"
 
-id_and_behind : (digits : List ℕ) → length (((digits ++ crlf []) ++ behind_id) ++ []) ≡ length digits + 68
-id_and_behind digits =
-    let all = length-append ((digits ++ crlf []) ++ behind_id) [] in
-    let both = length-append (digits ++ crlf []) behind_id in
+id_and_after : (digits : List ℕ) → length (((digits ++ crlf []) ++ after_id) ++ []) ≡ length digits + 68
+id_and_after digits =
+    let all = length-append ((digits ++ crlf []) ++ after_id) [] in
+    let both = length-append (digits ++ crlf []) after_id in
     let line = length-append digits (crlf []) in
     omega (arith, all, both, line)
 
 hello_text : (version : Version) (id : ℕ) → length (canonical_text version (hello_reply version id)) ≤ length (decimal id) + 148
-hello_text Two id = let h = id_and_behind (decimal id) in omega (arith, h)
-hello_text Three id = let h = id_and_behind (decimal id) in omega (arith, h)
+hello_text Two id = let h = id_and_after (decimal id) in omega (arith, h)
+hello_text Three id = let h = id_and_after (decimal id) in omega (arith, h)
 
 pub small_hello : (version : Version) (id : ℕ) → id < 2 ^ 63 → IsSmall version (hello_reply version id)
 small_hello Two id h = record {
   value = (tt, hello_values Two id h);
+  no_double = hello_no_double Two id;
   has_types = (tt, hello_in_two Two id);
   push_at_top = hello_no_push Two id;
   depth_at_most = leb-true (depth (hello_reply Two id)) 4 refl;
@@ -198,6 +208,7 @@ small_hello Two id h = record {
 }
 small_hello Three id h = record {
   value = (refl, hello_values Three id h);
+  no_double = hello_no_double Three id;
   has_types = tt;
   push_at_top = hello_no_push Three id;
   depth_at_most = leb-true (depth (hello_reply Three id)) 4 refl;

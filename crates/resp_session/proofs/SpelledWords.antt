@@ -53,6 +53,7 @@ fits_bulk : (limits : Bounds) (word : List ℕ) → IsText word → length word 
 fits_bulk limits word bytes short within = (
   bytes,
   record {
+    allows_doubles = λ off. tt;
     has_types = tt;
     push_at_top = tt;
     within_depth = omega arith;
@@ -93,8 +94,8 @@ tree_within limits (node k form ts) words h two short few within e =
     let short_words : longest (command_of words) ≤ limits.length = subst (λ x. longest x ≤ limits.length) e short in
     let few_words : most_items (command_of words) ≤ limits.items = subst (λ x. most_items x ≤ limits.items) e few in
     let head = length-append (kind_byte k ∷ form_line form) (crlf (texts ts ++ close form)) in
-    let behind = length-append (texts ts) (close form) in (
-      words_fit limits ts words h.1 two.1 others short_words (omega (arith, within, head, behind)),
+    let beyond = length-append (texts ts) (close form) in (
+      words_fit limits ts words h.1 two.1 others short_words (omega (arith, within, head, beyond)),
       omega (arith, few_words, count_of_words words),
     )
 

@@ -67,23 +67,23 @@ one_begins (c ∷ a) (d ∷ b) x y e =
 
 -- no value begins a rest that has a fault, however it goes on
 no_value_later : FrontsOfSpellingsAreViable → (r : Rules) (rest more : List ℕ) (rule : Rule) (at : ℕ) (f : FaultOf r rest rule at) → BeginsNoValue r rest →
-    (x : Datum) (next behind : List ℕ) → IsSpelling r x next → Begins f.front next (f.behind ++ more) behind ⊎ Begins next f.front behind (f.behind ++ more) → ⊥
-no_value_later viable r rest more rule at f none x next behind s (inl (q, e, w)) =
+    (x : Datum) (next beyond : List ℕ) → IsSpelling r x next → Begins f.front next (f.beyond ++ more) beyond ⊎ Begins next f.front beyond (f.beyond ++ more) → ⊥
+no_value_later viable r rest more rule at f none x next beyond s (inl (q, e, w)) =
     f.cause.not_viable (viable r x f.front q (subst (IsSpelling r x) e s) rule)
-no_value_later viable r rest more rule at f none x next behind s (inr (q, e, w)) =
-    none x next (q ++ f.behind) s (f.whole ∙ ap (λ z. z ++ f.behind) e ∙ append_assoc next q f.behind)
+no_value_later viable r rest more rule at f none x next beyond s (inr (q, e, w)) =
+    none x next (q ++ f.beyond) s (f.whole ∙ ap (λ z. z ++ f.beyond) e ∙ append_assoc next q f.beyond)
 
 pub fault_stays : FrontsOfSpellingsAreViable → (r : Rules) (rest more : List ℕ) (s b : SessionState) → EndsInFault r rest s b → EndsInFault r (rest ++ more) s b
 fault_stays viable r rest more s b f =
     let g = f.fault in
-    let split : rest ++ more ≡ g.front ++ (g.behind ++ more) = ap (λ z. z ++ more) g.whole ∙ append_assoc g.front g.behind more in
+    let split : rest ++ more ≡ g.front ++ (g.beyond ++ more) = ap (λ z. z ++ more) g.whole ∙ append_assoc g.front g.beyond more in
     record {
       is_open = f.is_open;
-      no_more = λ x next behind spelled e. no_value_later viable r rest more f.rule f.at g f.no_more x next behind spelled
-          (one_begins g.front next (g.behind ++ more) behind (sym split ∙ e));
+      no_more = λ x next beyond spelled e. no_value_later viable r rest more f.rule f.at g f.no_more x next beyond spelled
+          (one_begins g.front next (g.beyond ++ more) beyond (sym split ∙ e));
       rule = f.rule;
       at = f.at;
-      fault = record { front = g.front; behind = g.behind ++ more; whole = split; place = g.place; cause = g.cause; first = g.first };
+      fault = record { front = g.front; beyond = g.beyond ++ more; whole = split; place = g.place; cause = g.cause; first = g.first };
       line = f.line;
     }
 
@@ -108,7 +108,7 @@ not_both : FrontsOfViableTextsAreViable → AViableTextHasNoCause → (r : Rules
     ⊥
 not_both viable no_cause r rest s b c w f =
     let g = f.fault in
-    no_cause r g.front f.rule (viable r _ g.front g.behind (subst (IsViable r _) g.whole w.viable)) g.cause
+    no_cause r g.front f.rule (viable r _ g.front g.beyond (subst (IsViable r _) g.whole w.viable)) g.cause
 
 one_rest : FrontsOfViableTextsAreViable → AViableTextHasNoCause → ARestHasOneFault → (r : Rules) (rest : List ℕ) (s b c : SessionState) → Ends r rest s b →
     Ends r rest s c → b ≡ c
@@ -122,11 +122,11 @@ one_rest viable no_cause one r rest s b c (inr (inr d)) n = d.same ∙ sym (clos
 one_rest viable no_cause one r rest s b c m (inr (inr d)) = closed_end r rest s b m d.closed ∙ sym d.same
 
 -- a session that reads no further where a value begins is closing
-closed_before : (r : Rules) (rest : List ℕ) (s b : SessionState) (x : Datum) (next behind : List ℕ) → Ends r rest s b → IsSpelling r x next →
-    rest ≡ next ++ behind → s.closing ≡ true
-closed_before r rest s b x next behind (inl w) n e = absurd (w.no_more x next behind n e)
-closed_before r rest s b x next behind (inr (inl f)) n e = absurd (f.no_more x next behind n e)
-closed_before r rest s b x next behind (inr (inr c)) n e = c.closed
+closed_before : (r : Rules) (rest : List ℕ) (s b : SessionState) (x : Datum) (next beyond : List ℕ) → Ends r rest s b → IsSpelling r x next →
+    rest ≡ next ++ beyond → s.closing ≡ true
+closed_before r rest s b x next beyond (inl w) n e = absurd (w.no_more x next beyond n e)
+closed_before r rest s b x next beyond (inr (inl f)) n e = absurd (f.no_more x next beyond n e)
+closed_before r rest s b x next beyond (inr (inr c)) n e = c.closed
 
 one_answer : NoSpellingBeginsAnother → FrontsOfViableTextsAreViable → AViableTextHasNoCause → ARestHasOneFault →
     (r : Rules) (id : ℕ) (s b c : SessionState) (xs ys : List Datum) (p q u v : List ℕ) → AreSpellings r xs p → AreSpellings r ys q → p ++ u ≡ q ++ v →

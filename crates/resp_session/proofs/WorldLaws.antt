@@ -42,15 +42,15 @@ pub a_run_is_cut : ARunIsCut
 a_run_is_cut limits w v [] more r = (w, refl, r)
 a_run_is_cut limits w v (event ∷ events) more r =
     let (outcome, next, s, t) = r in
-    let (u, before, behind) = a_run_is_cut limits next v events more t in
-    (u, (outcome, next, s, before), behind)
+    let (u, before, beyond) = a_run_is_cut limits next v events more t in
+    (u, (outcome, next, s, before), beyond)
 
 -- the values of the messages that aren't shown
-abbrev values_behind : Connection → List Datum
-values_behind c = values_of (drop (whole_within (map message_text c.messages) c.shown) c.messages)
+abbrev values_after : Connection → List Datum
+values_after c = values_of (drop (whole_within (map message_text c.messages) c.shown) c.messages)
 
 -- the values of the messages that are shown, and those of the others
-values_cut : (c : Connection) → values_of c.messages ≡ values_of (shown_messages c) ++ values_behind c
+values_cut : (c : Connection) → values_of c.messages ≡ values_of (shown_messages c) ++ values_after c
 values_cut c =
     let k = whole_within (map message_text c.messages) c.shown in
     ap values_of (sym (take-append-drop k c.messages)) ∙ map-append (λ (m : Message). m.value) (take k c.messages) (drop k c.messages)
@@ -61,8 +61,8 @@ filter_begins p xs ys whole e = (filter p ys, ap (filter p) e ∙ filter-append 
 pub what_is_shown_was_sent : WhatIsShownWasSent
 what_is_shown_was_sent c =
     let shown = values_of (shown_messages c) in (
-      filter_begins (λ x. not (is_push x)) shown (values_behind c) (values_of c.messages) (values_cut c),
-      filter_begins is_push shown (values_behind c) (values_of c.messages) (values_cut c),
+      filter_begins (λ x. not (is_push x)) shown (values_after c) (values_of c.messages) (values_cut c),
+      filter_begins is_push shown (values_after c) (values_of c.messages) (values_cut c),
     )
 
 kept_or_not : (kept : Bool) (m : Message) (xs : List Datum) (ms : List Message) → xs ≡ values_of ms →

@@ -27,14 +27,14 @@ AnswersEnd = (limits : Bounds) (id : ℕ) (a b : SessionState) (text more rest :
     Answers limits id a text b rest → b.closing ≡ true → Answers limits id a (text ++ more) b (rest ++ more)
 
 -- a session after other commands, of which this many were run, and to which this text was written
-abbrev pub behind_others : List ℕ → ℕ → SessionState → SessionState
-behind_others written count s = record s { text = written ++ s.text; count = count + s.count }
+abbrev pub after_others : List ℕ → ℕ → SessionState → SessionState
+after_others written count s = record s { text = written ++ s.text; count = count + s.count }
 
 -- what is answered doesn't hang on what was written and run before it
 abbrev pub AnswersAreAdded : Type 0
 AnswersAreAdded = (limits : Bounds) (id : ℕ) (a b : SessionState) (text rest written : List ℕ) (count : ℕ) →
     Answers limits id a text b rest →
-    Answers limits id (behind_others written count a) text (behind_others written count b) rest
+    Answers limits id (after_others written count a) text (after_others written count b) rest
 
 -- a text has one answer
 abbrev pub ATextHasOneAnswer : Type 0

@@ -59,7 +59,7 @@ after_values id s (x ∷ xs) = after_values id (after_value id s x) xs
 
 -- no front of the text is a spelling
 abbrev pub BeginsNoValue : Rules → List ℕ → Type 0
-BeginsNoValue rules text = (x : Datum) (front behind : List ℕ) → IsSpelling rules x front → text ≡ front ++ behind → ⊥
+BeginsNoValue rules text = (x : Datum) (front beyond : List ℕ) → IsSpelling rules x front → text ≡ front ++ beyond → ⊥
 
 -- a rest that no value begins is waited on where it is viable
 pub record Waits (rules : Rules) (rest : List ℕ) (before after : SessionState) : Type 0 where

@@ -70,7 +70,7 @@ ReadsAs limits w (x ∷ xs) text after = (front : List ℕ) × (rest : List ℕ)
 
 -- a rest whose first byte begins no push, while no command waits
 abbrev pub IsUnasked : Waiting → List ℕ → Type 0
-IsUnasked w rest = (w.asks ≡ []) × ((byte : ℕ) × (behind : List ℕ) × (byte ≢ 62) × (rest ≡ byte ∷ behind))
+IsUnasked w rest = (w.asks ≡ []) × ((byte : ℕ) × (beyond : List ℕ) × (byte ≢ 62) × (rest ≡ byte ∷ beyond))
 
 -- a rest that no value begins, and that may still become one
 pub record MayGoOn (limits : Bounds) (w : Waiting) (rest : List ℕ) : Type 0 where

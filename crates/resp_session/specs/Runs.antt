@@ -2,12 +2,12 @@
 use Rattle.std.specs.Prelude.{◌≡◌, ℕ, Bool, true, false, List, [], ◌∷◌, length, Option, None, Some}
 use Rattle.resp_value.specs.Data.{Datum}
 use Rattle.resp_value.specs.Bounds.{Bounds}
-use Rattle.resp_value.specs.Canonical.{HasPushAtTop, IsFirstOver}
+use Rattle.resp_value.specs.Canonical.{HasPushAtTop, AllowsDoubles, IsFirstOver}
 use Rattle.resp_value.specs.Rules.{rules_under}
 use Rattle.resp_value.specs.declared.version.Version.{Version}
 use Rattle.resp_value.specs.declared.version.Version.TheVariants.{Two, Three}
 use Rattle.resp_value.specs.declared.cause.Cause.{Cause}
-use Rattle.resp_value.specs.declared.cause.Cause.TheVariants.{NotInVersion, PushBelowTop, OverLimits}
+use Rattle.resp_value.specs.declared.cause.Cause.TheVariants.{Double, NotInVersion, PushBelowTop, OverLimits}
 use Rattle.resp_session.specs.Requests.{Hello, Command, RefusesRequest}
 use Rattle.resp_session.specs.Connections.{Connection, push_message}
 use Rattle.resp_session.specs.Worlds.{World, WorldEvent, Send, Greet, Push, client_of, connection_at, version_of, after_event}
@@ -33,9 +33,11 @@ request_count (Some c) = length c.requests
 -- why a session of this version refuses a push: the first of these causes that there is
 abbrev pub RefusesPush : Bounds → Version → Datum → Cause → Type 0
 RefusesPush limits version push NotInVersion = version ≡ Two
-RefusesPush limits version push PushBelowTop = (version ≡ Three) × (HasPushAtTop push → ⊥)
+RefusesPush limits version push Double = (version ≡ Three) × (AllowsDoubles limits push → ⊥)
+RefusesPush limits version push PushBelowTop =
+    (version ≡ Three) × AllowsDoubles limits push × (HasPushAtTop push → ⊥)
 RefusesPush limits version push (OverLimits limit) =
-    (version ≡ Three) × HasPushAtTop push × IsFirstOver (rules_under Three limits) push limit
+    (version ≡ Three) × AllowsDoubles limits push × HasPushAtTop push × IsFirstOver (rules_under Three limits) push limit
 RefusesPush limits version push _ = ⊥
 
 -- why an event on this connection is refused; bytes and drops never are

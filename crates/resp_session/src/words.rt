@@ -57,6 +57,7 @@ pub fn asked_by(value: Value) -> Asked
         | Value::Int(_)
         | Value::Simple(_)
         | Value::Error(_)
+        | Value::Double(_)
         | Value::Bulk(_)
         | Value::BulkError(_)
         | Value::Verbatim(_, _)

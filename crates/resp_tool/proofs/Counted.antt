@@ -43,7 +43,7 @@ counts_part r bytes before mid after totals s line = record {
   few = s.all.few;
   appended = record {
     part = line.part;
-    behind = line.behind;
+    beyond = line.beyond;
     whole = sym (same_line r bytes before mid totals s) ∙ line.whole;
     appended = Appends-append before mid after [] line.part (nothing_before r bytes before mid totals s) line.appended;
   };

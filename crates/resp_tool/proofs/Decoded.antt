@@ -69,7 +69,7 @@ pub no_part : (r : Rules) (whole so_far : List ℕ) (held : Option (List ℕ)) �
 no_part r whole so_far held nothing = record {
   values = [];
   front = [];
-  behind = whole;
+  beyond = whole;
   split = refl;
   spelled = refl;
   begun = [];
@@ -93,7 +93,7 @@ declines : (r : Rules) (x : Datum) (front piece so_far : List ℕ) (used : ℕ) 
 declines r x front piece so_far used before after nothing spelling unfit appended = record {
   value = x;
   front = front ++ take used piece;
-  behind = drop used piece;
+  beyond = drop used piece;
   split = ap (λ z. front ++ z) (sym (take-append-drop used piece)) ∙ sym (append_assoc front (take used piece) (drop used piece));
   spelling = spelling;
   not_written = unfit;
@@ -108,22 +108,22 @@ part_of_value : (r : Rules) (x : Datum) (front piece so_far : List ℕ) (used : 
 part_of_value r x front piece so_far used before after nothing spelling written = record {
   values = x ∷ [];
   front = front ++ take used piece;
-  behind = drop used piece;
+  beyond = drop used piece;
   split = ap (λ z. front ++ z) (sym (take-append-drop used piece)) ∙ sym (append_assoc front (take used piece) (drop used piece));
   spelled = spelled_one r x (front ++ take used piece) spelling;
   begun = [];
   is_begun = refl;
   more = written.part;
-  later = written.behind;
+  later = written.beyond;
   parts =
       let whole = canonical_text r.version x in
-      append-nil (whole ++ []) ∙ append-nil whole ∙ written.whole ∙ ap (λ z. z ++ (written.part ++ written.behind)) (sym nothing);
+      append-nil (whole ++ []) ∙ append-nil whole ∙ written.whole ∙ ap (λ z. z ++ (written.part ++ written.beyond)) (sym nothing);
   appended = written.appended;
 }
 
 -- nothing is a first part of any text
 no_first_part : (before after : Option (List ℕ)) (text : List ℕ) → Appends before after [] → AppendsPart before after text
-no_first_part before after text appended = record { part = []; behind = text; whole = refl; appended = appended }
+no_first_part before after text appended = record { part = []; beyond = text; whole = refl; appended = appended }
 
 -- what comes of a value that the encoder refuses
 encoder_stops : (r : Rules) (H : List ℕ → List ℕ → Type 0) (x : Datum) (front piece so_far : List ℕ) (used : ℕ) (before after : Option (List ℕ))
@@ -131,12 +131,14 @@ encoder_stops : (r : Rules) (H : List ℕ → List ℕ → Type 0) (x : Datum) (
     ((e : EncodeError) → error ≡ to.Refused e → Appends before after []) →
     IfWrite (λ _. BreaksText before after failures failures' (canonical_text r.version x)) error →
     Takes r (canonical_text r.version) (Fits r) LeavesNothing LeavesNothing H front piece so_far before after (Err (stop_of error))
+encoder_stops r H x front piece so_far used before after failures failures' (to.Refused encode.Double) nothing spelling refused unchanged part =
+    declines r x front piece so_far used before after nothing spelling (λ fits. refused fits.allows_doubles) (unchanged encode.Double refl)
 encoder_stops r H x front piece so_far used before after failures failures' (to.Refused encode.NotInVersion) nothing spelling refused unchanged part =
-    declines r x front piece so_far used before after nothing spelling (λ fits. refused fits.has_types) (unchanged encode.NotInVersion refl)
+    declines r x front piece so_far used before after nothing spelling (λ fits. refused.1 fits.has_types) (unchanged encode.NotInVersion refl)
 encoder_stops r H x front piece so_far used before after failures failures' (to.Refused encode.NestedPush) nothing spelling refused unchanged part =
-    declines r x front piece so_far used before after nothing spelling (λ fits. refused.1 fits.push_at_top) (unchanged encode.NestedPush refl)
+    declines r x front piece so_far used before after nothing spelling (λ fits. refused.2 fits.push_at_top) (unchanged encode.NestedPush refl)
 encoder_stops r H x front piece so_far used before after failures failures' (to.Refused (encode.OverLimits over)) nothing spelling refused unchanged part =
-    declines r x front piece so_far used before after nothing spelling (over_limit_is_unfit r x over refused.1) (unchanged (encode.OverLimits over) refl)
+    declines r x front piece so_far used before after nothing spelling (over_limit_is_unfit r x over refused.2) (unchanged (encode.OverLimits over) refl)
 encoder_stops r H x front piece so_far used before after failures failures' (to.Refused encode.OutOfMemory) nothing spelling refused unchanged part =
     part_of_value r x front piece so_far used before after nothing spelling
     (no_first_part before after (canonical_text r.version x) (unchanged encode.OutOfMemory refl))

@@ -9,7 +9,7 @@ use Rattle.resp_fronts.specs.Events.{TextKind}
 use Rattle.resp_scan.specs.Kinds.{content_events}
 use Rattle.resp_value.specs.Data.{items_of}
 use Rattle.resp_value.specs.Kinds.{kind_of}
-use Rattle.resp_value.specs.Devices.{Appends, HasRisen}
+use Rattle.resp_value.specs.Devices.{Appends, count_after}
 use Rattle.resp_tool.specs.Shown.{indentation, quoted_byte, quoted_text}
 use Rattle.resp_tool.specs.Written.{AppendsPart, WritesText}
 use Rattle.resp_tool.specs.Lines.{HasRoomFor, around, innermost, line_of, page_of}
@@ -74,13 +74,13 @@ content_page p (c ∷ s) =
 
 -- a text in two parts, of which the first failed
 pub first_fails : {X E : Type 0} (r : Result X E) (before after : Option (List ℕ)) (failures failures' : ℕ) (text next whole : List ℕ) → IsErr r →
-    text ++ next ≡ whole → AppendsPart before after text × HasRisen failures failures' → WritesText before after failures failures' r whole
+    text ++ next ≡ whole → AppendsPart before after text × (failures' ≡ count_after 1 failures) → WritesText before after failures failures' r whole
 first_fails r before after failures failures' text next whole is_err same written =
     subst (WritesText before after failures failures' r) same (writes_part r before after failures failures' text next is_err written)
 
 -- of which the second did
 pub second_fails : {X E : Type 0} (r : Result X E) (a b c : Option (List ℕ)) (f g h : ℕ) (text next rest whole : List ℕ) → IsErr r →
-    text ++ (next ++ rest) ≡ whole → Appends a b text × (g ≡ f) → AppendsPart b c next × HasRisen g h → WritesText a c f h r whole
+    text ++ (next ++ rest) ≡ whole → Appends a b text × (g ≡ f) → AppendsPart b c next × (h ≡ count_after 1 g) → WritesText a c f h r whole
 second_fails r a b c f g h text next rest whole is_err same first written =
     subst (WritesText a c f h r) same (writes_next r a b c f g h text (next ++ rest) first (writes_part r b c g h next rest is_err written))
 
@@ -132,10 +132,10 @@ room_for_one n p some room = record { members = fewer_members n p.open_lines som
 
 -- the line of an integer, of which a write failed
 pub int_fails : {X E : Type 0} (r : Result X E) (a b c : Option (List ℕ)) (f g h : ℕ) (first : List ℕ) (i j : ℤ) → i ≡ j → IsErr r →
-    Appends a b first × (g ≡ f) → AppendsPart b c (codes "int " ++ signed_decimal i ++ codes "\n") × HasRisen g h →
+    Appends a b first × (g ≡ f) → AppendsPart b c (codes "int " ++ signed_decimal i ++ codes "\n") × (h ≡ count_after 1 g) →
     WritesText a c f h r ((first ++ (codes "int " ++ signed_decimal j ++ codes "\n")) ++ [])
 int_fails r a b c f g h first i j same is_err written failed =
     let words = codes "int " ++ signed_decimal j ++ codes "\n" in
-    let part = subst (λ n. AppendsPart b c (codes "int " ++ signed_decimal n ++ codes "\n") × HasRisen g h) same failed in
+    let part = subst (λ n. AppendsPart b c (codes "int " ++ signed_decimal n ++ codes "\n") × (h ≡ count_after 1 g)) same failed in
     second_fails r a b c f g h first words [] ((first ++ words) ++ []) is_err (ap (λ z. first ++ z) (append-nil words) ∙ sym (append-nil (first ++ words)))
     written part

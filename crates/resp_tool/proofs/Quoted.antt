@@ -32,15 +32,15 @@ quoted-front text n m front more =
     ap (λ xs. take n text ++ xs) more ∙ sym parts
 
 -- the first byte doesn't stand for itself, where no byte before it does
-pub escaped_first : (rest behind : List ℕ) (byte n : ℕ) → rest ≡ byte ∷ behind → n ≡ 0 → (n < length rest → is_plain (get_or rest n 0) ≡ false) →
+pub escaped_first : (rest beyond : List ℕ) (byte n : ℕ) → rest ≡ byte ∷ beyond → n ≡ 0 → (n < length rest → is_plain (get_or rest n 0) ≡ false) →
     is_plain byte ≡ false
-escaped_first rest behind byte n first none h =
+escaped_first rest beyond byte n first none h =
     let some : n < length rest = omega (arith, ap length first) in
     ap is_plain (ap (λ xs. get_or xs 0 0) (sym first) ∙ ap (λ k. get_or rest k 0) (sym none)) ∙ h some
 
 -- a front that is quoted so, and what lies after it
-pub quoted-split : (text front part behind shown : List ℕ) → text ≡ front ++ (part ++ behind) → quoted_text part ≡ shown →
-    quoted_text text ≡ quoted_text front ++ (shown ++ quoted_text behind)
-quoted-split text front part behind shown e is_shown =
-    ap quoted_text e ∙ quoted-append front (part ++ behind) ∙ ap (λ more. quoted_text front ++ more) (quoted-append part behind ∙
-    ap (λ more. more ++ quoted_text behind) is_shown)
+pub quoted-split : (text front part beyond shown : List ℕ) → text ≡ front ++ (part ++ beyond) → quoted_text part ≡ shown →
+    quoted_text text ≡ quoted_text front ++ (shown ++ quoted_text beyond)
+quoted-split text front part beyond shown e is_shown =
+    ap quoted_text e ∙ quoted-append front (part ++ beyond) ∙ ap (λ more. quoted_text front ++ more) (quoted-append part beyond ∙
+    ap (λ more. more ++ quoted_text beyond) is_shown)

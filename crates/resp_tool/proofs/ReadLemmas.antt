@@ -24,7 +24,7 @@ reads_on (Some left) None after bytes into n (rest, is, e) read = absurd (cc)
 reads_on (Some left) (Some now) after bytes into n (rest, is, e) read =
     let same : now ≡ rest = cc in (
       drop n now,
-      read.behind,
+      read.beyond,
       e ∙ ap (λ more. bytes ++ more) (sym same ∙ sym (take-append-drop n now) ∙ ap (λ front. front ++ drop n now) (sym read.bytes)) ∙
           sym (append_assoc bytes (take n into) (drop n now)),
     )
@@ -48,7 +48,7 @@ pub reads_to_end : (before mid after : Option (List ℕ)) (bytes into : List ℕ
     IfSome before (λ _. after ≡ Some [])
 reads_to_end None mid after bytes into room so_far read = tt
 reads_to_end (Some left) None after bytes into room (rest, is, e) read = absurd (cc)
-reads_to_end (Some left) (Some now) after bytes into room (rest, is, e) read = read.behind ∙ ap Some (read.at_end refl room)
+reads_to_end (Some left) (Some now) after bytes into room (rest, is, e) read = read.beyond ∙ ap Some (read.at_end refl room)
 
 -- how many calls were made, since a count was this
 pub record HasCalled (n before after : ℕ) : Type 0 where

@@ -111,9 +111,9 @@ took_front r text W L B H H' bytes piece start mid after n taken few takes whole
     (t.0, subst (λ z. HasRendered r text W H' (bytes ++ z) start after n) (sym all) (renders_on r text W H H' bytes piece start mid after n few s t.1))
 
 -- no spelling begins what has none at its front
-no_more : (r : Rules) (rest : List ℕ) → HasNoSpelling r rest → (x : Datum) (next behind : List ℕ) → IsSpelling r x next → rest ≡ next ++ behind → ⊥
-no_more r rest none x next behind spelling is =
-    let front : take (length next) rest ≡ next = ap (take (length next)) is ∙ take_front next behind in
+no_more : (r : Rules) (rest : List ℕ) → HasNoSpelling r rest → (x : Datum) (next beyond : List ℕ) → IsSpelling r x next → rest ≡ next ++ beyond → ⊥
+no_more r rest none x next beyond spelling is =
+    let front : take (length next) rest ≡ next = ap (take (length next)) is ∙ take_front next beyond in
     none (length next) (record { tree = spelling.tree; spells = subst (Spells spelling.tree) (sym front) spelling.spells; keeps = spelling.keeps })
   where
     take_front : (xs ys : List ℕ) → take (length xs) (xs ++ ys) ≡ xs
@@ -152,7 +152,7 @@ renders_declined r text W H bytes piece start mid after n s t = record {
   front = s.front;
   value = t.value;
   next = t.front;
-  behind = t.behind;
+  beyond = t.beyond;
   spelled = s.spelled;
   whole = ap (λ z. z ++ piece) s.whole ∙ append_assoc s.front s.begun piece ∙ ap (λ z. s.front ++ z) t.split;
   counted = omega (arith, s.counted);
@@ -172,9 +172,9 @@ renders_part : (r : Rules) (text : Datum → List ℕ) (W : Datum → Type 0) (B
 renders_part r text W B H bytes piece start mid after n s t = record {
   values = s.values ++ t.values;
   front = s.front ++ t.front;
-  rest = t.behind;
+  rest = t.beyond;
   spelled = spelled_on r s.values t.values s.front t.front s.spelled t.spelled;
-  whole = ap (λ z. z ++ piece) s.whole ∙ append_assoc s.front s.begun piece ∙ ap (λ z. s.front ++ z) t.split ∙ sym (append_assoc s.front t.front t.behind);
+  whole = ap (λ z. z ++ piece) s.whole ∙ append_assoc s.front s.begun piece ∙ ap (λ z. s.front ++ z) t.split ∙ sym (append_assoc s.front t.front t.beyond);
   begun = t.begun;
   is_begun = t.is_begun;
   part = (flat_map text s.values ++ s.so_far) ++ t.more;
@@ -244,12 +244,12 @@ renders_most r text W H bytes piece start after n most some s = record {
 }
 
 -- a rest of which some bytes were used
-pub behind_used : (used n : ℕ) (rest : List ℕ) → n ≡ length rest → take (n - used) (drop used rest) ≡ drop used rest
-behind_used used n rest size = take_all (n - used) (drop used rest) (omega (arith, length-drop used rest, size))
+pub after_used : (used n : ℕ) (rest : List ℕ) → n ≡ length rest → take (n - used) (drop used rest) ≡ drop used rest
+after_used used n rest size = take_all (n - used) (drop used rest) (omega (arith, length-drop used rest, size))
 
 -- the piece is what was done of it, and the rest
-pub done_more : (piece done rest behind : List ℕ) (used : ℕ) → piece ≡ done ++ rest → behind ≡ drop used rest → piece ≡ (done ++ take used rest) ++ behind
-done_more piece done rest behind used split is =
+pub done_more : (piece done rest beyond : List ℕ) (used : ℕ) → piece ≡ done ++ rest → beyond ≡ drop used rest → piece ≡ (done ++ take used rest) ++ beyond
+done_more piece done rest beyond used split is =
     split ∙ ap (λ z. done ++ z) (sym (take-append-drop used rest)) ∙ sym (append_assoc done (take used rest) (drop used rest)) ∙
     ap (λ z. (done ++ take used rest) ++ z) (sym is)
 
@@ -295,9 +295,9 @@ renders_so_far r text W B H bytes start after n stands s =
     }
 
 -- a front of nothing is nothing
-none_before : (front behind : List ℕ) → [] ≡ front ++ behind → front ≡ []
-none_before [] behind is = refl
-none_before (byte ∷ front) behind is = absurd (cc)
+none_before : (front beyond : List ℕ) → [] ≡ front ++ beyond → front ≡ []
+none_before [] beyond is = refl
+none_before (byte ∷ front) beyond is = absurd (cc)
 
 -- what holds at the end of the input
 abbrev pub EndsOf : (r : Rules) (text : Datum → List ℕ) (L B H : List ℕ → List ℕ → Type 0) (mid after : Option (List ℕ)) → Result (Unit {0}) Stop → Type 0
@@ -317,7 +317,7 @@ renders_counted r text W L B H bytes start mid after totals x law ends s few siz
           front = s.front;
           spelled = s.spelled;
           whole = s.whole ∙ ap (λ z. s.front ++ z) none;
-          no_more = λ y next behind spelling is. law r y (subst (IsSpelling r y) (none_before next behind is) spelling);
+          no_more = λ y next beyond spelling is. law r y (subst (IsSpelling r y) (none_before next beyond is) spelling);
         };
         few = subst (λ n. n ≤ most_values) (sym s.counted) few;
         all_written = s.all_written;

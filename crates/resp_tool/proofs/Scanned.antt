@@ -75,7 +75,7 @@ byte_fault r front piece fault given law w =
       names = w.refused.names;
       fault_of = record {
         front = take (n + 1) whole;
-        behind = drop (n + 1) whole;
+        beyond = drop (n + 1) whole;
         whole = sym (take-append-drop (n + 1) whole);
         place = sym (length-take-le (n + 1) whole (omega (arith, w.before_end)));
         cause = w.refused.cause;
@@ -88,8 +88,8 @@ byte_fault r front piece fault given law w =
     viable_before before byte after is =
         let whole = front ++ piece in
         let n = fault.at in
-        let behind = (byte ∷ after) ++ drop (n + 1) whole in
-        let parts : whole ≡ before ++ behind = sym (take-append-drop (n + 1) whole) ∙ ap (λ z. z ++ drop (n + 1) whole) is ∙
+        let beyond = (byte ∷ after) ++ drop (n + 1) whole in
+        let parts : whole ≡ before ++ beyond = sym (take-append-drop (n + 1) whole) ∙ ap (λ z. z ++ drop (n + 1) whole) is ∙
         append_assoc before (byte ∷ after) (drop (n + 1) whole) in
         let m = n - length before in
         let at : n ≡ length before + m = omega (
@@ -98,9 +98,9 @@ byte_fault r front piece fault given law w =
           ap length is,
           length-append before (byte ∷ after),
         ) in
-        let split : take n whole ≡ before ++ take m behind = ap (λ k. take k whole) at ∙ ap (take (length before + m)) parts ∙
-        take-append-add before behind m in
-        law r WithinTotal before (take m behind) (subst (IsViable r WithinTotal) split w.viable)
+        let split : take n whole ≡ before ++ take m beyond = ap (λ k. take k whole) at ∙ ap (take (length before + m)) parts ∙
+        take-append-add before beyond m in
+        law r WithinTotal before (take m beyond) (subst (IsViable r WithinTotal) split w.viable)
 
 -- no front of a text without a value is a spelling
 pub no_spelling_without_value : (r : Rules) (front : List ℕ) → HasNoValue front → HasNoSpelling r front

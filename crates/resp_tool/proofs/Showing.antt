@@ -4,20 +4,19 @@ use Rattle.std.specs.Prelude.{OnOk, is_ok}
 use Rattle.std.specs.List.{AllByRecursion}
 use Rattle.std.proofs.lemmas.List.{take_all}
 use Rattle.resp_value.specs.Data.{Kind}
-use Rattle.resp_value.specs.Rules.{Rules, NoDouble, WithinTotal}
-use Rattle.resp_value.specs.Rules as rule
+use Rattle.resp_value.specs.Rules.{Rules, WithinTotal}
 use Rattle.resp_value.specs.Laws.{FrontsOfViableTextsAreViable}
 use Rattle.resp_value.specs.Spellings.{IsViable}
 use Rattle.resp_value.specs.TreeValues.{value}
-use Rattle.resp_value.specs.Devices.{Appends, HasRisen}
+use Rattle.resp_value.specs.Devices.{Appends, count_after}
 use Rattle.resp_value.specs.declared.cause.Cause.{Cause}
 use Rattle.resp_value.specs.declared.cause.Cause.TheVariants as cause
 use Rattle.resp_fronts.specs.Events as e
 use Rattle.resp_scan.specs.Counts.{close_count, open_count}
 use Rattle.resp_scan.specs.Kinds.{content_events, rules_of}
-use Rattle.resp_scan.specs.Listening.{HearsPiece, HearsRefusal, HearsValue, IfRefused, IfStopped, IfUsedUp, IfWhole, MayBeGiven, StopsBehind, StopsWithin, whole_text_events}
+use Rattle.resp_scan.specs.Listening.{HearsPiece, HearsRefusal, HearsValue, IfRefused, IfStopped, IfUsedUp, IfWhole, MayBeGiven, StopsAfter, StopsWithin, whole_text_events}
 use Rattle.resp_scan.specs.Machine.Tokens.{Place}
-use Rattle.resp_scan.specs.Reading.{AreDue, BeginDue, Events, HasNoValue, HasRead, IsValue}
+use Rattle.resp_scan.specs.Reading.{AreDue, BeginDue, Events, HasNoValue, HasRead}
 use Rattle.resp_scan.specs.declared.event.Fault.{Fault}
 use Rattle.resp_scan.specs.declared.event.ScanError.{ScanError}
 use Rattle.resp_scan.specs.declared.event.ScanError.TheVariants as stop
@@ -25,8 +24,8 @@ use Rattle.resp_scan.specs.declared.event.Scanned.{Scanned}
 use Rattle.resp_scan.specs.declared.event.TextKind.{TextKind as ScannedKind}
 use Rattle.resp_tool.specs.Counts.{IsAny}
 use Rattle.resp_tool.specs.Lines.{HasRoomFor, page_of, size_of_text}
-use Rattle.resp_tool.specs.Pages.{OpenLine, OpenText, Page, blank, end_of_line, left_text, page_after, page_behind, shown, shown_on, with_byte, with_member, without_last}
-use Rattle.resp_tool.specs.Printing.{Call, HasBroken, HasPrinted, IsOfCall, IsPageBehind, Start}
+use Rattle.resp_tool.specs.Pages.{OpenLine, OpenText, Page, blank, end_of_line, left_text, page_after, page_after_event, shown, shown_on, with_byte, with_member, without_last}
+use Rattle.resp_tool.specs.Printing.{Call, HasBroken, HasPrinted, IsOfCall, IsPageAfter, Start}
 use Rattle.resp_tool.specs.Scans.{HasShown, IsShownIn, IsShownOf}
 use Rattle.resp_tool.specs.Shown.{shown_text}
 use Rattle.resp_tool.specs.Takings.{IsByteFault, IsEndFault, Refuses, TakesFront, TakesValue, WritesPart}
@@ -58,25 +57,25 @@ byte_added : (n : ℕ) (t : Option OpenText) → size_of_text t ≤ n → size_o
 byte_added n None h = omega arith
 byte_added n (Some t) h = omega (arith, h)
 
-bounded_behind : (n : ℕ) (x : e.Event) (p : Page) → IsBounded n p → IsBounded (n + 1) (page_behind x p)
-bounded_behind n e.Null p h = record { members = member_added n p.open_lines h.members; size = omega (arith, h.size) }
-bounded_behind n (e.Bool b) p h = record { members = member_added n p.open_lines h.members; size = omega (arith, h.size) }
-bounded_behind n (e.Int i) p h = record { members = member_added n p.open_lines h.members; size = omega (arith, h.size) }
-bounded_behind n (e.Text k) p h = record { members = more_members n p.open_lines h.members; size = omega arith }
-bounded_behind n (e.Byte c) p h = record { members = more_members n p.open_lines h.members; size = byte_added n p.text h.size }
-bounded_behind n e.TextEnd p h = record { members = member_added n p.open_lines h.members; size = omega arith }
-bounded_behind n (e.Open k m) p h = record { members = (omega arith, more_members n p.open_lines h.members); size = omega (arith, h.size) }
-bounded_behind n e.Close p h = record {
+bounded_after_event : (n : ℕ) (x : e.Event) (p : Page) → IsBounded n p → IsBounded (n + 1) (page_after_event x p)
+bounded_after_event n e.Null p h = record { members = member_added n p.open_lines h.members; size = omega (arith, h.size) }
+bounded_after_event n (e.Bool b) p h = record { members = member_added n p.open_lines h.members; size = omega (arith, h.size) }
+bounded_after_event n (e.Int i) p h = record { members = member_added n p.open_lines h.members; size = omega (arith, h.size) }
+bounded_after_event n (e.Text k) p h = record { members = more_members n p.open_lines h.members; size = omega arith }
+bounded_after_event n (e.Byte c) p h = record { members = more_members n p.open_lines h.members; size = byte_added n p.text h.size }
+bounded_after_event n e.TextEnd p h = record { members = member_added n p.open_lines h.members; size = omega arith }
+bounded_after_event n (e.Open k m) p h = record { members = (omega arith, more_members n p.open_lines h.members); size = omega (arith, h.size) }
+bounded_after_event n e.Close p h = record {
   members = member_added n (without_last p.open_lines) (last_closed n p.open_lines h.members);
   size =
       omega (arith, h.size);
 }
-bounded_behind n e.Done p h = record { members = more_members n p.open_lines h.members; size = omega (arith, h.size) }
+bounded_after_event n e.Done p h = record { members = more_members n p.open_lines h.members; size = omega (arith, h.size) }
 
 bounded_after : (es : Events) (n : ℕ) (p : Page) → IsBounded n p → IsBounded (n + length es) (page_after es p)
 bounded_after [] n p h = subst (λ m. IsBounded m p) (omega arith) h
-bounded_after (x ∷ es) n p h = subst (λ m. IsBounded m (page_after es (page_behind x p))) (omega arith)
-    (bounded_after es (n + 1) (page_behind x p) (bounded_behind n x p h))
+bounded_after (x ∷ es) n p h = subst (λ m. IsBounded m (page_after es (page_after_event x p))) (omega arith)
+    (bounded_after es (n + 1) (page_after_event x p) (bounded_after_event n x p h))
 
 room_of : (n k : ℕ) (ls : List OpenLine) → n + k < 2 ^ 64 → AllByRecursion (λ l. l.members ≤ n) ls → AllByRecursion (λ l. l.members + k < 2 ^ 64) ls
 room_of n k [] few h = tt
@@ -125,12 +124,12 @@ rest_level x es h = record { opens = omega (arith, h.opens); closes = omega (ari
 -- leave as many lines open
 level_lines : (es : Events) (p : Page) → AreLevel es → length (page_after es p).open_lines ≡ length p.open_lines
 level_lines [] p h = refl
-level_lines (e.Null ∷ es) p h = level_lines es (page_behind e.Null p) (rest_level e.Null es h) ∙ with_member_size p.open_lines
-level_lines (e.Bool b ∷ es) p h = level_lines es (page_behind (e.Bool b) p) (rest_level (e.Bool b) es h) ∙ with_member_size p.open_lines
-level_lines (e.Int i ∷ es) p h = level_lines es (page_behind (e.Int i) p) (rest_level (e.Int i) es h) ∙ with_member_size p.open_lines
-level_lines (e.Text k ∷ es) p h = level_lines es (page_behind (e.Text k) p) (rest_level (e.Text k) es h)
-level_lines (e.Byte c ∷ es) p h = level_lines es (page_behind (e.Byte c) p) (rest_level (e.Byte c) es h)
-level_lines (e.TextEnd ∷ es) p h = level_lines es (page_behind e.TextEnd p) (rest_level e.TextEnd es h) ∙ with_member_size p.open_lines
+level_lines (e.Null ∷ es) p h = level_lines es (page_after_event e.Null p) (rest_level e.Null es h) ∙ with_member_size p.open_lines
+level_lines (e.Bool b ∷ es) p h = level_lines es (page_after_event (e.Bool b) p) (rest_level (e.Bool b) es h) ∙ with_member_size p.open_lines
+level_lines (e.Int i ∷ es) p h = level_lines es (page_after_event (e.Int i) p) (rest_level (e.Int i) es h) ∙ with_member_size p.open_lines
+level_lines (e.Text k ∷ es) p h = level_lines es (page_after_event (e.Text k) p) (rest_level (e.Text k) es h)
+level_lines (e.Byte c ∷ es) p h = level_lines es (page_after_event (e.Byte c) p) (rest_level (e.Byte c) es h)
+level_lines (e.TextEnd ∷ es) p h = level_lines es (page_after_event e.TextEnd p) (rest_level e.TextEnd es h) ∙ with_member_size p.open_lines
 level_lines (e.Open k m ∷ es) p h = absurd (omega (arith, h.opens))
 level_lines (e.Close ∷ es) p h = absurd (omega (arith, h.closes))
 level_lines (e.Done ∷ es) p h = level_lines es p (rest_level e.Done es h)
@@ -139,18 +138,18 @@ level_lines (e.Done ∷ es) p h = level_lines es p (rest_level e.Done es h)
 abbrev pub AreAsDeep : Events → Type 0
 AreAsDeep given = length (page_after given blank).open_lines + close_count given ≡ open_count given
 
-lines_behind : (given more : Events) → length (page_after (given ++ more) blank).open_lines ≡ length (page_after more (page_after given blank)).open_lines
-lines_behind given more = ap (λ p. let q : Page = p in length q.open_lines) (page-append given more blank)
+lines_after : (given more : Events) → length (page_after (given ++ more) blank).open_lines ≡ length (page_after more (page_after given blank)).open_lines
+lines_after given more = ap (λ p. let q : Page = p in length q.open_lines) (page-append given more blank)
 
 pub level_deep : (given more : Events) → AreLevel more → AreAsDeep given → AreAsDeep (given ++ more)
 level_deep given more level deep =
     let counts = count-append given more in
-    omega (arith, deep, level.opens, level.closes, counts.0, counts.1, lines_behind given more, level_lines more (page_after given blank) level)
+    omega (arith, deep, level.opens, level.closes, counts.0, counts.1, lines_after given more, level_lines more (page_after given blank) level)
 
 pub opened_deep : (given : Events) (k : Kind) (m : Option ℕ) → AreAsDeep given → AreAsDeep (given ++ e.Open k m ∷ [])
 opened_deep given k m deep =
     let counts = count-append given (e.Open k m ∷ []) in
-    omega (arith, deep, counts.0, counts.1, lines_behind given (e.Open k m ∷ []))
+    omega (arith, deep, counts.0, counts.1, lines_after given (e.Open k m ∷ []))
 
 pub closed_deep : (given : Events) → MayBeGiven (given ++ e.Close ∷ []) → AreAsDeep given → AreAsDeep (given ++ e.Close ∷ [])
 closed_deep given may deep =
@@ -164,7 +163,7 @@ closed_deep given may deep =
       some,
       counts.0,
       counts.1,
-      lines_behind given (e.Close ∷ []),
+      lines_after given (e.Close ∷ []),
       without_last_size ls d some,
       with_member_size (without_last ls),
     )
@@ -174,7 +173,7 @@ closed_deep given may deep =
 -- what a call wrote of more events: all of it, or a part where a write failed
 pub prints : {X E : Type 0} (r : Result X E) (call : Call) (a b : ℕ) (lines lines' : Lines) (held held' : Option (List ℕ)) (f f' : ℕ) (given more : Events) →
     (IsOfCall call a b × HasPrinted call.start lines held f given) → MayBeGiven (given ++ more) → (AreAsDeep given → AreAsDeep (given ++ more)) →
-    (1 ≤ open_count more → close_count more ≡ 0) → WritesText held held' f f' r (shown_on (page_of lines) more) → OnOk r (IsPageBehind lines lines' more) →
+    (1 ≤ open_count more → close_count more ≡ 0) → WritesText held held' f f' r (shown_on (page_of lines) more) → OnOk r (IsPageAfter lines lines' more) →
     MatchBool (is_ok r) (IsOfCall call a b × HasPrinted call.start lines' held' f' (given ++ more))
     (StopsWithin (λ es. IsOfCall call a b × HasBroken call.start held' f' es) given more)
 prints (Ok x) call a b lines lines' held held' f f' given more had may deep one wrote page =
@@ -223,12 +222,12 @@ prints (Err x) call a b lines lines' held held' f f' given more had may deep one
         had.0,
         record {
           more = w.more ++ part.part;
-          later = part.behind;
+          later = part.beyond;
           appended = Appends-append call.start.held held held' w.more part.part w.appended part.appended;
           parts = shown-append given more blank ∙ ap (λ p. shown given ++ shown_on p more) (sym w.shown_lines.page) ∙
               ap (λ z. z ++ shown_on (page_of lines) more) (sym w.whole) ∙ append_assoc so_far w.more (shown_on (page_of lines) more) ∙
-              ap (λ z. so_far ++ (w.more ++ z)) part.whole ∙ ap (λ z. so_far ++ z) (sym (append_assoc w.more part.part part.behind));
-          failed = subst (λ n. HasRisen n f') w.none_failed wrote.1;
+              ap (λ z. so_far ++ (w.more ++ z)) part.whole ∙ ap (λ z. so_far ++ z) (sym (append_assoc w.more part.part part.beyond));
+          failed = subst (λ n. f' ≡ count_after 1 n) w.none_failed wrote.1;
         },
       );
     }
@@ -272,7 +271,7 @@ refusal_as H K r front piece (Err (stop.Fault fault)) so heard =
 refusal_as H K r front piece (Err (stop.Stopped n)) so heard = tt
 
 pub stopped_as : (H K : Events → Type 0) (r : Rules) (front piece : List ℕ) (result : Result Scanned ScanError) → ((es : Events) → H es → K es) →
-    IfStopped result (StopsBehind r H front piece) → IfStopped result (StopsBehind r K front piece)
+    IfStopped result (StopsAfter r H front piece) → IfStopped result (StopsAfter r K front piece)
 stopped_as H K r front piece (Ok scanned) so stops = tt
 stopped_as H K r front piece (Err (stop.Fault fault)) so stops = tt
 stopped_as H K r front piece (Err (stop.Stopped n)) so stops = record {
@@ -297,10 +296,6 @@ printed_before s lines front so_far held f w = record {
   none_failed = refl;
 }
 
--- a value's tree has no double
-no_double : (r : Rules) (given : Events) (front : List ℕ) (w : IsValue r front given) → rule.Every rule.IsNoDouble rule.IsAnyNode w.tree
-no_double r given front w = w.keeps NoDouble (omega arith)
-
 module _ (r : Rules) (since : Start) (front piece : List ℕ) (after : Option (List ℕ)) (f : ℕ) where
   -- a value that was shown whole
   shows_value : (s : Place) (lines : Lines) (used : ℕ) → HasNoValue front →
@@ -309,8 +304,7 @@ module _ (r : Rules) (since : Start) (front piece : List ℕ) (after : Option (L
   shows_value s lines used none h =
       let v = h.is_value in
       let w = h.has_heard in
-      let no_double = no_double r h.heard (front ++ take used piece) v in
-      let closed : page_of lines ≡ blank = w.shown_lines.page ∙ ap (λ es. page_after es blank) v.told ∙ tree_is_closed v.tree v.spells.is_tree no_double in (
+      let closed : page_of lines ≡ blank = w.shown_lines.page ∙ ap (λ es. page_after es blank) v.told ∙ tree_is_closed v.tree v.spells.is_tree in (
         value_uses_some front piece used v.tree none v.spells,
         record {
           value = value v.tree;
@@ -318,7 +312,7 @@ module _ (r : Rules) (since : Start) (front piece : List ℕ) (after : Option (L
           written = tt;
           more = w.more;
           appended = w.appended;
-          whole = sym (tree_is_shown v.tree v.spells.is_tree no_double) ∙ ap shown (sym v.told) ∙ sym w.whole;
+          whole = sym (tree_is_shown v.tree v.spells.is_tree) ∙ ap shown (sym v.told) ∙ sym w.whole;
           takes = record {
             given = [];
             scanned = scanned_nothing s h.reads;
@@ -398,14 +392,14 @@ part_shown : (r : Rules) (whole so_far : List ℕ) (size : ℕ) (given : Events)
 part_shown r whole so_far size given before now after more text rest viable due appended part is = record {
   values = [];
   front = [];
-  behind = whole;
+  beyond = whole;
   split = refl;
   spelled = refl;
   begun = left_text given;
   is_begun = record { size = size; given = given; viable = viable; first_due = due; is_text = refl };
   more = more ++ part.part;
-  later = part.behind ++ rest;
-  parts = is ∙ ap (λ z. so_far ++ (more ++ (z ++ rest))) part.whole ∙ ap (λ z. so_far ++ z) (regroup more part.part part.behind rest);
+  later = part.beyond ++ rest;
+  parts = is ∙ ap (λ z. so_far ++ (more ++ (z ++ rest))) part.whole ∙ ap (λ z. so_far ++ z) (regroup more part.part part.beyond rest);
   appended = Appends-append before now after more part.part appended part.appended;
 }
   where
@@ -427,7 +421,7 @@ shows_end_part r since front piece lines now after f fault h part =
 
 -- the write of what an event calls for failed
 pub shows_broken : (r : Rules) (since : Start) (front piece : List ℕ) (after : Option (List ℕ)) (f taken : ℕ) →
-    StopsBehind r (HasBroken since after f) front piece taken → WritesPart r shown_text (IsShownIn r) (front ++ piece) since.so_far since.held after
+    StopsAfter r (HasBroken since after f) front piece taken → WritesPart r shown_text (IsShownIn r) (front ++ piece) since.so_far since.held after
 shows_broken r since front piece after f taken h =
     let w = h.has_stopped in
     let given = h.told in
@@ -435,7 +429,7 @@ shows_broken r since front piece after f taken h =
     record {
       values = [];
       front = [];
-      behind = front ++ piece;
+      beyond = front ++ piece;
       split = refl;
       spelled = refl;
       begun = left_text given;

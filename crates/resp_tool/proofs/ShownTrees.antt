@@ -9,11 +9,10 @@ use Rattle.resp_value.specs.Data as d
 use Rattle.resp_value.specs.Trees as t
 use Rattle.resp_value.specs.Trees.{Tree, Trees, leaf, node, none, more, Leaf, line, numeral, null, truth, string, chunked, Chunk, joined_content, Form, Counted, Streamed, HasMembers, form_line, leaf_text, text, count, IsTree, AreTrees, IsLeaf}
 use Rattle.resp_value.specs.TreeValues.{value, values, leaf_value}
-use Rattle.resp_value.specs.Rules.{Every, EveryOf, IsNoDouble, IsAnyNode}
 use Rattle.resp_fronts.specs.Events.{Event, Timed, TextKind, bytes_from, text_events, last_of, big_events, chunk_events, leaf_events, events, events_each, open_event, close_event, declared_count, without_places}
 use Rattle.resp_fronts.specs.Events as e
 use Rattle.resp_tool.specs.Shown.{indentation, kind_word, lines_on, member_lines, annotating_lines, is_plain, quoted_byte, quoted_text, scalar_line}
-use Rattle.resp_tool.specs.Pages.{OpenLine, Page, beginning, blank, end_of_text, has_all_pairs, is_big, last_line, of_line, page_after, page_behind, piece_of, shown_on, text_words, with_member}
+use Rattle.resp_tool.specs.Pages.{OpenLine, Page, beginning, blank, end_of_text, has_all_pairs, is_big, last_line, of_line, page_after, page_after_event, piece_of, shown_on, text_words, with_member}
 use Rattle.resp_tool.proofs.Quoted.{quoted-append, quoted-plain}
 
 -- events side by side
@@ -23,13 +22,13 @@ places-append (x ∷ xs) ys = ap (λ es. x.event ∷ es) (places-append xs ys)
 
 pub page-append : (es fs : List Event) (p : Page) → page_after (es ++ fs) p ≡ page_after fs (page_after es p)
 page-append [] fs p = refl
-page-append (x ∷ es) fs p = page-append es fs (page_behind x p)
+page-append (x ∷ es) fs p = page-append es fs (page_after_event x p)
 
 pub shown-append : (es fs : List Event) (p : Page) → shown_on p (es ++ fs) ≡ shown_on p es ++ shown_on (page_after es p) fs
 shown-append [] fs p = refl
 shown-append (x ∷ es) fs p =
-    ap (λ z. piece_of x p ++ z) (shown-append es fs (page_behind x p)) ∙
-    sym (append_assoc (piece_of x p) (shown_on (page_behind x p) es) (shown_on (page_after es (page_behind x p)) fs))
+    ap (λ z. piece_of x p ++ z) (shown-append es fs (page_after_event x p)) ∙
+    sym (append_assoc (piece_of x p) (shown_on (page_after_event x p) es) (shown_on (page_after es (page_after_event x p)) fs))
 
 -- a page on which no text was begun
 abbrev on : List OpenLine → Page
@@ -197,26 +196,26 @@ truth_parts : (of ind word ending : List ℕ) → ((of ++ ind) ++ (word ++ endin
 truth_parts of ind word ending = simp (append_assoc, append-nil)
 
 -- a leaf
-gives-leaf : (lines : List OpenLine) (from : ℕ) (l : Leaf) → IsLeaf l → IsNoDouble l →
+gives-leaf : (lines : List OpenLine) (from : ℕ) (l : Leaf) → IsLeaf l →
     GivesValue lines (without_places (leaf_events from l)) (scalar (leaf_value l))
-gives-leaf lines from (line t.Simple s) is p = gives-counted lines e.Simple s (d.Simple s) from (from + 1) _ refl refl
-gives-leaf lines from (line t.Error s) is p = gives-counted lines e.Error s (d.Error s) from (from + 1) _ refl refl
-gives-leaf lines from (line t.Double s) is p = absurd p
-gives-leaf lines from (numeral t.Int sign digits) is p =
+gives-leaf lines from (line t.Simple s) is = gives-counted lines e.Simple s (d.Simple s) from (from + 1) _ refl refl
+gives-leaf lines from (line t.Error s) is = gives-counted lines e.Error s (d.Error s) from (from + 1) _ refl refl
+gives-leaf lines from (line t.Double s) is = gives-counted lines e.Double s (d.Double s) from (from + 1) _ refl refl
+gives-leaf lines from (numeral t.Int sign digits) is =
     record { page = refl; text = number_parts (of_line lines) (indentation (length lines)) (codes "int ") _ (codes "\n") }
-gives-leaf lines from (numeral t.Big sign digits) is p =
+gives-leaf lines from (numeral t.Big sign digits) is =
     gives-big lines (is_below_zero sign digits) (significant_digits digits) (last_of from (leaf_text (numeral t.Big sign digits)))
     (significant_are_digits digits is.1)
-gives-leaf lines from (null form) is p = record { page = refl; text = scalar_parts (of_line lines) (indentation (length lines)) (codes "null\n") }
-gives-leaf lines from (truth true) is p = record { page = refl; text = truth_parts (of_line lines) (indentation (length lines)) (codes "true") (codes "\n") }
-gives-leaf lines from (truth false) is p = record { page = refl; text = truth_parts (of_line lines) (indentation (length lines)) (codes "false") (codes "\n") }
-gives-leaf lines from (string t.Bulk digits s) is p = gives-counted lines e.Bulk s (d.Bulk s) (from + length digits + 2) (from + length digits + 3) _ refl refl
-gives-leaf lines from (string t.BulkError digits s) is p =
+gives-leaf lines from (null form) is = record { page = refl; text = scalar_parts (of_line lines) (indentation (length lines)) (codes "null\n") }
+gives-leaf lines from (truth true) is = record { page = refl; text = truth_parts (of_line lines) (indentation (length lines)) (codes "true") (codes "\n") }
+gives-leaf lines from (truth false) is = record { page = refl; text = truth_parts (of_line lines) (indentation (length lines)) (codes "false") (codes "\n") }
+gives-leaf lines from (string t.Bulk digits s) is = gives-counted lines e.Bulk s (d.Bulk s) (from + length digits + 2) (from + length digits + 3) _ refl refl
+gives-leaf lines from (string t.BulkError digits s) is =
     gives-counted lines e.BulkError s (d.BulkError s) (from + length digits + 2) (from + length digits + 3) _ refl refl
-gives-leaf lines from (string (t.Verbatim format) digits s) is p =
+gives-leaf lines from (string (t.Verbatim format) digits s) is =
     gives-counted lines (e.Verbatim format) s (d.Verbatim format s) (from + length digits + length format + 3) (from + length digits + length format + 4) _ refl
     refl
-gives-leaf lines from (chunked cs zeros) is p =
+gives-leaf lines from (chunked cs zeros) is =
     subst (λ es. GivesValue lines (e.Text e.Bulk ∷ es) (scalar (d.Bulk (joined_content cs))))
     (sym (places-append (chunk_events (from + 4) cs) (record { at = last_of from (leaf_text (chunked cs zeros)); event = e.TextEnd } ∷ [])))
     (gives-string lines e.Bulk (joined_content cs) (d.Bulk (joined_content cs)) (without_places (chunk_events (from + 4) cs)) refl
@@ -280,41 +279,41 @@ plain-node lines from k form us inner is =
     (record { page = inner.page ∙ ap (λ z. on (the_line k (declared_count form) z ∷ lines)) (omega arith); text = inner.text }) is)
 
 mutual
-  gives-tree : (lines : List OpenLine) (from : ℕ) (u : Tree) → IsTree u → Every IsNoDouble IsAnyNode u →
+  gives-tree : (lines : List OpenLine) (from : ℕ) (u : Tree) → IsTree u →
       GivesValue lines (without_places (events from u)) (value u)
-  gives-tree lines from (leaf l) is p = gives-leaf lines from l is p
-  gives-tree lines from (node Array form us) is p = plain-node lines from Array form us
-      (gives-members lines (from + length (form_line form) + 3) Array (declared_count form) 0 us (λ n m. refl) is.1 p.1) refl
-  gives-tree lines from (node Set form us) is p = plain-node lines from Set form us
-      (gives-members lines (from + length (form_line form) + 3) Set (declared_count form) 0 us (λ n m. refl) is.1 p.1) refl
-  gives-tree lines from (node Map form us) is p = plain-node lines from Map form us
-      (gives-members lines (from + length (form_line form) + 3) Map (declared_count form) 0 us (λ n m. refl) is.1 p.1) refl
-  gives-tree lines from (node Push form us) is p = plain-node lines from Push form us
-      (gives-members lines (from + length (form_line form) + 3) Push (declared_count form) 0 us (λ n m. refl) is.1 p.1) refl
-  gives-tree lines from (node Attr (Counted digits) us) is p =
+  gives-tree lines from (leaf l) is = gives-leaf lines from l is
+  gives-tree lines from (node Array form us) is = plain-node lines from Array form us
+      (gives-members lines (from + length (form_line form) + 3) Array (declared_count form) 0 us (λ n m. refl) is.1) refl
+  gives-tree lines from (node Set form us) is = plain-node lines from Set form us
+      (gives-members lines (from + length (form_line form) + 3) Set (declared_count form) 0 us (λ n m. refl) is.1) refl
+  gives-tree lines from (node Map form us) is = plain-node lines from Map form us
+      (gives-members lines (from + length (form_line form) + 3) Map (declared_count form) 0 us (λ n m. refl) is.1) refl
+  gives-tree lines from (node Push form us) is = plain-node lines from Push form us
+      (gives-members lines (from + length (form_line form) + 3) Push (declared_count form) 0 us (λ n m. refl) is.1) refl
+  gives-tree lines from (node Attr (Counted digits) us) is =
       let at = from + length digits + 3 in
       let ending : List Timed = close_event from (text (node Attr (Counted digits) us)) ∷ [] in
       subst (λ es. GivesValue lines (e.Open Attr (declared_count (Counted digits)) ∷ es) (aggregate Attr (values us)))
       (sym (places-append (events_each at us) ending))
       (gives-node lines Attr (declared_count (Counted digits)) us (without_places (events_each at us)) (annotating_lines (length lines) (values us))
-      (let inner = gives-annotated lines at (number digits) 0 us (omega (arith, is.0.1)) is.1 p.1 in
+      (let inner = gives-annotated lines at (number digits) 0 us (omega (arith, is.0.1)) is.1 in
       record { page = inner.page ∙ ap (λ z. on (the_line Attr (declared_count (Counted digits)) z ∷ lines)) (omega arith); text = inner.text })
       (ap (λ z. z ++ annotating_lines (length lines) (values us) ++ indentation (length lines) ++ codes "end " ++
       decimal (items_of Attr (d.count (values us))) ++
       codes "\n") (append_assoc (indentation (length lines)) (codes "attr") (codes "\n"))))
-  gives-tree lines from (node Attr Streamed us) is p = absurd is.0
+  gives-tree lines from (node Attr Streamed us) is = absurd is.0
 
   gives-members : (lines : List OpenLine) (from : ℕ) (k : Kind) (n : Option ℕ) (m : ℕ) (us : Trees) → ((n : Option ℕ) (m : ℕ) → has_all_pairs k n m ≡ false) →
-      AreTrees us → EveryOf IsNoDouble IsAnyNode us →
+      AreTrees us →
       Gives (on (the_line k n m ∷ lines)) (without_places (events_each from us)) (on (the_line k n (m + count us) ∷ lines))
       (member_lines (suc (length lines)) (values us))
-  gives-members lines from k n m none never are p = record { page = ap (λ z. on (the_line k n z ∷ lines)) (omega arith); text = refl }
-  gives-members lines from k n m (more u us) never are p =
+  gives-members lines from k n m none never are = record { page = ap (λ z. on (the_line k n z ∷ lines)) (omega arith); text = refl }
+  gives-members lines from k n m (more u us) never are =
       let first = events from u in
       let others = events_each (from + length (text u)) us in
       let level = suc (length lines) in
-      let one = gives-tree (the_line k n m ∷ lines) from u are.0 p.0 in
-      let rest = gives-members lines (from + length (text u)) k n (m + 1) us never are.1 p.1 in
+      let one = gives-tree (the_line k n m ∷ lines) from u are.0 in
+      let rest = gives-members lines (from + length (text u)) k n (m + 1) us never are.1 in
       let none_before : of_line (the_line k n m ∷ lines) ≡ [] = ap (λ b. cond b (indentation (length lines) ++ codes "of\n") []) (never n m) in
       let both = gives-append (on (the_line k n m ∷ lines)) (on (the_line k n (m + 1) ∷ lines)) (on (the_line k n (m + 1 + count us) ∷ lines))
       (without_places first) (without_places others) (of_line (the_line k n m ∷ lines) ++ lines_on level (value u)) (member_lines level (values us)) one rest in
@@ -325,14 +324,14 @@ mutual
             ap (λ z. (z ++ lines_on level (value u)) ++ member_lines level (values us)) none_before;
       }
 
-  gives-annotated : (lines : List OpenLine) (from pairs m : ℕ) (us : Trees) → m + count us ≡ pairs + pairs + 1 → AreTrees us → EveryOf IsNoDouble IsAnyNode us →
+  gives-annotated : (lines : List OpenLine) (from pairs m : ℕ) (us : Trees) → m + count us ≡ pairs + pairs + 1 → AreTrees us →
       Gives (on (the_line Attr (Some pairs) m ∷ lines)) (without_places (events_each from us)) (on (the_line Attr (Some pairs) (m + count us) ∷ lines))
       (annotating_lines (length lines) (values us))
-  gives-annotated lines from pairs m none is are p = record { page = ap (λ z. on (the_line Attr (Some pairs) z ∷ lines)) (omega arith); text = refl }
-  gives-annotated lines from pairs m (more u none) is are p =
+  gives-annotated lines from pairs m none is are = record { page = ap (λ z. on (the_line Attr (Some pairs) z ∷ lines)) (omega arith); text = refl }
+  gives-annotated lines from pairs m (more u none) is are =
       let level = suc (length lines) in
       let of = indentation (length lines) ++ codes "of\n" in
-      let one = gives-tree (the_line Attr (Some pairs) m ∷ lines) from u are.0 p.0 in
+      let one = gives-tree (the_line Attr (Some pairs) m ∷ lines) from u are.0 in
       let due : of_line (the_line Attr (Some pairs) m ∷ lines) ≡ of = ap (λ b. cond b of []) (no_pairs_missing pairs m (omega (arith, is))) in
       record {
         page = ap (λ es. page_after es (on (the_line Attr (Some pairs) m ∷ lines))) (places-append (events from u) [] ∙
@@ -341,13 +340,13 @@ mutual
         text = ap (shown_on (on (the_line Attr (Some pairs) m ∷ lines))) (places-append (events from u) [] ∙ append-nil (without_places (events from u))) ∙
             one.text ∙ ap (λ z. z ++ lines_on level (value u)) due;
       }
-  gives-annotated lines from pairs m (more u (more v vs)) is are p =
+  gives-annotated lines from pairs m (more u (more v vs)) is are =
       let first = events from u in
       let us = more v vs in
       let others = events_each (from + length (text u)) us in
       let level = suc (length lines) in
-      let one = gives-tree (the_line Attr (Some pairs) m ∷ lines) from u are.0 p.0 in
-      let rest = gives-annotated lines (from + length (text u)) pairs (m + 1) (more v vs) (omega (arith, is)) are.1 p.1 in
+      let one = gives-tree (the_line Attr (Some pairs) m ∷ lines) from u are.0 in
+      let rest = gives-annotated lines (from + length (text u)) pairs (m + 1) (more v vs) (omega (arith, is)) are.1 in
       let none_before : of_line (the_line Attr (Some pairs) m ∷ lines) ≡ [] =
       ap (λ b. cond b (indentation (length lines) ++ codes "of\n") []) (some_pairs_missing pairs m (λ wrong. omega (arith, is, wrong))) in
       let both = gives-append (on (the_line Attr (Some pairs) m ∷ lines)) (on (the_line Attr (Some pairs) (m + 1) ∷ lines))
@@ -361,16 +360,16 @@ mutual
       }
 
 -- the events of a tree give the text of its value
-pub tree_is_shown : (u : Tree) → IsTree u → Every IsNoDouble IsAnyNode u → shown_on blank (without_places (events 0 u)) ≡ lines_on 0 (value u)
-tree_is_shown u is p = (gives-tree [] 0 u is p).text
+pub tree_is_shown : (u : Tree) → IsTree u → shown_on blank (without_places (events 0 u)) ≡ lines_on 0 (value u)
+tree_is_shown u is = (gives-tree [] 0 u is).text
 
 -- and leave nothing open
-pub tree_is_closed : (u : Tree) → IsTree u → Every IsNoDouble IsAnyNode u → page_after (without_places (events 0 u)) blank ≡ blank
-tree_is_closed u is p = (gives-tree [] 0 u is p).page
+pub tree_is_closed : (u : Tree) → IsTree u → page_after (without_places (events 0 u)) blank ≡ blank
+tree_is_closed u is = (gives-tree [] 0 u is).page
 
 -- with the value's end too
-pub all_is_shown : (u : Tree) → IsTree u → Every IsNoDouble IsAnyNode u → shown_on blank (without_places (e.all_events u)) ≡ lines_on 0 (value u)
-all_is_shown u is p =
+pub all_is_shown : (u : Tree) → IsTree u → shown_on blank (without_places (e.all_events u)) ≡ lines_on 0 (value u)
+all_is_shown u is =
     let done : List Timed = record { at = last_of 0 (text u); event = e.Done } ∷ [] in
     ap (shown_on blank) (places-append (events 0 u) done) ∙ shown-append (without_places (events 0 u)) (e.Done ∷ []) blank ∙
-    append-nil (shown_on blank (without_places (events 0 u))) ∙ tree_is_shown u is p
+    append-nil (shown_on blank (without_places (events 0 u))) ∙ tree_is_shown u is

@@ -1,9 +1,9 @@
 -- What was written, piece after piece.
-use Rattle.std.proofs.Common.{◌≡◌, ℕ, List, [], ◌++◌, take, drop, Option, None, Some, Result, Ok, Err, sym, ap, subst, ◌∙◌, codes, append_assoc, append-nil, take-append-drop}
-use Rattle.std.specs.Result.{OnOk, IfErr, IsErr}
-use Rattle.resp_value.specs.Devices.{Appends, HasRisen}
+use Rattle.std.proofs.Common.{◌≡◌, inl, inr, ℕ, List, [], ◌++◌, take, drop, Option, None, Some, Result, Ok, Err, sym, ap, subst, ◌∙◌, codes, append_assoc, append-nil, take-append-drop}
+use Rattle.std.specs.Result.{OnErr, OnOk, IfErr, IsErr}
+use Rattle.resp_value.specs.Devices.{Appends, count_after}
 use Rattle.resp_value.specs.declared.device.WriteFault.{WriteFault}
-use Rattle.resp_tool.specs.Written.{AppendsPart, WritesText}
+use Rattle.resp_tool.specs.Written.{AppendsPart, TriesText, WritesText}
 
 -- one text was appended, and then another
 pub Appends-append : (a b c : Option (List ℕ)) (text next : List ℕ) → Appends a b text → Appends b c next → Appends a c (text ++ next)
@@ -15,10 +15,10 @@ Appends-append (Some held) b c text next first second =
 -- what a write of all bytes says, in one word
 pub writes_all : (r : Result (Unit {0}) WriteFault) (before after : Option (List ℕ)) (failures failures' : ℕ) (text : List ℕ) →
     OnOk r (Appends before after text) → OnOk r (failures' ≡ failures) → IfErr r (λ fault. Appends before after (take fault.written text)) →
-    IfErr r (λ fault. HasRisen failures failures') → WritesText before after failures failures' r text
+    OnErr r (failures' ≡ count_after 1 failures) → WritesText before after failures failures' r text
 writes_all (Ok x) before after failures failures' text ok none_failed part failed = (ok, none_failed)
 writes_all (Err fault) before after failures failures' text ok none_failed part failed =
-    (record { part = take fault.written text; behind = drop fault.written text; whole = sym (take-append-drop fault.written text); appended = part }, failed)
+    (record { part = take fault.written text; beyond = drop fault.written text; whole = sym (take-append-drop fault.written text); appended = part }, failed)
 
 -- a whole text was written, and then what a call wrote of the next
 pub writes_next : {X E : Type 0} (r : Result X E) (a b c : Option (List ℕ)) (f g h : ℕ) (text next : List ℕ) → Appends a b text × (g ≡ f) →
@@ -27,31 +27,31 @@ writes_next (Ok x) a b c f g h text next first second = (Appends-append a b c te
 writes_next (Err e) a b c f g h text next first second = (
   record {
     part = text ++ second.0.part;
-    behind = second.0.behind;
-    whole = ap (λ more. text ++ more) second.0.whole ∙ sym (append_assoc text second.0.part second.0.behind);
+    beyond = second.0.beyond;
+    whole = ap (λ more. text ++ more) second.0.whole ∙ sym (append_assoc text second.0.part second.0.beyond);
     appended = Appends-append a b c text second.0.part first.0 second.0.appended;
   },
-  subst (λ n. HasRisen n h) first.1 second.1,
+  subst (λ n. h ≡ count_after 1 n) first.1 second.1,
 )
 
 -- a part of a text is a part of a longer one
 pub writes_part : {X E : Type 0} (r : Result X E) (before after : Option (List ℕ)) (failures failures' : ℕ) (text next : List ℕ) → IsErr r →
-    AppendsPart before after text × HasRisen failures failures' → WritesText before after failures failures' r (text ++ next)
+    AppendsPart before after text × (failures' ≡ count_after 1 failures) → WritesText before after failures failures' r (text ++ next)
 writes_part (Ok x) before after failures failures' text next is_err written = absurd (cc)
 writes_part (Err e) before after failures failures' text next is_err written = (
   record {
     part = written.0.part;
-    behind = written.0.behind ++ next;
-    whole = ap (λ more. more ++ next) written.0.whole ∙ append_assoc written.0.part written.0.behind next;
+    beyond = written.0.beyond ++ next;
+    whole = ap (λ more. more ++ next) written.0.whole ∙ append_assoc written.0.part written.0.beyond next;
     appended = written.0.appended;
   },
   written.1,
 )
 
 -- a line of two pieces and of a number between two more, piece by piece
-pub line_parts : (first second before number behind : List ℕ) → (((first ++ second) ++ before) ++ number) ++ behind ≡ first ++
-    (second ++ ((before ++ number) ++ behind))
-line_parts first second before number behind = simp append_assoc
+pub line_parts : (first second before number beyond : List ℕ) → (((first ++ second) ++ before) ++ number) ++ beyond ≡ first ++
+    (second ++ ((before ++ number) ++ beyond))
+line_parts first second before number beyond = simp append_assoc
 
 -- appending nothing changes nothing
 pub Appends-none : (held : Option (List ℕ)) → Appends held held []
@@ -63,14 +63,13 @@ pub counts_parts : (values bytes : List ℕ) → codes "values " ++ values ++ co
     (codes "values " ++ values ++ codes " ") ++ (codes "bytes " ++ bytes ++ codes "\n")
 counts_parts values bytes =
     let first = codes "values " ++ values in
-    let behind = first ++ codes " " in
+    let beyond = first ++ codes " " in
     ap (λ z. (z ++ bytes) ++ codes "\n") (sym (append_assoc first (codes " ") (codes "bytes ")))
-    ∙ ap (λ z. z ++ codes "\n") (append_assoc behind (codes "bytes ") bytes)
-    ∙ append_assoc behind (codes "bytes " ++ bytes) (codes "\n")
+    ∙ ap (λ z. z ++ codes "\n") (append_assoc beyond (codes "bytes ") bytes)
+    ∙ append_assoc beyond (codes "bytes " ++ bytes) (codes "\n")
 
--- whatever came of it, a part of the text was appended
-pub part_of_text : {X E : Type 0} (r : Result X E) (before after : Option (List ℕ)) (failures failures' : ℕ) (text : List ℕ) →
-    WritesText before after failures failures' r text → AppendsPart before after text
-part_of_text (Ok x) before after failures failures' text written =
-    record { part = text; behind = []; whole = sym (append-nil text); appended = written.0 }
-part_of_text (Err e) before after failures failures' text written = written.0
+-- whatever came of it, the text was tried
+pub tries_text : {X E : Type 0} (r : Result X E) (before after : Option (List ℕ)) (failures failures' : ℕ) (text : List ℕ) →
+    WritesText before after failures failures' r text → TriesText before after failures failures' text
+tries_text (Ok x) before after failures failures' text written = inl written
+tries_text (Err e) before after failures failures' text written = inr written

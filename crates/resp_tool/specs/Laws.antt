@@ -2,12 +2,11 @@
 use Rattle.std.specs.Prelude.{◌≡◌}
 use Rattle.resp_value.specs.Trees.{IsTree, Tree}
 use Rattle.resp_value.specs.TreeValues.{value}
-use Rattle.resp_value.specs.Rules.{Every, IsAnyNode, IsNoDouble}
 use Rattle.resp_fronts.specs.Events.{all_events, without_places}
 use Rattle.resp_tool.specs.Pages.{shown}
 use Rattle.resp_tool.specs.Shown.{shown_text}
 
--- the text of a value's events, piece by piece, is the text of the value; no event comes of a double
+-- the text of a value's events, piece by piece, is the text of the value
 abbrev pub EventsAreShownAsTheirValue : Type 0
-EventsAreShownAsTheirValue = (tree : Tree) → IsTree tree → Every IsNoDouble IsAnyNode tree →
+EventsAreShownAsTheirValue = (tree : Tree) → IsTree tree →
     shown (without_places (all_events tree)) ≡ shown_text (value tree)

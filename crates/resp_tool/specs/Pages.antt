@@ -48,6 +48,7 @@ beginning p = of_line p.open_lines ++ indentation (length p.open_lines)
 abbrev pub text_words : TextKind → List ℕ
 text_words e.Simple = codes "simple \""
 text_words e.Error = codes "error \""
+text_words e.Double = codes "double \""
 text_words e.Bulk = codes "bulk \""
 text_words e.BulkError = codes "bulkerror \""
 text_words (e.Verbatim format) = codes "verbatim \"" ++ quoted_text format ++ codes "\" \""
@@ -113,28 +114,28 @@ abbrev pub with_value : Page → Page
 with_value p = record p { open_lines = with_member p.open_lines }
 
 -- what is open after an event
-abbrev pub page_behind : Event → Page → Page
-page_behind e.Null p = with_value p
-page_behind (e.Bool truth) p = with_value p
-page_behind (e.Int number) p = with_value p
-page_behind (e.Text kind) p = record p { text = Some (record { is_big = is_big kind; size = 0 }) }
-page_behind (e.Byte byte) p = record p { text = with_byte p.text }
-page_behind e.TextEnd p = record { open_lines = with_member p.open_lines; text = None }
-page_behind (e.Open kind count) p = record p {
+abbrev pub page_after_event : Event → Page → Page
+page_after_event e.Null p = with_value p
+page_after_event (e.Bool truth) p = with_value p
+page_after_event (e.Int number) p = with_value p
+page_after_event (e.Text kind) p = record p { text = Some (record { is_big = is_big kind; size = 0 }) }
+page_after_event (e.Byte byte) p = record p { text = with_byte p.text }
+page_after_event e.TextEnd p = record { open_lines = with_member p.open_lines; text = None }
+page_after_event (e.Open kind count) p = record p {
   open_lines = record { kind = kind; count = count; members = 0 } ∷ p.open_lines;
 }
-page_behind e.Close p = record p { open_lines = with_member (without_last p.open_lines) }
-page_behind e.Done p = p
+page_after_event e.Close p = record p { open_lines = with_member (without_last p.open_lines) }
+page_after_event e.Done p = p
 
 -- what is open after some events
 abbrev pub page_after : List Event → Page → Page
 page_after [] p = p
-page_after (event ∷ es) p = page_after es (page_behind event p)
+page_after (event ∷ es) p = page_after es (page_after_event event p)
 
 -- the text of events, after others that have left a page so
 abbrev pub shown_on : Page → List Event → List ℕ
 shown_on p [] = []
-shown_on p (event ∷ es) = piece_of event p ++ shown_on (page_behind event p) es
+shown_on p (event ∷ es) = piece_of event p ++ shown_on (page_after_event event p) es
 
 -- the text of the events of a value, as far as they have come
 abbrev pub shown : List Event → List ℕ

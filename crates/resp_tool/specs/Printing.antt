@@ -1,6 +1,6 @@
 -- What was printed of a value since a call began.
 use Rattle.std.specs.Prelude.{◌≡◌, ℕ, ◌≤◌, ◌<◌, List, ◌++◌, length, Option}
-use Rattle.resp_value.specs.Devices.{Appends, HasRisen}
+use Rattle.resp_value.specs.Devices.{Appends, count_after}
 use Rattle.resp_scan.specs.Counts.{open_count}
 use Rattle.resp_scan.specs.Machine.Tokens.{Place}
 use Rattle.resp_scan.specs.Reading.{Events, HasRead}
@@ -24,13 +24,13 @@ pub record HasPrinted (since : Start) (lines : Lines) (held : Option (List ℕ))
     pub whole : since.so_far ++ more ≡ shown given
     pub none_failed : failures ≡ since.failures
 
--- since then a write failed, and the text of these events is there in part
+-- since then one write failed, and the text of these events is there in part
 pub record HasBroken (since : Start) (held : Option (List ℕ)) (failures : ℕ) (told : Events) : Type 0 where
   pub more : List ℕ
   pub later : List ℕ
   pub appended : Appends since.held held more
   pub parts : shown told ≡ since.so_far ++ (more ++ later)
-  pub failed : HasRisen since.failures failures
+  pub failed : failures ≡ count_after 1 since.failures
 
 -- what stood when a call began, and the references that it was given
 pub record Call : Type 0 where
@@ -50,6 +50,6 @@ WherePrinted s lines held failures P = (since : Start) (front : List ℕ) (given
     HasPrinted since lines held failures given → P since front
 
 -- what is open is that after these events, where the counts and the lines have room for them
-abbrev pub IsPageBehind : Lines → Lines → Events → Type 0
-IsPageBehind old new more = HasRoomFor (length more) (page_of old) →
+abbrev pub IsPageAfter : Lines → Lines → Events → Type 0
+IsPageAfter old new more = HasRoomFor (length more) (page_of old) →
     (1 ≤ open_count more → length (page_of old).open_lines < 128) → page_of new ≡ page_after more (page_of old)

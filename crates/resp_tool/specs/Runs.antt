@@ -7,7 +7,7 @@ use Rattle.resp_tool.specs.Faults.{fault_line, status_of}
 use Rattle.resp_tool.specs.Scans.{IsShownIn, IsShownOf}
 use Rattle.resp_tool.specs.Shown.{shown_text}
 use Rattle.resp_tool.specs.Streams.{AreRead, AtEnd, Renders}
-use Rattle.resp_tool.specs.Written.{AppendsPart}
+use Rattle.resp_tool.specs.Written.{TriesText}
 use Rattle.resp_tool.specs.declared.options.Task.{Task}
 use Rattle.resp_tool.specs.declared.options.Task.TheVariants.{Show, Check, Canon}
 use Rattle.resp_tool.specs.declared.tool_error.ToolError.{ToolError}
@@ -24,17 +24,18 @@ abbrev pub status_of_run : Result (Unit {0}) ToolError → ℕ
 status_of_run (Ok x) = 0
 status_of_run (Err e) = status_of e
 
--- nothing is said of what ended well, and of what was refused or failed its line, or the first of it
-abbrev pub Tells : Option (List ℕ) → Option (List ℕ) → Result (Unit {0}) ToolError → Type 0
-Tells said said' (Ok x) = said' ≡ said
-Tells said said' (Err error) = AppendsPart said said' (fault_line error)
+-- nothing is said of what ended well, and of what was refused or failed its line; or one write of that failed
+abbrev pub Tells : Option (List ℕ) → Option (List ℕ) → ℕ → ℕ → Result (Unit {0}) ToolError → Type 0
+Tells said said' failures failures' (Ok x) = (said' ≡ said) × (failures' ≡ failures)
+Tells said said' failures failures' (Err error) = TriesText said said' failures failures' (fault_line error)
 
--- the line of a failure that ends the program with status 3, or the first of it, was told
-abbrev pub TellsFailure : Option (List ℕ) → Option (List ℕ) → Type 0
-TellsFailure said said' = (error : ToolError) × (status_of error ≡ 3) × AppendsPart said said' (fault_line error)
+-- the line of a failure that ends the program with status 3 was told; or one write of that failed
+abbrev pub TellsFailure : Option (List ℕ) → Option (List ℕ) → ℕ → ℕ → Type 0
+TellsFailure said said' failures failures' = (error : ToolError) × (status_of error ≡ 3) ×
+    TriesText said said' failures failures' (fault_line error)
 
 -- one of the tasks ran, under some version and limits, ended with this status, and was told of so
-pub record HasRun (left left' before after said said' : Option (List ℕ)) (status : ℕ) : Type 0 where
+pub record HasRun (left left' before after said said' : Option (List ℕ)) (failures failures' status : ℕ) : Type 0 where
   pub task : Task
   pub rules : Rules
   pub bytes : List ℕ
@@ -43,4 +44,4 @@ pub record HasRun (left left' before after said said' : Option (List ℕ)) (stat
   pub to_its_end : AtEnd result (IfSome left (λ _. left' ≡ Some []))
   pub ran : RunsTo task rules bytes before after result
   pub ended : status_of_run result ≡ status
-  pub told : Tells said said' result
+  pub told : Tells said said' failures failures' result

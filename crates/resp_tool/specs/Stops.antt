@@ -1,9 +1,19 @@
 -- Why the program stops, where a value is not read and written to its end.
-use Rattle.std.specs.Prelude.{ℕ}
+use Rattle.std.specs.Prelude.{ℕ, Bool, true, false, Result, Ok, Err}
 use Rattle.resp_tool.specs.declared.rendering.Stop.{Stop}
 use Rattle.resp_tool.specs.declared.rendering.Stop.TheVariants as stop
 use Rattle.resp_tool.specs.declared.tool_error.ToolError.{ToolError}
 use Rattle.resp_tool.specs.declared.tool_error.ToolError.TheVariants.{Refused, OverLimits, Write, Memory}
+
+-- whether the stop is by a failed write
+abbrev pub is_of_writer : Stop → Bool
+is_of_writer stop.Write = true
+is_of_writer _ = false
+
+-- and whether a call stopped so
+abbrev pub failed_to_write : {X : Type 0} → Result X Stop → Bool
+failed_to_write (Ok x) = false
+failed_to_write (Err s) = is_of_writer s
 
 -- why the program stops at the value with this number
 abbrev pub error_of : ℕ → Stop → ToolError

@@ -10,7 +10,7 @@ use Rattle.resp_value.specs.declared.cause.Cause.TheVariants as cause
 use Rattle.resp_tool.specs.Takings.{IsByteFault, IsEndFault}
 use Rattle.resp_tool.specs.declared.stream.Totals.{Totals}
 use Rattle.resp_tool.specs.declared.tool_error.ToolError.{ToolError}
-use Rattle.resp_tool.specs.declared.tool_error.ToolError.TheVariants.{Refused, OverLimits, TooManyValues, Read, TooManyTurns}
+use Rattle.resp_tool.specs.declared.tool_error.ToolError.TheVariants.{Refused, OverLimits, TooManyValues, Read, Write, TooManyTurns}
 
 -- these bytes were read of those that were left, where the reader tells them
 abbrev pub AreRead : Option (List ℕ) → Option (List ℕ) → List ℕ → Type 0
@@ -30,6 +30,16 @@ is_of_reader _ = false
 abbrev pub failed_to_read : {X : Type 0} → Result X ToolError → Bool
 failed_to_read (Ok x) = false
 failed_to_read (Err error) = is_of_reader error
+
+-- whether the stop is by a failed write
+abbrev pub is_of_writer : ToolError → Bool
+is_of_writer Write = true
+is_of_writer _ = false
+
+-- and whether a call stopped so
+abbrev pub failed_to_write : {X : Type 0} → Result X ToolError → Bool
+failed_to_write (Ok x) = false
+failed_to_write (Err error) = is_of_writer error
 
 -- the bytes are values that are written and nothing more, no more than the most of one run, and their texts were
 -- appended, in order
@@ -63,9 +73,9 @@ pub record RendersUpTo (r : Rules) (text : Datum → List ℕ) (IsWritten : Datu
   pub front : List ℕ
   pub value : Datum
   pub next : List ℕ
-  pub behind : List ℕ
+  pub beyond : List ℕ
   pub spelled : AreSpellings r values front
-  pub whole : bytes ≡ front ++ (next ++ behind)
+  pub whole : bytes ≡ front ++ (next ++ beyond)
   pub counted : length values + 1 ≡ number
   pub all_written : AllByRecursion IsWritten values
   pub spelling : IsSpelling r value next

@@ -60,8 +60,8 @@ pub record Declines (r : Rules) (IsWritten : Datum → Type 0) (bytes so_far : L
     Type 0 where
   pub value : Datum
   pub front : List ℕ
-  pub behind : List ℕ
-  pub split : bytes ≡ front ++ behind
+  pub beyond : List ℕ
+  pub split : bytes ≡ front ++ beyond
   pub spelling : IsSpelling r value front
   pub not_written : IsWritten value → ⊥
   pub nothing : so_far ≡ []
@@ -73,11 +73,11 @@ pub record WritesPart (r : Rules) (text : Datum → List ℕ) (IsBegun : List �
     (before after : Option (List ℕ)) : Type 0 where
   pub values : List Datum
   pub front : List ℕ
-  pub behind : List ℕ
-  pub split : bytes ≡ front ++ behind
+  pub beyond : List ℕ
+  pub split : bytes ≡ front ++ beyond
   pub spelled : AreSpellings r values front
   pub begun : List ℕ
-  pub is_begun : IsBegun behind begun
+  pub is_begun : IsBegun beyond begun
   pub more : List ℕ
   pub later : List ℕ
   pub parts : flat_map text values ++ begun ≡ so_far ++ (more ++ later)

@@ -1,26 +1,32 @@
 -- What was written of a text.
-use Rattle.std.specs.Prelude.{◌≡◌, ℕ, List, ◌++◌, Option, Result, Ok, Err, codes, decimal}
-use Rattle.resp_value.specs.Devices.{Appends, HasRisen}
+use Rattle.std.specs.Prelude.{◌≡◌, ◌⊎◌, ℕ, List, ◌++◌, Option, Result, Ok, Err, codes, decimal}
+use Rattle.resp_value.specs.Devices.{Appends, count_after}
 
 -- a first part of the text was appended
 pub record AppendsPart (before after : Option (List ℕ)) (text : List ℕ) : Type 0 where
   pub part : List ℕ
-  pub behind : List ℕ
-  pub whole : text ≡ part ++ behind
+  pub beyond : List ℕ
+  pub whole : text ≡ part ++ beyond
   pub appended : Appends before after part
 
 -- the whole text was appended and no write failed
 abbrev pub WritesWhole : Option (List ℕ) → Option (List ℕ) → ℕ → ℕ → List ℕ → Type 0
 WritesWhole before after failures failures' text = Appends before after text × (failures' ≡ failures)
 
--- a write failed, and a first part of the text was appended
+-- one write failed, and a first part of the text was appended
 abbrev pub BreaksText : Option (List ℕ) → Option (List ℕ) → ℕ → ℕ → List ℕ → Type 0
-BreaksText before after failures failures' text = AppendsPart before after text × HasRisen failures failures'
+BreaksText before after failures failures' text = AppendsPart before after text × (failures' ≡ count_after 1 failures)
 
--- The whole text was appended and no write failed; or a write failed, and a first part of the text was appended.
+-- The whole text was appended and no write failed; or one write failed, and a first part of the text was appended.
+abbrev pub TriesText : Option (List ℕ) → Option (List ℕ) → ℕ → ℕ → List ℕ → Type 0
+TriesText before after failures failures' text =
+    WritesWhole before after failures failures' text ⊎ BreaksText before after failures failures' text
+
+-- The same, by the result.
 abbrev pub WritesText : {X E : Type 0} → Option (List ℕ) → Option (List ℕ) → ℕ → ℕ → Result X E → List ℕ → Type 0
 WritesText before after failures failures' (Ok x) text = Appends before after text × (failures' ≡ failures)
-WritesText before after failures failures' (Err e) text = AppendsPart before after text × HasRisen failures failures'
+WritesText before after failures failures' (Err e) text =
+    AppendsPart before after text × (failures' ≡ count_after 1 failures)
 
 -- the line of a value that was refused: its number, the cause's name, and the byte
 abbrev pub refusal_line : ℕ → List ℕ → ℕ → List ℕ

@@ -5,10 +5,10 @@ ghost use Rattle.resp_encode.specs.Refusals.{IfWrite, IsFirstRefusal};
 ghost use Rattle.resp_encode.specs.declared.error.EncodeError.{EncodeError};
 ghost use Rattle.resp_tool.specs.Canons.{stop_at, stop_of};
 ghost use Rattle.resp_tool.specs.Counts.{LeavesNothing};
-ghost use Rattle.resp_tool.specs.Streams.{AreRead, AtEnd, Renders, failed_to_read};
+ghost use Rattle.resp_tool.specs.Streams.{AreRead, AtEnd, Renders, failed_to_read, failed_to_write};
 ghost use Rattle.resp_tool.specs.Written.{BreaksText, WritesWhole};
 ghost use Rattle.resp_value.specs.Canonical.{canonical_text, Fits};
-ghost use Rattle.resp_value.specs.Devices.{count_after, failures_after, HasRisen};
+ghost use Rattle.resp_value.specs.Devices.{count_after, failures_after};
 ghost use Rattle.resp_value.specs.Rules.{rules_under};
 ghost use Rattle.resp_value.specs.Values.{datum_of};
 
@@ -179,9 +179,8 @@ pub fn canon<R: Source, W: Sink>(
         failures_after (failed_to_read result) (R.failures reader.old) }
     ensures reads_used_up { IsErrOf result ToolError.TooManyTurns →
         R.calls reader.new ≡ count_after MOST_READS (R.calls reader.old) }
-    ensures writer_failed { IsErrOf result ToolError.Write →
-        HasRisen (W.failures writer.old) (W.failures writer.new) }
-    ensures none_failed { OnOk result (W.failures writer.new ≡ W.failures writer.old) }
+    ensures write_failures { W.failures writer.new ≡
+        failures_after (failed_to_write result) (W.failures writer.old) }
 {
     let mut text = BytesMut::new(alloc);
     // Without this room the encoder makes room for each text that needs it.

@@ -1,10 +1,10 @@
 //! The command line of the program: what its words bring about, and the status.
 
-ghost use Rattle.std.specs.Prelude.{◌≡◌, ◌≢◌, ◌⊎◌, ◌≤◌, ◌+◌, ℕ, List, [], Some, IfSome};
+ghost use Rattle.std.specs.Prelude.{◌≡◌, ◌≢◌, ◌⊎◌, ◌≤◌, ◌+◌, ℕ, List, [], Some, IfSome, codes};
 ghost use Rattle.resp_tool.specs.Faults.{fault_line, status_of};
 ghost use Rattle.resp_tool.specs.Runs.{HasRun, RunsTo, TellsFailure};
 ghost use Rattle.resp_tool.specs.Streams.{AreRead, AtEnd};
-ghost use Rattle.resp_tool.specs.Written.{AppendsPart};
+ghost use Rattle.resp_tool.specs.Written.{TriesText};
 ghost use Rattle.resp_value.specs.Rules.{rules_under};
 
 use crate::canon::canon;
@@ -34,7 +34,7 @@ fn explain<W: Sink, F: Sink>(
     ensures bad_words_write_nothing { result ≡ 2 → writer.new ≡ writer.old }
     ensures nothing_told_at_zero { result ≡ 0 → faults.new ≡ faults.old }
     ensures told_at_three { result ≡ 3 → TellsFailure (F.written faults.old)
-        (F.written faults.new) }
+        (F.written faults.new) (F.failures faults.old) (F.failures faults.new) }
 {
     let text = match format!(in alloc; "{error}") {
         Ok(text) => text,
@@ -52,11 +52,12 @@ fn explain<W: Sink, F: Sink>(
     }
 }
 
-/// Says why the program stops, or as much of it as `faults` takes, and answers the status.
+/// Says why the program stops, or as much of it as `faults` takes before a write fails, and answers
+/// the status.
 pub fn stop<F: Sink>(error: &ToolError, faults: &mut F) -> u8
     ensures status { result ≡ status_of error.now }
-    ensures told { AppendsPart (F.written faults.old) (F.written faults.new)
-        (fault_line error.now) }
+    ensures told { TriesText (F.written faults.old) (F.written faults.new)
+        (F.failures faults.old) (F.failures faults.new) (fault_line error.now) }
 {
     let _ = error.line(faults);
     error.status()
@@ -64,9 +65,16 @@ pub fn stop<F: Sink>(error: &ToolError, faults: &mut F) -> u8
 
 /// Says why the words of the command line can't be read, and answers the status: 2 where one is not
 /// UTF-8, and else 3, since memory was refused.
+#[tactic(auto, using(crate::proofs::WrittenLemmas::tries_text))]
 pub fn refuse_words<F: Sink>(kind: IoErrorKind, faults: &mut F) -> u8
     ensures two_where_not_text { kind ≡ IoErrorKind.InvalidData → result ≡ 2 }
     ensures three_without_memory { kind ≢ IoErrorKind.InvalidData → result ≡ 3 }
+    ensures told_where_not_text { kind ≡ IoErrorKind.InvalidData →
+        TriesText (F.written faults.old) (F.written faults.new) (F.failures faults.old)
+        (F.failures faults.new) (codes "error: a word of the command line is not UTF-8\n") }
+    ensures told_without_memory { kind ≢ IoErrorKind.InvalidData →
+        TriesText (F.written faults.old) (F.written faults.new) (F.failures faults.old)
+        (F.failures faults.new) (fault_line ToolError.Memory) }
 {
     match kind {
         IoErrorKind::InvalidData => {
@@ -116,11 +124,12 @@ pub fn command<S: AsStr, R: Source, W: Sink, F: Sink>(
     ensures at_most_three { result ≤ 3 }
     ensures ran { ((reader.new ≡ reader.old) × (result ≢ 1)) ⊎ HasRun (R.remaining reader.old)
         (R.remaining reader.new) (W.written writer.old) (W.written writer.new)
-        (F.written faults.old) (F.written faults.new) result }
+        (F.written faults.old) (F.written faults.new) (F.failures faults.old)
+        (F.failures faults.new) result }
     ensures reads_bounded { R.calls reader.new ≤ R.calls reader.old + MOST_READS }
     ensures nothing_told_at_zero { result ≡ 0 → faults.new ≡ faults.old }
     ensures told_at_three { result ≡ 3 → TellsFailure (F.written faults.old)
-        (F.written faults.new) }
+        (F.written faults.new) (F.failures faults.old) (F.failures faults.new) }
     ensures nothing_at_two { result ≡ 2 →
         (reader.new ≡ reader.old) × (writer.new ≡ writer.old) }
 {

@@ -416,6 +416,7 @@ fn write_head<W: Sink>(writer: &mut W, kind: TextKind) -> Result<(), WriteFault>
     match kind {
         TextKind::Simple => write_text(writer, b"simple \""),
         TextKind::Error => write_text(writer, b"error \""),
+        TextKind::Double => write_text(writer, b"double \""),
         TextKind::Bulk => write_text(writer, b"bulk \""),
         TextKind::BulkError => write_text(writer, b"bulkerror \""),
         TextKind::Verbatim(format) => write_format(writer, &format),

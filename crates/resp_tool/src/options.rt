@@ -155,6 +155,10 @@ fn with_options<'a>(alloc: Global, command: Command<'a>) -> Result<Command<'a>, 
         .long("no-streamed")
         .help("Refuses streamed strings and aggregates")
         .action(ArgAction::SetTrue);
+    let doubles = Arg::new(alloc, "doubles")
+        .long("doubles")
+        .help("Lets doubles through, which version 3 alone has")
+        .action(ArgAction::SetTrue);
     Ok(
         command
             .arg(proto)?
@@ -163,6 +167,7 @@ fn with_options<'a>(alloc: Global, command: Command<'a>) -> Result<Command<'a>, 
             .arg(TOTAL.option(alloc))?
             .arg(ITEMS.option(alloc))?
             .arg(no_streamed)?
+            .arg(doubles)?
             .arg(PIECE.option(alloc))?,
     )
 }
@@ -185,6 +190,9 @@ fn options_of(task: Task, matches: &ArgMatches<'_>) -> Option<Options>
     let Ok(limits) = limits.with_items(items) else {
         return None;
     };
+    let limits = limits
+        .with_streamed(!matches.get_flag("no-streamed"))
+        .with_doubles(matches.get_flag("doubles"));
     let piece = matches.get_one::<u64>("piece")?;
     if piece < 1 || piece > 65_536 {
         return None;
@@ -192,7 +200,7 @@ fn options_of(task: Task, matches: &ArgMatches<'_>) -> Option<Options>
     Some(Options {
         task,
         version,
-        limits: limits.with_streamed(!matches.get_flag("no-streamed")),
+        limits,
         piece: piece as usize,
     })
 }

@@ -2,7 +2,7 @@
 
 ghost use Rattle.std.specs.Prelude.{◌≡◌, ◌≤◌, ◌++◌, length, take, false, IfOk};
 ghost use Rattle.resp_scan.specs.Kinds.{rules_of};
-ghost use Rattle.resp_scan.specs.Listening.{HearsPiece, HearsRefusal, HearsValue, IfRefused, IfStopped, IfUsedUp, IfWhole, StopsBehind};
+ghost use Rattle.resp_scan.specs.Listening.{HearsPiece, HearsRefusal, HearsValue, IfRefused, IfStopped, IfUsedUp, IfWhole, StopsAfter};
 ghost use Rattle.resp_tool.specs.Printing.{HasBroken, HasPrinted, WherePrinted};
 
 use crate::lines::Lines;
@@ -100,7 +100,7 @@ pub fn print_piece<W: Sink>(
         (W.failures writer.new)) front piece.now)) }
     ensures stopped { WherePrinted scanner.old lines.old (W.written writer.old)
         (W.failures writer.old) (λ since front. IfStopped result
-        (StopsBehind (rules_of scanner.old) (HasBroken since (W.written writer.new)
+        (StopsAfter (rules_of scanner.old) (HasBroken since (W.written writer.new)
         (W.failures writer.new)) front piece.now)) }
     ensures within_piece { IfOk result (λ scanned. scanned.used ≤ length piece.now) }
     ensures whole_piece { IfOk result (λ scanned.

@@ -1,8 +1,8 @@
 //! What is written for the values of a stream, as their bytes come.
 
-ghost use Rattle.std.specs.Prelude.{◌≡◌, ◌≤◌, ◌++◌, ℕ, List, length, IfOk, IsErrOf, OnOk};
+ghost use Rattle.std.specs.Prelude.{◌≡◌, ◌≤◌, ◌++◌, ℕ, List, length, IfOk, IsErrOf};
 ghost use Rattle.resp_value.specs.Data.{Datum};
-ghost use Rattle.resp_value.specs.Devices.{HasRisen};
+ghost use Rattle.resp_value.specs.Devices.{failures_after};
 ghost use Rattle.resp_value.specs.Rules.{Rules};
 
 use crate::tool_error::ToolError;
@@ -63,6 +63,7 @@ impl Stop {
 
 /// What is written for each value of a stream.
 pub trait Rendering {
+    ghost use Rattle.resp_tool.specs.Stops.{failed_to_write};
     ghost use Rattle.resp_tool.specs.Takings.{Ends, Takes};
 
     /// The version and limits under which values are read.
@@ -101,9 +102,8 @@ pub trait Rendering {
         ensures within_piece { IfOk result (λ taken. taken.used ≤ length piece.now) }
         ensures memory_taken { IsErrOf result Stop.Memory → takes_memory }
         ensures writes { IsErrOf result Stop.Write → writes }
-        ensures none_failed { OnOk result (W.failures writer.new ≡ W.failures writer.old) }
-        ensures writer_failed { IsErrOf result Stop.Write →
-            HasRisen (W.failures writer.old) (W.failures writer.new) };
+        ensures write_failures { W.failures writer.new ≡
+            failures_after (failed_to_write result) (W.failures writer.old) };
 
     /// What was written of a value is a first part of what may be written of it.
     fn part_stands(&self)
@@ -119,7 +119,6 @@ pub trait Rendering {
             (W.written writer.new) result }
         ensures memory_taken { IsErrOf result Stop.Memory → takes_memory }
         ensures writes { IsErrOf result Stop.Write → writes }
-        ensures none_failed { OnOk result (W.failures writer.new ≡ W.failures writer.old) }
-        ensures writer_failed { IsErrOf result Stop.Write →
-            HasRisen (W.failures writer.old) (W.failures writer.new) };
+        ensures write_failures { W.failures writer.new ≡
+            failures_after (failed_to_write result) (W.failures writer.old) };
 }

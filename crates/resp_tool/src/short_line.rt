@@ -41,6 +41,7 @@ fn push_words(line: &mut ArrayVec<u8, 128>, kind: TextKind) -> bool
     match kind {
         TextKind::Simple => line.try_extend_from_slice(b"simple \"").is_ok(),
         TextKind::Error => line.try_extend_from_slice(b"error \"").is_ok(),
+        TextKind::Double => line.try_extend_from_slice(b"double \"").is_ok(),
         TextKind::Bulk => line.try_extend_from_slice(b"bulk \"").is_ok(),
         TextKind::BulkError => line.try_extend_from_slice(b"bulkerror \"").is_ok(),
         TextKind::Verbatim(_) => false,

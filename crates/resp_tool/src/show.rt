@@ -1,11 +1,11 @@
 //! `show`: each value of a stream as lines of text.
 
-ghost use Rattle.std.specs.Prelude.{◌≡◌, ◌+◌, ◌≤◌, ℕ, List, [], Some, IfErr, IfSome, IsErrOf, OnOk};
+ghost use Rattle.std.specs.Prelude.{◌≡◌, ◌+◌, ◌≤◌, ℕ, List, [], Some, IfErr, IfSome, IsErrOf};
 ghost use Rattle.resp_tool.specs.Counts.{IsAny};
 ghost use Rattle.resp_tool.specs.Scans.{IsShownIn, IsShownOf};
 ghost use Rattle.resp_tool.specs.Shown.{shown_text};
-ghost use Rattle.resp_tool.specs.Streams.{AreRead, AtEnd, IsNeverOver, Renders, failed_to_read};
-ghost use Rattle.resp_value.specs.Devices.{count_after, failures_after, HasRisen};
+ghost use Rattle.resp_tool.specs.Streams.{AreRead, AtEnd, IsNeverOver, Renders, failed_to_read, failed_to_write};
+ghost use Rattle.resp_value.specs.Devices.{count_after, failures_after};
 ghost use Rattle.resp_value.specs.Rules.{rules_under};
 
 use crate::lines::Lines;
@@ -112,9 +112,8 @@ pub fn show<R: Source, W: Sink>(
         failures_after (failed_to_read result) (R.failures reader.old) }
     ensures reads_used_up { IsErrOf result ToolError.TooManyTurns →
         R.calls reader.new ≡ count_after MOST_READS (R.calls reader.old) }
-    ensures writer_failed { IsErrOf result ToolError.Write →
-        HasRisen (W.failures writer.old) (W.failures writer.new) }
-    ensures none_failed { OnOk result (W.failures writer.new ≡ W.failures writer.old) }
+    ensures write_failures { W.failures writer.new ≡
+        failures_after (failed_to_write result) (W.failures writer.old) }
     ensures no_buffer { IsErrOf result ToolError.Memory →
         (writer.new ≡ writer.old) × (reader.new ≡ reader.old) }
 {

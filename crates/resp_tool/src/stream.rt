@@ -1,8 +1,8 @@
 //! The loop that reads a stream, which `show`, `check` and `canon` share.
 
-ghost use Rattle.std.specs.Prelude.{◌≡◌, ◌⊎◌, ◌+◌, ◌≤◌, ◌++◌, ℕ, List, [], Option, Some, IfErr, IfOk, IfSome, IsErrOf, OnOk};
-ghost use Rattle.resp_tool.specs.Streams.{AreRead, AtEnd, HasRendered, IsBeforeEnd, IsRenderingError, RendersStopped, RendersStream, failed_to_read};
-ghost use Rattle.resp_value.specs.Devices.{count_after, failures_after, HasRisen};
+ghost use Rattle.std.specs.Prelude.{◌≡◌, ◌⊎◌, ◌+◌, ◌≤◌, ◌++◌, ℕ, List, [], Option, Some, IfErr, IfOk, IfSome, IsErrOf};
+ghost use Rattle.resp_tool.specs.Streams.{AreRead, AtEnd, HasRendered, IsBeforeEnd, IsRenderingError, RendersStopped, RendersStream, failed_to_read, failed_to_write};
+ghost use Rattle.resp_value.specs.Devices.{count_after, failures_after};
 
 use crate::rendering::Rendering;
 use crate::tool_error::{MOST_VALUES, ToolError};
@@ -48,12 +48,11 @@ pub fn render_stream<T: Rendering, R: Source, W: Sink>(
         failures_after (failed_to_read result) (R.failures reader.old) }
     ensures reads_used_up { IsErrOf result ToolError.TooManyTurns →
         R.calls reader.new ≡ count_after MOST_READS (R.calls reader.old) }
-    ensures writer_failed { IsErrOf result ToolError.Write →
-        HasRisen (W.failures writer.old) (W.failures writer.new) }
+    ensures write_failures { W.failures writer.new ≡
+        failures_after (failed_to_write result) (W.failures writer.old) }
     ensures writes { IsErrOf result ToolError.Write → T.writes }
     ensures no_buffer { IsErrOf result ToolError.Memory →
         T.takes_memory ⊎ (writer.new ≡ writer.old) × (reader.new ≡ reader.old) }
-    ensures none_failed { OnOk result (W.failures writer.new ≡ W.failures writer.old) }
 {
     laws::no_spelling_is_empty();
     rendering.part_stands();
@@ -119,9 +118,8 @@ fn render_piece<T: Rendering, W: Sink>(
     ensures not_reading { IfErr result IsRenderingError }
     ensures memory_taken { IsErrOf result ToolError.Memory → T.takes_memory }
     ensures writes { IsErrOf result ToolError.Write → T.writes }
-    ensures writer_failed { IsErrOf result ToolError.Write →
-        HasRisen (W.failures writer.old) (W.failures writer.new) }
-    ensures none_failed { OnOk result (W.failures writer.new ≡ W.failures writer.old) }
+    ensures write_failures { W.failures writer.new ≡
+        failures_after (failed_to_write result) (W.failures writer.old) }
 {
     // No value is empty, so each leaves less.
     laws::no_spelling_is_empty();

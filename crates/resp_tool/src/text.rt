@@ -55,15 +55,15 @@ pub fn write_number<W: Sink, N: Integer + Drop>(
     writer: &mut W,
     before: &[u8],
     number: N,
-    behind: &[u8],
+    beyond: &[u8],
 ) -> Result<(), WriteFault>
     ensures { WritesText (W.written writer.old) (W.written writer.new) (W.failures writer.old)
-        (W.failures writer.new) result (before.now ++ N.text number ++ behind.now) }
+        (W.failures writer.new) result (before.now ++ N.text number ++ beyond.now) }
 {
     let mut buffer = Buffer::new();
     write_text(writer, before)?;
     write_text(writer, buffer.format(number).as_bytes())?;
-    write_text(writer, behind)
+    write_text(writer, beyond)
 }
 
 /// Whether a byte stands for itself inside quotes: printable ASCII, no quote and no backslash.
@@ -133,11 +133,11 @@ pub fn write_quoted<W: Sink>(writer: &mut W, text: &[u8]) -> Result<(), WriteFau
         (W.failures writer.new) result (quoted_text text.now) }
 {
     let mut rest = text;
-    while let Some((byte, behind)) = rest.split_first() {
+    while let Some((byte, beyond)) = rest.split_first() {
         let (plain, other) = rest.split_at(plain_length(rest));
         if plain.is_empty() {
             write_escaped(writer, *byte)?;
-            rest = behind;
+            rest = beyond;
         } else {
             write_text(writer, plain)?;
             rest = other;

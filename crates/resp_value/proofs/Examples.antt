@@ -1,17 +1,17 @@
 -- Worked examples.
-use Rattle.std.proofs.Common.{ℕ, ◌<◌, false, [], ◌∷◌, codes, pos, refl, sym, subst, arith}
+use Rattle.std.proofs.Common.{ℕ, ◌<◌, ◌≤◌, false, List, [], ◌∷◌, length, length-append, codes, pos, refl, sym, subst, arith}
 use Rattle.std.proofs.lemmas.Int.{ints}
 use Rattle.resp_value.specs.Bounds.{AreBounds}
 use Rattle.resp_value.specs.Numbers.{Unsigned, Plus, Minus}
 use Rattle.resp_value.specs.Data.{Datum, scalar, aggregate, Kind, Array, Set, Map, Attr, Push, members_of}
 use Rattle.resp_value.specs.Data as d
-use Rattle.resp_value.specs.Trees.{Tree, leaf, node, none, more, line, numeral, null, truth, string, chunked, Simple, Error, Int, Big, BulkNull, ArrayNull, PlainNull, Bulk, BulkError, Verbatim, Counted, Streamed, Chunk, text, IsLeaf}
+use Rattle.resp_value.specs.Trees.{Tree, leaf, node, none, more, line, numeral, null, truth, string, chunked, Simple, Error, Double, Int, Big, BulkNull, ArrayNull, PlainNull, Bulk, BulkError, Verbatim, Counted, Streamed, Chunk, text, leaf_text, IsLeaf}
 use Rattle.resp_value.specs.TreeValues.{value}
-use Rattle.resp_value.specs.Rules.{Rules, NotStreamed, Meets, Every, HasVersion, IsLeafInTwo, IsNodeInTwo, IsCountedLeaf, IsCountedNode}
+use Rattle.resp_value.specs.Rules.{Rules, Rule, Grammar, NoDouble, InVersion, PushAtTop, InRange, NotStreamed, WithinDepth, WithinLength, WithinItems, WithinTotal, Meets, Every, HasVersion, IsLeafInTwo, IsNodeInTwo, IsCountedLeaf, IsCountedNode}
 use Rattle.resp_value.specs.Spellings.{IsSpelling}
-use Rattle.resp_value.specs.Examples.{simple, IsSpelledInBoth, IsSpelledInThree, IsSpelledStreamed}
+use Rattle.resp_value.specs.Examples.{simple, IsSpelledInBoth, IsSpelledInThree, IsSpelledStreamed, IsSpelledWithDoubles}
 use Rattle.resp_value.proofs.Splitting.{plain_above}
-use Rattle.resp_value.proofs.ByTests.{bytes_by_test, digits_by_test}
+use Rattle.resp_value.proofs.ByTests.{bytes_by_test, digits_by_test, line_by_test}
 use Rattle.resp_value.proofs.SmallTrees.{IsSmall, small_meets, small_leaf, small_node, one_digit, in_each_version, if_counted}
 
 -- a small tree's text is a spelling of its value in the tree's version
@@ -145,3 +145,33 @@ pub small_line : (byte : ℕ) → 13 < byte → byte < 256 → IsSpelledInBoth (
 small_line byte above below =
     let t = line Simple (byte ∷ []) in
     in_both (leaf t) (small_leaf t (simple_is_line byte above below) tt tt (omega arith) (omega arith)) tt tt
+
+-- a double of few bytes is spelled where doubles are allowed
+double_spells : (text : List ℕ) → IsLeaf (line Double text) → length text ≤ 64 → IsSpelledWithDoubles (leaf_text (line Double text)) (scalar (d.Double text))
+double_spells text is short r b is_three allowed = record {
+  tree = leaf (line Double text);
+  spells = record { is_tree = is; spelled = refl };
+  keeps = λ rule h. meets rule;
+  valued = refl;
+}
+  where
+    meets : (rule : Rule) → Meets r rule (leaf (line Double text))
+    meets Grammar = tt
+    meets NoDouble = λ off. absurd (cc)
+    meets InVersion = subst (λ w. HasVersion w (leaf (line Double text))) (sym is_three) tt
+    meets PushAtTop = tt
+    meets InRange = tt
+    meets NotStreamed = λ off. tt
+    meets WithinDepth = omega arith
+    meets WithinLength = let h : 64 ≤ r.limits.length = b.length_in_range.0 in omega arith
+    meets WithinItems = omega arith
+    meets WithinTotal =
+        let h : 256 ≤ r.limits.total = b.total_in_range.0 in
+        let whole = length-append (44 ∷ text) (codes "\r\n") in
+        omega arith
+
+pub double : IsSpelledWithDoubles (codes ",3.14\r\n") (scalar (d.Double (codes "3.14")))
+double = double_spells (codes "3.14") (line_by_test (codes "3.14") refl, bytes_by_test (codes "3.14") refl) (omega arith)
+
+pub empty_double : IsSpelledWithDoubles (codes ",\r\n") (scalar (d.Double []))
+empty_double = double_spells [] (tt, tt) (omega arith)

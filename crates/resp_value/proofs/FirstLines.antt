@@ -27,13 +27,13 @@ abbrev pub form_of : List ℕ → Form
 form_of [] = Counted []
 form_of (c ∷ cs) = cond (eqb c 63) Streamed (Counted (c ∷ cs))
 
-abbrev pub sort_behind_dollar : List ℕ → Sort
-sort_behind_dollar [] = no_sort
-sort_behind_dollar (c ∷ cs) = cond (eqb c 45) (leaf_of (null_sort BulkNull)) (cond (eqb c 63) (leaf_of chunked_sort) (leaf_of (string_sort 36 (c ∷ cs))))
+abbrev pub sort_after_dollar : List ℕ → Sort
+sort_after_dollar [] = no_sort
+sort_after_dollar (c ∷ cs) = cond (eqb c 45) (leaf_of (null_sort BulkNull)) (cond (eqb c 63) (leaf_of chunked_sort) (leaf_of (string_sort 36 (c ∷ cs))))
 
-abbrev pub sort_behind_star : List ℕ → Sort
-sort_behind_star [] = no_sort
-sort_behind_star (c ∷ cs) = cond (eqb c 45) (leaf_of (null_sort ArrayNull)) (node_of Array (form_of (c ∷ cs)))
+abbrev pub sort_after_star : List ℕ → Sort
+sort_after_star [] = no_sort
+sort_after_star (c ∷ cs) = cond (eqb c 45) (leaf_of (null_sort ArrayNull)) (node_of Array (form_of (c ∷ cs)))
 
 abbrev pub sort_of_numeral : NumberKind → List ℕ → Sort
 sort_of_numeral k [] = no_sort
@@ -45,8 +45,8 @@ sort_of_truth [] = no_sort
 sort_of_truth (c ∷ cs) = leaf_of (truth_sort (eqb c 116))
 
 -- what a type byte and the rest of its line say
-abbrev pub sort_behind : ℕ → List ℕ → Sort
-sort_behind c cs =
+abbrev pub sort_after : ℕ → List ℕ → Sort
+sort_after c cs =
     cond (eqb c 43) (leaf_of (line_sort Simple cs))
     (cond (eqb c 45) (leaf_of (line_sort Error cs))
     (cond (eqb c 44) (leaf_of (line_sort Double cs))
@@ -54,10 +54,10 @@ sort_behind c cs =
     (cond (eqb c 40) (sort_of_numeral Big cs)
     (cond (eqb c 95) (leaf_of (null_sort PlainNull))
     (cond (eqb c 35) (sort_of_truth cs)
-    (cond (eqb c 36) (sort_behind_dollar cs)
+    (cond (eqb c 36) (sort_after_dollar cs)
     (cond (eqb c 33) (leaf_of (string_sort 33 cs))
     (cond (eqb c 61) (leaf_of (string_sort 61 cs))
-    (cond (eqb c 42) (sort_behind_star cs)
+    (cond (eqb c 42) (sort_after_star cs)
     (cond (eqb c 126) (node_of Set (form_of cs))
     (cond (eqb c 37) (node_of Map (form_of cs))
     (cond (eqb c 124) (node_of Attr (form_of cs))
@@ -66,7 +66,7 @@ sort_behind c cs =
 -- what a first line says, read off its bytes
 abbrev pub sort : List ℕ → Sort
 sort [] = no_sort
-sort (c ∷ cs) = sort_behind c cs
+sort (c ∷ cs) = sort_after c cs
 
 abbrev pub leaf_sort : Leaf → LeafSort
 leaf_sort (line k s) = line_sort k s
@@ -88,13 +88,13 @@ sort_of_numeral_is k Minus digits p = refl
 sort_of_numeral_is k Unsigned [] p = absurd (omega arith)
 sort_of_numeral_is k Unsigned (d ∷ ds) p = rw (digit_is_no d 43 p.1.0 (omega arith), digit_is_no d 45 p.1.0 (omega arith))
 
-sort_behind_dollar_is : (digits : List ℕ) → IsDigits digits → sort_behind_dollar digits ≡ leaf_of (string_sort 36 digits)
-sort_behind_dollar_is [] p = absurd (omega arith)
-sort_behind_dollar_is (d ∷ ds) p = rw (digit_is_no d 45 p.1.0 (omega arith), digit_is_no_mark d p.1.0)
+sort_after_dollar_is : (digits : List ℕ) → IsDigits digits → sort_after_dollar digits ≡ leaf_of (string_sort 36 digits)
+sort_after_dollar_is [] p = absurd (omega arith)
+sort_after_dollar_is (d ∷ ds) p = rw (digit_is_no d 45 p.1.0 (omega arith), digit_is_no_mark d p.1.0)
 
-sort_behind_star_is : (digits : List ℕ) → IsDigits digits → sort_behind_star digits ≡ node_of Array (Counted digits)
-sort_behind_star_is [] p = absurd (omega arith)
-sort_behind_star_is (d ∷ ds) p = rw (digit_is_no d 45 p.1.0 (omega arith), digit_is_no_mark d p.1.0)
+sort_after_star_is : (digits : List ℕ) → IsDigits digits → sort_after_star digits ≡ node_of Array (Counted digits)
+sort_after_star_is [] p = absurd (omega arith)
+sort_after_star_is (d ∷ ds) p = rw (digit_is_no d 45 p.1.0 (omega arith), digit_is_no_mark d p.1.0)
 
 form_is : (digits : List ℕ) → IsDigits digits → form_of digits ≡ Counted digits
 form_is [] p = refl
@@ -111,7 +111,7 @@ leaf_sort_is (null ArrayNull) p = refl
 leaf_sort_is (null PlainNull) p = refl
 leaf_sort_is (truth true) p = refl
 leaf_sort_is (truth false) p = refl
-leaf_sort_is (string Bulk digits s) p = sort_behind_dollar_is digits p.0.0
+leaf_sort_is (string Bulk digits s) p = sort_after_dollar_is digits p.0.0
 leaf_sort_is (string BulkError digits s) p = refl
 leaf_sort_is (string (Verbatim format) digits s) p = refl
 leaf_sort_is (chunked chunks zeros) p = refl
@@ -125,7 +125,7 @@ first_line (node k form ts) = kind_byte k ∷ form_line form
 pub sort_is : (t : Tree) → IsTree t → sort (first_line t) ≡ sort_of t
 unfolding first_line
 sort_is (leaf l) p = leaf_sort_is l p
-sort_is (node Array (Counted digits) ts) p = sort_behind_star_is digits p.0.0
+sort_is (node Array (Counted digits) ts) p = sort_after_star_is digits p.0.0
 sort_is (node Set (Counted digits) ts) p = ap (node_of Set) (form_is digits p.0.0)
 sort_is (node Map (Counted digits) ts) p = ap (node_of Map) (form_is digits p.0.0)
 sort_is (node Attr (Counted digits) ts) p = ap (node_of Attr) (form_is digits p.0.0)

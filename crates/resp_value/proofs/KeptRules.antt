@@ -2,10 +2,11 @@
 use Rattle.std.proofs.Common.{◌↔◌, ℕ, ◌^◌, List, ℤ, pos, neg_ℤ, ◌≤ℤ◌, ◌<ℤ◌, sym, subst}
 use Rattle.resp_value.specs.Data.{Kind, Array, Set, Map, Attr, Push, Scalar, Datum, Data, scalar, aggregate, items_of}
 use Rattle.resp_value.specs.Data as d
-use Rattle.resp_value.specs.Trees.{Leaf, Form, Counted}
+use Rattle.resp_value.specs.Trees.{Tree, Trees, leaf, node, none, more, Leaf, line, numeral, null, truth, string, chunked, Simple, Error, Double, Int, Big, Bulk, BulkError, Verbatim, Form, Counted}
+use Rattle.resp_value.specs.TreeValues.{value, values, leaf_value}
 use Rattle.resp_value.specs.Numbers.{decimal}
 use Rattle.resp_value.specs.Rules.{Every, EveryOf, IsNoDouble, IsAnyNode, IsAnyLeaf, IsInRange, IsLeafInTwo, IsNodeInTwo, IsNoPush, IsCountedLeaf, IsCountedNode, HasVersion, HasPushAtRoot}
-use Rattle.resp_value.specs.Canonical.{HasPushAtTop, HasTypes, IsInTwo, AreInTwo, IsScalarInTwo, IsKindInTwo, IsKindBelow, HasNoPush, HaveNoPush, IsValue, AreValues, IsScalarValue, canonical_tree, canonical_trees, canonical_leaf}
+use Rattle.resp_value.specs.Canonical.{HasPushAtTop, HasTypes, IsInTwo, AreInTwo, IsScalarInTwo, IsKindInTwo, IsKindBelow, IsScalarButDouble, HasNoDouble, HaveNoDouble, HasNoPush, HaveNoPush, IsValue, AreValues, IsScalarValue, canonical_tree, canonical_trees, canonical_leaf}
 use Rattle.resp_value.specs.declared.version.Version.{Version}
 use Rattle.resp_value.specs.declared.version.Version.TheVariants.{Two, Three}
 use Rattle.resp_value.proofs.CanonicalTrees.{signed-decimal}
@@ -22,25 +23,13 @@ mutual
   every_of_canonical L N w at_leaf at_node d.none p = tt
   every_of_canonical L N w at_leaf at_node (d.more x xs) p = (every_canonical L N w at_leaf at_node x p.0, every_of_canonical L N w at_leaf at_node xs p.1)
 
-no_double_leaf : (w : Version) (s : Scalar) → IsScalarValue s → IsNoDouble (canonical_leaf w s)
-no_double_leaf w d.Null p = tt
-no_double_leaf w (d.Bool b) p = tt
-no_double_leaf w (d.Int i) p = tt
-no_double_leaf w (d.Simple s) p = tt
-no_double_leaf w (d.Error s) p = tt
-no_double_leaf w (d.Double s) p = absurd p
-no_double_leaf w (d.Bulk s) p = tt
-no_double_leaf w (d.BulkError s) p = tt
-no_double_leaf w (d.Verbatim format s) p = tt
-no_double_leaf w (d.Big negative digits) p = tt
-
 in_range_leaf : (w : Version) (s : Scalar) → IsScalarValue s → IsInRange (canonical_leaf w s)
 in_range_leaf w d.Null p = tt
 in_range_leaf w (d.Bool b) p = tt
 in_range_leaf w (d.Int i) p = subst (λ (j : ℤ). (neg_ℤ (pos (2 ^ 63)) ≤ℤ j) × (j <ℤ pos (2 ^ 63))) (sym (signed-decimal i)) p
 in_range_leaf w (d.Simple s) p = tt
 in_range_leaf w (d.Error s) p = tt
-in_range_leaf w (d.Double s) p = absurd p
+in_range_leaf w (d.Double s) p = tt
 in_range_leaf w (d.Bulk s) p = tt
 in_range_leaf w (d.BulkError s) p = tt
 in_range_leaf w (d.Verbatim format s) p = tt
@@ -58,10 +47,6 @@ counted_leaf w (d.BulkError s) p = tt
 counted_leaf w (d.Verbatim format s) p = tt
 counted_leaf w (d.Big negative digits) p = tt
 
--- a canonical tree holds no double
-pub canonical_no_double : (w : Version) (x : Datum) → IsValue x → Every IsNoDouble IsAnyNode (canonical_tree w x)
-canonical_no_double w x p = every_canonical IsNoDouble IsAnyNode w (no_double_leaf w) (λ k digits. tt) x p
-
 -- a canonical tree's integers have 64 bits
 pub canonical_in_range : (w : Version) (x : Datum) → IsValue x → Every IsInRange IsAnyNode (canonical_tree w x)
 canonical_in_range w x p = every_canonical IsInRange IsAnyNode w (in_range_leaf w) (λ k digits. tt) x p
@@ -72,6 +57,32 @@ canonical_counted w x p = every_canonical IsCountedLeaf IsCountedNode w (counted
 
 same_fact : (P : Type 0) → P ↔ P
 same_fact P = (λ p. p, λ p. p)
+
+no_double_leaf : (l : Leaf) → IsNoDouble l ↔ IsScalarButDouble (leaf_value l)
+no_double_leaf (line Simple s) = same_fact (Unit {0})
+no_double_leaf (line Error s) = same_fact (Unit {0})
+no_double_leaf (line Double s) = same_fact ⊥
+no_double_leaf (numeral Int sign digits) = same_fact (Unit {0})
+no_double_leaf (numeral Big sign digits) = same_fact (Unit {0})
+no_double_leaf (null form) = same_fact (Unit {0})
+no_double_leaf (truth b) = same_fact (Unit {0})
+no_double_leaf (string Bulk digits s) = same_fact (Unit {0})
+no_double_leaf (string BulkError digits s) = same_fact (Unit {0})
+no_double_leaf (string (Verbatim format) digits s) = same_fact (Unit {0})
+no_double_leaf (chunked chunks zeros) = same_fact (Unit {0})
+
+mutual
+  -- a tree has no double where its value has none
+  pub no_double_tree : (t : Tree) → Every IsNoDouble IsAnyNode t ↔ HasNoDouble (value t)
+  no_double_tree (leaf l) = no_double_leaf l
+  no_double_tree (node k form ts) = let each = no_double_trees ts in (λ p. each.0 p.1, λ p. (tt, each.1 p))
+
+  no_double_trees : (ts : Trees) → EveryOf IsNoDouble IsAnyNode ts ↔ HaveNoDouble (values ts)
+  no_double_trees none = same_fact (Unit {0})
+  no_double_trees (more t ts) =
+      let h = no_double_tree t in
+      let each = no_double_trees ts in
+      (λ p. (h.0 p.0, each.0 p.1), λ p. (h.1 p.0, each.1 p.1))
 
 two_leaf : (s : Scalar) → IsScalarInTwo s ↔ IsLeafInTwo (canonical_leaf Two s)
 two_leaf d.Null = same_fact (Unit {0})

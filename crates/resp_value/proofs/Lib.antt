@@ -19,3 +19,5 @@ pub mod SmallTrees
 pub mod TypeBytes
 pub mod Examples
 pub mod RefusedExamples
+pub mod ReadValues
+pub mod EqualValues

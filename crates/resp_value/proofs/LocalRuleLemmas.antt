@@ -52,6 +52,17 @@ mutual
       let each = every_if_each P L N level ts in
       (λ p. (here.0 (λ h. (p h).0), each.0 (λ h. (p h).1)), λ p h. (here.1 p.0 h, each.1 p.1 h))
 
+-- a rule of leaves that looks at no level, under a premise
+leaves_if : (P : Type 0) (L : Leaf → Type 0) (level : ℕ) (t : Tree) → (P → Every L IsAnyNode t) ↔
+    HoldsFrom (λ i l. P → L l) (λ i k form n. IsAnyNode k form) level t
+leaves_if P L level t =
+    let each = every_if P L IsAnyNode level t in (
+      λ p. weaker (λ i l. P → L l) (λ i l. P → L l) (λ i k form n. P → IsAnyNode k form) (λ i k form n. IsAnyNode k form) level t (λ i l q. q)
+          (λ i k form n q. tt) (each.0 p),
+      λ p. each.1 (weaker (λ i l. P → L l) (λ i l. P → L l) (λ i k form n. IsAnyNode k form) (λ i k form n. P → IsAnyNode k form) level t (λ i l q. q)
+          (λ i k form n q h. tt) p),
+    )
+
 -- a version is a rule for version 2 alone
 version_if_two : (w : Version) (t : Tree) → HasVersion w t ↔ (w ≡ Two → Every IsLeafInTwo IsNodeInTwo t)
 version_if_two Two t = (λ p e. p, λ p. p refl)
@@ -163,7 +174,7 @@ mutual
 -- each rule but the one of total holds of a tree where it holds at each node
 pub rules_hold_at_each_node : RulesHoldAtEachNode
 rules_hold_at_each_node r Grammar t before_total = (λ p. (every_from IsAnyLeaf IsAnyNode 0 t).0 (every_is_any t), λ p. tt)
-rules_hold_at_each_node r NoDouble t before_total = every_from IsNoDouble IsAnyNode 0 t
+rules_hold_at_each_node r NoDouble t before_total = leaves_if (r.limits.doubles ≡ false) IsNoDouble 0 t
 rules_hold_at_each_node r InVersion t before_total =
     let two = version_if_two r.version t in
     let each = every_if (r.version ≡ Two) IsLeafInTwo IsNodeInTwo 0 t in

@@ -8,7 +8,7 @@ use Rattle.resp_value.specs.Data.{Datum, Kind, Array, Map, Attr, Push, members_o
 use Rattle.resp_value.specs.Trees.{Tree, leaf, node, none, more, line, numeral, Simple, Double, Int, Counted, Streamed, text, texts, count, kind_byte, CanStream, IsTree, Spells, chunked}
 use Rattle.resp_value.specs.Rules.{Rules, Rule, Grammar, NoDouble, InVersion, PushAtTop, InRange, WithinTotal, Meets, Every, HasVersion, HasPushAtRoot, IsAnyLeaf, IsNoPush, NotStreamed}
 use Rattle.resp_value.specs.Spellings.{IsSpelling, IsCause}
-use Rattle.resp_value.specs.Examples.{simple, SpellsNothing, SpellsNothingInTwo, SpellsNothingSwitchedOff, HasCause, HasCauseInThree, IsCutWithFault}
+use Rattle.resp_value.specs.Examples.{simple, SpellsNothing, SpellsNothingInTwo, SpellsNothingSwitchedOff, SpellsNothingWithoutDoubles, HasCause, HasCauseInThree, IsCutWithFault}
 use Rattle.resp_value.proofs.Splitting.{plain_above, return_split, no_newline_in_line}
 use Rattle.resp_value.proofs.FirstBytes.{kind_of_byte, first_byte, first_byte_is, leaf_bytes, at_leaf_byte, leaf_is_no_push}
 use Rattle.resp_value.proofs.FirstLines.{node_of, no_sort, sort, sort_of, sort_is, first_line, first_is_line, after_line, text_is, line_decides}
@@ -30,8 +30,8 @@ said t rule p r x s =
 refused : (t : Tree) (rule : Rule) → IsTree t → ((r : Rules) → Meets r rule t → ⊥) → SpellsNothing (text t)
 refused t rule p never r x s = never r (said t rule p r x s)
 
-pub double : SpellsNothing (codes ",1.5\r\n")
-double = refused (leaf (line Double (codes "1.5"))) NoDouble (line_by_test (codes "1.5") refl, bytes_by_test (codes "1.5") refl) (λ r h. h)
+pub double : SpellsNothingWithoutDoubles (codes ",1.5\r\n")
+double r x off s = said (leaf (line Double (codes "1.5"))) NoDouble (line_by_test (codes "1.5") refl, bytes_by_test (codes "1.5") refl) r x s off
 
 pub more_than_64_bits : SpellsNothing (codes ":9223372036854775808\r\n")
 more_than_64_bits = refused (leaf (numeral Int Unsigned (codes "9223372036854775808"))) InRange
@@ -184,7 +184,7 @@ push_below_the_top r b is_three = record {
       spelled =
           refl;
     };
-    keeps = λ first g. at_first_rules (λ rule. Meets r rule push_in_array) tt (tt, ((tt, tt), tt)) (subst (λ w. HasVersion w push_in_array) (sym is_three) tt)
+    keeps = λ first g. at_first_rules (λ rule. Meets r rule push_in_array) tt (λ off. (tt, ((tt, tt), tt))) (subst (λ w. HasVersion w push_in_array) (sym is_three) tt)
         first (omega arith);
   };
   not_viable = λ v.
@@ -199,7 +199,7 @@ value_and_fault r b = (
     front = codes "+a\r\n";
     spelled = (codes "+a\r\n", [], small_line 97 (omega arith) (omega arith) r b, refl, refl);
     whole = refl;
-    no_more = λ x next behind s e. no_newline 98 (omega arith) s.tree behind (codes "+c\r\n") s.spells.is_tree (ap (λ z. z ++ behind) s.spells.spelled ∙ sym e);
+    no_more = λ x next beyond s e. no_newline 98 (omega arith) s.tree beyond (codes "+c\r\n") s.spells.is_tree (ap (λ z. z ++ beyond) s.spells.spelled ∙ sym e);
   },
   fault_at_last r (codes "+b") (codes "+c\r\n") 10 Grammar (fronts_of_spellings_are_viable r (simple (codes "b")) (codes "+b") (codes "\r\n")
       (small_line 98 (omega arith) (omega arith) r b) WithinTotal) (newline_cause 98 (omega arith) r),

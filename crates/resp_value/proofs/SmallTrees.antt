@@ -36,7 +36,7 @@ pub record IsSmall (t : Tree) : Type 0 where
 -- a small tree of the version meets every rule
 pub small_meets : (r : Rules) (t : Tree) → AreBounds r.limits → IsSmall t → HasVersion r.version t → Meets r NotStreamed t → (rule : Rule) → Meets r rule t
 small_meets r t b s w f Grammar = tt
-small_meets r t b s w f NoDouble = s.no_double
+small_meets r t b s w f NoDouble = λ off. s.no_double
 small_meets r t b s w f InVersion = w
 small_meets r t b s w f PushAtTop = s.push_at_root
 small_meets r t b s w f InRange = s.in_range

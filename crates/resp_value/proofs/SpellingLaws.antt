@@ -1,18 +1,18 @@
 -- Spellings of values, cuts of texts, and canonical texts.
-use Rattle.std.proofs.Common.{◌≡◌, ℕ, ◌≤◌, List, [], ◌∷◌, ◌++◌, refl, sym, ap, subst, ◌∙◌, arith, append_assoc}
+use Rattle.std.proofs.Common.{◌≡◌, ℕ, ◌≤◌, Bool, true, false, List, [], ◌∷◌, ◌++◌, refl, sym, ap, subst, ◌∙◌, arith, append_assoc}
 use Rattle.resp_value.specs.Data.{Datum, aggregate, IsPush, depth, longest, most_items}
 use Rattle.resp_value.specs.Trees.{Tree, leaf, node, text}
 use Rattle.resp_value.specs.Data.{Array, Set, Map, Attr, Push}
 use Rattle.resp_value.specs.TreeValues.{value, values}
 use Rattle.resp_value.specs.Rules.{Rules, Rule, Grammar, NoDouble, InVersion, PushAtTop, InRange, NotStreamed, WithinDepth, WithinLength, WithinItems, WithinTotal, rank, Meets}
 use Rattle.resp_value.specs.Spellings.{IsSpelling, AreSpellings}
-use Rattle.resp_value.specs.Canonical.{canonical_tree, canonical_text, IsValue, Fits}
-use Rattle.resp_value.specs.Laws.{ATextHasOneValue, NoSpellingBeginsAnother, NoSpellingIsEmpty, APushBeginsWithItsByte, ATextHasOneCut, VersionThreeSpellsWhatTwoDoes, CanonicalTextSpellsWhatFits, CanonicalTextTellsValuesApart}
+use Rattle.resp_value.specs.Canonical.{canonical_tree, canonical_text, IsValue, HasNoDouble, Fits}
+use Rattle.resp_value.specs.Laws.{ATextHasOneValue, NoSpellingBeginsAnother, NoSpellingIsEmpty, APushBeginsWithItsByte, ATextHasOneCut, VersionThreeSpellsWhatTwoDoes, CanonicalTextSpellsWhatFits, CanonicalTextTellsValuesApart, DoublesAreAllThatTheSwitchAdds, with_doubles}
 use Rattle.resp_value.specs.declared.version.Version.TheVariants.{Three}
 use Rattle.resp_value.proofs.FirstBytes.{kind_of_byte, first_byte, begins, first_byte_is, leaf_is_no_push}
 use Rattle.resp_value.proofs.Unique.{same_tree}
 use Rattle.resp_value.proofs.CanonicalTrees.{value-canonical_tree, canonical_spells}
-use Rattle.resp_value.proofs.KeptRules.{canonical_no_double, canonical_in_range, canonical_counted, canonical_version, canonical_push}
+use Rattle.resp_value.proofs.KeptRules.{no_double_tree, canonical_in_range, canonical_counted, canonical_version, canonical_push}
 
 -- two spellings that begin one text are one
 pub no_spelling_begins_another : NoSpellingBeginsAnother
@@ -52,7 +52,7 @@ a_push_begins_with_its_byte r x text m = (
 
 -- no front of the rest is a spelling
 abbrev NoMore : Rules → List ℕ → Type 0
-NoMore r rest = (x : Datum) (next behind : List ℕ) → IsSpelling r x next → rest ≡ next ++ behind → ⊥
+NoMore r rest = (x : Datum) (next beyond : List ℕ) → IsSpelling r x next → rest ≡ next ++ beyond → ⊥
 
 -- spellings up to where no more begins are the same
 one_row : (r : Rules) (xs ys : List Datum) (p q a b : List ℕ) → AreSpellings r xs p → AreSpellings r ys q → p ++ a ≡ q ++ b → NoMore r a → NoMore r b →
@@ -113,7 +113,8 @@ version_three_spells_what_two_does r x text is_two s = record {
 -- the canonical tree of what fits meets each rule
 canonical_meets : (r : Rules) (x : Datum) → IsValue x → Fits r x → (rule : Rule) → Meets r rule (canonical_tree r.version x)
 canonical_meets r x p f Grammar = tt
-canonical_meets r x p f NoDouble = canonical_no_double r.version x p
+canonical_meets r x p f NoDouble = λ off. (no_double_tree (canonical_tree r.version x)).1
+    (subst HasNoDouble (sym (value-canonical_tree r.version x p)) (f.allows_doubles off))
 canonical_meets r x p f InVersion = (canonical_version r.version x).0 f.has_types
 canonical_meets r x p f PushAtTop = (canonical_push r.version x).0 f.push_at_top
 canonical_meets r x p f InRange = canonical_in_range r.version x p
@@ -126,6 +127,7 @@ canonical_meets r x p f WithinTotal = f.within_total
 -- a value whose canonical tree keeps the rules fits them
 canonical_fits : (r : Rules) (x : Datum) → IsValue x → ((rule : Rule) → Meets r rule (canonical_tree r.version x)) → Fits r x
 canonical_fits r x p meets = record {
+  allows_doubles = λ off. subst HasNoDouble (value-canonical_tree r.version x p) ((no_double_tree (canonical_tree r.version x)).0 (meets NoDouble off));
   has_types = (canonical_version r.version x).1 (meets InVersion);
   push_at_top = (canonical_push r.version x).1 (meets PushAtTop);
   within_depth = subst (λ y. depth y ≤ r.limits.depth) (value-canonical_tree r.version x p) (meets WithinDepth);
@@ -156,5 +158,38 @@ canonical_text_spells_what_fits r x p = (
     spells = canonical_spells r.version x p;
     keeps = λ rule h. canonical_meets r x p f rule;
     valued = value-canonical_tree r.version x p;
+  },
+)
+
+-- what each rule says of a tree without doubles, whether doubles are allowed or not
+meets_with_doubles : (r : Rules) (one other : Bool) (rule : Rule) (t : Tree) → HasNoDouble (value t) → Meets (with_doubles r one) rule t →
+    Meets (with_doubles r other) rule t
+meets_with_doubles r one other Grammar t none p = p
+meets_with_doubles r one other NoDouble t none p = λ off. (no_double_tree t).1 none
+meets_with_doubles r one other InVersion t none p = p
+meets_with_doubles r one other PushAtTop t none p = p
+meets_with_doubles r one other InRange t none p = p
+meets_with_doubles r one other NotStreamed t none p = p
+meets_with_doubles r one other WithinDepth t none p = p
+meets_with_doubles r one other WithinLength t none p = p
+meets_with_doubles r one other WithinItems t none p = p
+meets_with_doubles r one other WithinTotal t none p = p
+
+pub doubles_are_all_that_the_switch_adds : DoublesAreAllThatTheSwitchAdds
+doubles_are_all_that_the_switch_adds r x text = (
+  λ s. let none : HasNoDouble (value s.tree) = (no_double_tree s.tree).0 (s.keeps NoDouble (omega arith) refl) in (
+    record {
+      tree = s.tree;
+      spells = s.spells;
+      keeps = λ rule h. meets_with_doubles r false true rule s.tree none (s.keeps rule h);
+      valued = s.valued;
+    },
+    subst HasNoDouble s.valued none,
+  ),
+  λ w. let s = w.0 in record {
+    tree = s.tree;
+    spells = s.spells;
+    keeps = λ rule h. meets_with_doubles r true false rule s.tree (subst HasNoDouble (sym s.valued) w.1) (s.keeps rule h);
+    valued = s.valued;
   },
 )

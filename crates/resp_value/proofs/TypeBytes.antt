@@ -1,12 +1,12 @@
 -- Which first bytes are viable, and the cause of the others.
-use Rattle.std.proofs.Common.{◌≡◌, ℕ, ◌<◌, ◌≤◌, true, List, [], ◌∷◌, ◌++◌, length, codes, eqb, refl, sym, ap, subst, arith, not}
+use Rattle.std.proofs.Common.{◌≡◌, ℕ, ◌<◌, ◌≤◌, true, false, List, [], ◌∷◌, ◌++◌, length, codes, eqb, refl, sym, ap, subst, arith, not}
 use Rattle.std.specs.List.{AllByRecursion}
 use Rattle.std.proofs.lemmas.Int.{ints}
 use Rattle.resp_value.specs.Bounds.{AreBounds}
 use Rattle.resp_value.specs.Numbers.{Unsigned, IsDigits}
 use Rattle.resp_value.specs.Data.{Kind, Array, Set, Map, Attr, Push, members_of, items_of}
 use Rattle.resp_value.specs.Trees.{Tree, leaf, node, none, more, Leaf, line, numeral, null, truth, string, Simple, Error, Double, Int, Big, PlainNull, Bulk, BulkError, Verbatim, Counted, text}
-use Rattle.resp_value.specs.Rules.{Rules, Rule, Grammar, NoDouble, InVersion, rank, Meets, Every, HasVersion, IsAnyNode, IsNoDouble, IsLeafInTwo, IsNodeInTwo, IsCountedLeaf, IsCountedNode}
+use Rattle.resp_value.specs.Rules.{Rules, Rule, Grammar, NoDouble, InVersion, PushAtTop, InRange, NotStreamed, WithinDepth, WithinLength, WithinItems, WithinTotal, rank, Meets, Every, HasVersion, IsAnyNode, IsNoDouble, IsLeafInTwo, IsNodeInTwo, IsCountedLeaf, IsCountedNode}
 use Rattle.resp_value.specs.Spellings.{IsViable, IsCause}
 use Rattle.resp_value.specs.Laws.{type_bytes, later_type_bytes, type_bytes_of, TheEmptyTextIsViable, TypeBytesAreViable, LaterTypeBytesWantVersionThree, ACommaBeginsADouble, NoOtherByteBeginsATree}
 use Rattle.resp_value.specs.declared.version.Version.{Version}
@@ -188,21 +188,61 @@ first_rule : (r : Rules) (rule : Rule) (t : Tree) → rank rule < 1 → Meets r 
 first_rule r rule t h = at_first_rules (λ u. rank u < 1 → Meets r u t) (λ g. tt) (λ g. absurd (omega arith)) (λ g. absurd (omega arith)) rule (omega arith) h
 
 -- before the version come the grammar and doubles
-before_version : (r : Rules) (rule : Rule) (t : Tree) → Every IsNoDouble IsAnyNode t → rank rule < 2 → Meets r rule t
+before_version : (r : Rules) (rule : Rule) (t : Tree) → Meets r NoDouble t → rank rule < 2 → Meets r rule t
 before_version r rule t no_double h = at_first_rules (λ u. rank u < 2 → Meets r u t) (λ g. tt) (λ g. no_double) (λ g. absurd (omega arith)) rule (omega arith) h
 
--- a `,` begins a double
-pub a_comma_begins_a_double : ACommaBeginsADouble
-a_comma_begins_a_double r = record {
+-- where doubles aren't allowed, a `,` is refused for that
+comma_without_doubles : (r : Rules) → r.limits.doubles ≡ false → IsCause r (codes ",") NoDouble
+comma_without_doubles r off = record {
   viable_before = λ earlier h. record {
     rest = codes "\r\n";
     tree = leaf (line Double []);
     spells = record { is_tree = (tt, tt); spelled = refl };
     keeps = λ first g. first_rule r first (leaf (line Double [])) (omega arith);
   };
-  not_viable = λ v. let no_double : Every IsNoDouble IsAnyNode v.tree = v.keeps NoDouble (omega arith) in
+  not_viable = λ v. let no_double : Every IsNoDouble IsAnyNode v.tree = v.keeps NoDouble (omega arith) off in
       at_first_byte_of_no_double (λ b. b ≡ 44 → ⊥) (apart_by_test 44 (type_bytes_of Three) refl) v.tree no_double (byte_of r NoDouble 44 v);
 }
+
+-- where doubles are allowed, version 2 refuses a `,`
+comma_wants_three : (r : Rules) → r.limits.doubles ≡ true → r.version ≡ Two → IsCause r (codes ",") InVersion
+comma_wants_three r allowed is_two = record {
+  viable_before = λ earlier h. record {
+    rest = codes "\r\n";
+    tree = leaf (line Double []);
+    spells = record { is_tree = (tt, tt); spelled = refl };
+    keeps = λ first g. before_version r first (leaf (line Double [])) (λ off. absurd (cc)) (omega arith);
+  };
+  not_viable = λ v.
+      let in_version : HasVersion r.version v.tree = v.keeps InVersion (omega arith) in
+      let in_two : Every IsLeafInTwo IsNodeInTwo v.tree = subst (λ w. HasVersion w v.tree) is_two in_version in
+      at_first_byte_of_two (λ b. b ≡ 44 → ⊥) (apart_by_test 44 type_bytes refl) v.tree in_two (byte_of r InVersion 44 v);
+}
+
+-- an empty double meets each rule where doubles are allowed, in version 3
+empty_double_meets : (r : Rules) → r.limits.doubles ≡ true → r.version ≡ Three → AreBounds r.limits → (rule : Rule) → Meets r rule (leaf (line Double []))
+empty_double_meets r allowed is_three b Grammar = tt
+empty_double_meets r allowed is_three b NoDouble = λ off. absurd (cc)
+empty_double_meets r allowed is_three b InVersion = subst (λ w. HasVersion w (leaf (line Double []))) (sym is_three) tt
+empty_double_meets r allowed is_three b PushAtTop = tt
+empty_double_meets r allowed is_three b InRange = tt
+empty_double_meets r allowed is_three b NotStreamed = λ off. tt
+empty_double_meets r allowed is_three b WithinDepth = omega arith
+empty_double_meets r allowed is_three b WithinLength = omega arith
+empty_double_meets r allowed is_three b WithinItems = omega arith
+empty_double_meets r allowed is_three b WithinTotal = let h : 256 ≤ r.limits.total = b.total_in_range.0 in omega arith
+
+pub a_comma_begins_a_double : ACommaBeginsADouble
+a_comma_begins_a_double r = (
+  λ off. comma_without_doubles r off,
+  λ allowed is_two. comma_wants_three r allowed is_two,
+  λ allowed is_three b rule. record {
+    rest = codes "\r\n";
+    tree = leaf (line Double []);
+    spells = record { is_tree = (tt, tt); spelled = refl };
+    keeps = λ first g. empty_double_meets r allowed is_three b first;
+  },
+)
 
 -- a byte that begins a small tree and no tree of version 2
 wants_three : (r : Rules) (t : Tree) → r.version ≡ Two → IsSmall t → IsLater (first_byte t) → IsCause r (first_byte t ∷ []) InVersion
@@ -214,7 +254,7 @@ wants_three r t is_two s later = record {
         tree = t;
         spells = record { is_tree = s.is_tree; spelled = e };
         keeps =
-            λ first g. before_version r first t s.no_double (omega arith);
+            λ first g. before_version r first t (λ off. s.no_double) (omega arith);
       };
   not_viable = λ v.
       let in_version : HasVersion r.version v.tree = v.keeps InVersion (omega arith) in

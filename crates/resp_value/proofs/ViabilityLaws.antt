@@ -99,11 +99,11 @@ front_but_last (c ∷ a) (d ∷ before) after last byte e =
     (shorter.0, cc)
 
 -- a rest that is viable up to its last byte has its fault there
-pub fault_at_last : (r : Rules) (front behind : List ℕ) (last : ℕ) (rule : Rule) → IsViable r WithinTotal front → IsCause r (front ++ last ∷ []) rule →
-    FaultOf r ((front ++ last ∷ []) ++ behind) rule (length front)
-fault_at_last r front behind last rule v cause = record {
+pub fault_at_last : (r : Rules) (front beyond : List ℕ) (last : ℕ) (rule : Rule) → IsViable r WithinTotal front → IsCause r (front ++ last ∷ []) rule →
+    FaultOf r ((front ++ last ∷ []) ++ beyond) rule (length front)
+fault_at_last r front beyond last rule v cause = record {
   front = front ++ last ∷ [];
-  behind = behind;
+  beyond = beyond;
   whole = refl;
   place = sym (length-append front (last ∷ []));
   cause = cause;
@@ -117,7 +117,7 @@ no_earlier_fault : (r : Rules) (rest : List ℕ) (rule rule' : Rule) (at at' : �
 no_earlier_fault r rest rule rule' at at' p q h =
     let p1 : at + 1 ≡ length p.front = p.place in
     let q1 : at' + 1 ≡ length q.front = q.place in
-    let (c, cs, e) = shorter_front p.front q.front p.behind q.behind (sym p.whole ∙ q.whole) (omega arith) in
+    let (c, cs, e) = shorter_front p.front q.front p.beyond q.beyond (sym p.whole ∙ q.whole) (omega arith) in
     a_viable_text_has_no_cause r p.front rule (q.first p.front c cs e) p.cause
 
 pub a_rest_has_one_fault : ARestHasOneFault
@@ -127,7 +127,7 @@ a_rest_has_one_fault r rest rule rule' at at' p q = cases (cases_order at at')
     cases (inl e) =
         let p1 : at + 1 ≡ length p.front = p.place in
         let q1 : at' + 1 ≡ length q.front = q.place in
-        let same = length_split p.front q.front p.behind q.behind (omega arith) (sym p.whole ∙ q.whole) in
+        let same = length_split p.front q.front p.beyond q.beyond (omega arith) (sym p.whole ∙ q.whole) in
         (a_text_has_one_cause r q.front rule rule' (subst (λ front. IsCause r front rule) same.0 p.cause) q.cause, e)
     cases (inr (inl h)) = absurd (no_earlier_fault r rest rule rule' at at' p q h)
     cases (inr (inr h)) = absurd (no_earlier_fault r rest rule' rule at' at q p h)

@@ -12,6 +12,8 @@ pub record Bounds : Type 0 where
   pub items : ℕ
   -- whether streamed forms are allowed
   pub streamed : Bool
+  -- whether doubles are allowed
+  pub doubles : Bool
 
 abbrev pub IsDepth : ℕ → Type 0
 IsDepth n = (4 ≤ n) × (n ≤ 128)

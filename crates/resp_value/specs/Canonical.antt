@@ -1,6 +1,7 @@
 -- The one text that is written for a value in a version, and which values it is a spelling of.
 use Rattle.std.specs.Prelude.{◌≡◌, ℕ, ◌+◌, ◌/◌, ◌^◌, ◌<◌, ◌≤◌, Bool, true, false, ℤ, pos, negsuc, ◌≤ℤ◌, ◌<ℤ◌, List, length}
 use Rattle.std.proofs.Common.{neg_ℤ}
+use Rattle.resp_value.specs.Bounds.{Bounds}
 use Rattle.resp_value.specs.Bytes.{IsLine, IsText}
 use Rattle.resp_value.specs.Numbers.{Sign, Unsigned, Minus, decimal, IsKept}
 use Rattle.resp_value.specs.Data.{Kind, Array, Map, Attr, Push, Scalar, Datum, Data, scalar, aggregate, items_of, depth, longest, most_items}
@@ -66,7 +67,7 @@ IsScalarValue (d.Bool b) = Unit {0}
 IsScalarValue (d.Int i) = (neg_ℤ (pos (2 ^ 63)) ≤ℤ i) × (i <ℤ pos (2 ^ 63))
 IsScalarValue (d.Simple s) = IsLine s × IsText s
 IsScalarValue (d.Error s) = IsLine s × IsText s
-IsScalarValue (d.Double s) = ⊥
+IsScalarValue (d.Double s) = IsLine s × IsText s
 IsScalarValue (d.Bulk s) = IsText s
 IsScalarValue (d.BulkError s) = IsText s
 IsScalarValue (d.Verbatim format s) = (length format ≡ 3) × IsText format × IsText s
@@ -137,8 +138,28 @@ abbrev pub HasPushAtTop : Datum → Type 0
 HasPushAtTop (scalar s) = Unit {0}
 HasPushAtTop (aggregate k xs) = HaveNoPush xs
 
+-- the scalar is no double
+abbrev pub IsScalarButDouble : Scalar → Type 0
+IsScalarButDouble (d.Double s) = ⊥
+IsScalarButDouble _ = Unit {0}
+
+-- no double stands there
+abbrev mutual
+  pub HasNoDouble : Datum → Type 0
+  HasNoDouble (scalar s) = IsScalarButDouble s
+  HasNoDouble (aggregate k xs) = HaveNoDouble xs
+
+  pub HaveNoDouble : Data → Type 0
+  HaveNoDouble d.none = Unit {0}
+  HaveNoDouble (d.more x xs) = HasNoDouble x × HaveNoDouble xs
+
+-- the limits allow the doubles that stand there
+abbrev pub AllowsDoubles : Bounds → Datum → Type 0
+AllowsDoubles limits x = limits.doubles ≡ false → HasNoDouble x
+
 -- what makes a value's canonical text a spelling of it
 pub record Fits (rules : Rules) (x : Datum) : Type 0 where
+  pub allows_doubles : AllowsDoubles rules.limits x
   pub has_types : HasTypes rules.version x
   pub push_at_top : HasPushAtTop x
   pub within_depth : depth x ≤ rules.limits.depth

@@ -17,7 +17,7 @@ pub data Scalar : Type 0 where
   Int : ℤ → Scalar
   Simple : List ℕ → Scalar
   Error : List ℕ → Scalar
-  -- a double's line, which no value of the program holds
+  -- the text of a double, as it is spelled
   Double : List ℕ → Scalar
   Bulk : List ℕ → Scalar
   BulkError : List ℕ → Scalar
@@ -68,6 +68,7 @@ items_of _ n = n
 abbrev pub content_length : Scalar → ℕ
 content_length (Simple s) = length s
 content_length (Error s) = length s
+content_length (Double s) = length s
 content_length (Bulk s) = length s
 content_length (BulkError s) = length s
 content_length (Verbatim format s) = length s + 4

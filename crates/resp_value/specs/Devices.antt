@@ -18,7 +18,7 @@ HasRisen before after = (before < after) ⊎ (after ≡ last_count)
 pub record ReadsFront (left : List ℕ) (after : Option (List ℕ)) (into : List ℕ) (n : ℕ) : Type 0 where
   pub within : n ≤ length left
   pub bytes : take n into ≡ take n left
-  pub behind : after ≡ Some (drop n left)
+  pub beyond : after ≡ Some (drop n left)
   pub at_end : n ≡ 0 → 0 < length into → left ≡ []
 
 -- what a read does to the bytes that a device tells, and to the room that it is given

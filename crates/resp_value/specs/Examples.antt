@@ -31,6 +31,11 @@ abbrev pub IsSpelledStreamed : List ℕ → Datum → Type 0
 IsSpelledStreamed text x = (r : Rules) → AreBounds r.limits → r.version ≡ Three → r.limits.streamed ≡ true →
     IsSpelling r x text
 
+-- the text is a spelling of the value in version 3, under all limits that allow doubles
+abbrev pub IsSpelledWithDoubles : List ℕ → Datum → Type 0
+IsSpelledWithDoubles text x = (r : Rules) → AreBounds r.limits → r.version ≡ Three → r.limits.doubles ≡ true →
+    IsSpelling r x text
+
 -- the text is a spelling of no value, in no version and under no limits
 abbrev pub SpellsNothing : List ℕ → Type 0
 SpellsNothing text = (r : Rules) (x : Datum) → IsSpelling r x text → ⊥
@@ -42,6 +47,10 @@ SpellsNothingInTwo text = (r : Rules) (x : Datum) → r.version ≡ Two → IsSp
 -- the text is a spelling of no value where streamed forms are switched off
 abbrev pub SpellsNothingSwitchedOff : List ℕ → Type 0
 SpellsNothingSwitchedOff text = (r : Rules) (x : Datum) → r.limits.streamed ≡ false → IsSpelling r x text → ⊥
+
+-- the text is a spelling of no value where doubles aren't allowed
+abbrev pub SpellsNothingWithoutDoubles : List ℕ → Type 0
+SpellsNothingWithoutDoubles text = (r : Rules) (x : Datum) → r.limits.doubles ≡ false → IsSpelling r x text → ⊥
 
 -- under all limits, the text is refused for this rule first
 abbrev pub HasCause : List ℕ → Rule → Type 0

@@ -1,18 +1,24 @@
 -- What must be true of the definitions of the grammar, if they are the right ones.
-use Rattle.std.specs.Prelude.{◌≡◌, ◌↔◌, ℕ, ◌<◌, ◌≤◌, List, [], ◌∷◌, ◌++◌, true, codes}
+use Rattle.std.specs.Prelude.{◌≡◌, ◌↔◌, ℕ, ◌<◌, ◌≤◌, List, [], ◌∷◌, ◌++◌, length, Bool, true, false, IsTrue, codes}
 use Rattle.std.specs.List.{AllByRecursion}
 use Rattle.std.specs.Str.{byte}
 use Rattle.resp_value.specs.Bounds.{AreBounds}
 use Rattle.resp_value.specs.TreeValues.{value}
-use Rattle.resp_value.specs.Data.{Datum, IsPush}
-use Rattle.resp_value.specs.Trees.{Tree, Spells}
-use Rattle.resp_value.specs.Rules.{Rules, Rule, Grammar, NoDouble, InVersion, NotStreamed, WithinItems, WithinTotal, rank, Meets, Keeps}
+use Rattle.resp_value.specs.Data.{Datum, IsPush, depth, longest, most_items}
+use Rattle.resp_value.specs.Trees.{Tree, IsTree, Spells, text}
+use Rattle.resp_value.specs.Rules.{Rules, Rule, Grammar, NoDouble, InVersion, NotStreamed, WithinItems, WithinTotal, Every, IsCountedLeaf, IsCountedNode, rank, Meets, Keeps}
 use Rattle.resp_value.specs.LocalRules.{MeetsLocally}
 use Rattle.resp_value.specs.Bytes.{IsText}
 use Rattle.resp_value.specs.Spellings.{IsSpelling, IsViable, IsCause, Cut, FaultOf}
-use Rattle.resp_value.specs.Canonical.{canonical_text, IsValue, HasTypes, Fits}
+use Rattle.resp_value.specs.Canonical.{canonical_text, AllowsDoubles, IsValue, HasTypes, HasPushAtTop, HasNoDouble, Fits}
+use Rattle.resp_value.specs.Values.{datum_of}
+use Rattle.resp_value.specs.declared.value.Value.{Value}
 use Rattle.resp_value.specs.declared.version.Version.{Version}
 use Rattle.resp_value.specs.declared.version.Version.TheVariants.{Two, Three}
+
+-- what this test of two values finds equal are those that are so apart from memory
+abbrev pub EqualValuesHaveEqualData : (Value → Value → Bool) → Type 0
+EqualValuesHaveEqualData eq = (one other : Value) → IsTrue (eq one other) ↔ (datum_of one ≡ datum_of other)
 
 -- a text is a spelling of one value alone, whatever the version and the limits
 abbrev pub ATextHasOneValue : Type 0
@@ -56,6 +62,27 @@ CanonicalTextSpellsWhatFits = (r : Rules) (x : Datum) → IsValue x → IsSpelli
 abbrev pub CanonicalTextTellsValuesApart : Type 0
 CanonicalTextTellsValuesApart = (w : Version) (x y : Datum) → IsValue x → IsValue y → HasTypes w x → HasTypes w y →
     (x ≡ y) ↔ (canonical_text w x ≡ canonical_text w y)
+
+-- a value that was read is one of the program's, and it fits the rules but for the limit of total
+abbrev pub WhatWasReadFitsButForTotal : Type 0
+WhatWasReadFitsButForTotal = (r : Rules) (x : Datum) (text : List ℕ) → IsSpelling r x text → IsValue x ×
+    AllowsDoubles r.limits x × HasTypes r.version x × HasPushAtTop x × (depth x ≤ r.limits.depth) ×
+    (longest x ≤ r.limits.length) × (most_items x ≤ r.limits.items)
+
+-- what was read within some rules is spelled within them by its canonical text too, where that is within the total
+abbrev pub WhatWasReadCanBeWritten : Type 0
+WhatWasReadCanBeWritten = (r : Rules) (x : Datum) (text : List ℕ) → IsSpelling r x text →
+    length (canonical_text r.version x) ≤ r.limits.total → IsSpelling r x (canonical_text r.version x)
+
+-- the canonical text of a value is no longer than a spelling of it in which nothing is streamed
+abbrev pub ACountedSpellingIsNoShorter : Type 0
+ACountedSpellingIsNoShorter = (r : Rules) (t : Tree) → IsTree t → Keeps r WithinTotal t →
+    Every IsCountedLeaf IsCountedNode t → length (canonical_text r.version (value t)) ≤ length (text t)
+
+-- what was read within rules that allow no streamed form is spelled within them by its canonical text too
+abbrev pub WhatWasReadCountedCanBeWritten : Type 0
+WhatWasReadCountedCanBeWritten = (r : Rules) (x : Datum) (text : List ℕ) → r.limits.streamed ≡ false →
+    IsSpelling r x text → IsSpelling r x (canonical_text r.version x)
 
 -- every front of a spelling is viable under each rule
 abbrev pub FrontsOfSpellingsAreViable : Type 0
@@ -131,9 +158,21 @@ abbrev pub LaterTypeBytesWantVersionThree : Type 0
 LaterTypeBytesWantVersionThree = (r : Rules) → r.version ≡ Two →
     AllByRecursion (λ byte. IsCause r (byte ∷ []) InVersion) later_type_bytes
 
--- a `,` begins a double in both versions, and is refused for that
+-- A `,` begins a double. Where doubles aren't allowed it is refused for that, in both versions; where they are, in
+-- version 2 for the version, and version 3 goes on.
 abbrev pub ACommaBeginsADouble : Type 0
-ACommaBeginsADouble = (r : Rules) → IsCause r (codes ",") NoDouble
+ACommaBeginsADouble = (r : Rules) → (r.limits.doubles ≡ false → IsCause r (codes ",") NoDouble) ×
+    (r.limits.doubles ≡ true → r.version ≡ Two → IsCause r (codes ",") InVersion) ×
+    (r.limits.doubles ≡ true → r.version ≡ Three → AreBounds r.limits → (rule : Rule) → IsViable r rule (codes ","))
+
+-- the same rules with doubles allowed or not
+abbrev pub with_doubles : Rules → Bool → Rules
+with_doubles r allowed = record r { limits = record r.limits { doubles = allowed } }
+
+-- where doubles aren't allowed, the spellings are those of values without doubles where they are
+abbrev pub DoublesAreAllThatTheSwitchAdds : Type 0
+DoublesAreAllThatTheSwitchAdds = (r : Rules) (x : Datum) (text : List ℕ) → IsSpelling (with_doubles r false) x text ↔
+    (IsSpelling (with_doubles r true) x text × HasNoDouble x)
 
 -- no tree begins with another byte
 abbrev pub NoOtherByteBeginsATree : Type 0

@@ -30,7 +30,7 @@ IsNoPushBelow level _ = Unit {0}
 
 -- what each rule says of a leaf
 abbrev pub LeafMeets : Rules → Rule → LeafRule
-LeafMeets r NoDouble level l = IsNoDouble l
+LeafMeets r NoDouble level l = r.limits.doubles ≡ false → IsNoDouble l
 LeafMeets r InVersion level l = r.version ≡ Two → IsLeafInTwo l
 LeafMeets r InRange level l = IsInRange l
 LeafMeets r NotStreamed level l = r.limits.streamed ≡ false → IsCountedLeaf l

@@ -116,7 +116,7 @@ IsCountedNode k Streamed = ⊥
 -- what one rule says of a tree
 abbrev pub Meets : Rules → Rule → Tree → Type 0
 Meets r Grammar t = Unit {0}
-Meets r NoDouble t = Every IsNoDouble IsAnyNode t
+Meets r NoDouble t = r.limits.doubles ≡ false → Every IsNoDouble IsAnyNode t
 Meets r InVersion t = HasVersion r.version t
 Meets r PushAtTop t = HasPushAtRoot t
 Meets r InRange t = Every IsInRange IsAnyNode t

@@ -35,13 +35,13 @@ pub record Cut (rules : Rules) (text : List ℕ) (xs : List Datum) (rest : List 
   pub front : List ℕ
   pub spelled : AreSpellings rules xs front
   pub whole : text ≡ front ++ rest
-  pub no_more : (x : Datum) (next behind : List ℕ) → IsSpelling rules x next → rest ≡ next ++ behind → ⊥
+  pub no_more : (x : Datum) (next beyond : List ℕ) → IsSpelling rules x next → rest ≡ next ++ beyond → ⊥
 
 -- where a rest stops being viable, and why: at the last byte of its shortest front that isn't
 pub record FaultOf (rules : Rules) (rest : List ℕ) (rule : Rule) (at : ℕ) : Type 0 where
   pub front : List ℕ
-  pub behind : List ℕ
-  pub whole : rest ≡ front ++ behind
+  pub beyond : List ℕ
+  pub whole : rest ≡ front ++ beyond
   pub place : at + 1 ≡ length front
   pub cause : IsCause rules front rule
   pub first : (before : List ℕ) (byte : ℕ) (after : List ℕ) → front ≡ before ++ byte ∷ after →

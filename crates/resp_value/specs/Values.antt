@@ -9,7 +9,7 @@ use Rattle.resp_value.specs.declared.digits.Digits.{Digits}
 use Rattle.resp_value.specs.declared.value.Value.{Value, Row_of-Value, end_of-Value, more_of-Value, Row_of-PairList-pairs-2, end_of-PairList-pairs-2, more_of-PairList-pairs-2}
 use Rattle.resp_value.specs.declared.value.Members.{Members, out-Members}
 use Rattle.resp_value.specs.declared.value.PairList.{PairList, out-PairList}
-use Rattle.resp_value.specs.declared.value.Value.TheVariants.{Null, Bool, Int, Simple, Error, Bulk, BulkError, Verbatim, Big, Array', Set', Map', Attr', Push'}
+use Rattle.resp_value.specs.declared.value.Value.TheVariants.{Null, Bool, Int, Simple, Error, Double, Bulk, BulkError, Verbatim, Big, Array', Set', Map', Attr', Push'}
 
 -- the bytes of a line
 abbrev pub line_text : Line → List ℕ
@@ -48,6 +48,7 @@ abbrev mutual
   datum_of (Int i) = scalar (d.Int i)
   datum_of (Simple line) = scalar (d.Simple (line_text line))
   datum_of (Error line) = scalar (d.Error (line_text line))
+  datum_of (Double line) = scalar (d.Double (line_text line))
   datum_of (Bulk content) = scalar (d.Bulk (content_bytes content))
   datum_of (BulkError content) = scalar (d.BulkError (content_bytes content))
   datum_of (Verbatim format content) = scalar (d.Verbatim format (content_bytes content))

@@ -1,7 +1,7 @@
 //! Byte devices: where bytes are read from and written to.
 
-ghost use Rattle.std.specs.Prelude.{◌≡◌, ℕ, ◌+◌, ◌<◌, ◌≤◌, List, length, Option, IfOk, IfErr, OnOk, take};
-ghost use Rattle.resp_value.specs.Devices.{count_after, HasRisen, Reads, Writes, Appends, read_fails, write_fails, failures_after};
+ghost use Rattle.std.specs.Prelude.{◌≡◌, ℕ, ◌+◌, ◌<◌, ◌≤◌, List, length, Option, IfOk, IfErr, OnErr, OnOk, take};
+ghost use Rattle.resp_value.specs.Devices.{count_after, Reads, Writes, Appends, read_fails, write_fails, failures_after};
 
 use thiserror::Error;
 
@@ -77,7 +77,8 @@ pub fn write_all<W: Sink>(sink: &mut W, bytes: &[u8]) -> Result<(), WriteFault>
     ensures within { IfErr result (λ fault. fault.written < length bytes.now) }
     ensures part { IfErr result (λ fault. Appends (W.written sink.old) (W.written sink.new)
         (take fault.written bytes.now)) }
-    ensures failed { IfErr result (λ fault. HasRisen (W.failures sink.old) (W.failures sink.new)) }
+    ensures failed_once { OnErr result (W.failures sink.new ≡
+        count_after 1 (W.failures sink.old)) }
 {
     let mut written = 0;
     while written < bytes.len() {

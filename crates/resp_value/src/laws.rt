@@ -2,11 +2,18 @@
 
 ghost use Rattle.std.specs.Prelude.{[], ◌∷◌, ◌≡◌, codes, true, false, pos, negsuc};
 ghost use Rattle.resp_value.specs.Canonical.{canonical_text};
-ghost use Rattle.resp_value.specs.Data.{depth, longest, most_items, scalar, Array, Set, Map, Attr, Null, Bool, Error, Bulk, BulkError, Verbatim, Big};
-ghost use Rattle.resp_value.specs.Examples.{integer, simple, aggregate_of, IsSpelledInBoth, IsSpelledInThree, IsSpelledStreamed, SpellsNothing, SpellsNothingInTwo, SpellsNothingSwitchedOff, HasCause, HasCauseInThree, IsCutWithFault};
+ghost use Rattle.resp_value.specs.Data.{depth, longest, most_items, scalar, Array, Set, Map, Attr, Null, Bool, Error, Double, Bulk, BulkError, Verbatim, Big};
+ghost use Rattle.resp_value.specs.Examples.{integer, simple, aggregate_of, IsSpelledInBoth, IsSpelledInThree, IsSpelledStreamed, IsSpelledWithDoubles, SpellsNothing, SpellsNothingInTwo, SpellsNothingSwitchedOff, SpellsNothingWithoutDoubles, HasCause, HasCauseInThree, IsCutWithFault};
 ghost use Rattle.resp_value.specs.Rules.{Grammar, PushAtTop};
 ghost use Rattle.resp_value.specs.declared.version.Version.TheVariants.{Two, Three};
-ghost use Rattle.resp_value.specs.Laws.{ATextHasOneValue, NoSpellingBeginsAnother, NoSpellingIsEmpty, APushBeginsWithItsByte, ATextHasOneCut, ARestHasOneFault, VersionThreeSpellsWhatTwoDoes, CanonicalTextSpellsWhatFits, CanonicalTextTellsValuesApart, FrontsOfSpellingsAreViable, FrontsOfViableTextsAreViable, LaterRulesLeaveLess, ATextHasOneCause, AViableTextHasNoCause, RulesHoldAtEachNode, TextsOfTreesAreBytes, DefaultItemsRefuseNothing, TheEmptyTextIsViable, TypeBytesAreViable, LaterTypeBytesWantVersionThree, ACommaBeginsADouble, NoOtherByteBeginsATree};
+ghost use Rattle.resp_value.specs.Laws.{EqualValuesHaveEqualData, ATextHasOneValue, NoSpellingBeginsAnother, NoSpellingIsEmpty, APushBeginsWithItsByte, ATextHasOneCut, ARestHasOneFault, VersionThreeSpellsWhatTwoDoes, CanonicalTextSpellsWhatFits, CanonicalTextTellsValuesApart, WhatWasReadFitsButForTotal, WhatWasReadCanBeWritten, WhatWasReadCountedCanBeWritten, ACountedSpellingIsNoShorter, FrontsOfSpellingsAreViable, FrontsOfViableTextsAreViable, LaterRulesLeaveLess, ATextHasOneCause, AViableTextHasNoCause, RulesHoldAtEachNode, TextsOfTreesAreBytes, DefaultItemsRefuseNothing, TheEmptyTextIsViable, TypeBytesAreViable, LaterTypeBytesWantVersionThree, ACommaBeginsADouble, DoublesAreAllThatTheSwitchAdds, NoOtherByteBeginsATree};
+
+use crate::value::Value;
+
+/// Two values are equal by `==` exactly where they are so apart from memory.
+pub fn equal_values_have_equal_data()
+    ensures { EqualValuesHaveEqualData ⟦<Value as PartialEq>⟧.eq }
+{}
 
 /// A text is a spelling of one value alone, whatever the version and the limits.
 pub fn a_text_has_one_value()
@@ -52,6 +59,18 @@ pub fn canonical_text_spells_what_fits()
 /// Two values that a version has are equal exactly where their canonical texts are.
 pub fn canonical_text_tells_values_apart()
     ensures { CanonicalTextTellsValuesApart }
+{}
+
+/// What was read can be written: a value that was read fits the rules by which it was, but for the
+/// limit of total (`fits_but_for_total`), and where its canonical text is within that too, this is
+/// a spelling of it (`written`). So it is where nothing of what was read was streamed, since it is
+/// no longer than that (`no_longer`), and always where the limits allow no streamed form
+/// (`written_counted`).
+pub fn what_was_read_can_be_written()
+    ensures fits_but_for_total { WhatWasReadFitsButForTotal }
+    ensures written { WhatWasReadCanBeWritten }
+    ensures no_longer { ACountedSpellingIsNoShorter }
+    ensures written_counted { WhatWasReadCountedCanBeWritten }
 {}
 
 /// Every front of a spelling is viable under each rule.
@@ -110,9 +129,16 @@ pub fn later_type_bytes_want_version_three()
     ensures { LaterTypeBytesWantVersionThree }
 {}
 
-/// A `,` begins a double in both versions, and is refused for that.
+/// A `,` begins a double. Where doubles aren't allowed it is refused for that, in both versions;
+/// where they are, version 2 refuses it for the version, and version 3 goes on.
 pub fn a_comma_begins_a_double()
     ensures { ACommaBeginsADouble }
+{}
+
+/// Where doubles aren't allowed, the spellings are those of values without doubles where they are:
+/// the switch changes nothing else.
+pub fn doubles_are_all_that_the_switch_adds()
+    ensures { DoublesAreAllThatTheSwitchAdds }
 {}
 
 /// No tree begins with a byte that is neither `,` nor a type byte of version 3.
@@ -155,6 +181,10 @@ pub fn texts_and_their_values()
     ensures streamed_map { IsSpelledStreamed (codes "%?\r\n+a\r\n:1\r\n.\r\n")
         (aggregate_of Map (simple (codes "a") ∷ integer (pos 1) ∷ [])) }
 
+    // A double is any line, also an empty one.
+    ensures double { IsSpelledWithDoubles (codes ",3.14\r\n") (scalar (Double (codes "3.14"))) }
+    ensures empty_double { IsSpelledWithDoubles (codes ",\r\n") (scalar (Double [])) }
+
     // An attribute and the value that it annotates are one member.
     ensures attribute { IsSpelledInThree (codes "*1\r\n|1\r\n+a\r\n:1\r\n+b\r\n")
         (aggregate_of Array
@@ -166,6 +196,7 @@ pub fn values_and_their_canonical_texts()
     ensures null_in_two { canonical_text Two (scalar Null) ≡ codes "$-1\r\n" }
     ensures null_in_three { canonical_text Three (scalar Null) ≡ codes "_\r\n" }
     ensures negative { canonical_text Two (integer (negsuc 41)) ≡ codes ":-42\r\n" }
+    ensures double { canonical_text Three (scalar (Double (codes "1e+20"))) ≡ codes ",1e+20\r\n" }
     ensures big_zero { canonical_text Three (scalar (Big false (codes "0"))) ≡ codes "(0\r\n" }
     ensures map { canonical_text Three
         (aggregate_of Map (scalar (Bulk (codes "key")) ∷ scalar (Bool true) ∷ []))
@@ -176,8 +207,8 @@ pub fn values_and_their_canonical_texts()
 pub fn texts_without_a_value()
     // An attribute wants the value that it annotates.
     ensures attribute_alone { SpellsNothing (codes "|0\r\n") }
-    // No value is a double.
-    ensures double { SpellsNothing (codes ",1.5\r\n") }
+    // Limits that don't allow doubles let none through.
+    ensures double { SpellsNothingWithoutDoubles (codes ",1.5\r\n") }
     // An integer has 64 bits.
     ensures more_than_64_bits { SpellsNothing (codes ":9223372036854775808\r\n") }
     ensures below_64_bits { SpellsNothing (codes ":-9223372036854775809\r\n") }
@@ -193,6 +224,8 @@ pub fn values_and_their_measures()
     // The content of an integer counts nothing, and a big number's digits count without the sign.
     ensures integer { longest (integer (pos 123456)) ≡ 0 }
     ensures big { longest (scalar (Big true (codes "12"))) ≡ 2 }
+    // A double's text counts as another line's.
+    ensures double { longest (scalar (Double (codes "-inf"))) ≡ 4 }
     // A verbatim string counts its format and the `:`.
     ensures verbatim { longest (scalar (Verbatim (codes "txt") (codes "hi"))) ≡ 6 }
     ensures nested { depth (aggregate_of Array (aggregate_of Set [] ∷ simple (codes "a") ∷ [])) ≡

@@ -1,6 +1,6 @@
 //! The limits of what is read and written.
 
-ghost use Rattle.std.specs.Prelude.{◌≡◌, ◌↔◌, true, IsOk, IfOk};
+ghost use Rattle.std.specs.Prelude.{◌≡◌, ◌↔◌, true, false, IsOk, IfOk};
 ghost use Rattle.resp_value.specs.Bounds.{IsDepth, IsLength, IsTotal, IsItems, AreBounds};
 
 use std::marker::Model;
@@ -9,8 +9,8 @@ use thiserror::Error;
 /// The default of items: no value within the greatest total has more.
 const ITEMS: u64 = 1_099_511_627_776;
 
-/// How deep, long and large a value may be, and whether it may be streamed. Each number is within
-/// its range.
+/// How deep, long and large a value may be, and whether it may be streamed or hold doubles. Each
+/// number is within its range.
 ///
 /// | Limit | From | To | Default | What it counts |
 /// |---|---|---|---|---|
@@ -31,6 +31,7 @@ pub struct Limits {
     total: u64,
     items: u64,
     streamed: bool,
+    doubles: bool,
 }
 
 impl Model for Limits {
@@ -44,6 +45,7 @@ impl Model for Limits {
       total = limits.total;
       items = limits.items;
       streamed = limits.streamed;
+      doubles = limits.doubles;
     } };
 
     ghost invariant = { λ limits. AreBounds (record {
@@ -52,6 +54,7 @@ impl Model for Limits {
       total = limits.total;
       items = limits.items;
       streamed = limits.streamed;
+      doubles = limits.doubles;
     }) };
 
     ghost inverse = { λ bounds. record {
@@ -60,6 +63,7 @@ impl Model for Limits {
       total = bounds.total;
       items = bounds.items;
       streamed = bounds.streamed;
+      doubles = bounds.doubles;
     } };
 }
 
@@ -70,8 +74,8 @@ pub struct BadLimits;
 
 impl Limits {
     /// Limits of depth (4 to 128), of the bytes of one content (64 to 1,073,741,824) and of the
-    /// bytes of one value (256 to 1,099,511,627,776), with the default of items and with streamed
-    /// forms.
+    /// bytes of one value (256 to 1,099,511,627,776), with the default of items, with streamed
+    /// forms and without doubles.
     ///
     /// Refuses exactly where one of the three is outside its range.
     pub fn new(depth: u64, length: u64, total: u64) -> Result<Limits, BadLimits>
@@ -82,6 +86,7 @@ impl Limits {
           total = total;
           items = 1_099_511_627_776;
           streamed = true;
+          doubles = false;
         }) }
     {
         let is_depth = 4 <= depth && depth <= 128;
@@ -94,6 +99,7 @@ impl Limits {
                 total,
                 items: ITEMS,
                 streamed: true,
+                doubles: false,
             })
         } else {
             Err(BadLimits)
@@ -101,7 +107,7 @@ impl Limits {
     }
 
     /// The defaults: depth 32, contents of 536,870,912 bytes, values of 1,073,741,824 bytes,
-    /// 1,099,511,627,776 items, and streamed forms.
+    /// 1,099,511,627,776 items, with streamed forms and without doubles.
     pub fn standard() -> Limits
         ensures { result ≡ record {
           depth = 32;
@@ -109,6 +115,7 @@ impl Limits {
           total = 1_073_741_824;
           items = 1_099_511_627_776;
           streamed = true;
+          doubles = false;
         } }
     {
         Limits {
@@ -117,6 +124,7 @@ impl Limits {
             total: 1_073_741_824,
             items: ITEMS,
             streamed: true,
+            doubles: false,
         }
     }
 
@@ -141,6 +149,17 @@ impl Limits {
     {
         Limits {
             streamed: allowed,
+            ..self
+        }
+    }
+
+    /// The same limits with doubles allowed or not. Version 2 has none, whatever the limits
+    /// (Redis serialization protocol specification, "Doubles").
+    pub fn with_doubles(self, allowed: bool) -> Limits
+        ensures { result ≡ record self { doubles = allowed } }
+    {
+        Limits {
+            doubles: allowed,
             ..self
         }
     }
@@ -192,5 +211,12 @@ impl Limits {
         ensures { result ≡ self.now.streamed }
     {
         self.streamed
+    }
+
+    /// Whether doubles are allowed.
+    pub fn doubles(&self) -> bool
+        ensures { result ≡ self.now.doubles }
+    {
+        self.doubles
     }
 }

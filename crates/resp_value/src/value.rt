@@ -25,7 +25,7 @@ pub struct PairList {
     pairs: Vec<(Value, Value)>,
 }
 
-/// A value of the protocol. It says nothing of how it was spelled, and no value is a double.
+/// A value of the protocol. It says nothing of how it was spelled, but for a double's text.
 ///
 /// Two values are equal where they have the same shape and content, in the same order. After each
 /// shape stands its section of the Redis serialization protocol specification; version 2 has nulls,
@@ -43,6 +43,9 @@ pub enum Value {
     Simple(Line),
     /// A line that says what failed ("Simple errors").
     Error(Line),
+    /// A double, as its text: it is not read as a number, and two doubles are equal where their
+    /// texts are ("Doubles"). Only limits that allow doubles let one be read or written.
+    Double(Line),
     /// Any bytes ("Bulk strings").
     Bulk(Content),
     /// Any bytes that say what failed ("Bulk errors").
@@ -124,6 +127,7 @@ impl Value {
             Value::Int(number) => Ok(Value::Int(*number)),
             Value::Simple(line) => Ok(Value::Simple(line.try_clone(alloc)?)),
             Value::Error(line) => Ok(Value::Error(line.try_clone(alloc)?)),
+            Value::Double(text) => Ok(Value::Double(text.try_clone(alloc)?)),
             Value::Bulk(content) => Ok(Value::Bulk(content.try_clone(alloc)?)),
             Value::BulkError(content) => Ok(Value::BulkError(content.try_clone(alloc)?)),
             Value::Verbatim(format, text) => Ok(Value::Verbatim(*format, text.try_clone(alloc)?)),

@@ -17,25 +17,25 @@ use Rattle.resp_wire.proofs.Seated.{at_open, seated_twice}
 use Rattle.resp_wire.proofs.ServedTexts.{seat_given, seat_with}
 
 -- the session after an answer
-abbrev pub seat_behind : (old new : HubState) (id : ℕ) (s : Seat) (text : List ℕ) (n : ℕ) → HasAnswered old new id s text n → Seat
-seat_behind old new id s text n a = seat_with a.version (s.out ++ a.reply) a.closing a.decoder
+abbrev pub seat_after : (old new : HubState) (id : ℕ) (s : Seat) (text : List ℕ) (n : ℕ) → HasAnswered old new id s text n → Seat
+seat_after old new id s text n a = seat_with a.version (s.out ++ a.reply) a.closing a.decoder
 
 -- what is answered after an answer is answered to the whole
 pub answered_on : AnswersGoOn → AnswersAreAdded → (old mid new : HubState) (id : ℕ) (s : Seat) (text piece : List ℕ) (n m : ℕ) →
-    (a : HasAnswered old mid id s text n) → a.closing ≡ false → HasAnswered mid new id (seat_behind old mid id s text n a) (a.rest ++ piece) m →
+    (a : HasAnswered old mid id s text n) → a.closing ≡ false → HasAnswered mid new id (seat_after old mid id s text n a) (a.rest ++ piece) m →
     HasAnswered old new id s (text ++ piece) (n + m)
 answered_on go_on added old mid new id s text piece n m a is_open b =
     let last = state_with b.store b.version b.reply b.closing m in
     let whole = state_with b.store b.version (a.reply ++ b.reply) b.closing (n + m) in
     let here : Answers old.limits id (state_with a.store a.version [] false 0) (a.rest ++ piece) last b.rest =
     subst (λ (h : HubState). Answers h.limits id (state_with h.store a.version [] false 0) (a.rest ++ piece) last b.rest) a.state b.answers in
-    let behind = added old.limits id (state_with a.store a.version [] false 0) last (a.rest ++ piece) b.rest a.reply n here in
-    let behind_text : Answers old.limits id (state_with a.store a.version a.reply false (n + 0)) (a.rest ++ piece) whole b.rest =
-    subst (λ z. Answers old.limits id (state_with a.store a.version z false (n + 0)) (a.rest ++ piece) whole b.rest) (append-nil a.reply) behind in
+    let beyond = added old.limits id (state_with a.store a.version [] false 0) last (a.rest ++ piece) b.rest a.reply n here in
+    let after_text : Answers old.limits id (state_with a.store a.version a.reply false (n + 0)) (a.rest ++ piece) whole b.rest =
+    subst (λ z. Answers old.limits id (state_with a.store a.version z false (n + 0)) (a.rest ++ piece) whole b.rest) (append-nil a.reply) beyond in
     let none : n + 0 ≡ n = omega arith in
     let before : Answers old.limits id (state_with old.store s.version [] false 0) text (state_with a.store a.version a.reply false n) a.rest =
     subst (λ c. Answers old.limits id (state_with old.store s.version [] false 0) text (state_with a.store a.version a.reply c n) a.rest) is_open a.answers in
-    let now = seat_behind old mid id s text n a in
+    let now = seat_after old mid id s text n a in
     let late = seat_with b.version ((s.out ++ a.reply) ++ b.reply) b.closing b.decoder in
     record {
       reply = a.reply ++ b.reply;
@@ -46,7 +46,7 @@ answered_on go_on added old mid new id s text piece n m a is_open b =
       rest = b.rest;
       answers = go_on old.limits id (state_with old.store s.version [] false 0) (state_with a.store a.version a.reply false n) whole text piece a.rest b.rest
           before refl
-          (subst (λ k. Answers old.limits id (state_with a.store a.version a.reply false k) (a.rest ++ piece) whole b.rest) none behind_text);
+          (subst (λ k. Answers old.limits id (state_with a.store a.version a.reply false k) (a.rest ++ piece) whole b.rest) none after_text);
       state = b.state ∙ ap (λ g. stocked (seated g id late) b.store) a.state ∙ ap (λ g. stocked g b.store) (seated_twice old id now late) ∙
           ap (λ z. stocked (seated old id (seat_with b.version z b.closing b.decoder)) b.store) (append_assoc s.out a.reply b.reply);
       taking = b.taking;
@@ -56,7 +56,7 @@ answered_on go_on added old mid new id s text piece n m a is_open b =
 closing_is : (old new : HubState) (id : ℕ) (s : Seat) (text : List ℕ) (n : ℕ) → seat_at old id ≡ Some s → (a : HasAnswered old new id s text n) →
     (closing : Bool) → IsClosing new id closing → a.closing ≡ closing
 closing_is old new id s text n here a closing is =
-    let seat = seat_behind old new id s text n a in
+    let seat = seat_after old new id s text n a in
     let there : seat_at new id ≡ Some seat = seat_given old new id s seat a.store here a.state in
     let same : Some a.closing ≡ Some closing = sym (ap (option_map (λ (t : Seat). t.closing)) there) ∙ is in
     cc
@@ -101,11 +101,11 @@ text_on : (front out : List ℕ) (done n : ℕ) → (front ++ take done out) ++ 
 text_on front out done n = append_assoc front (take done out) (take n (drop done out)) ∙ ap (λ z. front ++ z) (sym (take-add done n out))
 
 -- what holds of the session after what was brought
-behind_brought : (old mid : HubState) (id : ℕ) (s : Seat) (text order order' : List ℕ) (number : ℕ) (P : Seat → List ℕ → Type 0) → seat_at old id ≡ Some s →
-    (h : HasBrought old mid id s text order order' number) → WhereOpen mid id P → P (seat_behind old mid id s text h.commands h.answered) h.answered.rest
-behind_brought old mid id s text order order' number P here h w =
+after_brought : (old mid : HubState) (id : ℕ) (s : Seat) (text order order' : List ℕ) (number : ℕ) (P : Seat → List ℕ → Type 0) → seat_at old id ≡ Some s →
+    (h : HasBrought old mid id s text order order' number) → WhereOpen mid id P → P (seat_after old mid id s text h.commands h.answered) h.answered.rest
+after_brought old mid id s text order order' number P here h w =
     let a = h.answered in
-    let t = seat_behind old mid id s text h.commands a in
+    let t = seat_after old mid id s text h.commands a in
     at_open mid id P t a.rest w (seat_given old mid id s t a.store here a.state) h.is_open (a.taking h.is_open)
 
 pub brings_more : AnswersGoOn → AnswersAreAdded → (old mid new : HubState) (id : ℕ) (s : Seat) (front out order order' order'' : List ℕ)
@@ -116,7 +116,7 @@ unfolding answered_on
 brings_more go_on added old mid new id s front out order order' order'' number done n here h more =
     let first = front ++ take done out in
     let piece = take n (drop done out) in
-    let b = behind_brought old mid id s first order order' number (λ t f. HasBrought mid new id t (f ++ piece) order' order'' number) here h more in
+    let b = after_brought old mid id s first order order' number (λ t f. HasBrought mid new id t (f ++ piece) order' order'' number) here h more in
     subst (λ z. HasBrought old new id s z order order'' number) (text_on front out done n) (record {
       commands = h.commands + b.commands;
       answered = answered_on go_on added old mid new id s first piece h.commands b.commands h.answered h.is_open b.answered;
@@ -128,7 +128,7 @@ brings_more go_on added old mid new id s front out order order' order'' number d
 -- the session was closed by what came after
 closes_more : AnswersGoOn → AnswersAreAdded → (old mid : HubState) (id : ℕ) (s : Seat) (front out order order' : List ℕ) (number done : ℕ) →
     (h : HasBrought old mid id s (front ++ take done out) order order' number) →
-    HasClosed mid id (seat_behind old mid id s (front ++ take done out) h.commands h.answered) h.answered.rest (drop done out) → HasClosed old id s front out
+    HasClosed mid id (seat_after old mid id s (front ++ take done out) h.commands h.answered) h.answered.rest (drop done out) → HasClosed old id s front out
 unfolding answered_on
 closes_more go_on added old mid id s front out order order' number done h c =
     let first = front ++ take done out in
@@ -142,7 +142,7 @@ closes_more go_on added old mid id s front out order order' number done h c =
 
 stops_by : AnswersGoOn → AnswersAreAdded → (old mid : HubState) (id : ℕ) (s : Seat) (front out order order' : List ℕ)
     (number done failures failures' failures'' : ℕ) (cause : Cause) → (h : HasBrought old mid id s (front ++ take done out) order order' number) →
-    failures' ≡ failures → StopsCarrying mid id (seat_behind old mid id s (front ++ take done out) h.commands h.answered) h.answered.rest (drop done out)
+    failures' ≡ failures → StopsCarrying mid id (seat_after old mid id s (front ++ take done out) h.commands h.answered) h.answered.rest (drop done out)
     failures' failures'' cause → StopsCarrying old id s front out failures failures'' cause
 stops_by go_on added old mid id s front out order order' number done failures failures' failures'' cause h none (inl e) = inl e
 stops_by go_on added old mid id s front out order order' number done failures failures' failures'' cause h none (inr (inl risen)) =
@@ -157,5 +157,5 @@ pub stops_more : AnswersGoOn → AnswersAreAdded → (old mid : HubState) (id : 
     StopsCarrying old id s front out failures failures'' cause
 stops_more go_on added old mid id s front out order order' number done failures failures' failures'' cause here h none more =
     stops_by go_on added old mid id s front out order order' number done failures failures' failures'' cause h none
-    (behind_brought old mid id s (front ++ take done out) order order' number (λ t f. StopsCarrying mid id t f (drop done out) failures' failures'' cause)
+    (after_brought old mid id s (front ++ take done out) order order' number (λ t f. StopsCarrying mid id t f (drop done out) failures' failures'' cause)
     here h more)

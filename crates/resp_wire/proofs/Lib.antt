@@ -1,5 +1,6 @@
 pub mod Listening
 pub mod Turning
+pub mod Pieces
 pub mod Queueing
 pub mod Exchanges
 pub mod Seated

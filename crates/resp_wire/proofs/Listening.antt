@@ -1,5 +1,6 @@
 -- What has been heard of a piece, a value at a time.
 use Rattle.std.specs.Prelude.{not}
+use Rattle.std.specs.List.{concat}
 use Rattle.std.proofs.Common.{◌≡◌, inl, inr, ℕ, ◌+◌, ◌<◌, ◌≤◌, Bool, true, false, List, [], ◌∷◌, ◌++◌, length, take, drop, Option, refl, sym, ap, subst, ◌∙◌, arith, append_assoc}
 use Rattle.std.proofs.lemmas.List.{append-nil, length-append, length-take, take-append-drop, take_all}
 use Rattle.std.proofs.lemmas.List.Elements.{filter-append}
@@ -18,11 +19,12 @@ use Rattle.resp_client.specs.Hearing.{HasFault, HasTaken, Hears, Refuses, Unless
 use Rattle.resp_client.specs.declared.client.Client.{Client}
 use Rattle.resp_client.specs.declared.heard.What.{What}
 use Rattle.resp_client.specs.declared.heard.What.TheVariants.{Reply, Push, Shown, More}
-use Rattle.resp_wire.specs.Hearing.{Adds, AddsHeard, HearsAll, HearsFault, HearsSome, ReadsFrom, WaitsForLast, pushes_in, replies_in}
-use Rattle.resp_wire.specs.Stops.{FailsReading, KeepsFault, StopsClient, StopsHearing, StopsListening, error_by, error_of}
+use Rattle.resp_wire.specs.Hearing.{Adds, AddsHeard, HearsAll, HearsFault, HearsSome, ReadsFrom, StillWaits, WaitsBefore, pushes_in, replies_in}
+use Rattle.resp_wire.specs.Stops.{FailsReading, KeepsFault, StopsClient, StopsHearing, StopsListening, error_by, error_of, is_of_last_read}
 use Rattle.resp_wire.specs.declared.error.AskError.{AskError}
 use Rattle.resp_wire.specs.declared.error.AskError.TheVariants as error
 use Rattle.resp_wire.specs.declared.asked.Asked.{Asked}
+use Rattle.resp_wire.proofs.Pieces.{before_more}
 
 -- What has been heard after this many turns: the bytes before the rest, of which each turn used one at least.
 pub record HearsUpTo (s : ClientState) (c : Client) (before after : Asked) (front piece rest : List ℕ) (turns : ℕ) : Type 0 where
@@ -48,32 +50,21 @@ hears_no_bytes c before front h = record {
   same_out = refl;
 }
 
--- no byte has come, so that none was read ahead
-pub waits_for_none : (c : Client) (before : Asked) (front : List ℕ) → HasTaken c front → WaitsForLast (state_of c) before front []
-waits_for_none c before front h = record {
-  earlier = [];
-  last = [];
-  parts = refl;
-  short = omega arith;
-  between = c;
-  heard_earlier = before;
-  hears = hears_no_bytes c before front h;
-  waited = λ some. absurd (omega (arith, some));
-}
+-- no piece has come
+pub waits_for_none : (s : ClientState) (before : Asked) (front : List ℕ) → WaitsBefore s before front []
+waits_for_none s before front k less = absurd (omega (arith, less))
 
--- a piece that is read while a command waits is the last
-pub waits_for_piece : (s : ClientState) (c : Client) (before mid : Asked) (front came piece : List ℕ) → HearsAll s c before mid (front ++ came) →
-    length piece ≤ 4096 → 0 < length (state_of c).waiting.asks → WaitsForLast s before front (came ++ piece)
-waits_for_piece s c before mid front came piece heard short waits = record {
-  earlier = came;
-  last = piece;
-  parts = refl;
-  short = short;
-  between = c;
-  heard_earlier = mid;
-  hears = heard;
-  waited = λ some none. let same = ap length none in omega (arith, waits, same);
-}
+-- a piece was read while a command waited
+pub waits_for_piece : (s : ClientState) (c : Client) (before mid : Asked) (front : List ℕ) (pieces : List (List ℕ)) (piece : List ℕ) →
+    HearsAll s c before mid (front ++ concat pieces) → 0 < length (state_of c).waiting.asks → WaitsBefore s before front pieces →
+    WaitsBefore s before front (pieces ++ piece ∷ [])
+waits_for_piece s c before mid front pieces piece heard waits each =
+    before_more (λ texts. StillWaits s before (front ++ concat texts)) pieces piece each (record {
+      between = c;
+      heard = mid;
+      hears = heard;
+      waits = λ none. let same = ap length none in omega (arith, waits, same);
+    })
 
 pub hears_nothing : (c : Client) (before : Asked) (front piece : List ℕ) → HasTaken c front → HearsUpTo (state_of c) c before before front piece piece 0
 hears_nothing c before front piece h = record { done = []; parts = refl; few = omega arith; hears = hears_no_bytes c before front h }
@@ -191,11 +182,11 @@ hears_on go_on goes_on s c new before mid after front done rest used More h give
     }
 
 -- a turn more
-pub hears_more : ReadingsGoOn → HearingGoesOn → (s : ClientState) (c new : Client) (before mid after : Asked) (front piece rest behind : List ℕ)
+pub hears_more : ReadingsGoOn → HearingGoesOn → (s : ClientState) (c new : Client) (before mid after : Asked) (front piece rest beyond : List ℕ)
     (turns used : ℕ) (what : What) → (w : HearsUpTo s c before mid front piece rest turns) → Hears c new w.hears.rest rest used what →
-    UnlessReplied what (state_of new ≡ state_of c) → 0 < used → used ≤ length rest → AddsHeard mid after what → behind ≡ drop used rest →
-    HearsUpTo s new before after front piece behind (turns + 1)
-hears_more go_on goes_on s c new before mid after front piece rest behind turns used what w given stays some within added left = record {
+    UnlessReplied what (state_of new ≡ state_of c) → 0 < used → used ≤ length rest → AddsHeard mid after what → beyond ≡ drop used rest →
+    HearsUpTo s new before after front piece beyond (turns + 1)
+hears_more go_on goes_on s c new before mid after front piece rest beyond turns used what w given stays some within added left = record {
   done = w.done ++ take used rest;
   parts = bytes_on front w.done piece rest used w.parts ∙ ap (λ z. (w.done ++ take used rest) ++ z) (sym left);
   few = omega (arith, w.few, some, within, length-append w.done (take used rest), length-take used rest);
@@ -350,6 +341,16 @@ stops_client k fault = tt
 
 pub client_stops : (fault : Fault) (error : AskError) → error ≡ error_of fault → StopsClient error
 client_stops fault error is = subst StopsClient (sym is) (stops_client fault.cause fault)
+
+-- then the last read gave a piece
+pub no_last_read : (error : AskError) → StopsClient error → is_of_last_read error ≡ false
+no_last_read (error.Fault fault) h = refl
+no_last_read error.OutOfMemory h = refl
+no_last_read (error.Refused index refusal) h = absurd h
+no_last_read error.Read h = absurd h
+no_last_read error.Write h = absurd h
+no_last_read error.TooManyTurns h = absurd h
+no_last_read error.Ended h = absurd h
 
 -- then there is no other reason why no more is read
 pub fails_reading : (failures failures' : ℕ) (left left' : Option (List ℕ)) (s : ClientState) (error : AskError) → StopsClient error →

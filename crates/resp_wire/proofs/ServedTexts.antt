@@ -1,6 +1,7 @@
 -- Texts that are answered and written, one after another.
 use Rattle.std.specs.Prelude.{⊤}
-use Rattle.std.proofs.Common.{◌≡◌, ℕ, ◌+◌, ◌≤◌, Bool, true, false, Option, Some, List, [], ◌++◌, length, refl, sym, ap, subst, ◌∙◌, arith, append_assoc}
+use Rattle.std.proofs.Common.{◌≡◌, ℕ, ◌+◌, Bool, true, false, Option, Some, List, [], ◌∷◌, ◌++◌, take, refl, sym, ap, subst, ◌∙◌, arith, append_assoc}
+use Rattle.std.specs.List.{concat}
 use Rattle.std.proofs.lemmas.List.{append-nil}
 use Rattle.std.specs.Option.{option_map}
 use Rattle.resp_value.specs.Devices.{Appends}
@@ -13,10 +14,11 @@ use Rattle.resp_session.specs.Stores.{Store}
 use Rattle.resp_server.specs.Answering.{state_with}
 use Rattle.resp_server.specs.Handling.{HasAnswered, HasCutShort, WhereOpen}
 use Rattle.resp_server.specs.Hubs.{HubState, Seat, seat_at, seated, stocked}
-use Rattle.resp_wire.specs.Serving.{HasSent, IsClosing, IsNotAhead, IsOpen, IsThere, Serves, ServesFirst, StopsServing}
+use Rattle.resp_wire.specs.Serving.{AnswersBefore, HadAnswered, HasSent, IsClosing, IsOpen, IsThere, Serves, ServesFirst, StopsServing}
 use Rattle.resp_wire.specs.declared.error.ServeError.{ServeError}
 use Rattle.resp_wire.specs.declared.error.ServeError.TheVariants.{NoSession, OutOfMemory, Read, Write, TooManyTurns}
 use Rattle.resp_wire.proofs.Seated.{at_open, where_open, one_seat, seat_here, seated_twice}
+use Rattle.resp_wire.proofs.Pieces.{before_more, concat_more}
 use Rattle.resp_wire.proofs.Turning.{appends_more, appends_nothing}
 
 abbrev pub seat_with : Version → List ℕ → Bool → Decoder → Seat
@@ -97,13 +99,13 @@ answers_on go_on added old cur id s text held held' st piece rest reply store ve
     let whole = state_with store version (st.reply ++ reply) closing (st.commands + commands) in
     let here : Answers old.limits id (state_with st.store st.version [] false 0) (st.rest ++ piece) last rest =
     subst (λ (h : HubState). Answers h.limits id (state_with h.store st.version [] false 0) (st.rest ++ piece) last rest) st.state given in
-    let behind = added old.limits id (state_with st.store st.version [] false 0) last (st.rest ++ piece) rest st.reply st.commands here in
-    let behind_text : Answers old.limits id (state_with st.store st.version st.reply false (st.commands + 0)) (st.rest ++ piece) whole rest =
-    subst (λ z. Answers old.limits id (state_with st.store st.version z false (st.commands + 0)) (st.rest ++ piece) whole rest) (append-nil st.reply) behind in
+    let beyond = added old.limits id (state_with st.store st.version [] false 0) last (st.rest ++ piece) rest st.reply st.commands here in
+    let after_text : Answers old.limits id (state_with st.store st.version st.reply false (st.commands + 0)) (st.rest ++ piece) whole rest =
+    subst (λ z. Answers old.limits id (state_with st.store st.version z false (st.commands + 0)) (st.rest ++ piece) whole rest) (append-nil st.reply) beyond in
     let none : st.commands + 0 ≡ st.commands = omega arith in
     go_on old.limits id (state_with old.store s.version [] false 0) (state_with st.store st.version st.reply false st.commands) whole text piece st.rest rest
     st.answers refl
-    (subst (λ n. Answers old.limits id (state_with st.store st.version st.reply false n) (st.rest ++ piece) whole rest) none behind_text)
+    (subst (λ n. Answers old.limits id (state_with st.store st.version st.reply false n) (st.rest ++ piece) whole rest) none after_text)
 
 -- what is written after it is written after the whole
 sent_on : (old cur given new : HubState) (id : ℕ) (s : Seat) (text : List ℕ) (held held' held'' : Option (List ℕ)) → seat_at old id ≡ Some s →
@@ -166,8 +168,8 @@ serves_first_on go_on added old cur new id s front came piece held held' held'' 
       commands = st.commands + v.commands;
       cut_short = record {
         answered = came ++ a.answered;
-        behind = a.behind;
-        whole = ap (λ z. came ++ z) a.whole ∙ sym (append_assoc came a.answered a.behind);
+        beyond = a.beyond;
+        whole = ap (λ z. came ++ z) a.whole ∙ sym (append_assoc came a.answered a.beyond);
         some = a.some;
         reply = st.reply ++ a.reply;
         store = a.store;
@@ -283,56 +285,43 @@ first_waits old new id s front piece held commands here a =
       },
     )
 
--- Nothing is read ahead.
+-- What was answered before each piece.
 
--- nothing came
-pub none_ahead : (old : HubState) (id : ℕ) (s : Seat) (front : List ℕ) (held held' : Option (List ℕ)) (text : List ℕ) → Appends held held' text →
-    IsNotAhead old id s front [] held held'
-none_ahead old id s front held held' text appended = record {
-  before = [];
-  last = [];
-  parts = refl;
-  short = omega arith;
-  between = old;
-  held_before = held;
-  written = λ some. absurd (omega (arith, some));
-  went_on = λ some. absurd (omega (arith, some));
-  later = text;
+-- all that came is answered and written, and then more is written
+pub had_answered : (old cur : HubState) (id : ℕ) (s : Seat) (text : List ℕ) (held held' held'' : Option (List ℕ)) (later : List ℕ) →
+    Serves old cur id s text held held' [] → IsOpen cur id → Appends held' held'' later → HadAnswered old id s text held held''
+had_answered old cur id s text held held' held'' later v o appended = record {
+  between = cur;
+  held_before = held';
+  answered = v;
+  went_on = open_is cur id o;
+  later = later;
   appended = appended;
 }
 
--- all that came is answered and written
-pub all_written : (old cur : HubState) (id : ℕ) (s : Seat) (front came : List ℕ) (held held' : Option (List ℕ)) →
-    Serves old cur id s (front ++ came) held held' [] → IsOpen cur id → IsNotAhead old id s front came held held'
-all_written old cur id s front came held held' v o = record {
-  before = came;
-  last = [];
-  parts = sym (append-nil came);
-  short = omega arith;
-  between = cur;
-  held_before = held';
-  written = λ some. v;
-  went_on = λ some. open_is cur id o;
-  later = [];
-  appended = appends_nothing held';
+-- it stays so
+had_later : (old : HubState) (id : ℕ) (s : Seat) (text : List ℕ) (held held' held'' : Option (List ℕ)) (later : List ℕ) →
+    HadAnswered old id s text held held' → Appends held' held'' later → HadAnswered old id s text held held''
+had_later old id s text held held' held'' later h appended = record {
+  between = h.between;
+  held_before = h.held_before;
+  answered = h.answered;
+  went_on = h.went_on;
+  later = h.later ++ later;
+  appended = appends_more h.held_before held' held'' h.later later h.appended appended;
 }
 
--- all but the last piece was
-pub piece_ahead : (old cur : HubState) (id : ℕ) (s : Seat) (front came piece : List ℕ) (held held' held'' : Option (List ℕ)) (text : List ℕ) →
-    Serves old cur id s (front ++ came) held held' [] → IsOpen cur id → length piece ≤ 4096 → Appends held' held'' text →
-    IsNotAhead old id s front (came ++ piece) held held''
-piece_ahead old cur id s front came piece held held' held'' text v o short appended = record {
-  before = came;
-  last = piece;
-  parts = refl;
-  short = short;
-  between = cur;
-  held_before = held';
-  written = λ some. v;
-  went_on = λ some. open_is cur id o;
-  later = text;
-  appended = appended;
-}
+pub nothing_before : (old : HubState) (id : ℕ) (s : Seat) (front : List ℕ) (held held' : Option (List ℕ)) → AnswersBefore old id s front [] held held'
+nothing_before old id s front held held' k less = absurd (omega (arith, less))
+
+-- a piece was read once all that came before it was answered and written
+answers_before : (old cur : HubState) (id : ℕ) (s : Seat) (front : List ℕ) (pieces : List (List ℕ)) (piece : List ℕ) (held held' held'' : Option (List ℕ))
+    (later : List ℕ) → Serves old cur id s (front ++ concat pieces) held held' [] → IsOpen cur id → AnswersBefore old id s front pieces held held' →
+    Appends held' held'' later → AnswersBefore old id s front (pieces ++ piece ∷ []) held held''
+answers_before old cur id s front pieces piece held held' held'' later v o before appended =
+    before_more (λ texts. HadAnswered old id s (front ++ concat texts) held held'') pieces piece
+    (λ k less. had_later old id s (front ++ concat (take k pieces)) held held' held'' later (before k less) appended)
+    (had_answered old cur id s (front ++ concat pieces) held held' held'' later v o appended)
 
 -- what was written of a piece where that stopped
 pub stop_appends : (old new : HubState) (id : ℕ) (s : Seat) (front came : List ℕ) (held held' : Option (List ℕ)) (error : ServeError) →
@@ -346,40 +335,48 @@ stop_appends old new id s front came held held' TooManyTurns (waits, why, v) = (
 -- The same of every front of a session.
 
 -- what is served of a piece after what came
-pub piece_serves : AnswersGoOn → AnswersAreAdded → (old cur new : HubState) (id : ℕ) (came piece : List ℕ) (held held' held'' : Option (List ℕ)) →
-    length piece ≤ 4096 → WhereOpen old id (λ s front. Serves old cur id s (front ++ came) held held' []) → IsOpen cur id →
-    WhereOpen cur id (λ s front. Serves cur new id s (front ++ piece) held' held'' [] × ⊤) →
-    WhereOpen old id (λ s front. Serves old new id s (front ++ (came ++ piece)) held held'' [] × ⊤ ×
-    IsNotAhead old id s front (came ++ piece) held held'')
-piece_serves go_on added old cur new id came piece held held' held'' short before o answered =
+pub piece_serves : AnswersGoOn → AnswersAreAdded → (old cur new : HubState) (id : ℕ) (pieces : List (List ℕ)) (piece : List ℕ)
+    (held held' held'' : Option (List ℕ)) →
+    WhereOpen old id (λ s front. Serves old cur id s (front ++ concat pieces) held held' [] × AnswersBefore old id s front pieces held held') →
+    IsOpen cur id → WhereOpen cur id (λ s front. Serves cur new id s (front ++ piece) held' held'' [] × ⊤) →
+    WhereOpen old id (λ s front. Serves old new id s (front ++ concat (pieces ++ piece ∷ [])) held held'' [] × ⊤ ×
+    AnswersBefore old id s front (pieces ++ piece ∷ []) held held'')
+piece_serves go_on added old cur new id pieces piece held held' held'' before o answered =
     where_open old id _ (λ s here not_closing front taken.
-    let v = at_open old id (λ t f. Serves old cur id t (f ++ came) held held' []) s front before here not_closing taken in
+    let came = concat pieces in
+    let (v, each) = at_open old id (λ t f. Serves old cur id t (f ++ came) held held' [] × AnswersBefore old id t f pieces held held')
+    s front before here not_closing taken in
     let st = stands old cur id s (front ++ came) held held' here v o in
     let now = seat_of old cur id s (front ++ came) held held' st in
     let (w, _) = at_open cur id (λ t f. Serves cur new id t (f ++ piece) held' held'' [] × ⊤) now st.rest answered
     (seat_given old cur id s now st.store here st.state) refl st.taken in (
-      serves_piece go_on added old cur new id s front came piece held held' held'' [] here st w,
+      subst (λ z. Serves old new id s (front ++ z) held held'' []) (sym (concat_more pieces piece))
+          (serves_piece go_on added old cur new id s front came piece held held' held'' [] here st w),
       tt,
-      piece_ahead old cur id s front came piece held held' held'' w.sent.text v o short w.sent.appended,
+      answers_before old cur id s front pieces piece held held' held'' w.sent.text v o each w.sent.appended,
     ))
 
 -- and where that stops
-pub piece_stops : AnswersGoOn → AnswersAreAdded → (old cur new : HubState) (id : ℕ) (came piece : List ℕ) (held held' held'' : Option (List ℕ))
-    (error : ServeError) → length piece ≤ 4096 → WhereOpen old id (λ s front. Serves old cur id s (front ++ came) held held' []) → IsOpen cur id →
-    WhereOpen cur id (λ s front. ⊤ × StopsServing cur new id s front piece held' held'' error) →
-    WhereOpen old id (λ s front. ⊤ × StopsServing old new id s front (came ++ piece) held held'' error ×
-    IsNotAhead old id s front (came ++ piece) held held'')
-piece_stops go_on added old cur new id came piece held held' held'' error short before o answered =
+pub piece_stops : AnswersGoOn → AnswersAreAdded → (old cur new : HubState) (id : ℕ) (pieces : List (List ℕ)) (piece : List ℕ)
+    (held held' held'' : Option (List ℕ)) (error : ServeError) →
+    WhereOpen old id (λ s front. Serves old cur id s (front ++ concat pieces) held held' [] × AnswersBefore old id s front pieces held held') →
+    IsOpen cur id → WhereOpen cur id (λ s front. ⊤ × StopsServing cur new id s front piece held' held'' error) →
+    WhereOpen old id (λ s front. ⊤ × StopsServing old new id s front (concat (pieces ++ piece ∷ [])) held held'' error ×
+    AnswersBefore old id s front (pieces ++ piece ∷ []) held held'')
+piece_stops go_on added old cur new id pieces piece held held' held'' error before o answered =
     where_open old id _ (λ s here not_closing front taken.
-    let v = at_open old id (λ t f. Serves old cur id t (f ++ came) held held' []) s front before here not_closing taken in
+    let came = concat pieces in
+    let (v, each) = at_open old id (λ t f. Serves old cur id t (f ++ came) held held' [] × AnswersBefore old id t f pieces held held')
+    s front before here not_closing taken in
     let st = stands old cur id s (front ++ came) held held' here v o in
     let now = seat_of old cur id s (front ++ came) held held' st in
     let (_, w) = at_open cur id (λ t f. ⊤ × StopsServing cur new id t f piece held' held'' error) now st.rest answered
     (seat_given old cur id s now st.store here st.state) refl st.taken in
     let (text, appended) = stop_appends cur new id now st.rest piece held' held'' error w in (
       tt,
-      stops_piece go_on added old cur new id s front came piece held held' held'' error here st w,
-      piece_ahead old cur id s front came piece held held' held'' text v o short appended,
+      subst (λ z. StopsServing old new id s front z held held'' error) (sym (concat_more pieces piece))
+          (stops_piece go_on added old cur new id s front came piece held held' held'' error here st w),
+      answers_before old cur id s front pieces piece held held' held'' text v o each appended,
     ))
 
 -- it is closing where it was

@@ -69,6 +69,7 @@ abbrev pub outcome_of_push : PushError → Result Outcome Cause
 outcome_of_push push.NoSession = Err cause.NoSession
 outcome_of_push push.Closing = Err cause.Closing
 outcome_of_push push.NotInVersion = Ok (Refused cause.NotInVersion)
+outcome_of_push push.Double = Ok (Refused cause.Double)
 outcome_of_push push.NestedPush = Ok (Refused cause.PushBelowTop)
 outcome_of_push (push.OverLimits limit) = Ok (Refused (cause.OverLimits limit))
 outcome_of_push push.OutOfMemory = Err cause.OutOfMemory

@@ -1,5 +1,6 @@
 -- What is heard of a connection's other end, in words of texts and values.
-use Rattle.std.specs.Prelude.{◌≡◌, ◌≢◌, ℕ, ◌+◌, ◌<◌, ◌≤◌, List, [], ◌∷◌, ◌++◌, length, map}
+use Rattle.std.specs.Prelude.{◌≡◌, ◌≢◌, ℕ, ◌+◌, ◌<◌, List, [], ◌∷◌, ◌++◌, length, map, take}
+use Rattle.std.specs.List.{concat}
 use Rattle.resp_value.specs.Data.{Datum}
 use Rattle.resp_value.specs.Values.{datum_of}
 use Rattle.resp_value.specs.declared.value.Value.{Value}
@@ -53,17 +54,17 @@ pub record HearsAll (s : ClientState) (c : Client) (before after : Asked) (came 
   pub same_limits : (state_of c).limits ≡ s.limits
   pub same_out : (state_of c).out ≡ s.out
 
--- Where bytes came, a command still waited once all of them before the last piece were heard, so that this was read for
--- a reply.
-pub record WaitsForLast (s : ClientState) (before : Asked) (front came : List ℕ) : Type 0 where
-  pub earlier : List ℕ
-  pub last : List ℕ
-  pub parts : came ≡ earlier ++ last
-  pub short : length last ≤ 4096
+-- once these bytes are heard, a command still waits
+pub record StillWaits (s : ClientState) (before : Asked) (came : List ℕ) : Type 0 where
   pub between : Client
-  pub heard_earlier : Asked
-  pub hears : HearsAll s between before heard_earlier (front ++ earlier)
-  pub waited : 0 < length came → (state_of between).waiting.asks ≢ []
+  pub heard : Asked
+  pub hears : HearsAll s between before heard came
+  pub waits : (state_of between).waiting.asks ≢ []
+
+-- Each piece was read only while a command waited once all that came before it was heard.
+abbrev pub WaitsBefore : ClientState → Asked → List ℕ → List (List ℕ) → Type 0
+WaitsBefore s before front pieces = (k : ℕ) → k < length pieces →
+    StillWaits s before (front ++ concat (take k pieces))
 
 -- A byte of what came is refused: the values before are heard.
 pub record HearsFault (s : ClientState) (before after : Asked) (came : List ℕ) (fault : Fault) : Type 0 where

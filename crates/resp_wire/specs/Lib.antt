@@ -1,9 +1,11 @@
 -- What a caller reads of both ends, of links and of worlds.
 pub mod Hearing
 pub mod Turns
+pub mod Pieces
 pub mod Requests
 pub mod Stops
 pub mod Asking
+pub mod Asks
 pub mod Serving
 pub mod Links
 pub mod Carrying

@@ -1,5 +1,6 @@
 -- What a server's end comes to, in words of its hub and of what was written.
-use Rattle.std.specs.Prelude.{◌≡◌, ◌⊎◌, ℕ, ◌<◌, ◌≤◌, Bool, true, false, List, [], ◌++◌, length, Option, Some, None, Result, Ok, Err}
+use Rattle.std.specs.Prelude.{◌≡◌, ◌⊎◌, ℕ, ◌<◌, Bool, true, false, List, [], ◌++◌, length, take, Option, Some, None, Result, Ok, Err}
+use Rattle.std.specs.List.{concat}
 use Rattle.std.specs.Option.{option_map}
 use Rattle.resp_value.specs.Devices.{Appends, HasRisen}
 use Rattle.resp_decode.specs.Decoding.{HasTaken}
@@ -71,20 +72,20 @@ StopsServing old new id s front came held held' TooManyTurns =
     (waits : List ℕ) × ((0 < length waits) ⊎ IsClosing new id false) ×
     Serves old new id s (front ++ came) held held' waits
 
--- Where bytes came, all that was answered before the last piece of them was written before that was read, and the
--- session went on.
-pub record IsNotAhead (old : HubState) (id : ℕ) (s : Seat) (front came : List ℕ) (held held' : Option (List ℕ)) :
+-- By then all answers to a text were written, and the session went on.
+pub record HadAnswered (old : HubState) (id : ℕ) (s : Seat) (text : List ℕ) (held held' : Option (List ℕ)) :
     Type 0 where
-  pub before : List ℕ
-  pub last : List ℕ
-  pub parts : came ≡ before ++ last
-  pub short : length last ≤ 4096
   pub between : HubState
   pub held_before : Option (List ℕ)
-  pub written : 0 < length came → Serves old between id s (front ++ before) held held_before []
-  pub went_on : 0 < length came → IsClosing between id false
+  pub answered : Serves old between id s text held held_before []
+  pub went_on : IsClosing between id false
   pub later : List ℕ
   pub appended : Appends held_before held' later
+
+-- Each piece was read only once all answers to what came before it were written.
+abbrev pub AnswersBefore : HubState → ℕ → Seat → List ℕ → List (List ℕ) → Option (List ℕ) → Option (List ℕ) → Type 0
+AnswersBefore old id s front pieces held held' = (k : ℕ) → k < length pieces →
+    HadAnswered old id s (front ++ concat (take k pieces)) held held'
 
 -- what each end tells: of the input that none is left while the session goes on, or of the session that it is closing
 abbrev pub EndsBy : HubState → ℕ → Option (List ℕ) → Option (List ℕ) → Served → Type 0
@@ -117,6 +118,12 @@ is_of_writer _ = false
 abbrev pub is_of_reader : ServeError → Bool
 is_of_reader Read = true
 is_of_reader _ = false
+
+-- whether the last read gave nothing
+abbrev pub ends_by_read : Result Served ServeError → Bool
+ends_by_read (Ok Ended) = true
+ends_by_read (Ok Closed) = false
+ends_by_read (Err error) = is_of_reader error
 
 -- whether a call stopped by a failed write
 abbrev pub failed_to_write : {T : Type 0} → Result T ServeError → Bool

@@ -79,6 +79,16 @@ abbrev pub is_of_reader : AskError → Bool
 is_of_reader Read = true
 is_of_reader _ = false
 
+-- whether the last read gave nothing, since it failed or was at the end
+abbrev pub is_of_last_read : AskError → Bool
+is_of_last_read Read = true
+is_of_last_read Ended = true
+is_of_last_read _ = false
+
+abbrev pub ends_by_read : Result (Unit {0}) AskError → Bool
+ends_by_read (Ok done) = false
+ends_by_read (Err error) = is_of_last_read error
+
 -- whether a call stopped by a failed write
 abbrev pub failed_to_write : Result (Unit {0}) AskError → Bool
 failed_to_write (Ok done) = false

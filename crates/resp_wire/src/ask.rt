@@ -6,10 +6,13 @@ ghost use Rattle.resp_client.specs.Sending.{AnswersRequest};
 ghost use Rattle.resp_wire.specs.Requests.{request_of};
 ghost use Rattle.resp_client.specs.Hearing.{KeepsReading, WhereTaken};
 ghost use Rattle.resp_value.specs.Devices.{Appends, failures_after};
-ghost use Rattle.resp_wire.specs.Hearing.{HearsAll, WaitsForLast};
+ghost use Rattle.resp_wire.specs.Hearing.{HearsAll, WaitsBefore};
 ghost use Rattle.resp_wire.specs.Asking.{SendsAll, SendsPart, SpendsTurns, sent};
-ghost use Rattle.resp_wire.specs.Stops.{FailsReading, FailsWriting, KeepsFault, QueuesFirst, StopsListening, StopsQueueing, error_at, failed_to_read, failed_to_write, is_of_reader, is_of_writer};
-ghost use Rattle.resp_wire.specs.Turns.{Halts, HasRead, Spends, has_failed};
+ghost use Rattle.resp_wire.specs.Asks.{HearsPieces, StopsBeforeWriting, StopsInReading, StopsInWriting};
+ghost use Rattle.resp_wire.specs.Stops.{FailsReading, FailsWriting, KeepsFault, QueuesFirst, StopsListening, StopsQueueing, ends_by_read, error_at, failed_to_read, failed_to_write, is_of_last_read, is_of_reader, is_of_writer};
+ghost use Rattle.resp_wire.specs.Pieces.{ReadsPieces};
+ghost use Rattle.resp_wire.specs.Turns.{Halts, Spends, has_failed};
+ghost use Rattle.std.specs.List.{concat};
 
 use crate::asked::{Asked, Request};
 use crate::error::AskError;
@@ -53,15 +56,13 @@ pub fn ask<R: Source, W: Sink>(
     heard: &mut Asked,
     turns: u64,
 ) -> Result<(), AskError>
-    // All requests and what waited before were written, and all that came is heard. Each piece was
-    // read while a command waited.
+    // All requests and what waited before were written, and all that came is heard. What came are
+    // pieces, each by one read that was made while a command waited.
     ensures sent { OnOk result (SendsAll client.old requests.now (W.written writer.old)
         (W.written writer.new)) }
-    ensures heard { OnOk result ((came : List ℕ) ×
-        HasRead (R.remaining reader.old) (R.remaining reader.new) came ×
-        WhereTaken client.old (λ front. HearsAll (sent client.old requests.now) client.new
-        heard.old heard.new (front ++ came) ×
-        WaitsForLast (sent client.old requests.now) heard.old front came)) }
+    ensures heard { OnOk result (HearsPieces R.remaining R.calls R.failures reader.old reader.new
+        false client.old (sent client.old requests.now) heard.old
+        (HearsAll (sent client.old requests.now) client.new heard.old heard.new)) }
     ensures all_answered { OnOk result ((state_of client.new).waiting.asks ≡ []) }
     ensures turns { (left : ℕ) × SpendsTurns (W.calls writer.old) (W.calls writer.new)
         (R.calls reader.old) (R.calls reader.new) turns left ×
@@ -76,20 +77,12 @@ pub fn ask<R: Source, W: Sink>(
     // A request is refused before anything is written, or a write fails before anything is read, or
     // all was written, and what came before the stop is heard.
     ensures refusal { IfErr result (λ error.
-        (StopsQueueing client.old client.new requests.now error ×
-        KeepsReading client.old client.new × (writer.new ≡ writer.old) ×
-        (reader.new ≡ reader.old) × (heard.new ≡ heard.old)) ⊎
-        (SendsPart client.old client.new requests.now (W.written writer.old)
-        (W.written writer.new) × KeepsReading client.old client.new ×
-        FailsWriting (W.failures writer.old) (W.failures writer.new) (state_of client.new).out error
-        × (reader.new ≡ reader.old) × (heard.new ≡ heard.old)) ⊎
-        (SendsAll client.old requests.now (W.written writer.old) (W.written writer.new) ×
-        FailsReading (R.failures reader.old) (R.failures reader.new) (R.remaining reader.old)
-        (R.remaining reader.new) (state_of client.new) error × ((came : List ℕ) ×
-        HasRead (R.remaining reader.old) (R.remaining reader.new) came ×
-        WhereTaken client.old (λ front. StopsListening (sent client.old requests.now) client.new
-        heard.old heard.new (front ++ came) error ×
-        WaitsForLast (sent client.old requests.now) heard.old front came)))) }
+        StopsBeforeWriting client.old client.new requests.now writer.old writer.new reader.old
+        reader.new heard.old heard.new error ⊎
+        StopsInWriting W.written W.failures client.old client.new requests.now writer.old writer.new
+        reader.old reader.new heard.old heard.new error ⊎
+        StopsInReading W.written R.remaining R.calls R.failures client.old client.new requests.now
+        writer.old writer.new reader.old reader.new heard.old heard.new error) }
     ensures fault_is_kept { IfErr result (KeepsFault client.new) }
 {
     if let Err(error) = queue(client, requests) {
@@ -192,12 +185,12 @@ fn hear_all<R: Source>(
     heard: &mut Asked,
     turns: &mut u64,
 ) -> Result<(), AskError>
-    ensures heard { (came : List ℕ) ×
-        HasRead (R.remaining reader.old) (R.remaining reader.new) came ×
-        WhereTaken client.old (λ front.
+    ensures heard { (pieces : List (List ℕ)) × ReadsPieces R.remaining R.calls R.failures
+        reader.old reader.new pieces (ends_by_read result) × WhereTaken client.old (λ front.
         OnOk result (HearsAll (state_of client.old) client.new heard.old heard.new
-        (front ++ came)) × IfErr result (StopsListening (state_of client.old) client.new heard.old
-        heard.new (front ++ came)) × WaitsForLast (state_of client.old) heard.old front came) }
+        (front ++ concat pieces)) ×
+        IfErr result (StopsListening (state_of client.old) client.new heard.old heard.new
+        (front ++ concat pieces)) × WaitsBefore (state_of client.old) heard.old front pieces) }
     ensures all_answered { OnOk result ((state_of client.new).waiting.asks ≡ []) }
     ensures failures { R.failures reader.new ≡
         failures_after (failed_to_read result) (R.failures reader.old) }

@@ -49,7 +49,7 @@ pub enum Outcome {
     /// It happened.
     Done,
     /// The client refused it by BadCommand, TooLarge or TooMany, or the session by NotInVersion,
-    /// PushBelowTop or OverLimits, the first of these that there is, and nothing changed.
+    /// Double, PushBelowTop or OverLimits, the first of these that there is, and nothing changed.
     Refused(Cause),
     /// The client was dropped, or there is none of this number, and nothing changed.
     Gone,

@@ -8,7 +8,7 @@ ghost use Rattle.resp_wire.specs.Stops.{KeepsFault, StopsClient, StopsHearing, e
 
 use crate::asked::Asked;
 use crate::error::AskError;
-use crate::turns::behind;
+use crate::turns::beyond;
 use resp_client::Client;
 use resp_scan::event::Fault;
 use resp_session::laws;
@@ -53,7 +53,7 @@ pub(crate) fn hear_piece(
         if heard.add(given.what).is_err() {
             return Err(AskError::OutOfMemory);
         }
-        rest = behind(rest, used);
+        rest = beyond(rest, used);
     }
     Ok(())
 }

@@ -1,12 +1,14 @@
 //! A server's end of a connection.
 
 ghost use Rattle.std.specs.Prelude.{◌≡◌, ◌≢◌, ◌≤◌, ◌++◌, ℕ, List, [], length, true, false, None, Err, IfSome, IfOk, IfErr, IsErrOf, OnOk, OnErr};
+ghost use Rattle.std.specs.List.{concat};
 ghost use Rattle.resp_server.specs.Hubs.{Seat, seat_at};
 ghost use Rattle.resp_server.specs.Handling.{HasAnswered, WhereOpen};
 ghost use Rattle.resp_value.specs.Devices.{failures_after};
 ghost use Rattle.resp_wire.specs.Asking.{SpendsTurns};
-ghost use Rattle.resp_wire.specs.Serving.{EndsBy, FailsServing, HasSent, HasSentPart, IsClosing, IsNotAhead, IsOpen, IsThere, Serves, ServesClosing, StopsAnswering, StopsReading, StopsServing, StopsWriting, failed_to_read, failed_to_write, is_of_reader, is_of_writer};
-ghost use Rattle.resp_wire.specs.Turns.{Halts, HasRead, Spends, has_failed};
+ghost use Rattle.resp_wire.specs.Serving.{AnswersBefore, EndsBy, FailsServing, HasSent, HasSentPart, IsClosing, IsOpen, IsThere, Serves, ServesClosing, StopsAnswering, StopsReading, StopsServing, StopsWriting, ends_by_read, failed_to_read, failed_to_write, is_of_reader, is_of_writer};
+ghost use Rattle.resp_wire.specs.Pieces.{ReadsPieces};
+ghost use Rattle.resp_wire.specs.Turns.{Halts, Spends, has_failed};
 
 use crate::error::ServeError;
 use crate::turns::{Halt, PIECE, front, read_some, write_text};
@@ -24,7 +26,7 @@ pub enum Served {
     Closed,
 }
 
-/// Reads a piece of at most 4,096 bytes, gives it to the session, and writes all that waits, until
+/// Reads a piece of at most 16,384 bytes, gives it to the session, and writes all that waits, until
 /// the input ends or the session is closing. What waits is written first; of a session that is
 /// closing nothing is read.
 ///
@@ -61,16 +63,17 @@ pub fn serve<R: Source, W: Sink, S: BuildHasher>(
     id: u64,
     turns: u64,
 ) -> Result<Served, ServeError>
-    // What was written and what still waits, joined, are what waited before and the answer to the
-    // front that the session had taken and what came, and the hub is as that answer leaves it.
-    ensures served { (came : List ℕ) ×
-        HasRead (R.remaining reader.old) (R.remaining reader.new) came ×
-        WhereOpen hub.old id (λ s front.
-        OnOk result (Serves hub.old hub.new id s (front ++ came) (W.written writer.old)
+    // What came are pieces, each by one read, and before each of these all answers to what came
+    // before it were written. What was written and what still waits, joined, are what waited before
+    // and the answer to the front that the session had taken and what came, and the hub is as that
+    // answer leaves it.
+    ensures served { (pieces : List (List ℕ)) × ReadsPieces R.remaining R.calls R.failures
+        reader.old reader.new pieces (ends_by_read result) × WhereOpen hub.old id (λ s front.
+        OnOk result (Serves hub.old hub.new id s (front ++ concat pieces) (W.written writer.old)
         (W.written writer.new) []) ×
-        IfErr result (StopsServing hub.old hub.new id s front came (W.written writer.old)
-        (W.written writer.new)) ×
-        IsNotAhead hub.old id s front came (W.written writer.old) (W.written writer.new)) }
+        IfErr result (StopsServing hub.old hub.new id s front (concat pieces)
+        (W.written writer.old) (W.written writer.new)) ×
+        AnswersBefore hub.old id s front pieces (W.written writer.old) (W.written writer.new)) }
     ensures end { IfOk result (EndsBy hub.new id (R.remaining reader.old)
         (R.remaining reader.new)) }
 
@@ -115,14 +118,13 @@ fn serve_open<R: Source, W: Sink, S: BuildHasher>(
     requires is_open { IsOpen hub.old id }
     requires waiting { WhereOpen hub.old id (λ s front.
         HasAnswered hub.old hub.old id s front 0) }
-    ensures served { (came : List ℕ) ×
-        HasRead (R.remaining reader.old) (R.remaining reader.new) came ×
-        WhereOpen hub.old id (λ s front.
-        OnOk result (Serves hub.old hub.new id s (front ++ came) (W.written writer.old)
+    ensures served { (pieces : List (List ℕ)) × ReadsPieces R.remaining R.calls R.failures
+        reader.old reader.new pieces (ends_by_read result) × WhereOpen hub.old id (λ s front.
+        OnOk result (Serves hub.old hub.new id s (front ++ concat pieces) (W.written writer.old)
         (W.written writer.new) []) ×
-        IfErr result (StopsServing hub.old hub.new id s front came (W.written writer.old)
-        (W.written writer.new)) ×
-        IsNotAhead hub.old id s front came (W.written writer.old) (W.written writer.new)) }
+        IfErr result (StopsServing hub.old hub.new id s front (concat pieces)
+        (W.written writer.old) (W.written writer.new)) ×
+        AnswersBefore hub.old id s front pieces (W.written writer.old) (W.written writer.new)) }
     ensures end { IfOk result (EndsBy hub.new id (R.remaining reader.old)
         (R.remaining reader.new)) }
     ensures refusal { IfErr result (FailsServing hub.old id (W.failures writer.old)

@@ -1,13 +1,13 @@
 //! Reads and writes as turns, whose number each call bounds.
 
-ghost use Rattle.std.specs.Prelude.{◌≡◌, ◌<◌, ◌≤◌, [], drop, length, take, IfOk, IfErr, OnOk, OnErr};
-ghost use Rattle.resp_value.specs.Devices.{Appends, failures_after};
+ghost use Rattle.std.specs.Prelude.{◌≡◌, ◌<◌, ◌≤◌, [], drop, length, take, IfOk, IfErr, IsErrOf, OnOk, OnErr};
+ghost use Rattle.resp_value.specs.Devices.{Appends, count_after, failures_after};
 ghost use Rattle.resp_wire.specs.Turns.{Halts, HasRead, Spends, TellsEnd, is_failed};
 
 use resp_value::device::{Sink, Source};
 
 /// How many bytes one read asks for.
-pub(crate) const PIECE: usize = 4_096;
+pub(crate) const PIECE: usize = 16_384;
 
 /// Why a read or a write moved no byte.
 #[derive(Clone, Copy, Debug, PartialEq, Eq)]
@@ -50,7 +50,7 @@ pub(crate) fn write_text<W: Sink>(writer: &mut W, text: &[u8], turns: &mut u64) 
             };
         }
         *turns -= 1;
-        match writer.write(behind(text, count)) {
+        match writer.write(beyond(text, count)) {
             Ok(0) | Err(_) => {
                 return Written {
                     count,
@@ -79,6 +79,10 @@ pub(crate) fn read_some<R: Source>(
     ensures failures { R.failures reader.new ≡
         failures_after (is_failed result) (R.failures reader.old) }
     ensures turns { Spends (R.calls reader.old) (R.calls reader.new) turns.old turns.new }
+    ensures once { OnOk result (R.calls reader.new ≡ count_after 1 (R.calls reader.old)) }
+    ensures failed_once { IsErrOf result Halt.Failed →
+        R.calls reader.new ≡ count_after 1 (R.calls reader.old) }
+    ensures not_once { IsErrOf result Halt.NoTurn → reader.new ≡ reader.old }
     ensures onward { OnOk result (turns.new < turns.old) }
     ensures halted { IfErr result (Halts (R.failures reader.old) (R.failures reader.new)
         turns.new) }
@@ -95,7 +99,7 @@ pub(crate) fn read_some<R: Source>(
 
 /// The bytes from this index on.
 #[inline]
-pub(crate) fn behind(piece: &[u8], from: usize) -> &[u8]
+pub(crate) fn beyond(piece: &[u8], from: usize) -> &[u8]
     requires { from ≤ length piece.now }
     ensures { result.now ≡ drop from piece.now }
 {

@@ -447,6 +447,7 @@ fn outcome_of_push(error: PushError) -> Result<Outcome, Cause>
 {
     match error {
         PushError::NotInVersion => Ok(Outcome::Refused(Cause::NotInVersion)),
+        PushError::Double => Ok(Outcome::Refused(Cause::Double)),
         PushError::NestedPush => Ok(Outcome::Refused(Cause::PushBelowTop)),
         PushError::OverLimits(limit) => Ok(Outcome::Refused(Cause::OverLimits(limit))),
         PushError::OutOfMemory => Err(Cause::OutOfMemory),

@@ -1,11 +1,10 @@
 //! How a text is cut into pieces.
 
 use std::alloc::{AllocError, Global};
-use std::fmt;
 
 /// How each text that is heard is cut.
-#[derive(Clone, Copy, Debug, PartialEq, Eq)]
-pub enum Cut {
+#[derive(Clone, Copy, Debug)]
+pub(crate) enum Cut {
     /// It is one piece.
     Whole,
     /// It is two pieces, the first of this many bytes, or of all where it has fewer.
@@ -14,18 +13,24 @@ pub enum Cut {
     Bytes,
 }
 
-impl fmt::Display for Cut {
-    fn fmt<W: fmt::Write>(&self, f: &mut fmt::Formatter<W>) -> fmt::Result {
-        match self {
-            Cut::Whole => write!(f, "whole"),
-            Cut::At(at) => write!(f, "cut at {at}"),
-            Cut::Bytes => write!(f, "byte by byte"),
+impl Cut {
+    /// The cut of a number: first none, then at each byte of a text of this length, and last byte
+    /// by byte.
+    pub(crate) fn numbered(number: usize, length: usize) -> Cut {
+        match number {
+            0 => Cut::Whole,
+            number if number > length => Cut::Bytes,
+            number => Cut::At(number.saturating_sub(1)),
         }
     }
 }
 
 /// The pieces of a text that is cut so.
-pub fn pieces<'a>(alloc: Global, text: &'a [u8], cut: Cut) -> Result<Vec<&'a [u8]>, AllocError> {
+pub(crate) fn pieces<'a>(
+    alloc: Global,
+    text: &'a [u8],
+    cut: Cut,
+) -> Result<Vec<&'a [u8]>, AllocError> {
     let mut all = Vec::new(alloc);
     match cut {
         Cut::Whole => all.push(text)?,

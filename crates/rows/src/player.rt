@@ -1,123 +1,128 @@
 //! Runs conversations, and prints how many runs said what is wanted.
 
-use crate::conversation::{Conversation, Row};
+use crate::conversation::{Row, rows};
 use crate::cut::Cut;
 use crate::subject::Subject;
 use crate::text;
-use anyhow::Result;
-use std::alloc::{AllocError, Global};
+use anyhow::{Context, Result};
+use std::alloc::Global;
+use std::fs::{self, Files};
 
-/// What a row said in place of what is wanted.
-#[derive(Drop)]
-struct Difference<'a> {
-    row: &'a Row,
-    cut: Cut,
-    said: String,
-}
-
-/// Reads the conversations of standard input, runs each on new subjects, and prints a line for it:
-/// its title and the number of runs, or how many of them differ and where the first does.
-pub fn play<T: Subject, R: Input + Print + AllocGlobal>(rt: &R) -> Result<()> {
+/// Runs the conversations of a file on new subjects. Prints a line for each: its title and the
+/// number of runs, or how many of them differ and where the first does.
+pub(crate) fn play<T: Subject>(rt: &(impl Files + Print + AllocGlobal), file: &str) -> Result<()> {
     let alloc = rt.alloc();
-    let mut conversation = Conversation::new(alloc);
-    let mut number: u64 = 0;
-    for line in rt.lines(alloc) {
-        let line = line?;
-        number = number.saturating_add(1);
-        if line.is_empty() {
-            show::<T>(rt, alloc, &conversation)?;
-            conversation = Conversation::new(alloc);
-        } else {
-            conversation.add(alloc, number, line.as_str())?;
-        }
+    let text = fs::read_to_string(rt, file)?;
+    println!(rt; "{file}")?;
+    for conversation in text.split("\n\n") {
+        report::<T>(rt, alloc, conversation)?;
     }
-    show::<T>(rt, alloc, &conversation)
+    Ok(())
 }
 
-/// Runs a conversation at every cut, and prints what came of it. Comments alone are none.
-fn show<T: Subject>(rt: &impl Print, alloc: Global, conversation: &Conversation) -> Result<()> {
-    let rows = conversation.rows.as_slice();
+/// Runs a conversation, and prints what came of it. Comments alone are none.
+fn report<T: Subject>(rt: &impl Print, alloc: Global, conversation: &str) -> Result<()> {
+    let rows = rows(alloc, conversation)?;
     if rows.is_empty() {
         return Ok(());
     }
-    let title = &conversation.title;
-    let cuts = cuts::<T>(alloc, rows)?;
-    let runs = cuts.len();
-    let mut differ: u64 = 0;
-    let mut first = None;
-    for cut in cuts {
-        if let Some(difference) = run_once::<T>(alloc, rows, cut)? {
-            differ = differ.saturating_add(1);
-            if first.is_none() {
-                first = Some(difference);
+    let title = conversation.lines().next().unwrap_or("");
+    let title = title
+        .strip_prefix("# ")
+        .context("a conversation without a title")?;
+    let runs = Runs::of::<T>(alloc, rows.as_slice())?;
+    runs.print(rt, title)
+}
+
+/// How many runs there were, how many of them differ, and the first difference.
+#[derive(Drop)]
+struct Runs {
+    count: u64,
+    differ: u64,
+    first: String,
+}
+
+impl Runs {
+    /// Runs the rows whole, cut at each byte of the longest text that is cut, and byte by byte.
+    fn of<T: Subject>(alloc: Global, rows: &[Row<'_>]) -> Result<Runs> {
+        let mut runs = Runs {
+            count: 0,
+            differ: 0,
+            first: String::new(alloc),
+        };
+        let longest = longest::<T>(alloc, rows);
+        for number in 0..=longest.saturating_add(1) {
+            let cut = Cut::numbered(number, longest);
+            runs.run::<T>(alloc, rows, cut)?;
+            if longest == 0 {
+                break;
             }
         }
+        Ok(runs)
     }
-    match first {
-        None => println!(rt; "{title}: {runs} runs")?,
-        Some(difference) => {
-            println!(rt; "{title}: {differ} of {runs} runs differ")?;
-            print_difference(rt, &difference)?;
+
+    /// Runs the rows on a new subject, up to the first that says other than is wanted of it.
+    fn run<T: Subject>(&mut self, alloc: Global, rows: &[Row<'_>], cut: Cut) -> Result<()> {
+        self.count = self.count.saturating_add(1);
+        let mut subject = T::new(alloc)?;
+        for row in rows {
+            let said = said(alloc, &mut subject, row, cut)?;
+            if said.as_str() != row.wanted.as_str() {
+                self.differ = self.differ.saturating_add(1);
+                return self.note(row, cut, said.as_str());
+            }
         }
+        Ok(())
     }
-    Ok(())
+
+    /// Notes what a row said in place of what is wanted, where it is the first that differs.
+    fn note(&mut self, row: &Row<'_>, cut: Cut, said: &str) -> Result<()> {
+        if self.first.is_empty() {
+            let Row {
+                name,
+                given,
+                wanted,
+            } = row;
+            writeln!(
+                self.first,
+                "  {cut:?}: {name} {given}\nwanted:\n{wanted}said:\n{said}"
+            )?;
+        }
+        Ok(())
+    }
+
+    /// Prints a line under this title, and after it the first difference.
+    fn print(&self, rt: &impl Print, title: &str) -> Result<()> {
+        let Runs {
+            count,
+            differ,
+            first,
+        } = self;
+        match *differ {
+            0 => println!(rt; "{title}: {count} runs")?,
+            _ => print!(rt; "{title}: {differ} of {count} runs differ\n{first}")?,
+        }
+        Ok(())
+    }
 }
 
-/// Prints a row, what was wanted of it and what it said.
-fn print_difference(rt: &impl Print, difference: &Difference<'_>) -> Result<()> {
-    let Difference { row, cut, said } = difference;
-    println!(rt; "  {cut}, line {}: {}", row.line, row.text)?;
-    for wanted in row.wanted.lines() {
-        println!(rt; "    wanted: {wanted}")?;
-    }
-    for said in said.lines() {
-        println!(rt; "    said:   {said}")?;
-    }
-    Ok(())
-}
-
-/// Whole, at each byte of the longest text that is cut, and byte by byte.
-fn cuts<T: Subject>(alloc: Global, rows: &[Row]) -> Result<Vec<Cut>, AllocError> {
-    let mut all = vec![in alloc; Cut::Whole]?;
+/// The length of the longest text that is cut.
+fn longest<T: Subject>(alloc: Global, rows: &[Row<'_>]) -> usize {
     let mut longest = 0;
     for row in rows {
-        let (name, given) = row.parts();
-        if T::is_cut(name) {
-            let length = text::bytes(alloc, given).map_or(0, |bytes| bytes.len());
+        if T::is_cut(row.name) {
+            let length = text::bytes(alloc, row.given).map_or(0, |bytes| bytes.len());
             longest = longest.max(length);
         }
     }
-    for at in 0..longest {
-        all.push(Cut::At(at))?;
-    }
-    if longest > 0 {
-        all.push(Cut::Bytes)?;
-    }
-    Ok(all)
-}
-
-/// Runs the rows on a new subject, up to the first that says other than is wanted of it.
-fn run_once<'a, T: Subject>(
-    alloc: Global,
-    rows: &'a [Row],
-    cut: Cut,
-) -> Result<Option<Difference<'a>>> {
-    let mut subject = T::new(alloc)?;
-    for row in rows {
-        let said = said(alloc, &mut subject, row, cut)?;
-        if said.as_str() != row.wanted.as_str() {
-            return Ok(Some(Difference { row, cut, said }));
-        }
-    }
-    Ok(None)
+    longest
 }
 
 /// What a row says.
-fn said<T: Subject>(alloc: Global, subject: &mut T, row: &Row, cut: Cut) -> Result<String> {
-    let (name, given) = row.parts();
+fn said<T: Subject>(alloc: Global, subject: &mut T, row: &Row<'_>, cut: Cut) -> Result<String> {
     let mut said = String::new(alloc);
-    if let Err(error) = subject.run(name, given, cut, &mut said) {
-        said.push_str(format!(in alloc; "error: {error}\n")?.as_str())?;
+    if let Err(error) = subject.run(row.name, row.given, cut, &mut said) {
+        writeln!(said, "error: {error}")?;
     }
     Ok(said)
 }

@@ -1,18 +1,21 @@
 //! Values on one line, in the words of `resp show`: `array [int 1, bulk "a"]`, `map {null: true}`,
 //! `attr {simple "ttl": int 3600} of int 3`.
 
-use resp_value::Value;
+use resp_value::value::Members;
+use resp_value::{Cause, Value, Version};
 use std::alloc::AllocError;
+use std::fmt::Debug;
 
 /// Adds a value.
 #[cycle(add_value)]
-pub fn add_value(said: &mut String, value: &Value) -> Result<(), AllocError> {
+pub(crate) fn add_value(said: &mut String, value: &Value) -> Result<(), AllocError> {
     match value {
         Value::Null => said.push_str("null"),
         Value::Bool(flag) => write!(said, "{flag}"),
         Value::Int(number) => write!(said, "int {number}"),
         Value::Simple(line) => add_text(said, "simple", line.text()),
         Value::Error(line) => add_text(said, "error", line.text()),
+        Value::Double(line) => add_text(said, "double", line.text()),
         Value::Bulk(content) => add_text(said, "bulk", content.list()),
         Value::BulkError(content) => add_text(said, "bulkerror", content.list()),
         Value::Verbatim(format, content) => {
@@ -42,7 +45,11 @@ fn add_text(said: &mut String, word: &str, text: &[u8]) -> Result<(), AllocError
 
 /// Adds the members of an array, a set or a push, as that of a push which answers no command.
 #[cycle(add_value)]
-pub fn add_members(said: &mut String, word: &str, members: &[Value]) -> Result<(), AllocError> {
+pub(crate) fn add_members(
+    said: &mut String,
+    word: &str,
+    members: &[Value],
+) -> Result<(), AllocError> {
     write!(said, "{word} [")?;
     let mut is_first = true;
     for member in members {
@@ -70,4 +77,53 @@ fn add_pairs(said: &mut String, word: &str, pairs: &[(Value, Value)]) -> Result<
         is_first = false;
     }
     said.push_str("}")
+}
+
+/// Adds a line for each value.
+pub(crate) fn add_values(said: &mut String, values: &[Value]) -> Result<(), AllocError> {
+    for value in values {
+        add_value(said, value)?;
+        said.push_str("\n")?;
+    }
+    Ok(())
+}
+
+/// Adds a line for each push that answers no command.
+pub(crate) fn add_pushes(said: &mut String, pushes: &[Members]) -> Result<(), AllocError> {
+    for members in pushes {
+        add_members(said, "push", members.list())?;
+        said.push_str("\n")?;
+    }
+    Ok(())
+}
+
+/// Adds the line of a refusal: the name of its cause, and its place.
+pub(crate) fn add_fault(said: &mut String, cause: Cause, at: u64) -> Result<(), AllocError> {
+    writeln!(said, "refused: {} at {at}", cause.name())
+}
+
+/// Adds a line of what a call answers: a word and the number, or another word and the error.
+pub(crate) fn add_answer<E: Debug + Drop>(
+    said: &mut String,
+    answered: &str,
+    refused: &str,
+    answer: Result<u64, E>,
+) -> Result<(), AllocError> {
+    match answer {
+        Ok(number) => writeln!(said, "{answered}{number}"),
+        Err(error) => writeln!(said, "{refused}{error:?}"),
+    }
+}
+
+/// Adds the line of a text as Rust writes a byte string.
+pub(crate) fn add_quoted(said: &mut String, word: &str, text: &[u8]) -> Result<(), AllocError> {
+    writeln!(said, "{word}\"{}\"", text.escape_ascii())
+}
+
+/// The number of a version.
+pub(crate) fn version_number(version: Version) -> u8 {
+    match version {
+        Version::Two => 2,
+        Version::Three => 3,
+    }
 }

@@ -5,7 +5,7 @@ use anyhow::Result;
 use std::alloc::Global;
 
 /// What rows are run on, as a client or a decoder.
-pub trait Subject: Drop {
+pub(crate) trait Subject: Drop {
     /// A new one. Each run of a conversation begins with it.
     fn new(alloc: Global) -> Result<Self>;
 

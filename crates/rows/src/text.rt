@@ -2,11 +2,11 @@
 //! for a text that stands there `count` times. Another brace is written `\x7b` or `\x7d`.
 
 use anyhow::{Context, Result, bail};
-use resp_value::Command;
+use resp_value::{Command, Version};
 use std::alloc::Global;
 
 /// The bytes that a row's text spells.
-pub fn bytes(alloc: Global, text: &str) -> Result<Vec<u8>> {
+pub(crate) fn bytes(alloc: Global, text: &str) -> Result<Vec<u8>> {
     let mut all = Vec::new(alloc);
     let (first, runs) = text.split_once('{').unwrap_or((text, ""));
     add_escaped(&mut all, first)?;
@@ -20,31 +20,53 @@ pub fn bytes(alloc: Global, text: &str) -> Result<Vec<u8>> {
     Ok(all)
 }
 
-/// The words of a row's text, which are apart by one space. A space in a word is written `\x20`,
-/// and an empty word `{x*0}`.
-pub fn words(alloc: Global, text: &str) -> Result<Vec<Vec<u8>>> {
+/// The words of a row's text. A space in a word is written `\x20`, and an empty word `{x*0}`.
+pub(crate) fn words(alloc: Global, text: &str) -> Result<Vec<Vec<u8>>> {
     let mut all = Vec::new(alloc);
-    for word in text.split(' ') {
-        if word.is_empty() {
-            bail!("an empty word");
-        }
+    for word in text.split_whitespace() {
         all.push(bytes(alloc, word)?)?;
     }
     Ok(all)
 }
 
+/// The first word, and what stands after its space.
+pub(crate) fn split(text: &str) -> (&str, &str) {
+    text.split_once(' ').unwrap_or((text, ""))
+}
+
+/// The number that a text spells.
+pub(crate) fn number(text: &str) -> Result<u64> {
+    text.parse::<u64>().context("no number")
+}
+
+/// The version of this number.
+pub(crate) fn version(number: &str) -> Result<Version> {
+    match number {
+        "2" => Ok(Version::Two),
+        "3" => Ok(Version::Three),
+        _ => bail!("no version"),
+    }
+}
+
+/// The version of a number, or none where no number is given.
+pub(crate) fn version_if_any(number: &str) -> Result<Option<Version>> {
+    if number.is_empty() {
+        return Ok(None);
+    }
+    version(number).map(Some)
+}
+
 /// A command of the words of a row's text.
-pub fn command(alloc: Global, text: &str) -> Result<Command> {
+pub(crate) fn command(alloc: Global, text: &str) -> Result<Command> {
     Ok(Command::new(words(alloc, text)?)?)
 }
 
 /// Adds a text `text*count`.
 fn add_run(alloc: Global, all: &mut Vec<u8>, run: &str) -> Result<()> {
     let (text, count) = run.rsplit_once('*').context("a run without its count")?;
-    let count = count.parse::<usize>().context("a run without its count")?;
     let mut once = Vec::new(alloc);
     add_escaped(&mut once, text)?;
-    for _ in 0..count {
+    for _ in 0..number(count)? {
         all.extend_from_slice(once.as_slice())?;
     }
     Ok(())

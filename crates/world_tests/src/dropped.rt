@@ -1,7 +1,5 @@
 //! A key is set by one client and read by another, and before each event one of them is dropped.
 
-ghost use Rattle.std.specs.Prelude.{◌<◌};
-
 use crate::Tally;
 use crate::replay::{Asked, Replay, TestWorld};
 use resp_value::limits::Limits;
@@ -12,23 +10,24 @@ use std::hash::BuildHasherDefault;
 /// What each client asks.
 const ASKED: [Asked; 2] = [Asked::Set(b'a', b'1'), Asked::Get(b'a')];
 
-/// What happens to the client of an index.
-#[derive(Clone, Copy, Debug, PartialEq, Eq)]
-enum Happening {
-    Asks(usize),
-    ComesToServer(usize),
-    ComesBack(usize),
+/// What happens to a client.
+#[derive(Clone, Copy)]
+enum What {
+    Asks,
+    ComesToServer,
+    ComesBack,
 }
 
-const HAPPENINGS: [Happening; 8] = [
-    Happening::Asks(0),
-    Happening::Asks(1),
-    Happening::ComesToServer(1),
-    Happening::ComesToServer(0),
-    Happening::ComesToServer(0),
-    Happening::ComesBack(0),
-    Happening::ComesToServer(1),
-    Happening::ComesBack(1),
+/// What happens to the clients of these indexes.
+const HAPPENINGS: [(What, usize); 8] = [
+    (What::Asks, 0),
+    (What::Asks, 1),
+    (What::ComesToServer, 1),
+    (What::ComesToServer, 0),
+    (What::ComesToServer, 0),
+    (What::ComesBack, 0),
+    (What::ComesToServer, 1),
+    (What::ComesBack, 1),
 ];
 
 /// Drops each client before each event in turn, and after the last.
@@ -42,105 +41,104 @@ pub(crate) fn run_all(alloc: Global) -> Result<Tally, AllocError> {
     Ok(tally)
 }
 
-/// What stands of a client: whether its command was queued, was run, and was answered.
-#[derive(Clone, Copy, Debug, PartialEq, Eq)]
-struct Standing {
-    asked: bool,
-    ran: bool,
-    heard: bool,
+/// How far the command of a client came.
+#[derive(Clone, Copy)]
+enum Stage {
+    NotAsked,
+    Asked,
+    Ran,
+    Heard,
 }
-
-const NEW: Standing = Standing {
-    asked: false,
-    ran: false,
-    heard: false,
-};
 
 /// Whether a world shows what the replay says where this client is dropped at this place.
 fn run(alloc: Global, dropped: usize, place: usize) -> Result<bool, AllocError> {
-    let Ok(mut world) = World::new(alloc, 2, Limits::standard(), BuildHasherDefault::new()) else {
-        return Err(AllocError);
-    };
     let mut replay = Replay::new(alloc);
-    let mut standings = [NEW; 2];
-    let mut is_dropped = false;
-    for turn in 0..=HAPPENINGS.len() {
+    match World::new(alloc, 2, Limits::standard(), BuildHasherDefault::new()) {
+        Ok(mut world) => run_events(alloc, &mut world, &mut replay, dropped, place),
+        Err(_) => Err(AllocError),
+    }
+}
+
+fn run_events(
+    alloc: Global,
+    world: &mut TestWorld,
+    replay: &mut Replay,
+    dropped: usize,
+    place: usize,
+) -> Result<bool, AllocError> {
+    let mut stages = [Stage::NotAsked; 2];
+    let mut goes_well = true;
+    for (turn, (what, client)) in HAPPENINGS.iter().enumerate() {
+        let index = *client % 2;
         if turn == place {
-            if world.step(&Event::Drop(dropped.saturating_add(1))) != Ok(Outcome::Done) {
-                return Ok(false);
-            }
-            is_dropped = true;
+            goes_well &= is_done(
+                world,
+                &Event::Drop(dropped.saturating_add(1)),
+                Outcome::Done,
+            );
         }
-        let Some(happening) = HAPPENINGS.get(turn) else {
-            break;
-        };
-        let index = index_of(*happening);
-        let event = event_of(alloc, *happening)?;
-        let gone = is_dropped && index == dropped;
-        let wanted = if gone { Outcome::Gone } else { Outcome::Done };
-        if world.step(&event) != Ok(wanted) {
-            return Ok(false);
-        }
-        if !gone {
-            standings[index] = happen(&mut replay, *happening, standings[index])?;
+        let event = event(alloc, *what, index)?;
+        if turn >= place && index == dropped {
+            goes_well &= is_done(world, &event, Outcome::Gone);
+        } else {
+            goes_well &= is_done(world, &event, Outcome::Done);
+            stages[index] = happen(replay, *what, index, stages[index])?;
         }
     }
-    Ok(shows(&world, &replay, standings))
+    if place == HAPPENINGS.len() {
+        goes_well &= is_done(
+            world,
+            &Event::Drop(dropped.saturating_add(1)),
+            Outcome::Done,
+        );
+    }
+    Ok(goes_well && shows(world, replay, stages))
 }
 
-/// The index of the client of an event.
-fn index_of(happening: Happening) -> usize
-    ensures { result < 2 }
-{
-    let index = match happening {
-        Happening::Asks(index) => index,
-        Happening::ComesToServer(index) => index,
-        Happening::ComesBack(index) => index,
-    };
-    index % 2
+/// Takes an event, and says whether this comes of it.
+fn is_done(world: &mut TestWorld, event: &Event, wanted: Outcome) -> bool {
+    world.step(event) == Ok(wanted)
 }
 
-fn event_of(alloc: Global, happening: Happening) -> Result<Event, AllocError> {
-    let index = index_of(happening);
+fn event(alloc: Global, what: What, index: usize) -> Result<Event, AllocError> {
     let number = index.saturating_add(1);
-    Ok(match happening {
-        Happening::Asks(_) => Event::Send(number, ASKED[index].command(alloc)?),
-        Happening::ComesToServer(_) => Event::ToServer(number, 1_000),
-        Happening::ComesBack(_) => Event::ToClient(number, 1_000),
+    Ok(match what {
+        What::Asks => Event::Send(number, ASKED[index % 2].command(alloc)?),
+        What::ComesToServer => Event::ToServer(number, 1_000),
+        What::ComesBack => Event::ToClient(number, 1_000),
     })
 }
 
 /// What an event leaves of its client.
 fn happen(
     replay: &mut Replay,
-    happening: Happening,
-    before: Standing,
-) -> Result<Standing, AllocError> {
-    let index = index_of(happening);
-    let mut standing = before;
-    match happening {
-        Happening::Asks(_) => standing.asked = true,
-        Happening::ComesToServer(_) => {
-            if standing.asked && !standing.ran {
-                replay.run(index.saturating_add(1), ASKED[index])?;
-                standing.ran = true;
-            }
+    what: What,
+    index: usize,
+    stage: Stage,
+) -> Result<Stage, AllocError> {
+    match (what, stage) {
+        (What::Asks, _) => Ok(Stage::Asked),
+        (What::ComesToServer, Stage::Asked) => {
+            replay.run(index.saturating_add(1), ASKED[index % 2])?;
+            Ok(Stage::Ran)
         }
-        Happening::ComesBack(_) => standing.heard = standing.ran,
+        (What::ComesBack, Stage::Ran) => Ok(Stage::Heard),
+        _ => Ok(stage),
     }
-    Ok(standing)
 }
 
-fn shows(world: &TestWorld, replay: &Replay, standings: [Standing; 2]) -> bool {
-    if world.clients() != 2 || !replay.agrees(world) {
-        return false;
+fn shows(world: &TestWorld, replay: &Replay, stages: [Stage; 2]) -> bool {
+    let [former, later] = stages;
+    world.clients() == 2
+        && replay.agrees(world)
+        && replay.answers(world, 1, heard(former))
+        && replay.answers(world, 2, heard(later))
+}
+
+/// How many replies a client heard.
+fn heard(stage: Stage) -> usize {
+    match stage {
+        Stage::Heard => 1,
+        _ => 0,
     }
-    for index in 0..2 {
-        let number = index + 1;
-        let count = if standings[index].heard { 1 } else { 0 };
-        if !replay.answers(number, count, world.replies(number)) {
-            return false;
-        }
-    }
-    true
 }

@@ -25,86 +25,102 @@ const ARRIVALS: usize = 3;
 pub(crate) fn run_all(alloc: Global) -> Result<Tally, AllocError> {
     let mut tally = Tally { worlds: 0, same: 0 };
     for sequence in 0..SEQUENCES {
-        if let Some(clients) = clients_of(alloc, sequence)? {
-            tally.add(run(alloc, clients.as_slice())?);
+        let clients = clients_of(sequence);
+        if counts_of(&clients) == [ARRIVALS; 3] {
+            tally.add(run(alloc, &clients)?);
         }
     }
     Ok(tally)
 }
 
-/// The clients of the arrivals, by the digits of a number to the base 3, where each stands three
-/// times.
-fn clients_of(alloc: Global, sequence: u64) -> Result<Option<Vec<usize>>, AllocError> {
-    let mut clients = Vec::new(alloc);
-    let mut counts = [0usize; 3];
+/// The clients of the arrivals, by the digits of a number to the base 3.
+fn clients_of(sequence: u64) -> [usize; 9] {
+    let mut clients = [0; 9];
     let mut rest = sequence;
-    for _ in 0..9 {
-        let index = (rest % 3) as usize;
+    for client in &mut clients {
+        *client = (rest % 3) as usize;
         rest /= 3;
-        counts[index] = counts[index].saturating_add(1);
-        clients.push(index)?;
     }
-    Ok(if counts == [ARRIVALS; 3] {
-        Some(clients)
-    } else {
-        None
-    })
+    clients
+}
+
+/// How often each client stands among these.
+fn counts_of(clients: &[usize; 9]) -> [usize; 3] {
+    let mut counts = [0usize; 3];
+    for client in clients {
+        let index = *client % 3;
+        counts[index] = counts[index].saturating_add(1);
+    }
+    counts
 }
 
 /// Whether a world shows what the replay of these arrivals says.
 fn run(alloc: Global, clients: &[usize]) -> Result<bool, AllocError> {
-    let Ok(mut world) = World::new(alloc, 3, Limits::standard(), BuildHasherDefault::new()) else {
-        return Err(AllocError);
-    };
+    let mut events = Vec::new(alloc);
+    let mut replay = Replay::new(alloc);
+    ask(alloc, &mut events)?;
+    arrive(clients, &mut events, &mut replay)?;
+    come_back(&mut events)?;
+    is_replayed(alloc, events.as_slice(), &replay)
+}
+
+/// Each client sends its commands.
+fn ask(alloc: Global, events: &mut Vec<Event>) -> Result<(), AllocError> {
     for index in 0..3 {
         for asked in ASKED[index] {
-            let event = Event::Send(index + 1, asked.command(alloc)?);
-            if world.step(&event).is_err() {
-                return Ok(false);
-            }
+            events.push(Event::Send(index + 1, asked.command(alloc)?))?;
         }
     }
-    let mut replay = Replay::new(alloc);
+    Ok(())
+}
+
+/// What the clients sent arrives in this order, and the replay runs each command as it is whole.
+fn arrive(
+    clients: &[usize],
+    events: &mut Vec<Event>,
+    replay: &mut Replay,
+) -> Result<(), AllocError> {
     let mut arrived = [0usize; 3];
     for client in clients {
         let index = *client % 3;
-        let turn = arrived[index];
-        arrived[index] = turn.saturating_add(1);
         let [former, later] = ASKED[index];
-        let length = match turn {
-            0 => former.begun(),
-            1 => former
-                .length()
-                .saturating_sub(former.begun())
-                .saturating_add(later.begun()),
-            _ => later.length().saturating_sub(later.begun()),
+        let (length, whole) = match arrived[index] {
+            0 => (former.begun(), None),
+            1 => (former.rest().saturating_add(later.begun()), Some(former)),
+            _ => (later.rest(), Some(later)),
         };
-        if world.step(&Event::ToServer(index + 1, length)).is_err() {
-            return Ok(false);
-        }
-        match turn {
-            0 => {}
-            1 => replay.run(index + 1, former)?,
-            _ => replay.run(index + 1, later)?,
+        arrived[index] = arrived[index].saturating_add(1);
+        events.push(Event::ToServer(index + 1, length))?;
+        if let Some(asked) = whole {
+            replay.run(index + 1, asked)?;
         }
     }
-    Ok(shows(&mut world, &replay))
+    Ok(())
 }
 
-/// Whether all that comes back is what the replay says.
-fn shows(world: &mut TestWorld, replay: &Replay) -> bool {
+/// All replies come back.
+fn come_back(events: &mut Vec<Event>) -> Result<(), AllocError> {
     for number in 1..=3 {
-        if world.step(&Event::ToClient(number, 1_000)).is_err() {
-            return false;
-        }
+        events.push(Event::ToClient(number, 1_000))?;
     }
-    if world.clients() != 3 || !replay.agrees(world) {
-        return false;
+    Ok(())
+}
+
+/// Whether a world in which this happens shows what the replay says.
+fn is_replayed(alloc: Global, events: &[Event], replay: &Replay) -> Result<bool, AllocError> {
+    match World::new(alloc, 3, Limits::standard(), BuildHasherDefault::new()) {
+        Ok(mut world) => Ok(runs(&mut world, events) && shows(&world, replay)),
+        Err(_) => Err(AllocError),
     }
-    for number in 1..=3 {
-        if !replay.answers(number, 2, world.replies(number)) {
-            return false;
-        }
-    }
-    true
+}
+
+fn runs(world: &mut TestWorld, events: &[Event]) -> bool {
+    world.run(events).is_ok()
+}
+
+/// Whether all that came back is what the replay says.
+fn shows(world: &TestWorld, replay: &Replay) -> bool {
+    world.clients() == 3
+        && replay.agrees(world)
+        && (1..=3).all(|number| replay.answers(world, number, 2))
 }

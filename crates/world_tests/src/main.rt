@@ -12,7 +12,7 @@ use anyhow::Result;
 use std::alloc::AllocError;
 
 /// How many worlds were run, and how many of them showed what the replay says.
-#[derive(Clone, Copy, Debug, PartialEq, Eq)]
+#[derive(Clone, Copy)]
 struct Tally {
     worlds: u64,
     same: u64,
@@ -27,12 +27,9 @@ impl Tally {
     }
 }
 
-fn print(rt: &impl Print, name: &str, tally: Result<Tally, AllocError>) -> Result<()> {
-    let tally = tally?;
-    println!(rt;
-        "{name}: {} worlds, {} as replayed",
-        tally.worlds, tally.same
-    )?;
+fn print(rt: &HostRuntime, name: &str, tally: Result<Tally, AllocError>) -> Result<()> {
+    let Tally { worlds, same } = tally?;
+    println!(rt; "{name}: {worlds} worlds, {same} as replayed")?;
     Ok(())
 }
 

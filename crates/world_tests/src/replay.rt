@@ -9,7 +9,7 @@ use std::hash::{BuildHasherDefault, FoldHasher};
 pub(crate) type TestWorld = World<MemoryLink, BuildHasherDefault<FoldHasher>>;
 
 /// A command of keys and values of one byte.
-#[derive(Clone, Copy, Debug, PartialEq, Eq)]
+#[derive(Clone, Copy)]
 pub(crate) enum Asked {
     Get(u8),
     Set(u8, u8),
@@ -17,7 +17,7 @@ pub(crate) enum Asked {
 }
 
 /// What a command is answered.
-#[derive(Clone, Copy, Debug, PartialEq, Eq)]
+#[derive(Clone, Copy)]
 pub(crate) enum Answer {
     Fine,
     Nothing,
@@ -28,25 +28,15 @@ pub(crate) enum Answer {
 impl Asked {
     /// The command with its words.
     pub(crate) fn command(self, alloc: Global) -> Result<Command, AllocError> {
-        let words = match self {
-            Asked::Get(key) => vec![in alloc; word(alloc, b"GET")?, word(alloc, &[key])?]?,
-            Asked::Set(key, value) => {
-                vec![in alloc;
-                    word(alloc, b"SET")?,
-                    word(alloc, &[key])?,
-                    word(alloc, &[value])?,
-                ]?
-            }
-            Asked::Delete(key) => vec![in alloc; word(alloc, b"DEL")?, word(alloc, &[key])?]?,
-        };
-        match Command::new(words) {
-            Ok(command) => Ok(command),
-            Err(_) => Err(AllocError),
+        match self {
+            Asked::Get(key) => command(alloc, &[b"GET", &[key]]),
+            Asked::Set(key, value) => command(alloc, &[b"SET", &[key], &[value]]),
+            Asked::Delete(key) => command(alloc, &[b"DEL", &[key]]),
         }
     }
 
     /// How many bytes its text has: a GET or a DEL of one key 20, and a SET of one byte 27.
-    pub(crate) fn length(self) -> u64 {
+    fn length(self) -> u64 {
         match self {
             Asked::Get(_) => 20,
             Asked::Set(_, _) => 27,
@@ -58,17 +48,27 @@ impl Asked {
     pub(crate) fn begun(self) -> u64 {
         self.length() / 3
     }
+
+    /// How many come then.
+    pub(crate) fn rest(self) -> u64 {
+        self.length().saturating_sub(self.begun())
+    }
 }
 
-fn word(alloc: Global, bytes: &[u8]) -> Result<Vec<u8>, AllocError> {
-    Vec::from_slice(alloc, bytes)
+/// A command of these words.
+fn command(alloc: Global, texts: &[&[u8]]) -> Result<Command, AllocError> {
+    let mut words = Vec::new(alloc);
+    for text in texts {
+        words.push(text.to_vec(alloc)?)?;
+    }
+    Command::new(words).map_err(|_| AllocError)
 }
 
 /// The store, the clients in the order of their commands, and what each command was answered.
-#[derive(Debug, PartialEq, Eq, Drop)]
+#[derive(Drop)]
 pub(crate) struct Replay {
     store: Vec<(u8, u8)>,
-    pub(crate) order: Vec<usize>,
+    order: Vec<usize>,
     answers: Vec<Answer>,
 }
 
@@ -120,8 +120,15 @@ impl Replay {
         count == self.store.len() && world.order() == self.order.as_slice()
     }
 
-    /// Whether a client heard the first `count` replies of this replay to it, and no others.
-    pub(crate) fn answers(&self, client: usize, count: usize, replies: &[Value]) -> bool {
+    /// Whether the client of a number heard the first `count` replies of this replay to it, and no
+    /// others.
+    pub(crate) fn answers(&self, world: &TestWorld, client: usize, count: usize) -> bool {
+        client > 0
+            && client <= world.clients()
+            && self.are_answers(client, count, world.replies(client))
+    }
+
+    fn are_answers(&self, client: usize, count: usize, replies: &[Value]) -> bool {
         let mut seen: usize = 0;
         for (other, answer) in self.order.iter().zip(self.answers.iter()) {
             if *other == client && seen < count {

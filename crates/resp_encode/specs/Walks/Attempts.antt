@@ -1,5 +1,5 @@
 -- What a walk that writes as it goes has found, and what it has written.
-use Rattle.std.specs.Prelude.{ℕ, ◌-◌, ◌<◌, ◌≤◌, Bool, List, ◌∷◌, ◌++◌, length}
+use Rattle.std.specs.Prelude.{◌≡◌, ℕ, ◌-◌, ◌<◌, ◌≤◌, Bool, false, List, ◌∷◌, ◌++◌, length}
 use Rattle.std.specs.Bool.{OnTrue}
 use Rattle.std.specs.Str.{byte}
 use Rattle.bytes.specs.Filled.{Filled}
@@ -8,7 +8,7 @@ use Rattle.resp_value.specs.Bytes.{crlf}
 use Rattle.resp_value.specs.Numbers.{decimal}
 use Rattle.resp_value.specs.Data.{Kind, Attr, Datum, Data, depth, greatest_depth, longest, longest_among, most_items, most_items_among}
 use Rattle.resp_value.specs.Trees.{texts}
-use Rattle.resp_value.specs.Canonical.{IsValue, AreValues, IsKindInTwo, AreInTwo, HasTypes, HaveNoPush, HasPushAtTop, canonical_text, canonical_trees}
+use Rattle.resp_value.specs.Canonical.{IsValue, AreValues, IsKindInTwo, AreInTwo, HasTypes, HaveNoDouble, AllowsDoubles, HaveNoPush, HasPushAtTop, canonical_text, canonical_trees}
 use Rattle.resp_value.specs.declared.version.Version.{Version}
 use Rattle.resp_value.specs.declared.version.Version.TheVariants.{Two, Three}
 use Rattle.resp_encode.specs.Walks.Writings.{Fills}
@@ -25,6 +25,7 @@ HaveTypes Three xs = Unit {0}
 
 -- nothing of the value is refused but for its total, where this many aggregates may stand inside one another
 pub record Suits (version : Version) (bounds : Bounds) (deeper : ℕ) (x : Datum) : Type 0 where
+  pub allows_doubles : AllowsDoubles bounds x
   pub has_types : HasTypes version x
   pub push_at_top : HasPushAtTop x
   pub within_depth : depth x ≤ deeper
@@ -34,6 +35,7 @@ pub record Suits (version : Version) (bounds : Bounds) (deeper : ℕ) (x : Datum
 
 -- nothing of the members is refused but for the total, and none of them is a push
 pub record SuitEach (version : Version) (bounds : Bounds) (deeper : ℕ) (xs : Data) : Type 0 where
+  pub no_double : bounds.doubles ≡ false → HaveNoDouble xs
   pub have_types : HaveTypes version xs
   pub no_push : HaveNoPush xs
   pub within_depth : greatest_depth xs ≤ deeper
@@ -68,6 +70,7 @@ pub record AttemptAttributePairs (version : Version) (bounds : Bounds) (deeper i
 
 -- nothing of a value without members is refused but for its total, and this much room holds its text
 pub record FitsSpare (version : Version) (bounds : Bounds) (spare : ℕ) (x : Datum) : Type 0 where
+  pub allows_doubles : AllowsDoubles bounds x
   pub has_types : HasTypes version x
   pub within_length : longest x ≤ bounds.length
   pub room : length (canonical_text version x) ≤ spare

@@ -11,11 +11,11 @@ ghost use Rattle.resp_value.specs.Values.{line_text, content_bytes, is_negative,
 ghost use Rattle.resp_encode.specs.Walks.Attempts.{Attempt, FitsSpare};
 ghost use Rattle.resp_encode.specs.Walks.Measures.{Describes};
 
-use crate::first_fault::has_types;
+use crate::first_fault::{are_doubles_allowed, has_types};
 use crate::measure::Measure;
 use crate::measure_value::{
-    measure_big, measure_bool, measure_bulk_error, measure_line, measure_null, measure_verbatim,
-    string_size,
+    measure_big, measure_bool, measure_bulk_error, measure_double, measure_line, measure_null,
+    measure_verbatim, string_size,
 };
 use crate::room::{has_room_for_head, room};
 use crate::text::{
@@ -35,7 +35,10 @@ fn suits(found: &Measure, version: Version, limits: &Limits, out: &BytesMut) -> 
     ensures { (x : Datum) → Describes version x found.now →
         OnTrue result (FitsSpare version limits.now out.now.spare x) }
 {
-    if !has_types(found, version) || found.longest > limits.length() {
+    if !are_doubles_allowed(found, limits) || !has_types(found, version) {
+        return false;
+    }
+    if found.longest > limits.length() {
         return false;
     }
     match found.size {
@@ -127,6 +130,27 @@ pub(super) fn attempt_error(
         return false;
     }
     write_line(out, b'-', text);
+    true
+}
+
+/// Appends a double, or leaves the buffer where doubles aren't allowed, in version 2, over length or
+/// without room.
+#[inline(never)]
+pub(super) fn attempt_double(
+    line: &Line,
+    version: Version,
+    limits: &Limits,
+    out: &mut BytesMut,
+) -> bool
+    ensures { (deeper : ℕ) → Attempt version limits.now deeper
+        (scalar (d.Double (line_text line.now))) out.old out.new result }
+{
+    let text = line.text();
+    let found = measure_double(text);
+    if !suits(&found, version, limits, out) {
+        return false;
+    }
+    write_line(out, b',', text);
     true
 }
 

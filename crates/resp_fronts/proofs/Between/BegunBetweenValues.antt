@@ -1,5 +1,5 @@
 -- The first byte after a front that is between values: its cause, or that a value goes on after it.
-use Rattle.std.proofs.Common.{◌≡◌, ℕ, zero, suc, ◌<◌, ◌≤◌, Option, None, Some, List, [], ◌∷◌, ◌++◌, length, refl, sym, ap, subst, ◌∙◌, arith, append_assoc, cond}
+use Rattle.std.proofs.Common.{◌≡◌, ℕ, zero, suc, ◌<◌, ◌≤◌, Bool, true, false, Option, None, Some, List, [], ◌∷◌, ◌++◌, length, refl, sym, ap, subst, ◌∙◌, arith, append_assoc, cond}
 use Rattle.resp_value.specs.Data.{items_of}
 use Rattle.resp_value.specs.Trees.{Tree, text}
 use Rattle.resp_value.specs.Rules.{Rules, Rule, Grammar, NoDouble, InVersion, PushAtTop, InRange, NotStreamed, WithinDepth, WithinLength, WithinItems, rank}
@@ -12,7 +12,7 @@ use Rattle.resp_value.proofs.FirstBytes.{begins, first_byte_is}
 use Rattle.resp_value.proofs.Choices.{if_within}
 use Rattle.resp_fronts.specs.Frames.{text_around}
 use Rattle.resp_fronts.specs.MayFollow.{IsWholeText, MayFollowFrames}
-use Rattle.resp_fronts.specs.FirstByteRefusals.{refusal_in_three, aggregate_refusal, push_refusal, first_byte_answers, first_byte_refusal}
+use Rattle.resp_fronts.specs.FirstByteRefusals.{refusal_in_three, aggregate_refusal, push_refusal, double_refusal, first_byte_answers, first_byte_refusal}
 use Rattle.resp_fronts.proofs.FrameLaws.Composition.{around-append, determine, first_member}
 use Rattle.resp_fronts.proofs.FrameLaws.LevelsAlone.{same_length}
 use Rattle.resp_fronts.proofs.FirstLines.CountRows.{CompletesUnder}
@@ -38,8 +38,8 @@ begin_broken r levels front byte no_stop w dead =
     let (begun, split) = text_begins member.tree member.rest rest byte member.whole in
     dead begun (record { tree = member.tree; is_tree = member.is_tree; keep = member.keep; whole = split }))
   where
-    text_begins : (t : Tree) (behind rest : List ℕ) (byte : ℕ) → text t ++ behind ≡ byte ∷ rest → (begun : List ℕ) × (text t ≡ byte ∷ begun)
-    text_begins t behind rest byte h = let (cs, b) = begins t in (cs, b ∙ ap (λ z. z ∷ cs) (first_byte_is t behind rest byte h))
+    text_begins : (t : Tree) (beyond rest : List ℕ) (byte : ℕ) → text t ++ beyond ≡ byte ∷ rest → (begun : List ℕ) × (text t ≡ byte ∷ begun)
+    text_begins t beyond rest byte h = let (cs, b) = begins t in (cs, b ∙ ap (λ z. z ∷ cs) (first_byte_is t beyond rest byte h))
 
 -- the rules that a first byte can break by itself
 abbrev IsEarly : Option Rule → Type 0
@@ -57,12 +57,19 @@ push_early : (r : Rules) (level : ℕ) → IsEarly (push_refusal r level)
 push_early r zero = aggregate_early r 0
 push_early r (suc level) = omega arith
 
+double_early : (r : Rules) → IsEarly (double_refusal r)
+double_early r = cases r.limits.doubles
+  where
+    cases : (b : Bool) → IsEarly (cond b (refusal_in_three r.version None) (Some NoDouble))
+    cases true = in_three_early r.version None tt
+    cases false = omega arith
+
 refusal_early : (r : Rules) (level byte : ℕ) → IsEarly (first_byte_refusal r level byte)
 refusal_early r level byte =
     let leaf = in_three_early r.version None tt in
     let kind = in_three_early r.version (aggregate_refusal r level) (aggregate_early r level) in
     at_answer (λ x answer. IsEarly answer) (first_byte_answers r level) (Some Grammar) byte
-    (and_rows (omega arith)
+    (and_rows (double_early r)
     (and_rows tt
     (and_rows tt
     (and_rows tt

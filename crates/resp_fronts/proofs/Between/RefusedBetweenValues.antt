@@ -97,7 +97,7 @@ refuse_member r v vs p x rest ((f ∷ fs), a, o, e) m s l n t =
           (compose (LeafKeeps r WithinLength) (NodeKeeps r WithinLength) (f ∷ fs) (x ∷ (rest ++ af.some))
           (are_kept (LeafKeeps r WithinLength) (NodeKeeps r WithinLength) (f ∷ fs) hs)
           (parts_follow (LeafKeeps r WithinLength) (NodeKeeps r WithinLength) (f ∷ fs) (x ∷ []) (rest ++ af.some)
-          (record { here = rest; behind = af.some; tail = t; after = af.holds; whole = refl })));
+          (record { here = rest; beyond = af.some; tail = t; after = af.holds; whole = refl })));
     })
   where
     more_room : (r : Rules) (f : Frame) (m i : ℕ) → HasShape f.kind (so_far m) f.form (count f.done) → r.limits.items < items_of f.kind (room f.kind m) →

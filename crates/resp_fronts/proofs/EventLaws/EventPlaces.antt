@@ -8,7 +8,7 @@ use Rattle.resp_value.specs.Trees.{Tree, Trees, leaf, node, none, more, Leaf, li
 use Rattle.resp_value.proofs.DigitLemmas.{length-significant_digits}
 use Rattle.resp_value.proofs.DefaultLimits.{text_at_least}
 use Rattle.resp_fronts.specs.Frames.{Frame, text_around}
-use Rattle.resp_fronts.specs.Events.{TextKind, Simple, Error, Bulk, BulkError, Verbatim, Big, Timed, bytes_from, text_events, last_of, big_events, chunk_events, leaf_events, events, events_each, frame_events, events_around}
+use Rattle.resp_fronts.specs.Events.{TextKind, line_text_kind, Bulk, BulkError, Verbatim, Big, Timed, bytes_from, text_events, last_of, big_events, chunk_events, leaf_events, events, events_each, frame_events, events_around}
 use Rattle.resp_fronts.proofs.EventLaws.EventsAround.{next_member_at}
 
 -- each event comes at one of the bytes from here to there
@@ -61,15 +61,10 @@ chunks_within at (c ∷ cs) rest =
     (chunks_within (at + length c.digits + length c.content + 5) cs rest))
 
 leaf_within : (from : ℕ) (l : Leaf) → AreWithin from (from + length (leaf_text l)) (leaf_events from l)
-leaf_within from (line t.Simple s) =
-    let n : length (leaf_text (line t.Simple s)) ≡ length s + 3 = omega (arith, length-append s (crlf [])) in
-    text_within Simple from (from + 1) s (last_of from (leaf_text (line t.Simple s))) from (from + length (leaf_text (line t.Simple s))) (omega arith)
+leaf_within from (line k s) =
+    let n : length (leaf_text (line k s)) ≡ length s + 3 = omega (arith, length-append s (crlf [])) in
+    text_within (line_text_kind k) from (from + 1) s (last_of from (leaf_text (line k s))) from (from + length (leaf_text (line k s))) (omega arith)
     (omega arith) (omega arith) (omega arith) (omega arith) (omega arith)
-leaf_within from (line t.Error s) =
-    let n : length (leaf_text (line t.Error s)) ≡ length s + 3 = omega (arith, length-append s (crlf [])) in
-    text_within Error from (from + 1) s (last_of from (leaf_text (line t.Error s))) from (from + length (leaf_text (line t.Error s))) (omega arith)
-    (omega arith) (omega arith) (omega arith) (omega arith) (omega arith)
-leaf_within from (line t.Double s) = tt
 leaf_within from (numeral t.Int sign digits) = let n = text_at_least (leaf (numeral t.Int sign digits)) in ((omega arith, omega arith), tt)
 leaf_within from (numeral t.Big sign digits) =
     let whole = leaf_text (numeral t.Big sign digits) in

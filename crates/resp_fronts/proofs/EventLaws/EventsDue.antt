@@ -67,7 +67,7 @@ about_within from to (e ∷ es) p = (omega (arith, p.0.0), about_within from to 
 pub record EventsThen (frames : List Frame) (value whole : Tree) : Type 0 where
   pub later : List Timed
   pub are : events 0 whole ≡ events_around frames ++ (events (length (text_around frames [])) value ++ later)
-  pub behind : AreAbout (length (text_around frames (text value))) later
+  pub beyond : AreAbout (length (text_around frames (text value))) later
 
 -- within one frame more
 events_in_frame : (f : Frame) (fs : List Frame) (value : Tree) (ts : Trees) (whole : Tree) →
@@ -94,17 +94,17 @@ events_in_frame f fs value ts whole h =
       later = mid ++ h.later;
       are = h.are ∙ sym (append_assoc (events_around fs) (events start u) h.later) ∙ ap (λ z. z ++ h.later) (events-node f fs value ts) ∙
           append_assoc (events_around (f ∷ fs)) (here ++ mid) h.later ∙ ap (λ z. events_around (f ∷ fs) ++ z) (append_assoc here mid h.later);
-      behind = about-append next mid h.later
+      beyond = about-append next mid h.later
           (about-append next (events_each next ts) _ (about_within next (next + length (texts ts)) (events_each next ts) (each_within next ts))
           (omega (arith, text_at_least u), tt))
-          (about_earlier (length (text_around fs (text u))) next h.later (omega arith) h.behind);
+          (about_earlier (length (text_around fs (text u))) next h.later (omega arith) h.beyond);
     }
 
 -- the events of a whole front, by the value that its frames are around
 pub compose_events : (L : LeafRule) (N : NodeRule) (fs : List Frame) (x : List ℕ) (kept : AreKept L N fs) (m : ValueThen L N fs x) →
     EventsThen fs m.tree (compose_member L N fs x kept m).tree
 unfolding compose_member
-compose_events L N [] x kept m = record { later = []; are = sym (append-nil (events 0 m.tree)); behind = tt }
+compose_events L N [] x kept m = record { later = []; are = sym (append-nil (events 0 m.tree)); beyond = tt }
 compose_events L N (f ∷ fs) x kept m =
     let (ts, e) = frame_tree L N f fs x kept.0 kept.1 m in
     let whole = (compose_member L N fs (open_text f ++ x) kept.2 (frame_value L N f fs x kept.0 kept.1 m)).tree in
@@ -134,9 +134,9 @@ any_kept (f ∷ fs) o = (o.3, any_from_each (suc (length fs)) f.done, any_kept f
 -- the value that a spelled tree has where the frames leave off, and the tree's events by it
 pub record BegunIn (frames : List Frame) (begun rest : List ℕ) (whole : Tree) : Type 0 where
   pub value : Tree
-  pub behind : List ℕ
+  pub beyond : List ℕ
   pub is_tree : IsTree value
-  pub begins : text value ++ behind ≡ begun ++ rest
+  pub begins : text value ++ beyond ≡ begun ++ rest
   pub all : EventsThen frames value whole
 
 -- each tree that a front begins has its frames' events first, then those of the value that it begins
@@ -151,7 +151,7 @@ front_events frames begun rest whole o no_stop is_tree e =
     let same = unique c.tree whole [] [] c.is_tree is_tree (ap (λ z. z ++ []) (c.whole ∙ sym spelled)) in
     record {
       value = m.tree;
-      behind = m.rest;
+      beyond = m.rest;
       is_tree = m.is_tree;
       begins = m.whole;
       all =
@@ -173,8 +173,8 @@ due_around frames begun value whole h unfinished =
     (due_all 0 n (events_around frames) (within_wider 0 start 0 n (events_around frames) (omega arith) (omega arith) (around_within frames)))
     ∙ ap (λ z. without_places (events_around frames) ++ z) (due-append n (events start value) h.later ∙
     ap (λ z. events_due n (events start value) ++ z) (due_none n h.later
-    (behind (length (text_around frames (text value))) n h.later (omega arith) h.behind)) ∙ append-nil (events_due n (events start value)))
+    (beyond (length (text_around frames (text value))) n h.later (omega arith) h.beyond)) ∙ append-nil (events_due n (events start value)))
   where
-    behind : (from n : ℕ) (es : List Timed) → n < from → AreAbout from es → AreFrom n es
-    behind from n [] l p = tt
-    behind from n (e ∷ es) l p = (omega (arith, p.0), behind from n es l p.1)
+    beyond : (from n : ℕ) (es : List Timed) → n < from → AreAbout from es → AreFrom n es
+    beyond from n [] l p = tt
+    beyond from n (e ∷ es) l p = (omega (arith, p.0), beyond from n es l p.1)

@@ -156,6 +156,7 @@ star_deep r k (leaf (chunked cs z)) l d a b = omega (arith, ap byte_at_start b)
 
 -- the null of `*` is within every rule
 pub null_keeps : (r : Rules) (k : ℕ) (h : Rule) → LeafMeets r h k (null ArrayNull)
+null_keeps r k NoDouble = λ off. tt
 null_keeps r k InVersion = λ v. tt
 null_keeps r k NotStreamed = λ v. tt
 null_keeps r k WithinLength = omega arith

@@ -8,7 +8,7 @@ use Rattle.resp_value.specs.LocalRules.{HoldsFrom, LeafRule, NodeRule}
 use Rattle.resp_value.specs.Numbers.{IsDigit, IsDigits, Minus, Plus, Sign, Unsigned, number, sign_text}
 use Rattle.resp_value.specs.Trees.{Chunk, ArrayNull, Big, Bulk, BulkError, BulkNull, Double, Error, HasFormat, Int, IsTree, NumberKind, PlainNull, Simple, StringKind, Tree, Verbatim, chunked, chunks_text, leaf, line, node, null, number_byte, numeral, payload, string, string_byte, truth, truth_line}
 use Rattle.resp_value.proofs.FirstBytes.{byte_at_start}
-use Rattle.resp_value.proofs.FirstLines.{after_line, chunked_sort, first_line, leaf_of, no_sort, numeral_sort, sort, sort_behind_dollar, sort_of, string_sort, sort_of-line}
+use Rattle.resp_value.proofs.FirstLines.{after_line, chunked_sort, first_line, leaf_of, no_sort, numeral_sort, sort, sort_after_dollar, sort_of, string_sort, sort_of-line}
 use Rattle.resp_value.proofs.Splitting.{digit_is_no, digit_is_no_mark, line_from_each}
 use Rattle.resp_value.proofs.DigitLemmas.{number-more}
 use Rattle.resp_fronts.specs.LeastCompletions.{HasLeast}
@@ -131,7 +131,7 @@ are_zeros zero = tt
 are_zeros (suc n) = (omega arith, are_zeros n)
 
 -- `$`: 4, by its null
-pub dollar_more : (t : Tree) (l : List ℕ) → IsTree t → sort_of t ≡ sort_behind_dollar l → first_line t ≡ 36 ∷ l → 2 ≤ length l + length (after_line t)
+pub dollar_more : (t : Tree) (l : List ℕ) → IsTree t → sort_of t ≡ sort_after_dollar l → first_line t ≡ 36 ∷ l → 2 ≤ length l + length (after_line t)
 unfolding first_line
 dollar_more (leaf (null BulkNull)) l p e b = omega (arith, ap length b)
 dollar_more (leaf (null ArrayNull)) l p e b = omega (arith, ap byte_at_start b)
@@ -205,18 +205,18 @@ chunked_row L N k h = line_row L N k (36 ∷ 63 ∷ []) [] (leaf (chunked [] (48
     )
 
 -- a number's type byte, its sign and what follows say so
-pub sort_of_signed : (K : NumberKind) (g : Sign) (first : ℕ) (behind : List ℕ) → (g ≡ Unsigned → (first ≡ 43 → ⊥) × (first ≡ 45 → ⊥)) →
-    sort (number_byte K ∷ (sign_text g ++ first ∷ behind)) ≡ leaf_of (numeral_sort K g (first ∷ behind))
-sort_of_signed Int Unsigned first behind h = let other = h refl in rw (ne_eqb first 43 other.0, ne_eqb first 45 other.1)
-sort_of_signed Big Unsigned first behind h = let other = h refl in rw (ne_eqb first 43 other.0, ne_eqb first 45 other.1)
-sort_of_signed _ _ first behind h = refl
+pub sort_of_signed : (K : NumberKind) (g : Sign) (first : ℕ) (beyond : List ℕ) → (g ≡ Unsigned → (first ≡ 43 → ⊥) × (first ≡ 45 → ⊥)) →
+    sort (number_byte K ∷ (sign_text g ++ first ∷ beyond)) ≡ leaf_of (numeral_sort K g (first ∷ beyond))
+sort_of_signed Int Unsigned first beyond h = let other = h refl in rw (ne_eqb first 43 other.0, ne_eqb first 45 other.1)
+sort_of_signed Big Unsigned first beyond h = let other = h refl in rw (ne_eqb first 43 other.0, ne_eqb first 45 other.1)
+sort_of_signed _ _ first beyond h = refl
 
 -- a digit is no sign
 pub digit_no_sign : (g : Sign) (digit : ℕ) → IsDigit digit → g ≡ Unsigned → (digit ≡ 43 → ⊥) × (digit ≡ 45 → ⊥)
 digit_no_sign g digit p e = (λ h. omega arith, λ h. omega arith)
 
 -- the sort of a number's first line after a digit
-pub sort_of_digits : (K : NumberKind) (g : Sign) (digit : ℕ) (digits behind : List ℕ) → IsDigit digit →
-    sort (number_byte K ∷ ((sign_text g ++ digit ∷ digits) ++ behind)) ≡ leaf_of (numeral_sort K g (digit ∷ digits ++ behind))
-sort_of_digits K g digit digits behind p = ap (λ z. sort (number_byte K ∷ z)) (append_assoc (sign_text g) (digit ∷ digits) behind) ∙
-    sort_of_signed K g digit (digits ++ behind) (digit_no_sign g digit p)
+pub sort_of_digits : (K : NumberKind) (g : Sign) (digit : ℕ) (digits beyond : List ℕ) → IsDigit digit →
+    sort (number_byte K ∷ ((sign_text g ++ digit ∷ digits) ++ beyond)) ≡ leaf_of (numeral_sort K g (digit ∷ digits ++ beyond))
+sort_of_digits K g digit digits beyond p = ap (λ z. sort (number_byte K ∷ z)) (append_assoc (sign_text g) (digit ∷ digits) beyond) ∙
+    sort_of_signed K g digit (digits ++ beyond) (digit_no_sign g digit p)

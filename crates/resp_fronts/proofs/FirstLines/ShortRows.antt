@@ -51,13 +51,13 @@ before_newline_row L N level line n is_line h = record {
   };
   size = ap suc h.size;
   least = λ c w. (let u = completes_return L N level line c is_line w in
-      let behind : CompletesValue L N level (line ++ crlf []) (after_line u.tree) = record {
+      let beyond : CompletesValue L N level (line ++ crlf []) (after_line u.tree) = record {
         tree = u.tree;
         is_tree = u.is_tree;
         keep = u.keep;
         whole = text_first u.tree ∙ ap (λ z. z ++ crlf (after_line u.tree)) u.line ∙ sym (append_assoc line (crlf []) (after_line u.tree));
       } in
-      omega (arith, ap length u.whole, h.least (after_line u.tree) behind));
+      omega (arith, ap length u.whole, h.least (after_line u.tree) beyond));
 }
 
 -- the first byte of the least completion leaves one byte fewer to come

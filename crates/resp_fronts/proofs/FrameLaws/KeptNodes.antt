@@ -25,7 +25,7 @@ at_each_rule P a b c d e f g h i j WithinTotal = j
 pub leaf_meets : (r : Rules) (level : ℕ) (l : Leaf) → IsNoDouble l → (r.version ≡ Two → IsLeafInTwo l) → IsInRange l →
     (r.limits.streamed ≡ false → IsCountedLeaf l) → content_length (leaf_value l) ≤ r.limits.length → (rule : Rule) → LeafMeets r rule level l
 leaf_meets r level l no_double in_version in_range counted within_length =
-    at_each_rule (λ rule. LeafMeets r rule level l) tt no_double in_version tt in_range counted tt within_length tt tt
+    at_each_rule (λ rule. LeafMeets r rule level l) tt (λ off. no_double) in_version tt in_range counted tt within_length tt tt
 
 -- a leaf that breaks no rule by itself keeps the rules up to any one
 pub leaf_keeps : (r : Rules) (rule : Rule) (level : ℕ) (l : Leaf) → IsNoDouble l → (r.version ≡ Two → IsLeafInTwo l) → IsInRange l →

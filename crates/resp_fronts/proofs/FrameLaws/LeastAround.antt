@@ -30,10 +30,10 @@ one_begins (c ∷ a) (d ∷ b) x y e = cases (one_begins a b x y cc)
 -- what may follow begun bytes: what completes their value, and what follows that
 pub record ValueParts (L : LeafRule) (N : NodeRule) (fs : List Frame) (b c : List ℕ) : Type 0 where
   pub here : List ℕ
-  pub behind : List ℕ
+  pub beyond : List ℕ
   pub tail : CompletesValue L N (length fs) b here
-  pub after : MayFollowValue L N fs behind
-  pub whole : c ≡ here ++ behind
+  pub after : MayFollowValue L N fs beyond
+  pub whole : c ≡ here ++ beyond
 
 -- b is begun and not whole
 pub record IsBegun (b : List ℕ) : Type 0 where
@@ -50,7 +50,7 @@ member_parts L N fs b c g m = cases (one_begins (text m.tree) b m.rest c m.whole
     cases : BeginsBy (text m.tree) b m.rest c ⊎ BeginsBy b (text m.tree) c m.rest → ValueParts L N fs b c
     cases (inl w) = record {
       here = w.0;
-      behind = m.rest;
+      beyond = m.rest;
       tail = record { tree = m.tree; is_tree = m.is_tree; keep = m.keep; whole = w.1 };
       after =
           m.after;
@@ -67,10 +67,10 @@ member_parts L N fs b c g m = cases (one_begins (text m.tree) b m.rest c m.whole
 pub parts_member : (L : LeafRule) (N : NodeRule) (fs : List Frame) (b c : List ℕ) → ValueParts L N fs b c → ValueThen L N fs (b ++ c)
 parts_member L N fs b c p = record {
   tree = p.tail.tree;
-  rest = p.behind;
+  rest = p.beyond;
   is_tree = p.tail.is_tree;
   keep = p.tail.keep;
-  whole = ap (λ z. z ++ p.behind) p.tail.whole ∙ append_assoc b p.here p.behind ∙ ap (λ z. b ++ z) (sym p.whole);
+  whole = ap (λ z. z ++ p.beyond) p.tail.whole ∙ append_assoc b p.here p.beyond ∙ ap (λ z. b ++ z) (sym p.whole);
   after = p.after;
 }
 
@@ -179,10 +179,10 @@ follow_least L N fs x b m s h n z l =
     let g : IsBegun (x ∷ b) = record { tree = l.holds.tree; more = l.some; is_tree = l.holds.is_tree; whole = l.holds.whole; some = omega (arith, l.size) } in
     record {
       some = l.some ++ a.some;
-      holds = parts_follow L N fs (x ∷ b) (l.some ++ a.some) (record { here = l.some; behind = a.some; tail = l.holds; after = a.holds; whole = refl });
+      holds = parts_follow L N fs (x ∷ b) (l.some ++ a.some) (record { here = l.some; beyond = a.some; tail = l.holds; after = a.holds; whole = refl });
       size = omega (arith, length-append l.some a.some, l.size, a.size);
       least = λ c w. (let p = follow_parts L N fs x b c (are_open L N fs h) n g w in
-          omega (arith, l.least p.here p.tail, a.least p.behind p.after, ap length p.whole, length-append p.here p.behind));
+          omega (arith, l.least p.here p.tail, a.least p.beyond p.after, ap length p.whole, length-append p.here p.beyond));
     }
 
 -- the whole front

@@ -41,8 +41,8 @@ first_byte r byte bounds = cases (eqb_tells byte 46)
 pub events_due_split : EventsDueSplit
 events_due_split frames begun rest whole are_open no_stop spells =
     let b = front_events frames begun rest whole are_open (no_stop_first (begun ++ rest) no_stop) spells.is_tree spells.spelled in
-    (b.value, b.behind, b.is_tree, b.begins, λ unfinished. due_around frames begun b.value whole b.all unfinished)
+    (b.value, b.beyond, b.is_tree, b.begins, λ unfinished. due_around frames begun b.value whole b.all unfinished)
   where
-    no_stop_first : (x : List ℕ) → ((behind : List ℕ) → x ≡ 46 ∷ behind → ⊥) → byte_at_start x ≡ 46 → ⊥
+    no_stop_first : (x : List ℕ) → ((beyond : List ℕ) → x ≡ 46 ∷ beyond → ⊥) → byte_at_start x ≡ 46 → ⊥
     no_stop_first [] h e = omega arith
     no_stop_first (c ∷ cs) h e = h cs (ap (λ z. z ∷ cs) e)

@@ -16,9 +16,9 @@ use Rattle.resp_fronts.specs.OpenLevels.{AreLevelsOf, AreReady, Level, so_far}
 
 -- a text's first byte is no `.`
 text_no_stop : (t : Tree) (c : List ℕ) → byte_at_start (text t ++ c) ≡ 46 → ⊥
-text_no_stop t c = case (text t) (text_at_least t) (λ behind e. not_close t c behind e)
+text_no_stop t c = case (text t) (text_at_least t) (λ beyond e. not_close t c beyond e)
   where
-    case : (bytes : List ℕ) → 3 ≤ length bytes → ((behind : List ℕ) → bytes ++ c ≡ 46 ∷ behind → ⊥) → byte_at_start (bytes ++ c) ≡ 46 → ⊥
+    case : (bytes : List ℕ) → 3 ≤ length bytes → ((beyond : List ℕ) → bytes ++ c ≡ 46 ∷ beyond → ⊥) → byte_at_start (bytes ++ c) ≡ 46 → ⊥
     case [] n h e = omega arith
     case (x ∷ bytes) n h e = h (bytes ++ c) (ap (λ z. z ∷ (bytes ++ c)) e)
 

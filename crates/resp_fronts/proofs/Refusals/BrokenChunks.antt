@@ -12,7 +12,7 @@ use Rattle.resp_fronts.proofs.FirstLines.BegunLines.{line_begins}
 use Rattle.resp_fronts.proofs.FirstLines.CountRows.{CompletesUnder}
 use Rattle.resp_fronts.proofs.Refusals.RefusedBytes.{digits_hold}
 use Rattle.resp_fronts.proofs.Tokens.StreamedStrings.{completes_chunks, last}
-use Rattle.resp_fronts.proofs.Refusals.BrokenLines.{behind_return_broken, byte_broken, chunked_broken}
+use Rattle.resp_fronts.proofs.Refusals.BrokenLines.{after_return_broken, byte_broken, chunked_broken}
 use Rattle.resp_fronts.proofs.Tokens.StreamedHeads.{mark_line}
 use Rattle.resp_fronts.proofs.Tokens.ChunkTokens.{streamed_text}
 
@@ -24,12 +24,12 @@ stream_mark_broken r level rest byte no_return c = byte_broken (LeafKeeps r Gram
 -- after the CR of a streamed string's line comes an LF alone
 pub stream_returned_broken : (r : Rules) (level : ℕ) (rest : List ℕ) (byte : ℕ) → (byte ≡ 10 → ⊥) →
     CompletesUnder r Grammar level (36 ∷ 63 ∷ 13 ∷ []) (byte ∷ rest) → ⊥
-stream_returned_broken r level rest byte no_newline c = behind_return_broken (LeafKeeps r Grammar) (NodeKeeps r Grammar) level (36 ∷ 63 ∷ []) rest byte
+stream_returned_broken r level rest byte no_newline c = after_return_broken (LeafKeeps r Grammar) (NodeKeeps r Grammar) level (36 ∷ 63 ∷ []) rest byte
     mark_line no_newline c
 
 -- what follows whole chunks begins with a line: that of a chunk, or the last
-next_line : (cs : List Chunk) (z : List ℕ) → AllByRecursion IsChunk cs → IsDigits z → (digits : List ℕ) × (behind : List ℕ) × IsDigits digits ×
-    (chunks_text cs (last z) ≡ (59 ∷ digits) ++ crlf behind)
+next_line : (cs : List Chunk) (z : List ℕ) → AllByRecursion IsChunk cs → IsDigits z → (digits : List ℕ) × (beyond : List ℕ) × IsDigits digits ×
+    (chunks_text cs (last z) ≡ (59 ∷ digits) ++ crlf beyond)
 next_line [] z p q = (z, [], q, refl)
 next_line (c ∷ cs) z p q = (c.digits, c.content ++ crlf (chunks_text cs (last z)), p.0.0.0, refl)
 
@@ -50,9 +50,9 @@ chunk_mark_broken r level chunks rest byte p no_digit c =
     let l = next_line u.more u.zeros u.are_chunks u.digits in
     cases l.0 l.1 l.2 (sym l.3 ∙ u.whole)
   where
-    cases : (digits behind : List ℕ) → IsDigits digits → (59 ∷ digits) ++ crlf behind ≡ 59 ∷ byte ∷ rest → ⊥
-    cases [] behind q e = let n : 0 < 0 = q.0 in omega arith
-    cases (d ∷ digits) behind q e = let h : d ≡ byte = cc in no_digit (subst IsDigit h q.1.0)
+    cases : (digits beyond : List ℕ) → IsDigits digits → (59 ∷ digits) ++ crlf beyond ≡ 59 ∷ byte ∷ rest → ⊥
+    cases [] beyond q e = let n : 0 < 0 = q.0 in omega arith
+    cases (d ∷ digits) beyond q e = let h : d ≡ byte = cc in no_digit (subst IsDigit h q.1.0)
 
 -- after digits a digit or CR
 pub chunk_length_broken : (r : Rules) (level : ℕ) (chunks : List Chunk) (digits rest : List ℕ) (byte : ℕ) → AllByRecursion IsChunk chunks → IsDigits digits →
@@ -60,15 +60,15 @@ pub chunk_length_broken : (r : Rules) (level : ℕ) (chunks : List Chunk) (digit
 chunk_length_broken r level chunks digits rest byte p are_digits no_return no_digit c =
     let u = completes_chunks (LeafKeeps r Grammar) (NodeKeeps r Grammar) level chunks (59 ∷ digits) (byte ∷ rest) p c in
     let l = next_line u.more u.zeros u.are_chunks u.digits in
-    let (behind, a, b) = line_begins (59 ∷ l.0) (59 ∷ digits) l.1 (byte ∷ rest) (chunk_line digits are_digits) (sym l.3 ∙ u.whole) in
-    cases l.0 l.1 behind l.2 a b
+    let (beyond, a, b) = line_begins (59 ∷ l.0) (59 ∷ digits) l.1 (byte ∷ rest) (chunk_line digits are_digits) (sym l.3 ∙ u.whole) in
+    cases l.0 l.1 beyond l.2 a b
   where
-    cases : (all after behind : List ℕ) → IsDigits all → 59 ∷ all ≡ (59 ∷ digits) ++ behind → byte ∷ rest ≡ behind ++ crlf after → ⊥
+    cases : (all after beyond : List ℕ) → IsDigits all → 59 ∷ all ≡ (59 ∷ digits) ++ beyond → byte ∷ rest ≡ beyond ++ crlf after → ⊥
     cases all after [] q a b = let h : byte ≡ 13 = cc in no_return h
-    cases all after (d ∷ behind) q a b =
+    cases all after (d ∷ beyond) q a b =
         let h : byte ≡ d = cc in
-        let k : all ≡ digits ++ d ∷ behind = cc in
-        no_digit (subst IsDigit (sym h) (digits_hold digits behind d (subst (AllByRecursion IsDigit) k q.1)))
+        let k : all ≡ digits ++ d ∷ beyond = cc in
+        no_digit (subst IsDigit (sym h) (digits_hold digits beyond d (subst (AllByRecursion IsDigit) k q.1)))
 
 -- after the CR an LF
 pub chunk_length_returned_broken : (r : Rules) (level : ℕ) (chunks : List Chunk) (digits rest : List ℕ) (byte : ℕ) → AllByRecursion IsChunk chunks →
@@ -83,8 +83,8 @@ chunk_length_returned_broken r level chunks digits rest byte p are_digits no_new
 
 -- digits that aren't those of zero are a chunk's
 chunk_stands : (cs : List Chunk) (z digits rest : List ℕ) → AllByRecursion IsChunk cs → IsDigits z → number z ≡ 0 → IsDigits digits → 0 < number digits →
-    chunks_text cs (last z) ≡ (59 ∷ digits) ++ crlf rest → (content : List ℕ) × (behind : List ℕ) × (length content ≡ number digits) ×
-    (content ++ crlf behind ≡ rest)
+    chunks_text cs (last z) ≡ (59 ∷ digits) ++ crlf rest → (content : List ℕ) × (beyond : List ℕ) × (length content ≡ number digits) ×
+    (content ++ crlf beyond ≡ rest)
 chunk_stands [] z digits rest p q zero i some e =
     let s = line_split (59 ∷ z) (59 ∷ digits) [] rest (chunk_line z q) (chunk_line digits i) e in
     let h : 59 ∷ z ≡ 59 ∷ digits = s.0 in
@@ -100,7 +100,7 @@ chunk_stands (c ∷ cs) z digits rest p q zero i some e =
 -- what follows a whole chunk's content
 content_goes_on : (r : Rules) (level : ℕ) (chunks : List Chunk) (digits part more rest : List ℕ) → AllByRecursion IsChunk chunks → IsDigits digits →
     0 < number digits → number digits ≡ length part → CompletesUnder r Grammar level (streamed_text chunks ((59 ∷ digits) ++ crlf (part ++ more))) rest →
-    (behind : List ℕ) × (crlf behind ≡ more ++ rest)
+    (beyond : List ℕ) × (crlf beyond ≡ more ++ rest)
 content_goes_on r level chunks digits part more rest p are_digits some size c =
     let u = completes_chunks (LeafKeeps r Grammar) (NodeKeeps r Grammar) level chunks ((59 ∷ digits) ++ crlf (part ++ more)) rest p c in
     let s = chunk_stands u.more u.zeros digits ((part ++ more) ++ rest) u.are_chunks u.digits u.zero are_digits some

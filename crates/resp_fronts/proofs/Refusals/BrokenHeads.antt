@@ -20,19 +20,19 @@ digits_of_number t K g a digits p e s = subst IsTree (tree_of_numeral t K g digi
 -- after the type byte of a number come a sign and digits alone, and digits alone after a sign
 pub number_begun_broken : (K : NumberKind) (g : Sign) (byte : ℕ) → (g ≡ Unsigned → (byte ≡ 43 → ⊥) × (byte ≡ 45 → ⊥)) → (IsDigit byte → ⊥) →
     NoLineGoesOn (number_byte K ∷ (sign_text g ++ [])) byte
-number_begun_broken K g byte no_sign no_digit t behind p e =
-    let h : first_line t ≡ number_byte K ∷ (sign_text g ++ byte ∷ behind) = e ∙ ap (λ z. number_byte K ∷ z) (append_assoc (sign_text g) [] (byte ∷ behind)) in
-    no_digit ((digits_of_number t K g (number_byte K ∷ (sign_text g ++ byte ∷ behind)) (byte ∷ behind) p h (sort_of_signed K g byte behind no_sign)).1.0)
+number_begun_broken K g byte no_sign no_digit t beyond p e =
+    let h : first_line t ≡ number_byte K ∷ (sign_text g ++ byte ∷ beyond) = e ∙ ap (λ z. number_byte K ∷ z) (append_assoc (sign_text g) [] (byte ∷ beyond)) in
+    no_digit ((digits_of_number t K g (number_byte K ∷ (sign_text g ++ byte ∷ beyond)) (byte ∷ beyond) p h (sort_of_signed K g byte beyond no_sign)).1.0)
 
 -- after a number's digits come digits alone
 pub number_broken : (K : NumberKind) (g : Sign) (digit : ℕ) (digits : List ℕ) (byte : ℕ) → IsDigit digit → (IsDigit byte → ⊥) →
     NoLineGoesOn (number_byte K ∷ (sign_text g ++ digit ∷ digits)) byte
-number_broken K g digit digits byte is_digit no_digit t behind p e =
-    let h : first_line t ≡ number_byte K ∷ (sign_text g ++ digit ∷ (digits ++ byte ∷ behind)) =
-    e ∙ ap (λ z. number_byte K ∷ z) (append_assoc (sign_text g) (digit ∷ digits) (byte ∷ behind)) in
-    let q = digits_of_number t K g (number_byte K ∷ (sign_text g ++ digit ∷ (digits ++ byte ∷ behind))) (digit ∷ (digits ++ byte ∷ behind)) p h
-    (sort_of_signed K g digit (digits ++ byte ∷ behind) (digit_no_sign g digit is_digit)) in
-    no_digit (digits_hold digits behind byte q.1.1)
+number_broken K g digit digits byte is_digit no_digit t beyond p e =
+    let h : first_line t ≡ number_byte K ∷ (sign_text g ++ digit ∷ (digits ++ byte ∷ beyond)) =
+    e ∙ ap (λ z. number_byte K ∷ z) (append_assoc (sign_text g) (digit ∷ digits) (byte ∷ beyond)) in
+    let q = digits_of_number t K g (number_byte K ∷ (sign_text g ++ digit ∷ (digits ++ byte ∷ beyond))) (digit ∷ (digits ++ byte ∷ beyond)) p h
+    (sort_of_signed K g digit (digits ++ byte ∷ beyond) (digit_no_sign g digit is_digit)) in
+    no_digit (digits_hold digits beyond byte q.1.1)
 
 -- a number has a digit
 pub number_short : (K : NumberKind) (g : Sign) → NoLineEnds (number_byte K ∷ (sign_text g ++ []))
@@ -47,23 +47,23 @@ IsNoLength Bulk byte = (byte ≡ 45 → ⊥) × (byte ≡ 63 → ⊥) × (IsDigi
 IsNoLength BulkError byte = IsDigit byte → ⊥
 IsNoLength (Verbatim format) byte = IsDigit byte → ⊥
 
-digit_of_length : (t : Tree) (b first : ℕ) (a behind : List ℕ) → IsTree t → first_line t ≡ a → sort a ≡ leaf_of (string_sort b (first ∷ behind)) → IsDigit first
-digit_of_length t b first a behind p e s = let w = string_size t b (first ∷ behind) p (sort_of-line t p e ∙ s) in w.4.1.0
+digit_of_length : (t : Tree) (b first : ℕ) (a beyond : List ℕ) → IsTree t → first_line t ≡ a → sort a ≡ leaf_of (string_sort b (first ∷ beyond)) → IsDigit first
+digit_of_length t b first a beyond p e s = let w = string_size t b (first ∷ beyond) p (sort_of-line t p e ∙ s) in w.4.1.0
 
 -- after the type byte of a string come digits, and after `$` also `-` and `?`
 pub length_begun_broken : (K : StringKind) (byte : ℕ) → IsNoLength K byte → NoLineGoesOn (string_byte K ∷ []) byte
-length_begun_broken Bulk byte other t behind p e = other.2 (digit_of_length t 36 byte (36 ∷ byte ∷ behind) behind p e
+length_begun_broken Bulk byte other t beyond p e = other.2 (digit_of_length t 36 byte (36 ∷ byte ∷ beyond) beyond p e
     (rw (ne_eqb byte 45 other.0, ne_eqb byte 63 other.1)))
-length_begun_broken BulkError byte other t behind p e = other (digit_of_length t 33 byte (33 ∷ byte ∷ behind) behind p e refl)
-length_begun_broken (Verbatim format) byte other t behind p e = other (digit_of_length t 61 byte (61 ∷ byte ∷ behind) behind p e refl)
+length_begun_broken BulkError byte other t beyond p e = other (digit_of_length t 33 byte (33 ∷ byte ∷ beyond) beyond p e refl)
+length_begun_broken (Verbatim format) byte other t beyond p e = other (digit_of_length t 61 byte (61 ∷ byte ∷ beyond) beyond p e refl)
 
 -- after a length's digits come digits alone
 pub length_broken : (K : StringKind) (digit : ℕ) (digits : List ℕ) (byte : ℕ) → IsDigit digit → (IsDigit byte → ⊥) →
     NoLineGoesOn (string_byte K ∷ digit ∷ digits) byte
-length_broken K digit digits byte is_digit no_digit t behind p e =
-    let w = is_string t K digit (digits ++ byte ∷ behind) is_digit (sort_of-line t p e) in
-    let i : IsTree (leaf (string w.0 (digit ∷ (digits ++ byte ∷ behind)) w.1)) = subst IsTree w.3 p in
-    no_digit (digits_hold digits behind byte i.0.0.1.1)
+length_broken K digit digits byte is_digit no_digit t beyond p e =
+    let w = is_string t K digit (digits ++ byte ∷ beyond) is_digit (sort_of-line t p e) in
+    let i : IsTree (leaf (string w.0 (digit ∷ (digits ++ byte ∷ beyond)) w.1)) = subst IsTree w.3 p in
+    no_digit (digits_hold digits beyond byte i.0.0.1.1)
 
 -- a length has a digit
 pub length_short : (K : StringKind) → NoLineEnds (string_byte K ∷ [])
@@ -85,39 +85,39 @@ IsNoCount Map byte = (byte ≡ 63 → ⊥) × (IsDigit byte → ⊥)
 IsNoCount Attr byte = IsDigit byte → ⊥
 IsNoCount Push byte = IsDigit byte → ⊥
 
-digit_of_count : (t : Tree) (k : Kind) (first : ℕ) (a behind : List ℕ) → IsTree t → first_line t ≡ a → sort a ≡ node_of k (Counted (first ∷ behind)) →
+digit_of_count : (t : Tree) (k : Kind) (first : ℕ) (a beyond : List ℕ) → IsTree t → first_line t ≡ a → sort a ≡ node_of k (Counted (first ∷ beyond)) →
     IsDigit first
-digit_of_count t k first a behind p e s =
-    let w = tree_of_node t k (Counted (first ∷ behind)) (sort_of-line t p e ∙ s) in
-    let i : IsTree (node k (Counted (first ∷ behind)) w.0) = subst IsTree w.1 p in
+digit_of_count t k first a beyond p e s =
+    let w = tree_of_node t k (Counted (first ∷ beyond)) (sort_of-line t p e ∙ s) in
+    let i : IsTree (node k (Counted (first ∷ beyond)) w.0) = subst IsTree w.1 p in
     i.0.0.1.0
 
 -- an aggregate of a kind that can't be streamed has no `?`
 pub no_mark : (k : Kind) → ((n : ℕ) → CanStream k n → ⊥) → NoLineGoesOn (kind_byte k ∷ []) 63
-no_mark k no_stream t behind p e =
-    let w = tree_of_node t k Streamed (sort_of-line t p e ∙ sort_mark k behind) in
+no_mark k no_stream t beyond p e =
+    let w = tree_of_node t k Streamed (sort_of-line t p e ∙ sort_mark k beyond) in
     let i : IsTree (node k Streamed w.0) = subst IsTree w.1 p in
     no_stream (count w.0) i.0
 
 -- after the type byte of an aggregate come digits, after `*` also `-`, and after `*`, `~` and `%` also `?`
 pub count_begun_broken : (k : Kind) (byte : ℕ) → IsNoCount k byte → NoLineGoesOn (kind_byte k ∷ []) byte
-count_begun_broken Array byte other t behind p e = other.2 (digit_of_count t Array byte (42 ∷ byte ∷ behind) behind p e
+count_begun_broken Array byte other t beyond p e = other.2 (digit_of_count t Array byte (42 ∷ byte ∷ beyond) beyond p e
     (rw (ne_eqb byte 45 other.0, ne_eqb byte 63 other.1)))
-count_begun_broken Set byte other t behind p e = other.1 (digit_of_count t Set byte (126 ∷ byte ∷ behind) behind p e (rw (ne_eqb byte 63 other.0)))
-count_begun_broken Map byte other t behind p e = other.1 (digit_of_count t Map byte (37 ∷ byte ∷ behind) behind p e (rw (ne_eqb byte 63 other.0)))
-count_begun_broken Attr byte other t behind p e =
-    if_equal byte 63 (λ x. ⊥) (λ mark. no_mark Attr (λ n s. s) t behind p (e ∙ ap (λ z. 124 ∷ z ∷ behind) mark))
-    (λ no_mark. other (digit_of_count t Attr byte (124 ∷ byte ∷ behind) behind p e (rw (ne_eqb byte 63 no_mark))))
-count_begun_broken Push byte other t behind p e =
-    if_equal byte 63 (λ x. ⊥) (λ mark. no_mark Push (λ n s. s) t behind p (e ∙ ap (λ z. 62 ∷ z ∷ behind) mark))
-    (λ no_mark. other (digit_of_count t Push byte (62 ∷ byte ∷ behind) behind p e (rw (ne_eqb byte 63 no_mark))))
+count_begun_broken Set byte other t beyond p e = other.1 (digit_of_count t Set byte (126 ∷ byte ∷ beyond) beyond p e (rw (ne_eqb byte 63 other.0)))
+count_begun_broken Map byte other t beyond p e = other.1 (digit_of_count t Map byte (37 ∷ byte ∷ beyond) beyond p e (rw (ne_eqb byte 63 other.0)))
+count_begun_broken Attr byte other t beyond p e =
+    if_equal byte 63 (λ x. ⊥) (λ mark. no_mark Attr (λ n s. s) t beyond p (e ∙ ap (λ z. 124 ∷ z ∷ beyond) mark))
+    (λ no_mark. other (digit_of_count t Attr byte (124 ∷ byte ∷ beyond) beyond p e (rw (ne_eqb byte 63 no_mark))))
+count_begun_broken Push byte other t beyond p e =
+    if_equal byte 63 (λ x. ⊥) (λ mark. no_mark Push (λ n s. s) t beyond p (e ∙ ap (λ z. 62 ∷ z ∷ beyond) mark))
+    (λ no_mark. other (digit_of_count t Push byte (62 ∷ byte ∷ beyond) beyond p e (rw (ne_eqb byte 63 no_mark))))
 
 -- after a count's digits come digits alone
 pub count_broken : (k : Kind) (digit : ℕ) (digits : List ℕ) (byte : ℕ) → IsDigit digit → (IsDigit byte → ⊥) → NoLineGoesOn (kind_byte k ∷ digit ∷ digits) byte
-count_broken k digit digits byte is_digit no_digit t behind p e =
-    let w = counted_is t k digit (digits ++ byte ∷ behind) p is_digit e in
-    let i : IsTree (node k (Counted (digit ∷ (digits ++ byte ∷ behind))) w.0) = subst IsTree w.1 p in
-    no_digit (digits_hold digits behind byte i.0.0.1.1)
+count_broken k digit digits byte is_digit no_digit t beyond p e =
+    let w = counted_is t k digit (digits ++ byte ∷ beyond) p is_digit e in
+    let i : IsTree (node k (Counted (digit ∷ (digits ++ byte ∷ beyond))) w.0) = subst IsTree w.1 p in
+    no_digit (digits_hold digits beyond byte i.0.0.1.1)
 
 -- a count has a digit
 pub count_short : (k : Kind) → NoLineEnds (kind_byte k ∷ [])

@@ -1,12 +1,12 @@
 -- Why a first byte is refused on a level, or how a value goes on after it.
-use Rattle.std.proofs.Common.{◌≡◌, ℕ, zero, suc, ◌<◌, ◌≤◌, true, Option, None, Some, List, [], ◌∷◌, ◌++◌, length, refl, sym, subst, ◌∙◌, arith, append-nil, cond}
+use Rattle.std.proofs.Common.{◌≡◌, ℕ, zero, suc, ◌<◌, ◌≤◌, Bool, true, false, Option, None, Some, List, [], ◌∷◌, ◌++◌, length, refl, sym, subst, ◌∙◌, arith, append-nil, cond}
 use Rattle.std.specs.Prelude.{codes}
 use Rattle.std.specs.List.{AllByRecursion}
 use Rattle.resp_value.specs.Bytes.{crlf}
 use Rattle.resp_value.specs.Numbers.{Unsigned}
 use Rattle.resp_value.specs.Data.{Kind, Array, Set, Map, Attr, Push, content_length, members_of, items_of}
 use Rattle.resp_value.specs.TreeValues.{leaf_value}
-use Rattle.resp_value.specs.Trees.{Tree, leaf, node, none, Leaf, line, numeral, null, truth, string, Simple, Error, Int, Big, BulkNull, ArrayNull, PlainNull, BulkError, Verbatim, Counted, text, kind_byte, IsLeaf, leaf_text}
+use Rattle.resp_value.specs.Trees.{Tree, leaf, node, none, Leaf, line, numeral, null, truth, string, Simple, Error, Double, Int, Big, BulkNull, ArrayNull, PlainNull, BulkError, Verbatim, Counted, text, kind_byte, IsLeaf, leaf_text}
 use Rattle.resp_value.specs.Rules.{Rules, Rule, Grammar, NoDouble, InVersion, PushAtTop, NotStreamed, WithinDepth, WithinItems, rank, IsNoDouble, IsLeafInTwo, IsInRange, IsCountedLeaf}
 use Rattle.resp_value.specs.LocalRules.{HoldsFrom, LeafKeeps, NodeKeeps, LeafMeets, NodeMeets, IsNoPushBelow}
 use Rattle.resp_value.specs.Bounds.{AreBounds}
@@ -16,9 +16,10 @@ use Rattle.resp_value.specs.declared.version.Version.TheVariants.{Two, Three}
 use Rattle.resp_value.proofs.ByTests.{apart_by_test}
 use Rattle.resp_value.proofs.FirstBytes.{first_byte, first_byte_is, at_first_byte, at_first_byte_of_two}
 use Rattle.resp_value.proofs.Choices.{if_equal, if_within}
-use Rattle.resp_fronts.specs.FirstByteRefusals.{answer_beside, refusal_in_three, aggregate_refusal, push_refusal, first_byte_answers, first_byte_refusal}
+use Rattle.resp_fronts.specs.FirstByteRefusals.{answer_beside, refusal_in_three, aggregate_refusal, push_refusal, double_refusal, first_byte_answers, first_byte_refusal}
 use Rattle.resp_fronts.proofs.FrameLaws.KeptNodes.{at_each_rule, leaf_keeps, node_keeps}
 use Rattle.resp_fronts.proofs.FirstLines.FirstLineRows.{are_zeros, zero_digits}
+use Rattle.resp_fronts.proofs.FirstLines.TextLines.{text_line_keeps}
 use Rattle.resp_fronts.proofs.Refusals.IntegerRange.{range_in}
 use Rattle.resp_fronts.proofs.Refusals.RefusedFronts.{fewer_rules}
 use Rattle.resp_fronts.proofs.Refusals.RefusedBytes.{IsOther, kind_too_deep, push_below, double_refused}
@@ -67,8 +68,8 @@ answered_by r rule before level bytes e w = (
 
 -- a leaf of version 3 alone goes on in version 3, and any leaf but a double within the rules before the version
 leaf_before_version : (r : Rules) (level : ℕ) (l : Leaf) → IsNoDouble l → LeafKeeps r NoDouble level l
-leaf_before_version r level l no_double earlier = at_each_rule (λ a. rank a ≤ 1 → LeafMeets r a level l) (λ e. tt) (λ e. no_double) (λ e. absurd (omega arith))
-    (λ e. tt) (λ e. absurd (omega arith)) (λ e. absurd (omega arith)) (λ e. tt) (λ e. absurd (omega arith)) (λ e. tt) (λ e. tt) earlier
+leaf_before_version r level l no_double earlier = at_each_rule (λ a. rank a ≤ 1 → LeafMeets r a level l) (λ e. tt) (λ e. λ off. no_double)
+    (λ e. absurd (omega arith)) (λ e. tt) (λ e. absurd (omega arith)) (λ e. absurd (omega arith)) (λ e. tt) (λ e. absurd (omega arith)) (λ e. tt) (λ e. tt) earlier
 
 node_before_version : (r : Rules) (level : ℕ) (k : Kind) (n : ℕ) → NodeKeeps r NoDouble level k (Counted (48 ∷ [])) n
 node_before_version r level k n earlier = at_each_rule (λ a. rank a ≤ 1 → NodeMeets r a level k (Counted (48 ∷ [])) n) (λ e. tt) (λ e. tt)
@@ -152,9 +153,24 @@ push_answered r level = later_answered r level 62 (push_refusal r level) (apart_
     cases (suc level) no_two = answered_by r PushAtTop InVersion (suc level) (62 ∷ []) refl
         (push_below r (suc level) (omega arith) (before_push (suc level) no_two))
 
+-- a double, which is of version 3 alone where doubles are allowed
+double_answered : (r : Rules) (level : ℕ) → IsAnswered r level (44 ∷ []) (double_refusal r)
+double_answered r level = cases r.limits.doubles refl
+  where
+    before_version : r.limits.doubles ≡ true → LeafKeeps r NoDouble level (line Double [])
+    before_version allowed earlier = at_each_rule (λ a. rank a ≤ 1 → LeafMeets r a level (line Double [])) (λ e. tt) (λ e. λ off. absurd (cc))
+        (λ e. absurd (omega arith)) (λ e. tt) (λ e. tt) (λ e. absurd (omega arith)) (λ e. tt) (λ e. omega arith) (λ e. tt) (λ e. tt) earlier
+
+    cases : (b : Bool) → r.limits.doubles ≡ b → IsAnswered r level (44 ∷ []) (cond b (refusal_in_three r.version None) (Some NoDouble))
+    cases false off = answered_by r NoDouble Grammar level (44 ∷ []) refl (double_refused r level off)
+    cases true allowed = later_answered r level 44 None (apart_by_test 44 type_bytes refl)
+        (leaf_goes_on r NoDouble level 44 (line Double []) (crlf []) (tt, tt) (before_version allowed) refl (omega arith))
+        (λ no_two. leaf_goes_on r WithinItems level 44 (line Double []) (crlf []) (tt, tt)
+        (text_line_keeps r WithinItems level Double [] (no_two, λ off. absurd (cc)) (omega arith)) refl (omega arith))
+
 -- what holds of a row, and of those after it
 pub and_rows : {A B : Type 0} → A → B → A × B
-and_rows here behind = (here, behind)
+and_rows here beyond = (here, beyond)
 
 -- what holds beside each byte, and of every other byte, holds of the answer
 pub at_answer : {A : Type 0} (P : ℕ → A → Type 0) (rows : List (ℕ × A)) (other : A) (byte : ℕ) → AllByRecursion (λ row. P row.0 row.1) rows →
@@ -162,7 +178,7 @@ pub at_answer : {A : Type 0} (P : ℕ → A → Type 0) (rows : List (ℕ × A))
 at_answer P [] other byte each beyond = beyond tt
 at_answer P (row ∷ rows) other byte each beyond =
     if_equal byte row.0 (λ x. P byte (cond x row.1 (answer_beside rows other byte))) (λ e. subst (λ b. P b row.1) (sym e) each.0)
-    (λ apart. at_answer P rows other byte each.1 (λ behind. beyond (apart, behind)))
+    (λ apart. at_answer P rows other byte each.1 (λ more. beyond (apart, more)))
 
 -- no value begins with a byte that is no type byte
 other_answered : (r : Rules) (level byte : ℕ) → AllByRecursion (λ b. byte ≡ b → ⊥) (codes "," ++ type_bytes_of Three) →
@@ -176,7 +192,7 @@ other_answered r level byte apart = (
 pub first_byte_answered : (r : Rules) (level byte : ℕ) → AreBounds r.limits → IsAnswered r level (byte ∷ []) (first_byte_refusal r level byte)
 first_byte_answered r level byte b =
     at_answer (λ x answer. IsAnswered r level (x ∷ []) answer) (first_byte_answers r level) (Some Grammar) byte
-    (and_rows (answered_by r NoDouble Grammar level (44 ∷ []) refl (double_refused r level))
+    (and_rows (double_answered r level)
     (and_rows (later_leaf_in_two r level 43 (line Simple []) (crlf []) (tt, tt) tt tt tt tt (omega arith) refl (omega arith))
     (and_rows (later_leaf_in_two r level 45 (line Error []) (crlf []) (tt, tt) tt tt tt tt (omega arith) refl (omega arith))
     (and_rows (later_leaf_in_two r level 58 (numeral Int Unsigned (48 ∷ [])) (48 ∷ crlf []) zero_digits tt tt (range_in Unsigned (48 ∷ []) (omega arith)) tt

@@ -24,7 +24,7 @@ range_in _ ds p = (omega (arith, ints), omega (arith, ints))
 
 numeral_before : (r : Rules) (k : ℕ) (g : Sign) (ds : List ℕ) (h : Rule) → rank h ≤ 3 → LeafMeets r h k (numeral Int g ds)
 numeral_before r k g ds Grammar e = tt
-numeral_before r k g ds NoDouble e = tt
+numeral_before r k g ds NoDouble e = λ off. tt
 numeral_before r k g ds InVersion e = λ v. tt
 numeral_before r k g ds PushAtTop e = tt
 numeral_before r k g ds WithinTotal e = tt

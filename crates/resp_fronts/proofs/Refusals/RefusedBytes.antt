@@ -1,5 +1,5 @@
--- What refuses a type byte: the version, a push below the top, depth, and that no double is read.
-use Rattle.std.proofs.Common.{◌++◌, ◌<◌, ◌∙◌, ◌∷◌, ◌≡◌, ◌≤◌, List, [], arith, refl, subst, ℕ}
+-- What refuses a type byte: the version, a push below the top, depth, and doubles that are not allowed.
+use Rattle.std.proofs.Common.{◌++◌, ◌<◌, ◌∙◌, ◌∷◌, ◌≡◌, ◌≤◌, false, List, [], arith, refl, subst, ℕ}
 use Rattle.std.specs.List.{AllByRecursion}
 use Rattle.resp_value.specs.Bytes.{crlf}
 use Rattle.resp_value.specs.Data.{Array, Kind, Push, members_of}
@@ -69,14 +69,14 @@ array_too_deep r k d p l q =
       some = omega arith;
     }
 
--- a double
-pub double_refused : (r : Rules) (k : ℕ) → IsRefusedHere r NoDouble Grammar k (44 ∷ [])
-double_refused r k = record {
+-- a double, where doubles aren't allowed
+pub double_refused : (r : Rules) (k : ℕ) → r.limits.doubles ≡ false → IsRefusedHere r NoDouble Grammar k (44 ∷ [])
+double_refused r k not_allowed = record {
   dead = λ c t. (let u = completes_line (LeafKeeps r NoDouble) (NodeKeeps r NoDouble) k (44 ∷ []) c ((λ e. omega arith, λ e. omega arith), tt) t in
       let e = tree_of_line u.tree Double u.line (sort_of-line u.tree u.is_tree u.begins) in
       let a : HoldsFrom (LeafKeeps r NoDouble) (NodeKeeps r NoDouble) k (leaf (line Double u.line)) =
       subst (HoldsFrom (LeafKeeps r NoDouble) (NodeKeeps r NoDouble) k) e u.keep in
-      a NoDouble (omega arith));
+      a NoDouble (omega arith) not_allowed);
   rest = crlf [];
   alive = record { tree = leaf (line Double []); is_tree = (tt, tt); keep = λ h e. only h e; whole = refl };
   some = omega arith;

@@ -57,7 +57,7 @@ refuse r g h fs x b n o w =
       alive = subst (IsWholeText (LeafKeeps r h) (NodeKeeps r h)) (sym (around-append fs (x ∷ b) (w.rest ++ a.some)))
           (compose (LeafKeeps r h) (NodeKeeps r h) fs ((x ∷ b) ++ (w.rest ++ a.some)) (are_kept (LeafKeeps r h) (NodeKeeps r h) fs o)
           (parts_follow (LeafKeeps r h) (NodeKeeps r h) fs (x ∷ b) (w.rest ++ a.some)
-          (record { here = w.rest; behind = a.some; tail = w.alive; after = a.holds; whole = refl })));
+          (record { here = w.rest; beyond = a.some; tail = w.alive; after = a.holds; whole = refl })));
     }
 
 -- a member too many in a streamed aggregate
@@ -105,7 +105,7 @@ hopeless r g fs x b y n o u z d c w =
     around-append fs (x ∷ b) (y ∷ c) in
     let m = follow_parts (LeafKeeps r g) (NodeKeeps r g) fs x b (y ∷ c) o n u
     (determine (LeafKeeps r g) (NodeKeeps r g) fs ((x ∷ b) ++ y ∷ c) o (subst (IsWholeText (LeafKeeps r g) (NodeKeeps r g)) e w)) in
-    cases m.here m.behind m.tail m.whole
+    cases m.here m.beyond m.tail m.whole
   where
     cases : (h k : List ℕ) → CompletesUnder r g (length fs) (x ∷ b) h → y ∷ c ≡ h ++ k → ⊥
     cases [] k t e = omega (arith, z [] t)

@@ -50,8 +50,8 @@ pub at_level : {r : Rules} {T : ℕ → List ℕ → Type 0} {levels : List Leve
 at_level {levels = levels} f = sym (same_length levels f.frames f.of_levels)
 
 -- a value begins with no `.`
-value_no_stop : (t : Tree) (head : ℕ) (behind : List ℕ) → text t ≡ head ∷ behind → head ≡ 46 → ⊥
-value_no_stop t head behind w e = not_close t [] behind (append-nil (text t) ∙ w ∙ ap (λ z. z ∷ behind) e)
+value_no_stop : (t : Tree) (head : ℕ) (beyond : List ℕ) → text t ≡ head ∷ beyond → head ≡ 46 → ⊥
+value_no_stop t head beyond w e = not_close t [] beyond (append-nil (text t) ∙ w ∙ ap (λ z. z ∷ beyond) e)
 
 -- a value that can be completed by some bytes is none yet
 unfinished : {r : Rules} {level : ℕ} {bytes : List ℕ} {n : ℕ} → IsBegunBy r level bytes n → (rule : Rule) (rest : List ℕ) →

@@ -73,7 +73,7 @@ attribute_begun r level no_two below =
 leaf_before_length : (r : Rules) (level : ℕ) (l : Leaf) → IsNoDouble l → (r.version ≡ Two → IsLeafInTwo l) → IsInRange l → IsCountedLeaf l →
     LeafKeeps r WithinDepth level l
 leaf_before_length r level l no_double in_version in_range counted earlier =
-    at_each_rule (λ a. rank a ≤ 6 → LeafMeets r a level l) (λ e. tt) (λ e. no_double) (λ e. in_version) (λ e. tt) (λ e. in_range) (λ e. λ off. counted)
+    at_each_rule (λ a. rank a ≤ 6 → LeafMeets r a level l) (λ e. tt) (λ e. λ off. no_double) (λ e. in_version) (λ e. tt) (λ e. in_range) (λ e. λ off. counted)
     (λ e. tt) (λ e. absurd (omega arith)) (λ e. tt) (λ e. tt) earlier
 
 string_before_length : (r : Rules) (level : ℕ) (k : StringKind) (digits s : List ℕ) → HasString r k → LeafKeeps r WithinDepth level (string k digits s)

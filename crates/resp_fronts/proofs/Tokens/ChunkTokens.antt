@@ -29,9 +29,9 @@ pub record AreWhole (r : Rules) (chunks : List Chunk) : Type 0 where
   pub fits : length (joined_content chunks) ≤ r.limits.length
 
 -- the content of chunks after chunks
-pub joined_behind : (cs es : List Chunk) → joined_content (with_chunks cs es) ≡ joined_content cs ++ joined_content es
-joined_behind [] es = refl
-joined_behind (c ∷ cs) es = ap (λ z. c.content ++ z) (joined_behind cs es) ∙ sym (append_assoc c.content (joined_content cs) (joined_content es))
+pub joined_after : (cs es : List Chunk) → joined_content (with_chunks cs es) ≡ joined_content cs ++ joined_content es
+joined_after [] es = refl
+joined_after (c ∷ cs) es = ap (λ z. c.content ++ z) (joined_after cs es) ∙ sym (append_assoc c.content (joined_content cs) (joined_content es))
 
 -- a streamed string up to the limit of length is within every rule
 pub chunked_keeps : (r : Rules) (rule : Rule) (level : ℕ) (chunks : List Chunk) (zeros : List ℕ) → HasStreamed r →
@@ -94,7 +94,7 @@ chunk_length_begun r level chunks digits w are_digits some fits =
     (more_keeps r level chunks (record { digits = digits; content = zeros (number digits) } ∷ []) (48 ∷ []) w (zeros_fit r chunks digits fits)))
 
 before_length : (r : Rules) (level : ℕ) (chunks : List Chunk) (zeros : List ℕ) → HasStreamed r → LeafKeeps r WithinDepth level (chunked chunks zeros)
-before_length r level chunks zeros h earlier = at_each_rule (λ a. rank a ≤ 6 → LeafMeets r a level (chunked chunks zeros)) (λ e. tt) (λ e. tt)
+before_length r level chunks zeros h earlier = at_each_rule (λ a. rank a ≤ 6 → LeafMeets r a level (chunked chunks zeros)) (λ e. tt) (λ e. λ off. tt)
     (λ e. λ is_two. absurd (h.0 is_two)) (λ e. tt) (λ e. tt) (λ e. λ off. absurd (h.1 off)) (λ e. tt) (λ e. absurd (omega arith)) (λ e. tt) (λ e. tt) earlier
 
 -- digits past the limit

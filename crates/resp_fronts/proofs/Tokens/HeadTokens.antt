@@ -15,7 +15,7 @@ use Rattle.resp_fronts.proofs.FirstLines.CountRows.{CompletesUnder, IsRefusedHer
 use Rattle.resp_fronts.proofs.FirstLines.FirstLineRows.{string_row, length-zeros, are_zeros}
 use Rattle.resp_fronts.proofs.FirstLines.MoreFirstLineRows.{short_verbatim_row}
 use Rattle.resp_fronts.proofs.FirstLines.ShortRows.{next_row, zero_verbatim_row}
-use Rattle.resp_fronts.proofs.Refusals.BrokenLines.{byte_broken, behind_return_broken}
+use Rattle.resp_fronts.proofs.Refusals.BrokenLines.{byte_broken, after_return_broken}
 use Rattle.resp_fronts.proofs.Refusals.BrokenHeads.{count_broken}
 use Rattle.resp_fronts.proofs.Tokens.BegunFronts.{IsBegunBy, Opens}
 use Rattle.resp_fronts.specs.OpenLevels.{to_come}
@@ -116,7 +116,7 @@ count_ends_empty r k first digits level bytes empty w = record {
 pub count_returned_broken : (r : Rules) (k : Kind) (first : ℕ) (digits : List ℕ) (level : ℕ) (bytes rest : List ℕ) (byte : ℕ) → (byte ≡ 10 → ⊥) →
     IsCountReturned r k first digits level bytes → CompletesUnder r Grammar level bytes (byte ∷ rest) → ⊥
 count_returned_broken r k first digits level bytes rest byte no_newline w c =
-    behind_return_broken (LeafKeeps r Grammar) (NodeKeeps r Grammar) level (kind_byte k ∷ first ∷ digits) rest byte
+    after_return_broken (LeafKeeps r Grammar) (NodeKeeps r Grammar) level (kind_byte k ∷ first ∷ digits) rest byte
     (kind_line k (first ∷ digits) w.count.are_digits) no_newline
     (subst (λ z. CompletesUnder r Grammar level z (byte ∷ rest)) (w.returned ∙ ap (λ z. z ++ 13 ∷ []) w.count.are) c)
 

@@ -10,10 +10,10 @@ use Rattle.resp_fronts.specs.LeastCompletions.{HasLeast}
 use Rattle.resp_fronts.proofs.FirstLines.CountRows.{CompletesUnder, IsRefusedHere}
 use Rattle.resp_fronts.proofs.FirstLines.FirstLineRows.{line_row}
 use Rattle.resp_fronts.proofs.FirstLines.ShortRows.{next_row}
-use Rattle.resp_fronts.proofs.Refusals.BrokenLines.{behind_return_broken, newline_broken, byte_broken, NoLineGoesOn}
+use Rattle.resp_fronts.proofs.Refusals.BrokenLines.{after_return_broken, newline_broken, byte_broken, NoLineGoesOn}
 use Rattle.resp_fronts.proofs.FirstLines.TextLines.{text_line_keeps, text_line_too_long}
 use Rattle.resp_fronts.proofs.Tokens.BegunFronts.{IsBegunBy}
-use Rattle.resp_fronts.specs.Tokens.{IsLineOf, IsReturned, IsTextLine, IsTextToken}
+use Rattle.resp_fronts.specs.Tokens.{IsLineOf, IsReturned, HasLine, IsTextToken}
 
 -- it has no break in it
 pub no_break_in_line : (r : Rules) (l : Leaf) (level : ℕ) (bytes : List ℕ) → IsLineOf r l level bytes → IsLine bytes
@@ -69,7 +69,7 @@ returned_ends r l level bytes w = record {
 pub returned_broken : (r : Rules) (l : Leaf) (level : ℕ) (bytes rest : List ℕ) (byte : ℕ) → (byte ≡ 10 → ⊥) → IsReturned r l level bytes →
     CompletesUnder r Grammar level bytes (byte ∷ rest) → ⊥
 returned_broken r l level bytes rest byte no_newline w c =
-    behind_return_broken (LeafKeeps r Grammar) (NodeKeeps r Grammar) level w.begun rest byte (no_break_in_line r l level w.begun w.line_of) no_newline
+    after_return_broken (LeafKeeps r Grammar) (NodeKeeps r Grammar) level w.begun rest byte (no_break_in_line r l level w.begun w.line_of) no_newline
     (subst (λ z. CompletesUnder r Grammar level z (byte ∷ rest)) w.returned c)
 
 -- no byte but CR goes on after a leaf's line with which no line goes on
@@ -92,21 +92,21 @@ pub text_token_line : (r : Rules) (k : LineKind) (n level : ℕ) (bytes : List �
 text_token_line r k n level bytes w = record {
   is_leaf = (w.is_line, w.is_text);
   keeps =
-      text_line_keeps r WithinItems level k w.content w.is_text_line (omega (arith, w.size, w.fits));
+      text_line_keeps r WithinItems level k w.content w.has_line (omega (arith, w.size, w.fits));
   is_line = w.are;
   no_rest = refl;
 }
 
 -- its type byte
-unfoldable pub text_token_begins : (r : Rules) (k : LineKind) (level : ℕ) → IsTextLine k → IsTextToken r k 0 level (line_byte k ∷ [])
-text_token_begins r k level p = record { content = []; is_text_line = p; is_line = tt; is_text = tt; size = refl; fits = omega arith; are = refl }
+unfoldable pub text_token_begins : (r : Rules) (k : LineKind) (level : ℕ) → HasLine r k → IsTextToken r k 0 level (line_byte k ∷ [])
+text_token_begins r k level p = record { content = []; has_line = p; is_line = tt; is_text = tt; size = refl; fits = omega arith; are = refl }
 
 -- text more, within the limit of length
 unfoldable pub text_token_more : (r : Rules) (k : LineKind) (n level : ℕ) (bytes part : List ℕ) → IsTextToken r k n level bytes → IsLine part → IsText part →
     n + length part ≤ r.limits.length → IsTextToken r k (n + length part) level (bytes ++ part)
 text_token_more r k n level bytes part w plain are_bytes fits = record {
   content = w.content ++ part;
-  is_text_line = w.is_text_line;
+  has_line = w.has_line;
   is_line = all_append IsPlain w.content part w.is_line plain;
   is_text = all_append IsByte w.content part w.is_text are_bytes;
   size = omega (arith, w.size, length-append w.content part);
@@ -120,6 +120,6 @@ pub text_token_over : (r : Rules) (k : LineKind) (n level : ℕ) (bytes : List �
     IsRefusedHere r WithinLength WithinDepth level (line_byte k ∷ (w.content ++ byte ∷ []))
 text_token_over r k n level bytes byte plain is_byte full w = (
   ap (λ z. z ++ byte ∷ []) w.are,
-  text_line_too_long r level k (w.content ++ byte ∷ []) w.is_text_line (all_append IsPlain w.content (byte ∷ []) w.is_line (plain, tt))
+  text_line_too_long r level k (w.content ++ byte ∷ []) w.has_line (all_append IsPlain w.content (byte ∷ []) w.is_line (plain, tt))
       (all_append IsByte w.content (byte ∷ []) w.is_text (is_byte, tt)) (omega (arith, w.size, length-append w.content (byte ∷ []))),
 )

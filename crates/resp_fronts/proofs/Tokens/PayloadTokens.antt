@@ -16,17 +16,17 @@ use Rattle.resp_fronts.specs.Tokens.{IsContentToken, zeros}
 -- Formats.
 
 -- the next byte of a format, of which this many are to come after it
-pub format_more : (r : Rules) (before : List ℕ) (byte behind : ℕ) (first : ℕ) (digits : List ℕ) (left level : ℕ) (bytes : List ℕ) → byte < 256 →
-    IsContentToken r (Verbatim (before ++ zeros (suc behind))) first digits before left level bytes →
-    IsContentToken r (Verbatim (before ++ byte ∷ zeros behind)) first digits (before ++ byte ∷ []) (left - 1) level (bytes ++ byte ∷ [])
-format_more r before byte behind first digits left level bytes is_byte w =
-    let rest = zeros behind ++ 58 ∷ w.content in
+pub format_more : (r : Rules) (before : List ℕ) (byte beyond : ℕ) (first : ℕ) (digits : List ℕ) (left level : ℕ) (bytes : List ℕ) → byte < 256 →
+    IsContentToken r (Verbatim (before ++ zeros (suc beyond))) first digits before left level bytes →
+    IsContentToken r (Verbatim (before ++ byte ∷ zeros beyond)) first digits (before ++ byte ∷ []) (left - 1) level (bytes ++ byte ∷ [])
+format_more r before byte beyond first digits left level bytes is_byte w =
+    let rest = zeros beyond ++ 58 ∷ w.content in
     record {
       are_digits = w.are_digits;
       has_string = w.has_string;
       has_format = (
-        omega (arith, w.has_format.0, length-append before (48 ∷ zeros behind), length-append before (byte ∷ zeros behind)),
-        all_append IsByte before (byte ∷ zeros behind) (all_front IsByte before (48 ∷ zeros behind) w.has_format.1) (is_byte, are_zeros behind),
+        omega (arith, w.has_format.0, length-append before (48 ∷ zeros beyond), length-append before (byte ∷ zeros beyond)),
+        all_append IsByte before (byte ∷ zeros beyond) (all_front IsByte before (48 ∷ zeros beyond) w.has_format.1) (is_byte, are_zeros beyond),
       );
       fits = w.fits;
       content = w.content;
@@ -34,21 +34,21 @@ format_more r before byte behind first digits left level bytes is_byte w =
       size = omega (
         arith,
         w.size,
-        length-append (before ++ 48 ∷ zeros behind) (58 ∷ w.content),
-        length-append (before ++ byte ∷ zeros behind) (58 ∷ w.content),
-        length-append before (48 ∷ zeros behind),
-        length-append before (byte ∷ zeros behind),
+        length-append (before ++ 48 ∷ zeros beyond) (58 ∷ w.content),
+        length-append (before ++ byte ∷ zeros beyond) (58 ∷ w.content),
+        length-append before (48 ∷ zeros beyond),
+        length-append before (byte ∷ zeros beyond),
       );
       rest = rest;
-      split = append_assoc before (byte ∷ zeros behind) (58 ∷ w.content) ∙ sym (append_assoc before (byte ∷ []) rest);
+      split = append_assoc before (byte ∷ zeros beyond) (58 ∷ w.content) ∙ sym (append_assoc before (byte ∷ []) rest);
       rest_size = omega (
         arith,
         w.rest_size,
         ap length w.split,
         length-append before w.rest,
-        length-append (before ++ 48 ∷ zeros behind) (58 ∷ w.content),
-        length-append before (48 ∷ zeros behind),
-        length-append (zeros behind) (58 ∷ w.content),
+        length-append (before ++ 48 ∷ zeros beyond) (58 ∷ w.content),
+        length-append before (48 ∷ zeros beyond),
+        length-append (zeros beyond) (58 ∷ w.content),
       );
       are = ap (λ z. z ++ byte ∷ []) w.are ∙ append_assoc (61 ∷ first ∷ digits) (crlf before) (byte ∷ []);
     }
@@ -71,8 +71,8 @@ format_ends r format first digits left level bytes w = record {
   are = ap (λ z. z ++ 58 ∷ []) w.are ∙ append_assoc (61 ∷ first ∷ digits) (crlf format) (58 ∷ []);
 }
 
-behind : (a b : List ℕ) (byte : ℕ) (rest : List ℕ) → (a ++ crlf b) ++ byte ∷ rest ≡ (a ++ crlf (b ++ byte ∷ [])) ++ rest
-behind a b byte rest = append_assoc a (crlf b) (byte ∷ rest) ∙ ap (λ z. a ++ crlf z) (sym (append_assoc b (byte ∷ []) rest)) ∙
+beyond : (a b : List ℕ) (byte : ℕ) (rest : List ℕ) → (a ++ crlf b) ++ byte ∷ rest ≡ (a ++ crlf (b ++ byte ∷ [])) ++ rest
+beyond a b byte rest = append_assoc a (crlf b) (byte ∷ rest) ∙ ap (λ z. a ++ crlf z) (sym (append_assoc b (byte ∷ []) rest)) ∙
     sym (append_assoc a (crlf (b ++ byte ∷ [])) rest)
 
 -- no other byte than `:` goes on after a format
@@ -83,7 +83,7 @@ format_broken r format first digits left level bytes rest byte no_colon w c =
       tree = c.tree;
       is_tree = c.is_tree;
       keep = c.keep;
-      whole = c.whole ∙ ap (λ z. z ++ byte ∷ rest) w.are ∙ behind (61 ∷ first ∷ digits) format byte rest;
+      whole = c.whole ∙ ap (λ z. z ++ byte ∷ rest) w.are ∙ beyond (61 ∷ first ∷ digits) format byte rest;
     })
 
 -- Content.

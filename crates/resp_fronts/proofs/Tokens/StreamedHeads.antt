@@ -47,13 +47,13 @@ streamed_string_refused r rule before level no_chunks keeps = record {
 -- `$?` in version 2
 pub streamed_string_in_two : (r : Rules) (level : ℕ) → r.version ≡ Two → IsRefusedHere r InVersion NoDouble level (36 ∷ 63 ∷ [])
 streamed_string_in_two r level is_two = streamed_string_refused r InVersion NoDouble level (λ chunks zeros h. h is_two)
-    (λ earlier. at_each_rule (λ a. rank a ≤ 1 → LeafMeets r a level (chunked [] (48 ∷ []))) (λ e. tt) (λ e. tt) (λ e. absurd (omega arith)) (λ e. tt) (λ e. tt)
+    (λ earlier. at_each_rule (λ a. rank a ≤ 1 → LeafMeets r a level (chunked [] (48 ∷ []))) (λ e. tt) (λ e. λ off. tt) (λ e. absurd (omega arith)) (λ e. tt) (λ e. tt)
     (λ e. absurd (omega arith)) (λ e. tt) (λ e. omega arith) (λ e. tt) (λ e. tt) earlier)
 
 -- `$?` in version 3 where streamed forms are off
 pub streamed_string_off : (r : Rules) (level : ℕ) → (r.version ≡ Two → ⊥) → r.limits.streamed ≡ false → IsRefusedHere r NotStreamed InRange level (36 ∷ 63 ∷ [])
 streamed_string_off r level no_two off = streamed_string_refused r NotStreamed InRange level (λ chunks zeros h. h off)
-    (λ earlier. at_each_rule (λ a. rank a ≤ 4 → LeafMeets r a level (chunked [] (48 ∷ []))) (λ e. tt) (λ e. tt) (λ e. λ is_two. absurd (no_two is_two))
+    (λ earlier. at_each_rule (λ a. rank a ≤ 4 → LeafMeets r a level (chunked [] (48 ∷ []))) (λ e. tt) (λ e. λ off. tt) (λ e. λ is_two. absurd (no_two is_two))
     (λ e. tt) (λ e. tt) (λ e. absurd (omega arith)) (λ e. tt) (λ e. omega arith) (λ e. tt) (λ e. tt) earlier)
 
 -- `?` after an aggregate's type byte: 5

@@ -9,7 +9,7 @@ use Rattle.resp_fronts.specs.LeastCompletions.{HasLeast}
 use Rattle.resp_fronts.proofs.FirstLines.CountRows.{CompletesUnder}
 use Rattle.resp_fronts.proofs.FirstLines.FirstLineRows.{string_line, length-zeros, are_zeros}
 use Rattle.resp_fronts.proofs.FirstLines.ShortRows.{before_newline_row}
-use Rattle.resp_fronts.proofs.Refusals.BrokenLines.{behind_return_broken, byte_broken, line_broken}
+use Rattle.resp_fronts.proofs.Refusals.BrokenLines.{after_return_broken, byte_broken, line_broken}
 use Rattle.resp_fronts.proofs.Refusals.BrokenHeads.{IsNoLength, length_begun_broken, length_broken, length_short, verbatim_short}
 use Rattle.resp_fronts.proofs.Tokens.ContentTokens.{content_begun}
 use Rattle.resp_fronts.proofs.Tokens.BegunFronts.{IsBegunBy}
@@ -110,5 +110,5 @@ length_returned_begun r k first digits level bytes f room w =
 pub length_returned_broken : (r : Rules) (k : StringKind) (first : ℕ) (digits : List ℕ) (level : ℕ) (bytes rest : List ℕ) (byte : ℕ) → (byte ≡ 10 → ⊥) →
     IsLengthToken r k first digits level bytes → CompletesUnder r Grammar level (bytes ++ 13 ∷ []) (byte ∷ rest) → ⊥
 length_returned_broken r k first digits level bytes rest byte no_newline w c =
-    behind_return_broken (LeafKeeps r Grammar) (NodeKeeps r Grammar) level (string_byte k ∷ first ∷ digits) rest byte
+    after_return_broken (LeafKeeps r Grammar) (NodeKeeps r Grammar) level (string_byte k ∷ first ∷ digits) rest byte
     (string_line k (first ∷ digits) w.are_digits.1) no_newline (subst (λ z. CompletesUnder r Grammar level (z ++ 13 ∷ []) (byte ∷ rest)) w.are c)

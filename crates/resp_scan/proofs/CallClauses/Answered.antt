@@ -15,6 +15,7 @@ use Rattle.resp_scan.specs.Kinds.{content_events, event_of, rules_of}
 use Rattle.resp_scan.specs.Machine.Sound.{IsSound}
 use Rattle.resp_scan.specs.Machine.Standing as f
 use Rattle.resp_scan.specs.Machine.Standing.{AwaitsMember, HasCountsOf, HasEnded, StandsAfter, StandsAfterAt}
+use Rattle.resp_scan.specs.Reading.{AreDue}
 use Rattle.resp_scan.proofs.TokenMoves.EachLeads.{IsLookedAt}
 use Rattle.resp_scan.proofs.CallClauses.Heard.{Came, RefusedAt, came_scan}
 use Rattle.resp_scan.proofs.CallClauses.Fronts.{take-none}
@@ -25,15 +26,22 @@ use Rattle.resp_scan.proofs.Soundness.SoundMoves.{is_outside}
 -- what the machine answers to a piece says of the front and the events, before the bytes of the piece are counted
 abbrev pub Answered : Rules → List ℕ → List e.Event → List ℕ → Out → Type 0
 Answered r front es p (More n t) = (n ≡ length p) × IsLookedAt t.token n × StandsAfter t (front ++ p) es
-Answered r front es p (Gave n happening t) = (n ≤ length p) × StandsAfter t (front ++ take n p) (es ++ event_of happening ∷ [])
-Answered r front es p (Part k n t) = (k < n) × (n ≤ length p) × StandsAfter t (front ++ take n p) (es ++ content_events (drop k (take n p)))
+Answered r front es p (Gave n happening t) = (n ≤ length p) × StandsAfter t (front ++ take n p) (es ++ event_of happening ∷ []) ×
+    (0 < n → AreDue (front ++ take (n - 1) p) es)
+Answered r front es p (Part k n t) = (k < n) × (n ≤ length p) × StandsAfter t (front ++ take n p) (es ++ content_events (drop k (take n p))) ×
+    AreDue (front ++ take k p) es
 Answered r front es p (Whole t) = f.IsWholeValue r front es × StandsAfter t [] []
 Answered r front es p (Bad n c t) = (n < length p) × (byte : ℕ) × (rest : List ℕ) × (p ≡ take n p ++ byte ∷ rest) × RefusedAt r (front ++ take n p) es byte n c
 
 from_start : (r : Rules) (front : List ℕ) (es : List e.Event) (p : List ℕ) (o : Out) → Came r 0 front es p o → Answered r front es p o
 from_start r front es p (More n t) h = (omega (arith, h.0), h.1, h.2)
-from_start r front es p (Gave n x t) h = let z : n - 0 ≡ n = omega arith in
-    (omega (arith, h.1), subst (λ m. StandsAfter t (front ++ take m p) (es ++ event_of x ∷ [])) z h.2)
+from_start r front es p (Gave n x t) h =
+    let z : n - 0 ≡ n = omega arith in
+    let y : n - 1 - 0 ≡ n - 1 = omega arith in (
+      omega (arith, h.1),
+      subst (λ m. StandsAfter t (front ++ take m p) (es ++ event_of x ∷ [])) z h.2,
+      λ some. subst (λ m. AreDue (front ++ take m p) es) y h.3,
+    )
 from_start r front es p (Part k n t) h =
     let z : n - 0 ≡ n = omega arith in
     let y : k - 0 ≡ k = omega arith in (
@@ -41,6 +49,7 @@ from_start r front es p (Part k n t) h =
       omega (arith, h.2),
       subst (λ m. StandsAfter t (front ++ take n p) (es ++ content_events (drop m (take n p)))) y
           (subst (λ m. StandsAfter t (front ++ take m p) (es ++ content_events (drop (k - 0) (take m p)))) z h.3),
+      subst (λ m. AreDue (front ++ take m p) es) y h.4,
     )
 from_start r front es p (Whole t) h = absurd h
 from_start r front es p (Bad n c t) (j, m, byte, rest, parts, w) =
@@ -50,8 +59,11 @@ from_start r front es p (Bad n c t) (j, m, byte, rest, parts, w) =
 -- an event that is owed at no byte
 gives_owed : (r : Rules) (front : List ℕ) (es : List e.Event) (p : List ℕ) (x : Happening) (t : Place) → StandsAfter t front (es ++ event_of x ∷ []) →
     Answered r front es p (Gave 0 x t)
-gives_owed r front es p x t w =
-    (omega arith, subst (λ z. StandsAfter t z (es ++ event_of x ∷ [])) (sym (ap (λ z. front ++ z) (take-none p) ∙ append-nil front)) w)
+gives_owed r front es p x t w = (
+  omega arith,
+  subst (λ z. StandsAfter t z (es ++ event_of x ∷ [])) (sym (ap (λ z. front ++ z) (take-none p) ∙ append-nil front)) w,
+  λ some. absurd (omega (arith, some)),
+)
 
 at_top : (r : Rules) → AwaitsMember r [] [] []
 at_top r = record { frames = []; begun = tt; of_levels = tt; ready = tt; whole = refl; told = refl }

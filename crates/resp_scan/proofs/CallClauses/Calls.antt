@@ -73,45 +73,45 @@ closing_some r [] last rest front es some w = absurd w
 closing_some r (f ∷ fs) last rest front es some w = omega (arith, ap length w.whole, longer_around (w.frame ∷ w.outer) last, some)
 
 -- between two values, or after a byte
-abbrev AtFrontOrBehind : Token → List Frame → List ℕ → Type 0
-AtFrontOrBehind t fs front = ((t ≡ AtStart) × (fs ≡ [])) ⊎ (0 < length front)
+abbrev AtFrontOrAfter : Token → List Frame → List ℕ → Type 0
+AtFrontOrAfter t fs front = ((t ≡ AtStart) × (fs ≡ [])) ⊎ (0 < length front)
 
-start_or_behind : (s : Place) (front : List ℕ) (es : List e.Event) → AwaitsMember (rules_of s) s.frames front es → AtFrontOrBehind AtStart s.frames front
-start_or_behind s front es w = case s.frames w
+start_or_after : (s : Place) (front : List ℕ) (es : List e.Event) → AwaitsMember (rules_of s) s.frames front es → AtFrontOrAfter AtStart s.frames front
+start_or_after s front es w = case s.frames w
   where
-    case : (fs : List Frame) → AwaitsMember (rules_of s) fs front es → AtFrontOrBehind AtStart fs front
+    case : (fs : List Frame) → AwaitsMember (rules_of s) fs front es → AtFrontOrAfter AtStart fs front
     case [] w = inl (refl, refl)
     case (f ∷ fs) w = inr (between_some (rules_of s) f fs front es w)
 
 -- inside a value, but for its text's end
-behind_in : (t : Token) (s : Place) (front : List ℕ) (es : List e.Event) → IsSound (at s t) → (t ≡ AtTextEnd → ⊥) →
-    IsInside (rules_of s) (b.TokenHas (rules_of s) t) s.frames front es → AtFrontOrBehind t s.frames front
-behind_in t s front es c no_end w = inr (inside_some (rules_of s) (b.TokenHas (rules_of s) t) s.frames front es (token_needed t s.bounds.depth s.frames) w
+after_in : (t : Token) (s : Place) (front : List ℕ) (es : List e.Event) → IsSound (at s t) → (t ≡ AtTextEnd → ⊥) →
+    IsInside (rules_of s) (b.TokenHas (rules_of s) t) s.frames front es → AtFrontOrAfter t s.frames front
+after_in t s front es c no_end w = inr (inside_some (rules_of s) (b.TokenHas (rules_of s) t) s.frames front es (token_needed t s.bounds.depth s.frames) w
     (tokens_need (at s t) 0 (length w.frames) w.bytes w.shown c no_end (at_level w) w.took))
 
-behind_at : (t : Token) (s : Place) (front : List ℕ) (es : List e.Event) → IsSound (at s t) → StandsAfter (at s t) front es → AtFrontOrBehind t s.frames front
-behind_at AtStart s front es c w = start_or_behind s front es w
-behind_at AtEnd s front es c w = inr (ended_some (rules_of s) s.frames front es w)
-behind_at AtTextEnd s front es c w = inr (omega (
+after_at : (t : Token) (s : Place) (front : List ℕ) (es : List e.Event) → IsSound (at s t) → StandsAfter (at s t) front es → AtFrontOrAfter t s.frames front
+after_at AtStart s front es c w = start_or_after s front es w
+after_at AtEnd s front es c w = inr (ended_some (rules_of s) s.frames front es w)
+after_at AtTextEnd s front es c w = inr (omega (
   arith,
   ap length w.whole,
   longer_around w.frames w.bytes,
   ap length w.took.whole,
   text_at_least (leaf w.took.leaf),
 ))
-behind_at AtCloseCr s front es c w = inr (closing_some (rules_of s) s.frames (46 ∷ []) (13 ∷ 10 ∷ []) front es (omega arith) w)
-behind_at AtCloseLf s front es c w = inr (closing_some (rules_of s) s.frames (46 ∷ 13 ∷ []) (10 ∷ []) front es (omega arith) w)
-behind_at (Dead x) s front es c w = absurd w.took
-behind_at t s front es c w = behind_in t s front es c (λ e. cc) w
+after_at AtCloseCr s front es c w = inr (closing_some (rules_of s) s.frames (46 ∷ []) (13 ∷ 10 ∷ []) front es (omega arith) w)
+after_at AtCloseLf s front es c w = inr (closing_some (rules_of s) s.frames (46 ∷ 13 ∷ []) (10 ∷ []) front es (omega arith) w)
+after_at (Dead x) s front es c w = absurd w.took
+after_at t s front es c w = after_in t s front es c (λ e. cc) w
 
-front_or_behind : (s : Place) (front : List ℕ) (es : List e.Event) → IsSound s → StandsAfter s front es → AtFrontOrBehind s.token s.frames front
-front_or_behind s front es c w = behind_at s.token s front es c w
+front_or_after : (s : Place) (front : List ℕ) (es : List e.Event) → IsSound s → StandsAfter s front es → AtFrontOrAfter s.token s.frames front
+front_or_after s front es c w = after_at s.token s front es c w
 
 -- Between values.
 
 -- a scanner stands between two values exactly where no byte of a value was taken
 pub between_values : (s : Place) (front : List ℕ) (es : List e.Event) → IsSound s → HasRead s front es → ((s.token ≡ AtStart) × (s.frames ≡ [])) ↔ (front ≡ [])
-between_values s front es c w = (λ h. none_taken s.token s.frames h.0 h.1 w.stands, λ e. case e (front_or_behind s front es c w.stands))
+between_values s front es c w = (λ h. none_taken s.token s.frames h.0 h.1 w.stands, λ e. case e (front_or_after s front es c w.stands))
   where
     none_taken : (t : Token) (fs : List Frame) → t ≡ AtStart → fs ≡ [] → StandsAfterAt (rules_of s) t fs front es → front ≡ []
     none_taken t fs e d l = top (subst (λ x. AwaitsMember (rules_of s) x front es) d (subst (λ x. StandsAfterAt (rules_of s) x fs front es) e l))
@@ -123,7 +123,7 @@ between_values s front es c w = (λ h. none_taken s.token s.frames h.0 h.1 w.sta
             none [] a e = e
             none (g ∷ gs) a e = absurd a
 
-    case : front ≡ [] → AtFrontOrBehind s.token s.frames front → (s.token ≡ AtStart) × (s.frames ≡ [])
+    case : front ≡ [] → AtFrontOrAfter s.token s.frames front → (s.token ≡ AtStart) × (s.frames ≡ [])
     case e (inl h) = h
     case e (inr h) = absurd (omega (arith, h, ap length e))
 

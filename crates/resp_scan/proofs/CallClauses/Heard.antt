@@ -13,6 +13,8 @@ use Rattle.resp_scan.specs.Machine.Scan.{Out, More, Gave, Part, Whole, Bad, and_
 use Rattle.resp_scan.specs.Kinds.{IsRefusedFor, content_events, event_of, rules_of}
 use Rattle.resp_scan.specs.Machine.Sound.{IsSoundBy}
 use Rattle.resp_scan.specs.Machine.Standing.{HasCountsOf, Leads, StandsAfter}
+use Rattle.resp_scan.specs.Reading.{AreDue}
+use Rattle.resp_scan.proofs.CallClauses.AllGiven.{all_due}
 use Rattle.resp_scan.proofs.CallClauses.Fronts.{take-none}
 use Rattle.resp_scan.proofs.TokenMoves.EachLeads.{IsLookedAt, each_leads}
 use Rattle.resp_scan.proofs.Soundness.Sound.{is_move}
@@ -31,9 +33,10 @@ pub record RefusedAt (r : Rules) (front : List ℕ) (es : List Event) (byte used
 -- what came of a piece of which this many bytes are used before these, by an answer
 abbrev pub Came : Rules → ℕ → List ℕ → List Event → List ℕ → Out → Type 0
 Came r i front es p (More n t) = (n ≡ i + length p) × IsLookedAt t.token n × StandsAfter t (front ++ p) es
-Came r i front es p (Gave n happening t) = (i < n) × (n ≤ i + length p) × StandsAfter t (front ++ take (n - i) p) (es ++ event_of happening ∷ [])
+Came r i front es p (Gave n happening t) = (i < n) × (n ≤ i + length p) × StandsAfter t (front ++ take (n - i) p) (es ++ event_of happening ∷ []) ×
+    AreDue (front ++ take (n - 1 - i) p) es
 Came r i front es p (Part k n t) = (i ≤ k) × (k < n) × (n ≤ i + length p) ×
-    StandsAfter t (front ++ take (n - i) p) (es ++ content_events (drop (k - i) (take (n - i) p)))
+    StandsAfter t (front ++ take (n - i) p) (es ++ content_events (drop (k - i) (take (n - i) p))) × AreDue (front ++ take (k - i) p) es
 Came r i front es p (Whole t) = ⊥
 Came r i front es p (Bad n c t) = (i ≤ n) × (n < i + length p) × (byte : ℕ) × (rest : List ℕ) × (p ≡ take (n - i) p ++ byte ∷ rest) ×
     RefusedAt r (front ++ take (n - i) p) es byte n c
@@ -56,8 +59,12 @@ came_later r i front es b bs (More n t) h = (
 )
 came_later r i front es b bs (Gave n happening t) h =
     let l : i + 1 < n = h.0 in
-    let m : n ≤ i + 1 + length bs = h.1 in
-    (omega (arith, l), omega (arith, m), subst (λ z. StandsAfter t z (es ++ event_of happening ∷ [])) (longer front i n b bs (omega (arith, l))) h.2)
+    let m : n ≤ i + 1 + length bs = h.1 in (
+      omega (arith, l),
+      omega (arith, m),
+      subst (λ z. StandsAfter t z (es ++ event_of happening ∷ [])) (longer front i n b bs (omega (arith, l))) h.2,
+      subst (λ z. AreDue z es) (longer front i (n - 1) b bs (omega (arith, l))) h.3,
+    )
 came_later r i front es b bs (Part k n t) h =
     let j : i + 1 ≤ k = h.0 in
     let l : k < n = h.1 in
@@ -70,6 +77,7 @@ came_later r i front es b bs (Part k n t) h =
       omega (arith, m),
       subst (λ z. StandsAfter t (front ++ take (n - i) (b ∷ bs)) (es ++ content_events z)) q
           (subst (λ z. StandsAfter t z (es ++ content_events (drop (k - (i + 1)) (take (n - (i + 1)) bs)))) (longer front i n b bs (omega (arith, j, l))) h.3),
+      subst (λ z. AreDue z es) (longer front i k b bs j) h.4,
     )
 came_later r i front es b bs (Whole t) h = h
 came_later r i front es b bs (Bad n c t) (j, m, byte, rest, parts, w) =
@@ -137,9 +145,14 @@ came_content i s front es (b ∷ bs) text c inside w =
 
 -- A piece, up to its next event.
 
-came_run : (r : Rules) (i : ℕ) (front : List ℕ) (es : List Event) (b : ℕ) (bs : List ℕ) (out : ℕ × Place) →
+-- no byte more
+due_before : (front : List ℕ) (es : List Event) (n : ℕ) (p : List ℕ) → n ≡ 0 → AreDue front es → AreDue (front ++ take n p) es
+due_before front es n p none due =
+    subst (λ z. AreDue z es) (sym (ap (λ m. front ++ take m p) none ∙ ap (λ z. front ++ z) (take-none p) ∙ append-nil front)) due
+
+came_run : (r : Rules) (i : ℕ) (front : List ℕ) (es : List Event) (b : ℕ) (bs : List ℕ) (out : ℕ × Place) → AreDue front es →
     Ran (i + 1) (front ++ b ∷ []) (es ++ e.Byte b ∷ []) bs out → Came r i front es (b ∷ bs) (Part i out.0 out.1)
-came_run r i front es b bs out h =
+came_run r i front es b bs out due h =
     let l : i + 1 ≤ out.0 = h.0 in
     let w = one_more i front es b bs out h in
     let z : i - i ≡ 0 = omega arith in
@@ -149,6 +162,7 @@ came_run r i front es b bs out h =
       m,
       subst (λ x. StandsAfter out.1 (front ++ take (out.0 - i) (b ∷ bs)) (es ++ content_events x))
           (sym (ap (λ n. drop n (take (out.0 - i) (b ∷ bs))) z)) w.2,
+      due_before front es (i - i) (b ∷ bs) z due,
     )
 
 came_move : (v : Move) (r : Rules) (i : ℕ) (s : Place) (front : List ℕ) (es : List Event) (b : ℕ) (bs : List ℕ) → rules_of s ≡ r → HasCountsOf s i front →
@@ -160,12 +174,16 @@ came_move : (v : Move) (r : Rules) (i : ℕ) (s : Place) (front : List ℕ) (es 
     Came r i front es (b ∷ bs) (answer v i s (λ t. scan (i + 1) t bs) (λ t. content (i + 1) t bs))
 came_move (Go t) r i s front es b bs q c w at_front m l f g = came_later r i front es b bs (scan (i + 1) t bs)
     (f t (m.rules ∙ q) (counts_more i s t front b c m.taken m.sound) m.inside l)
-came_move (Byte t) r i s front es b bs q c w at_front m l f g = came_run r i front es b bs (content (i + 1) t bs)
+came_move (Byte t) r i s front es b bs q c w at_front m l f g = came_run r i front es b bs (content (i + 1) t bs) (all_due s i front es c.sound at_front w)
     (g t (counts_more i s t front b c m.taken m.sound) m.inside l)
 came_move (Give x t) r i s front es b bs q c w at_front m l f g =
     let one : i + 1 - i ≡ suc 0 = omega arith in
-    let t1 : b ∷ [] ≡ take (i + 1 - i) (b ∷ bs) = sym (ap (λ n. take n (b ∷ bs)) one ∙ ap (λ z. b ∷ z) (take-none bs)) in
-    (omega arith, omega arith, subst (λ z. StandsAfter t (front ++ z) (es ++ event_of x ∷ [])) t1 l)
+    let t1 : b ∷ [] ≡ take (i + 1 - i) (b ∷ bs) = sym (ap (λ n. take n (b ∷ bs)) one ∙ ap (λ z. b ∷ z) (take-none bs)) in (
+      omega arith,
+      omega arith,
+      subst (λ z. StandsAfter t (front ++ z) (es ++ event_of x ∷ [])) t1 l,
+      due_before front es (i + 1 - 1 - i) (b ∷ bs) (omega arith) (all_due s i front es c.sound at_front w),
+    )
 came_move (Refuse x) r i s front es b bs q c w at_front m l f g =
     let none : i - i ≡ 0 = omega arith in
     let t0 : take (i - i) (b ∷ bs) ≡ [] = ap (λ n. take n (b ∷ bs)) none in (

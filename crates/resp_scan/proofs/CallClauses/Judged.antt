@@ -148,8 +148,8 @@ settle_at token r s front w = settled_here r (at s token) front w refl
 -- One byte.
 
 -- a byte after a whole value
-behind_whole : (r : Rules) (front : List ℕ) (es : List e.Event) (b : ℕ) → f.IsWholeValue r front es → IsCause r (front ++ b ∷ []) Grammar
-behind_whole r front es b w = grammar_cause r (front ++ b ∷ []) (λ rest c.
+after_whole : (r : Rules) (front : List ℕ) (es : List e.Event) (b : ℕ) → f.IsWholeValue r front es → IsCause r (front ++ b ∷ []) Grammar
+after_whole r front es b w = grammar_cause r (front ++ b ∷ []) (λ rest c.
     let u = unique w.tree c.tree (b ∷ rest) [] w.is_tree c.is_tree (ap (λ z. z ++ b ∷ rest) (sym w.whole) ∙ sym (append_assoc front (b ∷ []) rest) ∙
     sym c.whole ∙ sym (append-nil (text c.tree))) in
     let n : suc (length rest) ≡ 0 = ap length u.1 in
@@ -189,7 +189,7 @@ judge_byte : (r : Rules) (s : Place) (front : List ℕ) (b : ℕ) (bs : List ℕ
 judge_byte r s front b bs is_byte w (inl looked) f =
     judge_move (next s 1 b) r s front b bs w (is_move s.token s 0 b w.sound (λ h. refl))
     (each_leads s.token s 0 b front w.events is_byte (record { sound = w.sound; taken = omega (arith, w.taken) }) looked w.stands) f
-judge_byte r s front b bs is_byte w (inr whole) f = inr (fault_here r front b bs Grammar (followed r s front w) (behind_whole r front w.events b whole))
+judge_byte r s front b bs is_byte w (inr whole) f = inr (fault_here r front b bs Grammar (followed r s front w) (after_whole r front w.events b whole))
 
 -- Every byte.
 

@@ -15,7 +15,7 @@ use Rattle.resp_scan.specs.declared.listen.Turned.{Turned}
 use Rattle.resp_fronts.specs.Events as e
 use Rattle.resp_scan.specs.Kinds.{IsRefusedFor, rules_of}
 use Rattle.resp_scan.specs.Reading.{AreDue, BeginDue, Events, HasNoSpelling, HasNoValue, HasRead, IsFaulted, IsRefused, IsValue}
-use Rattle.resp_scan.specs.Listening.{HearsPiece, HearsRefusal, HearsValue, StopsBehind}
+use Rattle.resp_scan.specs.Listening.{HearsPiece, HearsRefusal, HearsValue, StopsAfter}
 use Rattle.resp_scan.specs.Machine.Tokens.{Token, Place, AtBigDigit, AtEnd, AtTextEnd, Dead}
 use Rattle.resp_scan.specs.Machine.Owed.{events_owed, events_owed_at, events_owed_at_end, events_owed_in}
 use Rattle.resp_scan.specs.Machine.Sound.{IsSound}
@@ -180,7 +180,7 @@ refusal_heard s₀ s t H₀ H H' M piece used turned c r v failed dead since fro
 pub stop_heard : {O : Type 0} (s₀ s t : Place) (H₀ H H' M : O → Events → Type 0) (piece : List ℕ) (used : ℕ) (turned : Turned) → Runs O s₀ s H₀ H piece used →
     IsTurn O s t H H' M (drop used piece) turned → turned.turn ≡ turn.Stopped → (since : O) (front : List ℕ) (given : Events) →
     HasRead s₀ front given → H₀ since given →
-    StopsBehind (rules_of s₀) (M since) front piece t.taken
+    StopsAfter (rules_of s₀) (M since) front piece t.taken
 stop_heard s₀ s t H₀ H H' M piece used turned r v stopped since front given w had =
     let a = r.reads since front given w had in
     let b = subst (OutcomeOfTurn s t (H' since) (M since) (front ++ take used piece) (given ++ a.told) (drop used piece) turned.used) stopped

@@ -19,7 +19,7 @@ use Rattle.resp_scan.specs.Machine.Tokens.{Place}
 use Rattle.resp_scan.specs.Reading.{AreDue, Events, HasNoDone, HasNoSpelling, HasNoValue}
 use Rattle.resp_scan.specs.declared.event.ScanError.{ScanError}
 use Rattle.resp_scan.specs.declared.event.Scanned.{Scanned}
-use Rattle.resp_scan.proofs.DueEvents.NoDone.{no_done_behind}
+use Rattle.resp_scan.proofs.DueEvents.NoDone.{no_done_after}
 use Rattle.resp_value.proofs.Choices.{if_below, if_within}
 
 -- a list, cut
@@ -31,7 +31,7 @@ done_is_due : (t : Tree) → HasNoDone (events_due (length (text t)) (all_events
 done_is_due t h =
     let n = length (text t) in
     let last = record { at = last_of 0 (text t); event = e.Done } ∷ [] in
-    let z = no_done_behind (events_due n (events 0 t)) (events_due n last) (subst HasNoDone (due-append n (events 0 t) last) h) in
+    let z = no_done_after (events_due n (events 0 t)) (events_due n last) (subst HasNoDone (due-append n (events 0 t) last) h) in
     not_due (last_of 0 (text t)) n (omega (arith, text_at_least t)) z
   where
     not_due : (at n : ℕ) → at < n → HasNoDone (cond (ltb at n) (e.Done ∷ []) []) → ⊥

@@ -1,6 +1,7 @@
 -- The contract of a step in words of texts and trees.
 use Rattle.std.specs.Prelude.{Bool, true, false, take, drop, get_or, eqb, Option, None, Some, Result, Ok, Err, IfOk, IfErr, IfNone}
-use Rattle.std.proofs.Common.{◌≡◌, ℕ, ◌+◌, ◌-◌, ◌<◌, ◌≤◌, List, [], ◌∷◌, ◌++◌, length, refl, sym, ap, subst, ◌∙◌, arith, append_assoc, append-nil, length-append}
+use Rattle.std.proofs.Common.{◌≡◌, ℕ, ◌+◌, ◌-◌, ◌<◌, ◌≤◌, List, [], ◌∷◌, ◌++◌, length, refl, sym, ap, subst, ◌∙◌, arith, append_assoc, length-append}
+use Rattle.std.proofs.lemmas.Bool.Decides.{nat_tests}
 use Rattle.resp_value.specs.Bytes.{IsText}
 use Rattle.resp_value.specs.Trees.{text}
 use Rattle.resp_value.specs.Rules.{WithinItems, WithinTotal}
@@ -13,21 +14,19 @@ use Rattle.resp_scan.specs.declared.event.Event.{Event}
 use Rattle.resp_scan.specs.declared.event.Event.TheVariants as event
 use Rattle.resp_scan.specs.declared.event.Step.{Step}
 use Rattle.resp_scan.specs.declared.event.Fault.{Fault}
-use Rattle.resp_scan.specs.declared.frame.Frame.{Frame}
-use Rattle.resp_scan.specs.Machine.Tokens.{Place, Token, AtStart, AtEnd, AtBigDigit, AtTextEnd, Dead}
+use Rattle.resp_scan.specs.Machine.Tokens.{Place, Dead}
 use Rattle.resp_scan.specs.Machine.Scan.{Out, More, Gave, Part, Whole, Bad, out_from}
 use Rattle.resp_scan.specs.Parts.{IsPartOf, IsOfPiece, IsRun}
 use Rattle.resp_scan.specs.Machine.StepOutcomes.{out_of_step, out_of_event, out_of_part, after_step}
 use Rattle.resp_scan.specs.Kinds.{IsRefusedFor, content_events, event_of, rules_of}
-use Rattle.resp_scan.specs.Machine.Sound.{IsSound, IsSoundBy}
-use Rattle.resp_scan.specs.Machine.Owed.{events_owed_at}
+use Rattle.resp_scan.specs.Machine.Sound.{IsSound}
 use Rattle.resp_scan.specs.Machine.Standing as f
 use Rattle.resp_scan.specs.Machine.Standing.{AwaitsMember, HasCountsOf, HasEnded, StandsAfter, StandsAfterAt}
-use Rattle.resp_scan.specs.Reading.{AreDue, EndsValue, HasNoValue, HasRead, IfDone, IfNoEvent, IfOtherEvent, IsRefused, IsValue, OnDone, OnOtherEvent, UsesUp, events_of}
+use Rattle.resp_scan.specs.Reading.{AreDue, ComesInTime, EndsValue, HasNoValue, HasRead, IfDone, IfNoEvent, IfOtherEvent, IsRefused, IsValue, OnDone, OnOtherEvent, UsesUp, events_of}
 use Rattle.resp_scan.proofs.DueEvents.GivenCounts.{no_done_given}
+use Rattle.resp_scan.proofs.CallClauses.AllGiven.{all_due, looked_on}
 use Rattle.resp_scan.proofs.CallClauses.NoValue.{no_spelling, no_value}
 use Rattle.resp_scan.proofs.TokenMoves.EachLeads.{IsLookedAt}
-use Rattle.resp_scan.proofs.DueEvents.EventsDue.{events_are_due}
 use Rattle.resp_scan.proofs.CallClauses.Heard.{RefusedAt}
 use Rattle.resp_scan.proofs.CallClauses.Fronts.{front-append, front-one-more, length-front}
 use Rattle.resp_scan.proofs.Soundness.Kept.{IsOut, is_advanced}
@@ -39,9 +38,10 @@ use Rattle.resp_scan.proofs.CallClauses.Answered.{Answered, answered}
 abbrev pub Shown : Place → List ℕ → List e.Event → List ℕ → Out → Type 0
 Shown s front es p (More n t) = (n ≡ length p) × (t.taken ≡ s.taken + n) × IsSound t × (rules_of t ≡ rules_of s) × IsLookedAt t.token n ×
     StandsAfter t (front ++ p) es
-Shown s front es p (Gave n happening t) = (n ≤ length p) × (t.taken ≡ s.taken + n) × StandsAfter t (front ++ take n p) (es ++ event_of happening ∷ [])
+Shown s front es p (Gave n happening t) = (n ≤ length p) × (t.taken ≡ s.taken + n) × StandsAfter t (front ++ take n p) (es ++ event_of happening ∷ []) ×
+    (0 < n → AreDue (front ++ take (n - 1) p) es)
 Shown s front es p (Part k n t) = (k < n) × (n ≤ length p) × (t.taken ≡ s.taken + n) ×
-    StandsAfter t (front ++ take n p) (es ++ content_events (drop k (take n p)))
+    StandsAfter t (front ++ take n p) (es ++ content_events (drop k (take n p))) × AreDue (front ++ take k p) es
 Shown s front es p (Whole t) = (t.taken ≡ 0) × f.IsWholeValue (rules_of s) front es × StandsAfter t [] []
 Shown s front es p (Bad n c t) = (t.taken ≡ s.taken + n) × (n < length p) × (byte : ℕ) × (rest : List ℕ) × (p ≡ take n p ++ byte ∷ rest) ×
     RefusedAt (rules_of s) (front ++ take n p) es byte n c
@@ -49,8 +49,8 @@ Shown s front es p (Bad n c t) = (t.taken ≡ s.taken + n) × (n < length p) × 
 pub shown : (s : Place) (front : List ℕ) (es : List e.Event) (p : List ℕ) (o : Out) → IsOut s o → Answered (rules_of s) front es p o →
     Shown s front es p (after_step o)
 shown s front es p (More n t) h a = (a.0, ap (λ x. x + n) h.taken, sound_counted t n h.sound, h.rules, a.1, a.2)
-shown s front es p (Gave n x t) h a = (a.0, ap (λ x. x + n) h.0.taken, a.1)
-shown s front es p (Part k n t) h a = (a.0, a.1, ap (λ x. x + n) h.taken, a.2)
+shown s front es p (Gave n x t) h a = (a.0, ap (λ x. x + n) h.0.taken, a.1, a.2)
+shown s front es p (Part k n t) h a = (a.0, a.1, ap (λ x. x + n) h.taken, a.2, a.3)
 shown s front es p (Whole t) h a = (h.1, a.0, a.1)
 shown s front es p (Bad n c t) h (within, byte, rest, parts, w) = (ap (λ x. x + n) h.0.taken, within, byte, rest, parts, w)
 
@@ -75,6 +75,12 @@ part_heard true s t front es p q n taken run h = subst (λ z. HasRead t (front +
 part_heard false s t front es p q n taken run h = follows s t front (es ++ content_events q) p n taken h.1 h.2
     (subst (λ z. StandsAfter t (front ++ take n p) (es ++ content_events z)) (sym run.1) h.3)
 
+-- and before it all events due were given
+part_in_time : (zero_bytes : Bool) (s t : Place) (front : List ℕ) (es : List e.Event) (p q : List ℕ) (n : ℕ) → eqb n 0 ≡ zero_bytes →
+    Shown s front es p (out_of_part zero_bytes n q t) → 0 < n → AreDue (front ++ take (n - length q) p) es
+part_in_time true s t front es p q n none h some = absurd (let z : n ≡ 0 = grind (arith, nat_tests) in omega (arith, some))
+part_in_time false s t front es p q n none h some = h.4
+
 -- Values.
 
 -- a whole value within total is within all rules
@@ -87,26 +93,11 @@ value_is s front es fits w = record {
   told = w.told;
 }
 
--- where a byte is looked at nothing is owed
-none_owed : (t : Token) (n : ℕ) (fs : List Frame) → IsLookedAt t n → events_owed_at t fs ≡ []
-none_owed AtEnd n fs h = absurd (let e : AtEnd ≡ AtStart = (h refl).0 in cc)
-none_owed AtTextEnd n fs h = absurd (let e : AtTextEnd ≡ AtStart = (h refl).0 in cc)
-none_owed (AtBigDigit digit room) n fs h = absurd (let e : AtBigDigit digit room ≡ AtStart = (h refl).0 in cc)
-none_owed token n fs h = refl
-
-looked_on : (t : Token) (n : ℕ) → IsLookedAt t n → IsLookedAt t 0
-looked_on t n h e = ((h e).0, refl)
-
--- and all events due were given
-all_due : (t : Place) (n : ℕ) (front : List ℕ) (es : List e.Event) → IsSoundBy n t → IsLookedAt t.token n → StandsAfter t front es → AreDue front es
-all_due t n front es sound looked w rest whole spells = events_are_due t n front es sound w rest whole spells ∙
-    ap (λ z. es ++ z) (none_owed t.token n t.frames looked) ∙ append-nil es
-
 -- What a step comes to, by its event.
 abbrev pub OutcomeOf : Place → Place → List ℕ → List e.Event → List ℕ → ℕ → Option Event → Type 0
 OutcomeOf s t front es p n None = UsesUp t front es p n
 OutcomeOf s t front es p n (Some event.Done) = EndsValue (rules_of s) t front es n
-OutcomeOf s t front es p n (Some x) = HasRead t (front ++ take n p) (es ++ events_of x)
+OutcomeOf s t front es p n (Some x) = HasRead t (front ++ take n p) (es ++ events_of x) × ComesInTime front es p n x
 
 pub heard_is : (s t : Place) (front : List ℕ) (es : List e.Event) (p : List ℕ) (n : ℕ) (x : Option Event) → s.taken ≡ length front →
     length front ≤ s.bounds.total →
@@ -123,14 +114,15 @@ heard_is s t front es p n None taken fits part h =
       all_due = due;
       reads = reads;
     }
-heard_is s t front es p n (Some event.Null) taken fits part h = follows s t front (es ++ e.Null ∷ []) p n taken h.0 h.1 h.2
-heard_is s t front es p n (Some (event.Bool x)) taken fits part h = follows s t front (es ++ e.Bool x ∷ []) p n taken h.0 h.1 h.2
-heard_is s t front es p n (Some (event.Int x)) taken fits part h = follows s t front (es ++ e.Int x ∷ []) p n taken h.0 h.1 h.2
-heard_is s t front es p n (Some (event.Text x)) taken fits part h = follows s t front (es ++ events_of (event.Text x)) p n taken h.0 h.1 h.2
-heard_is s t front es p n (Some (event.Part q)) taken fits part h = part_heard (eqb n 0) s t front es p q.now n taken part h
-heard_is s t front es p n (Some event.TextEnd) taken fits part h = follows s t front (es ++ e.TextEnd ∷ []) p n taken h.0 h.1 h.2
-heard_is s t front es p n (Some (event.Open x c)) taken fits part h = follows s t front (es ++ events_of (event.Open x c)) p n taken h.0 h.1 h.2
-heard_is s t front es p n (Some event.Close) taken fits part h = follows s t front (es ++ e.Close ∷ []) p n taken h.0 h.1 h.2
+heard_is s t front es p n (Some event.Null) taken fits part h = (follows s t front (es ++ e.Null ∷ []) p n taken h.0 h.1 h.2, h.3)
+heard_is s t front es p n (Some (event.Bool x)) taken fits part h = (follows s t front (es ++ e.Bool x ∷ []) p n taken h.0 h.1 h.2, h.3)
+heard_is s t front es p n (Some (event.Int x)) taken fits part h = (follows s t front (es ++ e.Int x ∷ []) p n taken h.0 h.1 h.2, h.3)
+heard_is s t front es p n (Some (event.Text x)) taken fits part h = (follows s t front (es ++ events_of (event.Text x)) p n taken h.0 h.1 h.2, h.3)
+heard_is s t front es p n (Some (event.Part q)) taken fits part h =
+    (part_heard (eqb n 0) s t front es p q.now n taken part h, part_in_time (eqb n 0) s t front es p q.now n refl h)
+heard_is s t front es p n (Some event.TextEnd) taken fits part h = (follows s t front (es ++ e.TextEnd ∷ []) p n taken h.0 h.1 h.2, h.3)
+heard_is s t front es p n (Some (event.Open x c)) taken fits part h = (follows s t front (es ++ events_of (event.Open x c)) p n taken h.0 h.1 h.2, h.3)
+heard_is s t front es p n (Some event.Close) taken fits part h = (follows s t front (es ++ e.Close ∷ []) p n taken h.0 h.1 h.2, h.3)
 heard_is s t front es p n (Some event.Done) taken fits part h =
     let z : t.taken + n ≡ 0 = h.0 in
     record { no_byte = omega (arith, z); is_value = value_is s front es fits h.1; reads = record { stands = h.2; taken = omega (arith, z) } }
@@ -217,7 +209,18 @@ if_other_event (Ok step) s t front es p h = by_event step.event h
         OnOtherEvent x (λ other. HasRead t (front ++ take step.used p) (es ++ events_of other))
     by_event None h = tt
     by_event (Some event.Done) h = tt
-    by_event (Some x) h = h
+    by_event (Some x) h = h.0
+
+-- it comes in time
+pub if_in_time : (result : Result Step Fault) (s t : Place) (front : List ℕ) (es : List e.Event) (p : List ℕ) → Outcome s t front es p result →
+    IfOtherEvent result (ComesInTime front es p)
+if_in_time (Err fault) s t front es p h = tt
+if_in_time (Ok step) s t front es p h = by_event step.event h
+  where
+    by_event : (x : Option Event) → OutcomeOf s t front es p step.used x → OnOtherEvent x (ComesInTime front es p step.used)
+    by_event None h = tt
+    by_event (Some event.Done) h = tt
+    by_event (Some x) h = h.1
 
 -- a refusal
 pub if_refused : (result : Result Step Fault) (s t : Place) (front : List ℕ) (es : List e.Event) (p : List ℕ) → Outcome s t front es p result →

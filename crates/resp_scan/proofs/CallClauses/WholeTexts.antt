@@ -36,8 +36,8 @@ use Rattle.resp_scan.proofs.Soundness.Runs.{content_part, line_part, plain_run_l
 use Rattle.resp_value.proofs.Choices.{if_equal}
 
 -- the piece after a run that CR LF follow
-behind_run : (p : List ℕ) (run : ℕ) → EndsAt p run → drop run p ≡ byte "\r" ∷ byte "\n" ∷ drop (run + 2) p
-behind_run p run ends =
+rest_after_run : (p : List ℕ) (run : ℕ) → EndsAt p run → drop run p ≡ byte "\r" ∷ byte "\n" ∷ drop (run + 2) p
+rest_after_run p run ends =
     let first : run < length p = omega (arith, ends.within) in
     let second : run + 1 < length p = omega (arith, ends.within) in
     let a : drop run p ≡ get_or p run 0 ∷ drop (run + 1) p = drop_next p run first in
@@ -48,10 +48,10 @@ behind_run p run ends =
     drop_next : (p : List ℕ) (i : ℕ) → i < length p → drop i p ≡ get_or p i 0 ∷ drop (i + 1) p
     drop_next p i within = rw (add-one, drop-cons p i 0) refl
 
-pub text_behind : (n : ℕ) (p : List ℕ) → IsText p → IsText (drop n p)
-text_behind zero p text = text
-text_behind (suc n) [] text = tt
-text_behind (suc n) (b ∷ bs) text = text_behind n bs text.1
+pub text_after : (n : ℕ) (p : List ℕ) → IsText p → IsText (drop n p)
+text_after zero p text = text
+text_after (suc n) [] text = tt
+text_after (suc n) (b ∷ bs) text = text_after n bs text.1
 
 -- a token at which CR LF end the text
 abbrev pub EndsText : Place → Type 0
@@ -79,7 +79,7 @@ after_run s t front given p (suc n) text sound w runs = reads_more s front given
 
 -- CR LF after content end the text.
 ends_here : (t : Place) (p : List ℕ) (run : ℕ) → EndsAt p run → EndsText t → Gave 2 TextEnd (at_boundary t) ≡ out_from t (drop run p)
-ends_here t p run ends ends_text = ends_text (drop (run + 2) p) ∙ ap (out_from t) (sym (behind_run p run ends))
+ends_here t p run ends ends_text = ends_text (drop (run + 2) p) ∙ ap (out_from t) (sym (rest_after_run p run ends))
 
 pub sound_text_ends : (s t : Place) (p : List ℕ) (run : ℕ) → IsSound s → EndsAt p run → RunsTo s t p run → EndsText (after_bytes run t) →
     IsSound (after_bytes 2 (at_boundary (after_bytes run t)))
@@ -102,7 +102,7 @@ text_ends s t front given p run text sound w ends runs ends_text =
     let u = after_bytes run t in
     let last = at_boundary u in
     let rest = drop run p in
-    let read = reads_more u (front ++ take run p) (given ++ content_events (take run p)) rest (Gave 2 TextEnd last) (text_behind run p text)
+    let read = reads_more u (front ++ take run p) (given ++ content_events (take run p)) rest (Gave 2 TextEnd last) (text_after run p text)
     (sound_after_run s t p run sound runs) (ends_here u p run ends ends_text) (after_run s t front given p run text sound w runs) in
     let bytes : (front ++ take run p) ++ take 2 rest ≡ front ++ take (run + 2) p =
     append_assoc front (take run p) (take 2 rest) ∙ ap (λ z. front ++ z) (taken_on run 2 p) in
@@ -168,7 +168,7 @@ whole_turn {O = O} s m m' n run k t p HadHeard HasHeard HasStopped goes_on turne
       dead = λ fault f. absurd (let z : Gave n (Text k) (place_of m) ≡ Bad 0 fault.cause s = here ∙ from_dead s p fault f in cc);
       nearer = λ on none. absurd (omega (arith, used, none));
       outcome = λ since front given w had.
-          let read = text_ends u t (front ++ take n p) (given ++ e.Text (text_kind_of k) ∷ []) (drop n p) run (text_behind n p text) sound_u
+          let read = text_ends u t (front ++ take n p) (given ++ e.Text (text_kind_of k) ∷ []) (drop n p) run (text_after n p text) sound_u
           (reads_more s front given p (Gave n (Text k) (place_of m)) text sound here w) ends runs ends_text in
           let bytes : (front ++ take n p) ++ take (run + 2) (drop n p) ≡ front ++ take turned.used p =
           append_assoc front (take n p) (take (run + 2) (drop n p)) ∙ ap (λ z. front ++ z) (taken_on n (run + 2) p ∙ ap (λ j. take j p) size) in
@@ -187,12 +187,14 @@ whole_turn {O = O} s m m' n run k t p HadHeard HasHeard HasStopped goes_on turne
 pub line_tag : (w : EventTag) (k : TextKind) (n : ℕ) (m : Machine) → IsLineTag w k → out_by w n m ≡ Gave n (Text k) (place_of m)
 line_tag tag.Simple k n m is = ap (λ x. Gave n (Text x) (place_of m)) (sym is)
 line_tag tag.Error k n m is = ap (λ x. Gave n (Text x) (place_of m)) (sym is)
+line_tag tag.Double k n m is = ap (λ x. Gave n (Text x) (place_of m)) (sym is)
 line_tag w k n m is = absurd is
 
 -- a line is the text of its kind
 pub line_text_is : (w : EventTag) (k : TextKind) (bytes : List ℕ) → IsLineTag w k → IsLine bytes → IsTextOf k bytes
 line_text_is tag.Simple k bytes is line = subst (λ x. IsTextOf x bytes) (sym is) line
 line_text_is tag.Error k bytes is line = subst (λ x. IsTextOf x bytes) (sym is) line
+line_text_is tag.Double k bytes is line = subst (λ x. IsTextOf x bytes) (sym is) line
 line_text_is w k bytes is line = absurd is
 
 -- A line told whole is a turn.

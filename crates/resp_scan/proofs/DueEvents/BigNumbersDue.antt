@@ -32,8 +32,8 @@ stripped_zeros (c ∷ a) b none = cases (eqb c 48) (stripped_zeros a b) none
   where
     cases : (x : Bool) → (significant_digits a ≡ [] → significant_digits (a ++ b) ≡ significant_digits b) → cond x (significant_digits a) (c ∷ a) ≡ [] →
         cond x (significant_digits (a ++ b)) (c ∷ (a ++ b)) ≡ significant_digits b
-    cases true behind h = behind h
-    cases false behind h = absurd (cc)
+    cases true beyond h = beyond h
+    cases false beyond h = absurd (cc)
 
 -- and digits that aren't all zeros
 stripped_kept : (a b : List ℕ) (digit : ℕ) (digits : List ℕ) → significant_digits a ≡ digit ∷ digits → significant_digits (a ++ b) ≡ digit ∷ (digits ++ b)
@@ -42,8 +42,8 @@ stripped_kept (c ∷ a) b digit digits some = cases (eqb c 48) (stripped_kept a 
   where
     cases : (x : Bool) → (significant_digits a ≡ digit ∷ digits → significant_digits (a ++ b) ≡ digit ∷ (digits ++ b)) →
         cond x (significant_digits a) (c ∷ a) ≡ digit ∷ digits → cond x (significant_digits (a ++ b)) (c ∷ (a ++ b)) ≡ digit ∷ (digits ++ b)
-    cases true behind h = behind h
-    cases false behind h = ap (λ z. z ++ b) h
+    cases true beyond h = beyond h
+    cases false beyond h = ap (λ z. z ++ b) h
 
 -- no event before the first digit that isn't zero
 big_later : (from n : ℕ) (sign : Sign) (digits : List ℕ) → n + length (significant_digits digits) ≤ from + 1 + length (sign_text sign) + length digits →
@@ -80,27 +80,27 @@ big_by_byte (node d.Attr form ts) i = absurd (omega arith)
 big_by_byte (node d.Push form ts) i = absurd (omega arith)
 
 -- a byte below the digits after it is its sign
-signed_by : (byte : ℕ) (sign : Sign) (digits behind : List ℕ) → byte < 48 → IsDigits digits → (sign_text sign ++ digits) ++ crlf [] ≡ byte ∷ behind →
+signed_by : (byte : ℕ) (sign : Sign) (digits beyond : List ℕ) → byte < 48 → IsDigits digits → (sign_text sign ++ digits) ++ crlf [] ≡ byte ∷ beyond →
     1 ≤ length (sign_text sign)
-signed_by byte Plus digits behind below are same = omega arith
-signed_by byte Minus digits behind below are same = omega arith
-signed_by byte Unsigned [] behind below are same = absurd (omega (arith, are.0))
-signed_by byte Unsigned (c ∷ digits) behind below are same = let h : c ≡ byte = cc in absurd (omega (arith, are.1.0.0, h, below))
+signed_by byte Plus digits beyond below are same = omega arith
+signed_by byte Minus digits beyond below are same = omega arith
+signed_by byte Unsigned [] beyond below are same = absurd (omega (arith, are.0))
+signed_by byte Unsigned (c ∷ digits) beyond below are same = let h : c ≡ byte = cc in absurd (omega (arith, are.1.0.0, h, below))
 
-sign_within : (sign other : Sign) (digits behind : List ℕ) → IsDigits digits → leaf_text (numeral t.Big other digits) ≡ (40 ∷ (sign_text sign ++ [])) ++
-    behind → length (sign_text sign) ≤ length (sign_text other)
-sign_within Unsigned other digits behind are same = omega arith
-sign_within Plus other digits behind are same = signed_by 43 other digits behind (omega arith) are (cc)
-sign_within Minus other digits behind are same = signed_by 45 other digits behind (omega arith) are (cc)
+sign_within : (sign other : Sign) (digits beyond : List ℕ) → IsDigits digits → leaf_text (numeral t.Big other digits) ≡ (40 ∷ (sign_text sign ++ [])) ++
+    beyond → length (sign_text sign) ≤ length (sign_text other)
+sign_within Unsigned other digits beyond are same = omega arith
+sign_within Plus other digits beyond are same = signed_by 43 other digits beyond (omega arith) are (cc)
+sign_within Minus other digits beyond are same = signed_by 45 other digits beyond (omega arith) are (cc)
 
 -- a big number's type byte, and its sign
 pub big_begun_due : (r : Rules) (sign : Sign) (level : ℕ) (bytes : List ℕ) (shown : List Event) → IsNumberBegun r t.Big sign level bytes → shown ≡ [] →
     AreDueWithin bytes shown
-big_begun_due r sign level bytes shown w told from value behind is_tree whole =
-    let spelled : text value ≡ (40 ∷ (sign_text sign ++ [])) ++ behind = whole ∙ ap (λ z. z ++ behind) w.1 in
-    let (other, digits, same) = big_by_byte value (first_byte_is value [] ((sign_text sign ++ []) ++ behind) 40 (append-nil (text value) ∙ spelled)) in
+big_begun_due r sign level bytes shown w told from value beyond is_tree whole =
+    let spelled : text value ≡ (40 ∷ (sign_text sign ++ [])) ++ beyond = whole ∙ ap (λ z. z ++ beyond) w.1 in
+    let (other, digits, same) = big_by_byte value (first_byte_is value [] ((sign_text sign ++ []) ++ beyond) 40 (append-nil (text value) ∙ spelled)) in
     let are : IsDigits digits = subst IsTree same is_tree in
-    let within = sign_within sign other digits behind are (ap text (sym same) ∙ spelled) in
+    let within = sign_within sign other digits beyond are (ap text (sym same) ∙ spelled) in
     ap (λ z. events_due (from + length bytes) (events from z)) same
     ∙ due_none (from + length bytes) (leaf_events from (numeral t.Big other digits))
     (big_later from (from + length bytes) other digits (omega (
@@ -116,11 +116,11 @@ big_begun_due r sign level bytes shown w told from value behind is_tree whole =
 
 -- with digits the value is such a number, with more digits
 big_goes_on : (r : Rules) (negative : Bool) (kept : List ℕ) (level : ℕ) (bytes : List ℕ) (w : BigBegun r negative kept level bytes) (value : Tree)
-    (behind : List ℕ) → IsTree value → text value ≡ bytes ++ behind → (l : List ℕ) × (value ≡ leaf (numeral t.Big w.sign ((w.first ∷ w.digits) ++ l)))
-big_goes_on r negative kept level bytes w value behind is_tree whole =
+    (beyond : List ℕ) → IsTree value → text value ≡ bytes ++ beyond → (l : List ℕ) × (value ≡ leaf (numeral t.Big w.sign ((w.first ∷ w.digits) ++ l)))
+big_goes_on r negative kept level bytes w value beyond is_tree whole =
     let begun = 40 ∷ (sign_text w.sign ++ w.first ∷ w.digits) in
-    let (l, h, rest) = line_begins (first_line value) begun (after_line value) behind (number_line t.Big w.sign (w.first ∷ w.digits) w.token.are_digits.1)
-    (sym (text_first value) ∙ whole ∙ ap (λ z. z ++ behind) w.token.are) in
+    let (l, h, rest) = line_begins (first_line value) begun (after_line value) beyond (number_line t.Big w.sign (w.first ∷ w.digits) w.token.are_digits.1)
+    (sym (text_first value) ∙ whole ∙ ap (λ z. z ++ beyond) w.token.are) in
     let first : first_line value ≡ 40 ∷ (sign_text w.sign ++ w.first ∷ (w.digits ++ l)) =
     h ∙ ap (λ z. 40 ∷ z) (append_assoc (sign_text w.sign) (w.first ∷ w.digits) l) in
     let digit = w.token.are_digits.1.0 in (
@@ -132,8 +132,8 @@ big_goes_on r negative kept level bytes w value behind is_tree whole =
 -- zeros so far
 pub big_zeros_due : (r : Rules) (negative : Bool) (level : ℕ) (bytes : List ℕ) (shown : List Event) → BigBegun r negative [] level bytes → shown ≡ [] →
     AreDueWithin bytes shown
-big_zeros_due r negative level bytes shown w told from value behind is_tree whole =
-    let (l, same) = big_goes_on r negative [] level bytes w value behind is_tree whole in
+big_zeros_due r negative level bytes shown w told from value beyond is_tree whole =
+    let (l, same) = big_goes_on r negative [] level bytes w value beyond is_tree whole in
     let zeros = w.first ∷ w.digits in
     ap (λ z. events_due (from + length bytes) (events from z)) same
     ∙ due_none (from + length bytes) (leaf_events from (numeral t.Big w.sign (zeros ++ l)))
@@ -150,11 +150,11 @@ big_zeros_due r negative level bytes shown w told from value behind is_tree whol
 
 -- before the LF of a big zero
 pub big_zero_returned_due : (r : Rules) (level : ℕ) (bytes : List ℕ) (shown : List Event) → ZeroReturned r level bytes shown → AreDueWithin bytes shown
-big_zero_returned_due r level bytes shown w from value behind is_tree whole =
+big_zero_returned_due r level bytes shown w from value beyond is_tree whole =
     let l = numeral t.Big w.sign w.digits in
     let last = last_of from (leaf_text l) in
     ap (λ n. events_due n (events from value)) (returned_last r l level bytes from w.returned)
-    ∙ ap (λ z. events_due last (events from z)) (returned_is r l level bytes value behind w.returned is_tree whole)
+    ∙ ap (λ z. events_due last (events from z)) (returned_is r l level bytes value beyond w.returned is_tree whole)
     ∙ ap (λ z. events_due last (big_events (is_below_zero w.sign w.digits) z last)) w.left
     ∙ due_none last (big_events (is_below_zero w.sign w.digits) [] last)
     (text_later last (e.Big (is_below_zero w.sign w.digits)) last last [] last (omega arith) (omega arith) (omega arith))
@@ -162,9 +162,9 @@ big_zero_returned_due r level bytes shown w from value behind is_tree whole =
 
 -- the digits from the first that isn't zero on
 pub big_shown_due : (r : Rules) (room level : ℕ) (bytes : List ℕ) (shown : List Event) → BigShown r room level bytes shown → AreDueWithin bytes shown
-big_shown_due r room level bytes shown w from value behind is_tree whole =
+big_shown_due r room level bytes shown w from value beyond is_tree whole =
     let b = w.token in
-    let (l, same) = big_goes_on r w.negative (w.digit ∷ w.digits) level bytes b value behind is_tree whole in
+    let (l, same) = big_goes_on r w.negative (w.digit ∷ w.digits) level bytes b value beyond is_tree whole in
     let ds = b.first ∷ b.digits in
     let n = from + length bytes in
     let last = last_of from (leaf_text (numeral t.Big b.sign (ds ++ l))) in

@@ -60,7 +60,7 @@ stream_due : (from n : ℕ) (cs more : List Chunk) (zeros : List ℕ) (shown : L
     events_due n (chunk_events (from + 4 + length (chunks_text cs [])) more ++
     record { at = last_of from (leaf_text (chunked (with_chunks cs more) zeros)); event = e.TextEnd } ∷ []) ≡ shown →
     events_due n (leaf_events from (chunked (with_chunks cs more) zeros)) ≡ (e.Text e.Bulk ∷ content_events (joined_content cs)) ++ shown
-stream_due from n cs more zeros shown l behind =
+stream_due from n cs more zeros shown l beyond =
     let end : List Timed = record { at = last_of from (leaf_text (chunked (with_chunks cs more) zeros)); event = e.TextEnd } ∷ [] in
     let next = from + 4 + length (chunks_text cs []) in
     let begun : from + 3 < n = omega (arith, l) in
@@ -69,26 +69,26 @@ stream_due from n cs more zeros shown l behind =
     ∙ ap (events_due n) (append_assoc (chunk_events (from + 4) cs) (chunk_events next more) end)
     ∙ due-append n (chunk_events (from + 4) cs) (chunk_events next more ++ end)
     ∙ ap (λ z. z ++ events_due n (chunk_events next more ++ end)) (chunks_all n (from + 4) cs l)
-    ∙ ap (λ z. content_events (joined_content cs) ++ z) behind))
+    ∙ ap (λ z. content_events (joined_content cs) ++ z) beyond))
 
 -- the streamed string that a value is of which whole chunks have come
-record IsStreamOf (cs : List Chunk) (begun behind : List ℕ) (value : Tree) : Type 0 where
+record IsStreamOf (cs : List Chunk) (begun beyond : List ℕ) (value : Tree) : Type 0 where
   pub more : List Chunk
   pub zeros : List ℕ
   pub are_chunks : AllByRecursion IsChunk more
   pub is_zero : IsNumber 0 zeros
   pub same : value ≡ leaf (chunked (with_chunks cs more) zeros)
-  pub goes_on : chunks_text more (last zeros) ≡ begun ++ behind
+  pub goes_on : chunks_text more (last zeros) ≡ begun ++ beyond
 
-stream_of : (cs : List Chunk) (begun behind : List ℕ) (value : Tree) → AllByRecursion IsChunk cs → IsTree value →
-    text value ≡ (36 ∷ 63 ∷ crlf (chunks_text cs begun)) ++ behind → IsStreamOf cs begun behind value
-stream_of cs begun behind value are is_tree whole =
-    let s = line_split (first_line value) (36 ∷ 63 ∷ []) (after_line value) (chunks_text cs begun ++ behind) (first_is_line value is_tree) mark_line
+stream_of : (cs : List Chunk) (begun beyond : List ℕ) (value : Tree) → AllByRecursion IsChunk cs → IsTree value →
+    text value ≡ (36 ∷ 63 ∷ crlf (chunks_text cs begun)) ++ beyond → IsStreamOf cs begun beyond value
+stream_of cs begun beyond value are is_tree whole =
+    let s = line_split (first_line value) (36 ∷ 63 ∷ []) (after_line value) (chunks_text cs begun ++ beyond) (first_is_line value is_tree) mark_line
     (sym (text_first value) ∙ whole) in
     let u = tree_of_chunked value (sort_of-line value is_tree s.0) in
     let i : IsTree (leaf (chunked u.0 u.1)) = subst IsTree u.2 is_tree in
-    let after : chunks_text u.0 (last u.1) ≡ chunks_text cs begun ++ behind = ap after_line (sym u.2) ∙ s.1 in
-    let (more, split, chunks, goes_on) = chunks_begin cs u.0 u.1 (begun ++ behind) are i.0 i.1.0 i.1.1 (after ∙ chunks_text-append cs begun behind) in
+    let after : chunks_text u.0 (last u.1) ≡ chunks_text cs begun ++ beyond = ap after_line (sym u.2) ∙ s.1 in
+    let (more, split, chunks, goes_on) = chunks_begin cs u.0 u.1 (begun ++ beyond) are i.0 i.1.0 i.1.1 (after ∙ chunks_text-append cs begun beyond) in
     record { more = more; zeros = u.1; are_chunks = chunks; is_zero = i.1; same = u.2 ∙ ap (λ z. leaf (chunked z u.1)) split; goes_on = goes_on }
 
 -- Between chunks.
@@ -96,15 +96,15 @@ stream_of cs begun behind value are is_tree whole =
 -- the line that comes next, of a chunk or of the end, before which there are no events
 record HasLine (more : List Chunk) (zeros : List ℕ) : Type 0 where
   pub digits : List ℕ
-  pub behind : List ℕ
-  pub are : chunks_text more (last zeros) ≡ (59 ∷ digits) ++ crlf behind
+  pub beyond : List ℕ
+  pub are : chunks_text more (last zeros) ≡ (59 ∷ digits) ++ crlf beyond
   pub quiet : (at n : ℕ) → n ≤ at + length digits + 3 → AreFrom n (chunk_events at more)
 
 has_line : (more : List Chunk) (zeros : List ℕ) → HasLine more zeros
-has_line [] zeros = record { digits = zeros; behind = []; are = refl; quiet = λ at n l. tt }
+has_line [] zeros = record { digits = zeros; beyond = []; are = refl; quiet = λ at n l. tt }
 has_line (c ∷ cs) zeros = record {
   digits = c.digits;
-  behind = c.content ++ crlf (chunks_text cs (last zeros));
+  beyond = c.content ++ crlf (chunks_text cs (last zeros));
   are = refl;
   quiet = λ at n l. from-append n (bytes_from (at + length c.digits + 3) c.content) (chunk_events (at + length c.digits + length c.content + 5) cs)
       (bytes_later n (at + length c.digits + 3) c.content l) (chunks_later n (at + length c.digits + length c.content + 5) cs (omega (arith, l)));
@@ -112,27 +112,27 @@ has_line (c ∷ cs) zeros = record {
 
 -- bytes of such a line, up to its LF
 abbrev pub IsInLine : List ℕ → Type 0
-IsInLine begun = (digits after behind : List ℕ) → (59 ∷ digits) ++ crlf after ≡ begun ++ behind → length begun ≤ length digits + 2
+IsInLine begun = (digits after beyond : List ℕ) → (59 ∷ digits) ++ crlf after ≡ begun ++ beyond → length begun ≤ length digits + 2
 
 -- whole chunks, and bytes of the next line
 pub chunks_due : (r : Rules) (room : ℕ) (begun : List ℕ) (level : ℕ) (bytes : List ℕ) (shown : List Event) → IsInLine begun →
     ChunksBegun r room begun level bytes shown → AreDueWithin bytes shown
-chunks_due r room begun level bytes shown in_line w from value behind is_tree whole =
-    let v = stream_of w.chunks begun behind value w.are_chunks is_tree (whole ∙ ap (λ z. z ++ behind) w.are) in
+chunks_due r room begun level bytes shown in_line w from value beyond is_tree whole =
+    let v = stream_of w.chunks begun beyond value w.are_chunks is_tree (whole ∙ ap (λ z. z ++ beyond) w.are) in
     let n = from + length bytes in
     let next = from + 4 + length (chunks_text w.chunks []) in
     let h = has_line v.more v.zeros in
-    let short : length begun ≤ length h.digits + 2 = in_line h.digits h.behind behind (sym h.are ∙ v.goes_on) in
+    let short : length begun ≤ length h.digits + 2 = in_line h.digits h.beyond beyond (sym h.are ∙ v.goes_on) in
     let place : n ≡ next + length begun = omega (arith, ap length w.are, length-chunks w.chunks begun) in
-    let some : 0 < length behind = omega (
+    let some : 0 < length beyond = omega (
       arith,
       short,
       ap length (sym h.are ∙ v.goes_on),
-      length-append (59 ∷ h.digits) (crlf h.behind),
-      length-append begun behind,
+      length-append (59 ∷ h.digits) (crlf h.beyond),
+      length-append begun beyond,
     ) in
     let end : n ≤ last_of from (leaf_text (chunked (with_chunks w.chunks v.more) v.zeros)) =
-    omega (arith, ap (λ z. length (text z)) v.same, ap length whole, length-append bytes behind, some) in
+    omega (arith, ap (λ z. length (text z)) v.same, ap length whole, length-append bytes beyond, some) in
     ap (λ z. events_due n (events from z)) v.same
     ∙ stream_due from n w.chunks v.more v.zeros [] (omega (arith, place))
     (due_none n _ (from-append n (chunk_events next v.more) _ (h.quiet next n (omega (arith, place, short))) (end, tt)))
@@ -141,23 +141,23 @@ chunks_due r room begun level bytes shown in_line w from value behind is_tree wh
 
 -- no byte
 pub none_in_line : IsInLine []
-none_in_line digits after behind same = omega arith
+none_in_line digits after beyond same = omega arith
 
 -- a chunk's type byte
 pub mark_in_line : IsInLine (59 ∷ [])
-mark_in_line digits after behind same = omega arith
+mark_in_line digits after beyond same = omega arith
 
 -- its digits
 pub length_in_line : (digits : List ℕ) → IsDigits digits → IsInLine ((59 ∷ digits) ++ [])
-length_in_line digits are others after behind same =
-    let (l, h, rest) = line_begins (59 ∷ others) (59 ∷ digits) after behind (chunk_line digits are) (same ∙ ap (λ z. z ++ behind) (append-nil (59 ∷ digits))) in
+length_in_line digits are others after beyond same =
+    let (l, h, rest) = line_begins (59 ∷ others) (59 ∷ digits) after beyond (chunk_line digits are) (same ∙ ap (λ z. z ++ beyond) (append-nil (59 ∷ digits))) in
     omega (arith, ap length h, length-append (59 ∷ digits) l, length-append (59 ∷ digits) [])
 
 -- a chunk's line and its CR are within a line
 pub returned_in_line : (digits : List ℕ) → IsDigits digits → IsInLine ((59 ∷ digits) ++ 13 ∷ [])
-returned_in_line digits are others after behind same =
-    let (l, h, rest) = line_begins (59 ∷ others) (59 ∷ digits) after (13 ∷ behind) (chunk_line digits are)
-    (same ∙ append_assoc (59 ∷ digits) (13 ∷ []) behind) in
+returned_in_line digits are others after beyond same =
+    let (l, h, rest) = line_begins (59 ∷ others) (59 ∷ digits) after (13 ∷ beyond) (chunk_line digits are)
+    (same ∙ append_assoc (59 ∷ digits) (13 ∷ []) beyond) in
     omega (arith, ap length h, length-append (59 ∷ digits) l, length-append (59 ∷ digits) (13 ∷ []))
 
 -- Within a chunk.
@@ -169,50 +169,50 @@ record IsChunkOf (digits part : List ℕ) (n : ℕ) (more : List Chunk) : Type 0
   pub are : more ≡ record { digits = digits; content = part ++ content } ∷ rest
   pub size : length content ≡ n
 
-chunk_of : (more : List Chunk) (zeros digits part behind : List ℕ) (n : ℕ) → AllByRecursion IsChunk more → IsNumber 0 zeros → IsDigits digits →
-    0 < number digits → number digits ≡ length part + n → chunks_text more (last zeros) ≡ (59 ∷ digits) ++ crlf (part ++ behind) → IsChunkOf digits part n more
-chunk_of [] zeros digits part behind n chunks zero are some valued goes_on =
-    let s = line_split (59 ∷ zeros) (59 ∷ digits) [] (part ++ behind) (chunk_line zeros zero.0) (chunk_line digits are) goes_on in
+chunk_of : (more : List Chunk) (zeros digits part beyond : List ℕ) (n : ℕ) → AllByRecursion IsChunk more → IsNumber 0 zeros → IsDigits digits →
+    0 < number digits → number digits ≡ length part + n → chunks_text more (last zeros) ≡ (59 ∷ digits) ++ crlf (part ++ beyond) → IsChunkOf digits part n more
+chunk_of [] zeros digits part beyond n chunks zero are some valued goes_on =
+    let s = line_split (59 ∷ zeros) (59 ∷ digits) [] (part ++ beyond) (chunk_line zeros zero.0) (chunk_line digits are) goes_on in
     let line : 59 ∷ zeros ≡ 59 ∷ digits = s.0 in
     let same : zeros ≡ digits = cc in
     let none : number zeros ≡ number digits = ap number same in
     absurd (omega (arith, zero.1, none, some))
-chunk_of (c ∷ cs) zeros digits part behind n chunks zero are some valued goes_on =
-    let s = line_split (59 ∷ c.digits) (59 ∷ digits) (c.content ++ crlf (chunks_text cs (last zeros))) (part ++ behind) (chunk_line c.digits chunks.0.0.0)
+chunk_of (c ∷ cs) zeros digits part beyond n chunks zero are some valued goes_on =
+    let s = line_split (59 ∷ c.digits) (59 ∷ digits) (c.content ++ crlf (chunks_text cs (last zeros))) (part ++ beyond) (chunk_line c.digits chunks.0.0.0)
     (chunk_line digits are) goes_on in
     let line : 59 ∷ c.digits ≡ 59 ∷ digits = s.0 in
     let same : c.digits ≡ digits = cc in
     let says : number c.digits ≡ length c.content = chunks.0.0.1 in
     let size : length c.content ≡ length part + n = omega (arith, says, valued, ap number same) in
-    let (l, h) = longer_front c.content part (crlf (chunks_text cs (last zeros))) behind s.1 (omega (arith, size)) in
+    let (l, h) = longer_front c.content part (crlf (chunks_text cs (last zeros))) beyond s.1 (omega (arith, size)) in
     let c0 : c ≡ record { digits = digits; content = part ++ l } = λ i. record { digits = same i; content = h i } in
     record { content = l; rest = cs; are = ap (λ z. z ∷ cs) c0; size = omega (arith, size, ap length h, length-append part l) }
 
 -- nothing after its content, or its CR
-abbrev pub IsBehind : ℕ → List ℕ → Type 0
-IsBehind n [] = Unit {0}
-IsBehind n (c ∷ cs) = (n ≡ 0) × (length cs ≡ 0)
+abbrev pub IsAfter : ℕ → List ℕ → Type 0
+IsAfter n [] = Unit {0}
+IsAfter n (c ∷ cs) = (n ≡ 0) × (length cs ≡ 0)
 
-later_content : (n at : ℕ) (l : List ℕ) (size : ℕ) (behind : List ℕ) → IsBehind size behind → length l ≡ size → n ≡ at + length behind →
+later_content : (n at : ℕ) (l : List ℕ) (size : ℕ) (beyond : List ℕ) → IsAfter size beyond → length l ≡ size → n ≡ at + length beyond →
     AreFrom n (bytes_from at l)
 later_content n at l size [] p s place = bytes_later n at l (omega (arith, place))
 later_content n at [] size (c ∷ cs) p s place = tt
 later_content n at (x ∷ l) size (c ∷ cs) p s place = absurd (omega (arith, s, p.0))
 
-short_behind : (size : ℕ) (behind : List ℕ) → IsBehind size behind → length behind + size ≤ 1 + size
-short_behind size [] p = omega arith
-short_behind size (c ∷ cs) p = omega (arith, p.1)
+short_after : (size : ℕ) (beyond : List ℕ) → IsAfter size beyond → length beyond + size ≤ 1 + size
+short_after size [] p = omega arith
+short_after size (c ∷ cs) p = omega (arith, p.1)
 
 -- whole chunks, and the content so far of the next
-pub chunk_due : (r : Rules) (room n : ℕ) (after : List ℕ) (level : ℕ) (bytes : List ℕ) (shown : List Event) → IsBehind n after →
+pub chunk_due : (r : Rules) (room n : ℕ) (after : List ℕ) (level : ℕ) (bytes : List ℕ) (shown : List Event) → IsAfter n after →
     ChunkBegun r room n after level bytes shown → AreDueWithin bytes shown
-chunk_due r room n after level bytes shown short w from value behind is_tree whole =
+chunk_due r room n after level bytes shown short w from value beyond is_tree whole =
     let c = w.chunks in
     let begun = (59 ∷ w.digits) ++ crlf (w.part ++ after) in
-    let v = stream_of c.chunks begun behind value c.are_chunks is_tree (whole ∙ ap (λ z. z ++ behind) c.are) in
-    let goes_on : chunks_text v.more (last v.zeros) ≡ (59 ∷ w.digits) ++ crlf (w.part ++ (after ++ behind)) =
-    v.goes_on ∙ append_assoc (59 ∷ w.digits) (crlf (w.part ++ after)) behind ∙ ap (λ z. (59 ∷ w.digits) ++ crlf z) (append_assoc w.part after behind) in
-    let k = chunk_of v.more v.zeros w.digits w.part (after ++ behind) n v.are_chunks v.is_zero w.are_digits w.some w.valued goes_on in
+    let v = stream_of c.chunks begun beyond value c.are_chunks is_tree (whole ∙ ap (λ z. z ++ beyond) c.are) in
+    let goes_on : chunks_text v.more (last v.zeros) ≡ (59 ∷ w.digits) ++ crlf (w.part ++ (after ++ beyond)) =
+    v.goes_on ∙ append_assoc (59 ∷ w.digits) (crlf (w.part ++ after)) beyond ∙ ap (λ z. (59 ∷ w.digits) ++ crlf z) (append_assoc w.part after beyond) in
+    let k = chunk_of v.more v.zeros w.digits w.part (after ++ beyond) n v.are_chunks v.is_zero w.are_digits w.some w.valued goes_on in
     let chunk : Chunk = record { digits = w.digits; content = w.part ++ k.content } in
     let now = from + length bytes in
     let next = from + 4 + length (chunks_text c.chunks []) in
@@ -223,19 +223,19 @@ chunk_due r room n after level bytes shown short w from value behind is_tree who
     let size : length begun ≡ length w.digits + 3 + length w.part + length after =
     omega (arith, length-append (59 ∷ w.digits) (crlf (w.part ++ after)), length-append w.part after) in
     let place : now ≡ at + length w.part + length after = omega (arith, size, ap length c.are, length-chunks c.chunks begun) in
-    let few = short_behind n after short in
-    let some : 0 < length behind = omega (
+    let few = short_after n after short in
+    let some : 0 < length beyond = omega (
       arith,
       few,
       k.size,
       ap length (sym goes_on ∙ ap (λ z. chunks_text z (last v.zeros)) k.are),
       length-chunk chunk (chunks_text k.rest (last v.zeros)),
       length-append w.part k.content,
-      length-append (59 ∷ w.digits) (crlf (w.part ++ (after ++ behind))),
-      length-append w.part (after ++ behind),
-      length-append after behind,
+      length-append (59 ∷ w.digits) (crlf (w.part ++ (after ++ beyond))),
+      length-append w.part (after ++ beyond),
+      length-append after beyond,
     ) in
-    let ended : now ≤ ends = omega (arith, ap (λ z. length (text z)) v.same, ap length whole, length-append bytes behind, some) in
+    let ended : now ≤ ends = omega (arith, ap (λ z. length (text z)) v.same, ap length whole, length-append bytes beyond, some) in
     let later : AreFrom now (bytes_from (at + length w.part) k.content ++ (chunk_events rest k.rest ++ end)) =
     from-append now (bytes_from (at + length w.part) k.content) (chunk_events rest k.rest ++ end)
     (later_content now (at + length w.part) k.content n after short k.size place)

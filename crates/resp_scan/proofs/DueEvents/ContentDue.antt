@@ -18,21 +18,21 @@ use Rattle.resp_scan.proofs.DueEvents.InsideDue.{AreDueWithin, longer_front}
 use Rattle.resp_scan.proofs.DueEvents.TextsDue.{bytes_later, due_text, text_later}
 
 -- the string that a value is whose length's line has come
-record IsStringOf (K : StringKind) (digits begun behind : List ℕ) (value : Tree) : Type 0 where
+record IsStringOf (K : StringKind) (digits begun beyond : List ℕ) (value : Tree) : Type 0 where
   pub kind : StringKind
   pub content : List ℕ
   pub byte : string_byte kind ≡ string_byte K
   pub same : value ≡ leaf (string kind digits content)
   pub format : HasFormat kind
   pub size : number digits ≡ length (payload kind content)
-  pub goes_on : payload kind content ++ crlf [] ≡ begun ++ behind
+  pub goes_on : payload kind content ++ crlf [] ≡ begun ++ beyond
 
-string_of : (K : StringKind) (first : ℕ) (digits begun behind : List ℕ) (value : Tree) → IsDigits (first ∷ digits) → IsTree value →
-    text value ≡ ((string_byte K ∷ first ∷ digits) ++ crlf begun) ++ behind → IsStringOf K (first ∷ digits) begun behind value
-string_of K first digits begun behind value are is_tree whole =
+string_of : (K : StringKind) (first : ℕ) (digits begun beyond : List ℕ) (value : Tree) → IsDigits (first ∷ digits) → IsTree value →
+    text value ≡ ((string_byte K ∷ first ∷ digits) ++ crlf begun) ++ beyond → IsStringOf K (first ∷ digits) begun beyond value
+string_of K first digits begun beyond value are is_tree whole =
     let line = string_byte K ∷ first ∷ digits in
-    let s = line_split (first_line value) line (after_line value) (begun ++ behind) (first_is_line value is_tree) (string_line K (first ∷ digits) are.1)
-    (sym (text_first value) ∙ whole ∙ append_assoc line (crlf begun) behind) in
+    let s = line_split (first_line value) line (after_line value) (begun ++ beyond) (first_is_line value is_tree) (string_line K (first ∷ digits) are.1)
+    (sym (text_first value) ∙ whole ∙ append_assoc line (crlf begun) beyond) in
     let w = is_string value K first digits are.1.0 (sort_of-line value is_tree s.0) in
     let i : IsTree (leaf (string w.0 (first ∷ digits) w.1)) = subst IsTree w.3 is_tree in
     record { kind = w.0; content = w.1; byte = w.2; same = w.3; format = i.1; size = i.0.1; goes_on = ap after_line (sym w.3) ∙ s.1 }
@@ -58,9 +58,9 @@ verbatim_later from n (t.Verbatim format) digits s b f l =
 -- the format of a verbatim string, or its first bytes
 pub format_due : (r : Rules) (format begun : List ℕ) (n level : ℕ) (bytes : List ℕ) (shown : List Event) → length begun ≤ 3 →
     FormatBegun r format begun n level bytes shown → AreDueWithin bytes shown
-format_due r format begun n level bytes shown short w from value behind is_tree whole =
+format_due r format begun n level bytes shown short w from value beyond is_tree whole =
     let digits = w.first ∷ w.digits in
-    let v = string_of (t.Verbatim format) w.first w.digits begun behind value w.token.are_digits is_tree (whole ∙ ap (λ z. z ++ behind) w.token.are) in
+    let v = string_of (t.Verbatim format) w.first w.digits begun beyond value w.token.are_digits is_tree (whole ∙ ap (λ z. z ++ beyond) w.token.are) in
     ap (λ z. events_due (from + length bytes) (events from z)) v.same
     ∙ due_none (from + length bytes) (leaf_events from (string v.kind digits v.content))
     (verbatim_later from (from + length bytes) v.kind digits v.content v.byte v.format
@@ -75,32 +75,32 @@ length-payload t.BulkError a b = length-append a b
 length-payload (t.Verbatim format) a b = omega (arith, length-append format (58 ∷ (a ++ b)), length-append format (58 ∷ a), length-append a b)
 
 -- of two payloads of one type byte the longer has the kind and the content of the shorter
-payload_goes_on : (k j : StringKind) (part content behind : List ℕ) → string_byte j ≡ string_byte k → HasFormat k → HasFormat j →
-    length (payload k part) ≤ length (payload j content) → payload j content ++ crlf [] ≡ payload k part ++ behind →
+payload_goes_on : (k j : StringKind) (part content beyond : List ℕ) → string_byte j ≡ string_byte k → HasFormat k → HasFormat j →
+    length (payload k part) ≤ length (payload j content) → payload j content ++ crlf [] ≡ payload k part ++ beyond →
     (j ≡ k) × ((l : List ℕ) × (content ≡ part ++ l))
-payload_goes_on t.Bulk t.Bulk part content behind b f g l same = (refl, longer_front content part (crlf []) behind same l)
-payload_goes_on t.BulkError t.BulkError part content behind b f g l same = (refl, longer_front content part (crlf []) behind same l)
-payload_goes_on (t.Verbatim p) (t.Verbatim q) part content behind b f g l same =
-    let s = length_split q p (58 ∷ (content ++ crlf [])) (58 ∷ (part ++ behind)) (omega (arith, f.0, g.0)) (sym (append_assoc q (58 ∷ content) (crlf [])) ∙
-    same ∙ append_assoc p (58 ∷ part) behind) in
-    let next : 58 ∷ (content ++ crlf []) ≡ 58 ∷ (part ++ behind) = s.1 in
-    let same_content : content ++ crlf [] ≡ part ++ behind = cc in (
+payload_goes_on t.Bulk t.Bulk part content beyond b f g l same = (refl, longer_front content part (crlf []) beyond same l)
+payload_goes_on t.BulkError t.BulkError part content beyond b f g l same = (refl, longer_front content part (crlf []) beyond same l)
+payload_goes_on (t.Verbatim p) (t.Verbatim q) part content beyond b f g l same =
+    let s = length_split q p (58 ∷ (content ++ crlf [])) (58 ∷ (part ++ beyond)) (omega (arith, f.0, g.0)) (sym (append_assoc q (58 ∷ content) (crlf [])) ∙
+    same ∙ append_assoc p (58 ∷ part) beyond) in
+    let next : 58 ∷ (content ++ crlf []) ≡ 58 ∷ (part ++ beyond) = s.1 in
+    let same_content : content ++ crlf [] ≡ part ++ beyond = cc in (
       ap t.Verbatim s.0,
-      longer_front content part (crlf []) behind same_content
+      longer_front content part (crlf []) beyond same_content
           (omega (arith, l, f.0, g.0, length-append q (58 ∷ content), length-append p (58 ∷ part))),
     )
-payload_goes_on _ _ part content behind b f g l same = absurd (omega arith)
+payload_goes_on _ _ part content beyond b f g l same = absurd (omega arith)
 
 -- such a string with more content
-content_goes_on : (r : Rules) (n level : ℕ) (bytes : List ℕ) (shown : List Event) (w : ContentBegun r n level bytes shown) (value : Tree) (behind : List ℕ) →
-    IsTree value → text value ≡ bytes ++ behind → (l : List ℕ) × (value ≡ leaf (string w.kind (w.first ∷ w.digits) (w.part ++ l))) × (length l ≡ n)
-content_goes_on r n level bytes shown w value behind is_tree whole =
+content_goes_on : (r : Rules) (n level : ℕ) (bytes : List ℕ) (shown : List Event) (w : ContentBegun r n level bytes shown) (value : Tree) (beyond : List ℕ) →
+    IsTree value → text value ≡ bytes ++ beyond → (l : List ℕ) × (value ≡ leaf (string w.kind (w.first ∷ w.digits) (w.part ++ l))) × (length l ≡ n)
+content_goes_on r n level bytes shown w value beyond is_tree whole =
     let c = w.token in
     let digits = w.first ∷ w.digits in
-    let v = string_of w.kind w.first w.digits (payload w.kind w.part) behind value c.are_digits is_tree (whole ∙ ap (λ z. z ++ behind) c.are) in
+    let v = string_of w.kind w.first w.digits (payload w.kind w.part) beyond value c.are_digits is_tree (whole ∙ ap (λ z. z ++ beyond) c.are) in
     let size : number digits ≡ length (payload w.kind w.part) + n =
     omega (arith, c.size, ap length c.split, length-append (payload w.kind w.part) c.rest, c.rest_size) in
-    let (kind, (l, content)) = payload_goes_on w.kind v.kind w.part v.content behind v.byte c.has_format v.format (omega (arith, size, v.size)) v.goes_on in
+    let (kind, (l, content)) = payload_goes_on w.kind v.kind w.part v.content beyond v.byte c.has_format v.format (omega (arith, size, v.size)) v.goes_on in
     let longer : length (payload v.kind v.content) ≡ length (payload w.kind (w.part ++ l)) = ap (λ z. length (payload z v.content)) kind ∙
     ap (λ z. length (payload w.kind z)) content in (
       l,
@@ -141,9 +141,9 @@ string_due from n m (t.Verbatim format) digits part l at low high later =
 
 -- content so far
 pub content_due : (r : Rules) (n level : ℕ) (bytes : List ℕ) (shown : List Event) → ContentBegun r n level bytes shown → AreDueWithin bytes shown
-content_due r n level bytes shown w from value behind is_tree whole =
+content_due r n level bytes shown w from value beyond is_tree whole =
     let digits = w.first ∷ w.digits in
-    let (l, same, size) = content_goes_on r n level bytes shown w value behind is_tree whole in
+    let (l, same, size) = content_goes_on r n level bytes shown w value beyond is_tree whole in
     let at = from + length bytes in
     let place : at ≡ from + length digits + 3 + length (payload w.kind w.part) =
     omega (arith, ap length w.token.are, length-append (string_byte w.kind ∷ digits) (crlf (payload w.kind w.part))) in
@@ -153,11 +153,11 @@ content_due r n level bytes shown w from value behind is_tree whole =
 
 -- the events due after the CR of a string's content
 pub content_returned_due : (r : Rules) (level : ℕ) (bytes : List ℕ) (shown : List Event) → ContentReturned r level bytes shown → AreDueWithin bytes shown
-content_returned_due r level bytes shown w from value behind is_tree whole =
+content_returned_due r level bytes shown w from value beyond is_tree whole =
     let c = w.content in
     let digits = c.first ∷ c.digits in
-    let (l, same, size) = content_goes_on r 0 level w.before shown c value (13 ∷ behind) is_tree (whole ∙ ap (λ z. z ++ behind) w.returned ∙
-    append_assoc w.before (13 ∷ []) behind) in
+    let (l, same, size) = content_goes_on r 0 level w.before shown c value (13 ∷ beyond) is_tree (whole ∙ ap (λ z. z ++ beyond) w.returned ∙
+    append_assoc w.before (13 ∷ []) beyond) in
     let n = from + length bytes in
     let m = from + length w.before in
     let place : m ≡ from + length digits + 3 + length (payload c.kind c.part) =

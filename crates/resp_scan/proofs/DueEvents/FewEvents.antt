@@ -42,9 +42,7 @@ text_count k s es h = omega (arith, ap length h, length-append (e.Text k ∷ con
 
 -- of a leaf
 pub leaf_few : (from : ℕ) (l : Leaf) → length (without_places (leaf_events from l)) ≤ length (leaf_text l)
-leaf_few from (line t.Simple s) = omega (arith, text_count e.Simple s _ (given-line from t.Simple s tt), length-append s (crlf []))
-leaf_few from (line t.Error s) = omega (arith, text_count e.Error s _ (given-line from t.Error s tt), length-append s (crlf []))
-leaf_few from (line t.Double s) = omega arith
+leaf_few from (line k s) = omega (arith, text_count (e.line_text_kind k) s _ (given-line from k s), length-append s (crlf []))
 leaf_few from (numeral t.Int sign digits) = omega (arith, text_at_least (leaf (numeral t.Int sign digits)))
 leaf_few from (numeral t.Big sign digits) =
     let whole : length (leaf_text (numeral t.Big sign digits)) ≡ length (sign_text sign) + length digits + 3 =

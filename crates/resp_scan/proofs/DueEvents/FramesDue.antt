@@ -50,7 +50,7 @@ due_in gs begun rest whole b unfinished spelled =
       ap length spelled,
       length-append (text_around gs begun) rest,
       ap length b.begins,
-      length-append (text b.value) b.behind,
+      length-append (text b.value) b.beyond,
       length-append begun rest,
     ))
     ∙ due_around gs begun b.value whole b.all unfinished
@@ -63,24 +63,24 @@ abbrev pub IsStop : List ℕ → Type 0
 IsStop last = (last ≡ []) ⊎ ((x : List ℕ) × (last ≡ 46 ∷ x))
 
 -- members after those taken, or the close, don't come before a begun close
-later_members : (n at : ℕ) (last : List ℕ) (us : Trees) (form : Form) (behind rest : List ℕ) → n ≡ at + length last → IsStop last →
-    (texts us ++ close form) ++ behind ≡ last ++ rest → AreFrom n (events_each at us)
-later_members n at last t.none form behind rest place stop same = tt
-later_members n at last (t.more u us) form behind rest place (inl none) same =
+later_members : (n at : ℕ) (last : List ℕ) (us : Trees) (form : Form) (beyond rest : List ℕ) → n ≡ at + length last → IsStop last →
+    (texts us ++ close form) ++ beyond ≡ last ++ rest → AreFrom n (events_each at us)
+later_members n at last t.none form beyond rest place stop same = tt
+later_members n at last (t.more u us) form beyond rest place (inl none) same =
     let m : n ≤ at = omega (arith, place, ap length none) in
     from_later at n (events_each at (t.more u us)) m (from_within at (at + length (texts (t.more u us))) (events_each at (t.more u us))
     (each_within at (t.more u us)))
-later_members n at last (t.more u us) form behind rest place (inr (x, stop)) same =
-    absurd (not_close u ((texts us ++ close form) ++ behind) (x ++ rest) (sym (append_assoc (text u) (texts us ++ close form) behind) ∙
-    ap (λ z. z ++ behind) (sym (append_assoc (text u) (texts us) (close form))) ∙ same ∙ ap (λ z. z ++ rest) stop))
+later_members n at last (t.more u us) form beyond rest place (inr (x, stop)) same =
+    absurd (not_close u ((texts us ++ close form) ++ beyond) (x ++ rest) (sym (append_assoc (text u) (texts us ++ close form) beyond) ∙
+    ap (λ z. z ++ beyond) (sym (append_assoc (text u) (texts us) (close form))) ∙ same ∙ ap (λ z. z ++ rest) stop))
 
 -- and the aggregate is unfinished
-unfinished_by : (last : List ℕ) (us : Trees) (form : Form) (behind rest : List ℕ) → length last < 3 → IsStop last →
-    ((digits : List ℕ) → form ≡ Counted digits → 0 < count us) → (texts us ++ close form) ++ behind ≡ last ++ rest →
+unfinished_by : (last : List ℕ) (us : Trees) (form : Form) (beyond rest : List ℕ) → length last < 3 → IsStop last →
+    ((digits : List ℕ) → form ≡ Counted digits → 0 < count us) → (texts us ++ close form) ++ beyond ≡ last ++ rest →
     length last < length (texts us) + length (close form)
-unfinished_by last t.none (Counted digits) behind rest short stop some same = absurd (omega (arith, some digits refl))
-unfinished_by last t.none Streamed behind rest short stop some same = omega (arith, short)
-unfinished_by last (t.more u us) form behind rest short stop some same = omega (arith, short, text_at_least u, length-append (text u) (texts us))
+unfinished_by last t.none (Counted digits) beyond rest short stop some same = absurd (omega (arith, some digits refl))
+unfinished_by last t.none Streamed beyond rest short stop some same = omega (arith, short)
+unfinished_by last (t.more u us) form beyond rest short stop some same = omega (arith, short, text_at_least u, length-append (text u) (texts us))
 
 -- of an aggregate of which a frame has the first members those of the frame are due, and none of the later ones
 node_due : (g : opened.Frame) (us : Trees) (start n : ℕ) → start + length (open_text g) ≤ n →
@@ -115,11 +115,11 @@ frames_due g gs last rest whole o short stop is_tree spelled =
     let start = length (text_around gs []) in
     let b = front_events gs begun rest whole o.4 (kind_no_stop g.kind (((form_line g.form ++ crlf (texts g.done)) ++ last) ++ rest)) is_tree spelled in
     let head = kind_byte g.kind ∷ form_line g.form in
-    let parts : text b.value ++ b.behind ≡ head ++ crlf (texts g.done ++ (last ++ rest)) = b.begins ∙ append_assoc (open_text g) last rest ∙
+    let parts : text b.value ++ b.beyond ≡ head ++ crlf (texts g.done ++ (last ++ rest)) = b.begins ∙ append_assoc (open_text g) last rest ∙
     append_assoc head (crlf (texts g.done)) (last ++ rest) in
-    let (ts, same, after) = is_node b.value g.kind g.form o.0 b.behind (texts g.done ++ (last ++ rest)) b.is_tree o.1 parts in
+    let (ts, same, after) = is_node b.value g.kind g.form o.0 b.beyond (texts g.done ++ (last ++ rest)) b.is_tree o.1 parts in
     let q : IsTree (node g.kind g.form ts) = subst IsTree same b.is_tree in
-    let (us, joined, left) = parted g.form g.done ts b.behind (last ++ rest) o.3 q.1
+    let (us, joined, left) = parted g.form g.done ts b.beyond (last ++ rest) o.3 q.1
     (λ ds i. omega (arith, o.2, one_count g.kind g.form o.0 (count ts) o.1 q.0 ds i)) after in
     let n : count ts ≡ count g.done + count us = ap count joined ∙ count-joined_trees g.done us in
     let some : (ds : List ℕ) → g.form ≡ Counted ds → 0 < count us =
@@ -132,7 +132,7 @@ frames_due g gs last rest whole o short stop is_tree spelled =
     let short_of : length begun < length (text v) = omega (
       arith,
       size,
-      unfinished_by last us g.form b.behind rest short stop some left,
+      unfinished_by last us g.form b.beyond rest short stop some left,
       length-append (open_text g) last,
       length-append (open_text g) (texts us ++ close g.form),
       length-append (texts us) (close g.form),
@@ -141,5 +141,5 @@ frames_due g gs last rest whole o short stop is_tree spelled =
     due_in gs begun rest whole b (omega (arith, size_of, short_of)) spelled
     ∙ ap (λ z. without_places (events_around gs) ++ z) (ap (λ z. events_due (start + length begun) (events start z)) value ∙
     node_due g us start (start + length begun) (omega (arith, place)) (omega (arith, short_of))
-    (later_members (start + length begun) (start + length (open_text g)) last us g.form b.behind rest place stop left))
+    (later_members (start + length begun) (start + length (open_text g)) last us g.form b.beyond rest place stop left))
     ∙ sym (given-append (events_around gs) (frame_events start g))

@@ -20,7 +20,7 @@ use Rattle.resp_scan.proofs.DueEvents.OutsideDue.{AreDue}
 
 -- in every value that the bytes begin these are the events due by then
 abbrev pub AreDueWithin : List ℕ → List Event → Type 0
-AreDueWithin bytes shown = (from : ℕ) (value : Tree) (behind : List ℕ) → IsTree value → text value ≡ bytes ++ behind →
+AreDueWithin bytes shown = (from : ℕ) (value : Tree) (beyond : List ℕ) → IsTree value → text value ≡ bytes ++ beyond →
     events_due (from + length bytes) (events from value) ≡ shown
 
 -- of two fronts of one text the longer begins with the shorter
@@ -35,21 +35,21 @@ longer_front (c ∷ a) (d ∷ b) x y e l =
     (z, cc)
 
 -- a value whose bytes have begun goes on after them
-goes_behind : (r : Rules) (level : ℕ) (bytes : List ℕ) (n : ℕ) (value : Tree) (behind rest : List ℕ) → IsBegunBy r level bytes n → IsTree value →
-    text value ++ behind ≡ bytes ++ rest → (length bytes < length (text value)) × ((c : List ℕ) × (text value ≡ bytes ++ c))
-goes_behind r level bytes n value behind rest b is_tree e =
+goes_after : (r : Rules) (level : ℕ) (bytes : List ℕ) (n : ℕ) (value : Tree) (beyond rest : List ℕ) → IsBegunBy r level bytes n → IsTree value →
+    text value ++ beyond ≡ bytes ++ rest → (length bytes < length (text value)) × ((c : List ℕ) × (text value ≡ bytes ++ c))
+goes_after r level bytes n value beyond rest b is_tree e =
     elim (nat_le (length (text value)) (length bytes)) as (λ x. nat_le (length (text value)) (length bytes) ≡ x →
     (length bytes < length (text value)) × ((c : List ℕ) × (text value ≡ bytes ++ c))) [
       | true ↦ λ z. absurd (
           let shorter : length (text value) ≤ length bytes = grind (arith, nat_tests) in
-          let (c, h) = longer_front bytes (text value) rest behind (sym e) shorter in
+          let (c, h) = longer_front bytes (text value) rest beyond (sym e) shorter in
           let least = b.least.holds in
           let u = unique value least.tree (c ++ b.least.some) [] is_tree least.is_tree (sym (append_assoc (text value) c b.least.some) ∙
           ap (λ z. z ++ b.least.some) (sym h) ∙ sym least.whole ∙ sym (append-nil (text least.tree))) in
           omega (arith, ap length u.1, length-append c b.least.some, b.least.size, b.some))
       | false ↦ λ z.
           let longer : length bytes < length (text value) = grind (arith, nat_tests) in
-          (longer, longer_front (text value) bytes behind rest e (omega (arith, longer)))
+          (longer, longer_front (text value) bytes beyond rest e (omega (arith, longer)))
     ] refl
 
 -- the events of the frames, and those shown of the token
@@ -65,7 +65,7 @@ inside_due r T fs front es n w row told rest whole is_tree spelled =
     let spelled_in : text whole ≡ text_around w.frames w.bytes ++ rest = spelled ∙ ap (λ z. z ++ rest) w.whole in
     let b = front_events w.frames w.bytes rest whole (are_open (LeafKeeps r WithinItems) (NodeKeeps r WithinItems) w.frames w.can_end) no_stop is_tree
     spelled_in in
-    let g = goes_behind r (length w.frames) w.bytes n b.value b.behind rest begun b.is_tree b.begins in
+    let g = goes_after r (length w.frames) w.bytes n b.value b.beyond rest begun b.is_tree b.begins in
     ap (λ z. events_due (length z) (all_events whole)) w.whole
     ∙ due_in w.frames w.bytes rest whole b g.0 spelled_in
     ∙ ap (λ z. without_places (events_around w.frames) ++ z) (told (length w.frames) w.bytes w.shown w.took (length (text_around w.frames [])) b.value g.1.0

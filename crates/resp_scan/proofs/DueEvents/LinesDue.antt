@@ -13,49 +13,44 @@ use Rattle.resp_fronts.specs.Events as e
 use Rattle.resp_fronts.specs.Events.{Event, TextKind, big_events, events_due, events, without_places, last_of, leaf_events, text_events}
 use Rattle.resp_fronts.proofs.FirstLines.BegunLines.{line_begins, text_first, tree_of_line}
 use Rattle.resp_fronts.proofs.Tokens.LineTokens.{no_break_in_line, returned_whole, text_token_line}
-use Rattle.resp_fronts.specs.Tokens.{IsReturned, IsTextLine}
+use Rattle.resp_fronts.specs.Tokens.{IsReturned}
 use Rattle.resp_fronts.proofs.FirstLines.TextLines.{sort_of_text}
 use Rattle.resp_scan.specs.Kinds.{content_events}
-use Rattle.resp_scan.specs.Machine.Beginnings.{LineBegun, TextReturned, line_text_kind}
+use Rattle.resp_scan.specs.Machine.Beginnings.{LineBegun, TextReturned}
 use Rattle.resp_scan.proofs.DueEvents.FewEvents.{content_in_chunks}
 use Rattle.resp_scan.proofs.DueEvents.InsideDue.{AreDueWithin}
 use Rattle.resp_scan.proofs.TokenMoves.LeafEvents.{given-big, given-line, leaf_told}
 use Rattle.resp_scan.proofs.DueEvents.TextsDue.{bytes_later, due_text}
 
-line_due : (from : ℕ) (k : LineKind) (a b : List ℕ) → IsTextLine k → events_due (from + suc (length a)) (leaf_events from (line k (a ++ b))) ≡
-    e.Text (line_text_kind k) ∷ content_events a
-line_due from t.Simple a b p =
+line_due : (from : ℕ) (k : LineKind) (a b : List ℕ) → events_due (from + suc (length a)) (leaf_events from (line k (a ++ b))) ≡
+    e.Text (e.line_text_kind k) ∷ content_events a
+line_due from k a b =
     let n = from + suc (length a) in
-    due_text n e.Simple from (from + 1) a b (last_of from (leaf_text (line t.Simple (a ++ b)))) (omega arith) (omega arith)
+    due_text n (e.line_text_kind k) from (from + 1) a b (last_of from (leaf_text (line k (a ++ b)))) (omega arith) (omega arith)
     (bytes_later n (from + 1 + length a) b (omega arith)) (omega (arith, length-append a b, length-append (a ++ b) (crlf [])))
-line_due from t.Error a b p =
-    let n = from + suc (length a) in
-    due_text n e.Error from (from + 1) a b (last_of from (leaf_text (line t.Error (a ++ b)))) (omega arith) (omega arith)
-    (bytes_later n (from + 1 + length a) b (omega arith)) (omega (arith, length-append a b, length-append (a ++ b) (crlf [])))
-line_due from t.Double a b p = absurd p
 
--- a simple string or an error so far
+-- a simple string, an error or a double so far
 pub line_begun_due : (r : Rules) (room level : ℕ) (bytes : List ℕ) (shown : List Event) → LineBegun r room level bytes shown → AreDueWithin bytes shown
-line_begun_due r room level bytes shown w from value behind is_tree whole =
+line_begun_due r room level bytes shown w from value beyond is_tree whole =
     let k = w.kind in
     let content = w.token.content in
     let is_line : IsLine (line_byte k ∷ content) = subst IsLine w.token.are
     (no_break_in_line r (line k content) level bytes (text_token_line r k w.size level bytes w.token)) in
-    let (l, h, behind_is) = line_begins (first_line value) (line_byte k ∷ content) (after_line value) behind is_line (sym (text_first value) ∙ whole ∙
-    ap (λ z. z ++ behind) w.token.are) in
+    let (l, h, after_is) = line_begins (first_line value) (line_byte k ∷ content) (after_line value) beyond is_line (sym (text_first value) ∙ whole ∙
+    ap (λ z. z ++ beyond) w.token.are) in
     let same : value ≡ leaf (line k (content ++ l)) = tree_of_line value k (content ++ l) (sort_of-line value is_tree h ∙
     sort_of_text k (content ++ l)) in
     ap (λ z. events_due (from + length z) (events from value)) w.token.are
     ∙ ap (λ z. events_due (from + suc (length content)) (events from z)) same
-    ∙ line_due from k content l w.token.is_text_line
+    ∙ line_due from k content l
     ∙ sym w.told
 
 -- after its CR a leaf is all that the value can be
-pub returned_is : (r : Rules) (l : Leaf) (level : ℕ) (bytes : List ℕ) (value : Tree) (behind : List ℕ) → IsReturned r l level bytes → IsTree value →
-    text value ≡ bytes ++ behind → value ≡ leaf l
-returned_is r l level bytes value behind w is_tree whole =
-    let s = return_split (first_line value) w.begun (10 ∷ after_line value) behind (first_is_line value is_tree) (no_break_in_line r l level w.begun w.line_of)
-    (sym (text_first value) ∙ whole ∙ ap (λ z. z ++ behind) w.returned ∙ append_assoc w.begun (13 ∷ []) behind) in
+pub returned_is : (r : Rules) (l : Leaf) (level : ℕ) (bytes : List ℕ) (value : Tree) (beyond : List ℕ) → IsReturned r l level bytes → IsTree value →
+    text value ≡ bytes ++ beyond → value ≡ leaf l
+returned_is r l level bytes value beyond w is_tree whole =
+    let s = return_split (first_line value) w.begun (10 ∷ after_line value) beyond (first_is_line value is_tree) (no_break_in_line r l level w.begun w.line_of)
+    (sym (text_first value) ∙ whole ∙ ap (λ z. z ++ beyond) w.returned ∙ append_assoc w.begun (13 ∷ []) beyond) in
     (unique value (leaf l) [] (after_line value) is_tree w.line_of.is_leaf (append-nil (text value) ∙ whole ∙ ap (λ z. bytes ++ z) (sym s.1) ∙
     sym (append_assoc bytes (10 ∷ []) (after_line value)) ∙ ap (λ z. z ++ after_line value) (sym (returned_whole r l level bytes w)))).0
 
@@ -72,7 +67,7 @@ but_last (y ∷ a) [] x same = absurd (omega (arith, ap length same, length-appe
 but_last (y ∷ a) (z ∷ b) x same =
     let rest : a ++ x ∷ [] ≡ b ++ x ∷ [] = cc in
     let first : y ≡ z = cc in
-    let behind : a ≡ b = but_last a b x rest in
+    let beyond : a ≡ b = but_last a b x rest in
     cc
 
 -- one event is no text
@@ -94,15 +89,10 @@ HasMore shown = (negative : Bool) → shown ≡ e.Text (e.Big negative) ∷ [] �
 
 leaf_but_end : (from : ℕ) (l : Leaf) (shown : List Event) → leaf_rest l ≡ [] → without_places (leaf_events from l) ≡ shown ++ e.TextEnd ∷ [] → HasMore shown →
     events_due (last_of from (leaf_text l)) (leaf_events from l) ≡ shown
-leaf_but_end from (line t.Simple s) shown p told some =
-    let last = last_of from (leaf_text (line t.Simple s)) in
-    due_but_end last e.Simple from (from + 1) s last shown (omega (arith, length-append s (crlf []))) (omega (arith, length-append s (crlf []))) (omega arith)
-    (sym (given-line from t.Simple s tt) ∙ told)
-leaf_but_end from (line t.Error s) shown p told some =
-    let last = last_of from (leaf_text (line t.Error s)) in
-    due_but_end last e.Error from (from + 1) s last shown (omega (arith, length-append s (crlf []))) (omega (arith, length-append s (crlf []))) (omega arith)
-    (sym (given-line from t.Error s tt) ∙ told)
-leaf_but_end from (line t.Double s) shown p told some = absurd (omega (arith, ap length told, length-append shown (e.TextEnd ∷ [])))
+leaf_but_end from (line k s) shown p told some =
+    let last = last_of from (leaf_text (line k s)) in
+    due_but_end last (e.line_text_kind k) from (from + 1) s last shown (omega (arith, length-append s (crlf []))) (omega (arith, length-append s (crlf [])))
+    (omega arith) (sym (given-line from k s) ∙ told)
 leaf_but_end from (numeral t.Int sign digits) shown p told some = absurd (let x = one_ends _ shown told in cc)
 leaf_but_end from (numeral t.Big sign digits) shown p told some =
     let whole : length (leaf_text (numeral t.Big sign digits)) ≡ length (sign_text sign) + length digits + 3 =
@@ -122,7 +112,7 @@ leaf_but_end from (chunked cs zeros) shown p told some = absurd (omega (arith, a
 
 -- before the LF of a text all but its end
 pub text_returned_due : (r : Rules) (level : ℕ) (bytes : List ℕ) (shown : List Event) → TextReturned r level bytes shown → AreDueWithin bytes shown
-text_returned_due r level bytes shown w from value behind is_tree whole =
+text_returned_due r level bytes shown w from value beyond is_tree whole =
     ap (λ n. events_due n (events from value)) (returned_last r w.leaf level bytes from w.returned)
-    ∙ ap (λ z. events_due (last_of from (leaf_text w.leaf)) (events from z)) (returned_is r w.leaf level bytes value behind w.returned is_tree whole)
+    ∙ ap (λ z. events_due (last_of from (leaf_text w.leaf)) (events from z)) (returned_is r w.leaf level bytes value beyond w.returned is_tree whole)
     ∙ leaf_but_end from w.leaf shown w.returned.line_of.no_rest (leaf_told w.leaf (shown ++ e.TextEnd ∷ []) w.told from) w.begun

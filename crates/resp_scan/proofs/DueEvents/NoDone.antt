@@ -22,9 +22,9 @@ no_done_before [] b h = tt
 no_done_before (x ∷ a) b h = (h.0, no_done_before a b h.1)
 
 -- the second of two lists
-pub no_done_behind : (a b : List Event) → HasNoDone (a ++ b) → HasNoDone b
-no_done_behind [] b h = h
-no_done_behind (x ∷ a) b h = no_done_behind a b h.1
+pub no_done_after : (a b : List Event) → HasNoDone (a ++ b) → HasNoDone b
+no_done_after [] b h = h
+no_done_after (x ∷ a) b h = no_done_after a b h.1
 
 -- content
 pub content_no_done : (s : List ℕ) → HasNoDone (content_events s)
@@ -37,9 +37,7 @@ text_no_done es k s told = subst HasNoDone (sym told) (no_done-append (e.Text k 
 
 -- a leaf
 pub leaf_no_done : (from : ℕ) (l : Leaf) → HasNoDone (without_places (leaf_events from l))
-leaf_no_done from (line t.Simple s) = text_no_done _ _ s (given-line from t.Simple s tt)
-leaf_no_done from (line t.Error s) = text_no_done _ _ s (given-line from t.Error s tt)
-leaf_no_done from (line t.Double s) = tt
+leaf_no_done from (line k s) = text_no_done _ _ s (given-line from k s)
 leaf_no_done from (numeral t.Int sign digits) = (tt, tt)
 leaf_no_done from (numeral t.Big sign digits) = case (is_below_zero sign digits) (significant_digits digits)
     (last_of from (leaf_text (numeral t.Big sign digits)))
@@ -67,9 +65,9 @@ mutual
   pub trees_no_done : (from : ℕ) (ts : Trees) → HasNoDone (without_places (events_each from ts))
   trees_no_done from t.none = tt
   trees_no_done from (t.more u ts) =
-      let behind = from + length (text u) in
-      subst HasNoDone (sym (given-append (events from u) (events_each behind ts)))
-      (no_done-append (without_places (events from u)) (without_places (events_each behind ts)) (tree_no_done from u) (trees_no_done behind ts))
+      let beyond = from + length (text u) in
+      subst HasNoDone (sym (given-append (events from u) (events_each beyond ts)))
+      (no_done-append (without_places (events from u)) (without_places (events_each beyond ts)) (tree_no_done from u) (trees_no_done beyond ts))
 
 -- open frames
 pub frames_no_done : (frames : List Frame) → HasNoDone (without_places (events_around frames))

@@ -44,9 +44,7 @@ told_opens es told h p = subst (LeaveOpen 0) (sym h) p
 
 -- nor a leaf
 pub leaf_opens : (from : ℕ) (l : Leaf) → LeaveOpen 0 (without_places (leaf_events from l))
-leaf_opens from (line t.Simple s) = told_opens _ _ (given-line from t.Simple s tt) (text_opens e.Simple s)
-leaf_opens from (line t.Error s) = told_opens _ _ (given-line from t.Error s tt) (text_opens e.Error s)
-leaf_opens from (line t.Double s) = refl
+leaf_opens from (line k s) = told_opens _ _ (given-line from k s) (text_opens (e.line_text_kind k) s)
 leaf_opens from (numeral t.Int sign digits) = refl
 leaf_opens from (numeral t.Big sign digits) = case (is_below_zero sign digits) (significant_digits digits)
     (last_of from (leaf_text (numeral t.Big sign digits)))

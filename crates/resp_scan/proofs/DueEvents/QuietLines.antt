@@ -18,16 +18,16 @@ use Rattle.resp_scan.proofs.DueEvents.FramesDue.{from-append, from_later, from_w
 use Rattle.resp_scan.proofs.DueEvents.InsideDue.{AreDueWithin}
 use Rattle.resp_scan.proofs.DueEvents.TextsDue.{chunks_later, text_later}
 
--- the byte begins neither a simple string, nor an error, nor a big number
+-- the byte begins neither a simple string, nor an error, nor a double, nor a big number
 abbrev pub IsQuiet : ℕ → Type 0
-IsQuiet byte = (byte ≡ 43 → ⊥) × (byte ≡ 45 → ⊥) × (byte ≡ 40 → ⊥)
+IsQuiet byte = (byte ≡ 43 → ⊥) × (byte ≡ 45 → ⊥) × (byte ≡ 44 → ⊥) × (byte ≡ 40 → ⊥)
 
 leaf_quiet : (from : ℕ) (l : Leaf) → IsQuiet (leaf_byte l) → AreFrom (from + length (leaf_line l) + 1) (leaf_events from l)
 leaf_quiet from (line t.Simple s) q = absurd (q.0 refl)
 leaf_quiet from (line t.Error s) q = absurd (q.1 refl)
-leaf_quiet from (line t.Double s) q = tt
+leaf_quiet from (line t.Double s) q = absurd (q.2 refl)
 leaf_quiet from (numeral t.Int sign digits) q = (omega (arith, length-append (leaf_line (numeral t.Int sign digits)) (crlf [])), tt)
-leaf_quiet from (numeral t.Big sign digits) q = absurd (q.2 refl)
+leaf_quiet from (numeral t.Big sign digits) q = absurd (q.3 refl)
 leaf_quiet from (null form) q = (omega (arith, length-append (leaf_line (null form)) (crlf [])), tt)
 leaf_quiet from (truth b) q = (omega (arith, length-append (leaf_line (truth b)) (crlf [])), tt)
 leaf_quiet from (string t.Bulk digits s) q =
@@ -65,10 +65,10 @@ line_quiet from (node k form ts) q =
 -- nothing is due of a line that may go on
 pub quiet_line : (bytes : List ℕ) (shown : List Event) (head : ℕ) (tail : List ℕ) → bytes ≡ head ∷ tail → shown ≡ [] → IsQuiet head → IsLine (head ∷ tail) →
     AreDueWithin bytes shown
-quiet_line bytes shown head tail are told q is_line from value behind is_tree e =
-    let whole : text value ≡ (head ∷ tail) ++ behind = e ∙ ap (λ z. z ++ behind) are in
-    let (l, h, w) = line_begins (first_line value) (head ∷ tail) (after_line value) behind is_line (sym (text_first value) ∙ whole) in
-    let quiet : IsQuiet (first_byte value) = subst IsQuiet (sym (first_byte_is value [] (tail ++ behind) head (append-nil (text value) ∙ whole))) q in
+quiet_line bytes shown head tail are told q is_line from value beyond is_tree e =
+    let whole : text value ≡ (head ∷ tail) ++ beyond = e ∙ ap (λ z. z ++ beyond) are in
+    let (l, h, w) = line_begins (first_line value) (head ∷ tail) (after_line value) beyond is_line (sym (text_first value) ∙ whole) in
+    let quiet : IsQuiet (first_byte value) = subst IsQuiet (sym (first_byte_is value [] (tail ++ beyond) head (append-nil (text value) ∙ whole))) q in
     due_none (from + length bytes) (events from value) (from_later (from + length (first_line value) + 1) (from + length bytes) (events from value)
     (omega (arith, ap length are, ap length h, length-append (head ∷ tail) l)) (line_quiet from value quiet))
     ∙ sym told
@@ -76,11 +76,11 @@ quiet_line bytes shown head tail are told q is_line from value behind is_tree e 
 -- nor of a line and its CR
 pub quiet_returned : (bytes : List ℕ) (shown : List Event) (head : ℕ) (tail : List ℕ) → bytes ≡ (head ∷ tail) ++ 13 ∷ [] → shown ≡ [] → IsQuiet head →
     IsLine (head ∷ tail) → AreDueWithin bytes shown
-quiet_returned bytes shown head tail are told q is_line from value behind is_tree e =
-    let whole : text value ≡ (head ∷ tail) ++ 13 ∷ behind = e ∙ ap (λ z. z ++ behind) are ∙ append_assoc (head ∷ tail) (13 ∷ []) behind in
-    let h = (return_split (first_line value) (head ∷ tail) (10 ∷ after_line value) behind (first_is_line value is_tree) is_line (sym (text_first value) ∙
+quiet_returned bytes shown head tail are told q is_line from value beyond is_tree e =
+    let whole : text value ≡ (head ∷ tail) ++ 13 ∷ beyond = e ∙ ap (λ z. z ++ beyond) are ∙ append_assoc (head ∷ tail) (13 ∷ []) beyond in
+    let h = (return_split (first_line value) (head ∷ tail) (10 ∷ after_line value) beyond (first_is_line value is_tree) is_line (sym (text_first value) ∙
     whole)).0 in
-    let quiet : IsQuiet (first_byte value) = subst IsQuiet (sym (first_byte_is value [] (tail ++ 13 ∷ behind) head (append-nil (text value) ∙ whole))) q in
+    let quiet : IsQuiet (first_byte value) = subst IsQuiet (sym (first_byte_is value [] (tail ++ 13 ∷ beyond) head (append-nil (text value) ∙ whole))) q in
     due_none (from + length bytes) (events from value) (from_later (from + length (first_line value) + 1) (from + length bytes) (events from value)
     (omega (arith, ap length are, ap length h, length-append (head ∷ tail) (13 ∷ []))) (line_quiet from value quiet))
     ∙ sym told

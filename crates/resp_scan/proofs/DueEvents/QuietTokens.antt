@@ -20,16 +20,16 @@ use Rattle.resp_scan.proofs.DueEvents.InsideDue.{AreDueWithin}
 use Rattle.resp_scan.proofs.DueEvents.QuietLines.{IsQuiet, line_of_quiet, quiet_line, quiet_returned, returned_quiet}
 
 kind_quiet : (k : Kind) → IsQuiet (kind_byte k)
-kind_quiet d.Array = (λ i. omega arith, λ i. omega arith, λ i. omega arith)
-kind_quiet _ = (λ i. omega arith, λ i. omega arith, λ i. omega arith)
+kind_quiet d.Array = (λ i. omega arith, λ i. omega arith, λ i. omega arith, λ i. omega arith)
+kind_quiet _ = (λ i. omega arith, λ i. omega arith, λ i. omega arith, λ i. omega arith)
 
 string_quiet : (k : StringKind) → IsQuiet (string_byte k)
-string_quiet t.Bulk = (λ i. omega arith, λ i. omega arith, λ i. omega arith)
-string_quiet _ = (λ i. omega arith, λ i. omega arith, λ i. omega arith)
+string_quiet t.Bulk = (λ i. omega arith, λ i. omega arith, λ i. omega arith, λ i. omega arith)
+string_quiet _ = (λ i. omega arith, λ i. omega arith, λ i. omega arith, λ i. omega arith)
 
 null_quiet : (f : NullForm) → IsQuiet (leaf_byte (null f))
-null_quiet t.BulkNull = (λ i. omega arith, λ i. omega arith, λ i. omega arith)
-null_quiet _ = (λ i. omega arith, λ i. omega arith, λ i. omega arith)
+null_quiet t.BulkNull = (λ i. omega arith, λ i. omega arith, λ i. omega arith, λ i. omega arith)
+null_quiet _ = (λ i. omega arith, λ i. omega arith, λ i. omega arith, λ i. omega arith)
 
 -- one byte
 byte_quiet : (byte : ℕ) (bytes : List ℕ) (shown : List Event) → bytes ≡ byte ∷ [] → shown ≡ [] → IsQuiet byte → 13 < byte → AreDueWithin bytes shown
@@ -46,7 +46,7 @@ bytes_quiet first second bytes shown are told q above next = quiet_line bytes sh
 -- Integers.
 
 int_quiet : IsQuiet 58
-int_quiet = (λ i. omega arith, λ i. omega arith, λ i. omega arith)
+int_quiet = (λ i. omega arith, λ i. omega arith, λ i. omega arith, λ i. omega arith)
 
 -- its type byte, and a sign or none
 pub int_begun_quiet : (r : Rules) (sign : Sign) (level : ℕ) (bytes : List ℕ) (shown : List Event) → IsNumberBegun r t.Int sign level bytes → shown ≡ [] →
@@ -81,7 +81,7 @@ null_returned_quiet r level bytes shown w = returned_quiet r (null w.form) level
 
 -- a truth value's type byte begins no text
 pub truth_quiet : IsQuiet 35
-truth_quiet = (λ i. omega arith, λ i. omega arith, λ i. omega arith)
+truth_quiet = (λ i. omega arith, λ i. omega arith, λ i. omega arith, λ i. omega arith)
 
 -- Type bytes.
 

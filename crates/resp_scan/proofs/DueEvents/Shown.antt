@@ -85,10 +85,10 @@ streamed_shown : (r : Rules) (room : ℕ) (begun : List ℕ) (level : ℕ) (byte
 streamed_shown r room begun level bytes shown w = let h = chunks_shown r room begun level bytes shown w in
     record { none_open = h.0; no_done = h.1; few = omega (arith, h.2) }
 
-chunk_shown : (r : Rules) (room n : ℕ) (behind : List ℕ) (level : ℕ) (bytes : List ℕ) (shown : List Event) → ChunkBegun r room n behind level bytes shown →
+chunk_shown : (r : Rules) (room n : ℕ) (beyond : List ℕ) (level : ℕ) (bytes : List ℕ) (shown : List Event) → ChunkBegun r room n beyond level bytes shown →
     IsShown bytes shown
-chunk_shown r room n behind level bytes shown w =
-    let begun = (59 ∷ w.digits) ++ crlf (w.part ++ behind) in
+chunk_shown r room n beyond level bytes shown w =
+    let begun = (59 ∷ w.digits) ++ crlf (w.part ++ beyond) in
     let h = chunks_shown r (room + number w.digits) begun level bytes w.before w.chunks in record {
       none_open = subst (LeaveOpen 0) (sym w.told) (open-append 0 0 w.before (content_events w.part) h.0 (content_opens w.part));
       no_done = subst HasNoDone (sym w.told) (no_done-append w.before (content_events w.part) h.1 (content_no_done w.part));
@@ -98,8 +98,8 @@ chunk_shown r room n behind level bytes shown w =
         ap length w.told,
         length-append w.before (content_events w.part),
         length-content w.part,
-        length-append (59 ∷ w.digits) (crlf (w.part ++ behind)),
-        length-append w.part behind,
+        length-append (59 ∷ w.digits) (crlf (w.part ++ beyond)),
+        length-append w.part beyond,
       );
     }
 

@@ -27,16 +27,16 @@ chunks_later n at (c ∷ cs) l =
     (chunks_later n (at + length c.digits + length c.content + 5) cs (omega (arith, l)))
 
 -- the content before a byte, where the rest comes after it
-pub due_bytes : (n from : ℕ) (a b : List ℕ) (behind : List Timed) → from + length a ≤ n → AreFrom n (bytes_from (from + length a) b ++ behind) →
-    events_due n (bytes_from from (a ++ b) ++ behind) ≡ content_events a
-due_bytes n from [] b behind l p =
+pub due_bytes : (n from : ℕ) (a b : List ℕ) (beyond : List Timed) → from + length a ≤ n → AreFrom n (bytes_from (from + length a) b ++ beyond) →
+    events_due n (bytes_from from (a ++ b) ++ beyond) ≡ content_events a
+due_bytes n from [] b beyond l p =
     let here : from + 0 ≡ from = omega arith in
-    ap (λ m. events_due n (bytes_from m b ++ behind)) (sym here) ∙ due_none n (bytes_from (from + 0) b ++ behind) p
-due_bytes n from (x ∷ a) b behind l p =
+    ap (λ m. events_due n (bytes_from m b ++ beyond)) (sym here) ∙ due_none n (bytes_from (from + 0) b ++ beyond) p
+due_bytes n from (x ∷ a) b beyond l p =
     let before : from < n = omega (arith, l) in
     let next : from + suc (length a) ≡ from + 1 + length a = omega arith in
-    rw (lt-ltb from n before) (ap (λ z. e.Byte x ∷ z) (due_bytes n (from + 1) a b behind (omega (arith, l))
-    (subst (λ m. AreFrom n (bytes_from m b ++ behind)) next p)))
+    rw (lt-ltb from n before) (ap (λ z. e.Byte x ∷ z) (due_bytes n (from + 1) a b beyond (omega (arith, l))
+    (subst (λ m. AreFrom n (bytes_from m b ++ beyond)) next p)))
 
 -- a text that has begun, whose content is here or whole
 pub due_text : (n : ℕ) (k : TextKind) (begins from : ℕ) (a b : List ℕ) (ends : ℕ) → begins < n → from + length a ≤ n →

@@ -22,7 +22,7 @@ use Rattle.resp_fronts.specs.MayFollow.{members_missing}
 use Rattle.resp_fronts.proofs.Tokens.BegunFronts.{IsBegunBy}
 use Rattle.resp_fronts.proofs.Tokens.BegunTypeBytes.{aggregate_begun, attribute_begun, star_begun, star_deep_begun}
 use Rattle.resp_fronts.proofs.Refusals.BrokenHeads.{IsNoCount, count_begun_broken, count_short, no_mark}
-use Rattle.resp_fronts.proofs.Refusals.BrokenLines.{behind_return_broken, byte_broken, return_broken, streamed_broken}
+use Rattle.resp_fronts.proofs.Refusals.BrokenLines.{after_return_broken, byte_broken, return_broken, streamed_broken}
 use Rattle.resp_fronts.proofs.FirstLines.CountRows.{CompletesUnder, IsRefusedHere, byte_line}
 use Rattle.resp_fronts.proofs.FrameLaws.KeptNodes.{at_each_rule, node_keeps}
 use Rattle.resp_fronts.proofs.Refusals.RefusedBytes.{array_too_deep}
@@ -376,9 +376,9 @@ no_missing : (k : Kind) → members_missing k Streamed 0 ≡ 0
 no_missing d.Array = refl
 no_missing _ = refl
 
-stream_keeps : (r : Rules) (k : Kind) (behind : List ℕ) (level : ℕ) (bytes : List ℕ) (shown : List Event) → StreamBegun r k behind level bytes shown →
+stream_keeps : (r : Rules) (k : Kind) (beyond : List ℕ) (level : ℕ) (bytes : List ℕ) (shown : List Event) → StreamBegun r k beyond level bytes shown →
     NodeKeeps r WithinItems level k Streamed 0
-stream_keeps r k behind level bytes shown w = node_keeps r WithinItems level k Streamed 0 (λ two. absurd (w.has_streamed.0 two)) w.no_push
+stream_keeps r k beyond level bytes shown w = node_keeps r WithinItems level k Streamed 0 (λ two. absurd (w.has_streamed.0 two)) w.no_push
     (λ off. absurd (w.has_streamed.1 off)) w.below (omega (arith, no_items k))
 
 -- a streamed head without its LF
@@ -422,7 +422,7 @@ open_end_leads s o used byte front es is_byte c w =
     let T = StreamBegun r (kind_of o) (13 ∷ []) in
     wants_leads (at s (AtOpenLf o)) T front es 4 byte 10 (Give (k.Open o None) (h.after_streamed_open s o)) w
     (λ level bytes shown i t. end_row r (kind_of o) level bytes shown t)
-    (λ other level bytes rest shown t dead. behind_return_broken (LeafKeeps r Grammar) (NodeKeeps r Grammar) level (kind_byte (kind_of o) ∷ 63 ∷ []) rest byte
+    (λ other level bytes rest shown t dead. after_return_broken (LeafKeeps r Grammar) (NodeKeeps r Grammar) level (kind_byte (kind_of o) ∷ 63 ∷ []) rest byte
     (streamed_line (kind_of o)) other (subst (λ z. CompletesUnder r Grammar level z (byte ∷ rest)) t.are dead))
     (λ is. subst (λ z. StandsAfter (h.after_streamed_open s o) (front ++ z ∷ []) (es ++ e.Open (kind_of o) None ∷ [])) (sym is)
     (opens_lie r T s.frames front (10 ∷ []) es (e.Open (kind_of o) None ∷ []) o (Begun 0) w (λ level bytes shown i t. stream_opens r o level bytes shown t)))

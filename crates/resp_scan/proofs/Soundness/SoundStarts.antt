@@ -13,7 +13,7 @@ use Rattle.resp_scan.specs.declared.machine.Head.TheVariants as head
 use Rattle.resp_scan.specs.Machine.Tokens.{Token, Place, Happening, Text, Move, Refuse, at, AtStart, InLine, AtIntSign, AtBigSign, AtNullCr, AtBool, AtBulkHead, AtArrayHead, AtHead}
 use Rattle.resp_scan.specs.Machine.Room.{is_full, after_begin, begin_cause}
 use Rattle.resp_scan.specs.Machine.Heads.{first_needed}
-use Rattle.resp_scan.specs.Machine.Moves.{begin_move, line_move, aggregate_move, push_move, move_in_three, may_close, close_move, start_next}
+use Rattle.resp_scan.specs.Machine.Moves.{begin_move, line_move, double_move, aggregate_move, push_move, move_in_three, may_close, close_move, start_next}
 use Rattle.resp_scan.specs.Machine.Sound.{token_needed, IsTokenSound, IsSoundBy}
 use Rattle.resp_scan.proofs.Soundness.SoundMoves.{cond_if, is_outside, IsPlain, IsMove, unless_is, not_full}
 use Rattle.resp_scan.proofs.Soundness.SoundFrames.{begun_length, begun_taken, begun_rules, sound_begun, sound_closing}
@@ -61,6 +61,9 @@ is_closing s h = cond_if (IsMove 1 s) (may_close s.frames) _ _ (λ e. record {
       refl;
 }) (λ e. tt)
 
+is_double : (s : Place) → IsSoundBy 0 (at s AtStart) → IsMove 1 s (double_move s)
+is_double s h = cond_if (IsMove 1 s) s.bounds.doubles _ _ (λ e. is_three 1 s s.version _ (is_line s (Text text.Double) tt h)) (λ e. tt)
+
 -- each byte at which a value or a close begins, with its move
 abbrev pub start_rows : Place → List (ℕ × Move)
 start_rows s =
@@ -70,7 +73,7 @@ start_rows s =
     ∷ (byte "$", begin_move s 4 AtBulkHead)
     ∷ (byte "*", begin_move s (cond (is_full s) 4 3) AtArrayHead)
     ∷ (byte ".", close_move s)
-    ∷ (byte ",", Refuse cause.Double)
+    ∷ (byte ",", double_move s)
     ∷ (byte "_", move_in_three s.version (begin_move s 2 AtNullCr))
     ∷ (byte "#", move_in_three s.version (begin_move s 3 AtBool))
     ∷ (byte "(", move_in_three s.version (begin_move s 3 AtBigSign))
@@ -97,7 +100,7 @@ are_first s h =
     (and_rows (is_begun s 4 AtBulkHead h (omega arith) (omega arith) tt refl)
     (and_rows (is_begun s (cond (is_full s) 4 3) AtArrayHead h (array_some s) (array_needed s) tt refl)
     (and_rows (is_closing s h)
-    (and_rows tt
+    (and_rows (is_double s h)
     (and_rows (is_three 1 s s.version _ (is_begun s 2 AtNullCr h (omega arith) (omega arith) tt refl))
     (and_rows (is_three 1 s s.version _ (is_begun s 3 AtBool h (omega arith) (omega arith) tt refl))
     (and_rows (is_three 1 s s.version _ (is_begun s 3 AtBigSign h (omega arith) (omega arith) tt refl))

@@ -14,7 +14,7 @@ use Rattle.resp_fronts.proofs.FirstLines.CountRows.{CompletesUnder}
 use Rattle.resp_fronts.proofs.Tokens.BegunFronts.{IsBegunBy}
 use Rattle.resp_fronts.proofs.Tokens.StreamedStrings.{all_with, chunks_text-with, with_chunks}
 use Rattle.resp_fronts.proofs.Refusals.ContentLength.{joined-with}
-use Rattle.resp_fronts.proofs.Tokens.ChunkTokens.{chunk_content_begun, chunk_returned_begun, joined_behind, streamed_text}
+use Rattle.resp_fronts.proofs.Tokens.ChunkTokens.{chunk_content_begun, chunk_returned_begun, joined_after, streamed_text}
 use Rattle.resp_fronts.proofs.Refusals.BrokenChunks.{chunk_content_broken, chunk_returned_broken}
 use Rattle.resp_scan.specs.Machine.Tokens.{Place, Go, AtChunk, InChunk, AtChunkCr, AtChunkLf, at}
 use Rattle.resp_scan.specs.Machine.Heads.{chunk_at}
@@ -92,9 +92,9 @@ chunk_returns r room level bytes shown w =
       told = w.told;
     }
 
-fits : (r : Rules) (room n : ℕ) (behind : List ℕ) (level : ℕ) (bytes : List ℕ) (shown : List Event) (w : ChunkBegun r room n behind level bytes shown) →
+fits : (r : Rules) (room n : ℕ) (beyond : List ℕ) (level : ℕ) (bytes : List ℕ) (shown : List Event) (w : ChunkBegun r room n beyond level bytes shown) →
     length (joined_content w.chunks.chunks) + number w.digits ≤ r.limits.length
-fits r room n behind level bytes shown w = omega (arith, w.chunks.leaves)
+fits r room n beyond level bytes shown w = omega (arith, w.chunks.leaves)
 
 -- within its content
 pub content_row : (r : Rules) (room n level : ℕ) (bytes : List ℕ) (shown : List Event) → ChunkBegun r room n [] level bytes shown →
@@ -126,7 +126,7 @@ chunk_ends r room level bytes shown w =
     let size : number w.digits ≡ length w.part = omega (arith, w.valued) in
     let grown : chunk_text w.digits (w.part ++ 13 ∷ []) ++ 10 ∷ [] ≡ chunks_text one [] = text_grows w.digits (w.part ++ 13 ∷ []) (10 ∷ []) ∙
     ap (chunk_text w.digits) (append_assoc w.part (13 ∷ []) (10 ∷ [])) in
-    let all : joined_content (with_chunks cs one) ≡ joined_content cs ++ w.part = joined_behind cs one ∙ ap (λ z. joined_content cs ++ z) (append-nil w.part) in
+    let all : joined_content (with_chunks cs one) ≡ joined_content cs ++ w.part = joined_after cs one ∙ ap (λ z. joined_content cs ++ z) (append-nil w.part) in
     record {
       chunks = with_chunks cs one;
       are_chunks = all_with cs one w.chunks.are_chunks (((w.are_digits, size), omega (arith, size, w.some), w.is_text), tt);

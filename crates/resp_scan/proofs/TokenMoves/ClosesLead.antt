@@ -70,28 +70,28 @@ closes_more r k fs last rest front es byte w = record {
 }
 
 -- what follows a `.` is the close's line
-stop_follows : (L : LeafRule) (N : NodeRule) (f : opened.Frame) (fs : List opened.Frame) (behind : List ℕ) → f.form ≡ Streamed →
-    MayFollowFrames L N (f ∷ fs) (46 ∷ behind) → (rest : List ℕ) × (behind ≡ 13 ∷ 10 ∷ rest)
-stop_follows L N f fs behind streamed m = case m.members m.whole
+stop_follows : (L : LeafRule) (N : NodeRule) (f : opened.Frame) (fs : List opened.Frame) (beyond : List ℕ) → f.form ≡ Streamed →
+    MayFollowFrames L N (f ∷ fs) (46 ∷ beyond) → (rest : List ℕ) × (beyond ≡ 13 ∷ 10 ∷ rest)
+stop_follows L N f fs beyond streamed m = case m.members m.whole
   where
-    case : (ts : Trees) → (texts ts ++ close f.form) ++ m.rest ≡ 46 ∷ behind → (rest : List ℕ) × (behind ≡ 13 ∷ 10 ∷ rest)
+    case : (ts : Trees) → (texts ts ++ close f.form) ++ m.rest ≡ 46 ∷ beyond → (rest : List ℕ) × (beyond ≡ 13 ∷ 10 ∷ rest)
     case t.none e =
-        let line : 46 ∷ 13 ∷ 10 ∷ m.rest ≡ 46 ∷ behind = ap (λ z. close z ++ m.rest) (sym streamed) ∙ e in
+        let line : 46 ∷ 13 ∷ 10 ∷ m.rest ≡ 46 ∷ beyond = ap (λ z. close z ++ m.rest) (sym streamed) ∙ e in
         (m.rest, sym cc)
-    case (t.more u us) e = absurd (not_close u ((texts us ++ close f.form) ++ m.rest) behind (sym (append_assoc (text u) (texts us ++ close f.form) m.rest) ∙
+    case (t.more u us) e = absurd (not_close u ((texts us ++ close f.form) ++ m.rest) beyond (sym (append_assoc (text u) (texts us ++ close f.form) m.rest) ∙
         ap (λ z. z ++ m.rest) (sym (append_assoc (text u) (texts us) (close f.form))) ∙ e))
 
 -- what completes a front after `.` completes its line
-line_follows : (r : Rules) (k : OpenKind) (fs : List Frame) (last rest front behind : List ℕ) (es : List Event) →
-    (w : IsClosing r k fs (46 ∷ last) rest front es) → w.frame.form ≡ Streamed → CompletesFront r Grammar front behind →
-    (more : List ℕ) × (last ++ behind ≡ 13 ∷ 10 ∷ more)
-line_follows r k fs last rest front behind es w streamed c =
+line_follows : (r : Rules) (k : OpenKind) (fs : List Frame) (last rest front beyond : List ℕ) (es : List Event) →
+    (w : IsClosing r k fs (46 ∷ last) rest front es) → w.frame.form ≡ Streamed → CompletesFront r Grammar front beyond →
+    (more : List ℕ) × (last ++ beyond ≡ 13 ∷ 10 ∷ more)
+line_follows r k fs last rest front beyond es w streamed c =
     let f = w.frame in
     let levels = record { kind = f.kind; shape = level.so_far (count f.done) } ∷ busy_levels fs in
-    let e : front ++ behind ≡ text_around (f ∷ w.outer) (46 ∷ (last ++ behind)) = longer (f ∷ w.outer) front (46 ∷ last) behind w.whole in
+    let e : front ++ beyond ≡ text_around (f ∷ w.outer) (46 ∷ (last ++ beyond)) = longer (f ∷ w.outer) front (46 ∷ last) beyond w.whole in
     let are_open = ready_open (LeafKeeps r WithinItems) (NodeKeeps r WithinItems) levels (f ∷ w.outer) (refl, (streamed, refl), w.of_levels) w.ready in
-    stop_follows (LeafKeeps r Grammar) (NodeKeeps r Grammar) f w.outer (last ++ behind) streamed
-    (determine (LeafKeeps r Grammar) (NodeKeeps r Grammar) (f ∷ w.outer) (46 ∷ (last ++ behind)) are_open
+    stop_follows (LeafKeeps r Grammar) (NodeKeeps r Grammar) f w.outer (last ++ beyond) streamed
+    (determine (LeafKeeps r Grammar) (NodeKeeps r Grammar) (f ∷ w.outer) (46 ∷ (last ++ beyond)) are_open
     (subst (IsWholeText (LeafKeeps r Grammar) (NodeKeeps r Grammar)) e c))
 
 -- a form that has a close is streamed

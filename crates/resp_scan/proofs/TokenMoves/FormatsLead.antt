@@ -19,18 +19,18 @@ use Rattle.resp_scan.proofs.TokenMoves.Moves.{goes, tells, ALead}
 use Rattle.resp_scan.proofs.TokenMoves.RefusedMoves.{broken}
 
 -- the next byte of a format, of which this many are to come after it; any byte is one
-format_byte_goes : (s : Place) (before : List ℕ) (behind left next byte : ℕ) (front : List ℕ) (es : List Event) → byte < 256 → left - 1 ≡ next →
-    IsInside (rules_of s) (FormatBegun (rules_of s) (before ++ zeros (suc behind)) before left) s.frames front es →
-    IsInside (rules_of s) (FormatBegun (rules_of s) (before ++ byte ∷ zeros behind) (before ++ byte ∷ []) next) s.frames (front ++ byte ∷ []) es
-format_byte_goes s before behind left next byte front es is_byte fewer w =
+format_byte_goes : (s : Place) (before : List ℕ) (beyond left next byte : ℕ) (front : List ℕ) (es : List Event) → byte < 256 → left - 1 ≡ next →
+    IsInside (rules_of s) (FormatBegun (rules_of s) (before ++ zeros (suc beyond)) before left) s.frames front es →
+    IsInside (rules_of s) (FormatBegun (rules_of s) (before ++ byte ∷ zeros beyond) (before ++ byte ∷ []) next) s.frames (front ++ byte ∷ []) es
+format_byte_goes s before beyond left next byte front es is_byte fewer w =
     let r = rules_of s in
-    goes r (FormatBegun r (before ++ zeros (suc behind)) before left) (FormatBegun r (before ++ byte ∷ zeros behind) (before ++ byte ∷ []) next) s.frames front
+    goes r (FormatBegun r (before ++ zeros (suc beyond)) before left) (FormatBegun r (before ++ byte ∷ zeros beyond) (before ++ byte ∷ []) next) s.frames front
     (byte ∷ []) es w
     (λ level bytes shown i f. record {
       first = f.first;
       digits = f.digits;
-      token = subst (λ n. IsContentToken r (t.Verbatim (before ++ byte ∷ zeros behind)) f.first f.digits (before ++ byte ∷ []) n level (bytes ++ byte ∷ []))
-          fewer (format_more r before byte behind f.first f.digits left level bytes is_byte f.token);
+      token = subst (λ n. IsContentToken r (t.Verbatim (before ++ byte ∷ zeros beyond)) f.first f.digits (before ++ byte ∷ []) n level (bytes ++ byte ∷ []))
+          fewer (format_more r before byte beyond f.first f.digits left level bytes is_byte f.token);
       told = f.told;
     })
 

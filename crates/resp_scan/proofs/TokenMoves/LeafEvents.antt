@@ -5,9 +5,8 @@ use Rattle.resp_value.specs.Trees as t
 use Rattle.resp_value.specs.Trees.{Leaf, LineKind, StringKind, Chunk, line, numeral, null, truth, string, chunked, joined_content, leaf_text}
 use Rattle.resp_fronts.specs.Events.{Event, Timed, TextKind, bytes_from, big_events, chunk_events, without_places, leaf_events, text_events}
 use Rattle.resp_fronts.specs.Events as e
-use Rattle.resp_fronts.specs.Tokens.{IsTextLine}
 use Rattle.resp_scan.specs.Kinds.{content_events}
-use Rattle.resp_scan.specs.Machine.Beginnings.{line_text_kind, string_text_kind}
+use Rattle.resp_scan.specs.Machine.Beginnings.{string_text_kind}
 
 -- the events of content and of more content
 pub content_events-append : (a b : List ℕ) → content_events (a ++ b) ≡ content_events a ++ content_events b
@@ -25,11 +24,9 @@ pub given-text : (k : TextKind) (begins from : ℕ) (s : List ℕ) (ends : ℕ) 
 given-text k begins from s ends = ap (λ z. e.Text k ∷ z) (given-bytes from s (record { at = ends; event = e.TextEnd } ∷ []))
 
 -- the events of a simple line, without their places
-pub given-line : (from : ℕ) (k : LineKind) (s : List ℕ) → IsTextLine k → without_places (leaf_events from (line k s)) ≡
-    (e.Text (line_text_kind k) ∷ content_events s) ++ e.TextEnd ∷ []
-given-line from t.Simple s p = given-text e.Simple from (from + 1) s (e.last_of from (leaf_text (line t.Simple s)))
-given-line from t.Error s p = given-text e.Error from (from + 1) s (e.last_of from (leaf_text (line t.Error s)))
-given-line from t.Double s p = absurd p
+pub given-line : (from : ℕ) (k : LineKind) (s : List ℕ) → without_places (leaf_events from (line k s)) ≡
+    (e.Text (e.line_text_kind k) ∷ content_events s) ++ e.TextEnd ∷ []
+given-line from k s = given-text (e.line_text_kind k) from (from + 1) s (e.last_of from (leaf_text (line k s)))
 
 -- the events of a string, without their places
 pub given-string : (from : ℕ) (k : StringKind) (digits s : List ℕ) → without_places (leaf_events from (string k digits s)) ≡
@@ -64,9 +61,7 @@ given-chunked from cs zeros = ap (λ z. e.Text e.Bulk ∷ z) (given-chunks (from
 
 -- wherever the leaf stands
 given_anywhere : (from : ℕ) (l : Leaf) → without_places (leaf_events from l) ≡ without_places (leaf_events 0 l)
-given_anywhere from (line t.Simple s) = given-line from t.Simple s tt ∙ sym (given-line 0 t.Simple s tt)
-given_anywhere from (line t.Error s) = given-line from t.Error s tt ∙ sym (given-line 0 t.Error s tt)
-given_anywhere from (line t.Double s) = refl
+given_anywhere from (line k s) = given-line from k s ∙ sym (given-line 0 k s)
 given_anywhere from (numeral t.Int sign digits) = refl
 given_anywhere from (numeral t.Big sign digits) = case (is_below_zero sign digits) (significant_digits digits)
     (e.last_of from (leaf_text (numeral t.Big sign digits))) (e.last_of 0 (leaf_text (numeral t.Big sign digits)))

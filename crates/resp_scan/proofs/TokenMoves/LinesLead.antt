@@ -15,7 +15,7 @@ use Rattle.resp_scan.specs.Machine.Tokens.{Go, Byte, Give, Refuse, TextEnd, Plac
 use Rattle.resp_scan.specs.Machine.Room.{has_total_room}
 use Rattle.resp_scan.specs.Machine.Moves.{content_byte}
 use Rattle.resp_scan.specs.Kinds.{content_events, rules_of}
-use Rattle.resp_scan.specs.Machine.Beginnings.{LineBegun, TextReturned, line_text_kind}
+use Rattle.resp_scan.specs.Machine.Beginnings.{LineBegun, TextReturned}
 use Rattle.resp_scan.specs.Machine.Standing.{HasCountsOf, Leads, StandsAfter}
 use Rattle.resp_scan.proofs.TokenMoves.LeafEvents.{content_events-append, given-line, leaf_told}
 use Rattle.resp_scan.proofs.TokenMoves.Moves.{Ends, goes, tells, value_ends, ALead}
@@ -26,9 +26,10 @@ pub line_row : (r : Rules) (room level : ℕ) (bytes : List ℕ) (shown : List E
 line_row r room level bytes shown w = line_begun r (line w.kind w.token.content) level bytes (text_token_line r w.kind w.size level bytes w.token)
 
 -- it is no big number
-text_of_line : (k : LineKind) (negative : Bool) (es : List Event) → e.Text (line_text_kind k) ∷ es ≡ e.Text (e.Big negative) ∷ [] → ⊥
+text_of_line : (k : LineKind) (negative : Bool) (es : List Event) → e.Text (e.line_text_kind k) ∷ es ≡ e.Text (e.Big negative) ∷ [] → ⊥
 text_of_line t.Simple negative es same = cc
-text_of_line _ negative es same = cc
+text_of_line t.Error negative es same = cc
+text_of_line t.Double negative es same = cc
 
 -- its CR
 line_returns : (r : Rules) (room level : ℕ) (bytes : List ℕ) (shown : List Event) → LineBegun r room level bytes shown →
@@ -36,7 +37,7 @@ line_returns : (r : Rules) (room level : ℕ) (bytes : List ℕ) (shown : List E
 line_returns r room level bytes shown w = record {
   leaf = line w.kind w.token.content;
   returned = record { begun = bytes; line_of = text_token_line r w.kind w.size level bytes w.token; returned = refl };
-  told = given-line 0 w.kind w.token.content w.token.is_text_line ∙ ap (λ z. z ++ e.TextEnd ∷ []) (sym w.told);
+  told = given-line 0 w.kind w.token.content ∙ ap (λ z. z ++ e.TextEnd ∷ []) (sym w.told);
   begun = λ negative same. text_of_line w.kind negative (content_events w.token.content) (sym w.told ∙ same);
 }
 
@@ -49,7 +50,7 @@ line_goes_on r room level byte bytes shown is_byte no_return no_newline some w =
   size = w.size + 1;
   token = text_token_more r w.kind w.size level bytes (byte ∷ []) w.token ((no_return, no_newline), tt) (is_byte, tt) (omega (arith, w.leaves));
   leaves = omega (arith, w.leaves);
-  told = ap (λ z. z ++ e.Byte byte ∷ []) w.told ∙ ap (λ z. e.Text (line_text_kind w.kind) ∷ z) (sym (content_events-append w.token.content (byte ∷ [])));
+  told = ap (λ z. z ++ e.Byte byte ∷ []) w.told ∙ ap (λ z. e.Text (e.line_text_kind w.kind) ∷ z) (sym (content_events-append w.token.content (byte ∷ [])));
 }
 
 -- a byte of content, unless length or total refuses it

@@ -1,5 +1,5 @@
 -- A value's first byte, or a close.
-use Rattle.std.specs.Prelude.{true, false, cond, None, Some, Option}
+use Rattle.std.specs.Prelude.{Bool, true, false, cond, None, Some, Option}
 use Rattle.std.proofs.lemmas.Bool.{ne_eqb}
 use Rattle.std.proofs.lemmas.Bool.Decides.{nat_tests}
 use Rattle.std.proofs.Common.{◌≡◌, ℕ, suc, ◌-◌, ◌%◌, ◌<◌, ◌≤◌, List, [], ◌∷◌, ◌++◌, length, refl, sym, ap, subst, ◌∙◌, arith, append-nil}
@@ -36,7 +36,7 @@ use Rattle.resp_fronts.proofs.Tokens.LineTokens.{line_begun, text_token_begins}
 use Rattle.resp_fronts.proofs.Tokens.NumberTokens.{null_token_line, number_begun, truth_begun}
 use Rattle.resp_fronts.proofs.Between.RefusedBetweenValues.{GoesOn, refuse_stop}
 use Rattle.resp_fronts.specs.OpenLevels.{AreLevelsOf, AreReady, HasShape, Level, so_far}
-use Rattle.resp_fronts.specs.Tokens.{IsTextLine}
+use Rattle.resp_fronts.specs.Tokens.{HasLine}
 use Rattle.resp_fronts.proofs.Refusals.FirstByteCauses.{at_answer, and_rows}
 use Rattle.resp_scan.specs.declared.event.TextKind.TheVariants as text
 use Rattle.resp_scan.specs.declared.frame.Frame.{Frame}
@@ -78,8 +78,8 @@ answer_named s front es byte rule c counts no_stop w answer names =
 
 -- Lines.
 
-line_begun_by : (r : Rules) (kind : LineKind) (level : ℕ) → IsTextLine kind →
-    LineBegun r r.limits.length level (t.line_byte kind ∷ []) (e.Text (b.line_text_kind kind) ∷ [])
+line_begun_by : (r : Rules) (kind : LineKind) (level : ℕ) → HasLine r kind →
+    LineBegun r r.limits.length level (t.line_byte kind ∷ []) (e.Text (e.line_text_kind kind) ∷ [])
 unfolding text_token_begins
 line_begun_by r kind level p = record { kind = kind; size = 0; token = text_token_begins r kind level p; leaves = omega arith; told = refl }
 
@@ -91,8 +91,8 @@ lies_begun : (s : Place) (token : Token) (fs : List Frame) (front : List ℕ) (e
 lies_begun s token fs front es h = subst (λ r. StandsAfterAt r token fs front es) (sym (begun_rules s s.frames)) h
 
 -- the byte of a simple line gives the begin of its text
-line_leads : (s : Place) (kind : LineKind) (happening : k.Happening) (front : List ℕ) (es : List Event) → IsTextLine kind →
-    event_of happening ≡ e.Text (b.line_text_kind kind) → (t.line_byte kind ≡ 46 → ⊥) →
+line_leads : (s : Place) (kind : LineKind) (happening : k.Happening) (front : List ℕ) (es : List Event) → HasLine (rules_of s) kind →
+    event_of happening ≡ e.Text (e.line_text_kind kind) → (t.line_byte kind ≡ 46 → ⊥) →
     first_byte_refusal (rules_of s) (length s.frames) (t.line_byte kind) ≡ None → HasCountsOf (at s AtStart) 0 front → StandsAfter (at s AtStart) front es →
     Leads (at s AtStart) front es (t.line_byte kind) (line_move (at s AtStart) happening)
 line_leads s kind happening front es p told no_stop none c w =
@@ -133,6 +133,19 @@ three_leads s byte front es answer v no_stop is c w leads = case s.version refl
     case : (x : Version) → s.version ≡ x → Leads (at s AtStart) front es byte (machine.move_in_three x v)
     case version.Two two = answer_named (at s AtStart) front es byte InVersion cause.Version c no_stop w (is ∙ ap (λ x. refusal_in_three x answer) two) refl
     case version.Three three = leads (no_two_in_three s.version three) (is ∙ ap (λ x. refusal_in_three x answer) three)
+
+-- the byte of a double
+double_leads : (s : Place) (front : List ℕ) (es : List Event) → HasCountsOf (at s AtStart) 0 front → StandsAfter (at s AtStart) front es →
+    Leads (at s AtStart) front es 44 (machine.double_move (at s AtStart))
+double_leads s front es c w = case s.bounds.doubles refl
+  where
+    case : (x : Bool) → s.bounds.doubles ≡ x → Leads (at s AtStart) front es 44
+        (cond x (machine.move_in_three s.version (line_move (at s AtStart) (k.Text text.Double))) (Refuse cause.Double))
+    case false off = answer_named (at s AtStart) front es 44 NoDouble cause.Double c (λ z. omega arith) w
+        (ap (λ x. cond x (refusal_in_three s.version None) (Some NoDouble)) off) refl
+    case true allowed = three_leads s 44 front es None (line_move (at s AtStart) (k.Text text.Double)) (λ z. omega arith)
+        (ap (λ x. cond x (refusal_in_three s.version None) (Some NoDouble)) allowed) c w
+        (λ no_two none. line_leads s t.Double (k.Text text.Double) front es (no_two, λ off. absurd cc) refl (λ z. omega arith) none c w)
 
 -- the byte of an aggregate, where the depth leaves room
 aggregate_leads : (s : Place) (kind : Kind) (h : Head) (front : List ℕ) (es : List Event) → ((level : ℕ) → level ≡ length s.frames → IsNoPushBelow level kind) →
@@ -314,7 +327,7 @@ start_rows_lead s front es c w =
     (and_rows (token_leads s AtBulkHead 36 4 front es (bulk_begins s) (λ z. omega arith) c w refl)
     (and_rows (token_leads s AtArrayHead 42 (cond (is_full (at s AtStart)) 4 3) front es (array_begins s) (λ z. omega arith) c w refl)
     (and_rows (close_leads s front es w)
-    (and_rows (answer_named (at s AtStart) front es 44 NoDouble cause.Double c (λ z. omega arith) w refl refl)
+    (and_rows (double_leads s front es c w)
     (and_rows (later AtNullCr 95 2 (null_begins s) (λ z. omega arith) refl)
     (and_rows (later AtBool 35 3 (truth_begins s) (λ z. omega arith) refl)
     (and_rows (later AtBigSign 40 3 (big_begins s roomy) (λ z. omega arith) refl)

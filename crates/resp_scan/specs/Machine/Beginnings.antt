@@ -23,19 +23,13 @@ use Rattle.resp_fronts.specs.Tokens.{HasStreamed, IsContentToken, IsCountReturne
 
 -- Lines and numbers.
 
--- the kind of text that a line is; that of a double has no events
-abbrev pub line_text_kind : LineKind → TextKind
-line_text_kind t.Simple = e.Simple
-line_text_kind t.Error = e.Error
-line_text_kind t.Double = e.Error
-
 -- a line's text so far, of which length leaves this many bytes
 pub record LineBegun (r : Rules) (room : ℕ) (level : ℕ) (bytes : List ℕ) (shown : List Event) : Type 0 where
   pub kind : LineKind
   pub size : ℕ
   pub token : IsTextToken r kind size level bytes
   pub leaves : room + size ≡ r.limits.length
-  pub told : shown ≡ e.Text (line_text_kind kind) ∷ content_events token.content
+  pub told : shown ≡ e.Text (e.line_text_kind kind) ∷ content_events token.content
 
 -- a leaf's line and its CR, and all of its events but the end of its text; a big zero isn't one, whose text begins at
 -- its LF
@@ -197,16 +191,16 @@ pub record ChunksBegun (r : Rules) (room : ℕ) (begun : List ℕ) (level : ℕ)
   pub told : shown ≡ e.Text e.Bulk ∷ content_events (joined_content chunks)
 
 -- whole chunks and the digits of one, and bytes after them
-pub record ChunkLength (r : Rules) (room n : ℕ) (behind : List ℕ) (level : ℕ) (bytes : List ℕ)
+pub record ChunkLength (r : Rules) (room n : ℕ) (beyond : List ℕ) (level : ℕ) (bytes : List ℕ)
     (shown : List Event) : Type 0 where
   pub digits : List ℕ
   pub are_digits : IsDigits digits
   pub valued : number digits ≡ n
   pub fits : n ≤ room
-  pub chunks : ChunksBegun r room ((byte ";" ∷ digits) ++ behind) level bytes shown
+  pub chunks : ChunksBegun r room ((byte ";" ∷ digits) ++ beyond) level bytes shown
 
 -- whole chunks, and one that is begun, of which this many bytes are left; length leaves this many after it
-pub record ChunkBegun (r : Rules) (room n : ℕ) (behind : List ℕ) (level : ℕ) (bytes : List ℕ)
+pub record ChunkBegun (r : Rules) (room n : ℕ) (beyond : List ℕ) (level : ℕ) (bytes : List ℕ)
     (shown : List Event) : Type 0 where
   pub digits : List ℕ
   pub part : List ℕ
@@ -215,7 +209,7 @@ pub record ChunkBegun (r : Rules) (room n : ℕ) (behind : List ℕ) (level : �
   pub is_text : IsText part
   pub valued : number digits ≡ length part + n
   pub some : 0 < number digits
-  pub chunks : ChunksBegun r (room + number digits) ((byte ";" ∷ digits) ++ crlf (part ++ behind)) level bytes before
+  pub chunks : ChunksBegun r (room + number digits) ((byte ";" ∷ digits) ++ crlf (part ++ beyond)) level bytes before
   pub told : shown ≡ before ++ content_events part
 
 -- Aggregates.
@@ -245,13 +239,13 @@ pub record CountReturned (r : Rules) (k : Kind) (n : ℕ) (level : ℕ) (bytes :
   pub told : shown ≡ []
 
 -- the head of a streamed aggregate, up to these bytes of its line's end
-pub record StreamBegun (r : Rules) (k : Kind) (behind : List ℕ) (level : ℕ) (bytes : List ℕ) (shown : List Event) : Type
+pub record StreamBegun (r : Rules) (k : Kind) (beyond : List ℕ) (level : ℕ) (bytes : List ℕ) (shown : List Event) : Type
     0 where
   pub has_streamed : HasStreamed r
   pub can_stream : CanStream k 0
   pub no_push : IsNoPushBelow level k
   pub below : level < r.limits.depth
-  pub are : bytes ≡ (kind_byte k ∷ codes "?") ++ behind
+  pub are : bytes ≡ (kind_byte k ∷ codes "?") ++ beyond
   pub told : shown ≡ []
 
 -- Heads.

@@ -136,6 +136,10 @@ abbrev pub may_close : List Frame → Bool
 may_close [] = false
 may_close (f ∷ fs) = may_close_of f.kind f.shape
 
+-- a double begins, where doubles are allowed
+abbrev pub double_move : Place → Move
+double_move s = cond s.bounds.doubles (move_in_three s.version (line_move s (Text text.Double))) (Refuse cause.Double)
+
 -- a streamed aggregate closes, a map between whole pairs
 abbrev pub close_move : Place → Move
 close_move s = cond (may_close s.frames) (Go (record s {
@@ -168,7 +172,7 @@ start_next s b =
     (cond (eqb b (byte "$")) (begin_move s 4 AtBulkHead)
     (cond (eqb b (byte "*")) (begin_move s (cond (is_full s) 4 3) AtArrayHead)
     (cond (eqb b (byte ".")) (close_move s)
-    (cond (eqb b (byte ",")) (Refuse cause.Double)
+    (cond (eqb b (byte ",")) (double_move s)
     (start_three s b)))))))
 
 -- the frames around the innermost

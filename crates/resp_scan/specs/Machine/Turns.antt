@@ -72,6 +72,7 @@ turn_of false = Stopped
 abbrev pub IsLineTag : EventTag → TextKind → Type 0
 IsLineTag tag.Simple kind = kind ≡ text.Simple
 IsLineTag tag.Error kind = kind ≡ text.Error
+IsLineTag tag.Double kind = kind ≡ text.Double
 IsLineTag _ kind = ⊥
 
 -- CR LF stand at this index of the piece

@@ -104,11 +104,11 @@ fn step_of(alloc: Global, clients: usize, words: &[&[u8]]) -> Result<Option<Even
     ensures bad { IsErrOf result LineFault.Bad → (step : Option Event) →
         map (λ word. word.now) words.now ≡ step_words step → IsInRange clients step → ⊥ }
 {
-    let Some((name, behind)) = words.split_first() else {
+    let Some((name, beyond)) = words.split_first() else {
         return Err(LineFault::Bad);
     };
     if *name == b"flush".as_slice() {
-        return if behind.is_empty() {
+        return if beyond.is_empty() {
             Ok(None)
         } else {
             Err(LineFault::Bad)
@@ -117,7 +117,7 @@ fn step_of(alloc: Global, clients: usize, words: &[&[u8]]) -> Result<Option<Even
     let Some(verb) = verb_of(name) else {
         return Err(LineFault::Bad);
     };
-    let Some((number, arguments)) = behind.split_first() else {
+    let Some((number, arguments)) = beyond.split_first() else {
         return Err(LineFault::Bad);
     };
     let Some(client) = number_of(number, clients as u64) else {

@@ -32,13 +32,13 @@ use Rattle.resp_wire.specs.declared.asked.Request.{Request as Asking}
 use Rattle.resp_wire.specs.declared.asked.Asked.{Asked}
 use Rattle.resp_wire.specs.declared.end.End.{End}
 use Rattle.resp_wire.proofs.Seated.{seat_here}
-use Rattle.resp_wire.proofs.worlds.Frames.{Behind, IsFramed, behind, framed}
+use Rattle.resp_wire.proofs.worlds.Frames.{Beyond, IsFramed, beyond, framed}
 use Rattle.resp_wire.proofs.worlds.Places.{never_gone, seats_elsewhere}
 use Rattle.resp_wire.proofs.worlds.Reading.{come_on, counted, unnumbered, waits_on}
 
 -- what is read stays what it is where more is answered
 pub still_shown : WhatIsReadIsShown → WhatIsLeftMayGoOn → WhatHasComeWasSent → (limits : Bounds) (hub : HubState) (ends : List End) (order : List ℕ)
-    (w next : World) (at : ShowsEach limits hub ends order w) (b : Behind limits at.n next) (i : ℕ) (c c' : Connection) (seat : Option Seat) (e : End) →
+    (w next : World) (at : ShowsEach limits hub ends order w) (b : Beyond limits at.n next) (i : ℕ) (c c' : Connection) (seat : Option Seat) (e : End) →
     connection_at w.connections i ≡ Some c → connection_at next.connections i ≡ Some c' → c'.requests ≡ c.requests → c'.shown ≡ c.shown →
     (more : List ℕ) → back_text c' ≡ back_text c ++ more → Stands limits seat e c →
     (values_of (shown_messages c) ≡ values_of (shown_messages c')) × (take c'.shown (back_text c') ≡ take c.shown (back_text c))
@@ -60,12 +60,12 @@ same_session limits hub ends order w at c seat e s =
     ap (λ store. state_with store s.session.version [] false 0) at.store ∙ ap (λ version. state_with w.store version [] false 0) s.version
 
 -- what is answered to what comes to it is what the world is left with
-left_behind : WhatArrivesIsAnswered → (limits : Bounds) (hub hub' : HubState) (ends : List End) (order : List ℕ) (w : World)
+left_after : WhatArrivesIsAnswered → (limits : Bounds) (hub hub' : HubState) (ends : List End) (order : List ℕ) (w : World)
     (at : ShowsEach limits hub ends order w) (i k n : ℕ) (e : End) (c : Connection) (seat : Option Seat) →
     connection_at w.connections i ≡ Some c → (s : Stands limits seat e c) →
     (a : HasAnswered hub hub' i s.session (s.front ++ take k (state_of e.client).out) n) →
     IsLeftBy limits i k w (after_event w (ToServer i k)) c (state_with a.store a.version a.reply a.closing n) a.rest
-left_behind answered limits hub hub' ends order w at i k n e c seat its s a =
+left_after answered limits hub hub' ends order w at i k n e c seat its s a =
     let last = state_with a.store a.version a.reply a.closing n in
     let text = s.front ++ take k (state_of e.client).out in
     let in_limits : Answers limits i (state_with hub.store s.session.version [] false 0) text last a.rest =
@@ -81,7 +81,7 @@ pub never_closed : WhatArrivesIsAnswered → (limits : Bounds) (hub : HubState) 
     (at : ShowsEach limits hub ends order w) (i : ℕ) (e : End) (c : Connection) (seat : Option Seat) → connection_at w.connections i ≡ Some c →
     (s : Stands limits seat e c) → HasClosed hub i s.session s.front (state_of e.client).out → ⊥
 never_closed answered limits hub ends order w at i e c seat its s h =
-    let left = left_behind answered limits hub h.new ends order w at i h.count h.commands e c seat its s h.answered in
+    let left = left_after answered limits hub h.new ends order w at i h.count h.commands e c seat its s h.answered in
     let is_open : h.answered.closing ≡ false = left.is_open in
     let is_closing = h.is_closing in
     absurd (cc)
@@ -104,11 +104,11 @@ arrived answered nothing_else goes_on sent limits hub hub' ends order order' w a
     let a = b.answered in
     let old = at.each i e c here its in
     let seat : Seat = record { version = a.version; out = s.session.out ++ a.reply; closing = a.closing; decoder = a.decoder } in
-    let left = left_behind answered limits hub hub' ends order w at (suc i) k b.commands e c (seat_at hub (suc i)) its s a in
+    let left = left_after answered limits hub hub' ends order w at (suc i) k b.commands e c (seat_at hub (suc i)) its s a in
     let step : Step limits w (ToServer (suc i) k) Done next_world = (ap is_gone its ∙ is_open, (λ cause r. r), refl) in
-    let behind_it = behind limits hub ends order w next_world (ToServer (suc i) k) at step tt in
+    let after_it = beyond limits hub ends order w next_world (ToServer (suc i) k) at step tt in
     let has_come = sent limits at.n at.events w at.run (suc i) c its in
-    let same = still_shown nothing_else goes_on sent limits hub ends order w next_world at behind_it (suc i) c left.next (seat_at hub (suc i)) e its
+    let same = still_shown nothing_else goes_on sent limits hub ends order w next_world at after_it (suc i) c left.next (seat_at hub (suc i)) e its
     left.there left.requests left.shown a.reply left.text s in
     let frame : IsFramed i hub hub' w next_world = record {
       limits = ap (λ (h : HubState). h.limits) a.state;
@@ -149,7 +149,7 @@ arrived answered nothing_else goes_on sent limits hub hub' ends order order' w a
     } in
     let ordered : order' ≡ clients_in next_world =
     b.added ∙ ap (λ l. l ++ replicate b.commands (suc i)) at.ordered ∙ sym left.order in
-    (step, framed limits hub hub' ends order order' w next_world i (with_client e client') left.next at behind_it frame ordered within left.there client)
+    (step, framed limits hub hub' ends order order' w next_world i (with_client e client') left.next at after_it frame ordered within left.there client)
 
 -- bytes that come to a client leave what they leave in the world
 pub record IsHeard (limits : Bounds) (w : World) (i k : ℕ) (c : Connection) (e : End) (values : List Datum) (text rest : List ℕ) (after : Waiting)
@@ -196,7 +196,7 @@ pub never_refused : ReadingsGoOn → NoClientMeetsAFault → AChangeIsOfOneConne
 never_refused go_on no_fault change limits hub ends order w at i e c seat before after cause its is_open s m =
     let k = m.count in
     let next = after_event w (ToClient (suc i) k) in
-    let b = behind limits hub ends order w next (ToClient (suc i) k) at (shown_step limits w i k c its is_open) tt in
+    let b = beyond limits hub ends order w next (ToClient (suc i) k) at (shown_step limits w i k c its is_open) tt in
     let there = (change (with_shown k) w.connections (suc i)).1 c its in
     let r = m.met.reads in
     let h = heard_of go_on limits w i k c e seat s m.met.values r.text m.met.rest m.met.waiting r.reads r.whole in
@@ -216,7 +216,7 @@ shown_on go_on nothing_else change limits hub hub' ends order w at i k e e' clie
     let next = after_event w (ToClient (suc i) k) in
     let old = at.each i e c here its in
     let step = shown_step limits w i k c its is_open in
-    let b = behind limits hub ends order w next (ToClient (suc i) k) at step tt in
+    let b = beyond limits hub ends order w next (ToClient (suc i) k) at step tt in
     let there : connection_at next.connections (suc i) ≡ Some (with_shown k c) = (change (with_shown k) w.connections (suc i)).1 c its in
     let all = on.hears in
     let xs = values_of (shown_messages c) in

@@ -21,7 +21,7 @@ use Rattle.resp_wire.specs.declared.end.End.{End}
 use Rattle.resp_wire.specs.declared.event.Outcome.{Outcome}
 use Rattle.resp_wire.specs.declared.event.Outcome.TheVariants.{Done, Gone, Refused}
 use Rattle.resp_wire.proofs.worlds.Asked.{as_before, not_refused, with_one_more}
-use Rattle.resp_wire.proofs.worlds.Frames.{Behind, IsFramed, behind, framed, kept}
+use Rattle.resp_wire.proofs.worlds.Frames.{Beyond, IsFramed, beyond, framed, kept}
 use Rattle.resp_wire.proofs.worlds.Places.{connection_there, world_of}
 
 -- what two facts of a result come to
@@ -75,7 +75,7 @@ request_done readings sent arrivals change limits hub ends order w i e e' event 
     ))
     cause (refusing cause (subst (λ o. RefusesEvent limits o event cause) its r)) in
     let step : Step limits w event runs.Done (after_event w event) = (ap is_gone its ∙ a.is_open, refused, refl) in
-    let b = behind limits hub ends order w (after_event w event) event at step possible in
+    let b = beyond limits hub ends order w (after_event w event) event at step possible in
     let of_one = change (with_request request) w.connections (suc i) in
     let next : World = world_with (with_request request) w (suc i) in
     let frame : IsFramed i hub hub w next = record {
@@ -88,7 +88,7 @@ request_done readings sent arrivals change limits hub ends order w i e e' event 
     let one = with_one_more readings sent arrivals limits hub ends order w at i e e' c request a.here a.its a.is_open q in (
       step,
       subst (λ v. ShowsEach limits hub (set ends i e') order v) (sym now)
-          (framed limits hub hub ends order order w next i e' (with_request request c) at (subst (λ v. Behind limits at.n v) now b) frame at.ordered a.within
+          (framed limits hub hub ends order order w next i e' (with_request request c) at (subst (λ v. Beyond limits at.n v) now b) frame at.ordered a.within
           (of_one.1 c a.its) one),
     )
 

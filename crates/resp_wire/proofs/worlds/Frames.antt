@@ -26,14 +26,14 @@ possible_on [] event all one = (one, tt)
 possible_on (first ∷ events) event all one = (all.0, possible_on events event all.1 one)
 
 -- the run after an event that happened
-pub record Behind (limits : Bounds) (n : ℕ) (w : World) : Type 0 where
+pub record Beyond (limits : Bounds) (n : ℕ) (w : World) : Type 0 where
   pub events : List WorldEvent
   pub run : Run limits (new_world n) events w
   pub possible : AllByRecursion IsPossible events
 
-pub behind : (limits : Bounds) (hub : HubState) (ends : List End) (order : List ℕ) (w next : World) (event : WorldEvent) →
-    (at : ShowsEach limits hub ends order w) → Step limits w event Done next → IsPossible event → Behind limits at.n next
-behind limits hub ends order w next event at s possible = record {
+pub beyond : (limits : Bounds) (hub : HubState) (ends : List End) (order : List ℕ) (w next : World) (event : WorldEvent) →
+    (at : ShowsEach limits hub ends order w) → Step limits w event Done next → IsPossible event → Beyond limits at.n next
+beyond limits hub ends order w next event at s possible = record {
   events = at.events ++ event ∷ [];
   run = run_on limits (new_world at.n) w next at.events event Done at.run s;
   possible = possible_on at.events event at.possible possible;
@@ -66,7 +66,7 @@ one_client limits hub hub' ends order w next i e' c' at f within there one k e c
 
 -- after an event that happened each client shows what its connection shows, where its own client does
 pub framed : (limits : Bounds) (hub hub' : HubState) (ends : List End) (order order' : List ℕ) (w next : World) (i : ℕ) (e' : End) (c' : Connection) →
-    (at : ShowsEach limits hub ends order w) → Behind limits at.n next → IsFramed i hub hub' w next → order' ≡ clients_in next → i < length ends →
+    (at : ShowsEach limits hub ends order w) → Beyond limits at.n next → IsFramed i hub hub' w next → order' ≡ clients_in next → i < length ends →
     connection_at next.connections (suc i) ≡ Some c' → ShowsClient limits (seat_at hub' (suc i)) e' c' →
     ShowsEach limits hub' (set ends i e') order' next
 framed limits hub hub' ends order order' w next i e' c' at b f ordered within there one = record {

@@ -1,17 +1,15 @@
 -- Memory is out only at an event that is done in the definitions, and at no drop.
-use Rattle.std.proofs.Common.{◌≡◌, ℕ, ◌-◌, ◌<◌, ◌≤◌, false, None, Some, Option, List, length, get_or, map, slice_get, IfErr, IfSome, OnErr, Ok, Err, Result, refl, sym, ap, subst, ◌∙◌, arith}
+use Rattle.std.proofs.Common.{◌≡◌, ℕ, ◌-◌, ◌≤◌, false, Some, Option, List, length, get_or, slice_get, IfErr, IfSome, OnErr, Ok, Err, Result, refl, sym, ap, subst, ◌∙◌, arith}
 use Rattle.resp_value.specs.Bounds.{Bounds}
 use Rattle.resp_value.specs.Data.{Datum}
-use Rattle.resp_value.specs.Values.{datum_of}
 use Rattle.resp_value.specs.declared.cause.Cause.{Cause}
 use Rattle.resp_value.specs.declared.cause.Cause.TheVariants.{NoSession, OutOfMemory}
-use Rattle.resp_value.specs.declared.value.Value.{Value}
 use Rattle.resp_value.specs.declared.version.Version.{Version}
 use Rattle.resp_session.specs.Connections.{Connection, push_message}
 use Rattle.resp_session.specs.Requests.{Command, FitsRequest, Hello, RefusesRequest, Request}
 use Rattle.resp_session.specs.Runs.{Done, RefusesEvent, Step, connection_of, is_gone}
 use Rattle.resp_session.specs.Worlds.{Greet, Push, Send, ToClient, ToServer, World, WorldEvent, after_event, connection_at}
-use Rattle.resp_client.specs.Clients.{queued, state_of}
+use Rattle.resp_client.specs.Clients.{state_of}
 use Rattle.resp_client.specs.Sending.{MayBeSent}
 use Rattle.resp_server.specs.PushRefusals as server
 use Rattle.resp_server.specs.declared.error.PushError.{PushError}
@@ -19,11 +17,10 @@ use Rattle.resp_server.specs.declared.error.PushError.TheVariants as push
 use Rattle.resp_server.specs.Hubs.{HubState, Seat, seat_at}
 use Rattle.resp_wire.specs.Ends.{outcome_of_push}
 use Rattle.resp_wire.specs.Happening.{IsNoDrop, IsOpenEnd, MayLackMemory}
-use Rattle.resp_wire.specs.Worlds.{Shows, ShowsEach, WorldState}
+use Rattle.resp_wire.specs.Worlds.{ShowsEach, WorldState}
 use Rattle.resp_wire.specs.declared.end.End.{End}
-use Rattle.resp_wire.specs.declared.event.Outcome.{Outcome}
 use Rattle.resp_wire.proofs.worlds.Asked.{not_refused}
-use Rattle.resp_wire.proofs.worlds.Moves.{at_work, session_refuses, some_at_work}
+use Rattle.resp_wire.proofs.worlds.Moves.{at_work, some_at_work}
 use Rattle.resp_wire.proofs.worlds.Places.{world_of}
 use Rattle.resp_wire.proofs.worlds.Pushed.{push_not_refused}
 
@@ -111,6 +108,7 @@ push_done limits hub ends order w number items error each verdict there open_end
     by_error limits s c w number items push.NoSession at here version is_open verdict = let never = verdict.first in absurd (cc)
     by_error limits s c w number items push.Closing at here version is_open verdict = let never = verdict.first in absurd (cc)
     by_error limits s c w number items push.NotInVersion at here version is_open verdict = tt
+    by_error limits s c w number items push.Double at here version is_open verdict = tt
     by_error limits s c w number items push.NestedPush at here version is_open verdict = tt
     by_error limits s c w number items (push.OverLimits limit) at here version is_open verdict = tt
     by_error limits s c w number items push.OutOfMemory at here version is_open verdict = (
@@ -127,6 +125,7 @@ pub push_lacks : {L : Type 0} (is_honest : L → Type 0) (hub : HubState) (ends 
     (1 ≤ number) × (number ≤ length ends) → IsOpenEnd ends (number - 1) →
     OnErr (outcome_of_push error) (MayLackMemory is_honest (world_of hub ends links order stopped) (Push number items))
 push_lacks {L} is_honest hub ends links order stopped number items push.NotInVersion verdict there open_end = tt
+push_lacks {L} is_honest hub ends links order stopped number items push.Double verdict there open_end = tt
 push_lacks {L} is_honest hub ends links order stopped number items push.NestedPush verdict there open_end = tt
 push_lacks {L} is_honest hub ends links order stopped number items (push.OverLimits limit) verdict there open_end = tt
 push_lacks {L} is_honest hub ends links order stopped number items push.NoSession verdict there open_end = record {

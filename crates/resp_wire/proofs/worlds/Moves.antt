@@ -350,8 +350,9 @@ push_refused : (limits : Bounds) (s : Seat) (version : Version) (x : Datum) (err
 push_refused limits s version x push.NoSession same r = tt
 push_refused limits s version x push.Closing same r = tt
 push_refused limits s version x push.NotInVersion same r = (cause.NotInVersion, refl, sym same ∙ r.1)
-push_refused limits s version x push.NestedPush same r = (cause.PushBelowTop, refl, (sym same ∙ r.0.1, r.1))
-push_refused limits s version x (push.OverLimits limit) same r = (cause.OverLimits limit, refl, (sym same ∙ r.0.1, r.1, r.2))
+push_refused limits s version x push.Double same r = (cause.Double, refl, (sym same ∙ r.0.1, r.1))
+push_refused limits s version x push.NestedPush same r = (cause.PushBelowTop, refl, (sym same ∙ r.0.1, r.1, r.2))
+push_refused limits s version x (push.OverLimits limit) same r = (cause.OverLimits limit, refl, (sym same ∙ r.0.1, r.1, r.2, r.3))
 push_refused limits s version x push.OutOfMemory same r = tt
 
 push_stopped : (limits : Bounds) (s : Seat) (x : Datum) (error : PushError) → s.closing ≡ false → server.RefusesPush limits (Some s) x error →
@@ -359,6 +360,7 @@ push_stopped : (limits : Bounds) (s : Seat) (x : Datum) (error : PushError) → 
 push_stopped limits s x push.NoSession is_open r = absurd (cc)
 push_stopped limits s x push.Closing is_open r = absurd (cc)
 push_stopped limits s x push.NotInVersion is_open r = tt
+push_stopped limits s x push.Double is_open r = tt
 push_stopped limits s x push.NestedPush is_open r = tt
 push_stopped limits s x (push.OverLimits limit) is_open r = tt
 push_stopped limits s x push.OutOfMemory is_open r = refl

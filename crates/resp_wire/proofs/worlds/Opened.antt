@@ -115,25 +115,25 @@ still_there : (id : ℕ) (es : List (ℕ × Seat)) (e : ℕ × Seat) (s : Seat) 
 still_there id [] e s found = absurd (cc)
 still_there id (d ∷ es) e s found = still_there_by id d e es s (id == d.0) (still_there id es e s) found
 
-found_behind_by : (id : ℕ) (d e : ℕ × Seat) (es : List (ℕ × Seat)) (here : Bool) → (lookup (λ other. id == other) es ≡ None →
+found_after_by : (id : ℕ) (d e : ℕ × Seat) (es : List (ℕ × Seat)) (here : Bool) → (lookup (λ other. id == other) es ≡ None →
     lookup (λ other. id == other) (es ++ e ∷ []) ≡ cond (id == e.0) (Some e.1) None) →
     cond here (Some d.1) (lookup (λ other. id == other) es) ≡ None →
     cond here (Some d.1) (lookup (λ other. id == other) (es ++ e ∷ [])) ≡ cond (id == e.0) (Some e.1) None
-found_behind_by id d e es true later none = absurd (cc)
-found_behind_by id d e es false later none = later none
+found_after_by id d e es true later none = absurd (cc)
+found_after_by id d e es false later none = later none
 
 -- what isn't there is found after
-found_behind : (id : ℕ) (es : List (ℕ × Seat)) (e : ℕ × Seat) → lookup (λ other. id == other) es ≡ None →
+found_after : (id : ℕ) (es : List (ℕ × Seat)) (e : ℕ × Seat) → lookup (λ other. id == other) es ≡ None →
     lookup (λ other. id == other) (es ++ e ∷ []) ≡ cond (id == e.0) (Some e.1) None
-found_behind id [] e none = refl
-found_behind id (d ∷ es) e none = found_behind_by id d e es (id == d.0) (found_behind id es e) none
+found_after id [] e none = refl
+found_after id (d ∷ es) e none = found_after_by id d e es (id == d.0) (found_after id es e) none
 
-slice_behind : {X : Type 0} (xs : List X) (x y : X) (k : ℕ) → slice_get (xs ++ x ∷ []) k ≡ Some y →
+slice_after : {X : Type 0} (xs : List X) (x y : X) (k : ℕ) → slice_get (xs ++ x ∷ []) k ≡ Some y →
     (slice_get xs k ≡ Some y) ⊎ ((k ≡ length xs) × (x ≡ y))
-slice_behind {X} [] x y zero e = let same : x ≡ y = cc in inr (refl, same)
-slice_behind {X} [] x y (suc k) e = absurd (cc)
-slice_behind {X} (z ∷ zs) x y zero e = inl e
-slice_behind {X} (z ∷ zs) x y (suc k) e = elim (slice_behind zs x y k e) as (λ _. (slice_get zs k ≡ Some y) ⊎ ((suc k ≡ suc (length zs)) × (x ≡ y))) [
+slice_after {X} [] x y zero e = let same : x ≡ y = cc in inr (refl, same)
+slice_after {X} [] x y (suc k) e = absurd (cc)
+slice_after {X} (z ∷ zs) x y zero e = inl e
+slice_after {X} (z ∷ zs) x y (suc k) e = elim (slice_after zs x y k e) as (λ _. (slice_get zs k ≡ Some y) ⊎ ((suc k ≡ suc (length zs)) × (x ≡ y))) [
   | inl h ↦ inl h
   | inr h ↦ inr (ap suc h.0, h.1)
 ]
@@ -156,7 +156,7 @@ each_session limits old mid new ends count id e o opened sessions id_is k within
     let was : seat_at mid (suc k) ≡ None = o.none_else (suc k) (let is = h.1 in omega (arith, is)) in (
       opened.decoder,
       opened.nothing_taken,
-      ap (λ l. lookup (λ x. suc k == x) l) sessions ∙ found_behind (suc k) mid.sessions (id, seat) was ∙
+      ap (λ l. lookup (λ x. suc k == x) l) sessions ∙ found_after (suc k) mid.sessions (id, seat) was ∙
           ap (λ b. cond b (Some seat) None) (eq-eqb (suc k) id same),
     )
 each_session limits old mid new ends count id e o opened sessions id_is k within (inr h) =
@@ -192,8 +192,8 @@ one_more_opened limits old mid new ends count id e o opened is_new =
       none_else = λ other beyond.
           let was : seat_at mid other ≡ None = o.none_else other (omega (arith, beyond)) in
           let apart : eqb other id ≡ false = differs other id (λ same. omega (arith, same, beyond, id_is)) in
-          ap (λ l. lookup (λ x. other == x) l) sessions ∙ found_behind other mid.sessions (id, seat) was ∙ ap (λ b. cond b (Some seat) None) apart;
-      each_end = λ k d here. elim (slice_behind ends e d k here) as (λ _. IsNew limits d) [
+          ap (λ l. lookup (λ x. other == x) l) sessions ∙ found_after other mid.sessions (id, seat) was ∙ ap (λ b. cond b (Some seat) None) apart;
+      each_end = λ k d here. elim (slice_after ends e d k here) as (λ _. IsNew limits d) [
         | inl h ↦ o.each_end k d h
         | inr h ↦ subst (IsNew limits) h.1 is_new
       ];

@@ -29,7 +29,7 @@ use Rattle.resp_wire.specs.Worlds.{ShowsClient, ShowsEach, Stands}
 use Rattle.resp_wire.specs.declared.end.End.{End}
 use Rattle.resp_wire.proofs.Seated.{seat_here}
 use Rattle.resp_wire.proofs.worlds.Carried.{still_shown}
-use Rattle.resp_wire.proofs.worlds.Frames.{IsFramed, behind, framed}
+use Rattle.resp_wire.proofs.worlds.Frames.{IsFramed, beyond, framed}
 use Rattle.resp_wire.proofs.worlds.Places.{never_gone, seats_elsewhere, seats_left}
 
 -- a session that took a push, or had no memory for it, refuses it for no cause
@@ -37,7 +37,8 @@ pub push_not_refused : (limits : Bounds) (s : Seat) (version : Version) (x : Dat
     s.closing ≡ false → server.IsPushVerdict limits (Some s) x answer → ((error : PushError) → IsErrOf answer error → error ≡ push.OutOfMemory) →
     (cause : Cause) → RefusesPush limits version x cause → ⊥
 push_not_refused limits s version x answer same is_open v only cause.Syntax r = r
-push_not_refused limits s version x answer same is_open v only cause.Double r = r
+push_not_refused limits s version x answer same is_open v only cause.Double r =
+    let e = only push.Double (v.every push.Double (λ e. absurd (cc)) ((is_open, same ∙ r.0), r.1)) in absurd (cc)
 push_not_refused limits s version x answer same is_open v only cause.Version r = r
 push_not_refused limits s version x answer same is_open v only cause.NestedPush r = r
 push_not_refused limits s version x answer same is_open v only cause.Range r = r
@@ -58,9 +59,9 @@ push_not_refused limits s version x answer same is_open v only cause.Closing r =
 push_not_refused limits s version x answer same is_open v only cause.NotInVersion r =
     let e = only push.NotInVersion (v.every push.NotInVersion (λ e. absurd (cc)) (is_open, same ∙ r)) in absurd (cc)
 push_not_refused limits s version x answer same is_open v only cause.PushBelowTop r =
-    let e = only push.NestedPush (v.every push.NestedPush (λ e. absurd (cc)) ((is_open, same ∙ r.0), r.1)) in absurd (cc)
+    let e = only push.NestedPush (v.every push.NestedPush (λ e. absurd (cc)) ((is_open, same ∙ r.0), r.1, r.2)) in absurd (cc)
 push_not_refused limits s version x answer same is_open v only (cause.OverLimits limit) r =
-    let e = only (push.OverLimits limit) (v.every (push.OverLimits limit) (λ e. absurd (cc)) ((is_open, same ∙ r.0), r.1, r.2)) in absurd (cc)
+    let e = only (push.OverLimits limit) (v.every (push.OverLimits limit) (λ e. absurd (cc)) ((is_open, same ∙ r.0), r.1, r.2, r.3)) in absurd (cc)
 push_not_refused limits s version x answer same is_open v only cause.Read r = r
 push_not_refused limits s version x answer same is_open v only cause.Write r = r
 push_not_refused limits s version x answer same is_open v only cause.TooManyTurns r = r
@@ -97,7 +98,7 @@ pushed nothing_else goes_on sent change limits hub hub' ends order w at i items 
     λ cause r. push_not_refused limits s.session c.version (push_message (map datum_of items)).value (Ok tt) s.version s.is_open verdict (λ error e. absurd (cc)) cause
     (subst (λ o. RefusesEvent limits o event cause) its r) in
     let step : Step limits w event Done next = (ap is_gone its ∙ is_open, refuses, refl) in
-    let b = behind limits hub ends order w next event at step is_value in
+    let b = beyond limits hub ends order w next event at step is_value in
     let of_one = change (with_message m) w.connections (suc i) in
     let there : connection_at next.connections (suc i) ≡ Some (with_message m c) = of_one.1 c its in
     let seat = pushed_seat (push_message (map datum_of items)).value s.session in
@@ -151,7 +152,7 @@ dropped change limits hub hub' ends order w at i e c here its is_open within now
     let next = after_event w event in
     let old = at.each i e c here its in
     let step : Step limits w event Done next = (ap is_gone its ∙ is_open, (λ cause r. r), refl) in
-    let b = behind limits hub ends order w next event at step tt in
+    let b = beyond limits hub ends order w next event at step tt in
     let of_one = change as_dropped w.connections (suc i) in
     let there : connection_at next.connections (suc i) ≡ Some (as_dropped c) = of_one.1 c its in
     let frame : IsFramed i hub hub' w next = record {

@@ -5,7 +5,7 @@ use Rattle.resp_value.specs.declared.cause.Cause.TheVariants as cause
 use Rattle.resp_scan.specs.declared.event.Fault.{Fault}
 use Rattle.resp_scan.specs.Kinds.{rules_of}
 use Rattle.resp_decode.specs.Decoding.{GivesValue, LacksMemory, RefusesByte, TakesPiece}
-use Rattle.resp_decode.proofs.ReadingInputs.{bytes_behind, ends_inside, lacks_room, reads_all, reads_nothing, reads_value, refuses_input, refuses_rest, value_uses_bytes}
+use Rattle.resp_decode.proofs.ReadingInputs.{bytes_after, ends_inside, lacks_room, reads_all, reads_nothing, reads_value, refuses_input, refuses_rest, value_uses_bytes}
 use Rattle.resp_decode.proofs.all.decode_all.Goals as goal
 
 pub loop-rest-init : goal.loop-rest-init
@@ -60,7 +60,7 @@ loop-rest-smaller c =
     let rest = c.loop-rest.rest.now in
     let given = c.in-Ok.ensures.value_whole [] w.takes c.in-Some.value c.in-Some.is in
     let some = value_uses_bytes (rules_of c.loop-rest.decoder.scanner) c.feed.new.self rest c.in-Ok.fed.used c.in-Some.value given in
-    omega (arith, some, ap length (bytes_behind c.in-Ok.fed.used (length rest) rest refl), length-drop c.in-Ok.fed.used rest, c.in-Ok.ensures.within_piece)
+    omega (arith, some, ap length (bytes_after c.in-Ok.fed.used (length rest) rest refl), length-drop c.in-Ok.fed.used rest, c.in-Ok.ensures.within_piece)
 
 pub loop-rest-preserved : goal.loop-rest-preserved
 loop-rest-preserved c =
@@ -69,7 +69,7 @@ loop-rest-preserved c =
     let rest = c.loop-rest.rest.now in
     reads_value r c.args.bytes.now c.loop-rest.decoder c.feed.new.self c.loop-rest.values.items c.push.new.self.items c.in-Some.value rest _ c.in-Ok.fed.used w
     (c.in-Ok.ensures.value_whole [] w.takes c.in-Some.value c.in-Some.is) c.in-Ok.ensures.same_rules (search rules)
-    (bytes_behind c.in-Ok.fed.used (length rest) rest refl)
+    (bytes_after c.in-Ok.fed.used (length rest) rest refl)
 
 pub returns-clause-whole_input : goal.returns-clause-whole_input
 returns-clause-whole_input c = reads_all (rules_under c.args.version c.args.limits.now) c.args.bytes.now c.loop-rest.decoder c.loop-rest.values.items

@@ -55,6 +55,12 @@ attempt_value-returns-in-Error-clause-attempt t c =
     subst (λ x. Attempt c.args.version c.args.limits.now c.args.deeper x c.args.out.now c.attempt_error.new.out
     c.attempt_error.result) (sym (ap datum_of c.in-Error.is)) (c.attempt_error.ensures c.args.deeper)
 
+pub attempt_value-returns-in-Double-clause-attempt : goal.attempt_value-returns-in-Double-clause-attempt
+attempt_value-returns-in-Double-clause-attempt t c =
+    subst (λ x. Attempt c.args.version c.args.limits.now c.args.deeper x c.args.out.now c.attempt_double.new.out
+    c.attempt_double.result) (sym (ap datum_of c.in-Double.is))
+    (c.attempt_double.ensures c.args.deeper)
+
 pub attempt_value-returns-in-Bulk-clause-attempt : goal.attempt_value-returns-in-Bulk-clause-attempt
 attempt_value-returns-in-Bulk-clause-attempt t c =
     subst (λ x. Attempt c.args.version c.args.limits.now c.args.deeper x c.args.out.now c.attempt_bulk.new.out

@@ -44,6 +44,11 @@ measure_value-returns-in-Error-clause-found t c = subst (λ x. Describes c.args.
     (ap (λ s. d.scalar (d.Error s)) c.text-in-Error.ensures.text ∙ sym (ap datum_of c.in-Error.is))
     (c.measure_line-in-Error.ensures.error c.args.version)
 
+pub measure_value-returns-in-Double-clause-found : goal.measure_value-returns-in-Double-clause-found
+measure_value-returns-in-Double-clause-found t c = subst (λ x. Describes c.args.version x c.measure_double.result)
+    (ap (λ s. d.scalar (d.Double s)) c.text-in-Double.ensures.text ∙ sym (ap datum_of c.in-Double.is))
+    (c.measure_double.ensures.found c.args.version)
+
 pub measure_value-returns-in-Bulk-clause-found : goal.measure_value-returns-in-Bulk-clause-found
 measure_value-returns-in-Bulk-clause-found t c = subst (λ x. Describes c.args.version x c.measure_bulk.result)
     (ap (λ s. d.scalar (d.Bulk s)) c.list.ensures ∙

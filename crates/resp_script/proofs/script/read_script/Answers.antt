@@ -14,9 +14,9 @@ returns-then-line-gt-MOST_LINES-clause-refused c =
     let (done, read) = c.loop-content.invariant in
     inr (
       c.if-not-names_clients.ensures,
-      is_first_bad c.args.bytes.now c.loop-content.rest.now c.in-Some.behind.now c.in-Some.content.now done c.loop-content.line c.loop-content.clients
+      is_first_bad c.args.bytes.now c.loop-content.rest.now c.in-Some.beyond.now c.in-Some.content.now done c.loop-content.line c.loop-content.clients
           c.loop-content.steps.items read c.in-Some.ensures.line
-          (inl (passes_a_limit c.args.bytes.now c.loop-content.rest.now c.in-Some.behind.now c.in-Some.content.now done c.loop-content.line
+          (inl (passes_a_limit c.args.bytes.now c.loop-content.rest.now c.in-Some.beyond.now c.in-Some.content.now done c.loop-content.line
           c.loop-content.clients c.loop-content.steps.items read c.in-Some.ensures.left
           (λ few short small. elim c.then-line-gt-MOST_LINES.branch [
             | then-line-gt-MOST_LINES-via-then-line-gt-MOST_LINES w ↦ omega (arith, few, w.if-line-gt-MOST_LINES.true)
@@ -31,7 +31,7 @@ returns-in-Err-Bad-clause-refused c =
     let (done, read) = c.loop-content.invariant in
     inr (
       c.if-not-names_clients.ensures,
-      is_first_bad c.args.bytes.now c.loop-content.rest.now c.in-Some.behind.now c.in-Some.content.now done c.loop-content.line c.loop-content.clients
+      is_first_bad c.args.bytes.now c.loop-content.rest.now c.in-Some.beyond.now c.in-Some.content.now done c.loop-content.line c.loop-content.clients
           c.loop-content.steps.items read c.in-Some.ensures.line (inr (c.in-Err-Bad.ensures.bad (ap Err c.in-Err-Bad.field-0-is))),
     )
 
@@ -39,7 +39,7 @@ pub loop-content-preserved-in-Ok-Nothing : goal.loop-content-preserved-in-Ok-Not
 loop-content-preserved-in-Ok-Nothing c =
     let (done, read) = c.loop-content.invariant in (
       done ++ c.in-Some.content.now ∷ [],
-      reads_nothing c.args.bytes.now c.loop-content.rest.now c.in-Some.behind.now c.in-Some.content.now done c.loop-content.line c.loop-content.clients
+      reads_nothing c.args.bytes.now c.loop-content.rest.now c.in-Some.beyond.now c.in-Some.content.now done c.loop-content.line c.loop-content.clients
           c.loop-content.steps.items read c.in-Some.ensures.line c.in-Some.ensures.left c.if-line-gt-MOST_LINES.false c.if-content-gt-MOST_IN_LINE.false
           c.if-read-gt-MOST_BYTES.false
           (subst (Says c.loop-content.clients c.in-Some.content.now) c.in-Ok-Nothing.field-0-is c.in-Ok-Nothing.ensures.said),
@@ -49,7 +49,7 @@ pub loop-content-preserved-in-Ok-Clients : goal.loop-content-preserved-in-Ok-Cli
 loop-content-preserved-in-Ok-Clients c =
     let (done, read) = c.loop-content.invariant in (
       done ++ c.in-Some.content.now ∷ [],
-      reads_clients c.args.bytes.now c.loop-content.rest.now c.in-Some.behind.now c.in-Some.content.now done c.loop-content.line c.loop-content.clients
+      reads_clients c.args.bytes.now c.loop-content.rest.now c.in-Some.beyond.now c.in-Some.content.now done c.loop-content.line c.loop-content.clients
           c.in-Ok-Clients.count c.loop-content.steps.items read c.in-Some.ensures.line c.in-Some.ensures.left c.if-line-gt-MOST_LINES.false
           c.if-content-gt-MOST_IN_LINE.false c.if-read-gt-MOST_BYTES.false
           (subst (Says c.loop-content.clients c.in-Some.content.now) c.in-Ok-Clients.field-0-is c.in-Ok-Clients.ensures.said),
@@ -63,9 +63,9 @@ loop-content-preserved c =
     let pushed : c.push.new.self.items ≡ more = c.push.ensures.items ∙ ap (λ t. cond t more before) c.if-is_err.ensures.negation in (
       done ++ c.in-Some.content.now ∷ [],
       subst
-          (HaveRead c.args.bytes.now c.in-Some.behind.now (done ++ c.in-Some.content.now ∷ []) (c.loop-content.line + 1) c.loop-content.clients)
+          (HaveRead c.args.bytes.now c.in-Some.beyond.now (done ++ c.in-Some.content.now ∷ []) (c.loop-content.line + 1) c.loop-content.clients)
           (sym pushed)
-          (reads_step c.args.bytes.now c.loop-content.rest.now c.in-Some.behind.now c.in-Some.content.now done c.loop-content.line c.loop-content.clients
+          (reads_step c.args.bytes.now c.loop-content.rest.now c.in-Some.beyond.now c.in-Some.content.now done c.loop-content.line c.loop-content.clients
           c.in-Ok-Step.step before read c.in-Some.ensures.line c.in-Some.ensures.left c.if-line-gt-MOST_LINES.false
           c.if-content-gt-MOST_IN_LINE.false c.if-read-gt-MOST_BYTES.false
           (subst (Says c.loop-content.clients c.in-Some.content.now) c.in-Ok-Step.field-0-is c.in-Ok-Step.ensures.said)),

@@ -1,5 +1,5 @@
-use Rattle.resp_tool.proofs.WrittenLemmas.{part_of_text}
+use Rattle.resp_tool.proofs.WrittenLemmas.{tries_text}
 use Rattle.resp_tool.proofs.command_line.stop.Goals as goal
 
 pub returns-clause-told : goal.returns-clause-told
-returns-clause-told g c = part_of_text c.line.result _ _ _ _ _ c.line.ensures
+returns-clause-told g c = tries_text c.line.result _ _ _ _ _ c.line.ensures

@@ -2,7 +2,7 @@ use Rattle.std.proofs.Common.{rules, ◌≡◌, ◌+◌, ◌<◌, ◌++◌, [], 
 use Rattle.std.proofs.lemmas.List.{length-drop}
 use Rattle.resp_tool.specs.Streams.{HasRendered, RendersMost, RendersStopped, IsBeforeEnd}
 use Rattle.resp_tool.specs.Stops.{error_of}
-use Rattle.resp_tool.proofs.Rendered.{TakesOf, behind_used, done_more, nothing_left, renders_most, stopped_before_end, took_front, took_stop, took_value}
+use Rattle.resp_tool.proofs.Rendered.{TakesOf, after_used, done_more, nothing_left, renders_most, stopped_before_end, took_front, took_stop, took_value}
 use Rattle.resp_tool.proofs.stream.render_piece.Goals as goal
 
 pub returns-then-values-eq-MOST_VALUES-clause-stops : goal.returns-then-values-eq-MOST_VALUES-clause-stops
@@ -35,7 +35,7 @@ loop-rest-smaller-then-taken g c =
     let t = took_value r (g.T.Rendering.text r) (g.T.Rendering.is_written r) (g.T.Rendering.is_left r) (g.T.Rendering.is_begun r)
     (g.T.Rendering.has_taken c.loop-rest.rendering) (g.T.Rendering.has_taken c.take.new.self) (bytes ++ w.done) rest start
     (g.W.Sink.written c.loop-rest.writer) (g.W.Sink.written c.take.new.writer) c.loop-rest.values taken takes c.if-taken.true (w.stands bytes start h) in
-    omega (arith, t.0, ap length (behind_used taken.used (length rest) rest refl), length-drop taken.used rest, c.in-Ok.ensures.within_piece)
+    omega (arith, t.0, ap length (after_used taken.used (length rest) rest refl), length-drop taken.used rest, c.in-Ok.ensures.within_piece)
 
 pub loop-rest-preserved-then-taken : goal.loop-rest-preserved-then-taken
 loop-rest-preserved-then-taken g c =
@@ -48,7 +48,7 @@ loop-rest-preserved-then-taken g c =
     (g.W.Sink.written c.take.new.writer) (Ok taken)) w.same_rules c.in-Ok.ensures.takes in
     record {
       done = w.done ++ take taken.used rest;
-      split = done_more c.args.piece.now w.done rest _ taken.used w.split (behind_used taken.used (length rest) rest refl);
+      split = done_more c.args.piece.now w.done rest _ taken.used w.split (after_used taken.used (length rest) rest refl);
       stands = λ bytes start h.
           let t = took_value r (g.T.Rendering.text r) (g.T.Rendering.is_written r) (g.T.Rendering.is_left r) (g.T.Rendering.is_begun r)
           (g.T.Rendering.has_taken c.loop-rest.rendering) (g.T.Rendering.has_taken c.take.new.self) (bytes ++ w.done) rest start
@@ -57,7 +57,7 @@ loop-rest-preserved-then-taken g c =
           (g.W.Sink.written c.take.new.writer) (c.loop-rest.values + 1)) (append_assoc bytes w.done (take taken.used rest)) t.1;
       few = omega (arith, w.few, c.if-values-eq-MOST_VALUES.false);
       same_rules = c.in-Ok.ensures.same_rules ∙ w.same_rules;
-      none_failed = c.in-Ok.ensures.none_failed ∙ w.none_failed;
+      none_failed = c.in-Ok.ensures.write_failures ∙ w.none_failed;
     }
 
 pub loop-rest-smaller : goal.loop-rest-smaller
@@ -75,7 +75,7 @@ loop-rest-smaller g c =
     (g.T.Rendering.has_taken c.loop-rest.rendering) (g.T.Rendering.has_taken c.take.new.self) (bytes ++ w.done) rest start
     (g.W.Sink.written c.loop-rest.writer) (g.W.Sink.written c.take.new.writer) c.loop-rest.values taken c.if-values-eq-MOST_VALUES.false takes
     c.if-taken.false (w.stands bytes start h) in
-    omega (arith, some, t.0, ap length (behind_used taken.used (length rest) rest refl), length-drop taken.used rest)
+    omega (arith, some, t.0, ap length (after_used taken.used (length rest) rest refl), length-drop taken.used rest)
 
 pub loop-rest-preserved : goal.loop-rest-preserved
 loop-rest-preserved g c =
@@ -88,7 +88,7 @@ loop-rest-preserved g c =
     (g.W.Sink.written c.take.new.writer) (Ok taken)) w.same_rules c.in-Ok.ensures.takes in
     record {
       done = w.done ++ take taken.used rest;
-      split = done_more c.args.piece.now w.done rest _ taken.used w.split (behind_used taken.used (length rest) rest refl);
+      split = done_more c.args.piece.now w.done rest _ taken.used w.split (after_used taken.used (length rest) rest refl);
       stands = λ bytes start h.
           let t = took_front r (g.T.Rendering.text r) (g.T.Rendering.is_written r) (g.T.Rendering.is_left r) (g.T.Rendering.is_begun r)
           (g.T.Rendering.has_taken c.loop-rest.rendering) (g.T.Rendering.has_taken c.take.new.self) (bytes ++ w.done) rest start
@@ -98,7 +98,7 @@ loop-rest-preserved g c =
           (g.W.Sink.written c.take.new.writer) c.loop-rest.values) (append_assoc bytes w.done (take taken.used rest)) t.1;
       few = w.few;
       same_rules = c.in-Ok.ensures.same_rules ∙ w.same_rules;
-      none_failed = c.in-Ok.ensures.none_failed ∙ w.none_failed;
+      none_failed = c.in-Ok.ensures.write_failures ∙ w.none_failed;
     }
 
 pub returns-in-Err-clause-stops : goal.returns-in-Err-clause-stops

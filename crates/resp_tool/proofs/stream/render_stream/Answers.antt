@@ -126,7 +126,7 @@ loop-preserved g c =
       same_rules = c.in-Ok-render_piece.ensures.same_rules ∙ w.same_rules;
       calls = called_again c.loop.counter _ (g.R.Source.calls c.loop.reader) _ w.calls c.read.ensures.calls;
       unfailing = c.in-Ok.ensures.failures ∙ w.unfailing;
-      none_failed = c.in-Ok-render_piece.ensures.none_failed ∙ w.none_failed;
+      none_failed = c.in-Ok-render_piece.ensures.write_failures ∙ w.none_failed;
       room = w.room;
     }
 

@@ -10,9 +10,9 @@ returns-in_err-write_escaped g c =
     let none : c.plain_length.result ≡ 0 = sym c.split_at.ensures.front_len ∙
     eqb-true (length c.split_at.result.0.now) 0 (sym c.is_empty.ensures ∙ c.if-is_empty.true) in
     let is_shown : quoted_text (c.in-Some.byte.now ∷ []) ≡ escape_of c.in-Some.byte.now =
-    quoted-escaped c.in-Some.byte.now (escaped_first c.loop-byte.rest.now c.in-Some.behind.now c.in-Some.byte.now c.plain_length.result
+    quoted-escaped c.in-Some.byte.now (escaped_first c.loop-byte.rest.now c.in-Some.beyond.now c.in-Some.byte.now c.plain_length.result
     c.in-Some.ensures.cases.0 none c.plain_length.ensures.whole) in
-    front_fails c.from_residual.result c.args.text.now c.loop-byte.rest.now (c.in-Some.byte.now ∷ []) c.in-Some.behind.now _ _ _ _ _ _ _ c.loop-byte.invariant
+    front_fails c.from_residual.result c.args.text.now c.loop-byte.rest.now (c.in-Some.byte.now ∷ []) c.in-Some.beyond.now _ _ _ _ _ _ _ c.loop-byte.invariant
     c.in-Some.ensures.cases.0 is_shown c.from_residual.ensures.0 c.in_err-write_escaped.ensures
 
 pub loop-byte-preserved-then-is_empty : goal.loop-byte-preserved-then-is_empty
@@ -20,9 +20,9 @@ loop-byte-preserved-then-is_empty g c =
     let none : c.plain_length.result ≡ 0 = sym c.split_at.ensures.front_len ∙
     eqb-true (length c.split_at.result.0.now) 0 (sym c.is_empty.ensures ∙ c.if-is_empty.true) in
     let is_shown : quoted_text (c.in-Some.byte.now ∷ []) ≡ escape_of c.in-Some.byte.now =
-    quoted-escaped c.in-Some.byte.now (escaped_first c.loop-byte.rest.now c.in-Some.behind.now c.in-Some.byte.now c.plain_length.result
+    quoted-escaped c.in-Some.byte.now (escaped_first c.loop-byte.rest.now c.in-Some.beyond.now c.in-Some.byte.now c.plain_length.result
     c.in-Some.ensures.cases.0 none c.plain_length.ensures.whole) in
-    front_goes_on c.args.text.now c.loop-byte.rest.now (c.in-Some.byte.now ∷ []) c.in-Some.behind.now _ _ _ _ _ _ _ c.loop-byte.invariant
+    front_goes_on c.args.text.now c.loop-byte.rest.now (c.in-Some.byte.now ∷ []) c.in-Some.beyond.now _ _ _ _ _ _ _ c.loop-byte.invariant
     c.in-Some.ensures.cases.0 is_shown c.in_ok-write_escaped.ensures
 
 pub returns-in_err-write_text : goal.returns-in_err-write_text

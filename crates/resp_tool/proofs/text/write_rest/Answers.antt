@@ -9,6 +9,6 @@ returns-in-Err g c =
     let n = c.in-Err.fault.written in
     let appended = subst (λ z. Appends (g.W.Sink.written c.args.writer.now) (g.W.Sink.written c.write_all.new.sink) (take n z))
     (take_rest c.args.text.now c.args.written) c.in-Err.ensures.part in (
-      record { part = take n rest; behind = drop n rest; whole = sym (take-append-drop n rest); appended = appended },
-      c.in-Err.ensures.failed,
+      record { part = take n rest; beyond = drop n rest; whole = sym (take-append-drop n rest); appended = appended },
+      c.in-Err.ensures.failed_once,
     )

@@ -1,4 +1,4 @@
-use Rattle.resp_value.proofs.Examples.{plus_and_zeros, minus_zero, length_with_zero, bulk_null, array_null, plain_null, big_minus_zero, verbatim, chunks, streamed_map, attribute, error, bulk_error, set, streamed_array, streamed_set}
+use Rattle.resp_value.proofs.Examples.{plus_and_zeros, minus_zero, length_with_zero, bulk_null, array_null, plain_null, big_minus_zero, verbatim, chunks, streamed_map, attribute, error, bulk_error, set, streamed_array, streamed_set, double, empty_double}
 use Rattle.resp_value.proofs.laws.texts_and_their_values.Goals as goal
 
 pub returns-clause-plus_and_zeros : goal.returns-clause-plus_and_zeros
@@ -48,3 +48,9 @@ returns-clause-streamed_array c = streamed_array
 
 pub returns-clause-streamed_set : goal.returns-clause-streamed_set
 returns-clause-streamed_set c = streamed_set
+
+pub returns-clause-double : goal.returns-clause-double
+returns-clause-double c = double
+
+pub returns-clause-empty_double : goal.returns-clause-empty_double
+returns-clause-empty_double c = empty_double

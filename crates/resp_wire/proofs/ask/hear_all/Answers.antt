@@ -1,19 +1,22 @@
-use Rattle.std.proofs.Common.{rules, refl, [], ◌-◌, ◌++◌, take, subst}
+use Rattle.std.specs.List.{concat}
+use Rattle.std.proofs.Common.{rules, refl, false, [], ◌≡◌, ◌-◌, ◌∷◌, ◌++◌, take, subst, sym}
 use Rattle.resp_client.specs.Clients.{state_of}
 use Rattle.resp_wire.specs.Hearing.{HearsAll}
-use Rattle.resp_wire.specs.Stops.{StopsHearing}
-use Rattle.resp_wire.proofs.Listening.{fails_reading, hears_no_bytes, hears_piece, stops_listening, stops_piece, waits_for_none, waits_for_piece}
-use Rattle.resp_wire.proofs.Turning.{reads_more, reads_none, spends_nothing, spends_one}
+use Rattle.resp_wire.specs.Stops.{StopsHearing, StopsListening, is_of_last_read}
+use Rattle.resp_wire.specs.Turns.{HasRead}
+use Rattle.resp_wire.proofs.Listening.{fails_reading, hears_no_bytes, hears_piece, no_last_read, stops_listening, stops_piece, waits_for_none, waits_for_piece}
+use Rattle.resp_wire.proofs.Pieces.{all_read, concat_more, gives, only_pieces}
+use Rattle.resp_wire.proofs.Turning.{end_after, reads_end, reads_failed, reads_more, reads_none, spends_nothing, spends_one}
 use Rattle.resp_wire.proofs.ask.hear_all.Goals as goal
 
 pub loop-piece-init : goal.loop-piece-init
 loop-piece-init g c = record {
   heard = (
     [],
-    reads_none (g.R.Source.remaining c.args.reader.now),
+    refl,
     λ front h. (
       hears_no_bytes c.args.client.now c.args.heard.now front h,
-      waits_for_none c.args.client.now c.args.heard.now front h,
+      waits_for_none (state_of c.args.client.now) c.args.heard.now front,
     ),
   );
   spends = spends_nothing (g.R.Source.calls c.args.reader.now) c.args.turns.now;
@@ -23,28 +26,66 @@ loop-piece-init g c = record {
 pub loop-piece-preserved : goal.loop-piece-preserved
 loop-piece-preserved g c =
     let i = c.loop-piece.invariant in
-    let (came, read, heard) = i.heard in
+    let (pieces, given, heard) = i.heard in
     let into = c.read.new.into in
     let n = c.in-Ok.count in
+    let s = state_of c.args.client.now in
     record {
       heard = (
-        came ++ take n into,
-        reads_more (g.R.Source.remaining c.args.reader.now) (g.R.Source.remaining c.loop-piece.reader)
-            (g.R.Source.remaining c.read.new.self) came into n read c.in-Ok.ensures.bytes,
+        pieces ++ take n into ∷ [],
+        gives g.R.Source.remaining g.R.Source.calls g.R.Source.failures c.args.reader.now c.loop-piece.reader c.read.new.self pieces into n given (search rules)
+            (search rules) (search rules)
+            (reads_more (g.R.Source.remaining c.loop-piece.reader) (g.R.Source.remaining c.loop-piece.reader) (g.R.Source.remaining c.read.new.self) [] into n
+            (reads_none (g.R.Source.remaining c.loop-piece.reader)) c.in-Ok.ensures.bytes) c.in-Ok.ensures.calls c.in-Ok.ensures.failures,
         λ front h.
-            let so_far = (heard front h).0 in (
-              hears_piece c.readings_go_on.ensures c.hearing_goes_on.ensures (state_of c.args.client.now) c.loop-piece.client c.hear_piece.new.client
-                  c.args.heard.now c.loop-piece.heard c.hear_piece.new.heard front came (take n into) so_far
+            let (so_far, each) = heard front h in (
+              subst (λ z. HearsAll s c.hear_piece.new.client c.args.heard.now c.hear_piece.new.heard (front ++ z)) (sym (concat_more pieces (take n into)))
+                  (hears_piece c.readings_go_on.ensures c.hearing_goes_on.ensures s c.loop-piece.client c.hear_piece.new.client c.args.heard.now
+                  c.loop-piece.heard c.hear_piece.new.heard front (concat pieces) (take n into) so_far
                   (subst (λ z. HearsAll (state_of c.loop-piece.client) c.hear_piece.new.client c.loop-piece.heard c.hear_piece.new.heard (so_far.rest ++ z))
-                  (search rules) (c.in_default.ensures.heard so_far.rest so_far.takes)),
-              waits_for_piece (state_of c.args.client.now) c.loop-piece.client c.args.heard.now c.loop-piece.heard front came (take n into) so_far
-                  (search rules) (search rules),
+                  (search rules) (c.in_default.ensures.heard so_far.rest so_far.takes))),
+              waits_for_piece s c.loop-piece.client c.args.heard.now c.loop-piece.heard front pieces (take n into) so_far (search rules) each,
             ),
       );
       spends = spends_one (g.R.Source.calls c.args.reader.now) (g.R.Source.calls c.loop-piece.reader) (g.R.Source.calls c.read.new.self) c.args.turns.now
           c.loop-piece.turns (c.loop-piece.turns - 1) i.spends c.in-Ok.ensures.calls (search rules);
       none_failed = search rules;
     }
+
+pub returns-in-Ok-eq0-clause-heard : goal.returns-in-Ok-eq0-clause-heard
+returns-in-Ok-eq0-clause-heard g c =
+    let (pieces, given, heard) = c.loop-piece.invariant.heard in
+    let before = g.R.Source.remaining c.loop-piece.reader in
+    let after = g.R.Source.remaining c.read.new.self in
+    let none : c.in-Ok-eq0.field-0 ≡ 0 = search rules in (
+      pieces,
+      record {
+        between = c.loop-piece.reader;
+        given = given;
+        over = (
+          subst (λ n. HasRead before after (take n c.read.new.into)) none
+              (reads_more before before after [] c.read.new.into c.in-Ok-eq0.field-0 (reads_none before) c.in-Ok-eq0.ensures.bytes),
+          c.in-Ok-eq0.ensures.calls,
+        );
+      },
+      λ front h. let (so_far, each) = heard front h in (tt, so_far, each),
+    )
+
+pub returns-in-Err-clause-heard : goal.returns-in-Err-clause-heard
+returns-in-Err-clause-heard g c =
+    let (pieces, given, heard) = c.loop-piece.invariant.heard in
+    let before = g.R.Source.remaining c.loop-piece.reader in (
+      pieces,
+      record {
+        between = c.loop-piece.reader;
+        given = given;
+        over = (
+          reads_failed before before (g.R.Source.remaining c.read.new.self) [] c.read.new.into c.in-Err.field-0 (reads_none before) c.in-Err.ensures.bytes,
+          c.in-Err.ensures.calls,
+        );
+      },
+      λ front h. let (so_far, each) = heard front h in (tt, so_far, each),
+    )
 
 pub returns-in-Ok-eq0-clause-turns : goal.returns-in-Ok-eq0-clause-turns
 returns-in-Ok-eq0-clause-turns g c = spends_one (g.R.Source.calls c.args.reader.now) (g.R.Source.calls c.loop-piece.reader) (g.R.Source.calls c.read.new.self)
@@ -61,23 +102,30 @@ returns-in-Err-hear_piece-clause-turns g c = spends_one (g.R.Source.calls c.args
 
 pub returns-in-Err-hear_piece-clause-heard : goal.returns-in-Err-hear_piece-clause-heard
 returns-in-Err-hear_piece-clause-heard g c =
-    let (came, read, heard) = c.loop-piece.invariant.heard in
+    let (pieces, given, heard) = c.loop-piece.invariant.heard in
     let into = c.read.new.into in
     let n = c.in-Ok.count in
-    let s = state_of c.args.client.now in (
-      came ++ take n into,
-      reads_more (g.R.Source.remaining c.args.reader.now) (g.R.Source.remaining c.loop-piece.reader)
-          (g.R.Source.remaining c.read.new.self) came into n read c.in-Ok.ensures.bytes,
+    let s = state_of c.args.client.now in
+    let error = c.in-Err-hear_piece.error in
+    let given_all = gives g.R.Source.remaining g.R.Source.calls g.R.Source.failures c.args.reader.now c.loop-piece.reader c.read.new.self pieces into n given
+    (search rules)
+    (search rules) (search rules)
+    (reads_more (g.R.Source.remaining c.loop-piece.reader) (g.R.Source.remaining c.loop-piece.reader) (g.R.Source.remaining c.read.new.self) [] into n
+    (reads_none (g.R.Source.remaining c.loop-piece.reader)) c.in-Ok.ensures.bytes) c.in-Ok.ensures.calls c.in-Ok.ensures.failures in (
+      pieces ++ take n into ∷ [],
+      only_pieces g.R.Source.remaining g.R.Source.calls g.R.Source.failures c.args.reader.now c.read.new.self (pieces ++ take n into ∷ [])
+          (is_of_last_read error) given_all (no_last_read error c.in-Err-hear_piece.ensures.fault_or_memory),
       λ front h.
-          let so_far = (heard front h).0 in
-          let error = c.in-Err-hear_piece.error in (
+          let (so_far, each) = heard front h in (
             tt,
-            stops_listening s c.hear_piece.new.client c.args.heard.now c.hear_piece.new.heard (front ++ (came ++ take n into)) error
+            subst (λ z. StopsListening s c.hear_piece.new.client c.args.heard.now c.hear_piece.new.heard (front ++ z) error)
+                (sym (concat_more pieces (take n into)))
+                (stops_listening s c.hear_piece.new.client c.args.heard.now c.hear_piece.new.heard (front ++ (concat pieces ++ take n into)) error
                 (stops_piece c.readings_go_on.ensures c.hearing_goes_on.ensures s c.loop-piece.client c.args.heard.now c.loop-piece.heard c.hear_piece.new.heard
-                front came (take n into) error so_far
+                front (concat pieces) (take n into) error so_far
                 (subst (λ z. StopsHearing (state_of c.loop-piece.client) c.loop-piece.heard c.hear_piece.new.heard (so_far.rest ++ z) error)
-                (search rules) (c.in-Err-hear_piece.ensures.refusal so_far.rest so_far.takes))),
-            waits_for_piece s c.loop-piece.client c.args.heard.now c.loop-piece.heard front came (take n into) so_far (search rules) (search rules),
+                (search rules) (c.in-Err-hear_piece.ensures.refusal so_far.rest so_far.takes)))),
+            waits_for_piece s c.loop-piece.client c.args.heard.now c.loop-piece.heard front pieces (take n into) so_far (search rules) each,
           ),
     )
 
@@ -85,3 +133,31 @@ pub returns-in-Err-hear_piece-clause-refusal : goal.returns-in-Err-hear_piece-cl
 returns-in-Err-hear_piece-clause-refusal g c = fails_reading (g.R.Source.failures c.args.reader.now) (g.R.Source.failures c.read.new.self)
     (g.R.Source.remaining c.args.reader.now) (g.R.Source.remaining c.read.new.self) (state_of c.hear_piece.new.client)
     c.in-Err-hear_piece.error c.in-Err-hear_piece.ensures.fault_or_memory
+
+pub returns-clause-heard : goal.returns-clause-heard
+returns-clause-heard g c =
+    let (pieces, given, heard) = c.loop-piece.invariant.heard in (
+      pieces,
+      only_pieces g.R.Source.remaining g.R.Source.calls g.R.Source.failures c.args.reader.now c.loop-piece.reader pieces false given refl,
+      λ front h. let (so_far, each) = heard front h in (so_far, tt, each),
+    )
+
+pub returns-then-turns-eq0-clause-heard : goal.returns-then-turns-eq0-clause-heard
+returns-then-turns-eq0-clause-heard g c =
+    let (pieces, given, heard) = c.loop-piece.invariant.heard in (
+      pieces,
+      only_pieces g.R.Source.remaining g.R.Source.calls g.R.Source.failures c.args.reader.now c.loop-piece.reader pieces false given refl,
+      λ front h. let (so_far, each) = heard front h in (tt, so_far, each),
+    )
+
+pub returns-in-Ok-eq0-clause-refusal : goal.returns-in-Ok-eq0-clause-refusal
+returns-in-Ok-eq0-clause-refusal g c =
+    let (pieces, given, heard) = c.loop-piece.invariant.heard in
+    let before = g.R.Source.remaining c.loop-piece.reader in
+    let after = g.R.Source.remaining c.read.new.self in (
+      end_after (g.R.Source.remaining c.args.reader.now) before after (concat pieces)
+          (all_read g.R.Source.remaining g.R.Source.calls g.R.Source.failures c.args.reader.now c.loop-piece.reader pieces given)
+          (reads_end before before after [] c.read.new.into c.in-Ok-eq0.field-0 (reads_none before) c.in-Ok-eq0.ensures.bytes (search rules)
+          (search rules)).1,
+      search rules,
+    )

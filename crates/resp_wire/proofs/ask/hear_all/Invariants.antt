@@ -1,15 +1,18 @@
 use Rattle.std.proofs.Common.{◌≡◌, ◌++◌, List, ℕ}
+use Rattle.std.specs.List.{concat}
 use Rattle.resp_client.specs.Clients.{state_of}
 use Rattle.resp_client.specs.Hearing.{WhereTaken}
-use Rattle.resp_wire.specs.Hearing.{HearsAll, WaitsForLast}
-use Rattle.resp_wire.specs.Turns.{HasRead, Spends}
+use Rattle.resp_wire.specs.Hearing.{HearsAll, WaitsBefore}
+use Rattle.resp_wire.specs.Pieces.{GivesPieces}
+use Rattle.resp_wire.specs.Turns.{Spends}
 use Rattle.resp_wire.proofs.ask.hear_all.Given as goal
 
 abbrev pub invariant-loop-piece : goal.invariant-loop-piece
 invariant-loop-piece g l = record {
-  heard : (came : List ℕ) × HasRead (g.R.Source.remaining l.fn.reader) (g.R.Source.remaining l.reader) came ×
-      WhereTaken l.fn.client (λ front. HearsAll (state_of l.fn.client) l.client l.fn.heard l.heard (front ++ came) ×
-      WaitsForLast (state_of l.fn.client) l.fn.heard front came);
+  heard : (pieces : List (List ℕ)) ×
+      GivesPieces g.R.Source.remaining g.R.Source.calls g.R.Source.failures l.fn.reader l.reader pieces ×
+      WhereTaken l.fn.client (λ front. HearsAll (state_of l.fn.client) l.client l.fn.heard l.heard (front ++ concat pieces) ×
+      WaitsBefore (state_of l.fn.client) l.fn.heard front pieces);
   spends : Spends (g.R.Source.calls l.fn.reader) (g.R.Source.calls l.reader) l.fn.turns l.turns;
   none_failed : g.R.Source.failures l.reader ≡ g.R.Source.failures l.fn.reader;
 }

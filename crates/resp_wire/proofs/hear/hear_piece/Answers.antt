@@ -14,7 +14,7 @@ loop-turn-preserved c = λ front h.
     hears_more c.readings_go_on.ensures c.hearing_goes_on.ensures (state_of c.args.client.now) c.loop-turn.client c.feed.new.self c.args.heard.now
     c.loop-turn.heard c.add.new.self front c.args.piece.now rest _ c.loop-turn.turn c.in-Ok.given.used c.in-Ok.given.what w
     (c.in-Ok.ensures.heard w.hears.rest w.hears.takes) c.in-Ok.ensures.only_replies_answer
-    (c.in-Ok.ensures.uses_bytes w.hears.rest w.hears.takes (search rules)) c.in-Ok.ensures.within_piece (search rules) (search rules)
+    (c.in-Ok.ensures.uses_bytes (search rules)) c.in-Ok.ensures.within_piece (search rules) (search rules)
 
 pub returns-then-is_empty-clause-heard : goal.returns-then-is_empty-clause-heard
 returns-then-is_empty-clause-heard c = λ front h.

@@ -1,12 +1,16 @@
 use Rattle.std.specs.Prelude.{⊤}
-use Rattle.std.proofs.Common.{rules, refl, [], ◌++◌, ◌≡◌, ap, subst, take, ◌∙◌}
+use Rattle.std.specs.List.{concat}
+use Rattle.std.proofs.Common.{rules, refl, Err, false, [], ◌∷◌, ◌++◌, ◌≡◌, ap, subst, sym, take, ◌∙◌}
 use Rattle.resp_server.specs.Handling.{HasAnswered, WhereOpen}
-use Rattle.resp_wire.specs.Serving.{FailsServing, IsNotAhead, Serves, StopsServing}
+use Rattle.resp_wire.specs.Serving.{AnswersBefore, FailsServing, Serves, StopsServing, is_of_reader}
+use Rattle.resp_wire.specs.Pieces.{ReadsNothing}
+use Rattle.resp_wire.specs.Turns.{HasRead}
+use Rattle.resp_wire.proofs.Pieces.{all_read, gives, halted, only_pieces}
 use Rattle.resp_wire.proofs.Seated.{at_open, where_open}
-use Rattle.resp_wire.proofs.ServedTexts.{all_written, none_ahead, open_is, piece_serves, piece_stops, sent_is_open, serves_nothing}
+use Rattle.resp_wire.proofs.ServedTexts.{nothing_before, open_is, piece_serves, piece_stops, sent_is_open, serves_nothing}
 use Rattle.resp_wire.proofs.ServeStops.{fails_reading, no_turn_to_read, stops_reading, stops_writing}
 use Rattle.resp_wire.proofs.Exchanges.{spends_writes}
-use Rattle.resp_wire.proofs.Turning.{end_behind, has_read_more, has_read_same, reads_none, spends_both, spends_nothing}
+use Rattle.resp_wire.proofs.Turning.{end_after, spends_both, spends_nothing}
 use Rattle.resp_wire.proofs.serve.serve_open.Goals as goal
 
 pub returns-in-Err-clause-served : goal.returns-in-Err-clause-served
@@ -18,14 +22,15 @@ returns-in-Err-clause-served g c =
     let held' = g.W.Sink.written c.write_out.new.writer in
     let (waits, some, sent) = c.in-Err.ensures.part in (
       [],
-      reads_none (g.R.Source.remaining c.args.reader.now),
+      only_pieces g.R.Source.remaining g.R.Source.calls g.R.Source.failures c.args.reader.now c.args.reader.now [] (is_of_reader c.in-Err.error) refl
+          c.in-Err.ensures.no_read,
       where_open old id _ (λ s here not_closing front taken. (
         tt,
         stops_writing old old new id s front [] held held' waits (g.W.Sink.failures c.args.writer.now) (g.W.Sink.failures c.write_out.new.writer)
             c.write_out.new.turns c.in-Err.error c.in-Err.ensures.refusal some
             (serves_nothing old new id s front held held' waits
             (at_open old id (λ t f. HasAnswered old old id t f 0) s front c.requires.waiting here not_closing taken) sent),
-        none_ahead old id s front held held' sent.text sent.appended,
+        nothing_before old id s front held held',
       )),
     )
 
@@ -40,9 +45,12 @@ loop-count-init g c =
     record {
       served = (
         [],
-        reads_none (g.R.Source.remaining c.args.reader.now),
-        where_open old id _ (λ s here not_closing front taken. serves_nothing old new id s front held held' []
-            (at_open old id (λ t f. HasAnswered old old id t f 0) s front c.requires.waiting here not_closing taken) sent),
+        refl,
+        where_open old id _ (λ s here not_closing front taken. (
+          serves_nothing old new id s front held held' []
+              (at_open old id (λ t f. HasAnswered old old id t f 0) s front c.requires.waiting here not_closing taken) sent,
+          nothing_before old id s front held held',
+        )),
       );
       is_open = sent_is_open old new id held held' [] c.requires.is_open sent;
       spends = spends_writes (g.W.Sink.calls c.args.writer.now) (g.W.Sink.calls c.write_out.new.writer) (g.R.Source.calls c.args.reader.now) c.args.turns.now
@@ -59,20 +67,29 @@ returns-in-Ok-eq0-clause-served g c =
     let held = g.W.Sink.written c.args.writer.now in
     let held' = g.W.Sink.written c.loop-count.writer in
     let none : c.in-Ok-eq0.field-0 ≡ 0 = search rules in
-    let (came, read, served) = c.loop-count.invariant.served in (
-      came,
-      has_read_same (g.R.Source.remaining c.args.reader.now) (g.R.Source.remaining c.loop-count.reader) (g.R.Source.remaining c.read_some.new.reader) came
-          (take c.in-Ok-eq0.field-0 c.read_some.new.into) (ap (λ n. take n c.read_some.new.into) none) read c.in-Ok-eq0.ensures.read,
+    let (pieces, given, served) = c.loop-count.invariant.served in (
+      pieces,
+      record {
+        between = c.loop-count.reader;
+        given = given;
+        over = (
+          subst (λ n. HasRead (g.R.Source.remaining c.loop-count.reader) (g.R.Source.remaining c.read_some.new.reader) (take n c.read_some.new.into)) none
+              c.in-Ok-eq0.ensures.read,
+          c.in-Ok-eq0.ensures.once,
+        );
+      },
       where_open old id _ (λ s here not_closing front taken.
-          let v = at_open old id (λ t f. Serves old cur id t (f ++ came) held held' []) s front served here not_closing taken in
-          (v, tt, all_written old cur id s front came held held' v c.loop-count.invariant.is_open)),
+          let (v, each) = at_open old id (λ t f. Serves old cur id t (f ++ concat pieces) held held' [] × AnswersBefore old id t f pieces held held') s front
+          served here not_closing taken in
+          (v, tt, each)),
     )
 
 pub returns-in-Ok-eq0-clause-end : goal.returns-in-Ok-eq0-clause-end
 returns-in-Ok-eq0-clause-end g c =
     let none : c.in-Ok-eq0.field-0 ≡ 0 = search rules in
-    let (came, read, served) = c.loop-count.invariant.served in (
-      end_behind (g.R.Source.remaining c.args.reader.now) (g.R.Source.remaining c.loop-count.reader) (g.R.Source.remaining c.read_some.new.reader) came read
+    let (pieces, given, served) = c.loop-count.invariant.served in (
+      end_after (g.R.Source.remaining c.args.reader.now) (g.R.Source.remaining c.loop-count.reader) (g.R.Source.remaining c.read_some.new.reader)
+          (concat pieces) (all_read g.R.Source.remaining g.R.Source.calls g.R.Source.failures c.args.reader.now c.loop-count.reader pieces given)
           (c.in-Ok-eq0.ensures.end (search rules) none),
       open_is c.loop-count.hub c.args.id c.loop-count.invariant.is_open,
     )
@@ -90,17 +107,24 @@ returns-in-Err-read_some-clause-served g c =
     let id = c.args.id in
     let held = g.W.Sink.written c.args.writer.now in
     let held' = g.W.Sink.written c.loop-count.writer in
-    let (came, read, served) = c.loop-count.invariant.served in (
-      came,
-      has_read_same (g.R.Source.remaining c.args.reader.now) (g.R.Source.remaining c.loop-count.reader) (g.R.Source.remaining c.read_some.new.reader) came
-          [] refl read c.in-Err-read_some.ensures.unread,
+    let (pieces, given, served) = c.loop-count.invariant.served in (
+      pieces,
+      record {
+        between = c.loop-count.reader;
+        given = given;
+        over = subst (ReadsNothing g.R.Source.remaining g.R.Source.calls c.loop-count.reader c.read_some.new.reader) (sym c.unread.ensures.of_reader)
+            (halted g.R.Source.remaining g.R.Source.calls c.loop-count.reader c.read_some.new.reader c.in-Err-read_some.halt
+            c.in-Err-read_some.ensures.unread (λ e. c.in-Err-read_some.ensures.failed_once (ap Err e))
+            (λ e. c.in-Err-read_some.ensures.not_once (ap Err e)));
+      },
       where_open old id _ (λ s here not_closing front taken.
-          let v = at_open old id (λ t f. Serves old cur id t (f ++ came) held held' []) s front served here not_closing taken in (
+          let (v, each) = at_open old id (λ t f. Serves old cur id t (f ++ concat pieces) held held' [] × AnswersBefore old id t f pieces held held') s front
+          served here not_closing taken in (
             tt,
-            stops_reading old cur id s front came held held' (g.R.Source.failures c.loop-count.reader) (g.R.Source.failures c.read_some.new.reader)
-                c.read_some.new.turns c.unread.result (c.unread.ensures.stops _ _ _ c.in-Err-read_some.ensures.halted)
-                (v, open_is cur id c.loop-count.invariant.is_open),
-            all_written old cur id s front came held held' v c.loop-count.invariant.is_open,
+            stops_reading old cur id s front (concat pieces) held held' (g.R.Source.failures c.loop-count.reader)
+                (g.R.Source.failures c.read_some.new.reader) c.read_some.new.turns c.unread.result
+                (c.unread.ensures.stops _ _ _ c.in-Err-read_some.ensures.halted) (v, open_is cur id c.loop-count.invariant.is_open),
+            each,
           )),
     )
 
@@ -127,19 +151,22 @@ returns-in-Err-read_some-clause-no_turn_left g c is =
 pub returns-in-Err-answer-clause-served : goal.returns-in-Err-answer-clause-served
 returns-in-Err-answer-clause-served g c =
     let id = c.args.id in
-    let (came, read, served) = c.loop-count.invariant.served in
+    let (pieces, given, served) = c.loop-count.invariant.served in
     let into = c.read_some.new.into in
     let n = c.in-Ok.count in
     let error = c.in-Err-answer.error in
     let held' = g.W.Sink.written c.loop-count.writer in
     let held'' = g.W.Sink.written c.answer.new.writer in
     let cur = c.loop-count.hub in
-    let new = c.answer.new.hub in (
-      came ++ take n into,
-      has_read_more (g.R.Source.remaining c.args.reader.now) (g.R.Source.remaining c.loop-count.reader) (g.R.Source.remaining c.read_some.new.reader) came
-          (take n into) read c.in-Ok.ensures.read,
-      piece_stops c.answers_go_on.ensures c.answers_are_added.ensures c.args.hub.now cur new id came (take n into)
-          (g.W.Sink.written c.args.writer.now) held' held'' error (search rules) served c.loop-count.invariant.is_open
+    let new = c.answer.new.hub in
+    let given_all = gives g.R.Source.remaining g.R.Source.calls g.R.Source.failures c.args.reader.now c.loop-count.reader c.read_some.new.reader pieces into n
+    given
+    c.in-Ok.ensures.within (search rules) (search rules) c.in-Ok.ensures.read c.in-Ok.ensures.once c.in-Ok.ensures.none_failed in (
+      pieces ++ take n into ∷ [],
+      only_pieces g.R.Source.remaining g.R.Source.calls g.R.Source.failures c.args.reader.now c.read_some.new.reader (pieces ++ take n into ∷ [])
+          (is_of_reader error) given_all c.in-Err-answer.ensures.no_read,
+      piece_stops c.answers_go_on.ensures c.answers_are_added.ensures c.args.hub.now cur new id pieces (take n into)
+          (g.W.Sink.written c.args.writer.now) held' held'' error served c.loop-count.invariant.is_open
           (subst (λ z. WhereOpen cur id (λ s front. ⊤ × StopsServing cur new id s front z held' held'' error)) c.front.ensures
           c.in-Err-answer.ensures.answered),
     )
@@ -152,18 +179,21 @@ returns-in-Err-answer-clause-turns g c = spends_both (g.W.Sink.calls c.args.writ
 pub returns-then-closing-clause-served : goal.returns-then-closing-clause-served
 returns-then-closing-clause-served g c =
     let id = c.args.id in
-    let (came, read, served) = c.loop-count.invariant.served in
+    let (pieces, given, served) = c.loop-count.invariant.served in
     let into = c.read_some.new.into in
     let n = c.in-Ok.count in
     let held' = g.W.Sink.written c.loop-count.writer in
     let held'' = g.W.Sink.written c.answer.new.writer in
     let cur = c.loop-count.hub in
-    let new = c.answer.new.hub in (
-      came ++ take n into,
-      has_read_more (g.R.Source.remaining c.args.reader.now) (g.R.Source.remaining c.loop-count.reader) (g.R.Source.remaining c.read_some.new.reader) came
-          (take n into) read c.in-Ok.ensures.read,
-      piece_serves c.answers_go_on.ensures c.answers_are_added.ensures c.args.hub.now cur new id came (take n into)
-          (g.W.Sink.written c.args.writer.now) held' held'' (search rules) served c.loop-count.invariant.is_open
+    let new = c.answer.new.hub in
+    let given_all = gives g.R.Source.remaining g.R.Source.calls g.R.Source.failures c.args.reader.now c.loop-count.reader c.read_some.new.reader pieces into n
+    given
+    c.in-Ok.ensures.within (search rules) (search rules) c.in-Ok.ensures.read c.in-Ok.ensures.once c.in-Ok.ensures.none_failed in (
+      pieces ++ take n into ∷ [],
+      only_pieces g.R.Source.remaining g.R.Source.calls g.R.Source.failures c.args.reader.now c.read_some.new.reader (pieces ++ take n into ∷ []) false
+          given_all refl,
+      piece_serves c.answers_go_on.ensures c.answers_are_added.ensures c.args.hub.now cur new id pieces (take n into)
+          (g.W.Sink.written c.args.writer.now) held' held'' served c.loop-count.invariant.is_open
           (subst (λ z. WhereOpen cur id (λ s front. Serves cur new id s (front ++ z) held' held'' [] × ⊤)) c.front.ensures
           c.in-Ok-answer.ensures.answered),
     )
@@ -177,24 +207,27 @@ pub loop-count-preserved : goal.loop-count-preserved
 loop-count-preserved g c =
     let old = c.args.hub.now in
     let id = c.args.id in
-    let (came, read, served) = c.loop-count.invariant.served in
+    let (pieces, given, served) = c.loop-count.invariant.served in
     let into = c.read_some.new.into in
     let n = c.in-Ok.count in
+    let more = pieces ++ take n into ∷ [] in
     let held = g.W.Sink.written c.args.writer.now in
     let held' = g.W.Sink.written c.loop-count.writer in
     let held'' = g.W.Sink.written c.answer.new.writer in
     let cur = c.loop-count.hub in
     let new = c.answer.new.hub in
-    let all = piece_serves c.answers_go_on.ensures c.answers_are_added.ensures old cur new id came (take n into) held held' held'' (search rules) served
+    let all = piece_serves c.answers_go_on.ensures c.answers_are_added.ensures old cur new id pieces (take n into) held held' held'' served
     c.loop-count.invariant.is_open
     (subst (λ z. WhereOpen cur id (λ s front. Serves cur new id s (front ++ z) held' held'' [] × ⊤)) c.front.ensures c.in-Ok-answer.ensures.answered) in
     record {
       served = (
-        came ++ take n into,
-        has_read_more (g.R.Source.remaining c.args.reader.now) (g.R.Source.remaining c.loop-count.reader) (g.R.Source.remaining c.read_some.new.reader) came
-            (take n into) read c.in-Ok.ensures.read,
-        where_open old id _ (λ s here not_closing front taken. (at_open old id (λ t f. Serves old new id t (f ++ (came ++ take n into)) held held'' [] × ⊤ ×
-            IsNotAhead old id t f (came ++ take n into) held held'') s front all here not_closing taken).0),
+        more,
+        gives g.R.Source.remaining g.R.Source.calls g.R.Source.failures c.args.reader.now c.loop-count.reader c.read_some.new.reader pieces into n given
+            c.in-Ok.ensures.within (search rules) (search rules) c.in-Ok.ensures.read c.in-Ok.ensures.once c.in-Ok.ensures.none_failed,
+        where_open old id _ (λ s here not_closing front taken.
+            let (v, _, each) = at_open old id (λ t f. Serves old new id t (f ++ concat more) held held'' [] × ⊤ × AnswersBefore old id t f more held held'') s
+            front all here not_closing taken in
+            (v, each)),
       );
       is_open = c.in-Ok-answer.ensures.is_open c.if-closing.false;
       spends = spends_both (g.W.Sink.calls c.args.writer.now) (g.W.Sink.calls c.loop-count.writer) (g.W.Sink.calls c.answer.new.writer)

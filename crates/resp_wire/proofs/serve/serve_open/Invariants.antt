@@ -1,14 +1,17 @@
+use Rattle.std.specs.List.{concat}
 use Rattle.std.proofs.Common.{◌≡◌, ◌++◌, List, ℕ, []}
 use Rattle.resp_server.specs.Handling.{WhereOpen}
 use Rattle.resp_wire.specs.Asking.{SpendsTurns}
-use Rattle.resp_wire.specs.Serving.{IsOpen, Serves}
-use Rattle.resp_wire.specs.Turns.{HasRead}
+use Rattle.resp_wire.specs.Pieces.{GivesPieces}
+use Rattle.resp_wire.specs.Serving.{AnswersBefore, IsOpen, Serves}
 use Rattle.resp_wire.proofs.serve.serve_open.Given as goal
 
 abbrev pub invariant-loop-count : goal.invariant-loop-count
 invariant-loop-count g l = record {
-  served : (came : List ℕ) × HasRead (g.R.Source.remaining l.fn.reader) (g.R.Source.remaining l.reader) came ×
-      WhereOpen l.fn.hub (l.fn.id) (λ s front. Serves l.fn.hub l.hub l.fn.id s (front ++ came) (g.W.Sink.written l.fn.writer) (g.W.Sink.written l.writer) []);
+  served : (pieces : List (List ℕ)) ×
+      GivesPieces g.R.Source.remaining g.R.Source.calls g.R.Source.failures l.fn.reader l.reader pieces ×
+      WhereOpen l.fn.hub l.fn.id (λ s front. Serves l.fn.hub l.hub l.fn.id s (front ++ concat pieces) (g.W.Sink.written l.fn.writer)
+      (g.W.Sink.written l.writer) [] × AnswersBefore l.fn.hub l.fn.id s front pieces (g.W.Sink.written l.fn.writer) (g.W.Sink.written l.writer));
   is_open : IsOpen l.hub l.fn.id;
   spends : SpendsTurns (g.W.Sink.calls l.fn.writer) (g.W.Sink.calls l.writer) (g.R.Source.calls l.fn.reader) (g.R.Source.calls l.reader) l.fn.turns l.turns;
   writes : g.W.Sink.failures l.writer ≡ g.W.Sink.failures l.fn.writer;

@@ -10,10 +10,10 @@ loop-count-preserved g c =
     let text = c.args.text.now in
     let count = c.loop-count.count in
     record {
-      within = omega (arith, i.within, c.in-Ok.ensures.within, ap length c.behind.ensures, length-drop count text);
+      within = omega (arith, i.within, c.in-Ok.ensures.within, ap length c.beyond.ensures, length-drop count text);
       appended = appends_part (g.W.Sink.written c.args.writer.now) (g.W.Sink.written c.loop-count.writer) (g.W.Sink.written c.write.new.self) text count
           c.in-Ok.more i.appended
-          (subst (λ z. Appends (g.W.Sink.written c.loop-count.writer) (g.W.Sink.written c.write.new.self) (take c.in-Ok.more z)) c.behind.ensures
+          (subst (λ z. Appends (g.W.Sink.written c.loop-count.writer) (g.W.Sink.written c.write.new.self) (take c.in-Ok.more z)) c.beyond.ensures
           c.in-Ok.ensures.bytes);
       spends = spends_one (g.W.Sink.calls c.args.writer.now) (g.W.Sink.calls c.loop-count.writer) (g.W.Sink.calls c.write.new.self) c.args.turns.now
           c.loop-count.turns (c.loop-count.turns - 1) i.spends c.in-Ok.ensures.calls (search rules);

@@ -1,7 +1,7 @@
 use Rattle.std.proofs.Common.{◌≡◌, ◌++◌, [], length, ap, sym, subst, ◌∙◌, refl, arith}
 use Rattle.resp_session.specs.Reading.{IsUnasked}
 use Rattle.resp_client.specs.Clients.{state_of}
-use Rattle.resp_client.proofs.Fronts.{begun_asked, begun_version, no_bytes}
+use Rattle.resp_client.proofs.Fronts.{begun_asked, begun_version, in_version, no_bytes}
 use Rattle.resp_client.proofs.client.Client.begin.Goals as goal
 
 pub returns-then-taken-ne0-clause-begun : goal.returns-then-taken-ne0-clause-begun
@@ -24,3 +24,12 @@ returns-then-is_unasked-clause-unasked c = λ front h.
       cause = refl;
       at = refl;
     }
+
+pub invariant_of-self-clause-reading : goal.invariant_of-self-clause-reading
+invariant_of-self-clause-reading c =
+    let old = c.args.self.now in
+    let zero : c.taken.result ≡ 0 = omega (arith, c.if-taken-ne0.false) in
+    in_version old.limits (state_of old).waiting c.reading_version-version.result old.decoder c.set_version-changed.new.self old.fault
+    c.set_version-changed.result old.reading
+    (λ front h. no_bytes front (sym (c.taken.ensures.length_of_front front h.taken) ∙ zero))
+    c.set_version-changed.ensures.only_between_values c.set_version-changed.ensures.nothing_taken c.set_version-changed.ensures.new_version

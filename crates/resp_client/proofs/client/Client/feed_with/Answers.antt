@@ -1,8 +1,10 @@
 use Rattle.std.proofs.Common.{rules, ◌≡◌, ◌+◌, ◌++◌, take, ap, subst, inl, inr, refl}
 use Rattle.resp_value.specs.Values.{datum_of}
 use Rattle.resp_value.specs.declared.value.Value.TheVariants as value
+use Rattle.resp_scan.specs.declared.event.Fault.{Fault}
 use Rattle.resp_client.specs.Clients.{state_of}
-use Rattle.resp_client.specs.Hearing.{GivesPush, Hears, UnlessReplied}
+use Rattle.resp_client.specs.Hearing.{GivesPush, HasFault, Hears, UnlessReplied}
+use Rattle.resp_client.proofs.Answering.{loses_within, no_fault}
 use Rattle.resp_client.proofs.client.Client.feed_with.Goals as goal
 
 pub returns-in-Err-clause-refusal : goal.returns-in-Err-clause-refusal
@@ -31,3 +33,20 @@ returns-clause-heard g c = λ front h.
     let given : GivesPush c.args.self.now c.feed.new.self (front ++ take c.in-Ok.heard.used c.args.piece.now) (datum_of (value.Push c.in-Push.items)) =
     subst (Hears c.args.self.now c.feed.new.self front c.args.piece.now c.in-Ok.heard.used) c.in-Push.is (c.in-Ok.ensures.heard front h) in
     (c.in-Push.items, search rules, given)
+
+pub invariant_of-self-clause-reading : goal.invariant_of-self-clause-reading
+invariant_of-self-clause-reading g c =
+    let old = c.args.self.now in
+    let piece = c.args.piece.now in
+    let same : state_of c.feed.new.self ≡ state_of old =
+    subst (λ what. UnlessReplied what (state_of c.feed.new.self ≡ state_of old)) c.in-Push.is c.in-Ok.ensures.only_replies_answer in
+    let never : (fault : Fault) → HasFault old fault → ⊥ = λ fault stands. let wrong = c.feed.ensures.fault_is_final fault stands in search rules in
+    ∣ inr (
+      _,
+      (
+        refl,
+        loses_within old c.feed.new.self c.taken-taken.result c.in-Ok.heard.used piece (datum_of (value.Push c.in-Push.items)) old.reading (no_fault old never)
+            (λ front h. c.taken-taken.ensures.length_of_front front h.taken)
+            (λ front h. subst (Hears old c.feed.new.self front piece c.in-Ok.heard.used) c.in-Push.is (c.in-Ok.ensures.heard front h)) c.in-Ok.ensures.within_piece same,
+      ),
+    ) ∣₁

@@ -1,4 +1,3 @@
-use Rattle.std.proofs.Common.{OnOk}
 use Rattle.resp_client.proofs.Outcomes.{always, words_have_bytes}
 use Rattle.resp_client.proofs.client.Client.send.Goals as goal
 

@@ -5,7 +5,7 @@ use Rattle.resp_scan.specs.Kinds.{rules_of}
 use Rattle.resp_decode.specs.Decoding.{LacksMemory, RefusesByte}
 use Rattle.resp_decode.specs.Hearing.{HasHeard}
 use Rattle.resp_decode.specs.Holding.{maybe_datum}
-use Rattle.resp_decode.proofs.Feeding.{gives_value, holds_some_value, refuses_or_lacks}
+use Rattle.resp_decode.proofs.Feeding.{gives_value, holds_some_value, reads_on_inside, reads_on_whole, refuses_or_lacks, some_used}
 use Rattle.resp_decode.proofs.decoder.Decoder.feed.Goals as goal
 
 pub returns-in-Err-clause-refusal : goal.returns-in-Err-clause-refusal
@@ -33,8 +33,9 @@ returns-clause-value_whole c = λ front w x is.
     let written = front ++ take c.in-Ok.scanned.used c.args.piece.now in
     let whole : c.in-Ok.scanned.is_whole ≡ true = search rules in
     let heard = c.in-Ok.ensures.value_whole tt front w.given w.reads w.heard whole in
-    gives_value r c.scan.new.self c.scan.new.listener c.take_whole-value.new.self written x heard
-    (ap maybe_datum (sym is) ∙ c.take_whole-value.ensures.taken) c.take_whole-value.ensures.holds c.take_whole-value.ensures.weighs
+    let given = gives_value r c.scan.new.self c.scan.new.listener c.take_whole-value.new.self written x heard
+    (ap maybe_datum (sym is) ∙ c.take_whole-value.ensures.taken) c.take_whole-value.ensures.holds c.take_whole-value.ensures.weighs in
+    record { spelling = given.spelling; takes = given.takes }
 
 pub returns-clause-used_up : goal.returns-clause-used_up
 returns-clause-used_up c = λ front w none.
@@ -45,7 +46,29 @@ returns-clause-used_up c = λ front w none.
     absurd (holds_some_value r c.scan.new.self c.scan.new.listener written heard (sym c.take_whole-value.ensures.taken ∙ ap maybe_datum none))
 
 pub returns-then-not-scanned-clause-uses_bytes : goal.returns-then-not-scanned-clause-uses_bytes
-returns-then-not-scanned-clause-uses_bytes c = λ front w. c.in-Ok.ensures.uses_bytes tt front w.given w.reads w.heard w.no_value
+returns-then-not-scanned-clause-uses_bytes c = some_used c.args.self.now.scanner c.args.self.now.held c.args.piece.now c.in-Ok.scanned.used
+    c.args.self.now.reading (λ fault stands. let wrong = (c.scan.ensures.fault_is_final fault stands).0 in search rules) c.in-Ok.ensures.uses_bytes
 
 pub returns-clause-uses_bytes : goal.returns-clause-uses_bytes
-returns-clause-uses_bytes c = λ front w. c.in-Ok.ensures.uses_bytes tt front w.given w.reads w.heard w.no_value
+returns-clause-uses_bytes c = some_used c.args.self.now.scanner c.args.self.now.held c.args.piece.now c.in-Ok.scanned.used
+    c.args.self.now.reading (λ fault stands. let wrong = (c.scan.ensures.fault_is_final fault stands).0 in search rules) c.in-Ok.ensures.uses_bytes
+
+pub invariant_of-self-then-not-scanned : goal.invariant_of-self-then-not-scanned
+invariant_of-self-then-not-scanned c =
+    let inside : c.in-Ok.scanned.is_whole ≡ false = search rules in
+    record {
+      reading = reads_on_inside c.args.self.now.scanner c.scan.new.self c.args.self.now.held c.scan.new.listener c.args.piece.now c.args.self.now.reading
+          (λ fault stands. let wrong = (c.scan.ensures.fault_is_final fault stands).0 in search rules)
+          (λ since front given reads heard. c.in-Ok.ensures.used_up since front given reads heard inside);
+    }
+
+pub invariant_of-self-2 : goal.invariant_of-self-2
+invariant_of-self-2 c =
+    let whole : c.in-Ok.scanned.is_whole ≡ true = search rules in
+    record {
+      reading = reads_on_whole c.args.self.now.scanner c.scan.new.self c.args.self.now.held c.scan.new.listener c.take_whole-value.new.self
+          (rules_of c.args.self.now.scanner) c.args.piece.now c.in-Ok.scanned.used c.args.self.now.reading
+          (λ fault stands. let wrong = (c.scan.ensures.fault_is_final fault stands).0 in search rules)
+          (λ since front given reads heard. c.in-Ok.ensures.value_whole since front given reads heard whole)
+          c.take_whole-value.ensures.holds c.take_whole-value.ensures.weighs;
+    }

@@ -4,4 +4,4 @@ use Rattle.resp_decode.proofs.decoder.Decoder.finish.Goals as goal
 
 pub returns-clause-only_between_values : goal.returns-clause-only_between_values
 returns-clause-only_between_values c = λ front w.
-    ends_between_values c.args.self.now front (IsOk c.finish.result) w (c.finish.ensures.may_end front w.given w.reads)
+    ends_between_values c.args.self.now.scanner c.args.self.now.held front (IsOk c.finish.result) w (c.finish.ensures.may_end front w.given w.reads)

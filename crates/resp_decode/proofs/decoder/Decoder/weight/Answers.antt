@@ -7,10 +7,10 @@ pub returns-clause-weight_of_front : goal.returns-clause-weight_of_front
 returns-clause-weight_of_front c = λ front w. (
   w.given,
   w.all_due,
-  c.weight.ensures ∙ (is_light c.args.self.now front w (c.taken-taken.ensures.viable front w.given w.reads)).same ∙
+  c.weight.ensures ∙ (is_light c.args.self.now.scanner c.args.self.now.held front w (c.taken-taken.ensures.viable front w.given w.reads)).same ∙
       ap weight_of w.heard.holds,
 )
 
 pub returns-clause-at_most_taken : goal.returns-clause-at_most_taken
 returns-clause-at_most_taken c = λ front w.
-    subst (λ n. n ≤ length front) (sym c.weight.ensures) (is_light c.args.self.now front w (c.taken-taken.ensures.viable front w.given w.reads)).light
+    subst (λ n. n ≤ length front) (sym c.weight.ensures) (is_light c.args.self.now.scanner c.args.self.now.held front w (c.taken-taken.ensures.viable front w.given w.reads)).light

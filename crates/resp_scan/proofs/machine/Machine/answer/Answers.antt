@@ -11,7 +11,7 @@ use Rattle.resp_scan.proofs.Soundness.Pieces.{used_within, few_taken, part_some,
 use Rattle.resp_scan.proofs.Soundness.Counted.{place_counted}
 use Rattle.resp_scan.proofs.CallClauses.Told.{told, part_heard, digit_heard, done_heard, run_length, run_is, digit_is}
 use Rattle.resp_scan.proofs.machine.Machine.answer.Goals as goal
-use Rattle.resp_scan.proofs.machine.Machine.answer.Goals.{in-More, in-Null, in-Bool, in-Int, in-Simple, in-Error, in-Bulk, in-BulkError, in-Verbatim, in-Big, in-Part, in-ChunkPart, in-Digit, in-TextEnd, in-Open, in-OpenStreamed, in-Close, in-Done}
+use Rattle.resp_scan.proofs.machine.Machine.answer.Goals.{in-More, in-Null, in-Bool, in-Int, in-Simple, in-Error, in-Double, in-Bulk, in-BulkError, in-Verbatim, in-Big, in-Part, in-ChunkPart, in-Digit, in-TextEnd, in-Open, in-OpenStreamed, in-Close, in-Done}
 
 pub overflow_add-self : goal.overflow_add-self
 overflow_add-self c = omega (arith, few_taken c.args.got c.args.self.now c.requires.0 c.args.piece.now c.requires.1 c.requires.2)
@@ -59,6 +59,7 @@ returns-clause-heard c s h e =
           Gave g.used (Int m.value) (after_bytes g.used (place_of m)) = rw w.event-is (search rules) in told g m s p tag.Int c.match-got.event e w.in-Int.is q
       | in-Simple w ↦ rw w.event-is (told g m s p tag.Simple (Some (event.Text text.Simple)) e w.in-Simple.is refl)
       | in-Error w ↦ rw w.event-is (told g m s p tag.Error (Some (event.Text text.Error)) e w.in-Error.is refl)
+      | in-Double w ↦ rw w.event-is (told g m s p tag.Double (Some (event.Text text.Double)) e w.in-Double.is refl)
       | in-Bulk w ↦ rw w.event-is (told g m s p tag.Bulk (Some (event.Text text.Bulk)) e w.in-Bulk.is refl)
       | in-BulkError w ↦ rw w.event-is (told g m s p tag.BulkError (Some (event.Text text.BulkError)) e w.in-BulkError.is refl)
       | in-Verbatim w ↦ rw w.event-is (told g m s p tag.Verbatim (Some (event.Text (text.Verbatim m.format))) e w.in-Verbatim.is refl)
@@ -96,6 +97,7 @@ returns-clause-lent c =
       | in-Int w ↦ rw w.event-is tt
       | in-Simple w ↦ rw w.event-is tt
       | in-Error w ↦ rw w.event-is tt
+      | in-Double w ↦ rw w.event-is tt
       | in-Bulk w ↦ rw w.event-is tt
       | in-BulkError w ↦ rw w.event-is tt
       | in-Verbatim w ↦ rw w.event-is tt

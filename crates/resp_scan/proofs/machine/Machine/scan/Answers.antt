@@ -13,7 +13,7 @@ use Rattle.resp_scan.specs.Reading.{IsFaulted}
 use Rattle.resp_scan.proofs.CallClauses.Calls.{is_text}
 use Rattle.resp_scan.proofs.CallClauses.Loops.{Runs, fault_again, less_work, piece_heard, refusal_heard, runs_on, same_fault, stop_heard, value_heard, work_left}
 use Rattle.resp_scan.proofs.CallClauses.Turns.{is_ended}
-use Rattle.resp_scan.proofs.CallClauses.WholeTexts.{text_behind}
+use Rattle.resp_scan.proofs.CallClauses.WholeTexts.{text_after}
 use Rattle.resp_scan.proofs.machine.Machine.scan.Given as given
 use Rattle.resp_scan.proofs.machine.Machine.scan.Goals as goal
 
@@ -22,7 +22,7 @@ went_on : (g : given.Over) (c : goal.Then-begins_anew g) → Runs g.L.Listener.O
     (g.L.Listener.has_heard c.args.listener.now) (g.L.Listener.has_heard c.turn-turned.new.listener) c.args.piece.now
     (c.loop-self.used + c.turn-turned.result.used)
 went_on g c =
-    let v = rw c.behind.ensures at c.turn-turned.ensures.is_turn in
+    let v = rw c.beyond.ensures at c.turn-turned.ensures.is_turn in
     runs_on (place_of c.args.self.now) (place_of c.loop-self.self) (place_of c.turn-turned.new.self)
     (g.L.Listener.has_heard c.args.listener.now) (g.L.Listener.has_heard c.loop-self.listener) (g.L.Listener.has_heard c.turn-turned.new.listener)
     (g.L.Listener.has_stopped c.turn-turned.new.listener) c.args.piece.now c.loop-self.used c.turn-turned.result c.loop-self.invariant v c.in-On.is
@@ -35,9 +35,9 @@ ended : (g : given.Over) (c : goal.Then-begins_anew g) → IsTurn g.L.Listener.O
 ended g c =
     is_ended c.begins_anew.new.self (place_of c.turn-turned.new.self) (drop (c.loop-self.used + c.turn-turned.result.used) c.args.piece.now)
     (g.L.Listener.has_heard c.turn-turned.new.listener) (g.L.Listener.has_stopped c.turn-turned.new.listener)
-    (text_behind (c.loop-self.used + c.turn-turned.result.used) c.args.piece.now (is_text c.args.piece.now (λ i. (c.type_inv.piece i).fits)))
+    (text_after (c.loop-self.used + c.turn-turned.result.used) c.args.piece.now (is_text c.args.piece.now (λ i. (c.type_inv.piece i).fits)))
     (went_on g c).sound
-    (subst (λ p. out_by tag.Done 0 c.begins_anew.new.self ≡ out_from (place_of c.turn-turned.new.self) p) c.behind-in-On.ensures
+    (subst (λ p. out_by tag.Done 0 c.begins_anew.new.self ≡ out_from (place_of c.turn-turned.new.self) p) c.beyond-in-On.ensures
     (c.begins_anew.ensures.ended c.if-begins_anew.true))
 
 pub returns-then-begins_anew-clause-sound : goal.returns-then-begins_anew-clause-sound
@@ -64,7 +64,7 @@ returns-then-begins_anew-clause-fault_is_final g c fault f =
 
 pub loop-self-smaller : goal.loop-self-smaller
 loop-self-smaller g c =
-    let v = rw c.behind.ensures at c.turn-turned.ensures.is_turn in
+    let v = rw c.beyond.ensures at c.turn-turned.ensures.is_turn in
     subst (λ m. work_left (place_of m) c.args.piece.now (c.loop-self.used + c.turn-turned.result.used) <
     work_left (place_of c.loop-self.self) c.args.piece.now c.loop-self.used) (sym (c.begins_anew.ensures.unchanged c.if-begins_anew.false))
     (less_work (place_of c.loop-self.self) (place_of c.turn-turned.new.self) (g.L.Listener.has_heard c.loop-self.listener)
@@ -73,7 +73,7 @@ loop-self-smaller g c =
 
 pub loop-self-preserved : goal.loop-self-preserved
 loop-self-preserved g c =
-    let v = rw c.behind.ensures at c.turn-turned.ensures.is_turn in
+    let v = rw c.beyond.ensures at c.turn-turned.ensures.is_turn in
     subst (λ m. Runs g.L.Listener.Origin (place_of c.args.self.now) (place_of m) (g.L.Listener.has_heard c.args.listener.now)
     (g.L.Listener.has_heard c.turn-turned.new.listener) c.args.piece.now (c.loop-self.used + c.turn-turned.result.used))
     (sym (c.begins_anew.ensures.unchanged c.if-begins_anew.false))
@@ -83,12 +83,12 @@ loop-self-preserved g c =
 
 pub returns-in-More-clause-whole_piece : goal.returns-in-More-clause-whole_piece
 returns-in-More-clause-whole_piece g c none =
-    let v = rw c.behind.ensures at c.turn-turned.ensures.is_turn in
+    let v = rw c.beyond.ensures at c.turn-turned.ensures.is_turn in
     omega (arith, v.whole_piece c.in-More.is, length-drop c.loop-self.used c.args.piece.now, c.loop-self.invariant.within)
 
 pub returns-in-More-clause-used_up : goal.returns-in-More-clause-used_up
 returns-in-More-clause-used_up g c since front given w had none =
-    let v = rw c.behind.ensures at c.turn-turned.ensures.is_turn in
+    let v = rw c.beyond.ensures at c.turn-turned.ensures.is_turn in
     piece_heard (place_of c.args.self.now) (place_of c.loop-self.self) (place_of c.turn-turned.new.self)
     (g.L.Listener.has_heard c.args.listener.now) (g.L.Listener.has_heard c.loop-self.listener) (g.L.Listener.has_heard c.turn-turned.new.listener)
     (g.L.Listener.has_stopped c.turn-turned.new.listener) c.args.piece.now c.loop-self.used c.turn-turned.result c.loop-self.invariant v c.in-More.is
@@ -96,7 +96,7 @@ returns-in-More-clause-used_up g c since front given w had none =
 
 pub returns-in-Done-clause-value_whole : goal.returns-in-Done-clause-value_whole
 returns-in-Done-clause-value_whole g c since front given w had whole =
-    let v = rw c.behind.ensures at c.turn-turned.ensures.is_turn in
+    let v = rw c.beyond.ensures at c.turn-turned.ensures.is_turn in
     value_heard (place_of c.args.self.now) (place_of c.loop-self.self) (place_of c.turn-turned.new.self)
     (g.L.Listener.has_heard c.args.listener.now) (g.L.Listener.has_heard c.loop-self.listener) (g.L.Listener.has_heard c.turn-turned.new.listener)
     (g.L.Listener.has_stopped c.turn-turned.new.listener) c.args.piece.now c.loop-self.used c.turn-turned.result c.loop-self.invariant v c.in-Done.is
@@ -104,7 +104,7 @@ returns-in-Done-clause-value_whole g c since front given w had whole =
 
 pub returns-in-More-clause-fault_is_final : goal.returns-in-More-clause-fault_is_final
 returns-in-More-clause-fault_is_final g c fault f =
-    let v = rw c.behind.ensures at c.turn-turned.ensures.is_turn in
+    let v = rw c.beyond.ensures at c.turn-turned.ensures.is_turn in
     let again = fault_again (place_of c.args.self.now) (place_of c.loop-self.self) (place_of c.turn-turned.new.self)
     (g.L.Listener.has_heard c.args.listener.now) (g.L.Listener.has_heard c.loop-self.listener) (g.L.Listener.has_heard c.turn-turned.new.listener)
     (g.L.Listener.has_stopped c.turn-turned.new.listener) c.args.piece.now c.loop-self.used c.turn-turned.result fault c.loop-self.invariant v f in
@@ -112,7 +112,7 @@ returns-in-More-clause-fault_is_final g c fault f =
 
 pub returns-in-Done-clause-fault_is_final : goal.returns-in-Done-clause-fault_is_final
 returns-in-Done-clause-fault_is_final g c fault f =
-    let v = rw c.behind.ensures at c.turn-turned.ensures.is_turn in
+    let v = rw c.beyond.ensures at c.turn-turned.ensures.is_turn in
     let again = fault_again (place_of c.args.self.now) (place_of c.loop-self.self) (place_of c.turn-turned.new.self)
     (g.L.Listener.has_heard c.args.listener.now) (g.L.Listener.has_heard c.loop-self.listener) (g.L.Listener.has_heard c.turn-turned.new.listener)
     (g.L.Listener.has_stopped c.turn-turned.new.listener) c.args.piece.now c.loop-self.used c.turn-turned.result fault c.loop-self.invariant v f in
@@ -120,7 +120,7 @@ returns-in-Done-clause-fault_is_final g c fault f =
 
 pub returns-in-Stopped-clause-fault_is_final : goal.returns-in-Stopped-clause-fault_is_final
 returns-in-Stopped-clause-fault_is_final g c fault f =
-    let v = rw c.behind.ensures at c.turn-turned.ensures.is_turn in
+    let v = rw c.beyond.ensures at c.turn-turned.ensures.is_turn in
     let again = fault_again (place_of c.args.self.now) (place_of c.loop-self.self) (place_of c.turn-turned.new.self)
     (g.L.Listener.has_heard c.args.listener.now) (g.L.Listener.has_heard c.loop-self.listener) (g.L.Listener.has_heard c.turn-turned.new.listener)
     (g.L.Listener.has_stopped c.turn-turned.new.listener) c.args.piece.now c.loop-self.used c.turn-turned.result fault c.loop-self.invariant v f in
@@ -128,7 +128,7 @@ returns-in-Stopped-clause-fault_is_final g c fault f =
 
 pub returns-in-Failed-clause-fault_is_final : goal.returns-in-Failed-clause-fault_is_final
 returns-in-Failed-clause-fault_is_final g c fault f =
-    let v = rw c.behind.ensures at c.turn-turned.ensures.is_turn in
+    let v = rw c.beyond.ensures at c.turn-turned.ensures.is_turn in
     let again = fault_again (place_of c.args.self.now) (place_of c.loop-self.self) (place_of c.turn-turned.new.self)
     (g.L.Listener.has_heard c.args.listener.now) (g.L.Listener.has_heard c.loop-self.listener) (g.L.Listener.has_heard c.turn-turned.new.listener)
     (g.L.Listener.has_stopped c.turn-turned.new.listener) c.args.piece.now c.loop-self.used c.turn-turned.result fault c.loop-self.invariant v f in (
@@ -140,7 +140,7 @@ returns-in-Failed-clause-fault_is_final g c fault f =
 
 pub returns-in-Failed-clause-refusal : goal.returns-in-Failed-clause-refusal
 returns-in-Failed-clause-refusal g c since front given w had =
-    let v = rw c.behind.ensures at c.turn-turned.ensures.is_turn in
+    let v = rw c.beyond.ensures at c.turn-turned.ensures.is_turn in
     refusal_heard (place_of c.args.self.now) (place_of c.loop-self.self) (place_of c.turn-turned.new.self)
     (g.L.Listener.has_heard c.args.listener.now) (g.L.Listener.has_heard c.loop-self.listener) (g.L.Listener.has_heard c.turn-turned.new.listener)
     (g.L.Listener.has_stopped c.turn-turned.new.listener) c.args.piece.now c.loop-self.used c.turn-turned.result c.turn-turned.new.self.cause
@@ -149,7 +149,7 @@ returns-in-Failed-clause-refusal g c since front given w had =
 
 pub returns-in-Stopped-clause-stopped : goal.returns-in-Stopped-clause-stopped
 returns-in-Stopped-clause-stopped g c since front given w had =
-    let v = rw c.behind.ensures at c.turn-turned.ensures.is_turn in
+    let v = rw c.beyond.ensures at c.turn-turned.ensures.is_turn in
     rw c.stop.ensures (stop_heard (place_of c.args.self.now) (place_of c.loop-self.self) (place_of c.turn-turned.new.self)
     (g.L.Listener.has_heard c.args.listener.now) (g.L.Listener.has_heard c.loop-self.listener) (g.L.Listener.has_heard c.turn-turned.new.listener)
     (g.L.Listener.has_stopped c.turn-turned.new.listener) c.args.piece.now c.loop-self.used c.turn-turned.result c.loop-self.invariant v

@@ -20,6 +20,13 @@ returns-in-45 c =
     let b : get_or p 0 0 ≡ 45 = grind (arith, common_steps) in
     c.line_begins-in-45.ensures.error (drop 1 p) refl ∙ first_is (place_of c.args.self.now) p 45 l b
 
+pub returns-in-44 : goal.returns-in-44
+returns-in-44 c =
+    let p = c.args.piece.now in
+    let l : 0 < length p = grind (arith, common_steps) in
+    let b : get_or p 0 0 ≡ 44 = grind (arith, common_steps) in
+    c.double_begins.ensures (drop 1 p) ∙ first_is (place_of c.args.self.now) p 44 l b
+
 pub returns-in-Three : goal.returns-in-Three
 returns-in-Three c =
     let s = place_of c.args.self.now in

@@ -76,6 +76,11 @@ returns-in-Error-clause-is_turn g c s sound out =
     tells tag.Error c.args.taken c.args.self.now s c.args.rest.now _ tt (is_text c.args.rest.now (λ i. (c.type_inv.rest i).fits)) c.in-Error.is sound out
     c.told-in-Error.ensures.told c.text-in-Error.ensures
 
+pub returns-in-Double-clause-is_turn : goal.returns-in-Double-clause-is_turn
+returns-in-Double-clause-is_turn g c s sound out =
+    tells tag.Double c.args.taken c.args.self.now s c.args.rest.now _ tt (is_text c.args.rest.now (λ i. (c.type_inv.rest i).fits)) c.in-Double.is sound out
+    c.told-in-Double.ensures.told c.text-in-Double.ensures
+
 pub returns-in-Bulk-clause-is_turn : goal.returns-in-Bulk-clause-is_turn
 returns-in-Bulk-clause-is_turn g c s sound out =
     tells tag.Bulk c.args.taken c.args.self.now s c.args.rest.now _ tt (is_text c.args.rest.now (λ i. (c.type_inv.rest i).fits)) c.in-Bulk.is sound out

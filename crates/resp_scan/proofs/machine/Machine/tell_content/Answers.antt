@@ -4,8 +4,8 @@ use Rattle.resp_scan.proofs.CallClauses.WholeTexts.{content_turn}
 use Rattle.resp_scan.proofs.Soundness.Pieces.{used_within, few_taken}
 use Rattle.resp_scan.proofs.machine.Machine.tell_content.Goals as goal
 
-pub behind-after-requires : goal.behind-after-requires
-behind-after-requires g c = (used_within c.args.taken c.args.self.now c.requires.whole.0 c.args.rest.now c.requires.whole.1 c.requires.whole.2).0
+pub beyond-after-requires : goal.beyond-after-requires
+beyond-after-requires g c = (used_within c.args.taken c.args.self.now c.requires.whole.0 c.args.rest.now c.requires.whole.1 c.requires.whole.2).0
 
 pub tell_whole-requires-clause-few : goal.tell_whole-requires-clause-few
 tell_whole-requires-clause-few g c = omega (
@@ -19,7 +19,7 @@ tell-requires g c = c.requires.whole
 
 pub returns-in-Some-clause-is_turn : goal.returns-in-Some-clause-is_turn
 returns-in-Some-clause-is_turn g c s sound out =
-    let told = rw c.behind-after.ensures at c.in-Some.ensures.content in
+    let told = rw c.beyond-after.ensures at c.in-Some.ensures.content in
     let h = c.tell_whole.ensures.turn in
     content_turn s c.args.self.now c.tell_whole.new.self c.args.taken c.in-Some.run' c.args.rest.now
     (g.L.Listener.has_heard c.args.listener.now) (g.L.Listener.has_heard c.tell_whole.new.listener)

@@ -4,8 +4,8 @@ use Rattle.resp_scan.proofs.CallClauses.WholeTexts.{line_text_is, line_turn, run
 use Rattle.resp_scan.proofs.Soundness.Pieces.{used_within, few_taken}
 use Rattle.resp_scan.proofs.machine.Machine.tell_line.Goals as goal
 
-pub behind-after-requires : goal.behind-after-requires
-behind-after-requires g c = (used_within c.args.taken c.args.self.now c.requires.whole.0 c.args.rest.now c.requires.whole.1 c.requires.whole.2).0
+pub beyond-after-requires : goal.beyond-after-requires
+beyond-after-requires g c = (used_within c.args.taken c.args.self.now c.requires.whole.0 c.args.rest.now c.requires.whole.1 c.requires.whole.2).0
 
 pub whole_line-requires : goal.whole_line-requires
 whole_line-requires g c = omega (arith, few_taken c.args.taken c.args.self.now c.requires.whole.0 c.args.rest.now c.requires.whole.1 c.requires.whole.2)
@@ -19,12 +19,12 @@ tell_whole-requires-clause-few g c = omega (
 
 pub tell_whole-requires-clause-is_text : goal.tell_whole-requires-clause-is_text
 tell_whole-requires-clause-is_text g c =
-    let told = rw c.behind-after.ensures at c.in-Some.ensures.line in
+    let told = rw c.beyond-after.ensures at c.in-Some.ensures.line in
     line_text_is c.args.taken.tag c.args.kind _ c.requires.tag (run_is_line (drop c.args.taken.used c.args.rest.now) _ c.in-Some.run' told.2)
 
 pub returns-in-Some-clause-is_turn : goal.returns-in-Some-clause-is_turn
 returns-in-Some-clause-is_turn g c s sound out =
-    let told = rw c.behind-after.ensures at c.in-Some.ensures.line in
+    let told = rw c.beyond-after.ensures at c.in-Some.ensures.line in
     let h = c.tell_whole.ensures.turn in
     line_turn s c.args.self.now c.tell_whole.new.self c.args.taken c.in-Some.run' c.args.kind c.args.rest.now
     (g.L.Listener.has_heard c.args.listener.now) (g.L.Listener.has_heard c.tell_whole.new.listener)

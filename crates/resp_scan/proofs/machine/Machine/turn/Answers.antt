@@ -7,6 +7,9 @@ returns-in-Simple-clause-is_turn g c = c.tell_line.ensures.is_turn (place_of c.a
 pub returns-in-Error-clause-is_turn : goal.returns-in-Error-clause-is_turn
 returns-in-Error-clause-is_turn g c = c.tell_line-in-Error.ensures.is_turn (place_of c.args.self.now) c.requires c.advance-taken.ensures
 
+pub returns-in-Double-clause-is_turn : goal.returns-in-Double-clause-is_turn
+returns-in-Double-clause-is_turn g c = c.tell_line-in-Double.ensures.is_turn (place_of c.args.self.now) c.requires c.advance-taken.ensures
+
 pub returns-in-Bulk-clause-is_turn : goal.returns-in-Bulk-clause-is_turn
 returns-in-Bulk-clause-is_turn g c = c.tell_content.ensures.is_turn (place_of c.args.self.now) c.requires c.advance-taken.ensures
 
@@ -18,6 +21,9 @@ returns-in-Simple-clause-failed g c = c.tell_line.ensures.failed
 
 pub returns-in-Error-clause-failed : goal.returns-in-Error-clause-failed
 returns-in-Error-clause-failed g c = c.tell_line-in-Error.ensures.failed
+
+pub returns-in-Double-clause-failed : goal.returns-in-Double-clause-failed
+returns-in-Double-clause-failed g c = c.tell_line-in-Double.ensures.failed
 
 pub returns-in-Bulk-clause-failed : goal.returns-in-Bulk-clause-failed
 returns-in-Bulk-clause-failed g c = c.tell_content.ensures.failed

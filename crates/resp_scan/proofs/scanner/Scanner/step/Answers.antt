@@ -5,7 +5,7 @@ use Rattle.resp_scan.proofs.Soundness.Kept.{is_advanced}
 use Rattle.resp_scan.proofs.Soundness.Counted.{IsCounted, counted_out, sound_heard}
 use Rattle.resp_scan.proofs.CallClauses.Faults.{none_all, fault_stands}
 use Rattle.resp_scan.proofs.CallClauses.Calls.{begin_due, is_faulted, is_text, rules_stay}
-use Rattle.resp_scan.proofs.CallClauses.Steps.{if_done, if_no_event, if_other_event, if_refused, stepped_is}
+use Rattle.resp_scan.proofs.CallClauses.Steps.{if_done, if_in_time, if_no_event, if_other_event, if_refused, stepped_is}
 use Rattle.resp_scan.proofs.scanner.Scanner.step.Goals as goal
 
 pub invariant_of-self : goal.invariant_of-self
@@ -40,6 +40,14 @@ returns-clause-another_event c =
     let s = place_of c.self.inside.machine in
     let t = place_of c.step.new.self in
     rw (← c.self.view_is) (λ front es w. if_other_event c.step.result s t front es c.args.piece.now (stepped_is c.step.result s t front es c.args.piece.now
+    (is_text c.args.piece.now (λ i. (c.type_inv.piece i).fits)) c.self.invariant c.step.ensures.heard c.step.ensures.lent
+    (fault_stands s.taken c.step.result s t c.args.piece.now c.self.invariant c.step.ensures.heard c.step.ensures.counted) w))
+
+pub returns-clause-in_time : goal.returns-clause-in_time
+returns-clause-in_time c =
+    let s = place_of c.self.inside.machine in
+    let t = place_of c.step.new.self in
+    rw (← c.self.view_is) (λ front es w. if_in_time c.step.result s t front es c.args.piece.now (stepped_is c.step.result s t front es c.args.piece.now
     (is_text c.args.piece.now (λ i. (c.type_inv.piece i).fits)) c.self.invariant c.step.ensures.heard c.step.ensures.lent
     (fault_stands s.taken c.step.result s t c.args.piece.now c.self.invariant c.step.ensures.heard c.step.ensures.counted) w))
 

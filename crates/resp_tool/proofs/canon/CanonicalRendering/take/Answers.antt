@@ -47,6 +47,6 @@ returns-clause-takes g c = λ front so_far w.
     (c.in-Ok.ensures.value_whole front w.takes value c.in-Some.is) in
     subst (λ z. Takes r (canonical_text r.version) (Fits r) LeavesNothing LeavesNothing H front piece so_far before after (Err z)) (sym c.stop_of.ensures)
     (encoder_stops_at r H value _ front piece so_far used before after (g.W.Sink.failures c.args.writer.now) (g.W.Sink.failures c.write_canonical.new.writer)
-    error (search rules) w.nothing given.spelling c.in-Err-write_canonical.ensures.first_fault
+    error c.in-Some.value-is w.nothing given.spelling c.in-Err-write_canonical.ensures.first_fault
     (λ e is. subst (λ z. Appends before (g.W.Sink.written z) []) (sym (c.in-Err-write_canonical.ensures.nothing_written e (ap Err is))) (Appends-none before))
     c.in-Err-write_canonical.ensures.part)

@@ -1,5 +1,5 @@
 use Rattle.std.proofs.Common.{rules, ◌≡◌, ℕ, List, subst}
-use Rattle.resp_scan.specs.Listening.{HearsRefusal, OnFault, OnStopped, StopsBehind}
+use Rattle.resp_scan.specs.Listening.{HearsRefusal, OnFault, OnStopped, StopsAfter}
 use Rattle.resp_scan.specs.declared.event.ScanError.TheVariants as stop
 use Rattle.resp_value.specs.Rules.{WithinTotal}
 use Rattle.resp_value.specs.Spellings.{IsViable}
@@ -32,6 +32,6 @@ unreachable-requires g c =
     let ((given, scanned), nothing) = looked in
     let r = rules_of c.args.self.now.scanner in
     let is : c.in-Err-Stopped.field-0 ≡ stop.Stopped c.in-Err-Stopped.field-0-0 = search rules in
-    let stops = subst (λ z. OnStopped z (StopsBehind r (λ (es : Events). ⊥) front c.args.piece.now)) is
+    let stops = subst (λ z. OnStopped z (StopsAfter r (λ (es : Events). ⊥) front c.args.piece.now)) is
     (c.in-Err-Stopped.ensures.stopped tt front given scanned.reads tt) in
     stops.has_stopped

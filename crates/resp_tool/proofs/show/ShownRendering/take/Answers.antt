@@ -1,7 +1,7 @@
-use Rattle.std.proofs.Common.{rules, ◌≡◌, subst}
-use Rattle.resp_value.specs.Devices.{HasRisen}
+use Rattle.std.proofs.Common.{rules, ◌≡◌, subst, ◌∙◌}
+use Rattle.resp_value.specs.Devices.{count_after}
 use Rattle.resp_scan.specs.Kinds.{rules_of}
-use Rattle.resp_scan.specs.Listening.{HearsRefusal, OnFault, OnStopped, StopsBehind}
+use Rattle.resp_scan.specs.Listening.{HearsRefusal, OnFault, OnStopped, StopsAfter}
 use Rattle.resp_scan.specs.declared.event.ScanError.TheVariants as stop
 use Rattle.resp_tool.specs.Printing.{HasBroken, HasPrinted, Start}
 use Rattle.resp_tool.proofs.Showing.{none_failed, printed_before, shows_broken, shows_end_part, shows_on, shows_refused}
@@ -16,8 +16,8 @@ returns-in-Ok-clause-takes g c = λ front so_far h.
     c.in-Ok.ensures.same_rules (c.in-Ok.ensures.value_whole since front h.given h.scanned.reads before)
     (c.in-Ok.ensures.used_up since front h.given h.scanned.reads before) c.in-Ok.ensures.whole_piece
 
-pub returns-in-Ok-clause-none_failed : goal.returns-in-Ok-clause-none_failed
-returns-in-Ok-clause-none_failed g c =
+pub returns-in-Ok-clause-write_failures : goal.returns-in-Ok-clause-write_failures
+returns-in-Ok-clause-write_failures g c =
     let (front, so_far, h) = c.requires in
     let since : Start = record { held = g.W.Sink.written c.args.writer.now; failures = g.W.Sink.failures c.args.writer.now; so_far = so_far } in
     let before = printed_before c.args.self.now.scanner c.args.self.now.lines front so_far since.held since.failures h in
@@ -38,6 +38,18 @@ returns-in-Ok-end_line-clause-takes g c = λ front so_far h.
     (g.W.Sink.written c.end_line.new.writer) (g.W.Sink.failures c.print_piece.new.writer) c.in-Err-Fault.fault
     c.fronts_of_viable_texts_are_viable.ensures refused c.in-Ok-end_line.ensures.0
 
+pub returns-in-Ok-end_line-clause-write_failures : goal.returns-in-Ok-end_line-clause-write_failures
+returns-in-Ok-end_line-clause-write_failures g c =
+    let (front, so_far, h) = c.requires in
+    let r = rules_of c.args.self.now.scanner in
+    let since : Start = record { held = g.W.Sink.written c.args.writer.now; failures = g.W.Sink.failures c.args.writer.now; so_far = so_far } in
+    let before = printed_before c.args.self.now.scanner c.args.self.now.lines front so_far since.held since.failures h in
+    let printed = HasPrinted since c.print_piece.new.lines (g.W.Sink.written c.print_piece.new.writer) (g.W.Sink.failures c.print_piece.new.writer) in
+    let is : c.in-Err-Fault.field-0 ≡ stop.Fault c.in-Err-Fault.fault = search rules in
+    let refused = subst (λ z. OnFault z (HearsRefusal r printed front c.args.piece.now)) is
+    (c.in-Err-Fault.ensures.refusal since front h.given h.scanned.reads before) in
+    c.in-Ok-end_line.ensures.1 ∙ refused.has_heard.none_failed
+
 pub returns-in-Err-clause-takes : goal.returns-in-Err-clause-takes
 returns-in-Err-clause-takes g c = λ front so_far h.
     let r = rules_of c.args.self.now.scanner in
@@ -50,8 +62,8 @@ returns-in-Err-clause-takes g c = λ front so_far h.
     shows_end_part r since front c.args.piece.now c.print_piece.new.lines (g.W.Sink.written c.print_piece.new.writer)
     (g.W.Sink.written c.end_line.new.writer) (g.W.Sink.failures c.print_piece.new.writer) c.in-Err-Fault.fault refused c.in-Err.ensures.0
 
-pub returns-in-Err-clause-writer_failed : goal.returns-in-Err-clause-writer_failed
-returns-in-Err-clause-writer_failed g c is_write =
+pub returns-in-Err-clause-write_failures : goal.returns-in-Err-clause-write_failures
+returns-in-Err-clause-write_failures g c =
     let (front, so_far, h) = c.requires in
     let r = rules_of c.args.self.now.scanner in
     let since : Start = record { held = g.W.Sink.written c.args.writer.now; failures = g.W.Sink.failures c.args.writer.now; so_far = so_far } in
@@ -60,7 +72,7 @@ returns-in-Err-clause-writer_failed g c is_write =
     let is : c.in-Err-Fault.field-0 ≡ stop.Fault c.in-Err-Fault.fault = search rules in
     let refused = subst (λ z. OnFault z (HearsRefusal r printed front c.args.piece.now)) is
     (c.in-Err-Fault.ensures.refusal since front h.given h.scanned.reads before) in
-    subst (λ n. HasRisen n (g.W.Sink.failures c.end_line.new.writer)) refused.has_heard.none_failed c.in-Err.ensures.1
+    subst (λ n. g.W.Sink.failures c.end_line.new.writer ≡ count_after 1 n) refused.has_heard.none_failed c.in-Err.ensures.1
 
 pub returns-in-Err-Stopped-clause-takes : goal.returns-in-Err-Stopped-clause-takes
 returns-in-Err-Stopped-clause-takes g c = λ front so_far h.
@@ -69,19 +81,19 @@ returns-in-Err-Stopped-clause-takes g c = λ front so_far h.
     let before = printed_before c.args.self.now.scanner c.args.self.now.lines front so_far since.held since.failures h in
     let broken = HasBroken since (g.W.Sink.written c.print_piece.new.writer) (g.W.Sink.failures c.print_piece.new.writer) in
     let is : c.in-Err-Stopped.field-0 ≡ stop.Stopped c.in-Err-Stopped.field-0-0 = search rules in
-    let stops = subst (λ z. OnStopped z (StopsBehind r broken front c.args.piece.now)) is
+    let stops = subst (λ z. OnStopped z (StopsAfter r broken front c.args.piece.now)) is
     (c.in-Err-Stopped.ensures.stopped since front h.given h.scanned.reads before) in
     shows_broken r since front c.args.piece.now (g.W.Sink.written c.print_piece.new.writer) (g.W.Sink.failures c.print_piece.new.writer)
     c.in-Err-Stopped.field-0-0 stops
 
-pub returns-in-Err-Stopped-clause-writer_failed : goal.returns-in-Err-Stopped-clause-writer_failed
-returns-in-Err-Stopped-clause-writer_failed g c is_write =
+pub returns-in-Err-Stopped-clause-write_failures : goal.returns-in-Err-Stopped-clause-write_failures
+returns-in-Err-Stopped-clause-write_failures g c =
     let (front, so_far, h) = c.requires in
     let r = rules_of c.args.self.now.scanner in
     let since : Start = record { held = g.W.Sink.written c.args.writer.now; failures = g.W.Sink.failures c.args.writer.now; so_far = so_far } in
     let before = printed_before c.args.self.now.scanner c.args.self.now.lines front so_far since.held since.failures h in
     let broken = HasBroken since (g.W.Sink.written c.print_piece.new.writer) (g.W.Sink.failures c.print_piece.new.writer) in
     let is : c.in-Err-Stopped.field-0 ≡ stop.Stopped c.in-Err-Stopped.field-0-0 = search rules in
-    let stops = subst (λ z. OnStopped z (StopsBehind r broken front c.args.piece.now)) is
+    let stops = subst (λ z. OnStopped z (StopsAfter r broken front c.args.piece.now)) is
     (c.in-Err-Stopped.ensures.stopped since front h.given h.scanned.reads before) in
     stops.has_stopped.failed

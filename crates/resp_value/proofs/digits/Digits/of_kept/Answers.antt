@@ -1,5 +1,4 @@
-use Rattle.std.proofs.Common.{rules, ◌≡◌, ℕ, ◌<◌, ◌≤◌, Bool, true, false, get_or, length, List, [], ◌∷◌, arith, subst, refl, sym, ap, ◌∙◌, vec_len}
-use Rattle.std.specs.List.{All}
+use Rattle.std.proofs.Common.{rules, ◌≡◌, ℕ, ◌<◌, ◌≤◌, true, false, get_or, length, List, [], ◌∷◌, arith, subst, refl, sym, ◌∙◌, vec_len}
 use Rattle.std.proofs.lemmas.List.Elements.{recursion_from_All}
 use Rattle.resp_value.specs.Numbers.{IsDigits, IsDigit}
 use Rattle.resp_value.proofs.KeptDigits.{kept_where_first_is_tested, kept_zero_is_alone}

@@ -1,0 +1,18 @@
+//! What is given to several parts.
+
+use resp_value::command::Command;
+use std::alloc::{AllocError, Global};
+
+/// Texts as words.
+pub(crate) fn words(alloc: Global, texts: &[&[u8]]) -> Result<Vec<Vec<u8>>, AllocError> {
+    let mut words = Vec::new(alloc);
+    for text in texts {
+        words.push(text.to_vec(alloc)?)?;
+    }
+    Ok(words)
+}
+
+/// A command of these words.
+pub(crate) fn command(alloc: Global, texts: &[&[u8]]) -> Result<Command, AllocError> {
+    Command::new(words(alloc, texts)?).map_err(|_| AllocError)
+}

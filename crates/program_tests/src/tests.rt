@@ -1,0 +1,15 @@
+//! The tests, and what they have in common.
+
+use std::fmt::Debug;
+use std::process::Abort;
+
+mod failing;
+mod scripts;
+mod statuses;
+mod streams;
+
+/// Asserts that two values are equal. The tests call it in place of `assert_eq!`, which is proved
+/// anew wherever it stands.
+fn check_equal<T: PartialEq + Debug + Drop>(rt: &impl Abort, said: T, wanted: T) {
+    assert_eq!(rt; said, wanted);
+}

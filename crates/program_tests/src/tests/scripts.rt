@@ -1,0 +1,124 @@
+//! Scripts of `loop` over memory: how long they may be, and what stops the play of one.
+
+use super::check_equal;
+use resp_script::play::{PlayError, play};
+use resp_script::script::{MOST_BYTES, Script, ScriptError, read_script};
+use resp_value::cause::Cause;
+use resp_value::device::MemorySink;
+use resp_value::limits::Limits;
+use resp_wire::{Direction, Link, LinkFault, World};
+use std::hash::{BuildHasherDefault, FoldHasher};
+use std::process::Abort;
+
+/// A key is read before it is set.
+const TWO_CLIENTS: &[u8] =
+    b"clients 2\nsend 1 SET a 1\nsend 2 GET a\nserver 2 20\nserver 1 27\npush 2 x\nflush\n";
+
+const TWO_CLIENTS_WRITTEN: &[u8] = b"client 2 refused NotInVersion\n\
+client 1 reply 1\n  simple \"OK\" 2\n\
+client 2 reply 1\n  null\n\
+commands 2 keys 1\n";
+
+type TestHasher = BuildHasherDefault<FoldHasher>;
+
+/// The script that a text spells.
+fn script<R: Abort + AllocGlobal>(rt: &R, text: &[u8]) -> Script {
+    read_script(rt.alloc(), text).expect(rt, "no script")
+}
+
+/// A script with as many bytes as one may have, in 256 lines, of which the last has no end.
+fn longest_text<R: Abort + AllocGlobal>(rt: &R) -> Vec<u8> {
+    let mut comment = vec![in rt.alloc(); b'#'; 4_096].expect(rt, "out of memory");
+    comment[4_095] = b'\n';
+    let mut text = b"clients 1\n"
+        .to_vec(rt.alloc())
+        .expect(rt, "out of memory");
+    for _ in 0..255 {
+        text.extend_from_slice(comment.as_slice())
+            .expect(rt, "out of memory");
+    }
+    text.extend_from_slice(&comment[..4_086])
+        .expect(rt, "out of memory");
+    text
+}
+
+#[test]
+fn a_byte_too_many_is_refused(rt: HostRuntime) {
+    let mut text = longest_text(&rt);
+    check_equal(&rt, text.len(), MOST_BYTES);
+    check_equal(&rt, script(&rt, text.as_slice()).clients, 1);
+    text.push(b'#').expect(&rt, "out of memory");
+    let refused = Err(ScriptError::BadScript { line: 257 });
+    check_equal(&rt, read_script(rt.alloc(), text.as_slice()), refused);
+}
+
+/// That the play of a script answers so, and writes this to a writer that fails from a byte on.
+fn check_play<R: Abort + AllocGlobal, L: Link + Drop>(
+    rt: &R,
+    script: &Script,
+    world: World<L, TestHasher>,
+    fails_from: usize,
+    answer: Result<(), PlayError>,
+    written: &[u8],
+) {
+    let mut world = world;
+    let mut writer = MemorySink::new(rt.alloc(), 4_096, fails_from).expect(rt, "out of memory");
+    let played = play(rt.alloc(), script, &mut world, &mut writer);
+    check_equal(rt, played, answer);
+    check_equal(rt, writer.bytes(), written);
+}
+
+#[test]
+fn a_failing_writer_stops_the_play(rt: HostRuntime) {
+    let script = script(&rt, TWO_CLIENTS);
+    for byte in 0..TWO_CLIENTS_WRITTEN.len() {
+        let hasher: TestHasher = BuildHasherDefault::new();
+        let world = World::new(rt.alloc(), 2, Limits::standard(), hasher).expect(&rt, "no world");
+        let written = &TWO_CLIENTS_WRITTEN[..byte];
+        check_play(&rt, &script, world, byte, Err(PlayError::Write), written);
+    }
+}
+
+/// A link that carries nothing, and counts that it failed.
+#[derive(Drop)]
+struct CutLink {
+    failures: u64,
+}
+
+impl Link for CutLink {
+    ghost is_honest = { λ _. Unit {0} };
+
+    ghost failures = { λ link. link.failures };
+
+    fn carry(
+        &mut self,
+        _direction: Direction,
+        _piece: &[u8],
+        _into: &mut [u8],
+    ) -> Result<(), LinkFault> {
+        self.failures = self.failures.saturating_add(1);
+        Err(LinkFault { cause: Cause::Read })
+    }
+}
+
+/// What is said where a link failed at an event of the fourth line.
+const STOPPED: PlayError = PlayError::Stopped {
+    line: 4,
+    cause: Cause::Read,
+};
+
+#[test]
+fn a_failing_link_stops_the_play(rt: HostRuntime) {
+    let script = script(&rt, b"clients 1\nsend 1 PING\n\nflush\nsend 1 PING\n");
+    let links = vec![in rt.alloc(); CutLink { failures: 0 }].expect(&rt, "out of memory");
+    let hasher: TestHasher = BuildHasherDefault::new();
+    let world = World::over(rt.alloc(), links, Limits::standard(), hasher).expect(&rt, "no world");
+    check_play(&rt, &script, world, 4_096, Err(STOPPED), b"");
+}
+
+#[test]
+fn the_line_of_a_failed_link_is_named(rt: HostRuntime) {
+    let mut said = MemorySink::new(rt.alloc(), 4_096, 64).expect(&rt, "out of memory");
+    check_equal(&rt, STOPPED.line(&mut said).is_ok(), true);
+    check_equal(&rt, said.bytes(), b"line 4: Read\n");
+}

@@ -1,0 +1,25 @@
+-- Where a client stands, by what it has: some front of a value was taken, or a fault is final.
+use Rattle.std.specs.Prelude.{◌≡◌, ◌⊎◌, ◌≤◌, ℕ, Option, None, Some, List, []}
+use Rattle.resp_value.specs.Bounds.{Bounds}
+use Rattle.resp_scan.specs.declared.event.Fault.{Fault}
+use Rattle.resp_decode.specs.Decoding.{HasTaken, rules_of}
+use Rattle.resp_decode.specs.declared.decoder.Decoder.{Decoder}
+use Rattle.resp_session.specs.Reading.{IsUnasked, Waiting, reading_rules}
+
+-- the decoder has taken the bytes of this front, under the rules by which the value is read, and they were asked for
+pub record TakesFront (limits : Bounds) (w : Waiting) (d : Decoder) (fault : Option Fault) (front : List ℕ) :
+    Type 0 where
+  pub taken : HasTaken d front
+  pub same_limits : (rules_of d).limits ≡ limits
+  pub read_by : (front ≡ []) ⊎ (rules_of d ≡ reading_rules limits w)
+  pub asked : IsUnasked w front → ⊥
+  pub no_fault : fault ≡ None
+
+-- this fault stands, at a byte within the limits
+abbrev pub StandsAtFault : Bounds → Option Fault → Fault → Type 0
+StandsAtFault limits stands fault = (stands ≡ Some fault) × (fault.at ≤ limits.total)
+
+-- some front was taken, or a fault stands
+abbrev pub TakesOrStands : Bounds → Waiting → Decoder → Option Fault → Type 0
+TakesOrStands limits w d stands =
+    ((front : List ℕ) × TakesFront limits w d stands front) ⊎ ((fault : Fault) × StandsAtFault limits stands fault)

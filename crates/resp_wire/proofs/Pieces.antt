@@ -1,0 +1,71 @@
+-- Pieces, one after another.
+use Rattle.std.specs.List.{concat}
+use Rattle.std.proofs.Common.{◌≡◌, inl, inr, ℕ, ◌<◌, ◌≤◌, Bool, false, List, [], ◌∷◌, ◌++◌, length, take, Option, refl, sym, ap, subst, ◌∙◌, arith}
+use Rattle.std.proofs.lemmas.Bool.{cases_lt}
+use Rattle.std.proofs.lemmas.List.{append-nil, length-append, length-take-le, take-append-le, take_all}
+use Rattle.std.proofs.lemmas.List.Folds.{concat-append}
+use Rattle.resp_value.specs.Devices.{count_after}
+use Rattle.resp_wire.specs.Pieces.{GivesPiece, GivesPieces, ReadsNothing, ReadsPieces}
+use Rattle.resp_wire.specs.Turns.{HasRead, has_failed}
+use Rattle.resp_wire.specs.declared.turns.Halt.{Halt}
+use Rattle.resp_wire.specs.declared.turns.Halt.TheVariants.{Failed, NoTurn}
+use Rattle.resp_wire.proofs.Turning.{has_read_more, reads_none}
+
+-- nothing was read
+pub no_pieces : {R : Type 0} → (remaining : R → Option (List ℕ)) (calls failures : R → ℕ) (r : R) → ReadsPieces remaining calls failures r r [] false
+no_pieces remaining calls failures r = record { between = r; given = refl; over = refl }
+
+-- no read was made after these pieces
+pub only_pieces : {R : Type 0} → (remaining : R → Option (List ℕ)) (calls failures : R → ℕ) (a b : R) (pieces : List (List ℕ)) (is_over : Bool) →
+    GivesPieces remaining calls failures a b pieces → is_over ≡ false → ReadsPieces remaining calls failures a b pieces is_over
+only_pieces remaining calls failures a b pieces is_over given none =
+    subst (ReadsPieces remaining calls failures a b pieces) (sym none) (record { between = b; given = given; over = refl })
+
+-- a read that halted gave nothing, if it was made
+pub halted : {R : Type 0} → (remaining : R → Option (List ℕ)) (calls : R → ℕ) (a b : R) (halt : Halt) → HasRead (remaining a) (remaining b) [] →
+    (halt ≡ Failed → calls b ≡ count_after 1 (calls a)) → (halt ≡ NoTurn → b ≡ a) → ReadsNothing remaining calls a b (has_failed halt)
+halted remaining calls a b Failed nothing once none = (nothing, once refl)
+halted remaining calls a b NoTurn nothing once none = none refl
+
+-- a piece more
+pub given_more : {R : Type 0} → (remaining : R → Option (List ℕ)) (calls failures : R → ℕ) (a b c : R) (pieces : List (List ℕ)) (piece : List ℕ) →
+    GivesPieces remaining calls failures a b pieces → GivesPiece remaining calls failures b c piece →
+    GivesPieces remaining calls failures a c (pieces ++ piece ∷ [])
+given_more remaining calls failures a b c [] piece same gives =
+    (c, subst (λ r. GivesPiece remaining calls failures r c piece) same gives, refl)
+given_more remaining calls failures a b c (first ∷ pieces) piece (between, gives_first, given) gives =
+    (between, gives_first, given_more remaining calls failures between b c pieces piece given gives)
+
+-- the first bytes of what a read moved into its room
+pub gives : {R : Type 0} → (remaining : R → Option (List ℕ)) (calls failures : R → ℕ) (a b c : R) (pieces : List (List ℕ)) (into : List ℕ) (n : ℕ) →
+    GivesPieces remaining calls failures a b pieces → n ≤ length into → 0 < n → n ≤ 16384 → HasRead (remaining b) (remaining c) (take n into) →
+    calls c ≡ count_after 1 (calls b) → failures c ≡ failures b → GivesPieces remaining calls failures a c (pieces ++ take n into ∷ [])
+gives remaining calls failures a b c pieces into n given within some short read once none_failed =
+    let long = length-take-le n into within in
+    given_more remaining calls failures a b c pieces (take n into) given (record {
+      some = omega (arith, long);
+      short = omega (arith, long);
+      read = read;
+      once = once;
+      none_failed = none_failed;
+    })
+
+-- what was read are the pieces, joined
+pub all_read : {R : Type 0} → (remaining : R → Option (List ℕ)) (calls failures : R → ℕ) (a b : R) (pieces : List (List ℕ)) →
+    GivesPieces remaining calls failures a b pieces → HasRead (remaining a) (remaining b) (concat pieces)
+all_read remaining calls failures a b [] same = subst (λ r. HasRead (remaining a) (remaining r) []) (sym same) (reads_none (remaining a))
+all_read remaining calls failures a b (piece ∷ pieces) (between, gives, given) =
+    has_read_more (remaining a) (remaining between) (remaining b) piece (concat pieces) gives.read
+    (all_read remaining calls failures between b pieces given)
+
+pub concat_more : (pieces : List (List ℕ)) (piece : List ℕ) → concat (pieces ++ piece ∷ []) ≡ concat pieces ++ piece
+concat_more pieces piece = concat-append pieces (piece ∷ []) ∙ ap (λ z. concat pieces ++ z) (append-nil piece)
+
+-- what holds of the pieces before each, and of all, holds of the pieces before each where there is one more
+pub before_more : (P : List (List ℕ) → Type 0) → (pieces : List (List ℕ)) (piece : List ℕ) → ((k : ℕ) → k < length pieces → P (take k pieces)) →
+    P pieces → (k : ℕ) → k < length (pieces ++ piece ∷ []) → P (take k (pieces ++ piece ∷ []))
+before_more P pieces piece each all k less = elim (cases_lt k (length pieces)) as (λ _. P (take k (pieces ++ piece ∷ []))) [
+  | inl below ↦ subst P (sym (take-append-le k pieces (piece ∷ []) (omega (arith, below)))) (each k below)
+  | inr most ↦ subst P
+      (sym (take-append-le k pieces (piece ∷ []) (omega (arith, less, length-append pieces (piece ∷ []))) ∙ take_all k pieces (omega (arith, most)))) all
+]

@@ -1,0 +1,56 @@
+//! The rows that are run on a client.
+
+mod hearing;
+mod queueing;
+
+use crate::bounds;
+use crate::cut::Cut;
+use crate::subject::Subject;
+use anyhow::{Result, bail};
+use resp_client::Client;
+use resp_value::Limits;
+use std::alloc::Global;
+
+/// A client.
+#[derive(Drop)]
+pub(crate) struct Talker {
+    alloc: Global,
+    client: Client,
+}
+
+impl Subject for Talker {
+    fn new(alloc: Global) -> Result<Talker> {
+        Ok(Talker {
+            alloc,
+            client: Client::new(alloc, &Limits::standard()),
+        })
+    }
+
+    fn is_cut(name: &str) -> bool {
+        name == "hear" || name == "show"
+    }
+
+    fn run(&mut self, name: &str, given: &str, cut: Cut, said: &mut String) -> Result<()> {
+        let alloc = self.alloc;
+        let client = &mut self.client;
+        match name {
+            "client" => renew(alloc, client, given),
+            "send" => queueing::send(alloc, client, given, said),
+            "hello" => queueing::hello(client, given, said),
+            "sent" => queueing::sent(client, given),
+            "out" => queueing::out(client, said),
+            "state" => queueing::state(client, said),
+            "taken" => hearing::taken(client, said),
+            "hear" => hearing::hear(alloc, client, given, cut, said),
+            "feed" => hearing::feed(alloc, client, given, said),
+            "show" => hearing::show(alloc, client, given, cut, said),
+            _ => bail!("an unknown row"),
+        }
+    }
+}
+
+/// `client LIMITS` takes a new client.
+fn renew(alloc: Global, client: &mut Client, limits: &str) -> Result<()> {
+    *client = Client::new(alloc, &bounds::limits(limits)?);
+    Ok(())
+}

@@ -1,0 +1,154 @@
+//! Rows of what a client hears.
+
+use crate::cut::{Cut, pieces};
+use crate::spelling::{add_fault, add_members, add_pushes, add_value};
+use crate::text::bytes;
+use anyhow::Result;
+use resp_client::{Client, Fault, Heard, PushList, PushSink, What};
+use std::alloc::{AllocError, Global};
+
+/// `hear TEXT` says each reply and each push of a text, and the fault where it is refused.
+pub(crate) fn hear(
+    alloc: Global,
+    client: &mut Client,
+    given: &str,
+    cut: Cut,
+    said: &mut String,
+) -> Result<()> {
+    let text = bytes(alloc, given)?;
+    for piece in pieces(alloc, text.as_slice(), cut)? {
+        if !hear_piece(client, piece, said)? {
+            break;
+        }
+    }
+    Ok(())
+}
+
+/// `taken` says how many bytes of a value were taken, and the fault that stands.
+pub(crate) fn taken(client: &Client, said: &mut String) -> Result<()> {
+    writeln!(said, "taken {}", client.taken())?;
+    if let Some(fault) = client.fault() {
+        add_fault(said, fault.cause, fault.at)?;
+    }
+    Ok(())
+}
+
+/// `show TEXT` is as `hear TEXT` with a sink, and says at its end the pushes that this was shown.
+pub(crate) fn show(
+    alloc: Global,
+    client: &mut Client,
+    given: &str,
+    cut: Cut,
+    said: &mut String,
+) -> Result<()> {
+    let text = bytes(alloc, given)?;
+    let mut sink: Box<dyn PushSink> = Box::new(alloc, PushList::new(alloc))?;
+    for piece in pieces(alloc, text.as_slice(), cut)? {
+        if !show_piece(client, &mut sink, piece, said)? {
+            break;
+        }
+    }
+    add_pushes(said, sink.shown())?;
+    Ok(())
+}
+
+/// Says what is heard in a piece. Whether the client goes on.
+fn hear_piece(client: &mut Client, piece: &[u8], said: &mut String) -> Result<bool, AllocError> {
+    let mut rest = piece;
+    for _ in 0..=piece.len() {
+        match client.feed(rest) {
+            Ok(Heard { used, what }) => {
+                rest = &rest[used..];
+                if !say_what(what, said)? {
+                    break;
+                }
+            }
+            Err(fault) => return say_refusal(client, rest, fault, said),
+        }
+    }
+    Ok(true)
+}
+
+/// Says what is heard in a piece by a client with a sink. Whether the client goes on.
+fn show_piece(
+    client: &mut Client,
+    sink: &mut Box<dyn PushSink>,
+    piece: &[u8],
+    said: &mut String,
+) -> Result<bool, AllocError> {
+    let mut rest = piece;
+    for _ in 0..=piece.len() {
+        match client.feed_with(rest, sink) {
+            Ok(Heard { used, what }) => {
+                rest = &rest[used..];
+                if !say_what(what, said)? {
+                    break;
+                }
+            }
+            Err(fault) => return say_refusal(client, rest, fault, said),
+        }
+    }
+    Ok(true)
+}
+
+/// Says a fault, and where it isn't answered again.
+fn say_refusal(
+    client: &mut Client,
+    rest: &[u8],
+    fault: Fault,
+    said: &mut String,
+) -> Result<bool, AllocError> {
+    add_fault(said, fault.cause, fault.at)?;
+    if !is_refused(client, rest, fault) || !is_refused(client, b"", fault) {
+        said.push_str("the fault isn't answered again\n")?;
+    }
+    Ok(false)
+}
+
+/// Whether a piece is refused by this fault.
+fn is_refused(client: &mut Client, piece: &[u8], fault: Fault) -> bool {
+    match client.feed(piece) {
+        Ok(_) => false,
+        Err(again) => again == fault,
+    }
+}
+
+/// `feed TEXT` is one call, and says how many bytes it used and what ended with them.
+pub(crate) fn feed(
+    alloc: Global,
+    client: &mut Client,
+    given: &str,
+    said: &mut String,
+) -> Result<()> {
+    let text = bytes(alloc, given)?;
+    say_heard(client.feed(text.as_slice()), said)?;
+    Ok(())
+}
+
+fn say_heard(heard: Result<Heard, Fault>, said: &mut String) -> Result<(), AllocError> {
+    match heard {
+        Ok(Heard { used, what }) => {
+            write!(said, "used {used}: ")?;
+            if !say_what(what, said)? {
+                said.push_str("more\n")?;
+            }
+            Ok(())
+        }
+        Err(fault) => add_fault(said, fault.cause, fault.at),
+    }
+}
+
+/// Says what has ended. Whether anything has.
+fn say_what(what: What, said: &mut String) -> Result<bool, AllocError> {
+    match what {
+        What::Reply { number, value } => {
+            write!(said, "reply {number}: ")?;
+            add_value(said, &value)?;
+        }
+        What::Push(items) => add_members(said, "push", items.list())?,
+        What::Shown => said.push_str("shown")?,
+        What::More => return Ok(false),
+    }
+    said.push_str("\n")?;
+    Ok(true)
+}

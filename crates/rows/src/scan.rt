@@ -1,0 +1,9 @@
+//! Rows that are run on scanners.
+
+mod needed;
+mod reader;
+mod scanners;
+mod stops;
+mod story;
+
+pub(crate) use scanners::Scanners;

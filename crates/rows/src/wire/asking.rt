@@ -1,0 +1,174 @@
+//! Rows that ask by a client.
+
+use super::devices::{Calls, Devices, Ending};
+use crate::cut::Cut;
+use crate::spelling::{add_pushes, add_quoted, add_value, version_number};
+use crate::text::{bytes, command, version_if_any};
+use anyhow::Result;
+use resp_client::Client;
+use resp_value::device::MemorySink;
+use resp_value::limits::Limits;
+use resp_wire::ask::ask;
+use resp_wire::{AskError, Asked, Request};
+use std::alloc::{AllocError, Global};
+
+/// A client, and the requests that it asks next.
+#[derive(Drop)]
+pub(crate) struct Asking {
+    client: Client,
+    requests: Vec<Request>,
+}
+
+fn new_client(alloc: Global) -> Client {
+    Client::new(alloc, &Limits::standard())
+}
+
+/// Asks over a reader of this text, and answers how many reads were made.
+fn ask_once(
+    devices: Devices,
+    cut: Cut,
+    client: &mut Client,
+    requests: &[Request],
+    text: &[u8],
+    writer: &mut MemorySink,
+    heard: &mut Asked,
+) -> (Result<(), AskError>, u64) {
+    let mut reader = devices.reader(text, cut);
+    let answer = ask(&mut reader, writer, client, requests, heard, devices.turns);
+    (answer, reader.calls())
+}
+
+impl Asking {
+    pub(crate) fn new(alloc: Global) -> Asking {
+        Asking {
+            client: new_client(alloc),
+            requests: Vec::new(alloc),
+        }
+    }
+
+    /// Adds a command of these words to the next requests.
+    pub(crate) fn queue(&mut self, alloc: Global, words: &str) -> Result<()> {
+        self.requests
+            .push(Request::Command(command(alloc, words)?))?;
+        Ok(())
+    }
+
+    /// Adds a HELLO to the next requests.
+    pub(crate) fn queue_hello(&mut self, version: &str) -> Result<()> {
+        self.requests
+            .push(Request::Hello(version_if_any(version)?))?;
+        Ok(())
+    }
+
+    /// Asks the requests, and says what was written, what was heard and how it ended.
+    pub(crate) fn ask(
+        &mut self,
+        alloc: Global,
+        devices: Devices,
+        text: &str,
+        cut: Cut,
+        calls: &mut Calls,
+        said: &mut String,
+    ) -> Result<()> {
+        let text = bytes(alloc, text)?;
+        let mut writer = devices.writer(alloc)?;
+        let mut heard = Asked::new(alloc);
+        let Asking { client, requests } = self;
+        let (answer, reads) = ask_once(
+            devices,
+            cut,
+            client,
+            requests.as_slice(),
+            text.as_slice(),
+            &mut writer,
+            &mut heard,
+        );
+        requests.clear();
+        calls.reads = reads;
+        calls.writes = writer.calls();
+        say(said, answer, &heard, writer.bytes())?;
+        Ok(())
+    }
+
+    /// Says how many commands wait for a reply, the version and what waits to be written.
+    pub(crate) fn say_waiting(&self, said: &mut String) -> Result<()> {
+        let waiting = self.client.waiting();
+        let version = version_number(self.client.version());
+        write!(said, "commands {waiting} version {version} ")?;
+        add_quoted(said, "", self.client.out())?;
+        Ok(())
+    }
+
+    /// Asks the requests with a new client, and says shortly what came of it.
+    pub(crate) fn ask_one(
+        &self,
+        alloc: Global,
+        devices: Devices,
+        text: &[u8],
+        said: &mut String,
+    ) -> Result<(), AllocError> {
+        let mut client = new_client(alloc);
+        let mut heard = Asked::new(alloc);
+        let mut writer = devices.writer(alloc)?;
+        let requests = self.requests.as_slice();
+        let (answer, reads) = ask_once(
+            devices,
+            Cut::Whole,
+            &mut client,
+            requests,
+            text,
+            &mut writer,
+            &mut heard,
+        );
+        let writes = writer.calls();
+        let ending = Ending {
+            written: writer.bytes(),
+            waits: client.out(),
+            calls: Calls { reads, writes },
+            turns: devices.turns,
+        };
+        say_shortly(said, answer, heard.replies.len(), ending)
+    }
+}
+
+/// Says what was written, the replies, the pushes and how it ended.
+fn say(
+    said: &mut String,
+    answer: Result<(), AskError>,
+    heard: &Asked,
+    written: &[u8],
+) -> Result<(), AllocError> {
+    add_quoted(said, "wrote ", written)?;
+    for (number, value) in &heard.replies {
+        write!(said, "reply {number} ")?;
+        add_value(said, value)?;
+        said.push_str("\n")?;
+    }
+    add_pushes(said, heard.pushes.as_slice())?;
+    add_end(said, answer)?;
+    said.push_str("\n")
+}
+
+fn add_end(said: &mut String, answer: Result<(), AskError>) -> Result<(), AllocError> {
+    match answer {
+        Ok(()) => said.push_str("Done"),
+        Err(error) => write!(said, "{error:?}"),
+    }
+}
+
+/// Says on one line how it ended, how many replies were heard, what was written, what still waits
+/// to be written, and whether a turn is left.
+fn say_shortly(
+    said: &mut String,
+    answer: Result<(), AskError>,
+    replies: usize,
+    ending: Ending<'_>,
+) -> Result<(), AllocError> {
+    add_end(said, answer)?;
+    write!(said, ", replies {replies}")?;
+    ending.add_texts(said)?;
+    if ending.calls.reads == 0 {
+        said.push_str(", no read")?;
+    }
+    ending.add_turns(said)
+}

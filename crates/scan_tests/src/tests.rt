@@ -1,3 +1,0 @@
-//! How long the parts live that a scanner lends.
-
-mod lifetimes;
