@@ -44,51 +44,23 @@ pub(crate) fn show(
     let text = bytes(alloc, given)?;
     let mut sink: Box<dyn PushSink> = Box::new(alloc, PushList::new(alloc))?;
     for piece in pieces(alloc, text.as_slice(), cut)? {
-        if !show_piece(client, &mut sink, piece, said)? {
-            break;
-        }
-    }
-    add_pushes(said, sink.shown())?;
-    Ok(())
-}
-
-/// Says what is heard in a piece. Whether the client goes on.
-fn hear_piece(client: &mut Client, piece: &[u8], said: &mut String) -> Result<bool, AllocError> {
-    let mut rest = piece;
-    for _ in 0..=piece.len() {
-        match client.feed(rest) {
-            Ok(Heard { used, what }) => {
-                rest = &rest[used..];
-                if !say_what(what, said)? {
-                    break;
+        let mut rest = piece;
+        for _ in 0..=piece.len() {
+            match client.feed_with(rest, &mut sink) {
+                Ok(Heard { used, what }) => {
+                    rest = &rest[used..];
+                    if !say_what(what, said)? {
+                        break;
+                    }
+                }
+                Err(fault) => {
+                    say_refusal(client, rest, fault, said)?;
+                    return Ok(add_pushes(said, sink.shown())?);
                 }
             }
-            Err(fault) => return say_refusal(client, rest, fault, said),
         }
     }
-    Ok(true)
-}
-
-/// Says what is heard in a piece by a client with a sink. Whether the client goes on.
-fn show_piece(
-    client: &mut Client,
-    sink: &mut Box<dyn PushSink>,
-    piece: &[u8],
-    said: &mut String,
-) -> Result<bool, AllocError> {
-    let mut rest = piece;
-    for _ in 0..=piece.len() {
-        match client.feed_with(rest, sink) {
-            Ok(Heard { used, what }) => {
-                rest = &rest[used..];
-                if !say_what(what, said)? {
-                    break;
-                }
-            }
-            Err(fault) => return say_refusal(client, rest, fault, said),
-        }
-    }
-    Ok(true)
+    Ok(add_pushes(said, sink.shown())?)
 }
 
 /// Says a fault, and where it isn't answered again.
