@@ -63,6 +63,23 @@ pub(crate) fn show(
     Ok(add_pushes(said, sink.shown())?)
 }
 
+/// Says what is heard in a piece. Whether the client goes on.
+fn hear_piece(client: &mut Client, piece: &[u8], said: &mut String) -> Result<bool, AllocError> {
+    let mut rest = piece;
+    for _ in 0..=piece.len() {
+        match client.feed(rest) {
+            Ok(Heard { used, what }) => {
+                rest = &rest[used..];
+                if !say_what(what, said)? {
+                    break;
+                }
+            }
+            Err(fault) => return say_refusal(client, rest, fault, said),
+        }
+    }
+    Ok(true)
+}
+
 /// Says a fault, and where it isn't answered again.
 fn say_refusal(
     client: &mut Client,
