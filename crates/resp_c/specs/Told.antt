@@ -13,7 +13,7 @@ abbrev pub truth_number : Bool → ℤ
 truth_number false = pos 0
 truth_number true = pos 1
 
--- the form of each kind of text, from RESP_SIMPLE to RESP_BIG
+-- the form of each kind of text, from RESP_TEXT_SIMPLE to RESP_TEXT_BIG
 abbrev pub text_form : TextKind → ℕ
 text_form text.Simple = 0
 text_form text.Error = 1

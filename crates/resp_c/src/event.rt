@@ -12,7 +12,7 @@ use resp_value::kind::OpenKind;
 pub struct RespEvent {
     /// What the event is: `RESP_MORE` where there is none, or `RESP_NULL` to `RESP_DONE`.
     pub kind: u32,
-    /// Of a text `RESP_SIMPLE` to `RESP_BIG`, and of an open `RESP_ARRAY` to `RESP_PUSH`.
+    /// Of a text `RESP_TEXT_SIMPLE` to `RESP_TEXT_BIG`, and of an open `RESP_ARRAY` to `RESP_PUSH`.
     pub form: u32,
     /// An integer. 1 for true, and for a big number below zero; else 0.
     pub number: i64,
