@@ -1,6 +1,6 @@
 //! Limits as C gives them.
 
-ghost use Rattle.std.specs.Prelude.{◌≡◌, ◌↔◌, IsOk, IfOk};
+ghost use Rattle.std.specs.Prelude.{◌≡◌, ◌↔◌, true, false, IsOk, IfOk};
 ghost use Rattle.resp_value.specs.Bounds.{AreBounds};
 ghost use Rattle.resp_c.specs.Limits.{bounds_of};
 
@@ -29,10 +29,16 @@ pub struct RespLimits {
 /// 1,099,511,627,776 items, with streamed forms and without doubles.
 #[unsafe(no_mangle)]
 pub extern "C" fn resp_limits_standard(limits: &mut RespLimits)
-    ensures { AreBounds (bounds_of limits.new) }
+    ensures standard { bounds_of limits.new ≡ record {
+      depth = 32;
+      length = 536_870_912;
+      total = 1_073_741_824;
+      items = 1_099_511_627_776;
+      streamed = true;
+      doubles = false;
+    } }
 {
     let standard = Limits::standard();
-    standard.are_in_range();
     *limits = RespLimits {
         depth: standard.depth(),
         length: standard.length(),
