@@ -1,0 +1,230 @@
+/* Rows of what the library tells of texts, each read whole, cut in two at each byte, and byte by
+ * byte with an empty piece between; and what its other calls answer. */
+#include "resp.h"
+
+#include <inttypes.h>
+#include <stdarg.h>
+#include <stdio.h>
+#include <stdlib.h>
+#include <string.h>
+
+static unsigned passed, failed;
+
+static void check(bool is_right, const char *what, const char *said) {
+    if (is_right) {
+        passed++;
+        return;
+    }
+    failed++;
+    printf("%s: %s\n", what, said);
+}
+
+/* A text and the events that it has to give: `_`, `#1`, `:7`, a text's type byte and its bytes in
+ * quotes, an aggregate's with the number of its members, `]` for a close, `.` for done, and
+ * `!cause@byte` for a refusal of a byte or of the end. */
+struct row {
+    uint32_t version;
+    const char *text;
+    const char *wanted;
+    void (*limit)(struct resp_limits *);
+};
+
+static void doubles(struct resp_limits *limits) { limits->doubles = true; }
+static void unstreamed(struct resp_limits *limits) { limits->streamed = false; }
+static void shallow(struct resp_limits *limits) { limits->depth = 4; }
+static void short_content(struct resp_limits *limits) { limits->length = 64; }
+static void small(struct resp_limits *limits) { limits->total = 256; }
+static void few(struct resp_limits *limits) { limits->items = 16; }
+
+static const struct row ROWS[] = {
+    {2, "+OK\r\n", "+\"OK\".", 0},
+    {2, "+\r\n", "+\"\".", 0},
+    {2, "-ERR no\r\n", "-\"ERR no\".", 0},
+    {2, ":0\r\n", ":0.", 0},
+    {2, ":-9223372036854775808\r\n", ":-9223372036854775808.", 0},
+    {2, ":9223372036854775807\r\n", ":9223372036854775807.", 0},
+    {2, ":9223372036854775808\r\n", "!5@19", 0},
+    {2, "$5\r\nhe\r\no\r\n", "$\"he\r\no\".", 0},
+    {2, "$0\r\n\r\n", "$\"\".", 0},
+    {2, "$-1\r\n", "_.", 0},
+    {2, "*-1\r\n", "_.", 0},
+    {2, "*0\r\n", "*0].", 0},
+    {2, "*2\r\n*1\r\n+a\r\n:-1\r\n", "*2*1+\"a\"]:-1].", 0},
+    {2, "+a\r\n+b\r\n", "+\"a\".+\"b\".", 0},
+    {2, "_\r\n", "!3@0", 0},
+    {2, "x", "!1@0", 0},
+    {2, "$5\r\nhel", "$\"hel!9@7", 0},
+    {2, "", "", 0},
+    {3, "_\r\n", "_.", 0},
+    {3, "#t\r\n#f\r\n", "#1.#0.", 0},
+    {3, "(-0012\r\n", "(-\"12\".", 0},
+    {3, "(+0\r\n", "(\"\".", 0},
+    {3, "(3492890328409238509324850943850943825024385\r\n",
+     "(\"3492890328409238509324850943850943825024385\".", 0},
+    {3, "!3\r\nE x\r\n", "!\"E x\".", 0},
+    {3, "=7\r\ntxt:abc\r\n", "=txt\"abc\".", 0},
+    {3, "$?\r\n;4\r\nhell\r\n;1\r\no\r\n;0\r\n", "$\"hello\".", 0},
+    {3, "*?\r\n:1\r\n.\r\n", "*?:1].", 0},
+    {3, "%1\r\n+k\r\n~1\r\n:1\r\n", "%1+\"k\"~1:1]].", 0},
+    {3, "%?\r\n.\r\n", "%?].", 0},
+    {3, "|1\r\n+a\r\n:1\r\n+v\r\n", "|1+\"a\":1+\"v\"].", 0},
+    {3, ">2\r\n+m\r\n+n\r\n", ">2+\"m\"+\"n\"].", 0},
+    {3, "*1\r\n>", "*1!4@4", 0},
+    {3, ",1.5\r\n", "!2@0", 0},
+    {3, ",1.5\r\n,-inf\r\n", ",\"1.5\".,\"-inf\".", doubles},
+    {2, ",1.5\r\n", "!3@0", doubles},
+    {3, "*?", "!12@1", unstreamed},
+    /* After the fifth `*` a null may still come. */
+    {2, "*1\r\n*1\r\n*1\r\n*1\r\n*1\r\n", "*1*1*1*1!6@17", shallow},
+    {2, "$65\r\n", "!7@2", short_content},
+    {2, "$300\r\n", "!8@3", small},
+    {2, "*17\r\n", "!13@2", few},
+};
+
+/* What a text said so far. */
+struct story {
+    char said[512];
+    size_t length;
+};
+
+static void say(struct story *story, const char *format, ...) {
+    va_list values;
+    va_start(values, format);
+    int count = vsnprintf(story->said + story->length, sizeof story->said - story->length, format, values);
+    va_end(values);
+    if (count > 0 && story->length + (size_t)count < sizeof story->said)
+        story->length += (size_t)count;
+}
+
+static void say_event(struct story *story, const struct resp_event *event, const uint8_t *piece) {
+    switch (event->kind) {
+    case RESP_NULL:
+        say(story, "_");
+        break;
+    case RESP_BOOL:
+        say(story, "#%" PRId64, event->number);
+        break;
+    case RESP_INT:
+        say(story, ":%" PRId64, event->number);
+        break;
+    case RESP_TEXT:
+        say(story, "%c", "+-,$!=("[event->form]);
+        if (event->form == RESP_TEXT_VERBATIM)
+            say(story, "%.3s", (const char *)event->format);
+        if (event->form == RESP_TEXT_BIG && event->number)
+            say(story, "-");
+        say(story, "\"");
+        break;
+    case RESP_PART:
+        say(story, "%.*s", (int)event->part, (const char *)resp_event_part(event, piece));
+        break;
+    case RESP_TEXT_END:
+        say(story, "\"");
+        break;
+    case RESP_OPEN:
+        say(story, "%c", "*~%|>"[event->form]);
+        if (event->members == RESP_STREAMED)
+            say(story, "?");
+        else
+            say(story, "%" PRIu64, event->members);
+        break;
+    case RESP_CLOSE:
+        say(story, "]");
+        break;
+    case RESP_DONE:
+        say(story, ".");
+        break;
+    }
+}
+
+/* Says the events of a piece. Whether it isn't refused. The piece stands in memory of its own, so
+ * that a read outside it is found. */
+static bool say_piece(struct story *story, struct resp_scanner *scanner, const char *text, size_t length) {
+    uint8_t *piece = malloc(length ? length : 1);
+    uint32_t cause = RESP_OK;
+    memcpy(piece, text, length);
+    for (size_t at = 0;;) {
+        struct resp_event event;
+        cause = resp_scanner_step(scanner, piece + at, length - at, &event);
+        if (cause != RESP_OK || event.kind == RESP_MORE)
+            break;
+        say_event(story, &event, piece + at);
+        at += event.used;
+    }
+    if (cause != RESP_OK) {
+        say(story, "!%" PRIu32 "@%" PRIu64, cause, resp_scanner_taken(scanner));
+        struct resp_event event;
+        check(resp_scanner_step(scanner, piece, length, &event) == cause, text, "refused otherwise again");
+        check(resp_scanner_finish(scanner) == cause, text, "the end is refused otherwise");
+        check(resp_scanner_set_version(scanner, 3) == RESP_CAUSE_BUSY, text, "changed after a refusal");
+    }
+    free(piece);
+    return cause == RESP_OK;
+}
+
+/* Runs a row, cut before the byte `cut`; at its length and one more, byte by byte. */
+static void run(const struct row *row, size_t cut) {
+    size_t length = strlen(row->text);
+    struct story story = {"", 0};
+    struct resp_limits limits;
+    struct resp_scanner scanner = {malloc(resp_scanner_size())};
+    resp_limits_standard(&limits);
+    if (row->limit)
+        row->limit(&limits);
+    check(resp_scanner_init(&scanner, row->version, &limits) == RESP_OK, row->text, "no scanner");
+    bool goes_on = true;
+    if (cut <= length) {
+        goes_on = say_piece(&story, &scanner, row->text, cut) &&
+                  say_piece(&story, &scanner, row->text + cut, length - cut);
+    } else {
+        for (size_t at = 0; goes_on && at < length; at++)
+            goes_on = say_piece(&story, &scanner, row->text + at, 1) && say_piece(&story, &scanner, "", 0);
+    }
+    if (goes_on) {
+        uint32_t cause = resp_scanner_finish(&scanner);
+        if (cause != RESP_OK)
+            say(&story, "!%" PRIu32 "@%" PRIu64, cause, resp_scanner_taken(&scanner));
+    }
+    check(strcmp(story.said, row->wanted) == 0, row->text, story.said);
+    free(scanner.memory);
+}
+
+static void calls(void) {
+    struct resp_limits limits;
+    struct resp_event event;
+    struct resp_scanner scanner = {malloc(resp_scanner_size())};
+    const uint8_t *text = (const uint8_t *)"*2\r\n$5\r\nhello\r\n:1\r\n";
+    resp_limits_standard(&limits);
+    check(limits.depth == 32 && limits.length == 536870912 && limits.total == 1073741824 &&
+          limits.items == 1099511627776 && limits.streamed && !limits.doubles, "standard", "other limits");
+    check(resp_scanner_init(&scanner, 2, &limits) == RESP_OK, "init", "refused");
+    check(resp_scanner_needed(&scanner) == 3, "needed between values", "not 3");
+    check(resp_scanner_step(&scanner, text, 8, &event) == RESP_OK && event.used == 4, "step", "no open");
+    check(resp_scanner_depth(&scanner) == 1, "depth", "not 1");
+    check(resp_scanner_set_version(&scanner, 3) == RESP_CAUSE_BUSY, "set_version", "changed inside a value");
+    check(resp_scanner_step(&scanner, text + 4, 4, &event) == RESP_OK && event.kind == RESP_TEXT, "step", "no text");
+    check(resp_scanner_taken(&scanner) == 8, "taken", "not 8");
+    check(resp_scanner_needed(&scanner) == 10, "needed", "not 10");
+    check(resp_scanner_finish(&scanner) == RESP_CAUSE_TRUNCATED, "finish", "not truncated");
+    check(resp_scanner_init(&scanner, 4, &limits) == RESP_CAUSE_BAD_VERSION, "init", "no bad version");
+    limits.depth = 3;
+    check(resp_scanner_init(&scanner, 2, &limits) == RESP_CAUSE_BAD_LIMITS, "init", "no bad limits");
+    check(resp_scanner_taken(&scanner) == 8, "a refused init", "has changed the scanner");
+    limits.depth = 128;
+    check(resp_scanner_init(&scanner, 2, &limits) == RESP_OK, "init again", "refused");
+    check(resp_scanner_finish(&scanner) == RESP_OK, "finish between values", "refused");
+    check(resp_scanner_set_version(&scanner, 1) == RESP_CAUSE_BAD_VERSION, "set_version", "no bad version");
+    check(resp_scanner_set_version(&scanner, 3) == RESP_OK, "set_version", "refused between values");
+    check(resp_scanner_step(&scanner, (const uint8_t *)"_\r\n", 3, &event) == RESP_OK && event.kind == RESP_NULL,
+          "version 3", "not read");
+    free(scanner.memory);
+}
+
+int main(void) {
+    for (size_t row = 0; row < sizeof ROWS / sizeof *ROWS; row++)
+        for (size_t cut = 0; cut <= strlen(ROWS[row].text) + 1; cut++)
+            run(&ROWS[row], cut);
+    calls();
+    printf("%u passed, %u failed\n", passed, failed);
+    return failed != 0;
+}

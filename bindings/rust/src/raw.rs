@@ -1,0 +1,119 @@
+//! The library as its header `resp.h` declares it.
+
+use crate::{Aggregate, Cause, Event as Told, Limits as Given, Text};
+use std::ffi::c_void;
+
+pub const OK: u32 = 0;
+
+#[repr(C)]
+pub struct Scanner {
+    pub memory: *mut c_void,
+}
+
+#[repr(C)]
+#[derive(Default)]
+pub struct Limits {
+    pub depth: u64,
+    pub length: u64,
+    pub total: u64,
+    pub items: u64,
+    pub streamed: bool,
+    pub doubles: bool,
+}
+
+#[repr(C)]
+#[derive(Default)]
+pub struct Event {
+    pub kind: u32,
+    pub form: u32,
+    pub number: i64,
+    pub members: u64,
+    pub used: usize,
+    pub part: usize,
+    pub format: [u8; 3],
+    pub digit: u8,
+}
+
+extern "C" {
+    pub fn resp_limits_standard(limits: *mut Limits);
+    pub fn resp_scanner_size() -> usize;
+    pub fn resp_scanner_align() -> usize;
+    pub fn resp_scanner_init(scanner: *mut Scanner, version: u32, limits: *const Limits) -> u32;
+    pub fn resp_scanner_step(scanner: *mut Scanner, piece: *const u8, length: usize, event: *mut Event) -> u32;
+    pub fn resp_scanner_finish(scanner: *mut Scanner) -> u32;
+    pub fn resp_scanner_set_version(scanner: *mut Scanner, version: u32) -> u32;
+    pub fn resp_scanner_depth(scanner: *mut Scanner) -> usize;
+    pub fn resp_scanner_taken(scanner: *mut Scanner) -> u64;
+    pub fn resp_scanner_needed(scanner: *mut Scanner) -> u64;
+}
+
+impl From<&Given> for Limits {
+    fn from(limits: &Given) -> Limits {
+        let &Given { depth, length, total, items, streamed, doubles } = limits;
+        Limits { depth, length, total, items, streamed, doubles }
+    }
+}
+
+/// The digit of a part at no byte.
+static DIGITS: [u8; 10] = *b"0123456789";
+
+impl Event {
+    /// The event, whose part lends the piece.
+    pub fn told<'a>(&self, piece: &'a [u8]) -> Option<Told<'a>> {
+        Some(match self.kind {
+            0 => return None,
+            1 => Told::Null,
+            2 => Told::Bool(self.number != 0),
+            3 => Told::Int(self.number),
+            4 => Told::Text(self.text()),
+            5 if self.used == 0 => {
+                let digit = usize::from(self.digit - b'0');
+                Told::Part(&DIGITS[digit..=digit])
+            }
+            5 => Told::Part(&piece[self.used - self.part..self.used]),
+            6 => Told::TextEnd,
+            7 => Told::Open(self.aggregate(), (self.members != u64::MAX).then_some(self.members)),
+            8 => Told::Close,
+            _ => Told::Done,
+        })
+    }
+
+    fn text(&self) -> Text {
+        match self.form {
+            0 => Text::Simple,
+            1 => Text::Error,
+            2 => Text::Double,
+            3 => Text::Bulk,
+            4 => Text::BulkError,
+            5 => Text::Verbatim(self.format),
+            _ => Text::Big { negative: self.number != 0 },
+        }
+    }
+
+    fn aggregate(&self) -> Aggregate {
+        match self.form {
+            0 => Aggregate::Array,
+            1 => Aggregate::Set,
+            2 => Aggregate::Map,
+            3 => Aggregate::Attribute,
+            _ => Aggregate::Push,
+        }
+    }
+}
+
+/// The cause of this number, of those that a step and the end have.
+pub fn cause(number: u32) -> Cause {
+    match number {
+        1 => Cause::Syntax,
+        2 => Cause::Double,
+        3 => Cause::Version,
+        4 => Cause::NestedPush,
+        5 => Cause::Range,
+        6 => Cause::Depth,
+        7 => Cause::Length,
+        8 => Cause::Total,
+        9 => Cause::Truncated,
+        12 => Cause::Streamed,
+        _ => Cause::Items,
+    }
+}

@@ -1,0 +1,128 @@
+//! Rows of what the scanner tells of texts, each at every cut, and of its other calls.
+
+use resp::{Aggregate, BadLimits, Busy, Cause, Event, Fault, Limits, Scanner, Text, Version};
+use std::fmt::Write;
+
+/// The events of pieces: `_`, `#1`, `:7`, a text's type byte and its bytes in quotes, an aggregate's with the number of
+/// its members, `]` for a close, `.` for done, and a fault.
+fn said(version: Version, limits: &Limits, pieces: &[&[u8]]) -> String {
+    let mut scanner = Scanner::new(version, limits).expect("limits");
+    let mut said = String::new();
+    for piece in pieces {
+        let mut rest = *piece;
+        loop {
+            match scanner.step(rest) {
+                Ok(step) => {
+                    rest = &rest[step.used..];
+                    let Some(event) = step.event else { break };
+                    say(&mut said, event);
+                }
+                Err(fault) => {
+                    assert_eq!(scanner.step(b"+"), Err(fault));
+                    assert_eq!(scanner.finish(), Err(fault));
+                    write!(said, "!{fault}").expect("a string");
+                    return said;
+                }
+            }
+        }
+    }
+    if let Err(fault) = scanner.finish() {
+        write!(said, "!{fault}").expect("a string");
+    }
+    said
+}
+
+fn say(said: &mut String, event: Event<'_>) {
+    match event {
+        Event::Null => said.push('_'),
+        Event::Bool(truth) => said.push_str(if truth { "#t" } else { "#f" }),
+        Event::Int(number) => write!(said, ":{number}").expect("a string"),
+        Event::Text(Text::Simple) => said.push_str("+\""),
+        Event::Text(Text::Error) => said.push_str("-\""),
+        Event::Text(Text::Double) => said.push_str(",\""),
+        Event::Text(Text::Bulk) => said.push_str("$\""),
+        Event::Text(Text::BulkError) => said.push_str("!\""),
+        Event::Text(Text::Verbatim(format)) => write!(said, "={}\"", format.escape_ascii()).expect("a string"),
+        Event::Text(Text::Big { negative }) => said.push_str(if negative { "(-\"" } else { "(\"" }),
+        Event::Part(part) => write!(said, "{}", part.escape_ascii()).expect("a string"),
+        Event::TextEnd => said.push('"'),
+        Event::Open(kind, members) => {
+            said.push(match kind {
+                Aggregate::Array => '*',
+                Aggregate::Set => '~',
+                Aggregate::Map => '%',
+                Aggregate::Attribute => '|',
+                Aggregate::Push => '>',
+            });
+            match members {
+                Some(members) => write!(said, "{members}").expect("a string"),
+                None => said.push('?'),
+            }
+        }
+        Event::Close => said.push(']'),
+        Event::Done => said.push('.'),
+    }
+}
+
+fn check(version: Version, limits: &Limits, text: &[u8], wanted: &str) {
+    for cut in 0..=text.len() {
+        assert_eq!(said(version, limits, &[&text[..cut], &text[cut..]]), wanted, "cut at {cut}");
+    }
+    let bytes: Vec<&[u8]> = text.chunks(1).flat_map(|byte| [byte, b""]).collect();
+    assert_eq!(said(version, limits, &bytes), wanted, "byte by byte");
+}
+
+#[test]
+fn version_two() {
+    let limits = Limits::default();
+    for (text, wanted) in [
+        (&b"+OK\r\n"[..], "+\"OK\"."),
+        (b"-ERR no\r\n", "-\"ERR no\"."),
+        (b":-9223372036854775808\r\n", ":-9223372036854775808."),
+        (b":9223372036854775808\r\n", "!Range at byte 19 of the value"),
+        (b"$5\r\nhe\r\no\r\n", "$\"he\\r\\no\"."),
+        (b"$-1\r\n*-1\r\n", "_._."),
+        (b"*2\r\n*1\r\n+a\r\n:-1\r\n", "*2*1+\"a\"]:-1]."),
+        (b"_\r\n", "!Version at byte 0 of the value"),
+        (b"$5\r\nhel", "$\"hel!Truncated at byte 7 of the value"),
+    ] {
+        check(Version::Two, &limits, text, wanted);
+    }
+}
+
+#[test]
+fn version_three() {
+    let limits = Limits { doubles: true, ..Limits::default() };
+    for (text, wanted) in [
+        (&b"_\r\n#t\r\n#f\r\n"[..], "_.#t.#f."),
+        (b"(-0012\r\n(0\r\n", "(-\"12\".(\"\"."),
+        (b"!3\r\nE x\r\n", "!\"E x\"."),
+        (b"=7\r\ntxt:abc\r\n", "=txt\"abc\"."),
+        (b"$?\r\n;4\r\nhell\r\n;1\r\no\r\n;0\r\n", "$\"hello\"."),
+        (b"*?\r\n:1\r\n.\r\n", "*?:1]."),
+        (b"%1\r\n+k\r\n~1\r\n:1\r\n", "%1+\"k\"~1:1]]."),
+        (b"|1\r\n+a\r\n:1\r\n+v\r\n", "|1+\"a\":1+\"v\"]."),
+        (b">1\r\n+m\r\n", ">1+\"m\"]."),
+        (b"*1\r\n>", "*1!NestedPush at byte 4 of the value"),
+        (b",1.5\r\n", ",\"1.5\"."),
+    ] {
+        check(Version::Three, &limits, text, wanted);
+    }
+    let limits = Limits { streamed: false, ..Limits::default() };
+    check(Version::Three, &limits, b",1.5\r\n", "!Double at byte 0 of the value");
+    check(Version::Three, &limits, b"*?\r\n", "!Streamed at byte 1 of the value");
+}
+
+#[test]
+fn calls() {
+    assert!(matches!(Scanner::new(Version::Two, &Limits { depth: 3, ..Limits::default() }), Err(BadLimits)));
+    let mut scanner = Scanner::new(Version::Two, &Limits::default()).expect("limits");
+    assert_eq!(scanner.needed(), 3);
+    assert_eq!(scanner.step(b"*1\r\n$5\r\n").expect("an open").used, 4);
+    assert_eq!((scanner.depth(), scanner.taken(), scanner.needed()), (1, 4, 3));
+    assert_eq!(scanner.set_version(Version::Three), Err(Busy));
+    assert_eq!(scanner.finish(), Err(Fault { cause: Cause::Truncated, at: 4 }));
+    let mut scanner = Scanner::new(Version::Two, &Limits::default()).expect("limits");
+    assert_eq!(scanner.set_version(Version::Three), Ok(()));
+    assert_eq!(scanner.step(b"_\r\n").expect("a null").event, Some(Event::Null));
+}

@@ -1,0 +1,8 @@
+-- What C is told, in the scanner's words.
+pub mod Told
+pub mod Steps
+pub mod Limits
+pub mod Versions
+-- The memory of the caller.
+pub mod Memory
+pub mod Lent

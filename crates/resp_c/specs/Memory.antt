@@ -1,0 +1,15 @@
+-- What memory of the caller holds: room for a scanner, or the scanner that lies there.
+use base.Fml.{Fml}
+use base.Fraction.{full_share}
+use base.Stored.{Coded}
+use denote.RawPtr.{Ptr, lies_at, room_at}
+use Rattle.std.specs.Prelude.{Option, Some, None}
+use Rattle.std.specs.Coded.{coded_option}
+use Rattle.resp_scan.specs.contracts.scanner.Scanner.{the_row}
+
+abbrev pub holds : Ptr → Option the_row.Denot → Fml
+holds p None = room_at the_row p
+holds p (Some s) = lies_at the_row full_share p s
+
+abbrev pub coded_scanner : Coded (Option the_row.Denot)
+coded_scanner = coded_option the_row.coded

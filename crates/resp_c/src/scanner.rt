@@ -1,0 +1,190 @@
+//! The scanner, as C calls it.
+
+ghost use Rattle.std.specs.Prelude.{◌≡◌, ◌↔◌, ◌≤◌, ◌+◌, ◌⊎◌, [], length, Option, Some, IfSome, Result, Ok, Err};
+ghost use Rattle.resp_c.specs.Limits.{bounds_of};
+ghost use Rattle.resp_c.specs.Steps.{IsHeld, StepsInMemory, WhereHeld};
+ghost use Rattle.resp_c.specs.Told.{Tells};
+ghost use Rattle.resp_c.specs.Versions.{IsVersion, version_of};
+ghost use Rattle.resp_scan.specs.Counts.{close_count, open_count};
+ghost use Rattle.resp_scan.specs.Kinds.{rules_of};
+ghost use Rattle.resp_scan.specs.Reading.{HasRead, IsFaulted, MayEnd, WhereRead};
+ghost use Rattle.resp_scan.specs.declared.event.Fault.{Fault};
+ghost use Rattle.resp_scan.specs.declared.event.Step.{Step};
+ghost use Rattle.resp_fronts.specs.LeastCompletions.{IsLeast};
+ghost use Rattle.resp_value.specs.Bounds.{AreBounds};
+ghost use Rattle.resp_value.specs.Causes.{number_of};
+ghost use Rattle.resp_value.specs.Rules.{rules_under};
+ghost use Rattle.resp_value.specs.declared.cause.Cause.TheVariants as cause;
+
+use crate::event::{RespEvent, told};
+use crate::limits::{RespLimits, checked};
+use crate::memory::RespScanner;
+use resp_scan::scanner::Scanner;
+use resp_value::cause::Cause;
+use resp_value::version::Version;
+use std::mem::{align_of, size_of};
+
+/// The number of the refusal of a version that isn't 2 or 3.
+const BAD_VERSION: u32 = 64;
+
+/// The number of bytes of a scanner's memory.
+#[unsafe(no_mangle)]
+pub extern "C" fn resp_scanner_size() -> usize {
+    size_of::<Scanner>()
+}
+
+/// The alignment of a scanner's memory.
+#[unsafe(no_mangle)]
+pub extern "C" fn resp_scanner_align() -> usize {
+    align_of::<Scanner>()
+}
+
+/// The version of this number, 2 or 3.
+fn version(number: u32) -> Option<Version>
+    ensures some { IfSome result (λ version. (version ≡ version_of number) × IsVersion number) }
+    ensures none { result ≡ None → IsVersion number → ⊥ }
+{
+    match number {
+        2 => Some(Version::Two),
+        3 => Some(Version::Three),
+        _ => None,
+    }
+}
+
+/// Puts a scanner of version 2 or 3 within these limits into the memory, between two values. It
+/// may be called again. Answers 0, or what it refuses: 64 another version, 63 a limit outside its
+/// range; the memory then holds what it held.
+#[unsafe(no_mangle)]
+pub extern "C" fn resp_scanner_init(
+    scanner: &mut RespScanner,
+    version: u32,
+    limits: &RespLimits,
+) -> u32
+    ensures begun { result ≡ 0 → WhereHeld scanner.new.scanner (λ new. HasRead new [] [] ×
+        (rules_of new ≡ rules_under (version_of version) (bounds_of limits.now))) }
+    ensures held { result ≡ 0 → IsHeld scanner.new.scanner }
+    ensures ok { (result ≡ 0) ↔ (IsVersion version × AreBounds (bounds_of limits.now)) }
+    ensures version { (result ≡ 64) ↔ (IsVersion version → ⊥) }
+    ensures unchanged { (result ≡ 0 → ⊥) → scanner.new.scanner ≡ scanner.old.scanner }
+{
+    let Some(version) = crate::scanner::version(version) else {
+        return BAD_VERSION;
+    };
+    match checked(limits) {
+        Ok(limits) => {
+            scanner.fill(Scanner::new(version, &limits));
+            0
+        }
+        Err(_) => Cause::BadLimits.number(),
+    }
+}
+
+/// Takes bytes of the piece until an event is there or the piece ends, as [`Scanner::step`]. An
+/// event may be owed at bytes that were taken before, and comes then by a step that uses no byte.
+/// Answers 0, or the number of the cause of a refusal, and then leaves `event`;
+/// [`resp_scanner_taken`] is then the place of the refused byte in its value.
+#[unsafe(no_mangle)]
+pub extern "C" fn resp_scanner_step(
+    scanner: &mut RespScanner,
+    piece: &[u8],
+    event: &mut RespEvent,
+) -> u32
+    requires { IsHeld scanner.old.scanner }
+    ensures told { result ≡ 0 → (step : Step) × StepsInMemory scanner.old.scanner
+        scanner.new.scanner piece.now (Ok step) × (event.new.used ≡ step.used) ×
+        Tells event.new step.event }
+    ensures refused { (result ≡ 0 → ⊥) → (fault : Fault) × StepsInMemory scanner.old.scanner
+        scanner.new.scanner piece.now (Err fault) × (result ≡ number_of fault.cause) ×
+        (event.new ≡ event.old) }
+    ensures within_piece { result ≡ 0 → event.new.used ≤ length piece.now }
+{
+    match scanner.scanner().step(piece) {
+        Ok(step) => {
+            *event = told(step);
+            0
+        }
+        Err(fault) => fault.cause.number(),
+    }
+}
+
+/// The end of the input. Answers 0, or what it is refused for: 9, Truncated, inside a value, and
+/// the fault that stands after a refused byte.
+#[unsafe(no_mangle)]
+pub extern "C" fn resp_scanner_finish(scanner: &mut RespScanner) -> u32
+    requires { IsHeld scanner.old.scanner }
+    ensures may_end { WhereHeld scanner.old.scanner (λ old. WhereRead old (λ front given.
+        (result ≡ 0) ↔ MayEnd (rules_of old) front)) }
+    ensures truncated { WhereHeld scanner.old.scanner (λ old. WhereRead old (λ front given.
+        (result ≡ 0 → ⊥) → result ≡ number_of cause.Truncated)) }
+    ensures fault_is_final { WhereHeld scanner.old.scanner (λ old. (fault : Fault) →
+        IsFaulted old fault → result ≡ number_of fault.cause) }
+    ensures unchanged { scanner.new.scanner ≡ scanner.old.scanner }
+{
+    match scanner.scanner().finish() {
+        Ok(()) => 0,
+        Err(fault) => fault.cause.number(),
+    }
+}
+
+/// Reads this version from the next value on. Answers 0, or what it refuses, and then changes
+/// nothing: 62, Busy, from a value's first byte until its `RESP_DONE` was given, and after a fault;
+/// 64 a version that isn't 2 or 3.
+#[unsafe(no_mangle)]
+pub extern "C" fn resp_scanner_set_version(scanner: &mut RespScanner, version: u32) -> u32
+    requires { IsHeld scanner.old.scanner }
+    ensures only_between_values { IsVersion version → WhereHeld scanner.old.scanner (λ old.
+        WhereRead old (λ front given. (result ≡ 0) ↔ (front ≡ []))) }
+    ensures new_version { result ≡ 0 → WhereHeld scanner.old.scanner (λ old.
+        WhereHeld scanner.new.scanner (λ new. rules_of new ≡
+        rules_under (version_of version) (rules_of old).limits)) }
+    ensures nothing_read { result ≡ 0 → WhereHeld scanner.old.scanner (λ old.
+        WhereRead old (λ front given. WhereHeld scanner.new.scanner (λ new. HasRead new [] []))) }
+    ensures held { IsHeld scanner.new.scanner }
+    ensures unchanged { (result ≡ 0 → ⊥) → scanner.new.scanner ≡ scanner.old.scanner }
+{
+    let Some(version) = crate::scanner::version(version) else {
+        return BAD_VERSION;
+    };
+    match scanner.scanner().set_version(version) {
+        Ok(()) => 0,
+        Err(_) => Cause::Busy.number(),
+    }
+}
+
+/// The number of aggregates whose open was given and whose close wasn't.
+#[unsafe(no_mangle)]
+pub extern "C" fn resp_scanner_depth(scanner: &mut RespScanner) -> usize
+    requires { IsHeld scanner.old.scanner }
+    ensures opens_less_closes { WhereHeld scanner.old.scanner (λ old. WhereRead old (λ front given.
+        open_count given ≡ result + close_count given)) }
+    ensures unchanged { scanner.new.scanner ≡ scanner.old.scanner }
+{
+    scanner.scanner().depth()
+}
+
+/// The number of bytes taken of the value, 0 between values. A refused byte isn't among them, so
+/// that after a refusal it is the place of that byte.
+#[unsafe(no_mangle)]
+pub extern "C" fn resp_scanner_taken(scanner: &mut RespScanner) -> u64
+    requires { IsHeld scanner.old.scanner }
+    ensures length_of_front { WhereHeld scanner.old.scanner (λ old. WhereRead old (λ front given.
+        result ≡ length front)) }
+    ensures after_a_fault { WhereHeld scanner.old.scanner (λ old. (fault : Fault) →
+        IsFaulted old fault → result ≡ fault.at) }
+    ensures unchanged { scanner.new.scanner ≡ scanner.old.scanner }
+{
+    scanner.scanner().taken()
+}
+
+/// The least number of bytes that complete the value, whatever the limit of total: 3 between
+/// values, and 0 where all its bytes have come and only events are owed. It says nothing after a
+/// fault.
+#[unsafe(no_mangle)]
+pub extern "C" fn resp_scanner_needed(scanner: &mut RespScanner) -> u64
+    requires { IsHeld scanner.old.scanner }
+    ensures least_completion { WhereHeld scanner.old.scanner (λ old. WhereRead old (λ front given.
+        IsLeast (rules_of old) front result)) }
+    ensures unchanged { scanner.new.scanner ≡ scanner.old.scanner }
+{
+    scanner.scanner().needed()
+}

@@ -1,0 +1,200 @@
+/* Reads RESP2 and RESP3, the wire protocol of Redis, as bytes come: values as events.
+ *
+ * No function takes memory from a heap, and none keeps a pointer to a piece. What the caller
+ * owes, and nothing checks: the memory of a scanner stays where it is, resp_scanner_init has
+ * answered RESP_OK before any other call of the scanner, one call of a scanner runs at a time, and
+ * each pointer is to what its type says.
+ *
+ *     struct resp_limits limits;
+ *     resp_limits_standard(&limits);
+ *     struct resp_scanner scanner = { malloc(resp_scanner_size()) };
+ *     resp_scanner_init(&scanner, 3, &limits);
+ *
+ *     struct resp_event event;
+ *     while ((cause = resp_scanner_step(&scanner, piece, length, &event)) == RESP_OK) {
+ *         piece += event.used;
+ *         length -= event.used;
+ *         if (event.kind == RESP_MORE) break;   // read the next piece
+ *         ...
+ *     }
+ */
+#ifndef RESP_H
+#define RESP_H
+
+#include <stdbool.h>
+#include <stddef.h>
+#include <stdint.h>
+
+#ifdef __cplusplus
+extern "C" {
+#endif
+
+#define RESP_VERSION "0.1.0"
+
+/* What a call answers: RESP_OK, or why it refuses. */
+enum resp_cause {
+    RESP_OK = 0,
+    /* The bytes begin no value of any version. */
+    RESP_CAUSE_SYNTAX = 1,
+    /* A double came while these are switched off. */
+    RESP_CAUSE_DOUBLE = 2,
+    /* A form of version 3 came while version 2 is read. */
+    RESP_CAUSE_VERSION = 3,
+    /* A push came below the top level. */
+    RESP_CAUSE_NESTED_PUSH = 4,
+    /* An integer is outside the range of signed 64 bits. */
+    RESP_CAUSE_RANGE = 5,
+    /* The value is over the limit of depth. */
+    RESP_CAUSE_DEPTH = 6,
+    /* A content is over the limit of length. */
+    RESP_CAUSE_LENGTH = 7,
+    /* The value can't end within the limit of total. */
+    RESP_CAUSE_TOTAL = 8,
+    /* The input ended inside a value. */
+    RESP_CAUSE_TRUNCATED = 9,
+    /* A streamed form came while these are switched off. */
+    RESP_CAUSE_STREAMED = 12,
+    /* An aggregate is over the limit of items. */
+    RESP_CAUSE_ITEMS = 13,
+    /* The version was to change inside a value or after a refusal. */
+    RESP_CAUSE_BUSY = 62,
+    /* A limit is outside its range. */
+    RESP_CAUSE_BAD_LIMITS = 63,
+    /* The version is neither 2 nor 3. */
+    RESP_CAUSE_BAD_VERSION = 64
+};
+
+/* What stands in the bytes. */
+enum resp_kind {
+    /* No event: the piece is used up. */
+    RESP_MORE = 0,
+    RESP_NULL = 1,
+    /* `number` is 1 for true and 0 for false. */
+    RESP_BOOL = 2,
+    /* `number` is the integer. */
+    RESP_INT = 3,
+    /* A text begins, of the kind `form`. Its parts follow, and then RESP_TEXT_END. */
+    RESP_TEXT = 4,
+    /* `part` bytes of the text, at resp_event_part. */
+    RESP_PART = 5,
+    RESP_TEXT_END = 6,
+    /* An aggregate begins, of the kind `form`, with `members`. They follow, and then RESP_CLOSE. */
+    RESP_OPEN = 7,
+    /* The innermost aggregate has ended. An attribute ends after the value that it annotates. */
+    RESP_CLOSE = 8,
+    /* The value at the top is whole. */
+    RESP_DONE = 9
+};
+
+/* The kinds of text. */
+enum resp_text {
+    RESP_TEXT_SIMPLE = 0,
+    RESP_TEXT_ERROR = 1,
+    /* A double, as its line came. It comes only where the limits allow doubles. */
+    RESP_TEXT_DOUBLE = 2,
+    RESP_TEXT_BULK = 3,
+    RESP_TEXT_BULK_ERROR = 4,
+    /* `format` has the three bytes of its format. */
+    RESP_TEXT_VERBATIM = 5,
+    /* Its text is its digits without leading zeros; `number` is 1 where it is below zero. */
+    RESP_TEXT_BIG = 6
+};
+
+/* The kinds of aggregate. */
+enum resp_aggregate {
+    RESP_ARRAY = 0,
+    RESP_SET = 1,
+    /* `members` counts pairs. Keys and values come in turn. */
+    RESP_MAP = 2,
+    /* `members` counts pairs. Last comes the value that the attribute annotates. */
+    RESP_ATTRIBUTE = 3,
+    RESP_PUSH = 4
+};
+
+/* The `members` of an aggregate that is streamed. */
+#define RESP_STREAMED UINT64_MAX
+
+/* How deep, long and large a value may be. */
+struct resp_limits {
+    /* The most aggregates inside one another, 4 to 128. */
+    uint64_t depth;
+    /* The most bytes of one content, 64 to 1,073,741,824. */
+    uint64_t length;
+    /* The most bytes of one value as spelled, 256 to 1,099,511,627,776. */
+    uint64_t total;
+    /* The most members of an array, set or push, or pairs of a map or attribute, 16 to
+     * 1,099,511,627,776. */
+    uint64_t items;
+    /* Whether streamed strings and aggregates are read. */
+    bool streamed;
+    /* Whether doubles are read, in version 3. */
+    bool doubles;
+};
+
+/* A scanner. The caller owns `memory`, of resp_scanner_size() bytes at the alignment
+ * resp_scanner_align(), sets it before resp_scanner_init, and may free it at any time. */
+struct resp_scanner {
+    void *memory;
+};
+
+/* What a step did. Fields that the kind doesn't name say nothing. */
+struct resp_event {
+    uint32_t kind;
+    uint32_t form;
+    int64_t number;
+    uint64_t members;
+    /* The number of bytes taken from the front of the piece. */
+    size_t used;
+    size_t part;
+    uint8_t format[3];
+    uint8_t digit;
+};
+
+/* Sets the standard limits: depth 32, contents of 536,870,912 bytes, values of 1,073,741,824
+ * bytes, 1,099,511,627,776 items, with streamed forms and without doubles. */
+void resp_limits_standard(struct resp_limits *limits);
+
+/* The number of bytes of a scanner's memory, and its alignment. */
+size_t resp_scanner_size(void);
+size_t resp_scanner_align(void);
+
+/* Begins between two values of version 2 or 3, within these limits. It may be called again.
+ * Refuses RESP_CAUSE_BAD_VERSION and RESP_CAUSE_BAD_LIMITS; the memory then holds what it held. */
+uint32_t resp_scanner_init(struct resp_scanner *scanner, uint32_t version,
+                           const struct resp_limits *limits);
+
+/* Takes bytes of the piece until an event is there or the piece ends. An event may be owed at bytes
+ * that were taken before, and comes then by a step that uses no byte, for an empty piece too.
+ * Refuses the first byte after which nothing can follow: `event` is then left as it was, every
+ * later step answers the same, and resp_scanner_taken is the place of that byte in its value. */
+uint32_t resp_scanner_step(struct resp_scanner *scanner, const uint8_t *piece, size_t length,
+                           struct resp_event *event);
+
+/* The end of the input. Refuses it by RESP_CAUSE_TRUNCATED inside a value, and by the cause that stands
+ * after a refusal. */
+uint32_t resp_scanner_finish(struct resp_scanner *scanner);
+
+/* Reads this version from the next value on. Refuses RESP_CAUSE_BAD_VERSION; and RESP_CAUSE_BUSY from a value's
+ * first byte until its RESP_DONE was given, and after a refusal. A refusal changes nothing. */
+uint32_t resp_scanner_set_version(struct resp_scanner *scanner, uint32_t version);
+
+/* The number of aggregates whose RESP_OPEN was given and whose RESP_CLOSE wasn't. */
+size_t resp_scanner_depth(struct resp_scanner *scanner);
+
+/* The number of bytes taken of the value, 0 between values. A refused byte isn't among them. */
+uint64_t resp_scanner_taken(struct resp_scanner *scanner);
+
+/* The least number of bytes that complete the value, whatever the limit of total: 3 between values,
+ * and 0 where all its bytes have come and only events are owed. It says nothing after a refusal. */
+uint64_t resp_scanner_needed(struct resp_scanner *scanner);
+
+/* The bytes of a RESP_PART, `event->part` of them, where `piece` is what the step was given. */
+static inline const uint8_t *resp_event_part(const struct resp_event *event, const uint8_t *piece) {
+    return event->used ? piece + (event->used - event->part) : &event->digit;
+}
+
+#ifdef __cplusplus
+}
+#endif
+
+#endif
