@@ -64,6 +64,27 @@ enum resp_cause {
     RESP_CAUSE_BAD_VERSION = 64
 };
 
+/* The name of a cause, as "Syntax", or "" for a number that is none. */
+static inline const char *resp_cause_name(uint32_t cause) {
+    switch (cause) {
+    case RESP_CAUSE_SYNTAX: return "Syntax";
+    case RESP_CAUSE_DOUBLE: return "Double";
+    case RESP_CAUSE_VERSION: return "Version";
+    case RESP_CAUSE_NESTED_PUSH: return "NestedPush";
+    case RESP_CAUSE_RANGE: return "Range";
+    case RESP_CAUSE_DEPTH: return "Depth";
+    case RESP_CAUSE_LENGTH: return "Length";
+    case RESP_CAUSE_TOTAL: return "Total";
+    case RESP_CAUSE_TRUNCATED: return "Truncated";
+    case RESP_CAUSE_STREAMED: return "Streamed";
+    case RESP_CAUSE_ITEMS: return "Items";
+    case RESP_CAUSE_BUSY: return "Busy";
+    case RESP_CAUSE_BAD_LIMITS: return "BadLimits";
+    case RESP_CAUSE_BAD_VERSION: return "BadVersion";
+    default: return "";
+    }
+}
+
 /* What stands in the bytes. */
 enum resp_kind {
     /* No event: the piece is used up. */

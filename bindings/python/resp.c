@@ -294,37 +294,10 @@ static bool take(struct reader *reader, const struct resp_event *event, const ui
     return true;
 }
 
-static const char *cause_name(uint32_t cause) {
-    switch (cause) {
-    case RESP_CAUSE_SYNTAX:
-        return "Syntax";
-    case RESP_CAUSE_DOUBLE:
-        return "Double";
-    case RESP_CAUSE_VERSION:
-        return "Version";
-    case RESP_CAUSE_NESTED_PUSH:
-        return "NestedPush";
-    case RESP_CAUSE_RANGE:
-        return "Range";
-    case RESP_CAUSE_DEPTH:
-        return "Depth";
-    case RESP_CAUSE_LENGTH:
-        return "Length";
-    case RESP_CAUSE_TOTAL:
-        return "Total";
-    case RESP_CAUSE_STREAMED:
-        return "Streamed";
-    case RESP_CAUSE_ITEMS:
-        return "Items";
-    default:
-        return "OutOfMemory";
-    }
-}
-
 /* Raises the protocol's error, with the cause and the byte of the value as attributes. */
 static PyObject *refuse(struct reader *reader, uint32_t cause) {
     uint64_t at = resp_scanner_taken(&reader->scanner);
-    const char *name = cause_name(cause);
+    const char *name = resp_cause_name(cause);
     PyObject *error = PyObject_CallFunction(reader->protocol_error, "N",
         PyUnicode_FromFormat("%s at byte %llu of the value", name, (unsigned long long)at));
     if (!error)
