@@ -35,9 +35,12 @@ struct reader {
     size_t taken;
     struct open open[MOST_OPEN];
     size_t depth;
-    /* The text that is being read, with its event. */
+    /* The text that is being read: its kind, whether it is a big number below zero, and its bytes. They lie at `part`
+     * of what was fed where that isn't NULL, and else in `text`. */
+    uint32_t form;
+    bool is_negative;
+    const uint8_t *part;
     struct bytes text;
-    struct resp_event begun;
     /* The value at the top, once it is whole. */
     PyObject *value;
     /* Why a value can't be made. It is raised once the value was read, so that the next can be. */
@@ -133,10 +136,12 @@ static PyObject *hashable(PyObject *value) {
 }
 
 static PyObject *text_value(struct reader *reader) {
-    const char *start = reader->text.start ? (const char *)reader->text.start : "";
+    const char *start = (const char *)(reader->part ? reader->part : reader->text.start);
     Py_ssize_t length = (Py_ssize_t)reader->text.length;
     PyObject *made, *value;
-    switch (reader->begun.form) {
+    if (!length)
+        start = "";
+    switch (reader->form) {
     case RESP_TEXT_ERROR:
     case RESP_TEXT_BULK_ERROR:
         made = PyUnicode_DecodeUTF8(start, length, "replace");
@@ -151,7 +156,7 @@ static PyObject *text_value(struct reader *reader) {
     case RESP_TEXT_BIG:
         made = length ? PyUnicode_FromStringAndSize(start, length) : PyUnicode_FromString("0");
         value = made ? PyObject_CallFunctionObjArgs((PyObject *)&PyLong_Type, made, NULL) : NULL;
-        if (value && reader->begun.number)
+        if (value && reader->is_negative)
             replace(&value, PyNumber_Negative(value));
         Py_XDECREF(made);
         return value;
@@ -262,6 +267,27 @@ static void forget(struct reader *reader) {
     Py_CLEAR(reader->failure);
 }
 
+/* Copies a text that lies in what was fed, since that goes. Whether memory for it was found. */
+static bool copy_part(struct reader *reader) {
+    const uint8_t *part = reader->part;
+    size_t length = reader->text.length;
+    if (!part)
+        return true;
+    reader->part = NULL;
+    reader->text.length = 0;
+    return append(&reader->text, part, length);
+}
+
+/* Adds a part to the text. The first is not copied, where it lies in what was fed. */
+static bool add_part(struct reader *reader, const struct resp_event *event, const uint8_t *piece) {
+    if (!reader->text.length && event->used) {
+        reader->part = resp_event_part(event, piece);
+        reader->text.length = event->part;
+        return true;
+    }
+    return copy_part(reader) && append(&reader->text, resp_event_part(event, piece), event->part);
+}
+
 /* Takes an event. Whether memory for it was found. */
 static bool take(struct reader *reader, const struct resp_event *event, const uint8_t *piece) {
     switch (event->kind) {
@@ -277,12 +303,15 @@ static bool take(struct reader *reader, const struct resp_event *event, const ui
         break;
     case RESP_TEXT:
         reader->text.length = 0;
-        reader->begun = *event;
+        reader->part = NULL;
+        reader->form = event->form;
+        reader->is_negative = event->number;
         break;
     case RESP_PART:
-        return append(&reader->text, resp_event_part(event, piece), event->part);
+        return add_part(reader, event, piece);
     case RESP_TEXT_END:
         add(reader, text_value(reader));
+        reader->part = NULL;
         break;
     case RESP_OPEN:
         begin(reader, event);
@@ -366,6 +395,8 @@ static PyObject *reader_gets(struct reader *reader, PyObject *args) {
         if (event.kind == RESP_DONE)
             return whole(reader);
         if (event.kind == RESP_MORE) {
+            if (!copy_part(reader))
+                Py_DECREF(failed(reader));
             Py_INCREF(reader->not_enough_data);
             return reader->not_enough_data;
         }
