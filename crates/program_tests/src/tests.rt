@@ -4,6 +4,7 @@ use std::fmt::Debug;
 use std::process::Abort;
 
 mod failing;
+mod live;
 mod scripts;
 mod statuses;
 mod streams;

@@ -8,6 +8,7 @@ use input::read_input;
 use resp_script::play::play;
 use resp_script::script::read_script;
 use resp_tool::command_line::{command, refuse_words, stop};
+use resp_tool::live::{Gathering, LiveSink};
 use resp_tool::tool_error::ToolError;
 use resp_value::device::{Device, MemorySink, Sink, Source};
 use resp_value::limits::Limits;
@@ -15,7 +16,7 @@ use resp_wire::{TcpLink, World};
 use std::alloc::{AllocError, Global};
 use std::env;
 use std::hash::RandomState;
-use std::io::{BufWriter, Write};
+use std::io::Write;
 use std::net::{Net, TcpListener, TcpStream};
 use std::process::ExitCode;
 
@@ -48,11 +49,8 @@ fn run(rt: &HostRuntime) -> Result<u8, AllocError> {
             return Ok(status);
         }
     };
-    let Ok(buffered) = BufWriter::new(alloc, rt.stdout()) else {
-        return Err(AllocError);
-    };
     let mut reader = Device::new(rt.stdin());
-    let mut writer = Device::new(buffered);
+    let mut writer = Gathering::new(alloc, Device::new(rt.stdout()))?;
     let status = if is_loop(words.as_slice()) {
         let hasher = RandomState::new(rt).ok();
         run_loop(rt, alloc, hasher, &mut reader, &mut writer, &mut faults)?
@@ -66,7 +64,7 @@ fn run(rt: &HostRuntime) -> Result<u8, AllocError> {
         )
     };
     // Where a device failed before, that has been said.
-    if writer.into_inner().flush().is_err() && status != DEVICE_FAILED {
+    if writer.flush().is_err() && status != DEVICE_FAILED {
         let _ = rt.stderr().write_all(b"write failed\n");
         return Ok(DEVICE_FAILED);
     }

@@ -4,6 +4,7 @@ pub mod Quoted
 pub mod QuotedWrites
 pub mod ReadLemmas
 pub mod Rendered
+pub mod LiveLemmas
 pub mod Scanned
 pub mod Counted
 pub mod Decoded

@@ -111,7 +111,7 @@ took_front r text W L B H H' bytes piece start mid after n taken few takes whole
     (t.0, subst (λ z. HasRendered r text W H' (bytes ++ z) start after n) (sym all) (renders_on r text W H H' bytes piece start mid after n few s t.1))
 
 -- no spelling begins what has none at its front
-no_more : (r : Rules) (rest : List ℕ) → HasNoSpelling r rest → (x : Datum) (next beyond : List ℕ) → IsSpelling r x next → rest ≡ next ++ beyond → ⊥
+pub no_more : (r : Rules) (rest : List ℕ) → HasNoSpelling r rest → (x : Datum) (next beyond : List ℕ) → IsSpelling r x next → rest ≡ next ++ beyond → ⊥
 no_more r rest none x next beyond spelling is =
     let front : take (length next) rest ≡ next = ap (take (length next)) is ∙ take_front next beyond in
     none (length next) (record { tree = spelling.tree; spells = subst (Spells spelling.tree) (sym front) spelling.spells; keeps = spelling.keeps })

@@ -2,6 +2,7 @@ pub mod Shown
 pub mod Written
 pub mod Faults
 pub mod Stops
+pub mod Live
 pub mod Takings
 pub mod Streams
 pub mod Pages

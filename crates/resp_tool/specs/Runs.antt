@@ -4,7 +4,8 @@ use Rattle.resp_value.specs.Canonical.{canonical_text, Fits}
 use Rattle.resp_value.specs.Rules.{Rules}
 use Rattle.resp_tool.specs.Counts.{Counts, IsAny, LeavesNothing}
 use Rattle.resp_tool.specs.Faults.{fault_line, status_of}
-use Rattle.resp_tool.specs.Scans.{IsShownIn, IsShownOf}
+use Rattle.resp_tool.specs.Live.{EachRead, IsLive, Look}
+use Rattle.resp_tool.specs.Scans.{IsShownDue, IsShownIn, IsShownOf}
 use Rattle.resp_tool.specs.Shown.{shown_text}
 use Rattle.resp_tool.specs.Streams.{AreRead, AtEnd, Renders}
 use Rattle.resp_tool.specs.Written.{TriesText}
@@ -18,6 +19,13 @@ RunsTo Show r bytes before after result = Renders r shown_text IsAny IsShownOf (
 RunsTo Check r bytes before after result = Counts r bytes before after result
 RunsTo Canon r bytes before after result =
     Renders r (canonical_text r.version) (Fits r) LeavesNothing LeavesNothing bytes before after result
+
+-- at each read of a task that writes as it reads, what is due by then had been sent
+abbrev pub Lives : Task → Rules → Option (List ℕ) → Option (List ℕ) → Option (List Look) → Option (List Look) → Type 0
+Lives Show r left before looks looks' = EachRead looks looks' (IsLive r shown_text IsShownDue left before)
+Lives Check r left before looks looks' = Unit {0}
+Lives Canon r left before looks looks' =
+    EachRead looks looks' (IsLive r (canonical_text r.version) LeavesNothing left before)
 
 -- the status of a task that ended so
 abbrev pub status_of_run : Result (Unit {0}) ToolError → ℕ
@@ -35,7 +43,8 @@ TellsFailure said said' failures failures' = (error : ToolError) × (status_of e
     TriesText said said' failures failures' (fault_line error)
 
 -- one of the tasks ran, under some version and limits, ended with this status, and was told of so
-pub record HasRun (left left' before after said said' : Option (List ℕ)) (failures failures' status : ℕ) : Type 0 where
+pub record HasRun (left left' before after said said' : Option (List ℕ)) (looks looks' : Option (List Look))
+    (failures failures' status : ℕ) : Type 0 where
   pub task : Task
   pub rules : Rules
   pub bytes : List ℕ
@@ -43,5 +52,6 @@ pub record HasRun (left left' before after said said' : Option (List ℕ)) (fail
   pub read : AreRead left left' bytes
   pub to_its_end : AtEnd result (IfSome left (λ _. left' ≡ Some []))
   pub ran : RunsTo task rules bytes before after result
+  pub live : Lives task rules left before looks looks'
   pub ended : status_of_run result ≡ status
   pub told : Tells said said' failures failures' result

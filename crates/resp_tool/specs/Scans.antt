@@ -35,6 +35,12 @@ pub record HasShown (s : Place) (lines : Lines) (front so_far : List ℕ) : Type
   pub shown_lines : AreLinesOf lines given
   pub written : so_far ≡ shown given
 
+-- the text of the events due of a front
+pub record IsShownDue (front text : List ℕ) : Type 0 where
+  pub given : Events
+  pub all_due : AreDue front given
+  pub is_text : text ≡ shown given
+
 -- the text of the events due of a front that goes no further
 pub record IsShownOf (front left : List ℕ) : Type 0 where
   pub given : Events

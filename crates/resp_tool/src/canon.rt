@@ -5,6 +5,7 @@ ghost use Rattle.resp_encode.specs.Refusals.{IfWrite, IsFirstRefusal};
 ghost use Rattle.resp_encode.specs.declared.error.EncodeError.{EncodeError};
 ghost use Rattle.resp_tool.specs.Canons.{stop_at, stop_of};
 ghost use Rattle.resp_tool.specs.Counts.{LeavesNothing};
+ghost use Rattle.resp_tool.specs.Live.{EachRead, IsLive};
 ghost use Rattle.resp_tool.specs.Streams.{AreRead, AtEnd, Renders, failed_to_read, failed_to_write};
 ghost use Rattle.resp_tool.specs.Written.{BreaksText, WritesWhole};
 ghost use Rattle.resp_value.specs.Canonical.{canonical_text, Fits};
@@ -12,6 +13,7 @@ ghost use Rattle.resp_value.specs.Devices.{count_after, failures_after};
 ghost use Rattle.resp_value.specs.Rules.{rules_under};
 ghost use Rattle.resp_value.specs.Values.{datum_of};
 
+use crate::live::{LiveSink, LiveSource};
 use crate::rendering::{Rendering, Stop, Taken};
 use crate::stream::{MOST_READS, render_stream};
 use crate::text::write_text;
@@ -21,7 +23,7 @@ use resp_decode::Decoder;
 use resp_encode::{EncodeError, EncodeToError, encode};
 use resp_scan::event::Fault;
 use resp_value::cause::Cause;
-use resp_value::device::{Sink, Source};
+use resp_value::device::{DeviceFault, Sink};
 use resp_value::limits::Limits;
 use resp_value::value::Value;
 use resp_value::version::Version;
@@ -53,6 +55,8 @@ impl Rendering for Canonical<'_> {
 
     ghost is_written = { Fits };
 
+    ghost is_due = { λ _. LeavesNothing };
+
     ghost is_left = { λ _. LeavesNothing };
 
     ghost is_begun = { λ _. LeavesNothing };
@@ -83,6 +87,10 @@ impl Rendering for Canonical<'_> {
     }
 
     fn part_stands(&self) {}
+
+    fn flush<W: LiveSink>(&self, writer: &mut W) -> Result<(), DeviceFault> {
+        writer.flush()
+    }
 
     fn finish<W: Sink>(&mut self, _writer: &mut W) -> Result<(), Stop> {
         // What was taken is viable, as the decoder says of it here.
@@ -149,13 +157,14 @@ fn stop_of(error: EncodeToError) -> Stop
 }
 
 /// Reads the stream by reads of at most `piece` bytes, from 1 to 65,536, and writes the canonical
-/// text of each value in the same version.
+/// text of each value in the same version, once it is whole. Before each read it flushes the
+/// writer; what that holds back at the end is the caller's to flush.
 ///
 /// Refuses a stream at its first byte after which nothing can follow, where it ends inside a
 /// value, at the first value whose canonical text is over the limits, or where bytes follow the
 /// first 1,000,000,000 values; the texts of the values before have been written. Where a device or
 /// memory fails, or 4,000,000,000 reads are used up, a first part of the texts was.
-pub fn canon<R: Source, W: Sink>(
+pub fn canon<R: LiveSource<W>, W: LiveSink>(
     alloc: Global,
     version: Version,
     limits: &Limits,
@@ -172,6 +181,10 @@ pub fn canon<R: Source, W: Sink>(
         (W.written writer.old) (W.written writer.new) result }
     ensures read_to_its_end { AtEnd result (IfSome (R.remaining reader.old) (λ _.
         R.remaining reader.new ≡ Some [])) }
+    // At each read the texts of all values that were read whole before had been sent.
+    ensures live { EachRead (R.looks reader.old) (R.looks reader.new)
+        (IsLive (rules_under version limits.now) (canonical_text version) LeavesNothing
+        (R.remaining reader.old) (W.written writer.old)) }
 
     // A device or memory that failed.
     ensures reads_bounded { R.calls reader.new ≤ R.calls reader.old + MOST_READS }

@@ -7,6 +7,7 @@ ghost use Rattle.resp_tool.specs.Written.{WritesText};
 ghost use Rattle.resp_value.specs.Devices.{count_after, failures_after};
 ghost use Rattle.resp_value.specs.Rules.{rules_under};
 
+use crate::live::{LiveSink, LiveSource};
 use crate::rendering::{Rendering, Stop, Taken};
 use crate::stream::{MOST_READS, Totals, render_stream};
 use crate::text::write_number;
@@ -14,7 +15,7 @@ use crate::tool_error::ToolError;
 use resp_scan::event::{ScanError, TextKind};
 use resp_scan::listener::Listener;
 use resp_scan::scanner::Scanner;
-use resp_value::device::{Sink, Source, WriteFault};
+use resp_value::device::{DeviceFault, Sink, WriteFault};
 use resp_value::kind::OpenKind;
 use resp_value::laws;
 use resp_value::limits::Limits;
@@ -97,6 +98,8 @@ impl Rendering for Unwritten {
 
     ghost is_written = { λ _. IsAny };
 
+    ghost is_due = { λ _. LeavesNothing };
+
     ghost is_left = { λ _. LeavesNothing };
 
     ghost is_begun = { λ _. LeavesNothing };
@@ -124,6 +127,10 @@ impl Rendering for Unwritten {
 
     fn part_stands(&self) {}
 
+    fn flush<W: LiveSink>(&self, _writer: &mut W) -> Result<(), DeviceFault> {
+        Ok(())
+    }
+
     fn finish<W: Sink>(&mut self, _writer: &mut W) -> Result<(), Stop> {
         // What was taken is viable, as the scanner says of it here.
         let _viable = self.scanner.taken();
@@ -141,7 +148,7 @@ impl Rendering for Unwritten {
 /// value, where bytes follow the first 1,000,000,000 values, where reading fails, or where
 /// 4,000,000,000 reads are used up: then nothing was written. Without memory nothing was read
 /// either. Where writing fails a first part of the line was written.
-pub fn check<R: Source, W: Sink>(
+pub fn check<R: LiveSource<W>, W: LiveSink>(
     alloc: Global,
     version: Version,
     limits: &Limits,

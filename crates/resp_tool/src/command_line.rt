@@ -2,20 +2,21 @@
 
 ghost use Rattle.std.specs.Prelude.{◌≡◌, ◌≢◌, ◌⊎◌, ◌≤◌, ◌+◌, ℕ, List, [], Some, IfSome, codes};
 ghost use Rattle.resp_tool.specs.Faults.{fault_line, status_of};
-ghost use Rattle.resp_tool.specs.Runs.{HasRun, RunsTo, TellsFailure};
+ghost use Rattle.resp_tool.specs.Runs.{HasRun, Lives, RunsTo, TellsFailure};
 ghost use Rattle.resp_tool.specs.Streams.{AreRead, AtEnd};
 ghost use Rattle.resp_tool.specs.Written.{TriesText};
 ghost use Rattle.resp_value.specs.Rules.{rules_under};
 
 use crate::canon::canon;
 use crate::check::check;
+use crate::live::{LiveSink, LiveSource};
 use crate::options::{Options, Task, parse};
 use crate::show::show;
 use crate::stream::MOST_READS;
 use crate::text::write_text;
 use crate::tool_error::ToolError;
 use clap::error::ErrorKind;
-use resp_value::device::{Sink, Source};
+use resp_value::device::Sink;
 use std::alloc::Global;
 use std::convert::AsStr;
 use std::io::ErrorKind as IoErrorKind;
@@ -86,7 +87,7 @@ pub fn refuse_words<F: Sink>(kind: IoErrorKind, faults: &mut F) -> u8
 }
 
 /// Does what the options ask for.
-fn run<R: Source, W: Sink>(
+fn run<R: LiveSource<W>, W: LiveSink>(
     alloc: Global,
     options: &Options,
     reader: &mut R,
@@ -98,6 +99,9 @@ fn run<R: Source, W: Sink>(
         (W.written writer.old) (W.written writer.new) result }
     ensures read_to_its_end { AtEnd result (IfSome (R.remaining reader.old) (λ _.
         R.remaining reader.new ≡ Some [])) }
+    ensures live { Lives options.now.task (rules_under options.now.version options.now.limits)
+        (R.remaining reader.old) (W.written writer.old) (R.looks reader.old)
+        (R.looks reader.new) }
     ensures reads_bounded { R.calls reader.new ≤ R.calls reader.old + MOST_READS }
 {
     let version = options.version;
@@ -113,8 +117,8 @@ fn run<R: Source, W: Sink>(
 /// Does what the words say, the program's name first among them, and answers the status: 0 where
 /// all is well or help was asked for, 1 where the input was refused, 2 where the words are bad, and
 /// 3 where a device or memory failed. What is wrong is said on `faults`, whether or not that takes
-/// it.
-pub fn command<S: AsStr, R: Source, W: Sink, F: Sink>(
+/// it. What the writer holds back at the end is the caller's to flush.
+pub fn command<S: AsStr, R: LiveSource<W>, W: LiveSink, F: Sink>(
     alloc: Global,
     words: &[S],
     reader: &mut R,
@@ -124,8 +128,8 @@ pub fn command<S: AsStr, R: Source, W: Sink, F: Sink>(
     ensures at_most_three { result ≤ 3 }
     ensures ran { ((reader.new ≡ reader.old) × (result ≢ 1)) ⊎ HasRun (R.remaining reader.old)
         (R.remaining reader.new) (W.written writer.old) (W.written writer.new)
-        (F.written faults.old) (F.written faults.new) (F.failures faults.old)
-        (F.failures faults.new) result }
+        (F.written faults.old) (F.written faults.new) (R.looks reader.old) (R.looks reader.new)
+        (F.failures faults.old) (F.failures faults.new) result }
     ensures reads_bounded { R.calls reader.new ≤ R.calls reader.old + MOST_READS }
     ensures nothing_told_at_zero { result ≡ 0 → faults.new ≡ faults.old }
     ensures told_at_three { result ≡ 3 → TellsFailure (F.written faults.old)

@@ -1,7 +1,7 @@
 //! What the program `resp` does: it shows, checks and rewrites streams of the Redis wire protocol.
 //!
-//! [`show::show`], [`check::check`] and [`canon::canon`] read any reader and write to any writer;
-//! [`command_line::command`] does what the words of a command line say of them.
+//! [`show::show`], [`check::check`] and [`canon::canon`] read any reader and write to any writer of
+//! [`live`]; [`command_line::command`] does what the words of a command line say of them.
 #![tactic(auto)]
 
 pub mod canon;
@@ -9,6 +9,7 @@ pub mod check;
 pub mod command_line;
 pub mod laws;
 mod lines;
+pub mod live;
 pub mod options;
 mod printer;
 mod rendering;

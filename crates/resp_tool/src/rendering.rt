@@ -1,13 +1,16 @@
 //! What is written for the values of a stream, as their bytes come.
 
-ghost use Rattle.std.specs.Prelude.{◌≡◌, ◌≤◌, ◌++◌, ℕ, List, length, IfOk, IsErrOf};
+ghost use Rattle.std.specs.Prelude.{◌≡◌, ◌≤◌, ◌++◌, ℕ, List, [], length, IfOk, IsErr, IsErrOf, OnOk};
 ghost use Rattle.resp_value.specs.Data.{Datum};
-ghost use Rattle.resp_value.specs.Devices.{failures_after};
+ghost use Rattle.resp_scan.specs.Reading.{HasNoSpelling};
+ghost use Rattle.resp_tool.specs.Live.{flush_fails};
+ghost use Rattle.resp_value.specs.Devices.{Appends, failures_after};
 ghost use Rattle.resp_value.specs.Rules.{Rules};
 
+use crate::live::LiveSink;
 use crate::tool_error::ToolError;
 use resp_scan::event::Fault;
-use resp_value::device::{Sink, WriteFault};
+use resp_value::device::{DeviceFault, Sink, WriteFault};
 
 /// What came of bytes that were given.
 #[derive(Clone, Copy, Debug, PartialEq, Eq)]
@@ -78,6 +81,9 @@ pub trait Rendering {
     /// The values that are written at all.
     ghost is_written: { Rules → Datum → Type 0 };
 
+    /// What is due of a value that these bytes begin.
+    ghost is_due: { Rules → List ℕ → List ℕ → Type 0 };
+
     /// What stands written of a value that goes no further than these bytes.
     ghost is_left: { Rules → List ℕ → List ℕ → Type 0 };
 
@@ -105,10 +111,23 @@ pub trait Rendering {
         ensures write_failures { W.failures writer.new ≡
             failures_after (failed_to_write result) (W.failures writer.old) };
 
-    /// What was written of a value is a first part of what may be written of it.
+    /// What was written of a value is a first part of what may be written of it, and all that is
+    /// due of it.
     fn part_stands(&self)
-        ensures { (front so_far : List ℕ) → has_taken self.now front so_far →
-            (later : List ℕ) × is_begun (rules self.now) front (so_far ++ later) };
+        ensures begun { (front so_far : List ℕ) → has_taken self.now front so_far →
+            (later : List ℕ) × is_begun (rules self.now) front (so_far ++ later) }
+        ensures not_whole { (front so_far : List ℕ) → has_taken self.now front so_far →
+            HasNoSpelling (rules self.now) front }
+        ensures due { (front so_far : List ℕ) → has_taken self.now front so_far →
+            is_due (rules self.now) front so_far };
+
+    /// Sends on what was written, where anything is.
+    fn flush<W: LiveSink>(&self, writer: &mut W) -> Result<(), DeviceFault>
+        ensures same { Appends (W.written writer.old) (W.written writer.new) [] }
+        ensures sent { writes → OnOk result (W.sent writer.new ≡ W.written writer.new) }
+        ensures fails { IsErr result → writes }
+        ensures failures { W.failures writer.new ≡
+            failures_after (flush_fails result) (W.failures writer.old) };
 
     /// The end of the input.
     fn finish<W: Sink>(&mut self, writer: &mut W) -> Result<(), Stop>

@@ -2,20 +2,22 @@
 
 ghost use Rattle.std.specs.Prelude.{◌≡◌, ◌+◌, ◌≤◌, ℕ, List, [], Some, IfErr, IfSome, IsErrOf};
 ghost use Rattle.resp_tool.specs.Counts.{IsAny};
-ghost use Rattle.resp_tool.specs.Scans.{IsShownIn, IsShownOf};
+ghost use Rattle.resp_tool.specs.Live.{EachRead, IsLive};
+ghost use Rattle.resp_tool.specs.Scans.{IsShownDue, IsShownIn, IsShownOf};
 ghost use Rattle.resp_tool.specs.Shown.{shown_text};
 ghost use Rattle.resp_tool.specs.Streams.{AreRead, AtEnd, IsNeverOver, Renders, failed_to_read, failed_to_write};
 ghost use Rattle.resp_value.specs.Devices.{count_after, failures_after};
 ghost use Rattle.resp_value.specs.Rules.{rules_under};
 
 use crate::lines::Lines;
+use crate::live::{LiveSink, LiveSource};
 use crate::printer::print_piece;
 use crate::rendering::{Rendering, Stop, Taken};
 use crate::stream::{MOST_READS, render_stream};
 use crate::tool_error::ToolError;
 use resp_scan::event::ScanError;
 use resp_scan::scanner::Scanner;
-use resp_value::device::{Sink, Source};
+use resp_value::device::{DeviceFault, Sink};
 use resp_value::laws;
 use resp_value::limits::Limits;
 use resp_value::version::Version;
@@ -39,6 +41,8 @@ impl Rendering for Shown {
     ghost text = { λ _. shown_text };
 
     ghost is_written = { λ _. IsAny };
+
+    ghost is_due = { λ _. IsShownDue };
 
     ghost is_left = { λ _. IsShownOf };
 
@@ -68,6 +72,10 @@ impl Rendering for Shown {
         let _taken = self.scanner.taken();
     }
 
+    fn flush<W: LiveSink>(&self, writer: &mut W) -> Result<(), DeviceFault> {
+        writer.flush()
+    }
+
     fn finish<W: Sink>(&mut self, writer: &mut W) -> Result<(), Stop> {
         // What was scanned is viable, as the scanner says of it here.
         let _viable = self.scanner.taken();
@@ -82,13 +90,14 @@ impl Rendering for Shown {
 }
 
 /// Reads the stream by reads of at most `piece` bytes, from 1 to 65,536, and writes the lines of
-/// each value as its bytes come. It takes memory for the bytes of one read alone.
+/// each value as its bytes come. Before each read it flushes the writer; what that holds back at
+/// the end is the caller's to flush. It takes memory for the bytes of one read alone.
 ///
 /// Refuses a stream at its first byte after which nothing can follow, or where it ends inside a
 /// value; the lines of the values before and of what came of that one have been written. It refuses
 /// bytes after the first 1,000,000,000 values too. Where a device fails, or 4,000,000,000 reads
 /// are used up, a first part of the lines was written. Without memory nothing was read or written.
-pub fn show<R: Source, W: Sink>(
+pub fn show<R: LiveSource<W>, W: LiveSink>(
     alloc: Global,
     version: Version,
     limits: &Limits,
@@ -105,6 +114,10 @@ pub fn show<R: Source, W: Sink>(
     ensures read_to_its_end { AtEnd result (IfSome (R.remaining reader.old) (λ _.
         R.remaining reader.new ≡ Some [])) }
     ensures never_over_limits { IfErr result IsNeverOver }
+    // At each read the lines of all that was read before had been sent.
+    ensures live { EachRead (R.looks reader.old) (R.looks reader.new)
+        (IsLive (rules_under version limits.now) shown_text IsShownDue (R.remaining reader.old)
+        (W.written writer.old)) }
 
     // A device or memory that failed.
     ensures reads_bounded { R.calls reader.new ≤ R.calls reader.old + MOST_READS }

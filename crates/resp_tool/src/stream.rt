@@ -1,12 +1,14 @@
 //! The loop that reads a stream, which `show`, `check` and `canon` share.
 
 ghost use Rattle.std.specs.Prelude.{◌≡◌, ◌⊎◌, ◌+◌, ◌≤◌, ◌++◌, ℕ, List, [], Option, Some, IfErr, IfOk, IfSome, IsErrOf};
+ghost use Rattle.resp_tool.specs.Live.{EachRead, IsLive};
 ghost use Rattle.resp_tool.specs.Streams.{AreRead, AtEnd, HasRendered, IsBeforeEnd, IsRenderingError, RendersStopped, RendersStream, failed_to_read, failed_to_write};
 ghost use Rattle.resp_value.specs.Devices.{count_after, failures_after};
 
+use crate::live::{LiveSink, LiveSource};
 use crate::rendering::Rendering;
 use crate::tool_error::{MOST_VALUES, ToolError};
-use resp_value::device::{Sink, Source};
+use resp_value::device::{DeviceFault, Sink};
 use resp_value::laws;
 use std::alloc::Global;
 
@@ -21,10 +23,10 @@ pub struct Totals {
 }
 
 /// Reads the stream to its end by reads of at most `piece` bytes, and writes what each value calls
-/// for.
+/// for. Before each read what was written is flushed.
 ///
 /// Refuses as [`ToolError`] says.
-pub fn render_stream<T: Rendering, R: Source, W: Sink>(
+pub fn render_stream<T: Rendering, R: LiveSource<W>, W: LiveSink>(
     alloc: Global,
     rendering: &mut T,
     piece: usize,
@@ -41,6 +43,9 @@ pub fn render_stream<T: Rendering, R: Source, W: Sink>(
         result }
     ensures read_to_its_end { AtEnd result (IfSome (R.remaining reader.old) (λ _.
         R.remaining reader.new ≡ Some [])) }
+    ensures live { T.writes → EachRead (R.looks reader.old) (R.looks reader.new)
+        (IsLive (T.rules rendering.old) (T.text (T.rules rendering.old))
+        (T.is_due (T.rules rendering.old)) (R.remaining reader.old) (W.written writer.old)) }
 
     // A device or memory that failed.
     ensures reads_bounded { R.calls reader.new ≤ R.calls reader.old + MOST_READS }
@@ -62,12 +67,13 @@ pub fn render_stream<T: Rendering, R: Source, W: Sink>(
         bytes: 0,
     };
     for _ in 0..MOST_READS {
-        let count = match reader.read(buffer.as_mut_slice()) {
+        rendering.part_stands();
+        if let Err(DeviceFault) = rendering.flush(writer) {
+            return Err(ToolError::Write);
+        }
+        let count = match reader.read_beside(buffer.as_mut_slice(), writer) {
             Ok(count) => count,
-            Err(_) => {
-                rendering.part_stands();
-                return Err(ToolError::Read);
-            }
+            Err(_) => return Err(ToolError::Read),
         };
         if count == 0 {
             if let Err(stop) = rendering.finish(writer) {

@@ -1,4 +1,5 @@
 use Rattle.std.proofs.Common.{◌≡◌, ◌≤◌, ◌*◌, ℕ, List, length, vec_len}
+use Rattle.resp_tool.specs.Live.{EachRead, IsLive}
 use Rattle.resp_tool.specs.Streams.{AreRead, HasRendered}
 use Rattle.resp_tool.proofs.ReadLemmas.{HasCalled}
 use Rattle.resp_tool.proofs.stream.render_stream.Given as goal
@@ -17,5 +18,8 @@ invariant-loop g l = record {
   calls : HasCalled l.counter (g.R.Source.calls l.initial.reader) (g.R.Source.calls l.reader);
   unfailing : g.R.Source.failures l.reader ≡ g.R.Source.failures l.initial.reader;
   none_failed : g.W.Sink.failures l.writer ≡ g.W.Sink.failures l.initial.writer;
+  live : g.T.Rendering.writes → EachRead (g.R.LiveSource.looks l.initial.reader) (g.R.LiveSource.looks l.reader)
+      (IsLive (g.T.Rendering.rules l.initial.rendering) (g.T.Rendering.text (g.T.Rendering.rules l.initial.rendering))
+      (g.T.Rendering.is_due (g.T.Rendering.rules l.initial.rendering)) (g.R.Source.remaining l.initial.reader) (g.W.Sink.written l.initial.writer));
   room : vec_len l.buffer ≡ l.piece;
 }

@@ -1,0 +1,92 @@
+//! Live streams: what was sent by each read.
+
+use super::check_equal;
+use resp_tool::canon::canon;
+use resp_tool::check::check;
+use resp_tool::live::{Gathering, LiveSource};
+use resp_tool::options::Task;
+use resp_tool::show::show;
+use resp_tool::tool_error::ToolError;
+use resp_value::device::{DeviceFault, MemorySink, MemorySource, Source};
+use resp_value::limits::Limits;
+use resp_value::version::Version;
+use std::alloc::Global;
+use std::process::Abort;
+
+/// A source that keeps how many bytes had been sent at each read.
+#[derive(Drop)]
+struct Watcher<'a> {
+    input: MemorySource<'a>,
+    sent: Vec<usize>,
+}
+
+impl Source for Watcher<'_> {
+    ghost use Rattle.std.specs.Prelude.{Some};
+
+    ghost remaining = { λ w. Some w.input.left };
+
+    ghost calls = { λ w. w.input.calls };
+
+    ghost failures = { λ w. w.input.failures };
+
+    fn read(&mut self, into: &mut [u8]) -> Result<usize, DeviceFault> {
+        self.input.read(into)
+    }
+}
+
+impl LiveSource<Gathering<MemorySink>> for Watcher<'_> {
+    ghost use Rattle.std.specs.Prelude.{None};
+
+    ghost looks = { λ _. None };
+
+    fn read_beside(
+        &mut self,
+        into: &mut [u8],
+        writer: &Gathering<MemorySink>,
+    ) -> Result<usize, DeviceFault> {
+        // A read that isn't kept is missed below.
+        let _ = self.sent.push(writer.inner().bytes().len());
+        self.input.read(into)
+    }
+}
+
+/// Runs a task by reads of five bytes.
+fn run(
+    alloc: Global,
+    task: Task,
+    reader: &mut Watcher<'_>,
+    writer: &mut Gathering<MemorySink>,
+) -> Result<(), ToolError> {
+    let limits = Limits::standard();
+    match task {
+        Task::Show => show(alloc, Version::Two, &limits, 5, reader, writer),
+        Task::Check => check(alloc, Version::Two, &limits, 5, reader, writer),
+        Task::Canon => canon(alloc, Version::Two, &limits, 5, reader, writer),
+    }
+}
+
+/// That a task over a stream, by reads of five bytes, has sent so many bytes at each of them.
+fn check_sent<R: Abort + AllocGlobal>(rt: &R, task: Task, stream: &[u8], sent: &[usize]) {
+    let mut reader = Watcher {
+        input: MemorySource::new(stream, 5),
+        sent: Vec::new(rt.alloc()),
+    };
+    let sink = MemorySink::new(rt.alloc(), 4_096, 4_096).expect(rt, "out of memory");
+    let mut writer = Gathering::new(rt.alloc(), sink).expect(rt, "out of memory");
+    let done = run(rt.alloc(), task, &mut reader, &mut writer);
+    check_equal(rt, done, Ok(()));
+    check_equal(rt, reader.sent.as_slice(), sent);
+}
+
+#[test]
+fn what_is_due_is_sent_before_each_read(rt: HostRuntime) {
+    // The reads give `+OK\r\n`, `:1\r\n$`, `3\r\nfo`, `o\r\n` and the end.
+    let stream = b"+OK\r\n:1\r\n$3\r\nfoo\r\n".as_slice();
+    for (task, sent) in [
+        (Task::Show, [0, 14, 20, 28, 33].as_slice()),
+        (Task::Canon, &[0, 5, 9, 9, 18]),
+        (Task::Check, &[0, 0, 0, 0, 0]),
+    ] {
+        check_sent(&rt, task, stream, sent);
+    }
+}
