@@ -15,20 +15,20 @@ use Rattle.resp_server.specs.Answering.{IsAnswered, IsCutShort, state_with}
 use Rattle.resp_server.specs.Handling.{WhereOpen, HasAnswered, HasCutShort}
 use Rattle.resp_server.specs.Hubs.{HubState, Seat, AreSound, HubIsSound, seat_of, seats_of, seat_at, with_seat}
 use Rattle.resp_server.specs.declared.session.Session.{Session}
-use Rattle.resp_server.proofs.Seats.{state_of, seats-lookup, seats-set, sound_set, with_same}
+use Rattle.resp_server.proofs.Seats.{is_id, state_of, seats-lookup, seats-set, sound_set, with_same}
 use Rattle.resp_server.proofs.Turns.{waits_on}
 
 -- what holds of the session that was found, and of the hub as its fields are
 at_found : (limits : Bounds) (es : List (ℕ × Session)) (store : Store) (last : ℕ) (hub : HubState) → state_of limits es store last ≡ hub → (id : ℕ)
-    (old : Session) → Some old ≡ lookup (λ other. id == other) es → (P : HubState → Seat → Type 0) → P (state_of limits es store last) (seat_of old) →
+    (old : Session) → Some old ≡ lookup (is_id id) es → (P : HubState → Seat → Type 0) → P (state_of limits es store last) (seat_of old) →
     IfSome (seat_at hub id) (P hub)
 at_found limits es store last hub view id old found P p =
     let there : seat_at (state_of limits es store last) id ≡ Some (seat_of old) = sym (seats-lookup es id) ∙ ap (option_map seat_of) (sym found) in
     subst (λ h. IfSome (seat_at h id) (P h)) view (subst (λ o. IfSome o (P (state_of limits es store last))) (sym there) p)
 
 pub hub_answered : (limits : Bounds) (es : List (ℕ × Session)) (store : Store) (last : ℕ) (hub : HubState) → state_of limits es store last ≡ hub →
-    (ns : List (ℕ × Session)) (store' : Store) (id : ℕ) (old new : Session) → ns ≡ set_value (λ other. id == other) es new →
-    Some old ≡ lookup (λ other. id == other) es → (piece : List ℕ) (k : ℕ) →
+    (ns : List (ℕ × Session)) (store' : Store) (id : ℕ) (old new : Session) → ns ≡ set_value (is_id id) es new →
+    Some old ≡ lookup (is_id id) es → (piece : List ℕ) (k : ℕ) →
     ((front : List ℕ) → HasTaken old.decoder front → IsAnswered limits id store store' old new (front ++ piece) k) →
     WhereOpen hub id (λ s front. HasAnswered hub (state_of limits ns store' last) id s (front ++ piece) k)
 hub_answered limits es store last hub view ns store' id old new written found piece k answered =
@@ -51,8 +51,8 @@ hub_answered limits es store last hub view ns store' id old new written found pi
     })
 
 pub hub_cut_short : (limits : Bounds) (es : List (ℕ × Session)) (store : Store) (last : ℕ) (hub : HubState) → state_of limits es store last ≡ hub →
-    (ns : List (ℕ × Session)) (store' : Store) (id : ℕ) (old new : Session) → ns ≡ set_value (λ other. id == other) es new →
-    Some old ≡ lookup (λ other. id == other) es → (piece : List ℕ) (k : ℕ) →
+    (ns : List (ℕ × Session)) (store' : Store) (id : ℕ) (old new : Session) → ns ≡ set_value (is_id id) es new →
+    Some old ≡ lookup (is_id id) es → (piece : List ℕ) (k : ℕ) →
     ((front : List ℕ) → HasTaken old.decoder front → IsCutShort limits id store store' old new front piece k) →
     WhereOpen hub id (λ s front. HasCutShort hub (state_of limits ns store' last) id s front piece k)
 hub_cut_short limits es store last hub view ns store' id old new written found piece k cut =
@@ -79,8 +79,8 @@ hub_cut_short limits es store last hub view ns store' id old new written found p
 
 -- the hub stays sound after what was answered
 pub answered_sound : (limits : Bounds) (es : List (ℕ × Session)) (store : Store) (last : ℕ) → HubIsSound limits es store last →
-    (ns : List (ℕ × Session)) (store' : Store) (id : ℕ) (old new : Session) → ns ≡ set_value (λ other. id == other) es new →
-    Some old ≡ lookup (λ other. id == other) es → FitsStore limits store' → rules_of new.decoder.scanner ≡ server_rules limits →
+    (ns : List (ℕ × Session)) (store' : Store) (id : ℕ) (old new : Session) → ns ≡ set_value (is_id id) es new →
+    Some old ≡ lookup (is_id id) es → FitsStore limits store' → rules_of new.decoder.scanner ≡ server_rules limits →
     (new.closing ≡ false → (front : List ℕ) × HasTaken new.decoder front) → HubIsSound limits ns store' last
 answered_sound limits es store last h ns store' id old new written found stored reading taking = record {
   stored = stored;
@@ -91,18 +91,18 @@ answered_sound limits es store last h ns store' id old new written found stored 
 
 -- a session that was found is closing, or isn't, as its seat is
 pub not_closing : (limits : Bounds) (es : List (ℕ × Session)) (store : Store) (last : ℕ) (hub : HubState) → state_of limits es store last ≡ hub → (id : ℕ)
-    (old : Session) → Some old ≡ lookup (λ other. id == other) es → old.closing ≡ false → (Q : Type 0) →
+    (old : Session) → Some old ≡ lookup (is_id id) es → old.closing ≡ false → (Q : Type 0) →
     IfSome (seat_at hub id) (λ s. s.closing ≡ true → Q)
 not_closing limits es store last hub view id old found is_open Q =
     at_found limits es store last hub view id old found (λ h s. s.closing ≡ true → Q) (λ closes. absurd (false≢true (sym is_open ∙ closes)))
 
 pub if_closing : (limits : Bounds) (es : List (ℕ × Session)) (store : Store) (last : ℕ) (hub : HubState) → state_of limits es store last ≡ hub → (id : ℕ)
-    (old : Session) → Some old ≡ lookup (λ other. id == other) es → (Q : Type 0) → Q → IfSome (seat_at hub id) (λ s. s.closing ≡ true → Q)
+    (old : Session) → Some old ≡ lookup (is_id id) es → (Q : Type 0) → Q → IfSome (seat_at hub id) (λ s. s.closing ≡ true → Q)
 if_closing limits es store last hub view id old found Q q = at_found limits es store last hub view id old found (λ h s. s.closing ≡ true → Q) (λ closes. q)
 
 -- an open session is not there where it is closing
 pub not_open : (limits : Bounds) (es : List (ℕ × Session)) (store : Store) (last : ℕ) (hub : HubState) → state_of limits es store last ≡ hub → (id : ℕ)
-    (old : Session) → Some old ≡ lookup (λ other. id == other) es → old.closing ≡ true → (P : Seat → List ℕ → Type 0) → WhereOpen hub id P
+    (old : Session) → Some old ≡ lookup (is_id id) es → old.closing ≡ true → (P : Seat → List ℕ → Type 0) → WhereOpen hub id P
 not_open limits es store last hub view id old found closes P =
     at_found limits es store last hub view id old found (λ h s. s.closing ≡ false → (front : List ℕ) → HasTaken s.decoder front → P s front)
     (λ is_open. absurd (false≢true (sym is_open ∙ closes)))
@@ -112,7 +112,7 @@ pub if_none : (o : Option Seat) (P : Seat → Type 0) → o ≡ None → IfSome 
 if_none o P none = subst (λ x. IfSome x P) (sym none) tt
 
 -- a session whose front is waited on has answered it
-waits_in : (limits : Bounds) (es : List (ℕ × Session)) (store : Store) (last : ℕ) (id : ℕ) (old : Session) → Some old ≡ lookup (λ other. id == other) es →
+waits_in : (limits : Bounds) (es : List (ℕ × Session)) (store : Store) (last : ℕ) (id : ℕ) (old : Session) → Some old ≡ lookup (is_id id) es →
     (front : List ℕ) → HasTaken old.decoder front → old.closing ≡ false → IsViable (server_rules limits) WithinTotal front →
     HasAnswered (state_of limits es store last) (state_of limits es store last) id (seat_of old) front 0
 waits_in limits es store last id old found front taken is_open viable =
@@ -134,7 +134,7 @@ waits_in limits es store last id old found front taken is_open viable =
     }
 
 pub hub_waits : (limits : Bounds) (es : List (ℕ × Session)) (store : Store) (last : ℕ) (hub : HubState) → state_of limits es store last ≡ hub → (id : ℕ)
-    (old : Session) → Some old ≡ lookup (λ other. id == other) es → rules_of old.decoder.scanner ≡ server_rules limits →
+    (old : Session) → Some old ≡ lookup (is_id id) es → rules_of old.decoder.scanner ≡ server_rules limits →
     ((front : List ℕ) → HasTaken old.decoder front → IsViable (rules_of old.decoder.scanner) WithinTotal front) →
     WhereOpen hub id (λ s front. HasAnswered hub hub id s front 0)
 hub_waits limits es store last hub view id old found reading viable =
@@ -144,5 +144,5 @@ hub_waits limits es store last hub view id old found reading viable =
 
 -- what holds of the session that was found holds of its seat
 pub found_seat : (limits : Bounds) (es : List (ℕ × Session)) (store : Store) (last : ℕ) (hub : HubState) → state_of limits es store last ≡ hub → (id : ℕ)
-    (old : Session) → Some old ≡ lookup (λ other. id == other) es → (P : Seat → Type 0) → P (seat_of old) → IfSome (seat_at hub id) P
+    (old : Session) → Some old ≡ lookup (is_id id) es → (P : Seat → Type 0) → P (seat_of old) → IfSome (seat_at hub id) P
 found_seat limits es store last hub view id old found P p = at_found limits es store last hub view id old found (λ h s. P s) p

@@ -1,4 +1,7 @@
 pub mod StoreEntries
+pub mod Slots
+pub mod StorePlaces
+pub mod ClosingUp
 pub mod Numbers
 pub mod Seats
 pub mod PushVerdicts

@@ -1,15 +1,21 @@
 -- A hub's sessions, apart from memory.
-use Rattle.std.proofs.Common.{◌≡◌, ℕ, ◌+◌, ◌==◌, ◌++◌, arith, Bool, true, false, cond, Option, None, Some, List, [], ◌∷◌, IfSome, refl, sym, ap, subst, ◌∙◌}
+use Rattle.std.proofs.Common.{◌≡◌, ℕ, ◌+◌, ◌<◌, ◌==◌, ◌++◌, arith, Bool, true, false, cond, Option, None, Some, List, [], ◌∷◌, IfSome, refl, sym, ap, subst, ◌∙◌, Greater, is_eq, nat_cmp}
 use Rattle.std.specs.Map.{lookup, set_value, remove_entry}
 use Rattle.std.specs.Option.{option_map}
 use Rattle.std.proofs.lemmas.Bool.{eq-eqb, eqb-true, ne_eqb, cond_both}
 use Rattle.std.proofs.lemmas.List.{map-append}
-use Rattle.indexmap.specs.IndexMap.{insert_entry}
+use Rattle.std.specs.BTreeMap.{insert_entry}
+use Rattle.std.specs.Cmp.{nat_cmp_is, unsigned_tied}
+use Rattle.std.specs.Ordering.{match_ordering}
 use Rattle.resp_value.specs.Bounds.{Bounds}
 use Rattle.resp_value.specs.declared.version.Version.TheVariants.{Two}
 use Rattle.resp_session.specs.Stores.{Store}
 use Rattle.resp_server.specs.declared.session.Session.{Session}
 use Rattle.resp_server.specs.Hubs.{HubState, Seat, SessionIsSound, AreSound, HubIsSound, seat_of, seats_of, seat_at, with_seat, without_seat, seated}
+
+-- whether a session's id is this one, as the map compares them
+abbrev pub is_id : ℕ → ℕ → Bool
+is_id id other = is_eq (nat_cmp id other)
 
 -- the hub's state with these sessions
 abbrev pub state_of : Bounds → List (ℕ × Session) → Store → ℕ → HubState
@@ -21,10 +27,11 @@ put_by false x y = refl
 
 -- a session that is written
 pub seats-set : (es : List (ℕ × Session)) (id : ℕ) (s : Session) →
-    seats_of (set_value (λ other. id == other) es s) ≡ with_seat (seats_of es) id (seat_of s)
+    seats_of (set_value (is_id id) es s) ≡ with_seat (seats_of es) id (seat_of s)
 seats-set [] id s = refl
 seats-set (e ∷ es) id s =
-    put_by (id == e.0) _ _ ∙ ap (λ rest. cond (id == e.0) ((e.0, seat_of s) ∷ seats_of es) ((e.0, seat_of e.1) ∷ rest)) (seats-set es id s)
+    put_by (is_id id e.0) _ _ ∙ ap (λ rest. cond (is_id id e.0) ((e.0, seat_of s) ∷ seats_of es) ((e.0, seat_of e.1) ∷ rest)) (seats-set es id s) ∙
+    ap (λ b. cond b ((e.0, seat_of s) ∷ seats_of es) ((e.0, seat_of e.1) ∷ with_seat (seats_of es) id (seat_of s))) (unsigned_tied id e.0)
 
 found_by : (b : Bool) (x : Session) (rest : Option Session) → option_map seat_of (cond b (Some x) rest) ≡ cond b (Some (seat_of x)) (option_map seat_of rest)
 found_by true x rest = refl
@@ -32,19 +39,21 @@ found_by false x rest = refl
 
 -- a session that is looked up
 pub seats-lookup : (es : List (ℕ × Session)) (id : ℕ) →
-    option_map seat_of (lookup (λ other. id == other) es) ≡ lookup (λ other. id == other) (seats_of es)
+    option_map seat_of (lookup (is_id id) es) ≡ lookup (λ other. id == other) (seats_of es)
 seats-lookup [] id = refl
-seats-lookup (e ∷ es) id = found_by (id == e.0) e.1 _ ∙ ap (cond (id == e.0) (Some (seat_of e.1))) (seats-lookup es id)
+seats-lookup (e ∷ es) id =
+    found_by (is_id id e.0) e.1 _ ∙ ap (cond (is_id id e.0) (Some (seat_of e.1))) (seats-lookup es id) ∙
+    ap (λ b. cond b (Some (seat_of e.1)) (lookup (λ other. id == other) (seats_of es))) (unsigned_tied id e.0)
 
 -- the seat of a session that was found
 pub seat_is : (limits : Bounds) (es : List (ℕ × Session)) (store : Store) (last : ℕ) (hub : HubState) → state_of limits es store last ≡ hub →
-    (id : ℕ) (found : Option Session) → found ≡ lookup (λ other. id == other) es → seat_at hub id ≡ option_map seat_of found
+    (id : ℕ) (found : Option Session) → found ≡ lookup (is_id id) es → seat_at hub id ≡ option_map seat_of found
 seat_is limits es store last hub view id found is =
     ap (λ (h : HubState). seat_at h id) (sym view) ∙ sym (seats-lookup es id) ∙ ap (option_map seat_of) (sym is)
 
 -- a session's change is its seat's, and nothing else of the hub
 pub seated_is : (limits : Bounds) (es : List (ℕ × Session)) (store : Store) (last : ℕ) (hub : HubState) → state_of limits es store last ≡ hub →
-    (ns : List (ℕ × Session)) (id : ℕ) (old new : Session) → ns ≡ set_value (λ other. id == other) es new → Some old ≡ lookup (λ other. id == other) es →
+    (ns : List (ℕ × Session)) (id : ℕ) (old new : Session) → ns ≡ set_value (is_id id) es new → Some old ≡ lookup (is_id id) es →
     (change : Seat → Seat) → seat_of new ≡ change (seat_of old) →
     IfSome (seat_at hub id) (λ s. state_of limits ns store last ≡ seated hub id (change s))
 seated_is limits es store last hub view ns id old new written found change changed =
@@ -55,13 +64,13 @@ seated_is limits es store last hub view ns id old new written found change chang
 
 -- what holds of the seat holds of the session that was found
 pub if_seated : (limits : Bounds) (es : List (ℕ × Session)) (store : Store) (last : ℕ) (hub : HubState) → state_of limits es store last ≡ hub →
-    (id : ℕ) (old : Session) → Some old ≡ lookup (λ other. id == other) es → (P : Seat → Type 0) → IfSome (seat_at hub id) P → P (seat_of old)
+    (id : ℕ) (old : Session) → Some old ≡ lookup (is_id id) es → (P : Seat → Type 0) → IfSome (seat_at hub id) P → P (seat_of old)
 if_seated limits es store last hub view id old found P p = subst (λ o. IfSome o P) (seat_is limits es store last hub view id (Some old) found) p
 
 -- what stands of the session that was found
 sound_here : (limits : Bounds) (last : ℕ) (e : ℕ × Session) (es : List (ℕ × Session)) (id : ℕ) (old : Session) (here : Bool) → (id == e.0) ≡ here →
-    Some old ≡ cond here (Some e.1) (lookup (λ other. id == other) es) → AreSound limits last (e ∷ es) →
-    (Some old ≡ lookup (λ other. id == other) es → SessionIsSound limits last id old.decoder old.closing) →
+    Some old ≡ cond here (Some e.1) (lookup (is_id id) es) → AreSound limits last (e ∷ es) →
+    (Some old ≡ lookup (is_id id) es → SessionIsSound limits last id old.decoder old.closing) →
     SessionIsSound limits last id old.decoder old.closing
 sound_here limits last e es id old true is found all later =
     let same : old ≡ e.1 = cc in
@@ -69,34 +78,34 @@ sound_here limits last e es id old true is found all later =
     (subst (λ n. SessionIsSound limits last n e.1.decoder e.1.closing) (sym (eqb-true id e.0 is)) all.0)
 sound_here limits last e es id old false is found all later = later found
 
-pub sound_at : (limits : Bounds) (last : ℕ) (es : List (ℕ × Session)) (id : ℕ) (old : Session) → Some old ≡ lookup (λ other. id == other) es →
+pub sound_at : (limits : Bounds) (last : ℕ) (es : List (ℕ × Session)) (id : ℕ) (old : Session) → Some old ≡ lookup (is_id id) es →
     AreSound limits last es → SessionIsSound limits last id old.decoder old.closing
 sound_at limits last [] id old found all = absurd (cc)
 sound_at limits last (e ∷ es) id old found all =
-    sound_here limits last e es id old (id == e.0) refl found all (λ f. sound_at limits last es id old f all.1)
+    sound_here limits last e es id old (is_id id e.0) (sym (unsigned_tied id e.0)) found all (λ f. sound_at limits last es id old f all.1)
 
 -- sessions stay sound where the one that was found is changed into one that is
 sound_by : (limits : Bounds) (last : ℕ) (e : ℕ × Session) (es : List (ℕ × Session)) (id : ℕ) (old new : Session) (here : Bool) →
-    Some old ≡ cond here (Some e.1) (lookup (λ other. id == other) es) →
+    Some old ≡ cond here (Some e.1) (lookup (is_id id) es) →
     ((other : ℕ) → SessionIsSound limits last other old.decoder old.closing → SessionIsSound limits last other new.decoder new.closing) →
     AreSound limits last (e ∷ es) →
-    (Some old ≡ lookup (λ other. id == other) es → AreSound limits last (set_value (λ other. id == other) es new)) →
-    AreSound limits last (cond here ((e.0, new) ∷ es) (e ∷ set_value (λ other. id == other) es new))
+    (Some old ≡ lookup (is_id id) es → AreSound limits last (set_value (is_id id) es new)) →
+    AreSound limits last (cond here ((e.0, new) ∷ es) (e ∷ set_value (is_id id) es new))
 sound_by limits last e es id old new true found h all later =
     let same : old ≡ e.1 = cc in
     (h e.0 (subst (λ (s : Session). SessionIsSound limits last e.0 s.decoder s.closing) (sym same) all.0), all.1)
 sound_by limits last e es id old new false found h all later = (all.0, later found)
 
-pub sound_set : (limits : Bounds) (last : ℕ) (es : List (ℕ × Session)) (id : ℕ) (old new : Session) → Some old ≡ lookup (λ other. id == other) es →
+pub sound_set : (limits : Bounds) (last : ℕ) (es : List (ℕ × Session)) (id : ℕ) (old new : Session) → Some old ≡ lookup (is_id id) es →
     ((other : ℕ) → SessionIsSound limits last other old.decoder old.closing → SessionIsSound limits last other new.decoder new.closing) →
-    AreSound limits last es → AreSound limits last (set_value (λ other. id == other) es new)
+    AreSound limits last es → AreSound limits last (set_value (is_id id) es new)
 sound_set limits last [] id old new found h all = tt
 sound_set limits last (e ∷ es) id old new found h all =
-    sound_by limits last e es id old new (id == e.0) found h all (λ f. sound_set limits last es id old new f h all.1)
+    sound_by limits last e es id old new (is_id id e.0) found h all (λ f. sound_set limits last es id old new f h all.1)
 
 -- where nothing of a session but what waits is changed, the hub stays sound
 pub sound_with : (limits : Bounds) (es : List (ℕ × Session)) (store : Store) (last : ℕ) → HubIsSound limits es store last → (ns : List (ℕ × Session)) (id : ℕ)
-    (old new : Session) → ns ≡ set_value (λ other. id == other) es new → Some old ≡ lookup (λ other. id == other) es → new.decoder ≡ old.decoder →
+    (old new : Session) → ns ≡ set_value (is_id id) es new → Some old ≡ lookup (is_id id) es → new.decoder ≡ old.decoder →
     new.closing ≡ old.closing → HubIsSound limits ns store last
 sound_with limits es store last h ns id old new written found decoder closing = record {
   stored = h.stored;
@@ -108,7 +117,7 @@ sound_with limits es store last h ns id old new written found decoder closing = 
 
 -- a session is there where it was found
 pub seat_is_there : (limits : Bounds) (es : List (ℕ × Session)) (store : Store) (last : ℕ) (hub : HubState) → state_of limits es store last ≡ hub →
-    (id : ℕ) (old : Session) → Some old ≡ lookup (λ other. id == other) es → seat_at hub id ≡ None → ⊥
+    (id : ℕ) (old : Session) → Some old ≡ lookup (is_id id) es → seat_at hub id ≡ None → ⊥
 seat_is_there limits es store last hub view id old found none =
     let e : Some (seat_of old) ≡ None = sym (seat_is limits es store last hub view id (Some old) found) ∙ none in absurd (cc)
 
@@ -125,7 +134,7 @@ with_same (e ∷ es) id seat found = put_same (id == e.0) id e es seat found (wi
 
 -- where the session's seat is as before, so is the hub
 pub same_state : (limits : Bounds) (es : List (ℕ × Session)) (store : Store) (last : ℕ) (hub : HubState) → state_of limits es store last ≡ hub →
-    (ns : List (ℕ × Session)) (id : ℕ) (old new : Session) → ns ≡ set_value (λ other. id == other) es new → Some old ≡ lookup (λ other. id == other) es →
+    (ns : List (ℕ × Session)) (id : ℕ) (old new : Session) → ns ≡ set_value (is_id id) es new → Some old ≡ lookup (is_id id) es →
     seat_of new ≡ seat_of old → state_of limits ns store last ≡ hub
 same_state limits es store last hub view ns id old new written found same =
     let with : List (ℕ × Seat) → HubState = λ seats. record { limits = limits; sessions = seats; store = store; last = last } in
@@ -139,27 +148,29 @@ remove_by : (b : Bool) (x y : List (ℕ × Session)) → seats_of (cond b x y) �
 remove_by true x y = refl
 remove_by false x y = refl
 
-pub seats-remove : (es : List (ℕ × Session)) (id : ℕ) → seats_of (remove_entry (λ other. id == other) es) ≡ without_seat (seats_of es) id
+pub seats-remove : (es : List (ℕ × Session)) (id : ℕ) → seats_of (remove_entry (is_id id) es) ≡ without_seat (seats_of es) id
 seats-remove [] id = refl
 seats-remove (e ∷ es) id =
-    remove_by (id == e.0) es (e ∷ remove_entry (λ other. id == other) es) ∙
-    ap (λ l. cond (id == e.0) (seats_of es) ((e.0, seat_of e.1) ∷ l)) (seats-remove es id)
+    remove_by (is_id id e.0) es (e ∷ remove_entry (is_id id) es) ∙
+    ap (λ l. cond (is_id id e.0) (seats_of es) ((e.0, seat_of e.1) ∷ l)) (seats-remove es id) ∙
+    ap (λ b. cond b (seats_of es) ((e.0, seat_of e.1) ∷ without_seat (seats_of es) id)) (unsigned_tied id e.0)
 
 pub sound_remove : (limits : Bounds) (last : ℕ) (es : List (ℕ × Session)) (id : ℕ) → AreSound limits last es →
-    AreSound limits last (remove_entry (λ other. id == other) es)
+    AreSound limits last (remove_entry (is_id id) es)
 sound_remove limits last [] id h = tt
 sound_remove limits last (e ∷ es) id h =
-    cond_both (id == e.0) es (e ∷ remove_entry (λ other. id == other) es) (AreSound limits last) (λ here. h.1)
+    cond_both (is_id id e.0) es (e ∷ remove_entry (is_id id) es) (AreSound limits last) (λ here. h.1)
     (λ other. (h.0, sound_remove limits last es id h.1))
 
 -- a session with a new id goes last
 pub insert_last : (limits : Bounds) (last : ℕ) (es : List (ℕ × Session)) (new : Session) → AreSound limits last es →
-    insert_entry (λ a b. a == b) es (last + 1) new ≡ es ++ (last + 1, new) ∷ []
+    insert_entry nat_cmp es (last + 1) new ≡ es ++ (last + 1, new) ∷ []
 insert_last limits last [] new h = refl
 insert_last limits last (e ∷ es) new h =
     let earlier = h.0.numbered in
-    let other : (last + 1 == e.0) ≡ false = ne_eqb (last + 1) e.0 (λ same. omega (arith, same, earlier)) in
-    ap (λ b. cond b ((e.0, new) ∷ es) (e ∷ insert_entry (λ a b. a == b) es (last + 1) new)) other ∙ ap (λ l. e ∷ l) (insert_last limits last es new h.1)
+    let after : e.0 < last + 1 = omega (arith, earlier) in
+    ap (λ o. match_ordering o ((last + 1, new) ∷ e ∷ es) ((e.0, new) ∷ es) (e ∷ insert_entry nat_cmp es (last + 1) new))
+    (sym (nat_cmp_is (last + 1) e.0 Greater after)) ∙ ap (λ l. e ∷ l) (insert_last limits last es new h.1)
 
 -- no session has the next id
 pub none_next : (limits : Bounds) (last : ℕ) (es : List (ℕ × Session)) → AreSound limits last es →

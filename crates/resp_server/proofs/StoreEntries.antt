@@ -8,68 +8,9 @@ use Rattle.std.proofs.lemmas.Map.Keys.{IsDistinct-head, IsDistinct-tail}
 use Rattle.std.proofs.lemmas.List.{take_more, length-take-le}
 use Rattle.indexmap.specs.IndexMap.{insert_entry}
 use Rattle.resp_session.specs.Stores.{Store, store_with, store_without, value_at}
-use Rattle.resp_server.specs.Entries.{entry_of, entries_of}
 
 abbrev pub Bytes : Type 0
 Bytes = Vec ℕ Global
-
-abbrev pub same_bytes : Bytes → Bytes → Bool
-same_bytes a b = bytes_eq a.items b.items
-
-put_by : (b : Bool) (x y : List (Bytes × List ℕ)) → entries_of (cond b x y) ≡ cond b (entries_of x) (entries_of y)
-put_by true x y = refl
-put_by false x y = refl
-
--- an insertion, as bytes
-pub entries-insert : (es : List (Bytes × List ℕ)) (key : Bytes) (value : List ℕ) →
-    entries_of (insert_entry same_bytes es key value) ≡ store_with (entries_of es) key.items value
-entries-insert [] key value = refl
-entries-insert (e ∷ es) key value =
-    put_by (bytes_eq key.items e.0.items) _ _ ∙
-    ap (λ rest. cond (bytes_eq key.items e.0.items) ((e.0.items, value) ∷ entries_of es) ((e.0.items, e.1) ∷ rest)) (entries-insert es key value)
-
--- a look-up, as bytes
-pub entries-lookup : (es : List (Bytes × List ℕ)) (key : List ℕ) → lookup (λ (k : Bytes). bytes_eq key k.items) es ≡ value_at (entries_of es) key
-entries-lookup [] key = refl
-entries-lookup (e ∷ es) key = ap (cond (bytes_eq key e.0.items) (Some e.1)) (entries-lookup es key)
-
--- it makes no difference which of two texts is compared with the other
-flipped : (a b : List ℕ) (same : Bool) → bytes_eq a b ≡ same → bytes_eq b a ≡ same
-flipped a b true e = subst (λ c. bytes_eq b c ≡ true) (sym ((bytes_decides a b).0 e)) ((bytes_decides b b).1 refl)
-flipped a b false e = other (bytes_eq b a) refl
-  where
-    other : (same : Bool) → bytes_eq b a ≡ same → same ≡ false
-    other true h = sym (sym e ∙ subst (λ c. bytes_eq c b ≡ true) ((bytes_decides b a).0 h) ((bytes_decides b b).1 refl))
-    other false h = refl
-
--- no entry goes where none has the key
-none_goes : (es : List (Bytes × List ℕ)) (key : Bytes) → AllByRecursion (λ (y : Bytes). same_bytes key y ≡ false) (keys_of es) →
-    store_without (entries_of es) (key.items ∷ []) ≡ entries_of es
-none_goes [] key h = refl
-none_goes (e ∷ es) key h =
-    ap (λ b. cond (not (b || false)) (entry_of e ∷ store_without (entries_of es) (key.items ∷ [])) (store_without (entries_of es) (key.items ∷ [])))
-    (flipped key.items e.0.items false h.0) ∙ ap (λ l. entry_of e ∷ l) (none_goes es key h.1)
-
-goes_by : (here : Bool) (key : List ℕ) (e : Bytes × List ℕ) (es : List (Bytes × List ℕ)) → bytes_eq key e.0.items ≡ here →
-    AllByRecursion (λ (y : Bytes). same_bytes e.0 y ≡ false) (keys_of es) →
-    entries_of (remove_entry (λ (k : Bytes). bytes_eq key k.items) es) ≡ store_without (entries_of es) (key ∷ []) →
-    entries_of (cond here es (e ∷ remove_entry (λ (k : Bytes). bytes_eq key k.items) es)) ≡ store_without (entries_of (e ∷ es)) (key ∷ [])
-goes_by true key e es is others h =
-    let same : key ≡ e.0.items = (bytes_decides key e.0.items).0 is in
-    sym (ap (λ b. cond (not (b || false)) (entry_of e ∷ store_without (entries_of es) (key ∷ [])) (store_without (entries_of es) (key ∷ [])))
-    (flipped key e.0.items true is) ∙ ap (λ k. store_without (entries_of es) (k ∷ [])) same ∙ none_goes es e.0 others)
-goes_by false key e es is others h =
-    ap (λ l. entry_of e ∷ l) h ∙
-    sym (ap (λ b. cond (not (b || false)) (entry_of e ∷ store_without (entries_of es) (key ∷ [])) (store_without (entries_of es) (key ∷ [])))
-    (flipped key e.0.items false is))
-
--- a removal, as bytes, where each key is there once
-pub entries-remove : (es : List (Bytes × List ℕ)) (key : List ℕ) → IsDistinct same_bytes (keys_of es) →
-    entries_of (remove_entry (λ (k : Bytes). bytes_eq key k.items) es) ≡ store_without (entries_of es) (key ∷ [])
-entries-remove [] key distinct = refl
-entries-remove (e ∷ es) key distinct =
-    goes_by (bytes_eq key e.0.items) key e es refl (IsDistinct-head same_bytes e.0 (keys_of es) distinct)
-    (entries-remove es key (IsDistinct-tail same_bytes e.0 (keys_of es) distinct))
 
 first_or : (first a b c : Bool) → a ≡ (b || c) → (first || a) ≡ ((first || b) || c)
 first_or true a b c e = refl

@@ -1,10 +1,47 @@
--- The entries of the store, apart from memory.
-use Rattle.std.specs.Prelude.{ℕ, List, map, Vec}
+-- The entries of the store, apart from memory, and the places in which they stand.
+use Rattle.std.specs.Prelude.{◌≡◌, ℕ, Bool, List, [], ◌∷◌, map, Option, None, Some, Vec}
+use Rattle.std.specs.List.{IsDistinct, slice_get}
+use Rattle.std.specs.Map.{keys_of}
+use Rattle.std.specs.Option.{option_map}
+use Rattle.std.specs.Str.{bytes_eq}
 use Rattle.std.proofs.Common.{Global}
+use Rattle.resp_server.specs.declared.row.Row.{Row}
 
--- an entry's key and value as bytes
-abbrev pub entry_of : Vec ℕ Global × List ℕ → List ℕ × List ℕ
-entry_of entry = (entry.0.items, entry.1)
+-- whether two keys are the same bytes
+abbrev pub same_bytes : Vec ℕ Global → Vec ℕ Global → Bool
+same_bytes a b = bytes_eq a.items b.items
 
-abbrev pub entries_of : List (Vec ℕ Global × List ℕ) → List (List ℕ × List ℕ)
-entries_of entries = map entry_of entries
+-- rows of a map by their indices
+abbrev pub Rows : Type 0
+Rows = List (Vec ℕ Global × Row)
+
+-- a row's key and value as bytes
+abbrev pub entry_of : Vec ℕ Global × Row → List ℕ × List ℕ
+entry_of row = (row.0.items, row.1.value)
+
+-- what stands in a place: the entry of the row with this index, or nothing
+abbrev pub entry_at : Rows → Option ℕ → Option (List ℕ × List ℕ)
+entry_at rows None = None
+entry_at rows (Some index) = option_map entry_of (slice_get rows index)
+
+abbrev pub and_some : {X : Type 0} → Option X → List X → List X
+and_some None xs = xs
+and_some (Some x) xs = x ∷ xs
+
+-- those that are there, in order
+abbrev pub somes : {X : Type 0} → List (Option X) → List X
+somes [] = []
+somes (o ∷ os) = and_some o (somes os)
+
+-- the entries of rows in their places, in order
+abbrev pub entries_in : Rows → List (Option ℕ) → List (List ℕ × List ℕ)
+entries_in rows places = somes (map (entry_at rows) places)
+
+-- each key stands in one row, each row's place has its index, and an index in a place is that of the row whose place
+-- it is
+pub record AreInPlace (rows : Rows) (places : List (Option ℕ)) : Type 0 where
+  pub distinct : IsDistinct same_bytes (keys_of rows)
+  pub there : (i : ℕ) (row : Vec ℕ Global × Row) → slice_get rows i ≡ Some row →
+      slice_get places row.1.place ≡ Some (Some i)
+  pub alone : (place i : ℕ) → slice_get places place ≡ Some (Some i) →
+      (row : Vec ℕ Global × Row) × (slice_get rows i ≡ Some row) × (row.1.place ≡ place)

@@ -3,34 +3,36 @@
 ghost use Rattle.std.specs.Prelude.{◌≡◌, length};
 ghost use Rattle.std.specs.Iterator.{at_most};
 ghost use Rattle.std.specs.Map.Iter.{TakesFirst, deref_pair};
-ghost use Rattle.resp_server.specs.Entries.{entries_of};
+ghost use Rattle.resp_server.specs.Entries.{entries_in};
 
-use crate::stored::Stored;
-use indexmap::map::Iter;
+use crate::row::Row;
+use indexmap::map::Slice;
 use std::marker::Model;
 
 /// Lends the keys that a hub's store holds and their values, in the order in which the keys came.
 /// None of its calls takes memory.
 #[derive(Drop)]
 pub struct Entries<'a> {
-    rest: Iter<'a, Vec<u8>, Stored>,
+    rows: Slice<'a, Vec<u8>, Row>,
+    /// The places that are left.
+    places: &'a [Option<usize>],
 }
 
 impl<'a> Model for Entries<'a> {
     ghost use Rattle.std.specs.Prelude.{ℕ, List};
-    ghost use Rattle.resp_server.specs.Entries.{entries_of};
+    ghost use Rattle.resp_server.specs.Entries.{entries_in};
 
     ghost Value = { List (List ℕ × List ℕ) };
 
-    ghost view = { λ entries. entries_of entries.rest };
+    ghost view = { λ entries. entries_in entries.rows entries.places.now };
 }
 
 impl<'a> Entries<'a> {
-    /// The entries that such an iterator of the map has left.
-    pub(crate) fn new(rest: Iter<'a, Vec<u8>, Stored>) -> Entries<'a>
-        ensures { result ≡ entries_of rest.entry }
+    /// The entries of these rows in these places.
+    pub(crate) fn new(rows: Slice<'a, Vec<u8>, Row>, places: &'a [Option<usize>]) -> Entries<'a>
+        ensures { result ≡ entries_in rows.entry places.now }
     {
-        Entries { rest }
+        Entries { rows, places }
     }
 }
 
@@ -42,7 +44,14 @@ impl<'a> Iterator for Entries<'a> {
     ghost remaining = { λ entries. at_most (length entries) };
 
     fn next(&mut self) -> Option<(&'a [u8], &'a [u8])> {
-        let (key, stored) = self.rest.next()?;
-        Some((key.as_slice(), stored.bytes()))
+        while let Some((first, rest)) = self.places.split_first() {
+            self.places = rest;
+            if let Some(index) = first {
+                if let Some((key, row)) = self.rows.get_index(*index) {
+                    return Some((key.as_slice(), row.value.bytes()));
+                }
+            }
+        }
+        None
     }
 }

@@ -18,11 +18,11 @@ use crate::error::{HubError, NoSession, OpenError, PushError};
 use crate::push::queue_push;
 use crate::session::Session;
 use crate::store::Store;
-use indexmap::IndexMap;
 use resp_value::limits::Limits;
 use resp_value::value::Value;
 use resp_value::version::Version;
 use std::alloc::Global;
+use std::collections::BTreeMap;
 use std::hash::BuildHasher;
 use std::marker::Model;
 
@@ -39,7 +39,7 @@ pub struct Handled {
 #[derive(Drop)]
 pub struct Hub<S: BuildHasher> {
     limits: Limits,
-    sessions: IndexMap<u64, Session>,
+    sessions: BTreeMap<u64, Session>,
     store: Store<S>,
     last: u64,
     alloc: Global,
@@ -75,7 +75,7 @@ impl<S: BuildHasher> Hub<S> {
     {
         Hub {
             limits,
-            sessions: IndexMap::new(alloc),
+            sessions: BTreeMap::new(alloc),
             store: Store::new(alloc, hasher),
             last: 0,
             alloc,
@@ -195,7 +195,7 @@ impl<S: BuildHasher> Hub<S> {
         ensures none { OnErr result (seat_at self.old id ≡ None) }
         ensures unchanged { OnErr result (self.new ≡ self.old) }
     {
-        let Some(_session) = self.sessions.shift_remove(&id) else {
+        let Some(_session) = self.sessions.remove(&id) else {
             return Err(NoSession);
         };
         Ok(())

@@ -11,6 +11,7 @@ mod operation;
 mod push;
 mod refusal;
 mod reply;
+mod row;
 mod run;
 mod session;
 mod store;

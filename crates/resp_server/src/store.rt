@@ -1,11 +1,15 @@
 //! The store: keys and their values, in the order in which the keys came.
 
-ghost use Rattle.std.specs.Prelude.{◌≡◌, ◌+◌, ◌<◌, [], drop, length, OnOk, OnErr};
+ghost use Rattle.std.specs.Prelude.{◌≡◌, ◌+◌, ◌<◌, ◌≤◌, ◌∷◌, [], ℕ, None, Some, Vec, drop, length, slice_get, OnOk, OnErr};
+ghost use Rattle.std.proofs.Common.{Global};
 ghost use Rattle.std.specs.Option.{option_map};
 ghost use Rattle.resp_value.specs.Values.{content_bytes};
+ghost use Rattle.indexmap.specs.IndexMap.{index_map_len, set_value_at};
+ghost use Rattle.resp_server.specs.declared.row.Row.{Row};
 ghost use Rattle.resp_session.specs.Stores.{value_at, store_with, store_without};
 
 use crate::entries::Entries;
+use crate::row::Row;
 use crate::stored::Stored;
 use indexmap::IndexMap;
 use resp_session::words::Words;
@@ -14,19 +18,25 @@ use std::alloc::{AllocError, Global};
 use std::hash::BuildHasher;
 use std::marker::Model;
 
-/// Keys and their values. A new key goes last, and one that is there keeps its place.
+/// Keys and their values. A new key goes last, and one that is there keeps its place. The place of
+/// a removed key stays empty, so that no other key moves, until most places are empty.
 #[derive(Drop)]
 pub(crate) struct Store<S: BuildHasher> {
-    entries: IndexMap<Vec<u8>, Stored, S>,
+    /// The keys and their values, in no order.
+    rows: IndexMap<Vec<u8>, Row, S>,
+    /// The index of the row in each place, in order.
+    places: Vec<Option<usize>>,
 }
 
 impl<S: BuildHasher> Model for Store<S> {
     ghost use Rattle.std.specs.Prelude.{ℕ, List};
-    ghost use Rattle.resp_server.specs.Entries.{entries_of};
+    ghost use Rattle.resp_server.specs.Entries.{AreInPlace, entries_in};
 
     ghost Value = { List (List ℕ × List ℕ) };
 
-    ghost view = { λ store. entries_of store.entries.entries };
+    ghost view = { λ store. entries_in store.rows.entries store.places.items };
+
+    ghost invariant = { λ store. AreInPlace store.rows.entries store.places.items };
 }
 
 impl<S: BuildHasher> Store<S> {
@@ -35,7 +45,8 @@ impl<S: BuildHasher> Store<S> {
         ensures { result ≡ [] }
     {
         Store {
-            entries: IndexMap::with_hasher(alloc, hasher),
+            rows: IndexMap::with_hasher(alloc, hasher),
+            places: Vec::new(alloc),
         }
     }
 
@@ -43,14 +54,17 @@ impl<S: BuildHasher> Store<S> {
     pub(crate) fn get(&self, key: &[u8]) -> Option<&Stored>
         ensures { option_map (λ stored. stored.now) result ≡ value_at self.now key.now }
     {
-        self.entries.get(key)
+        match self.rows.get(key) {
+            Some(row) => Some(&row.value),
+            None => None,
+        }
     }
 
     /// The keys and their values, in order.
     pub(crate) fn entries(&self) -> Entries<'_>
         ensures { result ≡ self.now }
     {
-        Entries::new(self.entries.iter())
+        Entries::new(self.rows.as_slice(), self.places.as_slice())
     }
 
     /// Sets the value of a key. When out of memory nothing is changed.
@@ -59,9 +73,36 @@ impl<S: BuildHasher> Store<S> {
             store_with self.old (content_bytes key) (content_bytes value)) }
         ensures unchanged { OnErr result (self.new ≡ self.old) }
     {
-        match self.entries.insert(key.into_vec(), Stored::new(value)) {
+        let Some(index) = self.rows.get_index_of(key.list()) else {
+            return self.add(key, value);
+        };
+        let Some(row) = self.rows.get_index_mut(index) else {
+            unreachable!()
+        };
+        row.set(value);
+        Ok(())
+    }
+
+    /// Adds a key that isn't there, with this value.
+    fn add(&mut self, key: Content, value: Content) -> Result<(), AllocError>
+        requires { value_at self.old (content_bytes key) ≡ None }
+        ensures added { OnOk result (self.new ≡
+            store_with self.old (content_bytes key) (content_bytes value)) }
+        ensures unchanged { OnErr result (self.new ≡ self.old) }
+    {
+        let row = Row {
+            place: self.places.len(),
+            value: Stored::new(value),
+        };
+        let Ok(()) = self.places.push(Some(self.rows.len())) else {
+            return Err(AllocError);
+        };
+        match self.rows.insert(key.into_vec(), row) {
             Ok(_) => Ok(()),
-            Err(_) => Err(AllocError),
+            Err(_) => {
+                self.places.pop();
+                Err(AllocError)
+            }
         }
     }
 
@@ -70,10 +111,61 @@ impl<S: BuildHasher> Store<S> {
         ensures removed { self.new ≡ store_without self.old (drop 1 words.now) }
         ensures count { result + length self.new ≡ length self.old }
     {
-        let before = self.entries.len();
+        let mut removed = 0;
         for index in 1..words.len() {
-            drop(self.entries.shift_remove(words.word(index)));
+            removed += self.remove_key(words.word(index));
         }
-        (before - self.entries.len()) as u64
+        self.close_up();
+        removed
     }
+
+    /// Removes a key, whose place stays empty, and answers how many were there: one or none.
+    fn remove_key(&mut self, key: &[u8]) -> u64
+        ensures removed { self.new ≡ store_without self.old (key.now ∷ []) }
+        ensures count { result + length self.new ≡ length self.old }
+        ensures at_most_one { result ≤ 1 }
+    {
+        let Some(index) = self.rows.get_index_of(key) else {
+            return 0;
+        };
+        let Some((_, row)) = self.rows.swap_remove_index(index) else {
+            unreachable!()
+        };
+        self.places[row.place] = None;
+        // The row that was the last now has this index.
+        if let Some((_, moved)) = self.rows.get_index(index) {
+            self.places[moved.place] = Some(index);
+        }
+        1
+    }
+
+    /// Closes up the places, where more than half are empty.
+    fn close_up(&mut self)
+        ensures { self.new ≡ self.old }
+    {
+        if self.places.len() / 2 <= self.rows.len() {
+            return;
+        }
+        let mut filled = 0;
+        for place in 0..self.places.len() {
+            if let Some(index) = self.places[place] {
+                self.places[filled] = Some(index);
+                move_row(&mut self.rows, index, filled);
+                filled += 1;
+            }
+        }
+        self.places.truncate(filled);
+    }
+}
+
+/// Says of the row with this index that its key is in this place.
+fn move_row<S: BuildHasher>(rows: &mut IndexMap<Vec<u8>, Row, S>, index: usize, place: usize)
+    requires { index < index_map_len rows.old }
+    ensures { (key : Vec ℕ Global) (row : Row) → slice_get rows.old.entries index ≡ Some (key, row) →
+        rows.new.entries ≡ set_value_at rows.old.entries index (record row { place = place }) }
+{
+    let Some(row) = rows.get_index_mut(index) else {
+        unreachable!()
+    };
+    row.place = place;
 }

@@ -33,4 +33,4 @@ returns-clause-some g c =
 pub returns-clause-gone : goal.returns-clause-gone
 returns-clause-gone g c =
     let i = c.self.inside in
-    seat_is i.limits c.shift_remove.new.self.entries i.store i.last _ refl c.args.id None (sym c.in-Some.ensures.updates.1)
+    seat_is i.limits c.remove.new.self.entries i.store i.last _ refl c.args.id None (sym c.in-Some.ensures.updates.1)

@@ -1,8 +1,17 @@
-use Rattle.std.proofs.Common.{ap, ◌∙◌}
+use Rattle.std.proofs.Common.{sym, ap, ◌∙◌}
 use Rattle.resp_session.specs.Stores.{value_at}
-use Rattle.resp_server.proofs.StoreEntries.{entries-lookup}
+use Rattle.resp_server.proofs.StorePlaces.{looked_up, no_value}
+use Rattle.resp_server.proofs.ClosingUp.{goes_down}
 use Rattle.resp_server.proofs.store.Store.get.Goals as goal
 
-pub returns : goal.returns
-returns g c =
-    c.get.ensures.value ∙ entries-lookup c.self.inside.entries.entries c.args.key.now ∙ ap (λ es. value_at es c.args.key.now) c.self.view_is
+pub returns-in-Some : goal.returns-in-Some
+returns-in-Some g c =
+    let i = c.self.inside in
+    looked_up i.rows.entries i.places.items c.self.invariant c.args.key.now c.in-Some.row.now c.in-Some.ensures.value ∙
+    ap (λ es. value_at es c.args.key.now) c.self.view_is
+
+pub returns-in-None : goal.returns-in-None
+returns-in-None g c =
+    let i = c.self.inside in
+    sym (no_value i.rows.entries i.places.items c.self.invariant c.args.key.now (sym c.in-None.ensures.value)) ∙
+    ap (λ es. value_at es c.args.key.now) c.self.view_is
