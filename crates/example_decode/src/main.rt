@@ -12,12 +12,11 @@ const PIECE: usize = 16;
 /// Prints the values that end in a piece. What the piece leaves unfinished, the decoder keeps.
 fn print_values(rt: &impl Print, decoder: &mut Decoder, piece: &[u8]) -> Result<()> {
     let mut rest = piece;
-    for _ in 0..u64::MAX {
+    while !rest.is_empty() {
         let fed = decoder.feed(rest)?;
         rest = &rest[fed.used..];
-        match &fed.value {
-            Some(value) => print_value(rt, value)?,
-            None => break,
+        if let Some(value) = &fed.value {
+            print_value(rt, value)?;
         }
     }
     Ok(())

@@ -1,13 +1,15 @@
 -- What a client takes of the values that come, and in which version.
 use Rattle.std.proofs.Common.{◌≡◌, ◌≢◌, ◌⊎◌, inl, inr, ℕ, Bool, true, false, eqb, List, [], ◌∷◌, ◌++◌, length, take, drop, Option, None, Some, refl, sym, ap, subst, ◌∙◌, arith, append_assoc}
 use Rattle.std.specs.Prelude.{◌↔◌, IsOk, OnOk, Result, Ok, Err}
+use Rattle.std.proofs.Math.Bridge.{le_prop}
 use Rattle.std.proofs.Math.Logic.{∥∥₁_elim, ∥∥₁_map, ∥∥₁_prop, ⊎_elim}
 use Rattle.std.proofs.lemmas.Bool.{eqb-true}
 use Rattle.std.proofs.lemmas.List.{append-nil, take-append-drop, take-append-le, take_all}
 use Rattle.resp_value.specs.Bounds.{Bounds}
 use Rattle.resp_value.specs.declared.value.Value.{Value}
 use Rattle.resp_value.specs.Data.{Datum, IsPush, scalar, aggregate, Array, Set, Map, Attr, Push}
-use Rattle.resp_value.specs.Rules.{Rules, WithinTotal, rules_under}
+use Rattle.resp_value.specs.Causes.{cause_of}
+use Rattle.resp_value.specs.Rules.{Rules, Rule, Grammar, NoDouble, InVersion, PushAtTop, InRange, NotStreamed, WithinDepth, WithinLength, WithinItems, WithinTotal, rules_under}
 use Rattle.resp_value.specs.Trees.{Spells}
 use Rattle.resp_value.specs.Spellings.{IsSpelling, IsViable, FaultOf}
 use Rattle.resp_value.specs.Laws.{NoSpellingIsEmpty, APushBeginsWithItsByte, LaterTypeBytesWantVersionThree}
@@ -22,7 +24,7 @@ use Rattle.resp_decode.specs.declared.decoder.Decoder.{Decoder}
 use Rattle.resp_session.specs.Answers.{BeginsNoValue}
 use Rattle.resp_session.specs.Heard.{is_push}
 use Rattle.resp_session.specs.Reading.{ClientFault, IsUnasked, MayBeRead, MayGoOn, ReadsAs, Waiting, reading_rules, waiting_after}
-use Rattle.resp_client.specs.Standing.{TakesFront, TakesOrStands}
+use Rattle.resp_client.specs.Standing.{IsOfBytes, TakesFront, TakesOrStands}
 
 is_push_byte : (byte : ℕ) (b : Bool) → eqb byte 62 ≡ b → (byte ≢ 62 → ⊥) → byte ≡ 62
 is_push_byte byte true e h = eqb-true byte 62 e
@@ -201,6 +203,39 @@ where_reading limits w d fault reading none prop of =
   where
     no_fault : (f : Fault) → None ≡ Some f → ⊥
     no_fault f is = cc
+
+-- Causes.
+
+-- each cause of the grammar is of bytes that come
+rule_of_bytes : (rule : Rule) → IsOfBytes (cause_of rule)
+rule_of_bytes Grammar = omega arith
+rule_of_bytes NoDouble = omega arith
+rule_of_bytes InVersion = omega arith
+rule_of_bytes PushAtTop = omega arith
+rule_of_bytes InRange = omega arith
+rule_of_bytes NotStreamed = omega arith
+rule_of_bytes WithinDepth = omega arith
+rule_of_bytes WithinLength = omega arith
+rule_of_bytes WithinItems = omega arith
+rule_of_bytes WithinTotal = omega arith
+
+-- so is each of a decoder's
+pub fault_of_bytes : (r : Rules) (front piece : List ℕ) (fault : Fault) → RefusesByte r front piece fault ⊎ LacksMemory r front piece fault →
+    IsOfBytes fault.cause
+fault_of_bytes r front piece fault (inl f) = subst IsOfBytes (sym f.names) (rule_of_bytes f.rule)
+fault_of_bytes r front piece fault (inr m) = subst IsOfBytes (sym m.names) (omega arith)
+
+-- and that of a fault that stands
+pub stands_of_bytes : (limits : Bounds) (w : Waiting) (d : Decoder) (stands : Option Fault) (fault : Fault) → ∥ TakesOrStands limits w d stands ∥₁ →
+    stands ≡ Some fault → IsOfBytes fault.cause
+stands_of_bytes limits w d stands fault reading is = ∥∥₁_elim reading le_prop of
+  where
+    of : TakesOrStands limits w d stands → IsOfBytes fault.cause
+    of (inl (front, t)) = let wrong : None ≡ Some fault = sym t.no_fault ∙ is in absurd (cc)
+    of (inr (other, s)) =
+        let both : Some other ≡ Some fault = sym s.0 ∙ is in
+        let same : other ≡ fault = cc in
+        subst (λ (f : Fault). IsOfBytes f.cause) same s.2
 
 -- between values it goes on so, whatever is waited for then
 pub between_values : (limits : Bounds) (w after : Waiting) (d : Decoder) (fault : Option Fault) → ∥ TakesFront limits w d fault [] ∥₁ →

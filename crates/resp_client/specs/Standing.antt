@@ -1,6 +1,8 @@
 -- Where a client stands, by what it has: some front of a value was taken, or a fault is final.
 use Rattle.std.specs.Prelude.{◌≡◌, ◌⊎◌, ◌≤◌, ℕ, Option, None, Some, List, []}
 use Rattle.resp_value.specs.Bounds.{Bounds}
+use Rattle.resp_value.specs.Causes.{number_of}
+use Rattle.resp_value.specs.declared.cause.Cause.{Cause}
 use Rattle.resp_scan.specs.declared.event.Fault.{Fault}
 use Rattle.resp_decode.specs.Decoding.{HasTaken, rules_of}
 use Rattle.resp_decode.specs.declared.decoder.Decoder.{Decoder}
@@ -15,9 +17,13 @@ pub record TakesFront (limits : Bounds) (w : Waiting) (d : Decoder) (fault : Opt
   pub asked : IsUnasked w front → ⊥
   pub no_fault : fault ≡ None
 
--- this fault stands, at a byte within the limits
+-- a cause of bytes that come, or of memory that was out: by its number it is Unasked or stands before it
+abbrev pub IsOfBytes : Cause → Type 0
+IsOfBytes cause = number_of cause ≤ 20
+
+-- this fault stands, of bytes that came, at a byte within the limits
 abbrev pub StandsAtFault : Bounds → Option Fault → Fault → Type 0
-StandsAtFault limits stands fault = (stands ≡ Some fault) × (fault.at ≤ limits.total)
+StandsAtFault limits stands fault = (stands ≡ Some fault) × (fault.at ≤ limits.total) × IsOfBytes fault.cause
 
 -- some front was taken, or a fault stands
 abbrev pub TakesOrStands : Bounds → Waiting → Decoder → Option Fault → Type 0

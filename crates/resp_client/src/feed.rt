@@ -6,6 +6,7 @@ ghost use Rattle.resp_session.specs.Reading.{IsUnasked, greater_version, is_refu
 ghost use Rattle.resp_decode.specs.Decoding.{IfNoValue, IfValue};
 ghost use Rattle.resp_client.specs.Clients.{next_number, state_of, with_answer};
 ghost use Rattle.resp_client.specs.Hearing.{HasFault, HasTaken, Hears, HearsAndShows, Refuses, RefusesOrLoses, TakesPiece, UnlessReply, WhereTaken};
+ghost use Rattle.resp_client.specs.Standing.{IsOfBytes};
 ghost use Rattle.resp_client.specs.Steps.{HasBegun, IsUnaskedFault, Knows, SameReading, TakesValue};
 ghost use Rattle.resp_scan.specs.declared.event.Fault.{Fault};
 
@@ -67,6 +68,7 @@ impl Client {
         ensures only_replies_answer { UnlessReply result (state_of self.new ≡ state_of self.old) }
         ensures within_piece { IfOk result (λ heard. heard.used ≤ length piece.now) }
         ensures uses_bytes { IfOk result (λ heard. 0 < length piece.now → 0 < heard.used) }
+        ensures cause { IfErr result (λ fault. IsOfBytes fault.cause) }
         ensures fault_is_kept { IfErr result (HasFault self.new) }
         ensures fault_is_final { (fault : Fault) → HasFault self.old fault → result ≡ Err fault }
     {
@@ -102,6 +104,7 @@ impl Client {
         ensures nothing_shown { OnErr result (pushes sink.new ≡ pushes sink.old) }
         ensures within_piece { IfOk result (λ heard. heard.used ≤ length piece.now) }
         ensures uses_bytes { IfOk result (λ heard. 0 < length piece.now → 0 < heard.used) }
+        ensures cause { IfErr result (λ fault. IsOfBytes fault.cause) }
         ensures fault_is_kept { IfErr result (HasFault self.new) }
         ensures fault_is_final { (fault : Fault) → HasFault self.old fault → result ≡ Err fault }
     {
@@ -142,6 +145,7 @@ impl Client {
         ensures within_piece { IfOk result (λ fed. fed.used ≤ length piece.now) }
         ensures same_state { state_of self.new ≡ state_of self.old }
         ensures no_fault { OnOk result (self.new.fault ≡ None) }
+        ensures cause { IfErr result (λ fault. IsOfBytes fault.cause) }
         ensures fault_is_kept { IfErr result (HasFault self.new) }
     {
         grammar::no_spelling_is_empty();
@@ -167,6 +171,7 @@ impl Client {
         ensures unasked { WhereTaken self.old (λ front. IfErr result
             (IsUnaskedFault (state_of self.old) front piece.now)) }
         ensures at_start { IfErr result (λ fault. fault.at ≡ 0) }
+        ensures cause { IfErr result (λ fault. IsOfBytes fault.cause) }
         ensures same_state { state_of self.new ≡ state_of self.old }
         ensures same_fault { self.new.fault ≡ self.old.fault }
     {

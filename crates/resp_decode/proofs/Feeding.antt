@@ -160,6 +160,17 @@ reads_on_whole s s' held held' left r piece used reading never whole holds weigh
         inl ([], takes_nothing s' left h.reads (holds ∙ ap (λ b. let c : Construction = record b { whole = None } in c) is) weighs)
     after (inr (fault, stands)) = absurd (never fault stands.0)
 
+-- where a value was whole one is held, whatever was taken before
+pub whole_is_held : (s s' : Place) (held held' : Held) (r : Rules) (piece : List ℕ) (used : ℕ) → ∥ TakesOrStands s held ∥₁ →
+    ((fault : Fault) → IsFaulted s fault → ⊥) →
+    WhereHeard s (λ (since : Unit {0}). HasHeard held) (λ since front. HearsValue r s' (HasHeard held') (front ++ take used piece)) →
+    (construction_of held').whole ≡ None → length piece ≤ used
+whole_is_held s s' held held' r piece used reading never heard none = ∥∥₁_elim reading le_prop of
+  where
+    of : TakesOrStands s held → length piece ≤ used
+    of (inl (front, w)) = absurd (holds_some_value r s' held' (front ++ take used piece) (heard tt front w.given w.reads w.heard) none)
+    of (inr (fault, stands)) = absurd (never fault stands.0)
+
 pub reads_on_inside : (s s' : Place) (held held' : Held) (piece : List ℕ) → ∥ TakesOrStands s held ∥₁ →
     ((fault : Fault) → IsFaulted s fault → ⊥) →
     WhereHeard s (λ (since : Unit {0}). HasHeard held) (λ since front. HearsPiece s' (HasHeard held') (front ++ piece)) →

@@ -1,6 +1,6 @@
 //! The decoder, which reads values from pieces of any size.
 
-ghost use Rattle.std.specs.Prelude.{◌≡◌, ◌⊎◌, ◌↔◌, ◌≤◌, ◌<◌, ◌++◌, ℕ, length, take, [], Err, IsOk, OnOk, OnErr, IfOk, IfErr};
+ghost use Rattle.std.specs.Prelude.{◌≡◌, ◌⊎◌, ◌↔◌, ◌≤◌, ◌<◌, ◌++◌, ℕ, length, take, [], None, Err, IsOk, OnOk, OnErr, IfOk, IfErr};
 ghost use Rattle.resp_decode.specs.Standing.{TakesOrStands};
 ghost use Rattle.resp_scan.specs.Listening.{fault_of};
 ghost use Rattle.resp_value.specs.declared.cause.Cause.TheVariants as cause;
@@ -51,11 +51,12 @@ impl Decoder {
     /// Each value of a piece, in [example_decode](../../example_decode/src/main.rt):
     ///
     /// ```rust
-    /// let fed = decoder.feed(rest)?;
-    /// rest = &rest[fed.used..];
-    /// match &fed.value {
-    ///     Some(value) => print_value(rt, value)?,
-    ///     None => break,
+    /// while !rest.is_empty() {
+    ///     let fed = decoder.feed(rest)?;
+    ///     rest = &rest[fed.used..];
+    ///     if let Some(value) = &fed.value {
+    ///         print_value(rt, value)?;
+    ///     }
     /// }
     /// ```
     pub fn feed(&mut self, piece: &[u8]) -> Result<Fed, Fault>
@@ -73,8 +74,11 @@ impl Decoder {
             RefusesByte (rules_of self.old) front piece.now fault ⊎
             LacksMemory (rules_of self.old) front piece.now fault)) }
 
-        // Whatever was taken before, of a piece with a byte at least one is used.
+        // Whatever was taken before, of a piece with a byte at least one is used, and all of one in
+        // which no value ends.
         ensures uses_bytes { IfOk result (λ fed. 0 < length piece.now → 0 < fed.used) }
+        ensures whole_piece { IfOk result (λ fed.
+            fed.value ≡ None → fed.used ≡ length piece.now) }
         ensures within_piece { IfOk result (λ fed. fed.used ≤ length piece.now) }
         ensures same_rules { rules_of self.new ≡ rules_of self.old }
         ensures fault_is_kept { IfErr result (HasFault self.new) }

@@ -72,7 +72,7 @@ closed_answered ends limits id store store' before after front piece n k closes 
       taking = λ is_open. absurd (false≢true (sym is_open ∙ closes));
     }
 
--- where memory is wanting, what was answered before stands
+-- when out of memory, what was answered before stands
 pub cut_short : (limits : Bounds) (id : ℕ) (store store' store'' : Store) (before middle after last : Session) (front piece : List ℕ) (n k : ℕ) →
     middle.closing ≡ false → IsAnswered limits id store store' before middle (front ++ take n piece) k → IsAsBefore store' store'' middle after →
     last.version ≡ after.version → last.out.items ≡ after.out.items → last.closing ≡ true → n < length piece →

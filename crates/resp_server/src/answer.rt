@@ -14,8 +14,8 @@ use resp_value::limits::Limits;
 use std::alloc::Global;
 use std::hash::BuildHasher;
 
-/// Answers all that came whole with a piece, and tells how many commands were run. Where memory is
-/// wanting, the session is closing, and the number is that of the commands run before.
+/// Answers all that came whole with a piece, and tells how many commands were run. When out of
+/// memory, the session is closing, and the number is that of the commands run before.
 pub(crate) fn answer<S: BuildHasher>(
     store: &mut Store<S>,
     session: &mut Session,

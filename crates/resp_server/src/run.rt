@@ -21,8 +21,8 @@ use resp_value::version::Version;
 use std::alloc::AllocError;
 use std::hash::BuildHasher;
 
-/// Does what a command asks in the session of this number, and queues the reply. Where memory is
-/// wanting, the store, the session's version and what waits are as before.
+/// Does what a command asks in the session of this number, and queues the reply. When out of
+/// memory, the store, the session's version and what waits are as before.
 pub(crate) fn run<S: BuildHasher>(
     operation: Operation,
     store: &mut Store<S>,

@@ -28,8 +28,8 @@ pub(crate) struct Turn {
     pub(crate) commands: u64,
 }
 
-/// Reads up to the end of a value or of the piece, and answers the value or a fault. Where memory
-/// is wanting, the store, the session's version and what waits are as before.
+/// Reads up to the end of a value or of the piece, and answers the value or a fault. When out of
+/// memory, the store, the session's version and what waits are as before.
 pub(crate) fn take_turn<S: BuildHasher>(
     store: &mut Store<S>,
     session: &mut Session,

@@ -7,5 +7,6 @@ pub mod Seated
 pub mod ServedTexts
 pub mod ServeStops
 pub mod AnsweredOn
+pub mod LinkStops
 pub mod worlds
 pub mod Showing

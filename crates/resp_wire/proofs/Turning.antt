@@ -1,5 +1,5 @@
 -- Reads and writes one after another.
-use Rattle.std.proofs.Common.{◌≡◌, inl, inr, true, ℕ, zero, suc, ◌+◌, ◌<◌, List, [], ◌++◌, length, take, drop, Option, None, Some, Ok, Err, refl, sym, ap, subst, ◌∙◌, arith, append_assoc}
+use Rattle.std.proofs.Common.{◌≡◌, inl, inr, true, ℕ, zero, suc, ◌+◌, ◌<◌, ◌≤◌, List, [], ◌++◌, length, take, drop, Option, None, Some, Ok, Err, refl, sym, ap, subst, ◌∙◌, arith, append_assoc}
 use Rattle.std.specs.Prelude.{IfErr, IfOk, Result}
 use Rattle.std.proofs.lemmas.Bool.{cases_lt}
 use Rattle.std.proofs.lemmas.List.{append-nil, take-append-drop}
@@ -58,6 +58,13 @@ pub spends_one : (calls calls' calls'' turns turns' turns'' : ℕ) → Spends ca
     Spends calls calls'' turns turns''
 spends_one calls calls' calls'' turns turns' turns'' s one left =
     spends_more calls calls' calls'' turns turns' turns'' s (one_spent calls' calls'' turns' turns'' one left)
+
+-- no more calls are made than turns are spent
+pub spends_bounded : (calls calls' turns turns' : ℕ) → Spends calls calls' turns turns' → calls' + turns' ≤ calls + turns
+spends_bounded calls calls' turns turns' s = elim (cases_lt 0 s.count) as (λ _. calls' + turns' ≤ calls + turns) [
+  | inl any ↦ omega (arith, s.some any, s.spent)
+  | inr none ↦ let zero : s.count ≡ 0 = omega (arith, none) in omega (arith, s.none zero, s.spent)
+]
 
 -- reads and then writes more
 pub spends_both : (writes writes' writes'' reads reads' reads'' turns turns' turns'' left : ℕ) → SpendsTurns writes writes' reads reads' turns turns' →

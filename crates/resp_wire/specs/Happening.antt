@@ -12,7 +12,8 @@ use Rattle.resp_session.specs.Runs.{Run, Step}
 use Rattle.resp_session.specs.Worlds.{World, WorldEvent, Drop, after_event}
 use Rattle.resp_server.specs.Hubs.{HubState, seat_at}
 use Rattle.resp_wire.specs.Ends.{IsNew}
-use Rattle.resp_wire.specs.Worlds.{Shows, StopsBy, WorldState, outcome_of}
+use Rattle.resp_wire.specs.Links.{is_of_link}
+use Rattle.resp_wire.specs.Worlds.{CountsFailures, Shows, StopsBy, WorldState, outcome_of}
 use Rattle.resp_wire.specs.declared.end.End.{End}
 use Rattle.resp_wire.specs.declared.event.Outcome.{Outcome}
 use Rattle.resp_wire.specs.declared.event.Stop.{Stop}
@@ -57,6 +58,7 @@ pub record StopsAt {L : Type 0} (is_honest : L → Type 0) (failures : L → ℕ
   pub before : RunsTo is_honest old between (take stop.event events)
   pub stopped : IfSome old.stopped (λ cause. (stop.event ≡ 0) × (stop.cause ≡ cause))
   pub reason : old.stopped ≡ None → Fails is_honest failures old new stop.cause
+  pub links : old.stopped ≡ None → CountsFailures failures old.links new.links (is_of_link stop.cause)
   pub memory : old.stopped ≡ None → stop.cause ≡ OutOfMemory →
       IfSome (slice_get events stop.event) (MayLackMemory is_honest between)
 

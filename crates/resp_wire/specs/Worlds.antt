@@ -1,10 +1,10 @@
 -- What a world shows, and how its clients and their sessions stand to the world of the definitions.
-use Rattle.std.specs.Prelude.{◌≡◌, ◌⊎◌, ℕ, suc, ◌<◌, ◌^◌, true, false, List, ◌++◌, length, map, take, drop, Option, None, Some}
+use Rattle.std.specs.Prelude.{◌≡◌, ◌⊎◌, ℕ, suc, ◌<◌, ◌^◌, Bool, true, false, Result, Ok, Err, List, ◌++◌, length, map, take, drop, Option, None, Some, set}
 use Rattle.std.specs.List.{AllByRecursion, slice_get}
 use Rattle.resp_value.specs.Bounds.{Bounds, AreBounds}
 use Rattle.resp_value.specs.Commands.{words_of}
 use Rattle.resp_value.specs.Data.{Datum}
-use Rattle.resp_value.specs.Devices.{HasRisen}
+use Rattle.resp_value.specs.Devices.{HasRisen, count_after}
 use Rattle.resp_value.specs.Values.{datum_of, list_of}
 use Rattle.resp_value.specs.declared.cause.Cause.{Cause}
 use Rattle.resp_value.specs.declared.cause.Cause.TheVariants.{OutOfMemory}
@@ -25,7 +25,7 @@ use Rattle.resp_session.specs.Worlds.{World, WorldEvent, connection_at, new_worl
 use Rattle.resp_client.specs.Clients.{queued, state_of}
 use Rattle.resp_client.specs.Hearing.{HasTaken}
 use Rattle.resp_server.specs.Hubs.{HubState, Seat, seat_at}
-use Rattle.resp_wire.specs.Links.{IsLinkCause}
+use Rattle.resp_wire.specs.Links.{IsLinkCause, is_of_link}
 use Rattle.resp_wire.specs.Requests.{request_of}
 use Rattle.resp_wire.specs.declared.asked.Request.{Request}
 use Rattle.resp_wire.specs.declared.end.End.{End}
@@ -33,6 +33,7 @@ use Rattle.resp_wire.specs.declared.event.Event.{Event}
 use Rattle.resp_wire.specs.declared.event.Event.TheVariants as event
 use Rattle.resp_wire.specs.declared.event.Outcome.{Outcome}
 use Rattle.resp_wire.specs.declared.event.Outcome.TheVariants as outcome
+use Rattle.resp_wire.specs.declared.event.Stop.{Stop}
 
 -- an event as the definitions have it
 abbrev pub event_of : Event → WorldEvent
@@ -132,6 +133,23 @@ HasFailed {L} failures old new = HasFailedIn (map failures old) (map failures ne
 -- no link has failed
 abbrev pub KeepFailures : {L : Type 0} → (L → ℕ) → List L → List L → Type 0
 KeepFailures {L} failures old new = map failures new ≡ map failures old
+
+-- of these links one failed once, and the others not
+pub record FailsOnce {L : Type 0} (failures : L → ℕ) (old new : List L) : Type 0 where
+  pub at : ℕ
+  pub before : ℕ
+  pub there : slice_get (map failures old) at ≡ Some before
+  pub once : map failures new ≡ set (map failures old) at (count_after 1 before)
+
+-- one link failed once, or none did
+abbrev pub CountsFailures : {L : Type 0} → (L → ℕ) → List L → List L → Bool → Type 0
+CountsFailures {L} failures old new true = FailsOnce failures old new
+CountsFailures {L} failures old new false = KeepFailures failures old new
+
+-- whether a stop is for a cause of links
+abbrev pub stop_is_of_link : {X : Type 0} → Result X Stop → Bool
+stop_is_of_link (Ok x) = false
+stop_is_of_link (Err stop) = is_of_link stop.cause
 
 -- why a world stops: it is out of memory, or a link failed for a cause of links
 abbrev pub StopsBy : {L : Type 0} → (L → ℕ) → List L → List L → Cause → Type 0

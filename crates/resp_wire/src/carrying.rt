@@ -1,6 +1,7 @@
 //! What links carry between a client and its session.
 
-ghost use Rattle.std.specs.Prelude.{◌≡◌, ◌≤◌, ◌++◌, [], length, take, drop, min, replicate, IfSome, IfErr, OnOk};
+ghost use Rattle.std.specs.Prelude.{◌≡◌, ◌≤◌, ◌++◌, [], length, take, drop, min, replicate, false, IfSome, IfErr, OnOk};
+ghost use Rattle.resp_value.specs.Devices.{failures_after};
 ghost use Rattle.resp_scan.specs.declared.event.Fault.{Fault};
 ghost use Rattle.resp_session.specs.Reading.{MayGoOn};
 ghost use Rattle.resp_client.specs.Clients.{state_of, without_front};
@@ -9,6 +10,7 @@ ghost use Rattle.resp_server.specs.Handling.{WhereOpen};
 ghost use Rattle.resp_server.specs.Hubs.{Seat, seat_at, seated};
 ghost use Rattle.resp_wire.specs.Carrying.{HasBrought, HearsOn, StopsCarrying, StopsShowing, cause_of};
 ghost use Rattle.resp_wire.specs.Hearing.{HearsAll};
+ghost use Rattle.resp_wire.specs.Links.{is_of_link, stopped_by_link};
 
 use crate::asked::Asked;
 use crate::error::AskError;
@@ -45,6 +47,8 @@ pub(crate) fn carry_to_server<L: Link, S: BuildHasher>(
     ensures same_reading { KeepsReading client.old client.new }
     ensures honest { L.is_honest link.old → L.is_honest link.new }
     ensures none_failed { OnOk result (L.failures link.new ≡ L.failures link.old) }
+    ensures failures { L.failures link.new ≡
+        failures_after (stopped_by_link result) (L.failures link.old) }
 {
     laws::answers_go_on();
     laws::answers_are_added();
@@ -88,6 +92,8 @@ pub(crate) fn carry_to_client<L: Link, S: BuildHasher>(
         hub.new ≡ seated hub.old id (record s { out = drop count s.out }))) }
     ensures honest { L.is_honest link.old → L.is_honest link.new }
     ensures none_failed { OnOk result (L.failures link.new ≡ L.failures link.old) }
+    ensures failures { L.failures link.new ≡
+        failures_after (stopped_by_link result) (L.failures link.old) }
 {
     laws::readings_go_on();
     laws::hearing_goes_on();
@@ -134,6 +140,8 @@ fn give<L: Link, S: BuildHasher>(
     ensures same_reading { KeepsReading client.old client.new }
     ensures honest { L.is_honest link.old → L.is_honest link.new }
     ensures none_failed { OnOk result (L.failures link.new ≡ L.failures link.old) }
+    ensures failures { L.failures link.new ≡
+        failures_after (stopped_by_link result) (L.failures link.old) }
 {
     let length = room.len();
     if let Err(fault) = link.carry(Direction::ToServer, front(client.out(), length), room) {
@@ -191,6 +199,8 @@ fn show<L: Link, S: BuildHasher>(
         hub.new ≡ seated hub.old id (record s { out = drop (length room.old) s.out }))) }
     ensures honest { L.is_honest link.old → L.is_honest link.new }
     ensures none_failed { OnOk result (L.failures link.new ≡ L.failures link.old) }
+    ensures failures { L.failures link.new ≡
+        failures_after (stopped_by_link result) (L.failures link.old) }
 {
     let length = room.len();
     let Ok(out) = hub.out(id) else {
@@ -225,6 +235,7 @@ fn settle(client: &mut Client) -> Result<(), Cause>
         (state_of client.new ≡ state_of client.old))) }
     ensures refusal { WhereTaken client.old (λ front. IfErr result (λ cause. (fault : Fault) ×
         (fault.cause ≡ cause) × Refuses (state_of client.old) front [] fault)) }
+    ensures no_link { IfErr result (λ cause. is_of_link cause ≡ false) }
 {
     let _heard = match client.feed(&[]) {
         Ok(heard) => heard,

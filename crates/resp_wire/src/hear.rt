@@ -1,9 +1,12 @@
 //! What a client hears of a piece.
 
-ghost use Rattle.std.specs.Prelude.{◌≡◌, ◌++◌, OnOk, IfErr};
+ghost use Rattle.std.specs.Prelude.{◌≡◌, ◌++◌, false, OnOk, IfErr};
 ghost use Rattle.resp_client.specs.Clients.{state_of};
 ghost use Rattle.resp_client.specs.Hearing.{WhereTaken};
+ghost use Rattle.resp_client.specs.Standing.{IsOfBytes};
+ghost use Rattle.resp_wire.specs.Carrying.{cause_of};
 ghost use Rattle.resp_wire.specs.Hearing.{HearsAll};
+ghost use Rattle.resp_wire.specs.Links.{is_of_link};
 ghost use Rattle.resp_wire.specs.Stops.{KeepsFault, StopsClient, StopsHearing, error_of};
 
 use crate::asked::Asked;
@@ -15,8 +18,11 @@ use resp_session::laws;
 use resp_value::cause::Cause;
 
 /// Why a client's fault stops the call.
+#[tactic(auto, using(crate::proofs::LinkStops::not_of_link))]
 fn stop(fault: Fault) -> AskError
-    ensures { result ≡ error_of fault }
+    requires { IsOfBytes fault.cause }
+    ensures error { result ≡ error_of fault }
+    ensures no_link { is_of_link (cause_of result) ≡ false }
 {
     match fault.cause {
         Cause::OutOfMemory => AskError::OutOfMemory,
@@ -35,6 +41,7 @@ pub(crate) fn hear_piece(
     ensures refusal { WhereTaken client.old (λ front. IfErr result
         (StopsHearing (state_of client.old) heard.old heard.new (front ++ piece.now))) }
     ensures fault_or_memory { IfErr result StopsClient }
+    ensures no_link { IfErr result (λ error. is_of_link (cause_of error) ≡ false) }
     ensures fault_is_kept { IfErr result (KeepsFault client.new) }
 {
     laws::readings_go_on();

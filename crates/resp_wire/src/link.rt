@@ -1,6 +1,6 @@
 //! Links, which carry bytes between a client and its session.
 
-ghost use Rattle.std.specs.Prelude.{◌≡◌, ◌≤◌, ℕ, length, is_err, IfErr, OnOk};
+ghost use Rattle.std.specs.Prelude.{◌≡◌, ◌≤◌, ◌+◌, ℕ, length, is_err, IfErr, OnOk};
 ghost use Rattle.resp_value.specs.Devices.{failures_after};
 ghost use Rattle.resp_wire.specs.Links.{IsLinkCause};
 
@@ -38,10 +38,13 @@ pub trait Link: Drop {
     /// How many calls failed.
     ghost failures: { Self → ℕ };
 
+    /// How many reads and writes it made.
+    ghost calls: { Self → ℕ };
+
     /// Carries a piece of at most 1,024 bytes to the other end, where `into` has as much room.
     ///
-    /// Refuses by Read, Write or TooManyTurns. After a refusal nothing is known of what was
-    /// carried.
+    /// Refuses by Read, Write or TooManyTurns, and makes at most 65,536 reads and writes. After a
+    /// refusal nothing is known of what was carried.
     fn carry(
         &mut self,
         direction: Direction,
@@ -54,5 +57,6 @@ pub trait Link: Drop {
         ensures honest { is_honest self.old → is_honest self.new }
         ensures cause { IfErr result (λ fault. IsLinkCause fault.cause) }
         ensures failures { failures self.new ≡
-            failures_after (is_err result) (failures self.old) };
+            failures_after (is_err result) (failures self.old) }
+        ensures calls { calls self.new ≤ calls self.old + 65_536 };
 }

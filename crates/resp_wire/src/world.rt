@@ -12,7 +12,8 @@ ghost use Rattle.resp_session.specs.Worlds as session;
 ghost use Rattle.resp_session.specs.Worlds.{connection_at, new_world};
 ghost use Rattle.resp_wire.specs.Ends.{outcome_of_push};
 ghost use Rattle.resp_wire.specs.Happening.{AreOpened, Fails, Happens, IsOpenEnd, MayLackMemory, RunsTo, StopsAt};
-ghost use Rattle.resp_wire.specs.Worlds.{KeepFailures, Shows, event_of, pushes_with, requests_of, values_in};
+ghost use Rattle.resp_wire.specs.Links.{stopped_by_link};
+ghost use Rattle.resp_wire.specs.Worlds.{CountsFailures, KeepFailures, Shows, event_of, pushes_with, requests_of, stop_is_of_link, values_in};
 
 use crate::asked::{Asked, Request};
 use crate::carrying::{carry_to_client, carry_to_server};
@@ -146,6 +147,9 @@ impl<L: Link, S: BuildHasher + Drop> World<L, S> {
         ensures index { IfErr result (λ stop. stop.event ≡ 0) }
         ensures none_failed { OnOk result
             (KeepFailures L.failures self.old.links self.new.links) }
+        // Over any links: exactly one fails, once, where the stop names a cause of links.
+        ensures links { self.old.stopped ≡ None → CountsFailures L.failures self.old.links
+            self.new.links (stop_is_of_link result) }
         ensures as_many { length self.new.ends ≡ length self.old.ends }
     {
         if let Some(cause) = self.stopped {
@@ -195,6 +199,8 @@ impl<L: Link, S: BuildHasher + Drop> World<L, S> {
         ensures going { self.new.stopped ≡ self.old.stopped }
         ensures none_failed { OnOk result
             (KeepFailures L.failures self.old.links self.new.links) }
+        ensures links { CountsFailures L.failures self.old.links self.new.links
+            (stopped_by_link result) }
         ensures as_many { length self.new.ends ≡ length self.old.ends }
     {
         let number = event.client();
@@ -226,6 +232,8 @@ impl<L: Link, S: BuildHasher + Drop> World<L, S> {
         ensures going { self.new.stopped ≡ self.old.stopped }
         ensures none_failed { OnOk result
             (KeepFailures L.failures self.old.links self.new.links) }
+        ensures links { CountsFailures L.failures self.old.links self.new.links
+            (stopped_by_link result) }
         ensures as_many { length self.new.ends ≡ length self.old.ends }
     {
         laws::readings_stay();
@@ -246,6 +254,8 @@ impl<L: Link, S: BuildHasher + Drop> World<L, S> {
         ensures going { self.new.stopped ≡ self.old.stopped }
         ensures none_failed { OnOk result
             (KeepFailures L.failures self.old.links self.new.links) }
+        ensures links { CountsFailures L.failures self.old.links self.new.links
+            (stopped_by_link result) }
         ensures as_many { length self.new.ends ≡ length self.old.ends }
     {
         laws::readings_stay();
@@ -266,6 +276,8 @@ impl<L: Link, S: BuildHasher + Drop> World<L, S> {
         ensures going { self.new.stopped ≡ self.old.stopped }
         ensures none_failed { OnOk result
             (KeepFailures L.failures self.old.links self.new.links) }
+        ensures links { CountsFailures L.failures self.old.links self.new.links
+            (stopped_by_link result) }
         ensures as_many { length self.new.ends ≡ length self.old.ends }
     {
         laws::what_arrives_is_answered();
@@ -299,6 +311,8 @@ impl<L: Link, S: BuildHasher + Drop> World<L, S> {
         ensures going { self.new.stopped ≡ self.old.stopped }
         ensures none_failed { OnOk result
             (KeepFailures L.failures self.old.links self.new.links) }
+        ensures links { CountsFailures L.failures self.old.links self.new.links
+            (stopped_by_link result) }
         ensures as_many { length self.new.ends ≡ length self.old.ends }
     {
         laws::readings_go_on();
@@ -331,6 +345,8 @@ impl<L: Link, S: BuildHasher + Drop> World<L, S> {
         ensures going { self.new.stopped ≡ self.old.stopped }
         ensures none_failed { OnOk result
             (KeepFailures L.failures self.old.links self.new.links) }
+        ensures links { CountsFailures L.failures self.old.links self.new.links
+            (stopped_by_link result) }
         ensures as_many { length self.new.ends ≡ length self.old.ends }
     {
         laws::what_is_shown_is_read();
@@ -353,6 +369,8 @@ impl<L: Link, S: BuildHasher + Drop> World<L, S> {
         ensures going { self.new.stopped ≡ self.old.stopped }
         ensures none_failed { OnOk result
             (KeepFailures L.failures self.old.links self.new.links) }
+        ensures links { CountsFailures L.failures self.old.links self.new.links
+            (stopped_by_link result) }
         ensures as_many { length self.new.ends ≡ length self.old.ends }
     {
         laws::a_change_is_of_one_connection();

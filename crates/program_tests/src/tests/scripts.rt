@@ -88,6 +88,8 @@ impl Link for CutLink {
 
     ghost failures = { λ link. link.failures };
 
+    ghost calls = { λ _. 0 };
+
     fn carry(
         &mut self,
         _direction: Direction,

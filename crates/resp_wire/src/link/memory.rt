@@ -13,6 +13,8 @@ impl Link for MemoryLink {
 
     ghost failures = { λ _. 0 };
 
+    ghost calls = { λ _. 0 };
+
     fn carry(
         &mut self,
         _direction: Direction,

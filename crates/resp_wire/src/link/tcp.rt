@@ -1,12 +1,12 @@
 //! A link over TCP.
 
-ghost use Rattle.std.specs.Prelude.{◌≡◌, IfErr, OnOk};
+ghost use Rattle.std.specs.Prelude.{◌≡◌, ◌+◌, ◌≤◌, IfErr, OnOk};
 ghost use Rattle.resp_wire.specs.Links.{IsLinkCause};
 
 use super::{Direction, Link, LinkFault};
 use crate::turns::{Halt, read_some, write_text};
 use resp_value::cause::Cause;
-use resp_value::device::Device;
+use resp_value::device::{Device, Sink, Source};
 use std::io;
 use std::net::{Net, TcpListener, TcpStream};
 
@@ -21,8 +21,8 @@ const TURNS: u64 = 65_536;
 /// ends before the piece has come, or other bytes came than were written.
 #[derive(Debug, Drop)]
 pub struct TcpLink {
-    client_end: TcpStream,
-    server_end: TcpStream,
+    client_end: Device<TcpStream>,
+    server_end: Device<TcpStream>,
     failures: u64,
 }
 
@@ -36,8 +36,8 @@ impl TcpLink {
     {
         match connect(net) {
             Ok((client_end, server_end)) => Ok(TcpLink {
-                client_end,
-                server_end,
+                client_end: Device::new(client_end),
+                server_end: Device::new(server_end),
                 failures: 0,
             }),
             Err(_) => Err(LinkFault { cause: Cause::Read }),
@@ -48,17 +48,20 @@ impl TcpLink {
 impl TcpLink {
     /// Writes a piece at the end that it comes from, and reads it at the other.
     fn pass_along(
-        &self,
+        &mut self,
         direction: Direction,
         piece: &[u8],
         into: &mut [u8],
     ) -> Result<(), LinkFault>
-        ensures { IfErr result (λ fault. IsLinkCause fault.cause) }
+        ensures refusal { IfErr result (λ fault. IsLinkCause fault.cause) }
+        ensures calls { self.new.client_end.calls + self.new.server_end.calls ≤
+            self.old.client_end.calls + self.old.server_end.calls + TURNS }
+        ensures same_failures { self.new.failures ≡ self.old.failures }
     {
         if direction == Direction::ToServer {
-            return pass(&self.client_end, &self.server_end, piece, into);
+            return pass(&mut self.client_end, &mut self.server_end, piece, into);
         }
-        pass(&self.server_end, &self.client_end, piece, into)
+        pass(&mut self.server_end, &mut self.client_end, piece, into)
     }
 }
 
@@ -78,6 +81,8 @@ impl Link for TcpLink {
     ghost is_honest = { λ _. Unit {0} };
 
     ghost failures = { λ link. link.failures };
+
+    ghost calls = { λ link. link.client_end.calls + link.server_end.calls };
 
     fn carry(
         &mut self,
@@ -108,17 +113,22 @@ fn compare(written: &[u8], came: &[u8]) -> Result<(), LinkFault>
 }
 
 /// Writes a piece at one end, and reads as many bytes at the other as there is room for.
-fn pass(from: &TcpStream, to: &TcpStream, piece: &[u8], into: &mut [u8]) -> Result<(), LinkFault>
-    ensures { IfErr result (λ fault. IsLinkCause fault.cause) }
+fn pass<W: Sink, R: Source>(
+    from: &mut W,
+    to: &mut R,
+    piece: &[u8],
+    into: &mut [u8],
+) -> Result<(), LinkFault>
+    ensures refusal { IfErr result (λ fault. IsLinkCause fault.cause) }
+    ensures calls { W.calls from.new + R.calls to.new ≤ W.calls from.old + R.calls to.old + TURNS }
 {
     let mut turns = TURNS;
-    if let Err(halt) = write_text(&mut Device::new(from), piece, &mut turns).end {
+    if let Err(halt) = write_text(from, piece, &mut turns).end {
         return Err(stop(halt, Cause::Write));
     }
-    let mut reader = Device::new(to);
     let mut count = 0;
     while count < into.len() {
-        match read_some(&mut reader, &mut into[count..], &mut turns) {
+        match read_some(to, &mut into[count..], &mut turns) {
             Ok(0) => return Err(LinkFault { cause: Cause::Read }),
             Ok(more) => count += more,
             Err(halt) => return Err(stop(halt, Cause::Read)),

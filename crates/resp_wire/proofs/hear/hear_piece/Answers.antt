@@ -32,7 +32,7 @@ pub returns-in-Err-clause-refusal : goal.returns-in-Err-clause-refusal
 returns-in-Err-clause-refusal c = λ front h.
     let w = c.loop-turn.invariant front h in
     stops_hearing (state_of c.args.client.now) c.loop-turn.client c.args.heard.now c.loop-turn.heard front c.args.piece.now c.loop-turn.rest.now
-    c.loop-turn.turn c.in-Err.fault c.stop.result c.stop.ensures w (c.in-Err.ensures.refusal w.hears.rest w.hears.takes)
+    c.loop-turn.turn c.in-Err.fault c.stop.result c.stop.ensures.error w (c.in-Err.ensures.refusal w.hears.rest w.hears.takes)
 
 pub returns-then-is_err-clause-refusal : goal.returns-then-is_err-clause-refusal
 returns-then-is_err-clause-refusal c = λ front h.
@@ -41,8 +41,8 @@ returns-then-is_err-clause-refusal c = λ front h.
     c.loop-turn.rest.now c.loop-turn.turn w (search rules) (search rules)
 
 pub returns-in-Err-clause-fault_or_memory : goal.returns-in-Err-clause-fault_or_memory
-returns-in-Err-clause-fault_or_memory c = client_stops c.in-Err.fault c.stop.result c.stop.ensures
+returns-in-Err-clause-fault_or_memory c = client_stops c.in-Err.fault c.stop.result c.stop.ensures.error
 
 pub returns-in-Err-clause-fault_is_kept : goal.returns-in-Err-clause-fault_is_kept
 returns-in-Err-clause-fault_is_kept c =
-    subst (KeepsFault c.feed.new.self) (sym c.stop.ensures) (keeps_fault c.feed.new.self c.in-Err.fault c.in-Err.ensures.fault_is_kept)
+    subst (KeepsFault c.feed.new.self) (sym c.stop.ensures.error) (keeps_fault c.feed.new.self c.in-Err.fault c.in-Err.ensures.fault_is_kept)

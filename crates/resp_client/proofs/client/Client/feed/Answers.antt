@@ -6,8 +6,13 @@ use Rattle.resp_session.specs.Reading.{waiting_after}
 use Rattle.resp_client.specs.Clients.{ClientState, state_of}
 use Rattle.resp_client.specs.Steps.{Knows}
 use Rattle.resp_client.proofs.Answering.{tells, unless_replied, value_uses}
-use Rattle.resp_client.proofs.Fronts.{where_reading}
+use Rattle.resp_client.proofs.Fronts.{stands_of_bytes, where_reading}
 use Rattle.resp_client.proofs.client.Client.feed.Goals as goal
+
+pub returns-in-Some-clause-cause : goal.returns-in-Some-clause-cause
+returns-in-Some-clause-cause c =
+    let old = c.args.self.now in
+    stands_of_bytes old.limits (state_of old).waiting old.decoder old.fault c.in-Some.fault old.reading c.in-Some.is
 
 pub returns-clause-heard : goal.returns-clause-heard
 returns-clause-heard c = λ front h.

@@ -1,4 +1,4 @@
-use Rattle.std.proofs.Common.{rules, ◌≡◌, ◌+◌, ◌++◌, take, ap, subst, inl, inr, refl}
+use Rattle.std.proofs.Common.{arith, rules, ◌≡◌, ◌+◌, ◌++◌, take, ap, subst, inl, inr, refl}
 use Rattle.resp_value.specs.Values.{datum_of}
 use Rattle.resp_value.specs.declared.value.Value.TheVariants as value
 use Rattle.resp_scan.specs.declared.event.Fault.{Fault}
@@ -48,5 +48,6 @@ invariant_of-self-clause-reading g c =
         loses_within old c.feed.new.self c.taken-taken.result c.in-Ok.heard.used piece (datum_of (value.Push c.in-Push.items)) old.reading (no_fault old never)
             (λ front h. c.taken-taken.ensures.length_of_front front h.taken)
             (λ front h. subst (Hears old c.feed.new.self front piece c.in-Ok.heard.used) c.in-Push.is (c.in-Ok.ensures.heard front h)) c.in-Ok.ensures.within_piece same,
+        omega arith,
       ),
     ) ∣₁

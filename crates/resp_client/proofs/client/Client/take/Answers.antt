@@ -1,15 +1,17 @@
-use Rattle.std.proofs.Common.{◌≤◌, IfErr, sym, refl, arith, inr, inl, ◌++◌, take, ap, subst, ◌∙◌, [], ◌∷◌}
+use Rattle.std.proofs.Common.{◌≤◌, IfErr, ◌⊎◌, sym, refl, arith, inr, inl, ◌++◌, take, ap, subst, ◌∙◌, [], ◌∷◌}
+use Rattle.std.proofs.Math.Bridge.{le_prop}
 use Rattle.std.proofs.Math.Logic.{∥∥₁_prop}
 use Rattle.resp_value.specs.Rules.{Rules}
 use Rattle.resp_value.specs.Values.{datum_of}
 use Rattle.resp_scan.specs.Kinds.{rules_of}
 use Rattle.resp_value.specs.Bounds.{Bounds}
-use Rattle.resp_decode.specs.Decoding.{GivesValue, IfNoValue, IfValue, TakesPiece}
+use Rattle.resp_decode.specs.Decoding.{GivesValue, IfNoValue, IfValue, LacksMemory, RefusesByte, TakesPiece}
 use Rattle.resp_decode.specs.Decoding as decode
 use Rattle.resp_session.specs.Reading.{MayGoOn, ReadsAs, waiting_after}
 use Rattle.resp_client.specs.Clients.{ClientState, state_of}
 use Rattle.resp_client.specs.Hearing.{Refuses}
-use Rattle.resp_client.proofs.Fronts.{is_broken, may_go_on, reads_as, reads_on, takes_more, takes_nothing, where_reading}
+use Rattle.resp_client.specs.Standing.{IsOfBytes}
+use Rattle.resp_client.proofs.Fronts.{fault_of_bytes, is_broken, may_go_on, reads_as, reads_on, takes_more, takes_nothing, where_reading}
 use Rattle.resp_client.proofs.Outcomes.{if_err, if_no_value, if_value}
 use Rattle.resp_client.proofs.client.Client.take.Goals as goal
 
@@ -56,14 +58,26 @@ returns-in-Err-fed-clause-refusal c = λ front h.
     if_err c.feed-fed.result _ _ (λ fault refused. subst (λ (z : ClientState). Refuses z front piece fault) c.in_default.ensures.same_state
     (is_broken s.limits s.waiting r front piece fault b.read_by b.asked refused)) (c.feed-fed.ensures.refusal front b.taken)
 
+pub returns-in-Err-fed-clause-cause : goal.returns-in-Err-fed-clause-cause
+returns-in-Err-fed-clause-cause c =
+    let now = c.begin.new.self in
+    let r = rules_of now.decoder.scanner in
+    let piece = c.args.piece.now in
+    subst (λ z. IfErr z (λ f. IsOfBytes f.cause)) (sym c.in-Err-fed.is)
+    (where_reading now.limits (state_of now).waiting now.decoder now.fault now.reading (c.begin.ensures.same_fault ∙ c.requires) le_prop (λ front h.
+    fault_of_bytes r front piece c.in-Err-fed.fault
+    (subst (λ z. IfErr z (λ f. RefusesByte r front piece f ⊎ LacksMemory r front piece f)) c.in-Err-fed.is (c.feed-fed.ensures.refusal front h.taken))))
+
 pub invariant_of-self-clause-reading : goal.invariant_of-self-clause-reading
 invariant_of-self-clause-reading c =
     let total = c.begin.new.self.limits.total in
-    ∣ inr (c.in-Err.fault, (refl, subst (λ n. n ≤ total) (sym (c.in-Err.ensures.at_start)) (omega arith))) ∣₁
+    ∣ inr (c.in-Err.fault, (refl, subst (λ n. n ≤ total) (sym (c.in-Err.ensures.at_start)) (omega arith), c.in-Err.ensures.cause)) ∣₁
 
 pub invariant_of-self-in-Err-fed-clause-reading : goal.invariant_of-self-in-Err-fed-clause-reading
 invariant_of-self-in-Err-fed-clause-reading c =
     let now = c.begin.new.self in
+    let r = rules_of now.decoder.scanner in
+    let piece = c.args.piece.now in
     let fault = c.in-Err-fed.fault in
     let stands : decode.HasFault c.feed-fed.new.self fault =
     subst (λ z. IfErr z (decode.HasFault c.feed-fed.new.self)) c.in-Err-fed.is c.feed-fed.ensures.fault_is_kept in
@@ -79,6 +93,8 @@ invariant_of-self-in-Err-fed-clause-reading c =
           ap (λ (r : Rules). r.limits.total) c.feed-fed.ensures.same_rules,
           ap (λ (l : Bounds). l.total) h.same_limits,
         ),
+        fault_of_bytes r front piece fault
+            (subst (λ z. IfErr z (λ f. RefusesByte r front piece f ⊎ LacksMemory r front piece f)) c.in-Err-fed.is (c.feed-fed.ensures.refusal front h.taken)),
       ),
     ) ∣₁)
 

@@ -1,11 +1,11 @@
-use Rattle.std.proofs.Common.{rules, true, false, ◌≡◌, ◌⊎◌, ◌++◌, take, subst, sym, ap, ◌∙◌}
+use Rattle.std.proofs.Common.{arith, rules, true, false, ◌≡◌, ◌⊎◌, ◌++◌, take, subst, sym, ap, ◌∙◌}
 use Rattle.resp_value.specs.Rules.{WithinTotal}
 use Rattle.resp_value.specs.Spellings.{IsViable}
 use Rattle.resp_scan.specs.Kinds.{rules_of}
 use Rattle.resp_decode.specs.Decoding.{LacksMemory, RefusesByte}
 use Rattle.resp_decode.specs.Hearing.{HasHeard}
 use Rattle.resp_decode.specs.Holding.{maybe_datum}
-use Rattle.resp_decode.proofs.Feeding.{gives_value, holds_some_value, reads_on_inside, reads_on_whole, refuses_or_lacks, some_used}
+use Rattle.resp_decode.proofs.Feeding.{gives_value, holds_some_value, reads_on_inside, reads_on_whole, refuses_or_lacks, some_used, whole_is_held}
 use Rattle.resp_decode.proofs.decoder.Decoder.feed.Goals as goal
 
 pub returns-in-Err-clause-refusal : goal.returns-in-Err-clause-refusal
@@ -52,6 +52,16 @@ returns-then-not-scanned-clause-uses_bytes c = some_used c.args.self.now.scanner
 pub returns-clause-uses_bytes : goal.returns-clause-uses_bytes
 returns-clause-uses_bytes c = some_used c.args.self.now.scanner c.args.self.now.held c.args.piece.now c.in-Ok.scanned.used
     c.args.self.now.reading (λ fault stands. let wrong = (c.scan.ensures.fault_is_final fault stands).0 in search rules) c.in-Ok.ensures.uses_bytes
+
+pub returns-clause-whole_piece : goal.returns-clause-whole_piece
+returns-clause-whole_piece c = λ none.
+    let whole : c.in-Ok.scanned.is_whole ≡ true = search rules in
+    let most = whole_is_held c.args.self.now.scanner c.scan.new.self c.args.self.now.held c.scan.new.listener (rules_of c.args.self.now.scanner)
+    c.args.piece.now c.in-Ok.scanned.used c.args.self.now.reading
+    (λ fault stands. let wrong = (c.scan.ensures.fault_is_final fault stands).0 in search rules)
+    (λ since front given reads heard. c.in-Ok.ensures.value_whole since front given reads heard whole)
+    (sym c.take_whole-value.ensures.taken ∙ ap maybe_datum none) in
+    let least = c.in-Ok.ensures.within_piece in omega (arith, most, least)
 
 pub invariant_of-self-then-not-scanned : goal.invariant_of-self-then-not-scanned
 invariant_of-self-then-not-scanned c =

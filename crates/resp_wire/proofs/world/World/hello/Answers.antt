@@ -1,4 +1,4 @@
-use Rattle.std.proofs.Common.{◌-◌, ◌≤◌, length, set, subst}
+use Rattle.std.proofs.Common.{refl, ◌-◌, ◌≤◌, length, set, subst}
 use Rattle.resp_session.specs.Requests.{Hello}
 use Rattle.resp_session.specs.Worlds.{Greet}
 use Rattle.resp_wire.specs.Ends.{Takes}
@@ -8,6 +8,9 @@ use Rattle.resp_wire.proofs.worlds.Events.{both_ok, greets}
 use Rattle.resp_wire.proofs.worlds.Places.{world_of}
 use Rattle.resp_wire.specs.Happening.{MayLackMemory}
 use Rattle.resp_wire.proofs.worlds.Lacking.{hello_lacks, if_err}
+use Rattle.resp_wire.specs.Worlds.{CountsFailures}
+use Rattle.resp_wire.specs.Links.{stopped_by_link}
+use Rattle.resp_wire.proofs.LinkStops.{counts_none, of_no_link}
 use Rattle.resp_wire.proofs.world.World.hello.Goals as goal
 
 pub returns-clause-happens : goal.returns-clause-happens
@@ -34,3 +37,9 @@ returns-clause-memory g c =
     MayLackMemory g.L.Link.is_honest z (Greet n asked)) c.self.view_is
     (λ there is_open. hello_lacks g.L.Link.is_honest s.hub s.ends.items s.links.items s.order.items s.stopped n c.index_mut.result.now asked there is_open
     c.index_mut.ensures.value may) c.requires.there c.requires.is_open)
+
+pub returns-clause-links : goal.returns-clause-links
+returns-clause-links g c =
+    let s = c.self.inside in
+    subst (λ (z : WorldState g.row.L.Denot). CountsFailures g.L.Link.failures z.links s.links.items (stopped_by_link c.hello.result)) c.self.view_is
+    (counts_none g.L.Link.failures s.links.items s.links.items c.hello.result refl (of_no_link c.hello.result c.hello.ensures.memory))

@@ -1,4 +1,4 @@
-use Rattle.std.proofs.Common.{◌≡◌, ◌-◌, ◌≤◌, length, map, subst, IfErr, IfOk, IfSome, OnErr, sym, Ok, Err}
+use Rattle.std.proofs.Common.{refl, false, ◌≡◌, ◌-◌, ◌≤◌, length, map, subst, IfErr, IfOk, IfSome, OnErr, sym, Ok, Err}
 use Rattle.resp_value.specs.Canonical.{IsValue}
 use Rattle.resp_value.specs.Values.{datum_of, list_of}
 use Rattle.resp_session.specs.Connections.{push_message}
@@ -13,6 +13,9 @@ use Rattle.resp_wire.proofs.worlds.Pushed.{pushed_seat}
 use Rattle.resp_wire.proofs.worlds.Places.{world_of}
 use Rattle.resp_wire.specs.Happening.{MayLackMemory}
 use Rattle.resp_wire.proofs.worlds.Lacking.{push_lacks}
+use Rattle.resp_wire.specs.Worlds.{CountsFailures}
+use Rattle.resp_wire.specs.Links.{is_of_link, stopped_by_link}
+use Rattle.resp_wire.proofs.LinkStops.{counts_none, push_of_no_link}
 use Rattle.resp_wire.proofs.world.World.push.Goals as goal
 
 pub returns-clause-happens : goal.returns-clause-happens
@@ -74,3 +77,11 @@ returns-in-Err-clause-memory g c =
     (Push n (map datum_of items)))) (sym c.outcome_of_push.ensures)
     (push_lacks g.L.Link.is_honest s.hub s.ends.items s.links.items s.order.items s.stopped n (map datum_of items) c.in-Err.error verdict there is_open))
     c.requires.there c.requires.is_open
+
+pub returns-in-Err-clause-links : goal.returns-in-Err-clause-links
+returns-in-Err-clause-links g c =
+    let s = c.self.inside in
+    let r = c.outcome_of_push.result in
+    subst (λ (z : WorldState g.row.L.Denot). CountsFailures g.L.Link.failures z.links s.links.items (stopped_by_link r)) c.self.view_is
+    (counts_none g.L.Link.failures s.links.items s.links.items r refl
+    (subst (λ o. IfErr o (λ k. is_of_link k ≡ false)) (sym c.outcome_of_push.ensures) (push_of_no_link c.in-Err.error)))

@@ -1,4 +1,4 @@
-use Rattle.std.proofs.Common.{◌≡◌, ◌-◌, ◌≤◌, length, set, sym, subst, IfErr}
+use Rattle.std.proofs.Common.{arith, ◌≡◌, ◌-◌, ◌≤◌, length, set, sym, subst, IfErr}
 use Rattle.resp_value.specs.declared.cause.Cause.TheVariants.{OutOfMemory}
 use Rattle.resp_session.specs.Worlds.{ToClient}
 use Rattle.resp_wire.specs.Ends.{Keeps}
@@ -11,6 +11,9 @@ use Rattle.resp_wire.proofs.worlds.Moves.{err_of, keep_failures, moves_to_client
 use Rattle.resp_wire.proofs.worlds.Places.{world_of}
 use Rattle.resp_wire.specs.Happening.{MayLackMemory}
 use Rattle.resp_wire.proofs.worlds.Lacking.{all_errs, to_client_lacks}
+use Rattle.resp_wire.specs.Worlds.{CountsFailures}
+use Rattle.resp_wire.specs.Links.{is_of_link, stopped_by_link}
+use Rattle.resp_wire.proofs.LinkStops.{counts_none, counts_one, of_no_link}
 use Rattle.resp_wire.proofs.world.World.to_client.Goals as goal
 
 pub returns-clause-happens : goal.returns-clause-happens
@@ -87,3 +90,24 @@ returns-clause-memory g c = all_errs c.keep.result _ (
     MayLackMemory g.L.Link.is_honest z (ToClient n c.args.count)) c.self.view_is
     (λ there is_open. to_client_lacks g.L.Link.is_honest s.hub s.ends.items s.links.items s.order.items s.stopped n c.args.count there is_open)
     c.requires.there c.requires.is_open)
+
+pub returns-in-Err-clause-links : goal.returns-in-Err-clause-links
+returns-in-Err-clause-links g c =
+    let s = c.self.inside in
+    let n = c.args.number in
+    let as_many = c.self.invariant in
+    let link' = c.carry_to_client-carried.new.link in
+    subst (λ (z : WorldState g.row.L.Denot). (1 ≤ n) × (n ≤ length z.ends) →
+    CountsFailures g.L.Link.failures z.links (set s.links.items (n - 1) link') (is_of_link c.in-Err.cause)) c.self.view_is
+    (λ there. counts_one g.L.Link.failures s.links.items (n - 1) c.index_mut.result.now link' (is_of_link c.in-Err.cause)
+    (omega (arith, there.0, there.1, as_many)) c.index_mut.ensures.value c.in-Err.ensures.failures) c.requires.there
+
+pub returns-clause-links : goal.returns-clause-links
+returns-clause-links g c =
+    let s = c.self.inside in
+    let n = c.args.number in
+    let link' = c.carry_to_client-carried.new.link in
+    let kept : KeepFailures g.L.Link.failures s.links.items (set s.links.items (n - 1) link') =
+    keep_failures g.L.Link.failures s.links.items (n - 1) c.index_mut.result.now link' c.index_mut.ensures.value c.in_default.ensures.none_failed in
+    subst (λ (z : WorldState g.row.L.Denot). CountsFailures g.L.Link.failures z.links (set s.links.items (n - 1) link') (stopped_by_link c.keep.result))
+    c.self.view_is (counts_none g.L.Link.failures s.links.items (set s.links.items (n - 1) link') c.keep.result kept (of_no_link c.keep.result c.keep.ensures.memory))

@@ -1,4 +1,4 @@
-use Rattle.std.proofs.Common.{◌-◌, ◌≤◌, length, set, subst}
+use Rattle.std.proofs.Common.{arith, false, ◌-◌, ◌≤◌, length, set, subst}
 use Rattle.resp_session.specs.Worlds.{ToServer}
 use Rattle.resp_wire.specs.Happening.{Fails, Happens, IsOpenEnd}
 use Rattle.resp_wire.specs.Worlds.{KeepFailures, WorldState}
@@ -8,6 +8,9 @@ use Rattle.resp_wire.proofs.worlds.Moves.{keep_failures, moves_to_server, stops_
 use Rattle.resp_wire.proofs.worlds.Places.{world_of}
 use Rattle.resp_wire.specs.Happening.{MayLackMemory}
 use Rattle.resp_wire.proofs.worlds.Lacking.{to_server_lacks}
+use Rattle.resp_wire.proofs.LinkStops.{counts_one}
+use Rattle.resp_wire.specs.Links.{is_of_link}
+use Rattle.resp_wire.specs.Worlds.{CountsFailures}
 use Rattle.resp_wire.proofs.world.World.to_server.Goals as goal
 
 pub returns-clause-happens : goal.returns-clause-happens
@@ -57,3 +60,25 @@ returns-in-Err-clause-memory g c =
     MayLackMemory g.L.Link.is_honest z (ToServer n c.args.count)) c.self.view_is
     (λ there is_open. to_server_lacks g.L.Link.is_honest s.hub s.ends.items s.links.items s.order.items s.stopped n c.args.count there is_open)
     c.requires.there c.requires.is_open
+
+pub returns-in-Err-clause-links : goal.returns-in-Err-clause-links
+returns-in-Err-clause-links g c =
+    let s = c.self.inside in
+    let n = c.args.number in
+    let as_many = c.self.invariant in
+    let link' = c.carry_to_server-carried.new.link in
+    subst (λ (z : WorldState g.row.L.Denot). (1 ≤ n) × (n ≤ length z.ends) →
+    CountsFailures g.L.Link.failures z.links (set s.links.items (n - 1) link') (is_of_link c.in-Err.cause)) c.self.view_is
+    (λ there. counts_one g.L.Link.failures s.links.items (n - 1) c.index_mut.result.now link' (is_of_link c.in-Err.cause)
+    (omega (arith, there.0, there.1, as_many)) c.index_mut.ensures.value c.in-Err.ensures.failures) c.requires.there
+
+pub returns-clause-links : goal.returns-clause-links
+returns-clause-links g c =
+    let s = c.self.inside in
+    let n = c.args.number in
+    let as_many = c.self.invariant in
+    let link' = c.carry_to_server-carried.new.link in
+    subst (λ (z : WorldState g.row.L.Denot). (1 ≤ n) × (n ≤ length z.ends) →
+    CountsFailures g.L.Link.failures z.links (set s.links.items (n - 1) link') false) c.self.view_is
+    (λ there. counts_one g.L.Link.failures s.links.items (n - 1) c.index_mut.result.now link' false
+    (omega (arith, there.0, there.1, as_many)) c.index_mut.ensures.value c.in_default.ensures.failures) c.requires.there
