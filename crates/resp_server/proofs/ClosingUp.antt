@@ -78,7 +78,8 @@ ends_as rows places filled place entries h past =
     ap (λ rest. somes (take filled (slots_of rows places)) ++ somes rest) (sym (drop_past (slots_of rows places) place (omega (arith, past, size)))) ∙ h.shows
 
 -- the slots from a place on
-from_here : (slots : Slots) (place : ℕ) (o : Option (List ℕ × List ℕ)) → slice_get slots place ≡ Some o → somes (drop place slots) ≡ and_some o (somes (drop (place + 1) slots))
+from_here : (slots : Slots) (place : ℕ) (o : Option (List ℕ × List ℕ)) → slice_get slots place ≡ Some o →
+    somes (drop place slots) ≡ and_some o (somes (drop (place + 1) slots))
 from_here slots place o at =
     let within = slice_get_within slots place o at in
     let next : suc place ≡ place + 1 = omega arith in
@@ -105,7 +106,8 @@ passes_empty rows places filled place entries h empty = record {
     | inl near ↦ inl near
     | inr far ↦ inr (omega (arith, far))
   ]) at;
-  shows = ap (λ rest. somes (take filled (slots_of rows places)) ++ rest) (sym (from_here (slots_of rows places) place None (slot_of rows places place None empty))) ∙
+  shows = ap (λ rest. somes (take filled (slots_of rows places)) ++ rest)
+      (sym (from_here (slots_of rows places) place None (slot_of rows places place None empty))) ∙
       h.shows;
 }
 

@@ -83,7 +83,8 @@ one_row (r ∷ rows) distinct (suc i) (suc j) row other at at' same =
     ap suc (one_row rows (IsDistinct-tail same_bytes r.0 (keys_of rows) distinct) i j row other at at' same)
 
 -- and in one slot
-pub only_slot : (rows : Rows) (places : List (Option ℕ)) → AreInPlace rows places → (i : ℕ) (row : Bytes × Row) → slice_get rows i ≡ Some row → IsOnly row.0.items row.1.place (slots_of rows places)
+pub only_slot : (rows : Rows) (places : List (Option ℕ)) → AreInPlace rows places → (i : ℕ) (row : Bytes × Row) →
+    slice_get rows i ≡ Some row → IsOnly row.0.items row.1.place (slots_of rows places)
 only_slot rows places h i row at s v slot =
     let other = row_of rows places h s (row.0.items, v) slot in
     let key : other.row.0.items ≡ row.0.items = ap (λ (e : List ℕ × List ℕ). e.0) other.is in
@@ -162,7 +163,8 @@ same_slot rows rows' places places' s same stays =
     slice_get-map (entry_at rows') places' s ∙ ap (option_map (entry_at rows')) same ∙ same_by rows rows' (slice_get places s) stays ∙
     sym (slice_get-map (entry_at rows) places s)
 
-pub value_same : (rows : Rows) (i : ℕ) (key : Bytes) (old new : Row) → slice_get rows i ≡ Some (key, old) → slice_get (set_value_at rows i new) i ≡ Some (key, new)
+pub value_same : (rows : Rows) (i : ℕ) (key : Bytes) (old new : Row) → slice_get rows i ≡ Some (key, old) →
+    slice_get (set_value_at rows i new) i ≡ Some (key, new)
 value_same [] i key old new at = absurd (cc)
 value_same (r ∷ rows) zero key old new at =
     let same : r ≡ (key, old) = cc in ap (λ (f : Bytes × Row). Some (f.0, new)) same

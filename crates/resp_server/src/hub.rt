@@ -177,7 +177,9 @@ impl<S: BuildHasher> Hub<S> {
             return Err(OpenError::TooManySessions);
         }
         let id = self.last + 1;
-        let session = Session::new(self.alloc, &self.limits);
+        let Ok(session) = Session::new(self.alloc, &self.limits) else {
+            return Err(OpenError::OutOfMemory);
+        };
         if let Err(_) = self.sessions.insert(id, session) {
             return Err(OpenError::OutOfMemory);
         }

@@ -9,6 +9,7 @@ mod fault_line;
 mod hub;
 mod operation;
 mod push;
+mod reader;
 mod refusal;
 mod reply;
 mod row;

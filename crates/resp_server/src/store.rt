@@ -161,7 +161,8 @@ impl<S: BuildHasher> Store<S> {
 /// Says of the row with this index that its key is in this place.
 fn move_row<S: BuildHasher>(rows: &mut IndexMap<Vec<u8>, Row, S>, index: usize, place: usize)
     requires { index < index_map_len rows.old }
-    ensures { (key : Vec ℕ Global) (row : Row) → slice_get rows.old.entries index ≡ Some (key, row) →
+    ensures { (key : Vec ℕ Global) (row : Row) →
+        slice_get rows.old.entries index ≡ Some (key, row) →
         rows.new.entries ≡ set_value_at rows.old.entries index (record row { place = place }) }
 {
     let Some(row) = rows.get_index_mut(index) else {
