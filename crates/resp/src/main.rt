@@ -3,18 +3,23 @@
 #![tactic(auto)]
 
 mod input;
+mod output;
 
 use input::read_input;
+use output::Output;
 use resp_script::play::play;
 use resp_script::script::read_script;
-use resp_tool::command_line::{command, refuse_words, stop};
+use resp_tool::command_line::{read_words, refuse_file, refuse_words, run_options, stop};
 use resp_tool::live::{Gathering, LiveSink};
+use resp_tool::options::STANDARD_INPUT;
 use resp_tool::tool_error::ToolError;
 use resp_value::device::{Device, MemorySink, Sink, Source};
 use resp_value::limits::Limits;
 use resp_wire::{TcpLink, World};
 use std::alloc::{AllocError, Global};
+use std::cell::Cell;
 use std::env;
+use std::fs::File;
 use std::hash::RandomState;
 use std::io::Write;
 use std::net::{Net, TcpListener, TcpStream};
@@ -37,7 +42,8 @@ fn main(rt: HostRuntime) -> ExitCode {
     }
 }
 
-/// Runs the program's words, and answers the status. What is wrong is said after what was shown.
+/// Runs the program's words, and answers the status. What is wrong is said after what was shown, and
+/// nothing where what reads the output has closed it.
 fn run(rt: &HostRuntime) -> Result<u8, AllocError> {
     let alloc = rt.alloc();
     let mut faults = MemorySink::new(alloc, MOST_FAULTS, MOST_FAULTS)?;
@@ -49,22 +55,22 @@ fn run(rt: &HostRuntime) -> Result<u8, AllocError> {
             return Ok(status);
         }
     };
-    let mut reader = Device::new(rt.stdin());
-    let mut writer = Gathering::new(alloc, Device::new(rt.stdout()))?;
+    let is_closed = Cell::new(false);
+    let output = Output::new(rt.stdout(), &is_closed);
+    let mut writer = Gathering::new(alloc, Device::new(output))?;
     let status = if is_loop(words.as_slice()) {
         let hasher = RandomState::new(rt).ok();
+        let mut reader = Device::new(rt.stdin());
         run_loop(rt, alloc, hasher, &mut reader, &mut writer, &mut faults)?
     } else {
-        command(
-            alloc,
-            words.as_slice(),
-            &mut reader,
-            &mut writer,
-            &mut faults,
-        )
+        run_task(rt, words.as_slice(), &mut writer, &mut faults)?
     };
+    let is_written = writer.flush().is_ok();
+    if is_closed.get() {
+        return Ok(DEVICE_FAILED);
+    }
     // Where a device failed before, that has been said.
-    if writer.flush().is_err() && status != DEVICE_FAILED {
+    if !is_written && status != DEVICE_FAILED {
         let _ = rt.stderr().write_all(b"write failed\n");
         return Ok(DEVICE_FAILED);
     }
@@ -77,6 +83,35 @@ fn is_loop(words: &[String]) -> bool {
     match words {
         [_, word] => word.as_str() == "loop",
         _ => false,
+    }
+}
+
+/// Does what the words say with the file that they name, or with standard input, and answers the
+/// status.
+fn run_task<W: LiveSink, F: Sink>(
+    rt: &HostRuntime,
+    words: &[String],
+    writer: &mut W,
+    faults: &mut F,
+) -> Result<u8, AllocError> {
+    let alloc = rt.alloc();
+    let options = match read_words(alloc, words, writer, faults) {
+        Ok(options) => options,
+        Err(status) => return Ok(status),
+    };
+    if options.file == STANDARD_INPUT {
+        let mut reader = Device::new(rt.stdin());
+        return Ok(run_options(alloc, &options, &mut reader, writer, faults));
+    }
+    match File::open(rt, options.file) {
+        Ok(file) => {
+            let mut reader = Device::new(file);
+            Ok(run_options(alloc, &options, &mut reader, writer, faults))
+        }
+        Err(error) => {
+            let why = format!(in alloc; "{error}")?;
+            Ok(refuse_file(options.file, why.as_str(), faults))
+        }
     }
 }
 

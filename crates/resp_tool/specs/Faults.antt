@@ -21,3 +21,7 @@ status_of (Refused value cause at) = 1
 status_of (OverLimits value) = 1
 status_of TooManyValues = 1
 status_of _ = 3
+
+-- the line of a file that can't be opened, and why
+abbrev pub open_failed_line : List ℕ → List ℕ → List ℕ
+open_failed_line name why = codes "open failed: " ++ (name ++ (codes ": " ++ (why ++ codes "\n")))

@@ -1,28 +1,31 @@
 //! The command line of the program: what its words bring about, and the status.
 
-ghost use Rattle.std.specs.Prelude.{◌≡◌, ◌≢◌, ◌⊎◌, ◌≤◌, ◌+◌, ℕ, List, [], Some, IfSome, codes};
-ghost use Rattle.resp_tool.specs.Faults.{fault_line, status_of};
+ghost use Rattle.std.specs.Prelude.{◌≡◌, ◌≢◌, ◌⊎◌, ◌≤◌, ◌+◌, ℕ, List, [], Some, IfErr, IfOk, IfSome, IsErrOf, OnOk, codes};
+ghost use Rattle.resp_tool.specs.Faults.{fault_line, open_failed_line, status_of};
 ghost use Rattle.resp_tool.specs.Runs.{HasRun, Lives, RunsTo, TellsFailure};
 ghost use Rattle.resp_tool.specs.Streams.{AreRead, AtEnd};
-ghost use Rattle.resp_tool.specs.Written.{TriesText};
+ghost use Rattle.resp_tool.specs.Written.{TriesText, WritesText};
 ghost use Rattle.resp_value.specs.Rules.{rules_under};
 
 use crate::canon::canon;
 use crate::check::check;
 use crate::live::{LiveSink, LiveSource};
-use crate::options::{Options, Task, parse};
+use crate::options::{Options, STANDARD_INPUT, Task, parse};
 use crate::show::show;
 use crate::stream::MOST_READS;
 use crate::text::write_text;
 use crate::tool_error::ToolError;
 use clap::error::ErrorKind;
-use resp_value::device::Sink;
+use resp_value::device::{Sink, WriteFault};
 use std::alloc::Global;
 use std::convert::AsStr;
 use std::io::ErrorKind as IoErrorKind;
 
 /// The status of bad arguments.
 const BAD_ARGUMENTS: u8 = 2;
+
+/// The status of a failed device.
+const DEVICE_FAILED: u8 = 3;
 
 /// Says what is wrong with the words, or helps, and answers the status.
 fn explain<W: Sink, F: Sink>(
@@ -86,10 +89,33 @@ pub fn refuse_words<F: Sink>(kind: IoErrorKind, faults: &mut F) -> u8
     }
 }
 
+/// Says that a file can't be opened, and why, and answers the status.
+#[tactic(auto, using(crate::proofs::WrittenLemmas::tries_text))]
+pub fn refuse_file<F: Sink>(name: &str, why: &str, faults: &mut F) -> u8
+    ensures status { result ≡ 3 }
+    ensures told { TriesText (F.written faults.old) (F.written faults.new)
+        (F.failures faults.old) (F.failures faults.new) (open_failed_line name.now why.now) }
+{
+    let _ = write_open_failed(name.as_bytes(), why.as_bytes(), faults);
+    DEVICE_FAILED
+}
+
+/// Writes the line of a file that can't be opened.
+fn write_open_failed<F: Sink>(name: &[u8], why: &[u8], faults: &mut F) -> Result<(), WriteFault>
+    ensures { WritesText (F.written faults.old) (F.written faults.new) (F.failures faults.old)
+        (F.failures faults.new) result (open_failed_line name.now why.now) }
+{
+    write_text(faults, b"open failed: ")?;
+    write_text(faults, name)?;
+    write_text(faults, b": ")?;
+    write_text(faults, why)?;
+    write_text(faults, b"\n")
+}
+
 /// Does what the options ask for.
 fn run<R: LiveSource<W>, W: LiveSink>(
     alloc: Global,
-    options: &Options,
+    options: &Options<'_>,
     reader: &mut R,
     writer: &mut W,
 ) -> Result<(), ToolError>
@@ -114,10 +140,68 @@ fn run<R: LiveSource<W>, W: LiveSink>(
     }
 }
 
-/// Does what the words say, the program's name first among them, and answers the status: 0 where
-/// all is well or help was asked for, 1 where the input was refused, 2 where the words are bad, and
-/// 3 where a device or memory failed. What is wrong is said on `faults`, whether or not that takes
-/// it. What the writer holds back at the end is the caller's to flush.
+/// Reads the words, the program's name first among them. Where they ask for help, or are bad, that
+/// is said, and the answer is the status: 0 for help, 2 for bad words, and 3 where a device or
+/// memory failed.
+pub fn read_words<'a, S: AsStr, W: Sink, F: Sink>(
+    alloc: Global,
+    words: &'a [S],
+    writer: &mut W,
+    faults: &mut F,
+) -> Result<Options<'a>, u8>
+    ensures piece_in_range { IfOk result (λ options.
+        (1 ≤ options.piece) × (options.piece ≤ 65536)) }
+    ensures nothing_said { OnOk result ((writer.new ≡ writer.old) × (faults.new ≡ faults.old)) }
+    ensures never_one { IfErr result (λ status.
+        (status ≡ 0) ⊎ (2 ≤ status) × (status ≤ 3)) }
+    ensures nothing_told_at_zero { IsErrOf result 0 → faults.new ≡ faults.old }
+    ensures nothing_at_two { IsErrOf result 2 → writer.new ≡ writer.old }
+    ensures told_at_three { IsErrOf result 3 → TellsFailure (F.written faults.old)
+        (F.written faults.new) (F.failures faults.old) (F.failures faults.new) }
+{
+    match parse(alloc, words) {
+        Ok(Some(options)) => Ok(options),
+        Ok(None) => {
+            let _ = write_text(faults, b"error: these words ask for nothing here\n");
+            Err(BAD_ARGUMENTS)
+        }
+        Err(error) => Err(explain(alloc, &error, writer, faults)),
+    }
+}
+
+/// Does what the options ask for with the stream of `reader`, and answers the status: 0 where all is
+/// well, 1 where the input was refused, and 3 where a device or memory failed. What is wrong is said
+/// on `faults`, whether or not that takes it. What the writer holds back at the end is the caller's
+/// to flush.
+pub fn run_options<R: LiveSource<W>, W: LiveSink, F: Sink>(
+    alloc: Global,
+    options: &Options<'_>,
+    reader: &mut R,
+    writer: &mut W,
+    faults: &mut F,
+) -> u8
+    requires { (1 ≤ options.now.piece) × (options.now.piece ≤ 65536) }
+    ensures status { (result ≤ 3) × (result ≢ 2) }
+    ensures ran { HasRun (R.remaining reader.old) (R.remaining reader.new) (W.written writer.old)
+        (W.written writer.new) (F.written faults.old) (F.written faults.new)
+        (R.looks reader.old) (R.looks reader.new) (F.failures faults.old)
+        (F.failures faults.new) result }
+    ensures reads_bounded { R.calls reader.new ≤ R.calls reader.old + MOST_READS }
+    ensures nothing_told_at_zero { result ≡ 0 → faults.new ≡ faults.old }
+    ensures told_at_three { result ≡ 3 → TellsFailure (F.written faults.old)
+        (F.written faults.new) (F.failures faults.old) (F.failures faults.new) }
+{
+    match run(alloc, options, reader, writer) {
+        Ok(()) => 0,
+        Err(error) => stop(&error, faults),
+    }
+}
+
+/// Does what the words say, the program's name first among them, with the stream of `reader`, and
+/// answers the status: 0 where all is well or help was asked for, 1 where the input was refused, 2
+/// where the words are bad or name a file, and 3 where a device or memory failed. What is wrong is
+/// said on `faults`, whether or not that takes it. What the writer holds back at the end is the
+/// caller's to flush.
 pub fn command<S: AsStr, R: LiveSource<W>, W: LiveSink, F: Sink>(
     alloc: Global,
     words: &[S],
@@ -137,16 +221,13 @@ pub fn command<S: AsStr, R: LiveSource<W>, W: LiveSink, F: Sink>(
     ensures nothing_at_two { result ≡ 2 →
         (reader.new ≡ reader.old) × (writer.new ≡ writer.old) }
 {
-    let options = match parse(alloc, words) {
-        Ok(Some(options)) => options,
-        Ok(None) => {
-            let _ = write_text(faults, b"error: these words ask for nothing here\n");
-            return BAD_ARGUMENTS;
-        }
-        Err(error) => return explain(alloc, &error, writer, faults),
+    let options = match read_words(alloc, words, writer, faults) {
+        Ok(options) => options,
+        Err(status) => return status,
     };
-    match run(alloc, &options, reader, writer) {
-        Ok(()) => 0,
-        Err(error) => stop(&error, faults),
+    if options.file != STANDARD_INPUT {
+        let _ = write_text(faults, b"error: these words name a file\n");
+        return BAD_ARGUMENTS;
     }
+    run_options(alloc, &options, reader, writer, faults)
 }

@@ -11,6 +11,16 @@ use std::convert::AsStr;
 /// The greatest limit of total and of items.
 const MOST_TOTAL: i64 = 1_099_511_627_776;
 
+/// The name of a file that is standard input.
+pub const STANDARD_INPUT: &str = "-";
+
+/// What the help of a task says of its statuses.
+const STATUSES: &str = "Statuses:
+  0  All input was read
+  1  A value was refused
+  2  The words of the command line are wrong
+  3  A file can't be opened, the input can't be read, the output can't be written, or memory is out";
+
 /// An option with a number in a range.
 #[derive(Clone, Copy)]
 struct NumberOption {
@@ -24,7 +34,7 @@ struct NumberOption {
 /// `--depth`: the limit of depth, in aggregates inside one another.
 const DEPTH: NumberOption = NumberOption {
     name: "depth",
-    help: "The most aggregates inside one another",
+    help: "The most aggregates inside one another, from 4 to 128",
     least: 4,
     most: 128,
     default: "32",
@@ -33,7 +43,7 @@ const DEPTH: NumberOption = NumberOption {
 /// `--length`: the limit of length, in bytes.
 const LENGTH: NumberOption = NumberOption {
     name: "length",
-    help: "The most bytes of one string",
+    help: "The most bytes of one string or line, from 64 to 1073741824",
     least: 64,
     most: 1_073_741_824,
     default: "536870912",
@@ -42,7 +52,7 @@ const LENGTH: NumberOption = NumberOption {
 /// `--total`: the limit of total, in bytes.
 const TOTAL: NumberOption = NumberOption {
     name: "total",
-    help: "The most bytes of one value",
+    help: "The most bytes of one value, from 256 to 1099511627776",
     least: 256,
     most: MOST_TOTAL,
     default: "1073741824",
@@ -51,7 +61,7 @@ const TOTAL: NumberOption = NumberOption {
 /// `--items`: the limit of items, in members or pairs.
 const ITEMS: NumberOption = NumberOption {
     name: "items",
-    help: "The most members or pairs of one aggregate",
+    help: "The most members or pairs of one aggregate, from 16 to 1099511627776",
     least: 16,
     most: MOST_TOTAL,
     default: "1099511627776",
@@ -60,7 +70,7 @@ const ITEMS: NumberOption = NumberOption {
 /// `--piece`: the most bytes of one read.
 const PIECE: NumberOption = NumberOption {
     name: "piece",
-    help: "The most bytes of one read",
+    help: "The most bytes of one read, from 1 to 65536",
     least: 1,
     most: 65_536,
     default: "4096",
@@ -91,18 +101,23 @@ pub enum Task {
 
 /// A task, and how the stream is read.
 #[derive(Clone, Copy, Debug)]
-pub struct Options {
+pub struct Options<'a> {
     pub task: Task,
     pub version: Version,
     pub limits: Limits,
     /// The number of bytes of one read, from 1 to 65,536.
     pub piece: usize,
+    /// The name of the file that is read, or [`STANDARD_INPUT`].
+    pub file: &'a str,
 }
 
 /// Reads the words, the program's name first among them. None where they are `loop` alone, which is
 /// played elsewhere, or where a number is outside its range, which the parser of the words refuses
 /// before.
-pub fn parse<'a, S: AsStr>(alloc: Global, words: &'a [S]) -> Result<Option<Options>, clap::Error>
+pub fn parse<'a, S: AsStr>(
+    alloc: Global,
+    words: &'a [S],
+) -> Result<Option<Options<'a>>, clap::Error>
     ensures piece_in_range { IfOk result (λ found. IfSome found (λ options.
         (1 ≤ options.piece) × (options.piece ≤ 65536))) }
 {
@@ -134,7 +149,7 @@ fn program<'a>(alloc: Global) -> Result<Command<'a>, clap::Error> {
         Command::new(alloc, "resp")
             .bin_name("resp")?
             .version("0.1.0")
-            .about("Reads a stream of the Redis wire protocol from standard input")
+            .about("Reads a stream of the Redis wire protocol from a file or standard input")
             .subcommand_required(true)
             .subcommand(with_options(alloc, show)?)?
             .subcommand(with_options(alloc, check)?)?
@@ -155,6 +170,10 @@ fn with_options<'a>(alloc: Global, command: Command<'a>) -> Result<Command<'a>, 
         .long("no-streamed")
         .help("Refuses streamed strings and aggregates")
         .action(ArgAction::SetTrue);
+    let file = Arg::new(alloc, "file")
+        .value_name("FILE")
+        .help("The file that is read, or - for standard input")
+        .default_value(STANDARD_INPUT);
     let doubles = Arg::new(alloc, "doubles")
         .long("doubles")
         .help("Lets doubles through, which version 3 alone has")
@@ -168,12 +187,14 @@ fn with_options<'a>(alloc: Global, command: Command<'a>) -> Result<Command<'a>, 
             .arg(ITEMS.option(alloc))?
             .arg(no_streamed)?
             .arg(doubles)?
-            .arg(PIECE.option(alloc))?,
+            .arg(PIECE.option(alloc))?
+            .arg(file)?
+            .after_help(STATUSES),
     )
 }
 
 /// The options of a subcommand; none where a number is outside its range.
-fn options_of(task: Task, matches: &ArgMatches<'_>) -> Option<Options>
+fn options_of<'a>(task: Task, matches: &ArgMatches<'a>) -> Option<Options<'a>>
     ensures { IfSome result (λ options. (1 ≤ options.piece) × (options.piece ≤ 65536)) }
 {
     let version = match matches.get_str("proto") {
@@ -202,5 +223,6 @@ fn options_of(task: Task, matches: &ArgMatches<'_>) -> Option<Options>
         version,
         limits,
         piece: piece as usize,
+        file: matches.get_str("file")?,
     })
 }
