@@ -1,12 +1,13 @@
 //! How long the encoder, the scanner, the decoder, the client and the server take, to be compared
 //! with others.
 //!
-//! The arguments name a part, `encode`, `scan`, `client` or `server`, and what it is to do. With no
-//! argument each part counts what it does with short texts, the same on every run.
+//! The arguments name a part, `encode`, `scan`, `client`, `server` or `grow`, and what it is to do.
+//! With no argument each part counts what it does with short texts, the same on every run.
 #![tactic(auto)]
 
 mod client;
 mod encode;
+mod grow;
 mod scan;
 mod server;
 mod texts;
@@ -27,7 +28,7 @@ fn nanos(rt: &HostRuntime) -> Result<u128> {
 
 /// Runs the parts that the words name, or each where they name none.
 fn bench(rt: &HostRuntime, words: &[String]) -> Result<()> {
-    let names = ["encode", "scan", "client", "server"];
+    let names = ["encode", "scan", "client", "server", "grow"];
     let all = !names.iter().any(|name| has(words, name));
     for name in names {
         if all || has(words, name) {
@@ -42,7 +43,8 @@ fn bench_part(rt: &HostRuntime, name: &str, words: &[String]) -> Result<()> {
         "encode" => encode::bench(rt, words),
         "scan" => scan::bench(rt, words),
         "client" => client::bench(rt, words),
-        _ => server::bench(rt, words),
+        "server" => server::bench(rt, words),
+        _ => grow::bench(rt, words),
     }
 }
 

@@ -21,31 +21,38 @@ const KEYS: u64 = 100_000;
 /// The session that is sent all commands.
 const SESSION: u64 = 1;
 
-type BenchHub = Hub<BuildHasherDefault<FoldHasher>>;
+pub(crate) type BenchHub = Hub<BuildHasherDefault<FoldHasher>>;
 
 /// What is sent.
 #[derive(Clone, Copy, Debug)]
-enum Kind {
+pub(crate) enum Kind {
     Set,
     Get,
     Ping,
+    Del,
 }
 
 /// What came of what was sent.
 #[derive(Clone, Copy)]
-struct Tally {
+pub(crate) struct Tally {
     commands: u64,
     replied: u64,
 }
 
+/// A hub without a session.
+pub(crate) fn new_hub(alloc: Global) -> BenchHub {
+    Hub::new(alloc, Limits::standard(), BuildHasherDefault::new())
+}
+
 /// A command of this kind, and of this key where it has one.
-fn command(alloc: Global, kind: Kind, key: u64) -> Result<String, AllocError> {
+pub(crate) fn command(alloc: Global, kind: Kind, key: u64) -> Result<String, AllocError> {
     let set = "*3\r\n$3\r\nSET\r\n$16\r\nkey:";
     let value = "$16\r\nxxxxxxxxxxxxxxxx\r\n";
     match kind {
         Kind::Set => format!(in alloc; "{set}{key:012}\r\n{value}"),
         Kind::Get => format!(in alloc; "*2\r\n$3\r\nGET\r\n$16\r\nkey:{key:012}\r\n"),
         Kind::Ping => format!(in alloc; "*1\r\n$4\r\nPING\r\n"),
+        Kind::Del => format!(in alloc; "*2\r\n$3\r\nDEL\r\n$16\r\nkey:{key:012}\r\n"),
     }
 }
 
@@ -75,7 +82,7 @@ fn send_piece(hub: &mut BenchHub, piece: &[u8], tally: &mut Tally) -> Result<()>
 }
 
 /// Sends the text in pieces, and drops what is replied to each.
-fn send(hub: &mut BenchHub, text: &[u8]) -> Result<Tally> {
+pub(crate) fn send(hub: &mut BenchHub, text: &[u8]) -> Result<Tally> {
     let mut tally = Tally {
         commands: 0,
         replied: 0,
@@ -133,6 +140,6 @@ fn run_all(rt: &HostRuntime, hub: &mut BenchHub, count: u64, timed: bool) -> Res
 
 /// Runs it for each kind of command, as the words ask.
 pub(crate) fn bench(rt: &HostRuntime, words: &[String]) -> Result<()> {
-    let mut hub = Hub::new(rt.alloc(), Limits::standard(), BuildHasherDefault::new());
+    let mut hub = new_hub(rt.alloc());
     run_all(rt, &mut hub, asked_for(words), has(words, "times"))
 }

@@ -1,10 +1,10 @@
 //! Simple strings and errors: one line, whose content is found by vectors.
 
-ghost use Rattle.resp_scan.specs.Machine.Runs.{plain_run};
+ghost use Rattle.resp_scan.specs.Machine.Runs.{plain_run, run_to};
 ghost use Rattle.std.specs.Prelude.{◌≡◌, ◌≤◌, length, drop};
 
 use crate::machine::{EventTag, Machine, State, Taken};
-use memchr::memchr2;
+use memchr::memchr;
 use resp_value::cause::Cause;
 
 impl Machine {
@@ -74,13 +74,23 @@ pub fn line_run(s: &[u8]) -> usize
     far_run(s)
 }
 
-/// The same by vectors alone.
+/// The same by vectors alone: a CR is sought first, and then an LF before it.
 #[inline(never)]
 fn far_run(s: &[u8]) -> usize
     ensures run { result ≡ plain_run s.now }
     ensures within { result ≤ length s.now }
 {
-    match memchr2(b'\r', b'\n', s) {
+    let cr = run_to(b'\r', s);
+    run_to(b'\n', &s[..cr])
+}
+
+/// How many bytes stand before the first that is this one; all of them where none is.
+#[inline]
+fn run_to(byte: u8, s: &[u8]) -> usize
+    ensures value { result ≡ run_to byte s.now }
+    ensures within { result ≤ length s.now }
+{
+    match memchr(byte, s) {
         Some(i) => i,
         None => s.len(),
     }

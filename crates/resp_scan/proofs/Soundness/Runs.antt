@@ -1,5 +1,5 @@
 -- Runs of content bytes.
-use Rattle.std.specs.Prelude.{◌≡◌, ◌≢◌, ℕ, zero, suc, ◌+◌, ◌-◌, ◌<◌, ◌≤◌, ◌||◌, Bool, true, false, cond, eqb, nat_le, List, [], ◌∷◌, length, take, min, refl}
+use Rattle.std.specs.Prelude.{◌≡◌, ◌≢◌, ℕ, zero, suc, ◌+◌, ◌-◌, ◌<◌, ◌≤◌, Bool, true, false, cond, eqb, nat_le, List, [], ◌∷◌, length, take, min, refl}
 use Rattle.std.proofs.Common.{sym, ◌∙◌, ap, arith, get_or, add-zero, add-one, zero-add}
 use Rattle.std.proofs.lemmas.Grind.{common_steps}
 use Rattle.std.proofs.lemmas.Bool.Decides.{nat_tests}
@@ -9,7 +9,7 @@ use Rattle.resp_scan.specs.Machine.Room.{total_room}
 use Rattle.resp_scan.specs.Machine.Heads.{content_at, chunk_at}
 use Rattle.resp_scan.specs.Machine.Moves.{next, content_byte, is_digit, only_byte}
 use Rattle.resp_scan.specs.Machine.Scan.{content, and_more, answer, scan, Part}
-use Rattle.resp_scan.specs.Machine.Runs.{plain_run, digit_run}
+use Rattle.resp_scan.specs.Machine.Runs.{run_to, plain_run, digit_run}
 
 -- a run of plain bytes is no longer than the piece
 pub plain_run_le : (p : List ℕ) → plain_run p ≤ length p
@@ -25,25 +25,23 @@ digit_run_le (b ∷ bs) =
       | false ↦ omega arith
     ]
 
-by_one : (cr lf : Bool) (n : ℕ) → (cr || lf) ≡ true → cond cr 0 (cond lf 0 n) ≡ 0
-by_one true lf n e = refl
-by_one false true n e = refl
-by_one false false n e = absurd (cc)
+-- the first CR or LF is the first LF before the first CR
+pub plain_run-run_to : (p : List ℕ) → plain_run p ≡ run_to 10 (take (run_to 13 p) p)
+plain_run-run_to [] = refl
+plain_run-run_to (b ∷ bs) =
+    elim (eqb b 13) as (λ v. eqb b 13 ≡ v → plain_run (b ∷ bs) ≡ run_to 10 (take (run_to 13 (b ∷ bs)) (b ∷ bs))) [
+      | true ↦ λ e. simp e
+      | false ↦ λ e. simp (e, add-one, plain_run-run_to bs)
+    ] refl
 
-by_none : (cr lf : Bool) (n : ℕ) → ((cr || lf) ≡ true → ⊥) → cond cr 0 (cond lf 0 n) ≡ n
-by_none true lf n neither = absurd (neither refl)
-by_none false true n neither = absurd (neither refl)
-by_none false false n neither = refl
-
--- the run to the first CR or LF
-pub plain_run_is : (p : List ℕ) (k : ℕ) → k ≤ length p → ((j : ℕ) → j < k → (eqb (get_or p j 0) 13 || eqb (get_or p j 0) 10) ≡ true → ⊥) →
-    (k < length p → (eqb (get_or p k 0) 13 || eqb (get_or p k 0) 10) ≡ true) → plain_run p ≡ k
-plain_run_is [] k h f g = omega arith
-plain_run_is (b ∷ bs) zero h f g = by_one (eqb b 13) (eqb b 10) (plain_run bs + 1) (g (omega arith))
-plain_run_is (b ∷ bs) (suc k) h f g =
-    let rest : plain_run bs ≡ k = plain_run_is bs k (omega arith) (λ j l. f (suc j) (omega arith)) (λ l. g (omega arith)) in
-    let more : plain_run bs + 1 ≡ suc k = omega (arith, rest) in
-    by_none (eqb b 13) (eqb b 10) (plain_run bs + 1) (f 0 (omega arith)) ∙ more
+-- the run to the first such byte
+pub run_to_is : (c : ℕ) (p : List ℕ) (k : ℕ) → k ≤ length p → ((j : ℕ) → j < k → get_or p j 0 ≢ c) → (k < length p → get_or p k 0 ≡ c) → run_to c p ≡ k
+run_to_is c [] k h f g = omega arith
+run_to_is c (b ∷ bs) zero h f g = let e : b ≡ c = g (omega arith) in grind (arith, nat_tests)
+run_to_is c (b ∷ bs) (suc k) h f g =
+    let e : b ≢ c = f 0 (omega arith) in
+    let r : run_to c bs ≡ k = run_to_is c bs k (omega arith) (λ j l. f (suc j) (omega arith)) (λ l. g (omega arith)) in
+    grind (arith, nat_tests)
 
 sub_zero : (n : ℕ) → n - 0 ≡ n
 sub_zero n = omega arith

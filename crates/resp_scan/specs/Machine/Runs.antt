@@ -3,6 +3,11 @@ use Rattle.std.specs.Str.{byte}
 use Rattle.std.specs.Prelude.{ℕ, ◌+◌, cond, eqb, List, [], ◌∷◌}
 use Rattle.resp_scan.specs.Machine.Moves.{is_digit}
 
+-- how many bytes come before the first c
+abbrev pub run_to : ℕ → List ℕ → ℕ
+run_to c [] = 0
+run_to c (b ∷ bs) = cond (eqb b c) 0 (run_to c bs + 1)
+
 -- how many bytes from the front are neither CR nor LF
 abbrev pub plain_run : List ℕ → ℕ
 plain_run [] = 0

@@ -1,13 +1,9 @@
-use Rattle.std.proofs.Common.{length, sym, arith}
-use Rattle.resp_scan.proofs.Soundness.Runs.{plain_run_is}
+use Rattle.std.proofs.Common.{sym, ◌∙◌, ap, take}
+use Rattle.resp_scan.specs.Machine.Runs.{run_to}
+use Rattle.resp_scan.proofs.Soundness.Runs.{plain_run-run_to}
 use Rattle.resp_scan.proofs.lines.far_run.Goals as goal
 
-pub returns-in-Some-clause-run : goal.returns-in-Some-clause-run
-returns-in-Some-clause-run c =
-    let h = c.in-Some.ensures in
-    sym (plain_run_is c.args.s.now c.in-Some.i (omega arith) (λ j l e. h.0.before j (omega arith) l e) (λ l. h.1))
-
-pub returns-in-None-clause-run : goal.returns-in-None-clause-run
-returns-in-None-clause-run c =
-    let h = c.in-None.ensures in
-    sym (plain_run_is c.args.s.now (length c.args.s.now) (omega arith) (λ j l e. h j (omega arith) l e) (λ l. absurd (omega arith)))
+pub returns-clause-run : goal.returns-clause-run
+returns-clause-run c =
+    let s = c.args.s.now in
+    c.run_to.ensures.value ∙ ap (λ n. run_to 10 (take n s)) c.run_to-cr.ensures.value ∙ sym (plain_run-run_to s)
