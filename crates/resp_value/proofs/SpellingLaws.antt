@@ -7,7 +7,7 @@ use Rattle.resp_value.specs.TreeValues.{value, values}
 use Rattle.resp_value.specs.Rules.{Rules, Rule, Grammar, NoDouble, InVersion, PushAtTop, InRange, NotStreamed, WithinDepth, WithinLength, WithinItems, WithinTotal, rank, Meets}
 use Rattle.resp_value.specs.Spellings.{IsSpelling, AreSpellings}
 use Rattle.resp_value.specs.Canonical.{canonical_tree, canonical_text, IsValue, HasNoDouble, Fits}
-use Rattle.resp_value.specs.Laws.{ATextHasOneValue, NoSpellingBeginsAnother, NoSpellingIsEmpty, APushBeginsWithItsByte, ATextHasOneCut, VersionThreeSpellsWhatTwoDoes, CanonicalTextSpellsWhatFits, CanonicalTextTellsValuesApart, DoublesAreAllThatTheSwitchAdds, with_doubles}
+use Rattle.resp_value.specs.Laws.{ATextHasOneValue, NoSpellingBeginsAnother, NoSpellingIsEmpty, APushBeginsWithItsByte, ATextHasOneCut, VersionThreeSpellsWhatTwoDoes, CanonicalTextSpellsWhatFits, CanonicalTextTellsValuesApart, DoublesAreAllThatTheSwitchAdds, FrontsAreViableWithoutDoubles, with_doubles}
 use Rattle.resp_value.specs.declared.version.Version.TheVariants.{Three}
 use Rattle.resp_value.proofs.FirstBytes.{kind_of_byte, first_byte, begins, first_byte_is, leaf_is_no_push}
 use Rattle.resp_value.proofs.Unique.{same_tree}
@@ -191,5 +191,22 @@ doubles_are_all_that_the_switch_adds r x text = (
     spells = s.spells;
     keeps = λ rule h. meets_with_doubles r true false rule s.tree (subst HasNoDouble (sym s.valued) w.1) (s.keeps rule h);
     valued = s.valued;
+  },
+)
+
+pub fronts_are_viable_without_doubles : FrontsAreViableWithoutDoubles
+fronts_are_viable_without_doubles r rule front later = (
+  λ v. let none : HasNoDouble (value v.tree) = (no_double_tree v.tree).0 (v.keeps NoDouble later refl) in record {
+    rest = v.rest;
+    tree = v.tree;
+    spells = v.spells;
+    keeps = λ earlier h. meets_with_doubles r false true earlier v.tree none (v.keeps earlier h);
+    no_double = none;
+  },
+  λ g. record {
+    rest = g.rest;
+    tree = g.tree;
+    spells = g.spells;
+    keeps = λ earlier h. meets_with_doubles r true false earlier g.tree g.no_double (g.keeps earlier h);
   },
 )

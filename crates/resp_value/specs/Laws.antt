@@ -174,6 +174,20 @@ abbrev pub DoublesAreAllThatTheSwitchAdds : Type 0
 DoublesAreAllThatTheSwitchAdds = (r : Rules) (x : Datum) (text : List ℕ) → IsSpelling (with_doubles r false) x text ↔
     (IsSpelling (with_doubles r true) x text × HasNoDouble x)
 
+-- some tree of a value without doubles goes on from the front, and keeps the rules up to this one
+pub record GoesOnWithoutDoubles (r : Rules) (rule : Rule) (front : List ℕ) : Type 0 where
+  pub rest : List ℕ
+  pub tree : Tree
+  pub spells : Spells tree (front ++ rest)
+  pub keeps : Keeps r rule tree
+  pub no_double : HasNoDouble (value tree)
+
+-- where doubles aren't allowed, the fronts that are viable under a rule after the first are those of values without
+-- doubles where they are
+abbrev pub FrontsAreViableWithoutDoubles : Type 0
+FrontsAreViableWithoutDoubles = (r : Rules) (rule : Rule) (front : List ℕ) → 1 ≤ rank rule →
+    IsViable (with_doubles r false) rule front ↔ GoesOnWithoutDoubles (with_doubles r true) rule front
+
 -- no tree begins with another byte
 abbrev pub NoOtherByteBeginsATree : Type 0
 NoOtherByteBeginsATree = (r : Rules) (byte : ℕ) →

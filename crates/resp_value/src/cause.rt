@@ -20,7 +20,7 @@ pub enum Limit {
 pub enum Cause {
     /// The bytes begin no value of any version.
     Syntax,
-    /// The type byte of a double came, which is read in no version here.
+    /// A double came where the limits don't allow doubles, or is to be encoded within such limits.
     Double,
     /// A form of version 3 came while version 2 is read.
     Version,

@@ -6,7 +6,7 @@ ghost use Rattle.resp_value.specs.Data.{depth, longest, most_items, scalar, Arra
 ghost use Rattle.resp_value.specs.Examples.{integer, simple, aggregate_of, IsSpelledInBoth, IsSpelledInThree, IsSpelledStreamed, IsSpelledWithDoubles, SpellsNothing, SpellsNothingInTwo, SpellsNothingSwitchedOff, SpellsNothingWithoutDoubles, HasCause, HasCauseInThree, IsCutWithFault};
 ghost use Rattle.resp_value.specs.Rules.{Grammar, PushAtTop};
 ghost use Rattle.resp_value.specs.declared.version.Version.TheVariants.{Two, Three};
-ghost use Rattle.resp_value.specs.Laws.{EqualValuesHaveEqualData, ATextHasOneValue, NoSpellingBeginsAnother, NoSpellingIsEmpty, APushBeginsWithItsByte, ATextHasOneCut, ARestHasOneFault, VersionThreeSpellsWhatTwoDoes, CanonicalTextSpellsWhatFits, CanonicalTextTellsValuesApart, WhatWasReadFitsButForTotal, WhatWasReadCanBeWritten, WhatWasReadCountedCanBeWritten, ACountedSpellingIsNoShorter, FrontsOfSpellingsAreViable, FrontsOfViableTextsAreViable, LaterRulesLeaveLess, ATextHasOneCause, AViableTextHasNoCause, RulesHoldAtEachNode, TextsOfTreesAreBytes, DefaultItemsRefuseNothing, TheEmptyTextIsViable, TypeBytesAreViable, LaterTypeBytesWantVersionThree, ACommaBeginsADouble, DoublesAreAllThatTheSwitchAdds, NoOtherByteBeginsATree};
+ghost use Rattle.resp_value.specs.Laws.{EqualValuesHaveEqualData, ATextHasOneValue, NoSpellingBeginsAnother, NoSpellingIsEmpty, APushBeginsWithItsByte, ATextHasOneCut, ARestHasOneFault, VersionThreeSpellsWhatTwoDoes, CanonicalTextSpellsWhatFits, CanonicalTextTellsValuesApart, WhatWasReadFitsButForTotal, WhatWasReadCanBeWritten, WhatWasReadCountedCanBeWritten, ACountedSpellingIsNoShorter, FrontsOfSpellingsAreViable, FrontsOfViableTextsAreViable, LaterRulesLeaveLess, ATextHasOneCause, AViableTextHasNoCause, RulesHoldAtEachNode, TextsOfTreesAreBytes, DefaultItemsRefuseNothing, TheEmptyTextIsViable, TypeBytesAreViable, LaterTypeBytesWantVersionThree, ACommaBeginsADouble, DoublesAreAllThatTheSwitchAdds, FrontsAreViableWithoutDoubles, NoOtherByteBeginsATree};
 
 use crate::value::Value;
 
@@ -139,6 +139,12 @@ pub fn a_comma_begins_a_double()
 /// the switch changes nothing else.
 pub fn doubles_are_all_that_the_switch_adds()
     ensures { DoublesAreAllThatTheSwitchAdds }
+{}
+
+/// Where doubles aren't allowed, the viable fronts are those of values without doubles where they
+/// are. So what is refused then, where and why, hangs on values without doubles alone.
+pub fn fronts_are_viable_without_doubles()
+    ensures { FrontsAreViableWithoutDoubles }
 {}
 
 /// No tree begins with a byte that is neither `,` nor a type byte of version 3.
