@@ -37,6 +37,7 @@ impl Talk {
         let (alloc, devices) = (self.alloc, self.devices);
         let asking = &mut self.asking;
         match name {
+            "limits" => asking.renew(alloc, given),
             "queue" => asking.queue(alloc, given),
             "queue-hello" => asking.queue_hello(given),
             "waiting" => asking.say_waiting(said),
@@ -85,7 +86,7 @@ impl Subject for Talk {
         match name {
             "devices" => self.devices.set_all(given),
             "calls" => self.calls.say(said),
-            "queue" | "queue-hello" | "waiting" | "each-ask" | "ask" => {
+            "limits" | "queue" | "queue-hello" | "waiting" | "each-ask" | "ask" => {
                 self.ask(name, given, cut, said)
             }
             "open" | "session" | "each-serve" | "serve" => self.serve(name, given, cut, said),

@@ -1,6 +1,7 @@
 //! Rows that ask by a client.
 
 use super::devices::{Calls, Devices, Ending};
+use crate::bounds;
 use crate::cut::Cut;
 use crate::spelling::{add_pushes, add_quoted, add_value, version_number};
 use crate::text::{bytes, command, version_if_any};
@@ -44,6 +45,12 @@ impl Asking {
             client: new_client(alloc),
             requests: Vec::new(alloc),
         }
+    }
+
+    /// Takes a new client of these limits.
+    pub(crate) fn renew(&mut self, alloc: Global, limits: &str) -> Result<()> {
+        self.client = Client::new(alloc, &bounds::limits(limits)?);
+        Ok(())
     }
 
     /// Adds a command of these words to the next requests.
