@@ -24,7 +24,7 @@ fn open_idle(hub: &mut BenchHub) -> Result<()> {
     Ok(())
 }
 
-/// A hub of so many idle sessions.
+/// Opens `sessions` sessions, which then are idle.
 fn open_all(hub: &mut BenchHub, sessions: u64) -> Result<()> {
     for _ in 0..sessions {
         open_idle(hub)?;
@@ -32,7 +32,7 @@ fn open_all(hub: &mut BenchHub, sessions: u64) -> Result<()> {
     Ok(())
 }
 
-/// Closes the first sessions. Nanoseconds.
+/// Closes the first `count` sessions. How many nanoseconds that took.
 fn close_first(rt: &HostRuntime, hub: &mut BenchHub, count: u64) -> Result<u128> {
     let start = nanos(rt)?;
     for id in 0..count {
@@ -41,7 +41,7 @@ fn close_first(rt: &HostRuntime, hub: &mut BenchHub, count: u64) -> Result<u128>
     Ok(nanos(rt)?.saturating_sub(start))
 }
 
-/// `count` commands of this kind as one text, each of another of so many keys.
+/// `count` commands of this kind as one text, each of another key.
 fn of_keys(alloc: Global, kind: Kind, keys: u64, count: u64) -> Result<Vec<u8>> {
     let mut text = Vec::new(alloc);
     for index in 0..count {
@@ -51,7 +51,7 @@ fn of_keys(alloc: Global, kind: Kind, keys: u64, count: u64) -> Result<Vec<u8>> 
     Ok(text)
 }
 
-/// Sets so many keys, and deletes half of them. Nanoseconds.
+/// Sets `keys` keys and deletes half of them. How many nanoseconds the deletes took.
 fn delete_half(rt: &HostRuntime, hub: &mut BenchHub, keys: u64) -> Result<u128> {
     hub.open()?;
     let set = of_keys(rt.alloc(), Kind::Set, keys, keys)?;
@@ -62,13 +62,13 @@ fn delete_half(rt: &HostRuntime, hub: &mut BenchHub, keys: u64) -> Result<u128> 
     Ok(nanos(rt)?.saturating_sub(start))
 }
 
-/// Opens so many sessions, and closes half of them. Nanoseconds.
+/// Opens `sessions` sessions and closes half of them. How many nanoseconds the closes took.
 fn close_half(rt: &HostRuntime, hub: &mut BenchHub, sessions: u64) -> Result<u128> {
     open_all(hub, sessions)?;
     close_first(rt, hub, sessions / 2)
 }
 
-/// Does it with a hub of its own. Nanoseconds.
+/// The same with a hub of its own.
 fn once(rt: &HostRuntime, closes: bool, count: u64) -> Result<u128> {
     let mut hub = new_hub(rt.alloc());
     if closes {

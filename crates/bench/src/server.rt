@@ -128,7 +128,7 @@ fn run(rt: &HostRuntime, hub: &mut BenchHub, timed: bool, kind: Kind, text: &[u8
     Ok(())
 }
 
-/// Fills a hub, and sends it so many commands of each kind.
+/// Fills a hub, and sends it `count` commands of each kind.
 fn run_all(rt: &HostRuntime, hub: &mut BenchHub, count: u64, timed: bool) -> Result<()> {
     fill(rt.alloc(), hub, count)?;
     for kind in [Kind::Set, Kind::Get, Kind::Ping] {

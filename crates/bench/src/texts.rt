@@ -2,7 +2,7 @@
 
 use std::alloc::{AllocError, Global};
 
-/// A text: its head, a part that stands there so many times, and its end.
+/// A text: its head, a part that stands there `count` times, and its end.
 #[derive(Clone, Copy)]
 pub(crate) struct Text {
     pub(crate) name: &'static str,

@@ -33,7 +33,7 @@ fn count_input(input: &mut impl Read) -> Result<usize> {
     Ok(count)
 }
 
-/// Makes so many allocations.
+/// Makes `count` allocations.
 fn allocate(alloc: Global, count: usize) -> Result<(), AllocError> {
     for _ in 0..count {
         allocate_byte(alloc)?;

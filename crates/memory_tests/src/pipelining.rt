@@ -32,7 +32,7 @@ fn send(client: &mut Client, command: Option<&Command>) -> Result<u64, SendError
     }
 }
 
-/// Whether these bytes and so many commands wait.
+/// Whether these bytes and `waiting` commands wait.
 fn waits(client: &Client, out: &[u8], waiting: u64) -> bool {
     client.out() == out && client.waiting() == waiting
 }

@@ -8,7 +8,7 @@ use resp_value::device::{MemorySink, MemorySource};
 use resp_value::version::Version;
 use std::process::Abort;
 
-/// A writer that takes at most so many bytes at once, and fails from a byte on.
+/// A writer that takes at most `most` bytes at once, and fails from byte `fails_from` on.
 fn sink<R: Abort + AllocGlobal>(rt: &R, most: usize, fails_from: usize) -> MemorySink {
     MemorySink::new(rt.alloc(), most, fails_from).expect(rt, "out of memory")
 }

@@ -65,7 +65,7 @@ fn run(
     }
 }
 
-/// That a task over a stream, by reads of five bytes, has sent so many bytes at each of them.
+/// That a task over a stream, by reads of five bytes, has sent `sent` bytes at each of them.
 fn check_sent<R: Abort + AllocGlobal>(rt: &R, task: Task, stream: &[u8], sent: &[usize]) {
     let mut reader = Watcher {
         input: MemorySource::new(stream, 5),
