@@ -7,6 +7,7 @@ pub mod Seats
 pub mod PushVerdicts
 pub mod FaultLines
 pub mod ValueAnswers
+pub mod Readings
 pub mod Turns
 pub mod AnsweredPieces
 pub mod AnsweredHubs

@@ -2,10 +2,10 @@
 
 ghost use Rattle.std.specs.Prelude.{◌≡◌, ◌<◌, ◌≤◌, ◌^◌, List, ℕ, false, IfOk, OnOk, OnErr};
 ghost use Rattle.resp_value.specs.declared.cause.Cause.TheVariants.{OutOfMemory};
-ghost use Rattle.resp_decode.specs.Decoding.{HasTaken, WhereTaken, rules_of};
 ghost use Rattle.resp_session.specs.Answers.{server_rules};
 ghost use Rattle.resp_session.specs.Fitting.{FitsStore};
 ghost use Rattle.resp_server.specs.Answering.{IsTurn, IsRefused, IsNamedFault};
+ghost use Rattle.resp_server.specs.Reading.{HasTaken, ReadsBy, WhereTaken};
 ghost use Rattle.resp_server.specs.Running.{IsAsBefore};
 
 use crate::answer_value::answer_value;
@@ -41,20 +41,20 @@ pub(crate) fn take_turn<S: BuildHasher>(
     requires is_open { session.old.closing ≡ false }
     requires stored { FitsStore limits.now store.old }
     requires small { id < 2 ^ 63 }
-    requires reading { rules_of session.old.decoder ≡ server_rules limits.now }
+    requires reading { ReadsBy (server_rules limits.now) session.old.decoder }
     requires taking { (front : List ℕ) × HasTaken session.old.decoder front }
     ensures answered { WhereTaken session.old.decoder (λ front. IfOk result (λ turn.
         IsTurn limits.now id store.old store.new session.old session.new front piece.now turn.used
         turn.commands)) }
     ensures unchanged { OnErr result (IsAsBefore store.old store.new session.old session.new) }
     ensures stored { FitsStore limits.now store.new }
-    ensures reading { rules_of session.new.decoder ≡ server_rules limits.now }
+    ensures reading { ReadsBy (server_rules limits.now) session.new.decoder }
     ensures at_most_one { IfOk result (λ turn. turn.commands ≤ 1) }
 {
     grammar::no_spelling_is_empty();
     grammar::the_empty_text_is_viable();
     limits.are_in_range();
-    let fed = match session.decoder.feed(piece) {
+    let fed = match session.decoder.feed(alloc, limits, piece) {
         Ok(fed) => fed,
         Err(fault) => {
             refuse(session, limits, alloc, fault)?;
