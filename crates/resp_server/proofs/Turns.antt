@@ -212,23 +212,31 @@ waiting_turn limits id store before after front piece used taken version is_open
       onward = λ open_now full. omega (arith, is, full);
     }
 
--- the turn of a value
+-- the turn of a value that is spelled by what was taken and the bytes used
+pub spelled_turn : NoSpellingIsEmpty → TheEmptyTextIsViable → (limits : Bounds) → AreBounds limits → (id : ℕ) (store store' : Store)
+    (before after : Session) (front piece : List ℕ) (x : Datum) (used commands : ℕ) → HasNoValue front →
+    IsSpelling (server_rules limits) x (front ++ take used piece) → used ≤ length piece → HasTaken after.decoder [] →
+    IsAnswerTo id x store store' before after commands → IsTurn limits id store store' before after front piece used commands
+spelled_turn full empty limits bounds id store store' before after front piece x used commands none spelled within takes answered = record {
+  reply = answered.reply;
+  rest = [];
+  replied = answered.replied;
+  answers = λ text count. value_answers full empty limits bounds id (state_with store before.version text false count)
+      (state_with store' after.version (text ++ answered.reply) after.closing (count + commands)) x (front ++ take used piece) spelled
+      (answered.state text count);
+  taking = λ open_now. takes;
+  within = within;
+  onward = λ open_now some. some_used front piece (server_rules limits) x used none spelled;
+}
+
+-- the turn of a value that was read
 pub value_turn : NoSpellingIsEmpty → TheEmptyTextIsViable → (limits : Bounds) → AreBounds limits → (id : ℕ) (store store' : Store)
     (before after : Session) (front piece : List ℕ) (reading : Reading) (value : Value) (used commands : ℕ) →
     HasNoValue front → ReadsValue (server_rules limits) reading (front ++ take used piece) value → used ≤ length piece → after.decoder ≡ reading →
     IsAnswerTo id (datum_of value) store store' before after commands → IsTurn limits id store store' before after front piece used commands
 value_turn full empty limits bounds id store store' before after front piece reading value used commands none given within kept answered =
-    record {
-      reply = answered.reply;
-      rest = [];
-      replied = answered.replied;
-      answers = λ text count. value_answers full empty limits bounds id (state_with store before.version text false count)
-          (state_with store' after.version (text ++ answered.reply) after.closing (count + commands)) (datum_of value) (front ++ take used piece) given.spelling
-          (answered.state text count);
-      taking = λ open_now. subst (λ d. HasTaken d []) (sym kept) given.takes;
-      within = within;
-      onward = λ open_now some. some_used front piece (server_rules limits) (datum_of value) used none given.spelling;
-    }
+    spelled_turn full empty limits bounds id store store' before after front piece (datum_of value) used commands none given.spelling within
+    (subst (λ d. HasTaken d []) (sym kept) given.takes) answered
 
 -- it makes no difference to an answer with what the session reads
 pub same_answer : (id : ℕ) (x : Datum) (store store' : Store) (before middle after : Session) (commands : ℕ) → middle.version ≡ before.version →

@@ -1,6 +1,6 @@
 //! What a session reads with.
 
-ghost use Rattle.std.specs.Prelude.{◌≡◌, ◌≤◌, ◌++◌, [], length, take, Some, IfOk, IfErr};
+ghost use Rattle.std.specs.Prelude.{◌≡◌, ◌≤◌, ◌++◌, [], length, take, true, Some, IfOk, IfErr};
 ghost use Rattle.std.specs.Option.{option_map};
 ghost use Rattle.resp_decode.specs.Decoding.{IfNoValue, IfValue};
 ghost use Rattle.resp_value.specs.Rules.{Rules, WithinTotal};
@@ -75,15 +75,22 @@ impl Reader {
         fed
     }
 
+    /// Whether nothing is taken of a value.
+    pub(crate) fn is_between(&self) -> bool
+        ensures { result ≡ true → WhereTaken self.now (λ front. front ≡ []) }
+    {
+        match &self.decoder {
+            Some(decoder) => decoder.taken() == 0,
+            None => true,
+        }
+    }
+
     /// Gives the decoder's memory back, where nothing is taken of a value.
     pub(crate) fn shrink(&mut self)
         ensures same_taken { WhereTaken self.old (HasTaken self.new) }
         ensures reading { (rules : Rules) → ReadsBy rules self.old → ReadsBy rules self.new }
     {
-        let Some(decoder) = &self.decoder else {
-            return;
-        };
-        if decoder.taken() == 0 {
+        if self.is_between() {
             self.decoder = None;
         }
     }
