@@ -93,6 +93,13 @@ pub(crate) fn send(hub: &mut BenchHub, text: &[u8]) -> Result<Tally> {
     Ok(tally)
 }
 
+/// Sends the text of commands that are measured, in a function of its own, by whose name what it
+/// takes is counted.
+#[inline(never)]
+pub(crate) fn answer_text(hub: &mut BenchHub, text: &[u8]) -> Result<Tally> {
+    send(hub, text)
+}
+
 /// Sends a SET of each key that may be drawn.
 fn fill(alloc: Global, hub: &mut BenchHub, count: u64) -> Result<()> {
     hub.open()?;
@@ -117,7 +124,7 @@ fn asked_for(words: &[String]) -> u64 {
 /// Sends all commands of a text, and prints what came of them.
 fn run(rt: &HostRuntime, hub: &mut BenchHub, timed: bool, kind: Kind, text: &[u8]) -> Result<()> {
     let start = nanos(rt)?;
-    let tally = send(hub, text)?;
+    let tally = answer_text(hub, text)?;
     let nanos = nanos(rt)?.saturating_sub(start);
     let (commands, replied) = (tally.commands, tally.replied);
     print!(rt; "{kind:?}: {commands} commands, {replied} bytes replied;")?;
