@@ -6,3 +6,5 @@ pub mod Versions
 -- The memory of the caller.
 pub mod Memory
 pub mod Lent
+-- What is written.
+pub mod Writes
