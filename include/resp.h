@@ -58,6 +58,10 @@ enum resp_cause {
     RESP_CAUSE_STREAMED = 12,
     /* An aggregate is over the limit of items. */
     RESP_CAUSE_ITEMS = 13,
+    /* A value that is no push came while no command waits. */
+    RESP_CAUSE_UNASKED = 20,
+    /* The numbers of commands are used up. */
+    RESP_CAUSE_TOO_MANY = 24,
     /* A CR or an LF stands in a line that is to be written. */
     RESP_CAUSE_BAD_LINE = 60,
     /* What is to be written as a big number isn't one, or not as it is kept. */
@@ -71,7 +75,9 @@ enum resp_cause {
     /* The room is shorter than the text. */
     RESP_CAUSE_NO_ROOM = 65,
     /* There is no such kind of aggregate. */
-    RESP_CAUSE_BAD_KIND = 66
+    RESP_CAUSE_BAD_KIND = 66,
+    /* A HELLO that asks for a version waits already. */
+    RESP_CAUSE_HELLO_WAITS = 67
 };
 
 /* The name of a cause, as "Syntax", or "" for a number that is none. */
@@ -88,6 +94,8 @@ static inline const char *resp_cause_name(uint32_t cause) {
     case RESP_CAUSE_TRUNCATED: return "Truncated";
     case RESP_CAUSE_STREAMED: return "Streamed";
     case RESP_CAUSE_ITEMS: return "Items";
+    case RESP_CAUSE_UNASKED: return "Unasked";
+    case RESP_CAUSE_TOO_MANY: return "TooMany";
     case RESP_CAUSE_BAD_LINE: return "BadLine";
     case RESP_CAUSE_BAD_DIGITS: return "BadDigits";
     case RESP_CAUSE_BUSY: return "Busy";
@@ -95,6 +103,7 @@ static inline const char *resp_cause_name(uint32_t cause) {
     case RESP_CAUSE_BAD_VERSION: return "BadVersion";
     case RESP_CAUSE_NO_ROOM: return "NoRoom";
     case RESP_CAUSE_BAD_KIND: return "BadKind";
+    case RESP_CAUSE_HELLO_WAITS: return "HelloWaits";
     default: return "";
     }
 }
@@ -226,6 +235,64 @@ uint64_t resp_scanner_needed(struct resp_scanner *scanner);
 /* The bytes of a RESP_PART, `event->part` of them, where `piece` is what the step was given. */
 static inline const uint8_t *resp_event_part(const struct resp_event *event, const uint8_t *piece) {
     return event->used ? piece + (event->used - event->part) : &event->digit;
+}
+
+/* Which command each reply answers, and in which version it is read: a client without its values.
+ * The caller owns it, sets it by resp_pairing_init, and changes no field. */
+struct resp_pairing {
+    /* The version, 2 or 3. */
+    uint32_t version;
+    /* The version that the HELLO asks for that waits, or 0. */
+    uint32_t hello;
+    /* The commands that wait before it, or all that wait where there is none, and those after it. */
+    uint64_t before;
+    uint64_t beyond;
+    /* The replies that came whole. */
+    uint64_t answered;
+    /* What has come of the value that is being read. */
+    uint64_t nested;
+    uint32_t refuses;
+    uint32_t first;
+};
+
+/* Begins: nothing waits, and the version is 2. The scanner is to be between two values then. */
+void resp_pairing_init(struct resp_pairing *pairing);
+
+/* Queues a command that is sent: `hello` is the version that a HELLO asks for, and 0 for any other
+ * command. Sets `*number` to that of its reply, from 1 on. Refuses RESP_CAUSE_BAD_VERSION;
+ * RESP_CAUSE_HELLO_WAITS, a HELLO with a version while another one waits; and RESP_CAUSE_TOO_MANY
+ * after 2^63 commands. A refusal changes nothing. */
+uint32_t resp_pairing_queue(struct resp_pairing *pairing, uint32_t hello, uint64_t *number);
+
+/* The first byte of a value, before the scanner is given it: sets `*version` to the one in which the
+ * value is read. That is the pairing's, or the greater one that a HELLO asks for which waits first.
+ * Refuses RESP_CAUSE_UNASKED, any byte but `>` where no command waits, and changes nothing. */
+uint32_t resp_pairing_first(struct resp_pairing *pairing, uint8_t byte, uint32_t *version);
+
+/* An event of that value, in order: sets `*number` to that of the reply to which it belongs, or to 0
+ * for a push. At RESP_DONE a reply answers the first command that waits, and the version is the one
+ * that a HELLO asked for, unless its reply is an error, attributes before it aside. */
+void resp_pairing_take(struct resp_pairing *pairing, const struct resp_event *event, uint64_t *number);
+
+/* Steps as resp_scanner_step, and pairs. The scanner was begun in any version between two values,
+ * and is stepped by this call alone. Refuses as resp_pairing_first, after which the same byte may
+ * come again once a command was queued; and as resp_scanner_step. It is these calls in order. Of
+ * RESP_MORE before a value's first event `*number` says nothing. */
+static inline uint32_t resp_pairing_step(struct resp_pairing *pairing, struct resp_scanner *scanner,
+                                         const uint8_t *piece, size_t length, struct resp_event *event,
+                                         uint64_t *number) {
+    uint32_t cause, version = 0;
+    if (length > 0 && resp_scanner_taken(scanner) == 0) {
+        cause = resp_pairing_first(pairing, piece[0], &version);
+        if (cause != RESP_OK)
+            return cause;
+        /* (a scanner that has refused a byte keeps its version, and refuses again) */
+        (void)resp_scanner_set_version(scanner, version);
+    }
+    cause = resp_scanner_step(scanner, piece, length, event);
+    if (cause == RESP_OK)
+        resp_pairing_take(pairing, event, number);
+    return cause;
 }
 
 /* The calls that write put the one canonical text to the front of the caller's `length` bytes at

@@ -373,8 +373,109 @@ static void writes(void) {
     check(resp_command_size(&limits, lengths, 16, &size) == RESP_CAUSE_TOTAL && size == 999, "command", "over total");
 }
 
+/* A text that comes to a pairing that has queued these commands: each is the version of a HELLO, or 0. What is wanted has
+ * the events, before each value's end the number of its reply, and the version then. */
+struct paired {
+    const char *commands;
+    const char *text;
+    const char *wanted;
+};
+
+static const struct paired PAIRED[] = {
+    {"00", "+a\r\n:1\r\n", "+\"a\"=1v2.:1=2v2."},
+    {"0", "+a\r\n:1\r\n", "+\"a\"=1v2.!20"},
+    {"", "+a\r\n", "!20"},
+    {"3", ">1\r\n+m\r\n%0\r\n", ">1+\"m\"]=0v2.%0]=1v3."},
+    {"", ">1\r\n+m\r\n", "!3"},
+    {"030", "+a\r\n%1\r\n+k\r\n:1\r\n_\r\n>1\r\n+m\r\n+b\r\n",
+     "+\"a\"=1v2.%1+\"k\":1]=2v3._=3v3.>1+\"m\"]=0v3.!20"},
+    {"030", "_\r\n", "!3"},
+    {"30", "-ERR no\r\n_\r\n", "-\"ERR no\"=1v2.!3"},
+    {"30", "!3\r\nE x\r\n_\r\n", "!\"E x\"=1v2.!3"},
+    {"30", "|1\r\n+a\r\n:1\r\n-ERR no\r\n_\r\n", "|1+\"a\":1-\"ERR no\"]=1v2.!3"},
+    {"30", "|1\r\n+a\r\n-b\r\n+OK\r\n_\r\n", "|1+\"a\"-\"b\"+\"OK\"]=1v3._=2v3."},
+    {"30", "|1\r\n|1\r\n+a\r\n-b\r\n:1\r\n:2\r\n-no\r\n_\r\n", "|1|1+\"a\"-\"b\":1]:2-\"no\"]=1v2.!3"},
+    {"30", "*1\r\n-ERR no\r\n_\r\n", "*1-\"ERR no\"]=1v3._=2v3."},
+    {"30", "|1\r\n+a\r\n:1\r\n*1\r\n-no\r\n_\r\n", "|1+\"a\":1*1-\"no\"]]=1v3._=2v3."},
+    {"20", "*2\r\n+a\r\n:1\r\n+b\r\n", "*2+\"a\":1]=1v2.+\"b\"=2v2."},
+    {"0", "*1\r\n-no\r\n", "*1-\"no\"]=1v2."},
+};
+
+static bool pair_piece(struct story *story, struct resp_pairing *pairing, struct resp_scanner *scanner, const char *text,
+                       size_t length) {
+    uint8_t *piece = malloc(length ? length : 1);
+    uint32_t cause = RESP_OK;
+    memcpy(piece, text, length);
+    for (size_t at = 0;;) {
+        struct resp_event event;
+        uint64_t number = 99;
+        cause = resp_pairing_step(pairing, scanner, piece + at, length - at, &event, &number);
+        if (cause != RESP_OK || event.kind == RESP_MORE)
+            break;
+        if (event.kind == RESP_DONE)
+            say(story, "=%" PRIu64 "v%" PRIu32, number, pairing->version);
+        say_event(story, &event, piece + at);
+        at += event.used;
+    }
+    if (cause != RESP_OK)
+        say(story, "!%" PRIu32, cause);
+    free(piece);
+    return cause == RESP_OK;
+}
+
+/* Runs a row, cut before the byte `cut`; at its length and one more, byte by byte. */
+static void pair(const struct paired *row, size_t cut) {
+    size_t length = strlen(row->text);
+    struct story story = {"", 0};
+    struct resp_pairing pairing;
+    struct resp_limits limits;
+    struct resp_scanner scanner = {malloc(resp_scanner_size())};
+    uint64_t number = 0;
+    resp_limits_standard(&limits);
+    resp_scanner_init(&scanner, 3, &limits);
+    resp_pairing_init(&pairing);
+    for (const char *command = row->commands; *command; command++) {
+        uint32_t cause = resp_pairing_queue(&pairing, (uint32_t)(*command - '0'), &number);
+        check(cause == RESP_OK && number == (uint64_t)(command - row->commands) + 1, row->text, "not queued");
+    }
+    bool goes_on = true;
+    if (cut <= length) {
+        goes_on = pair_piece(&story, &pairing, &scanner, row->text, cut) &&
+                  pair_piece(&story, &pairing, &scanner, row->text + cut, length - cut);
+    } else {
+        for (size_t at = 0; goes_on && at < length; at++)
+            goes_on = pair_piece(&story, &pairing, &scanner, row->text + at, 1) &&
+                      pair_piece(&story, &pairing, &scanner, "", 0);
+    }
+    check(strcmp(story.said, row->wanted) == 0, row->text, story.said);
+    free(scanner.memory);
+}
+
+static void pairs(void) {
+    struct resp_pairing pairing, before;
+    uint64_t number = 99;
+    uint32_t version = 99;
+    for (size_t row = 0; row < sizeof PAIRED / sizeof *PAIRED; row++)
+        for (size_t cut = 0; cut <= strlen(PAIRED[row].text) + 1; cut++)
+            pair(&PAIRED[row], cut);
+    resp_pairing_init(&pairing);
+    check(resp_pairing_queue(&pairing, 4, &number) == RESP_CAUSE_BAD_VERSION && number == 99, "queue", "version 4");
+    check(resp_pairing_queue(&pairing, 3, &number) == RESP_OK && number == 1, "queue", "no HELLO");
+    before = pairing;
+    check(resp_pairing_queue(&pairing, 2, &number) == RESP_CAUSE_HELLO_WAITS && number == 1, "queue", "two HELLOs");
+    check(memcmp(&before, &pairing, sizeof pairing) == 0, "queue", "a refusal has changed it");
+    check(resp_pairing_queue(&pairing, 0, &number) == RESP_OK && number == 2, "queue", "no command after HELLO");
+    check(resp_pairing_first(&pairing, '%', &version) == RESP_OK && version == 3, "first", "not in version 3");
+    resp_pairing_init(&pairing);
+    check(resp_pairing_first(&pairing, '+', &version) == RESP_CAUSE_UNASKED && version == 3, "first", "asked");
+    check(resp_pairing_first(&pairing, '>', &version) == RESP_OK && version == 2, "first", "no push");
+    pairing.answered = UINT64_C(1) << 63;
+    check(resp_pairing_queue(&pairing, 0, &number) == RESP_CAUSE_TOO_MANY && number == 2, "queue", "too many");
+}
+
 int main(void) {
     writes();
+    pairs();
     for (size_t row = 0; row < sizeof ROWS / sizeof *ROWS; row++)
         for (size_t cut = 0; cut <= strlen(ROWS[row].text) + 1; cut++)
             run(&ROWS[row], cut);

@@ -8,3 +8,5 @@ pub mod Memory
 pub mod Lent
 -- What is written.
 pub mod Writes
+-- Which reply an event belongs to.
+pub mod Pairs

@@ -14,6 +14,7 @@ pub mod laws;
 mod lends;
 pub mod limits;
 pub mod memory;
+pub mod pairing;
 mod room;
 pub mod scanner;
 pub mod write;
