@@ -1,5 +1,5 @@
 -- What the events of a value show of it: whether it is an error, within attributes.
-use Rattle.std.proofs.Common.{◌≡◌, ℕ, suc, ◌+◌, ◌-◌, ◌<◌, Bool, true, false, eqb, List, [], ◌∷◌, ◌++◌, length, refl, sym, ap, ◌∙◌, arith, append_assoc, append-nil}
+use Rattle.std.proofs.Common.{◌≡◌, ℕ, suc, ◌+◌, ◌-◌, ◌<◌, Bool, false, List, [], ◌∷◌, ◌++◌, length, refl, sym, ap, ◌∙◌, arith, append_assoc, append-nil}
 use Rattle.resp_value.specs.Attributes.{annotated_value}
 use Rattle.resp_value.specs.Data.{Array, Set, Map, Attr, Push, Datum, scalar}
 use Rattle.resp_value.specs.Data as d
@@ -9,7 +9,6 @@ use Rattle.resp_value.specs.Trees.{Tree, Trees, leaf, node, none, more, Leaf, li
 use Rattle.resp_value.specs.TreeValues.{value, values, leaf_value}
 use Rattle.resp_fronts.specs.Events.{Timed, TextKind, big_events, bytes_from, chunk_events, events, events_each, last_of, leaf_events, open_event, close_event, text_events, without_places}
 use Rattle.resp_fronts.specs.Events as e
-use Rattle.resp_session.specs.Heard.{is_push}
 use Rattle.resp_session.specs.Reading.{is_error, is_refusal}
 use Rattle.resp_c.specs.Pairs.{Look, after_events, is_error_kind, new_look, seen}
 
@@ -133,34 +132,3 @@ mutual
 pub events_show : (u : Tree) → IsTree u →
     after_events new_look (without_places (events 0 u)) ≡ record { nested = 0; refuses = is_refusal (value u) }
 events_show u is = ap (looks new_look) (sym (append-nil (events 0 u))) ∙ top false 0 u [] is
-
--- a list that begins with one byte begins with no other
-first_of : (a b : ℕ) (xs ys : List ℕ) → a ∷ xs ≡ b ∷ ys → eqb a 62 ≡ eqb b 62
-first_of a b xs ys e = let same : a ≡ b = cc in ap (λ n. eqb n 62) same
-
-first_of_null : (form : t.NullForm) (byte : ℕ) (rest : List ℕ) → leaf_text (null form) ≡ byte ∷ rest → false ≡ eqb byte 62
-first_of_null t.BulkNull byte rest e = first_of 36 byte _ rest e
-first_of_null t.ArrayNull byte rest e = first_of 42 byte _ rest e
-first_of_null t.PlainNull byte rest e = first_of 95 byte _ rest e
-
-first_of_leaf : (l : Leaf) (byte : ℕ) (rest : List ℕ) → leaf_text l ≡ byte ∷ rest → false ≡ eqb byte 62
-first_of_leaf (line t.Simple s) byte rest e = first_of 43 byte _ rest e
-first_of_leaf (line t.Error s) byte rest e = first_of 45 byte _ rest e
-first_of_leaf (line t.Double s) byte rest e = first_of 44 byte _ rest e
-first_of_leaf (numeral t.Int sign digits) byte rest e = first_of 58 byte _ rest e
-first_of_leaf (numeral t.Big sign digits) byte rest e = first_of 40 byte _ rest e
-first_of_leaf (null form) byte rest e = first_of_null form byte rest e
-first_of_leaf (truth true) byte rest e = first_of 35 byte _ rest e
-first_of_leaf (truth false) byte rest e = first_of 35 byte _ rest e
-first_of_leaf (string t.Bulk digits s) byte rest e = first_of 36 byte _ rest e
-first_of_leaf (string t.BulkError digits s) byte rest e = first_of 33 byte _ rest e
-first_of_leaf (string (t.Verbatim format) digits s) byte rest e = first_of 61 byte _ rest e
-first_of_leaf (chunked chunks zeros) byte rest e = first_of 36 byte _ rest e
-
-pub first_byte_shows : (u : Tree) (byte : ℕ) (rest : List ℕ) → text u ≡ byte ∷ rest → is_push (value u) ≡ eqb byte 62
-first_byte_shows (leaf l) byte rest e = first_of_leaf l byte rest e
-first_byte_shows (node Array form us) byte rest e = first_of 42 byte _ rest e
-first_byte_shows (node Set form us) byte rest e = first_of 126 byte _ rest e
-first_byte_shows (node Map form us) byte rest e = first_of 37 byte _ rest e
-first_byte_shows (node Attr form us) byte rest e = first_of 124 byte _ rest e
-first_byte_shows (node Push form us) byte rest e = first_of 62 byte _ rest e

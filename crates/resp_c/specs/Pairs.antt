@@ -1,12 +1,11 @@
 -- Which reply an event belongs to, whether it refuses its command, and what waits, as C keeps it.
 use Rattle.std.specs.Prelude.{◌≡◌, ◌⊎◌, ℕ, zero, suc, ◌+◌, ◌-◌, Bool, true, false, List, [], ◌∷◌, ◌++◌, Option, None, Some, cond, eqb}
 use Rattle.resp_value.specs.Data.{Kind, Attr}
-use Rattle.resp_value.specs.Trees.{Tree, IsTree, text}
+use Rattle.resp_value.specs.Trees.{Tree, IsTree}
 use Rattle.resp_value.specs.TreeValues.{value}
 use Rattle.resp_value.specs.declared.version.Version.{Version}
 use Rattle.resp_fronts.specs.Events.{Event, TextKind, events, without_places}
 use Rattle.resp_fronts.specs.Events as e
-use Rattle.resp_session.specs.Heard.{is_push}
 use Rattle.resp_session.specs.Reading.{Waiting, is_refusal}
 use Rattle.resp_c.specs.Versions.{IsVersion, version_of}
 use Rattle.resp_c.specs.declared.pairing.RespPairing.{RespPairing}
@@ -67,11 +66,6 @@ after_events look (event ∷ events) = after_events (after_event look event) eve
 -- where a value begins
 abbrev pub new_look : Look
 new_look = record { nested = 0; refuses = false }
-
--- the first byte of a value shows whether it is a push
-abbrev pub TheFirstByteShowsAPush : Type 0
-TheFirstByteShowsAPush = (tree : Tree) (byte : ℕ) (rest : List ℕ) → text tree ≡ byte ∷ rest →
-    is_push (value tree) ≡ eqb byte 62
 
 -- what the events of a value have shown at its end is whether it refuses its command
 abbrev pub TheEventsShowARefusal : Type 0

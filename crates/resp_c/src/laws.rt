@@ -1,6 +1,6 @@
 //! What the texts of parts make, each the contract of a function that does nothing.
 
-ghost use Rattle.resp_c.specs.Pairs.{TheEventsShowARefusal, TheFirstByteShowsAPush};
+ghost use Rattle.resp_c.specs.Pairs.{TheEventsShowARefusal};
 ghost use Rattle.resp_c.specs.Writes.{AHeadAndItsMembersAreTheText, AHeadAndItsWordsAreTheCommand};
 
 /// The head of an aggregate and then the texts of its members are its canonical text; and so are
@@ -10,9 +10,8 @@ pub fn parts_make_texts()
     ensures command { AHeadAndItsWordsAreTheCommand }
 {}
 
-/// A value is a push exactly where its first byte is `>`; and what its events have shown at its end
-/// is whether it refuses its command, which is an error within any attributes.
-pub fn events_show_their_value()
-    ensures push { TheFirstByteShowsAPush }
-    ensures refusal { TheEventsShowARefusal }
+/// What the events of a value have shown at its end is whether it refuses its command, which is an
+/// error within any attributes.
+pub fn events_show_a_refusal()
+    ensures { TheEventsShowARefusal }
 {}
