@@ -21,7 +21,7 @@ use Rattle.resp_decode.specs.declared.decoder.Decoder.{Decoder}
 use Rattle.resp_session.specs.Answers.{SessionState, Answers, BeginsNoValue, Ends, server_rules, after_value, after_error}
 use Rattle.resp_session.specs.Replies.{error}
 use Rattle.resp_session.specs.Stores.{Store}
-use Rattle.resp_server.specs.Answering.{IsAnswerTo, IsTurn, IsNamedFault, state_with}
+use Rattle.resp_server.specs.Answering.{IsAnswerTo, AnswersBytes, IsNamedFault, state_with}
 use Rattle.resp_server.specs.declared.session.Session.{Session}
 
 -- no front of the text is a spelling
@@ -166,7 +166,7 @@ pub refused_turn : (limits : Bounds) (id : ℕ) (store : Store) (before after : 
     RefusesByte (server_rules limits) front piece fault → after.version ≡ before.version → after.closing ≡ true →
     after.out.items ≡ before.out.items ++ canonical_text before.version
     (error (codes "ERR Protocol error: " ++ name_of fault.cause ++ codes " at byte " ++ decimal fault.at)) →
-    IsTurn limits id store store before after front piece (length piece) 0
+    AnswersBytes limits id store store before after front piece (length piece) 0
 refused_turn limits id store before after front piece fault refused version closes line =
     let reply = canonical_text before.version (error (codes "ERR Protocol error: " ++ name_of fault.cause ++ codes " at byte " ++ decimal fault.at)) in
     let whole : front ++ take (length piece) piece ≡ front ++ piece = ap (λ p. front ++ p) (take_all (length piece) piece (omega arith)) in
@@ -187,7 +187,7 @@ refused_turn limits id store before after front piece fault refused version clos
 -- the turn of a piece in which no value ended
 pub waiting_turn : (limits : Bounds) (id : ℕ) (store : Store) (before after : Session) (front piece : List ℕ) (r : Rules) (used : ℕ) →
     r ≡ server_rules limits → TakesPiece r after.decoder (front ++ piece) piece used → after.version ≡ before.version → after.closing ≡ false →
-    after.out.items ≡ before.out.items → IsTurn limits id store store before after front piece used 0
+    after.out.items ≡ before.out.items → AnswersBytes limits id store store before after front piece used 0
 waiting_turn limits id store before after front piece r used same taken version is_open out =
     let is = taken.whole_piece in
     let whole : front ++ take used piece ≡ front ++ piece = ap (λ p. front ++ p) (take_all used piece (omega (arith, is))) in
@@ -211,7 +211,7 @@ waiting_turn limits id store before after front piece r used same taken version 
 pub value_turn : NoSpellingIsEmpty → TheEmptyTextIsViable → (limits : Bounds) → AreBounds limits → (id : ℕ) (store store' : Store)
     (before after : Session) (front piece : List ℕ) (r : Rules) (decoder : Decoder) (value : Value) (used commands : ℕ) → r ≡ server_rules limits →
     HasTaken before.decoder front → GivesValue r decoder (front ++ take used piece) value → used ≤ length piece → after.decoder ≡ decoder →
-    IsAnswerTo id (datum_of value) store store' before after commands → IsTurn limits id store store' before after front piece used commands
+    IsAnswerTo id (datum_of value) store store' before after commands → AnswersBytes limits id store store' before after front piece used commands
 value_turn full empty limits bounds id store store' before after front piece r decoder value used commands same taken given within kept answered =
     let spelled : IsSpelling (server_rules limits) (datum_of value) (front ++ take used piece) =
     subst (λ s. IsSpelling s (datum_of value) (front ++ take used piece)) same given.spelling in

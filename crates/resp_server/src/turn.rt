@@ -5,7 +5,7 @@ ghost use Rattle.resp_value.specs.declared.cause.Cause.TheVariants.{OutOfMemory}
 ghost use Rattle.resp_decode.specs.Decoding.{HasTaken, WhereTaken, rules_of};
 ghost use Rattle.resp_session.specs.Answers.{server_rules};
 ghost use Rattle.resp_session.specs.Fitting.{FitsStore};
-ghost use Rattle.resp_server.specs.Answering.{IsTurn, IsRefused, IsNamedFault};
+ghost use Rattle.resp_server.specs.Answering.{AnswersBytes, AnswersFault, IsNamedFault};
 ghost use Rattle.resp_server.specs.Running.{IsAsBefore};
 
 use crate::answer_value::answer_value;
@@ -44,7 +44,7 @@ pub(crate) fn take_turn<S: BuildHasher>(
     requires reading { rules_of session.old.decoder ≡ server_rules limits.now }
     requires taking { (front : List ℕ) × HasTaken session.old.decoder front }
     ensures answered { WhereTaken session.old.decoder (λ front. IfOk result (λ turn.
-        IsTurn limits.now id store.old store.new session.old session.new front piece.now turn.used
+        AnswersBytes limits.now id store.old store.new session.old session.new front piece.now turn.used
         turn.commands)) }
     ensures unchanged { OnErr result (IsAsBefore store.old store.new session.old session.new) }
     ensures stored { FitsStore limits.now store.new }
@@ -81,7 +81,7 @@ fn refuse(
     fault: Fault,
 ) -> Result<(), AllocError>
     requires { (fault.cause ≡ OutOfMemory → ⊥) → IsNamedFault fault }
-    ensures refused { OnOk result (IsRefused session.old session.new fault) }
+    ensures refused { OnOk result (AnswersFault session.old session.new fault) }
     ensures unchanged { OnErr result (session.new.out.items ≡ session.old.out.items) }
     ensures same_version { session.new.version ≡ session.old.version }
     ensures same_decoder { session.new.decoder ≡ session.old.decoder }
