@@ -116,7 +116,7 @@ pub fn read_script(alloc: Global, bytes: &[u8]) -> Result<Script, ScriptError>
 }
 
 /// The first line of a text, without its LF, and what stands after that.
-fn first_line(text: &[u8]) -> Option<(&[u8], &[u8])>
+pub(crate) fn first_line(text: &[u8]) -> Option<(&[u8], &[u8])>
     ensures line { IfSome result (λ parts.
         lines_of text.now ≡ parts.0.now ∷ lines_of parts.1.now) }
     ensures left { IfSome result (λ parts.
