@@ -171,7 +171,7 @@ pub refused_turn : (limits : Bounds) (id : ℕ) (store : Store) (before after : 
     RefusesByte (server_rules limits) front piece fault → after.version ≡ before.version → after.closing ≡ true →
     after.out.items ≡ before.out.items ++ canonical_text before.version
     (error (codes "ERR Protocol error: " ++ name_of fault.cause ++ codes " at byte " ++ decimal fault.at)) →
-    IsTurn limits id store store before after front piece (length piece) 0
+    AnswersBytes limits id store store before after front piece (length piece) 0
 refused_turn limits id store before after front piece fault refused version closes line =
     let reply = canonical_text before.version (error (codes "ERR Protocol error: " ++ name_of fault.cause ++ codes " at byte " ++ decimal fault.at)) in
     let whole : front ++ take (length piece) piece ≡ front ++ piece = ap (λ p. front ++ p) (take_all (length piece) piece (omega arith)) in

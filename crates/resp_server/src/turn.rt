@@ -48,7 +48,7 @@ pub(crate) fn take_turn<S: BuildHasher>(
     requires reading { ReadsBy (server_rules limits.now) session.old.decoder }
     requires taking { (front : List ℕ) × HasTaken session.old.decoder front }
     ensures answered { WhereTaken session.old.decoder (λ front. IfOk result (λ turn.
-        IsTurn limits.now id store.old store.new session.old session.new front piece.now turn.used
+        AnswersBytes limits.now id store.old store.new session.old session.new front piece.now turn.used
         turn.commands)) }
     ensures unchanged { OnErr result (IsAsBefore store.old store.new session.old session.new) }
     ensures stored { FitsStore limits.now store.new }
@@ -148,7 +148,7 @@ fn refuse(
     fault: Fault,
 ) -> Result<(), AllocError>
     requires { (fault.cause ≡ OutOfMemory → ⊥) → IsNamedFault fault }
-    ensures refused { OnOk result (IsRefused session.old session.new fault) }
+    ensures refused { OnOk result (AnswersFault session.old session.new fault) }
     ensures unchanged { OnErr result (session.new.out.items ≡ session.old.out.items) }
     ensures same_version { session.new.version ≡ session.old.version }
     ensures same_decoder { session.new.decoder ≡ session.old.decoder }
