@@ -8,7 +8,7 @@ use Rattle.resp_value.specs.Bounds.{Bounds, AreBounds}
 use Rattle.resp_value.specs.declared.version.Version.TheVariants.{Two}
 use Rattle.resp_session.specs.Connections.{Connection, new_connection}
 use Rattle.resp_session.specs.Worlds.{connection_at, new_connections, new_world}
-use Rattle.resp_server.specs.Hubs.{HubState, IsFull, IsOpened, Seat, seat_at}
+use Rattle.resp_server.specs.Hubs.{HubState, HasNoSessionLeft, IsOpened, Seat, seat_at}
 use Rattle.resp_server.specs.Reading.{HasTaken, Reading}
 use Rattle.resp_server.specs.declared.error.OpenError.{OpenError}
 use Rattle.resp_server.specs.declared.error.OpenError.TheVariants.{TooManySessions, OutOfMemory}
