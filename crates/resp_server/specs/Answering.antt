@@ -8,10 +8,10 @@ use Rattle.resp_value.specs.Numbers.{decimal}
 use Rattle.resp_value.specs.declared.cause.Cause.TheVariants.{OutOfMemory}
 use Rattle.resp_value.specs.declared.version.Version.{Version}
 use Rattle.resp_scan.specs.declared.event.Fault.{Fault}
-use Rattle.resp_decode.specs.Decoding.{HasTaken}
 use Rattle.resp_session.specs.Answers.{SessionState, Answers, after_value}
 use Rattle.resp_session.specs.Replies.{error}
 use Rattle.resp_session.specs.Stores.{Store}
+use Rattle.resp_server.specs.Reading.{HasTaken}
 use Rattle.resp_server.specs.declared.session.Session.{Session}
 
 -- a session over this store that has written this text and run this many commands
