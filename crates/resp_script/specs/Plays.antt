@@ -13,6 +13,10 @@ play_fault_line (Stopped line cause) = codes "line " ++ decimal line ++ codes ":
 play_fault_line Write = codes "write failed\n"
 play_fault_line Memory = codes "out of memory\n"
 
+-- the line of a client that no connection was opened for, and why
+abbrev pub no_connection_line : ℕ → List ℕ → List ℕ
+no_connection_line client why = codes "no connection for client " ++ decimal client ++ codes ": " ++ why ++ codes "\n"
+
 -- a stop is at the line of one of these steps
 abbrev pub IsAtStep : List (ℕ × Option Event) → PlayError → Type 0
 IsAtStep steps (Stopped line cause) = Contains (map (λ (step : ℕ × Option Event). step.0) steps) line
