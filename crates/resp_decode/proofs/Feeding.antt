@@ -45,7 +45,8 @@ due_at_start (x ∷ xs) = case (ltb x.at 0) refl (due_at_start xs)
 none_due_at_start : AreDue [] []
 none_due_at_start rest whole spells = due_at_start (all_events whole)
 
-no_value_at_start : HasNoValue []
+-- no text has no value
+pub no_value_at_start : HasNoValue []
 no_value_at_start n tree spells = text_not_empty tree (spells.spelled ∙ take-nil n)
 
 -- what was given of no byte is nothing

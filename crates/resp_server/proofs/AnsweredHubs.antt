@@ -6,17 +6,16 @@ use Rattle.std.proofs.lemmas.Bool.{false≢true}
 use Rattle.resp_value.specs.Bounds.{Bounds}
 use Rattle.resp_value.specs.Rules.{WithinTotal}
 use Rattle.resp_value.specs.Spellings.{IsViable}
-use Rattle.resp_scan.specs.Kinds.{rules_of}
-use Rattle.resp_decode.specs.Decoding.{HasTaken}
 use Rattle.resp_session.specs.Answers.{server_rules}
 use Rattle.resp_session.specs.Fitting.{FitsStore}
 use Rattle.resp_session.specs.Stores.{Store}
 use Rattle.resp_server.specs.Answering.{IsAnswered, IsCutShort, state_with}
 use Rattle.resp_server.specs.Handling.{WhereOpen, HasAnswered, HasCutShort}
 use Rattle.resp_server.specs.Hubs.{HubState, Seat, AreSound, HubIsSound, seat_of, seats_of, seat_at, with_seat}
+use Rattle.resp_server.specs.Reading.{HasTaken, ReadsBy}
 use Rattle.resp_server.specs.declared.session.Session.{Session}
 use Rattle.resp_server.proofs.Seats.{is_id, state_of, seats-lookup, seats-set, sound_set, with_same}
-use Rattle.resp_server.proofs.Turns.{waits_on}
+use Rattle.resp_server.proofs.Turns.{none_taken, waits_on}
 
 -- what holds of the session that was found, and of the hub as its fields are
 at_found : (limits : Bounds) (es : List (ℕ × Session)) (store : Store) (last : ℕ) (hub : HubState) → state_of limits es store last ≡ hub → (id : ℕ)
@@ -80,7 +79,7 @@ hub_cut_short limits es store last hub view ns store' id old new written found p
 -- the hub stays sound after what was answered
 pub answered_sound : (limits : Bounds) (es : List (ℕ × Session)) (store : Store) (last : ℕ) → HubIsSound limits es store last →
     (ns : List (ℕ × Session)) (store' : Store) (id : ℕ) (old new : Session) → ns ≡ set_value (is_id id) es new →
-    Some old ≡ lookup (is_id id) es → FitsStore limits store' → rules_of new.decoder.scanner ≡ server_rules limits →
+    Some old ≡ lookup (is_id id) es → FitsStore limits store' → ReadsBy (server_rules limits) new.decoder →
     (new.closing ≡ false → (front : List ℕ) × HasTaken new.decoder front) → HubIsSound limits ns store' last
 answered_sound limits es store last h ns store' id old new written found stored reading taking = record {
   stored = stored;
@@ -127,20 +126,20 @@ waits_in limits es store last id old found front taken is_open viable =
       closing = false;
       decoder = old.decoder;
       rest = front;
-      answers = waits_on limits id (state_with store old.version [] false 0) (state_with store old.version [] false 0) front refl refl taken.no_value viable;
+      answers = waits_on limits id (state_with store old.version [] false 0) (state_with store old.version [] false 0) front refl refl (none_taken old.decoder front taken) viable;
       state = ap (λ seats. record { limits = limits; sessions = seats; store = store; last = last })
           (sym (with_same (seats_of es) id (seat_of old) there) ∙ ap (with_seat (seats_of es) id) seat);
       taking = λ open_now. taken;
     }
 
 pub hub_waits : (limits : Bounds) (es : List (ℕ × Session)) (store : Store) (last : ℕ) (hub : HubState) → state_of limits es store last ≡ hub → (id : ℕ)
-    (old : Session) → Some old ≡ lookup (is_id id) es → rules_of old.decoder.scanner ≡ server_rules limits →
-    ((front : List ℕ) → HasTaken old.decoder front → IsViable (rules_of old.decoder.scanner) WithinTotal front) →
+    (old : Session) → Some old ≡ lookup (is_id id) es →
+    ((front : List ℕ) → HasTaken old.decoder front → IsViable (server_rules limits) WithinTotal front) →
     WhereOpen hub id (λ s front. HasAnswered hub hub id s front 0)
-hub_waits limits es store last hub view id old found reading viable =
+hub_waits limits es store last hub view id old found viable =
     at_found limits es store last hub view id old found (λ h s. s.closing ≡ false → (front : List ℕ) → HasTaken s.decoder front →
     HasAnswered h h id s front 0) (λ is_open front taken. waits_in limits es store last id old found front taken is_open
-    (subst (λ r. IsViable r WithinTotal front) reading (viable front taken)))
+    (viable front taken))
 
 -- what holds of the session that was found holds of its seat
 pub found_seat : (limits : Bounds) (es : List (ℕ × Session)) (store : Store) (last : ℕ) (hub : HubState) → state_of limits es store last ≡ hub → (id : ℕ)

@@ -1,42 +1,42 @@
 -- What a session answers, turn by turn.
-use Rattle.std.proofs.Common.{◌≡◌, ℕ, ◌+◌, ◌-◌, ◌<◌, true, false, List, [], ◌++◌, length, take, drop, refl, sym, ap, subst, ◌∙◌, arith, append_assoc, append-nil, length-drop, take-add}
+use Rattle.std.proofs.Common.{Result, Ok, Err, IfOk, IfErr, ◌≡◌, ℕ, ◌+◌, ◌-◌, ◌<◌, true, false, List, [], ◌++◌, length, take, drop, refl, sym, ap, subst, ◌∙◌, arith, append_assoc, append-nil, length-drop, take-add}
 use Rattle.std.proofs.lemmas.Bool.{false≢true}
 use Rattle.std.proofs.lemmas.List.{take-append-drop, take_rest}
 use Rattle.resp_value.specs.Bounds.{Bounds}
-use Rattle.resp_value.specs.Rules.{Rules, WithinTotal}
+use Rattle.resp_value.specs.Rules.{WithinTotal}
 use Rattle.resp_value.specs.Spellings.{IsViable}
-use Rattle.resp_decode.specs.Decoding.{HasTaken}
 use Rattle.resp_session.specs.Answers.{Answers, server_rules}
 use Rattle.resp_session.specs.AnswerLaws.{AnswersGoOn, AnswersEnd}
 use Rattle.resp_session.specs.Stores.{Store}
-use Rattle.resp_server.specs.Answering.{IsTurn, IsAnswered, IsCutShort, state_with}
+use Rattle.resp_server.specs.Answering.{AnswersBytes, IsAnswered, IsCutShort, state_with}
 use Rattle.resp_server.specs.Running.{IsAsBefore}
+use Rattle.resp_server.specs.Reading.{HasTaken}
 use Rattle.resp_server.specs.declared.session.Session.{Session}
-use Rattle.resp_server.proofs.Turns.{waits_on}
+use Rattle.resp_server.proofs.Turns.{none_taken, waits_on}
 
 -- before a piece nothing is answered
-pub none_answered : (limits : Bounds) (id : ℕ) (store : Store) (session : Session) (r : Rules) (front : List ℕ) → r ≡ server_rules limits →
-    HasTaken session.decoder front → IsViable r WithinTotal front → session.closing ≡ false →
+pub none_answered : (limits : Bounds) (id : ℕ) (store : Store) (session : Session) (front : List ℕ) →
+    HasTaken session.decoder front → IsViable (server_rules limits) WithinTotal front → session.closing ≡ false →
     IsAnswered limits id store store session session (front ++ []) 0
-none_answered limits id store session r front same taken viable is_open = record {
+none_answered limits id store session front taken viable is_open = record {
   reply = [];
   rest = front;
   replied = sym (append-nil session.out.items);
   answers = subst (λ t. Answers limits id (state_with store session.version [] false 0) t (state_with store session.version [] session.closing 0) front)
       (sym (append-nil front))
       (waits_on limits id (state_with store session.version [] false 0) (state_with store session.version [] session.closing 0) front refl
-      (ap (λ b. state_with store session.version [] b 0) is_open) taken.no_value (subst (λ s. IsViable s WithinTotal front) same viable));
+      (ap (λ b. state_with store session.version [] b 0) is_open) (none_taken session.decoder front taken) viable);
   taking = λ open_now. taken;
 }
 
 -- a turn more
 pub turn_answered : AnswersGoOn → (limits : Bounds) (id : ℕ) (store store' store'' : Store) (before middle after : Session) (front piece : List ℕ)
     (n used k commands : ℕ) → middle.closing ≡ false → (a : IsAnswered limits id store store' before middle (front ++ take n piece) k) →
-    IsTurn limits id store' store'' middle after a.rest (take (length piece - n) (drop n piece)) used commands →
+    AnswersBytes limits id store' store'' middle after a.rest (take (length piece - n) (drop n piece)) used commands →
     IsAnswered limits id store store'' before after (front ++ take (n + used) piece) (k + commands)
 turn_answered go_on limits id store store' store'' before middle after front piece n used k commands is_open a turn =
-    let t : IsTurn limits id store' store'' middle after a.rest (drop n piece) used commands =
-    subst (λ p. IsTurn limits id store' store'' middle after a.rest p used commands) (take_rest piece n) turn in
+    let t : AnswersBytes limits id store' store'' middle after a.rest (drop n piece) used commands =
+    subst (λ p. AnswersBytes limits id store' store'' middle after a.rest p used commands) (take_rest piece n) turn in
     let start = state_with store before.version [] false 0 in
     let more = take used (drop n piece) in
     let now = state_with store' middle.version a.reply false k in
@@ -93,3 +93,44 @@ cut_short limits id store store' store'' before middle after last front piece n 
           (subst (λ b. Answers limits id start text (state_with store' middle.version a.reply b k) a.rest) is_open a.answers));
       closes = closes;
     }
+
+-- an answer stays one where the session then reads with something else that has taken the same
+pub answered_shrunk : (limits : Bounds) (id : ℕ) (store store' : Store) (before middle after : Session) (text : List ℕ) (k : ℕ) →
+    after.version ≡ middle.version → after.out.items ≡ middle.out.items → after.closing ≡ middle.closing →
+    (middle.closing ≡ false → (front : List ℕ) → HasTaken middle.decoder front → HasTaken after.decoder front) →
+    IsAnswered limits id store store' before middle text k → IsAnswered limits id store store' before after text k
+answered_shrunk limits id store store' before middle after text k version out closing taken a =
+    let start = state_with store before.version [] false 0 in
+    record {
+      reply = a.reply;
+      rest = a.rest;
+      replied = out ∙ a.replied;
+      answers = subst (λ v. Answers limits id start text (state_with store' v a.reply after.closing k) a.rest) (sym version)
+          (subst (λ b. Answers limits id start text (state_with store' middle.version a.reply b k) a.rest) (sym closing) a.answers);
+      taking = λ open_now. let is_open = sym closing ∙ open_now in taken is_open a.rest (a.taking is_open);
+    }
+
+-- what follows of what holds of a success holds of it, and of a refusal likewise
+pub each_ok : {T E : Type 0} (r : Result T E) (P Q : T → Type 0) → ((x : T) → P x → Q x) → IfOk r P → IfOk r Q
+each_ok (Ok x) P Q h p = h x p
+each_ok (Err e) P Q h p = tt
+
+pub each_err : {T E : Type 0} (r : Result T E) (P Q : E → Type 0) → ((e : E) → P e → Q e) → IfErr r P → IfErr r Q
+each_err (Ok x) P Q h p = tt
+each_err (Err e) P Q h p = h e p
+
+pub cut_short_shrunk : (limits : Bounds) (id : ℕ) (store store' : Store) (before middle after : Session) (front piece : List ℕ) (k : ℕ) →
+    after.version ≡ middle.version → after.out.items ≡ middle.out.items → after.closing ≡ middle.closing →
+    IsCutShort limits id store store' before middle front piece k → IsCutShort limits id store store' before after front piece k
+cut_short_shrunk limits id store store' before middle after front piece k version out closing a = record {
+  answered = a.answered;
+  beyond = a.beyond;
+  whole = a.whole;
+  some = a.some;
+  reply = a.reply;
+  rest = a.rest;
+  replied = out ∙ a.replied;
+  answers = subst (λ v. Answers limits id (state_with store before.version [] false 0) (front ++ a.answered) (state_with store' v a.reply false k) a.rest)
+      (sym version) a.answers;
+  closes = closing ∙ a.closes;
+}

@@ -1,5 +1,5 @@
 -- Empty places that are closed up.
-use Rattle.std.proofs.Common.{◌≡◌, ℕ, zero, suc, ◌+◌, ◌<◌, ◌≤◌, ◌⊎◌, set, map, take, drop, List, [], ◌∷◌, ◌++◌, length, get_or, Option, None, Some, refl, sym, ap, subst, ◌∙◌, inl, inr, append_assoc, append-nil, drop-cons, arith}
+use Rattle.std.proofs.Common.{◌≡◌, ℕ, zero, suc, ◌+◌, ◌<◌, ◌≤◌, ◌⊎◌, set, map, take, drop, List, [], ◌∷◌, ◌++◌, length, get_or, Option, None, Some, refl, sym, ap, subst, ◌∙◌, inl, inr, append-nil, drop-cons, arith}
 use Rattle.std.specs.List.{IsDistinct, slice_get}
 use Rattle.std.specs.Map.{keys_of}
 use Rattle.std.proofs.lemmas.Bool.{cases_eq}
@@ -7,7 +7,7 @@ use Rattle.std.proofs.lemmas.List.{take_more}
 use Rattle.std.proofs.lemmas.Option.{slice_get_within, slice_get-get_or, get_or_from_slice_get}
 use Rattle.indexmap.specs.IndexMap.{set_value_at}
 use Rattle.resp_session.specs.Stores.{Store}
-use Rattle.resp_server.specs.Entries.{Rows, AreInPlace, same_bytes, entry_of, entry_at, entries_in, and_some, somes}
+use Rattle.resp_server.specs.Entries.{Rows, AreInPlace, same_bytes, entry_at, entries_in, and_some, somes}
 use Rattle.resp_server.specs.declared.row.Row.{Row}
 use Rattle.resp_server.proofs.Slots.{Slots, get_set_same, get_set_other, get_take, same_slots}
 use Rattle.resp_server.proofs.StoreEntries.{Bytes}

@@ -1,13 +1,9 @@
 -- A store's entries, as bytes.
-use Rattle.std.proofs.Common.{◌≡◌, ℕ, ◌+◌, ◌<◌, ◌≤◌, ◌||◌, Bool, true, false, not, cond, filter, List, [], ◌∷◌, ◌++◌, length, take, drop, get_or, Some, Vec, Global, refl, sym, ap, subst, ◌∙◌, arith}
-use Rattle.std.specs.Cmp.Lexicographic.{bytes_decides}
-use Rattle.std.specs.List.{AllByRecursion, IsDistinct, list_any}
-use Rattle.std.specs.Map.{lookup, keys_of, remove_entry}
+use Rattle.std.proofs.Common.{◌≡◌, ℕ, ◌+◌, ◌<◌, ◌≤◌, ◌||◌, Bool, true, false, not, cond, filter, List, [], ◌∷◌, ◌++◌, length, take, drop, get_or, Vec, Global, refl, sym, ap, ◌∙◌, arith}
+use Rattle.std.specs.List.{list_any}
 use Rattle.std.specs.Str.{bytes_eq}
-use Rattle.std.proofs.lemmas.Map.Keys.{IsDistinct-head, IsDistinct-tail}
 use Rattle.std.proofs.lemmas.List.{take_more, length-take-le}
-use Rattle.indexmap.specs.IndexMap.{insert_entry}
-use Rattle.resp_session.specs.Stores.{Store, store_with, store_without, value_at}
+use Rattle.resp_session.specs.Stores.{Store, store_without}
 
 abbrev pub Bytes : Type 0
 Bytes = Vec ℕ Global

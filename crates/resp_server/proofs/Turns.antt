@@ -1,5 +1,5 @@
 -- One turn of a session's reading, in words of answers.
-use Rattle.std.proofs.Common.{◌≡◌, ◌⊎◌, inl, inr, ℕ, zero, suc, ◌+◌, ◌-◌, ◌<◌, ◌≤◌, Bool, true, false, List, [], ◌∷◌, ◌++◌, length, take, codes, refl, sym, ap, subst, ◌∙◌, arith, append-nil, length-append, take_all, take_at}
+use Rattle.std.proofs.Common.{◌≡◌, inl, inr, ℕ, zero, suc, ◌+◌, ◌-◌, ◌<◌, ◌≤◌, Bool, true, false, None, Some, List, [], ◌∷◌, ◌++◌, length, take, codes, refl, sym, ap, subst, ◌∙◌, arith, append-nil, length-append, take_all, take_at}
 use Rattle.std.proofs.lemmas.Bool.{false≢true}
 use Rattle.resp_value.specs.Bounds.{Bounds, AreBounds}
 use Rattle.resp_value.specs.Canonical.{canonical_text}
@@ -16,12 +16,13 @@ use Rattle.resp_value.specs.declared.version.Version.{Version}
 use Rattle.resp_value.specs.declared.cause.Cause.TheVariants.{OutOfMemory}
 use Rattle.resp_scan.specs.Reading.{HasNoValue, HasNoSpelling}
 use Rattle.resp_scan.specs.declared.event.Fault.{Fault}
-use Rattle.resp_decode.specs.Decoding.{HasTaken, GivesValue, TakesPiece, RefusesByte, LacksMemory}
-use Rattle.resp_decode.specs.declared.decoder.Decoder.{Decoder}
+use Rattle.resp_decode.specs.Decoding.{RefusesByte}
+use Rattle.resp_decode.proofs.Feeding.{no_value_at_start}
 use Rattle.resp_session.specs.Answers.{SessionState, Answers, BeginsNoValue, Ends, server_rules, after_value, after_error}
 use Rattle.resp_session.specs.Replies.{error}
 use Rattle.resp_session.specs.Stores.{Store}
-use Rattle.resp_server.specs.Answering.{IsAnswerTo, IsTurn, IsNamedFault, state_with}
+use Rattle.resp_server.specs.Answering.{IsAnswerTo, AnswersBytes, IsNamedFault, state_with}
+use Rattle.resp_server.specs.Reading.{HasTaken, Reading, ReadsOn, ReadsValue, Refuses}
 use Rattle.resp_server.specs.declared.session.Session.{Session}
 
 -- no front of the text is a spelling
@@ -135,24 +136,28 @@ refused_is_named limits bounds front piece fault r =
     }
 
 -- a fault that isn't OutOfMemory has a short name, and stands within the limit of total
-pub fault_is_named : (limits : Bounds) → AreBounds limits → (r : Rules) → r ≡ server_rules limits → (front piece : List ℕ) (fault : Fault) →
-    RefusesByte r front piece fault ⊎ LacksMemory r front piece fault → (fault.cause ≡ OutOfMemory → ⊥) → IsNamedFault fault
-fault_is_named limits bounds r same front piece fault (inl refused) other =
-    refused_is_named limits bounds front piece fault (subst (λ s. RefusesByte s front piece fault) same refused)
-fault_is_named limits bounds r same front piece fault (inr lacks) other = absurd (other lacks.names)
+pub fault_is_named : (limits : Bounds) → AreBounds limits → (front piece : List ℕ) (fault : Fault) →
+    Refuses (server_rules limits) front piece fault → (fault.cause ≡ OutOfMemory → ⊥) → IsNamedFault fault
+fault_is_named limits bounds front piece fault (inl refused) other = refused_is_named limits bounds front piece fault refused
+fault_is_named limits bounds front piece fault (inr lacks) other = absurd (other lacks)
 
-pub refused_by : (limits : Bounds) (r : Rules) → r ≡ server_rules limits → (front piece : List ℕ) (fault : Fault) →
-    RefusesByte r front piece fault ⊎ LacksMemory r front piece fault → (fault.cause ≡ OutOfMemory → ⊥) → RefusesByte (server_rules limits) front piece fault
-refused_by limits r same front piece fault (inl refused) other = subst (λ s. RefusesByte s front piece fault) same refused
-refused_by limits r same front piece fault (inr lacks) other = absurd (other lacks.names)
+pub refused_by : (limits : Bounds) (front piece : List ℕ) (fault : Fault) →
+    Refuses (server_rules limits) front piece fault → (fault.cause ≡ OutOfMemory → ⊥) → RefusesByte (server_rules limits) front piece fault
+refused_by limits front piece fault (inl refused) other = refused
+refused_by limits front piece fault (inr lacks) other = absurd (other lacks)
+
+-- no value has ended in what was taken
+pub none_taken : (reading : Reading) (front : List ℕ) → HasTaken reading front → HasNoValue front
+none_taken None front taken = subst HasNoValue (sym taken) no_value_at_start
+none_taken (Some decoder) front taken = taken.no_value
 
 -- no value ends before a byte more has come
-pub some_used : (decoder : Decoder) (front piece : List ℕ) (r : Rules) (x : Datum) (used : ℕ) → HasTaken decoder front →
+pub some_used : (front piece : List ℕ) (r : Rules) (x : Datum) (used : ℕ) → HasNoValue front →
     IsSpelling r x (front ++ take used piece) → 0 < used
-some_used decoder front piece r x zero taken s =
+some_used front piece r x zero none s =
     let whole : take (length front) front ≡ front ++ [] = take_all (length front) front (omega arith) ∙ sym (append-nil front) in
-    absurd (taken.no_value (length front) s.tree (subst (λ t. Spells s.tree t) (sym whole) s.spells))
-some_used decoder front piece r x (suc n) taken s = omega arith
+    absurd (none (length front) s.tree (subst (λ t. Spells s.tree t) (sym whole) s.spells))
+some_used front piece r x (suc n) none s = omega arith
 
 -- a state after which nothing was run
 state_same : (store : Store) (version version' : Version) (text : List ℕ) (closing closing' : Bool) (count : ℕ) → version' ≡ version → closing' ≡ closing →
@@ -166,7 +171,7 @@ pub refused_turn : (limits : Bounds) (id : ℕ) (store : Store) (before after : 
     RefusesByte (server_rules limits) front piece fault → after.version ≡ before.version → after.closing ≡ true →
     after.out.items ≡ before.out.items ++ canonical_text before.version
     (error (codes "ERR Protocol error: " ++ name_of fault.cause ++ codes " at byte " ++ decimal fault.at)) →
-    IsTurn limits id store store before after front piece (length piece) 0
+    AnswersBytes limits id store store before after front piece (length piece) 0
 refused_turn limits id store before after front piece fault refused version closes line =
     let reply = canonical_text before.version (error (codes "ERR Protocol error: " ++ name_of fault.cause ++ codes " at byte " ++ decimal fault.at)) in
     let whole : front ++ take (length piece) piece ≡ front ++ piece = ap (λ p. front ++ p) (take_all (length piece) piece (omega arith)) in
@@ -185,10 +190,10 @@ refused_turn limits id store before after front piece fault refused version clos
     }
 
 -- the turn of a piece in which no value ended
-pub waiting_turn : (limits : Bounds) (id : ℕ) (store : Store) (before after : Session) (front piece : List ℕ) (r : Rules) (used : ℕ) →
-    r ≡ server_rules limits → TakesPiece r after.decoder (front ++ piece) piece used → after.version ≡ before.version → after.closing ≡ false →
-    after.out.items ≡ before.out.items → IsTurn limits id store store before after front piece used 0
-waiting_turn limits id store before after front piece r used same taken version is_open out =
+pub waiting_turn : (limits : Bounds) (id : ℕ) (store : Store) (before after : Session) (front piece : List ℕ) (used : ℕ) →
+    ReadsOn (server_rules limits) after.decoder (front ++ piece) piece used → after.version ≡ before.version → after.closing ≡ false →
+    after.out.items ≡ before.out.items → AnswersBytes limits id store store before after front piece used 0
+waiting_turn limits id store before after front piece used taken version is_open out =
     let is = taken.whole_piece in
     let whole : front ++ take used piece ≡ front ++ piece = ap (λ p. front ++ p) (take_all used piece (omega (arith, is))) in
     record {
@@ -201,31 +206,37 @@ waiting_turn limits id store before after front piece r used same taken version 
           (front ++ piece) refl
           (sym (ap (λ t. state_with store before.version t false count) (sym (append-nil text)) ∙
           state_same store before.version after.version (text ++ []) false after.closing count version is_open)) taken.no_value
-          (subst (λ s. IsViable s WithinTotal (front ++ piece)) same taken.viable));
+          taken.viable);
       taking = λ open_now. taken.takes;
       within = omega (arith, is);
       onward = λ open_now full. omega (arith, is, full);
     }
 
--- the turn of a value
+-- the turn of a value that is spelled by what was taken and the bytes used
+pub spelled_turn : NoSpellingIsEmpty → TheEmptyTextIsViable → (limits : Bounds) → AreBounds limits → (id : ℕ) (store store' : Store)
+    (before after : Session) (front piece : List ℕ) (x : Datum) (used commands : ℕ) → HasNoValue front →
+    IsSpelling (server_rules limits) x (front ++ take used piece) → used ≤ length piece → HasTaken after.decoder [] →
+    IsAnswerTo id x store store' before after commands → AnswersBytes limits id store store' before after front piece used commands
+spelled_turn full empty limits bounds id store store' before after front piece x used commands none spelled within takes answered = record {
+  reply = answered.reply;
+  rest = [];
+  replied = answered.replied;
+  answers = λ text count. value_answers full empty limits bounds id (state_with store before.version text false count)
+      (state_with store' after.version (text ++ answered.reply) after.closing (count + commands)) x (front ++ take used piece) spelled
+      (answered.state text count);
+  taking = λ open_now. takes;
+  within = within;
+  onward = λ open_now some. some_used front piece (server_rules limits) x used none spelled;
+}
+
+-- the turn of a value that was read
 pub value_turn : NoSpellingIsEmpty → TheEmptyTextIsViable → (limits : Bounds) → AreBounds limits → (id : ℕ) (store store' : Store)
-    (before after : Session) (front piece : List ℕ) (r : Rules) (decoder : Decoder) (value : Value) (used commands : ℕ) → r ≡ server_rules limits →
-    HasTaken before.decoder front → GivesValue r decoder (front ++ take used piece) value → used ≤ length piece → after.decoder ≡ decoder →
-    IsAnswerTo id (datum_of value) store store' before after commands → IsTurn limits id store store' before after front piece used commands
-value_turn full empty limits bounds id store store' before after front piece r decoder value used commands same taken given within kept answered =
-    let spelled : IsSpelling (server_rules limits) (datum_of value) (front ++ take used piece) =
-    subst (λ s. IsSpelling s (datum_of value) (front ++ take used piece)) same given.spelling in
-    record {
-      reply = answered.reply;
-      rest = [];
-      replied = answered.replied;
-      answers = λ text count. value_answers full empty limits bounds id (state_with store before.version text false count)
-          (state_with store' after.version (text ++ answered.reply) after.closing (count + commands)) (datum_of value) (front ++ take used piece) spelled
-          (answered.state text count);
-      taking = λ open_now. subst (λ d. HasTaken d []) (sym kept) given.takes;
-      within = within;
-      onward = λ open_now some. some_used before.decoder front piece r (datum_of value) used taken given.spelling;
-    }
+    (before after : Session) (front piece : List ℕ) (reading : Reading) (value : Value) (used commands : ℕ) →
+    HasNoValue front → ReadsValue (server_rules limits) reading (front ++ take used piece) value → used ≤ length piece → after.decoder ≡ reading →
+    IsAnswerTo id (datum_of value) store store' before after commands → AnswersBytes limits id store store' before after front piece used commands
+value_turn full empty limits bounds id store store' before after front piece reading value used commands none given within kept answered =
+    spelled_turn full empty limits bounds id store store' before after front piece (datum_of value) used commands none given.spelling within
+    (subst (λ d. HasTaken d []) (sym kept) given.takes) answered
 
 -- it makes no difference to an answer with what the session reads
 pub same_answer : (id : ℕ) (x : Datum) (store store' : Store) (before middle after : Session) (commands : ℕ) → middle.version ≡ before.version →

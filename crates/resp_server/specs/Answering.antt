@@ -8,10 +8,10 @@ use Rattle.resp_value.specs.Numbers.{decimal}
 use Rattle.resp_value.specs.declared.cause.Cause.TheVariants.{OutOfMemory}
 use Rattle.resp_value.specs.declared.version.Version.{Version}
 use Rattle.resp_scan.specs.declared.event.Fault.{Fault}
-use Rattle.resp_decode.specs.Decoding.{HasTaken}
 use Rattle.resp_session.specs.Answers.{SessionState, Answers, after_value}
 use Rattle.resp_session.specs.Replies.{error}
 use Rattle.resp_session.specs.Stores.{Store}
+use Rattle.resp_server.specs.Reading.{HasTaken}
 use Rattle.resp_server.specs.declared.session.Session.{Session}
 
 -- a session over this store that has written this text and run this many commands
@@ -27,7 +27,7 @@ pub record IsAnswerTo (id : ℕ) (x : Datum) (store store' : Store) (before afte
       state_with store' after.version (text ++ reply) after.closing (count + commands)
 
 -- this many bytes of the piece were answered, after the front that was read, whatever was written and run before them
-pub record IsTurn (limits : Bounds) (id : ℕ) (store store' : Store) (before after : Session) (front piece : List ℕ)
+pub record AnswersBytes (limits : Bounds) (id : ℕ) (store store' : Store) (before after : Session) (front piece : List ℕ)
     (used commands : ℕ) : Type 0 where
   pub reply : List ℕ
   pub rest : List ℕ
@@ -70,7 +70,7 @@ pub record IsNamedFault (fault : Fault) : Type 0 where
   pub near : fault.at < 2 ^ 63
 
 -- the line for the fault is queued, and the session is closing
-pub record IsRefused (before after : Session) (fault : Fault) : Type 0 where
+pub record AnswersFault (before after : Session) (fault : Fault) : Type 0 where
   pub caused : fault.cause ≡ OutOfMemory → ⊥
   pub closes : after.closing ≡ true
   pub line : after.out.items ≡ before.out.items ++ canonical_text before.version

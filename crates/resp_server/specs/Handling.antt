@@ -1,12 +1,11 @@
 -- What a hub does with a piece.
 use Rattle.std.specs.Prelude.{◌≡◌, ℕ, Bool, true, false, List, [], ◌++◌, ◌<◌, length, IfSome}
 use Rattle.resp_value.specs.declared.version.Version.{Version}
-use Rattle.resp_decode.specs.Decoding.{HasTaken}
-use Rattle.resp_decode.specs.declared.decoder.Decoder.{Decoder}
 use Rattle.resp_session.specs.Answers.{Answers}
 use Rattle.resp_session.specs.Stores.{Store}
 use Rattle.resp_server.specs.Answering.{state_with}
 use Rattle.resp_server.specs.Hubs.{HubState, Seat, seat_at, seated, stocked}
+use Rattle.resp_server.specs.Reading.{HasTaken, Reading}
 use Rattle.resp_server.specs.declared.error.HubError.{HubError}
 use Rattle.resp_server.specs.declared.error.HubError.TheVariants.{NoSession, OutOfMemory}
 
@@ -21,7 +20,7 @@ pub record HasAnswered (old new : HubState) (id : ℕ) (s : Seat) (text : List �
   pub store : Store
   pub version : Version
   pub closing : Bool
-  pub decoder : Decoder
+  pub decoder : Reading
   pub rest : List ℕ
   pub answers : Answers old.limits id (state_with old.store s.version [] false 0) text
       (state_with store version reply closing commands) rest
@@ -40,7 +39,7 @@ pub record HasCutShort (old new : HubState) (id : ℕ) (s : Seat) (front piece :
   pub reply : List ℕ
   pub store : Store
   pub version : Version
-  pub decoder : Decoder
+  pub decoder : Reading
   pub rest : List ℕ
   pub answers : Answers old.limits id (state_with old.store s.version [] false 0) (front ++ answered)
       (state_with store version reply false commands) rest

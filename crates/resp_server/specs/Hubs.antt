@@ -6,10 +6,9 @@ use Rattle.resp_value.specs.Bounds.{Bounds}
 use Rattle.resp_value.specs.Rules.{rules_under}
 use Rattle.resp_value.specs.declared.version.Version.{Version}
 use Rattle.resp_value.specs.declared.version.Version.TheVariants.{Two}
-use Rattle.resp_decode.specs.Decoding.{HasTaken, rules_of}
-use Rattle.resp_decode.specs.declared.decoder.Decoder.{Decoder}
 use Rattle.resp_session.specs.Fitting.{FitsStore}
 use Rattle.resp_session.specs.Stores.{Store}
+use Rattle.resp_server.specs.Reading.{HasTaken, Reading, ReadsBy}
 use Rattle.resp_server.specs.declared.session.Session.{Session}
 
 -- a session: the version in which it answers, what waits to be sent, whether it is closing, and what it reads with
@@ -17,7 +16,7 @@ pub record Seat : Type 0 where
   pub version : Version
   pub out : List ℕ
   pub closing : Bool
-  pub decoder : Decoder
+  pub decoder : Reading
 
 -- sessions by their ids, in the order in which they were opened, and the store
 pub record HubState : Type 0 where
@@ -55,9 +54,9 @@ without_seat [] id = []
 without_seat (e ∷ es) id = cond (id == e.0) es (e ∷ without_seat es id)
 
 -- a session reads version 2 within the hub's limits, and while it is open it has taken a front of a value
-pub record SessionIsSound (limits : Bounds) (last : ℕ) (id : ℕ) (decoder : Decoder) (closing : Bool) : Type 0 where
+pub record SessionIsSound (limits : Bounds) (last : ℕ) (id : ℕ) (decoder : Reading) (closing : Bool) : Type 0 where
   pub numbered : id ≤ last
-  pub reading : rules_of decoder ≡ rules_under Two limits
+  pub reading : ReadsBy (rules_under Two limits) decoder
   pub taking : closing ≡ false → (front : List ℕ) × HasTaken decoder front
 
 abbrev pub AreSound : Bounds → ℕ → List (ℕ × Session) → Type 0
@@ -74,7 +73,7 @@ pub record HubIsSound (limits : Bounds) (sessions : List (ℕ × Session)) (stor
 -- a session is opened with the next id, which no other has, after the others: nothing was read, and nothing waits
 pub record IsOpened (old new : HubState) (id : ℕ) : Type 0 where
   pub next : id ≡ old.last + 1
-  pub decoder : Decoder
+  pub decoder : Reading
   pub nothing_taken : HasTaken decoder []
   pub fresh : seat_at old id ≡ None
   pub there : seat_at new id ≡ Some (record { version = Two; out = []; closing = false; decoder = decoder })
@@ -84,5 +83,5 @@ pub record IsOpened (old new : HubState) (id : ℕ) : Type 0 where
   }
 
 -- as many sessions are open as can be, or the ids are used up
-abbrev pub IsFull : HubState → Type 0
-IsFull hub = (65536 ≤ length hub.sessions) ⊎ (9223372036854775807 ≤ hub.last)
+abbrev pub HasNoSessionLeft : HubState → Type 0
+HasNoSessionLeft hub = (65536 ≤ length hub.sessions) ⊎ (9223372036854775807 ≤ hub.last)

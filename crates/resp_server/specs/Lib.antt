@@ -2,6 +2,8 @@ pub mod Entries
 pub mod Operations
 pub mod Greetings
 pub mod Running
+pub mod Reading
+pub mod Whole
 pub mod Hubs
 pub mod PushRefusals
 pub mod Answering

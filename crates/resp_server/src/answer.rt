@@ -1,10 +1,10 @@
 //! What a session answers to a piece.
 
 ghost use Rattle.std.specs.Prelude.{◌≡◌, ◌<◌, ◌^◌, ◌++◌, List, ℕ, false, IfOk, IfErr};
-ghost use Rattle.resp_decode.specs.Decoding.{HasTaken, WhereTaken, rules_of};
 ghost use Rattle.resp_session.specs.Answers.{server_rules};
 ghost use Rattle.resp_session.specs.Fitting.{FitsStore};
 ghost use Rattle.resp_server.specs.Answering.{IsAnswered, IsCutShort};
+ghost use Rattle.resp_server.specs.Reading.{HasTaken, ReadsBy, WhereTaken};
 
 use crate::session::Session;
 use crate::store::Store;
@@ -27,19 +27,45 @@ pub(crate) fn answer<S: BuildHasher>(
     requires is_open { session.old.closing ≡ false }
     requires stored { FitsStore limits.now store.old }
     requires small { id < 2 ^ 63 }
-    requires reading { rules_of session.old.decoder ≡ server_rules limits.now }
+    requires reading { ReadsBy (server_rules limits.now) session.old.decoder }
     requires taking { (front : List ℕ) × HasTaken session.old.decoder front }
     ensures answered { WhereTaken session.old.decoder (λ front. IfOk result (IsAnswered limits.now
         id store.old store.new session.old session.new (front ++ piece.now))) }
     ensures cut_short { WhereTaken session.old.decoder (λ front. IfErr result (IsCutShort limits.now
         id store.old store.new session.old session.new front piece.now)) }
     ensures stored { FitsStore limits.now store.new }
-    ensures reading { rules_of session.new.decoder ≡ server_rules limits.now }
+    ensures reading { ReadsBy (server_rules limits.now) session.new.decoder }
+{
+    let answered = answer_turns(store, session, id, limits, alloc, piece);
+    session.shrink();
+    answered
+}
+
+/// Answers it, and keeps what it reads with.
+fn answer_turns<S: BuildHasher>(
+    store: &mut Store<S>,
+    session: &mut Session,
+    id: u64,
+    limits: &Limits,
+    alloc: Global,
+    piece: &[u8],
+) -> Result<u64, u64>
+    requires is_open { session.old.closing ≡ false }
+    requires stored { FitsStore limits.now store.old }
+    requires small { id < 2 ^ 63 }
+    requires reading { ReadsBy (server_rules limits.now) session.old.decoder }
+    requires taking { (front : List ℕ) × HasTaken session.old.decoder front }
+    ensures answered { WhereTaken session.old.decoder (λ front. IfOk result (IsAnswered limits.now
+        id store.old store.new session.old session.new (front ++ piece.now))) }
+    ensures cut_short { WhereTaken session.old.decoder (λ front. IfErr result (IsCutShort limits.now
+        id store.old store.new session.old session.new front piece.now)) }
+    ensures stored { FitsStore limits.now store.new }
+    ensures reading { ReadsBy (server_rules limits.now) session.new.decoder }
 {
     laws::answers_go_on();
     laws::answers_end();
     // What was taken is viable, as the decoder says of it here.
-    let _taken = session.decoder.taken();
+    let _taken = session.decoder.taken(limits);
     let mut used = 0;
     let mut commands = 0;
     while used < piece.len() {

@@ -5,9 +5,9 @@ ghost use Rattle.std.specs.Option.{option_map};
 ghost use Rattle.resp_value.specs.Canonical.{IsValue, canonical_text};
 ghost use Rattle.resp_value.specs.declared.version.Version.TheVariants.{Three};
 ghost use Rattle.resp_encode.specs.Pushes.{push_of};
-ghost use Rattle.resp_decode.specs.Decoding.{HasTaken};
 ghost use Rattle.resp_session.specs.Stores.{value_at};
 ghost use Rattle.resp_server.specs.PushRefusals.{IsPushVerdict};
+ghost use Rattle.resp_server.specs.Reading.{HasTaken};
 ghost use Rattle.resp_server.specs.Handling.{WhereOpen, HasAnswered, HasCutShort, IfOutOfMemory};
 ghost use Rattle.resp_server.specs.declared.error.HubError.{HubError};
 ghost use Rattle.resp_server.specs.declared.error.OpenError.{OpenError};
@@ -66,7 +66,7 @@ impl<S: BuildHasher> Model for Hub<S> {
 
 impl<S: BuildHasher> Hub<S> {
     ghost use Rattle.resp_server.specs.Hubs.{HubState, Seat, seat_at, seated, without_seat};
-    ghost use Rattle.resp_server.specs.Hubs.{IsOpened, IsFull};
+    ghost use Rattle.resp_server.specs.Hubs.{IsOpened, HasNoSessionLeft};
 
     /// A hub without a session, over an empty store, whose sessions read and write within these
     /// limits. Takes no memory.
@@ -146,7 +146,7 @@ impl<S: BuildHasher> Hub<S> {
             return Err(NoSession);
         };
         // What was taken is viable, as the decoder says of it here.
-        let _taken = session.decoder.taken();
+        let _taken = session.decoder.taken(&self.limits);
         Ok(session.closing)
     }
 
@@ -170,16 +170,14 @@ impl<S: BuildHasher> Hub<S> {
     /// were given, and else when out of memory. Then nothing is changed.
     pub fn open(&mut self) -> Result<u64, OpenError>
         ensures opened { IfOk result (IsOpened self.old self.new) }
-        ensures too_many { IsErrOf result OpenError.TooManySessions ↔ IsFull self.old }
+        ensures too_many { IsErrOf result OpenError.TooManySessions ↔ HasNoSessionLeft self.old }
         ensures unchanged { OnErr result (self.new ≡ self.old) }
     {
         if self.sessions.len() >= 65_536 || self.last >= 9_223_372_036_854_775_807 {
             return Err(OpenError::TooManySessions);
         }
         let id = self.last + 1;
-        let Ok(session) = Session::new(self.alloc, &self.limits) else {
-            return Err(OpenError::OutOfMemory);
-        };
+        let session = Session::new(self.alloc);
         if let Err(_) = self.sessions.insert(id, session) {
             return Err(OpenError::OutOfMemory);
         }

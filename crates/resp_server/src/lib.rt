@@ -18,6 +18,7 @@ mod session;
 mod store;
 mod stored;
 mod turn;
+mod whole;
 
 pub use entries::Entries;
 pub use error::{HubError, NoSession, OpenError, PushError};

@@ -50,7 +50,7 @@ fn is_name(word: &[u8], name: &[u8]) -> bool
 }
 
 /// The command of this name, where it is known.
-fn verb_of(name: &[u8]) -> Option<Verb>
+pub(crate) fn verb_of(name: &[u8]) -> Option<Verb>
     ensures { (arguments : List (List ℕ)) →
         operation_by result arguments ≡ spec.operation_of name.now arguments }
 {

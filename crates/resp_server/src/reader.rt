@@ -1,70 +1,130 @@
 //! What a session reads with.
 
-ghost use Rattle.std.specs.Prelude.{◌≡◌, ◌⊎◌, ◌≤◌, ◌<◌, ◌++◌, [], length, take, IfOk, IfErr};
-ghost use Rattle.resp_decode.specs.Decoding.{GivesValue, HasTaken, IfNoValue, IfValue, LacksMemory, RefusesByte, TakesPiece, WhereTaken, rules_of};
-ghost use Rattle.resp_value.specs.Bounds.{AreBounds};
-ghost use Rattle.resp_value.specs.Rules.{WithinTotal, rules_under};
+ghost use Rattle.std.specs.Prelude.{◌≡◌, ◌≤◌, ◌++◌, [], length, take, true, Some, IfOk, IfErr};
+ghost use Rattle.std.specs.Option.{option_map};
+ghost use Rattle.resp_decode.specs.Decoding.{IfNoValue, IfValue};
+ghost use Rattle.resp_value.specs.Rules.{Rules, WithinTotal};
 ghost use Rattle.resp_value.specs.Spellings.{IsViable};
-ghost use Rattle.resp_value.specs.declared.version.Version.TheVariants.{Two};
+ghost use Rattle.resp_session.specs.Answers.{server_rules};
+ghost use Rattle.resp_server.specs.Reading.{HasTaken, ReadsBy, ReadsOn, ReadsValue, Refuses, WhereTaken};
 
 use resp_decode::{Decoder, Fed};
 use resp_scan::event::Fault;
+use resp_value::cause::Cause;
+use resp_value::laws as grammar;
 use resp_value::limits::Limits;
 use resp_value::version::Version;
 use std::alloc::{AllocError, Global};
 use std::marker::Model;
 
-/// A decoder of version 2 in a block of its own, so that a session is small where it stands among
-/// others.
+/// A decoder of version 2, in a block that is taken where a value begins and given back between two
+/// values, so that an idle session is small.
 #[derive(Drop)]
 pub(crate) struct Reader {
-    decoder: Box<Decoder>,
+    decoder: Option<Box<Decoder>>,
 }
 
 impl Model for Reader {
     ghost use Rattle.std.specs.Coded.{codes};
+    ghost use Rattle.std.specs.Option.{option_map};
     ghost use Rattle.resp_value.specs.contracts.value.Value as value;
-    ghost use Rattle.resp_decode.specs.declared.decoder.Decoder.{Decoder};
+    ghost use Rattle.resp_server.specs.Reading.{Reading};
 
-    ghost Value = { Decoder };
+    ghost Value = { Reading };
 
     ghost coded = { Prim.hlevel (codes, value.the_row.coded) };
 
-    ghost view = { λ reader. reader.decoder.value };
+    ghost view = { λ reader. option_map (λ decoder. decoder.value) reader.decoder };
 }
 
 impl Reader {
-    /// One that has read nothing.
-    pub(crate) fn new(alloc: Global, limits: &Limits) -> Result<Reader, AllocError>
-        ensures nothing_taken { IfOk result (λ reader. HasTaken reader []) }
-        ensures reading { IfOk result (λ reader. rules_of reader ≡ rules_under Two limits.now) }
+    /// One that has read nothing. Takes no memory.
+    pub(crate) fn new() -> Reader
+        ensures nothing_taken { HasTaken result [] }
+        ensures reading { (rules : Rules) → ReadsBy rules result }
     {
-        let decoder = Box::new(alloc, Decoder::new(alloc, Version::Two, limits))?;
-        Ok(Reader { decoder })
+        Reader { decoder: None }
     }
 
-    /// Takes bytes of the piece, as [`Decoder::feed`] does.
-    pub(crate) fn feed(&mut self, piece: &[u8]) -> Result<Fed, Fault>
+    /// Takes bytes of the piece, as [`Decoder::feed`] does. It may be out of memory before the
+    /// first byte of a value too.
+    pub(crate) fn feed(
+        &mut self,
+        alloc: Global,
+        limits: &Limits,
+        piece: &[u8],
+    ) -> Result<Fed, Fault>
+        requires reading { ReadsBy (server_rules limits.now) self.old }
         ensures value_whole { WhereTaken self.old (λ front. IfValue result (λ used.
-            GivesValue (rules_of self.old) self.new (front ++ take used piece.now))) }
+            ReadsValue (server_rules limits.now) self.new (front ++ take used piece.now))) }
         ensures used_up { WhereTaken self.old (λ front. IfNoValue result
-            (TakesPiece (rules_of self.old) self.new (front ++ piece.now) piece.now)) }
-        ensures refusal { WhereTaken self.old (λ front. IfErr result (λ fault.
-            RefusesByte (rules_of self.old) front piece.now fault ⊎
-            LacksMemory (rules_of self.old) front piece.now fault)) }
-        ensures uses_bytes { IfOk result (λ fed. 0 < length piece.now → 0 < fed.used) }
+            (ReadsOn (server_rules limits.now) self.new (front ++ piece.now) piece.now)) }
+        ensures refusal { WhereTaken self.old (λ front. IfErr result
+            (Refuses (server_rules limits.now) front piece.now)) }
         ensures within_piece { IfOk result (λ fed. fed.used ≤ length piece.now) }
-        ensures same_rules { rules_of self.new ≡ rules_of self.old }
+        ensures reading { ReadsBy (server_rules limits.now) self.new }
     {
-        self.decoder.feed(piece)
+        let Ok(mut decoder) = begun(self.decoder.take(), alloc, limits) else {
+            return Err(Fault {
+                cause: Cause::OutOfMemory,
+                at: 0,
+            });
+        };
+        let fed = decoder.feed(piece);
+        self.decoder = Some(decoder);
+        fed
+    }
+
+    /// Whether nothing is taken of a value.
+    pub(crate) fn is_between(&self) -> bool
+        ensures { result ≡ true → WhereTaken self.now (λ front. front ≡ []) }
+    {
+        match &self.decoder {
+            Some(decoder) => decoder.taken() == 0,
+            None => true,
+        }
+    }
+
+    /// Gives the decoder's memory back, where nothing is taken of a value.
+    pub(crate) fn shrink(&mut self)
+        ensures same_taken { WhereTaken self.old (HasTaken self.new) }
+        ensures reading { (rules : Rules) → ReadsBy rules self.old → ReadsBy rules self.new }
+    {
+        if self.is_between() {
+            self.decoder = None;
+        }
     }
 
     /// The number of bytes taken of the value that is being read.
-    pub(crate) fn taken(&self) -> u64
+    pub(crate) fn taken(&self, limits: &Limits) -> u64
+        requires reading { ReadsBy (server_rules limits.now) self.now }
         ensures length_of_front { WhereTaken self.now (λ front. result ≡ length front) }
-        ensures viable { WhereTaken self.now (IsViable (rules_of self.now) WithinTotal) }
-        ensures limits_in_range { AreBounds (rules_of self.now).limits }
+        ensures viable { WhereTaken self.now (IsViable (server_rules limits.now) WithinTotal) }
     {
-        self.decoder.taken()
+        grammar::the_empty_text_is_viable();
+        limits.are_in_range();
+        match &self.decoder {
+            Some(decoder) => decoder.taken(),
+            None => 0,
+        }
+    }
+}
+
+/// The decoder, or where there is none a new one.
+fn begun(
+    decoder: Option<Box<Decoder>>,
+    alloc: Global,
+    limits: &Limits,
+) -> Result<Box<Decoder>, AllocError>
+    requires reading { ReadsBy (server_rules limits.now)
+        (option_map (λ decoder. decoder.value) decoder) }
+    ensures same_taken { IfOk result (λ begun.
+        WhereTaken (option_map (λ decoder. decoder.value) decoder) (HasTaken (Some begun.value))) }
+    ensures reading { IfOk result (λ begun.
+        ReadsBy (server_rules limits.now) (Some begun.value)) }
+{
+    match decoder {
+        Some(decoder) => Ok(decoder),
+        None => Ok(Box::new(alloc, Decoder::new(alloc, Version::Two, limits))?),
     }
 }

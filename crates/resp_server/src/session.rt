@@ -1,15 +1,14 @@
 //! A session: what it has read of its client, and what waits to be sent to it.
 
-ghost use Rattle.std.specs.Prelude.{◌≡◌, [], false, IfOk};
-ghost use Rattle.resp_value.specs.Rules.{rules_under};
+ghost use Rattle.std.specs.Prelude.{◌≡◌, [], false};
+ghost use Rattle.resp_value.specs.Rules.{Rules};
 ghost use Rattle.resp_value.specs.declared.version.Version.TheVariants.{Two};
-ghost use Rattle.resp_decode.specs.Decoding.{HasTaken, rules_of};
+ghost use Rattle.resp_server.specs.Reading.{HasTaken, ReadsBy, WhereTaken};
 
 use crate::reader::Reader;
 use bytes::BytesMut;
-use resp_value::limits::Limits;
 use resp_value::version::Version;
-use std::alloc::{AllocError, Global};
+use std::alloc::Global;
 
 /// A session of a hub.
 #[derive(Drop)]
@@ -25,20 +24,37 @@ pub(crate) struct Session {
 }
 
 impl Session {
-    /// A new session, which has read nothing.
-    pub(crate) fn new(alloc: Global, limits: &Limits) -> Result<Session, AllocError>
-        ensures version { IfOk result (λ session. session.version ≡ Two) }
-        ensures out { IfOk result (λ session. session.out.items ≡ []) }
-        ensures open { IfOk result (λ session. session.closing ≡ false) }
-        ensures nothing_taken { IfOk result (λ session. HasTaken session.decoder []) }
-        ensures reading { IfOk result (λ session.
-            rules_of session.decoder ≡ rules_under Two limits.now) }
+    /// A new session, which has read nothing. Takes no memory.
+    pub(crate) fn new(alloc: Global) -> Session
+        ensures version { result.version ≡ Two }
+        ensures out { result.out.items ≡ [] }
+        ensures open { result.closing ≡ false }
+        ensures nothing_taken { HasTaken result.decoder [] }
+        ensures reading { (rules : Rules) → ReadsBy rules result.decoder }
     {
-        Ok(Session {
-            decoder: Reader::new(alloc, limits)?,
+        Session {
+            decoder: Reader::new(),
             version: Version::Two,
             out: BytesMut::new(alloc),
             closing: false,
-        })
+        }
+    }
+
+    /// Gives back the memory of what it reads with, where it reads no value: between two, and once
+    /// it is closing.
+    pub(crate) fn shrink(&mut self)
+        ensures same_version { self.new.version ≡ self.old.version }
+        ensures same_out { self.new.out.items ≡ self.old.out.items }
+        ensures same_closing { self.new.closing ≡ self.old.closing }
+        ensures same_taken { self.old.closing ≡ false →
+            WhereTaken self.old.decoder (HasTaken self.new.decoder) }
+        ensures reading { (rules : Rules) →
+            ReadsBy rules self.old.decoder → ReadsBy rules self.new.decoder }
+    {
+        if self.closing {
+            self.decoder = Reader::new();
+        } else {
+            self.decoder.shrink();
+        }
     }
 }

@@ -1,6 +1,6 @@
 //! The store: keys and their values, in the order in which the keys came.
 
-ghost use Rattle.std.specs.Prelude.{◌≡◌, ◌+◌, ◌<◌, ◌≤◌, ◌∷◌, [], ℕ, None, Some, Vec, drop, length, slice_get, OnOk, OnErr};
+ghost use Rattle.std.specs.Prelude.{◌≡◌, ◌+◌, ◌<◌, ◌≤◌, ◌∷◌, [], ℕ, None, Some, Vec, drop, length, slice_get, IfNone, IfSome, IsSome, OnOk, OnErr};
 ghost use Rattle.std.proofs.Common.{Global};
 ghost use Rattle.std.specs.Option.{option_map};
 ghost use Rattle.resp_value.specs.Values.{content_bytes};
@@ -73,14 +73,46 @@ impl<S: BuildHasher> Store<S> {
             store_with self.old (content_bytes key) (content_bytes value)) }
         ensures unchanged { OnErr result (self.new ≡ self.old) }
     {
-        let Some(index) = self.rows.get_index_of(key.list()) else {
-            return self.add(key, value);
+        match self.replace(key.list(), value) {
+            Some(value) => self.add(key, value),
+            None => Ok(()),
+        }
+    }
+
+    /// Sets the value of a key to copies of lent bytes. When out of memory nothing is changed.
+    pub(crate) fn set_lent(
+        &mut self,
+        key: &[u8],
+        value: &[u8],
+        alloc: Global,
+    ) -> Result<(), AllocError>
+        ensures set { OnOk result (self.new ≡ store_with self.old key.now value.now) }
+        ensures unchanged { OnErr result (self.new ≡ self.old) }
+    {
+        let value = Content::new(Vec::from_slice(alloc, value)?);
+        let Some(value) = self.replace(key, value) else {
+            return Ok(());
+        };
+        let key = Content::new(Vec::from_slice(alloc, key)?);
+        self.add(key, value)
+    }
+
+    /// Sets the value of a key that is there; where it isn't, gives the value back.
+    fn replace(&mut self, key: &[u8], value: Content) -> Option<Content>
+        ensures set { IfNone result
+            (self.new ≡ store_with self.old key.now (content_bytes value)) }
+        ensures back { IfSome result (λ back. content_bytes back ≡ content_bytes value) }
+        ensures unchanged { IsSome result → self.new ≡ self.old }
+        ensures not_there { IsSome result → value_at self.old key.now ≡ None }
+    {
+        let Some(index) = self.rows.get_index_of(key) else {
+            return Some(value);
         };
         let Some(row) = self.rows.get_index_mut(index) else {
             unreachable!()
         };
         row.set(value);
-        Ok(())
+        None
     }
 
     /// Adds a key that isn't there, with this value.

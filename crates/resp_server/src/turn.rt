@@ -1,18 +1,22 @@
 //! One turn of a session's reading: a value that comes whole, or the end of the piece.
 
-ghost use Rattle.std.specs.Prelude.{◌≡◌, ◌<◌, ◌≤◌, ◌^◌, List, ℕ, false, IfOk, OnOk, OnErr};
+ghost use Rattle.std.specs.Prelude.{◌≡◌, ◌<◌, ◌≤◌, ◌^◌, List, [], ℕ, false, IfOk, OnOk, OnErr};
 ghost use Rattle.resp_value.specs.declared.cause.Cause.TheVariants.{OutOfMemory};
-ghost use Rattle.resp_decode.specs.Decoding.{HasTaken, WhereTaken, rules_of};
 ghost use Rattle.resp_session.specs.Answers.{server_rules};
 ghost use Rattle.resp_session.specs.Fitting.{FitsStore};
-ghost use Rattle.resp_server.specs.Answering.{IsTurn, IsRefused, IsNamedFault};
+ghost use Rattle.resp_server.specs.Answering.{AnswersBytes, AnswersFault, IsNamedFault};
+ghost use Rattle.resp_server.specs.Reading.{HasTaken, ReadsBy, WhereTaken};
 ghost use Rattle.resp_server.specs.Running.{IsAsBefore};
+ghost use Rattle.resp_server.specs.Whole.{BeginsWithCommand, lent_operation};
 
 use crate::answer_value::answer_value;
 use crate::fault_line::append_fault;
+use crate::run::run_lent;
 use crate::session::Session;
 use crate::store::Store;
+use crate::whole::{Whole, whole_command};
 use resp_scan::event::Fault;
+use resp_session::laws;
 use resp_value::cause::Cause;
 use resp_value::laws as grammar;
 use resp_value::limits::Limits;
@@ -41,20 +45,83 @@ pub(crate) fn take_turn<S: BuildHasher>(
     requires is_open { session.old.closing ≡ false }
     requires stored { FitsStore limits.now store.old }
     requires small { id < 2 ^ 63 }
-    requires reading { rules_of session.old.decoder ≡ server_rules limits.now }
+    requires reading { ReadsBy (server_rules limits.now) session.old.decoder }
     requires taking { (front : List ℕ) × HasTaken session.old.decoder front }
     ensures answered { WhereTaken session.old.decoder (λ front. IfOk result (λ turn.
-        IsTurn limits.now id store.old store.new session.old session.new front piece.now turn.used
+        AnswersBytes limits.now id store.old store.new session.old session.new front piece.now turn.used
         turn.commands)) }
     ensures unchanged { OnErr result (IsAsBefore store.old store.new session.old session.new) }
     ensures stored { FitsStore limits.now store.new }
-    ensures reading { rules_of session.new.decoder ≡ server_rules limits.now }
+    ensures reading { ReadsBy (server_rules limits.now) session.new.decoder }
+    ensures at_most_one { IfOk result (λ turn. turn.commands ≤ 1) }
+{
+    if session.decoder.is_between() {
+        if let Some(whole) = whole_command(piece, limits) {
+            return run_whole(whole, store, session, id, limits, alloc, piece);
+        }
+    }
+    read_turn(store, session, id, limits, alloc, piece)
+}
+
+/// Runs a command that lies whole in the piece.
+fn run_whole<S: BuildHasher>(
+    whole: Whole<'_>,
+    store: &mut Store<S>,
+    session: &mut Session,
+    id: u64,
+    limits: &Limits,
+    alloc: Global,
+    piece: &[u8],
+) -> Result<Turn, AllocError>
+    requires is_open { session.old.closing ≡ false }
+    requires stored { FitsStore limits.now store.old }
+    requires small { id < 2 ^ 63 }
+    requires between { HasTaken session.old.decoder [] }
+    requires begins { BeginsWithCommand limits.now piece.now (lent_operation whole.command)
+        whole.rest.now }
+    ensures answered { IfOk result (λ turn. AnswersBytes limits.now id store.old store.new session.old
+        session.new [] piece.now turn.used turn.commands) }
+    ensures unchanged { OnErr result (IsAsBefore store.old store.new session.old session.new) }
+    ensures stored { FitsStore limits.now store.new }
+    ensures same_decoder { session.new.decoder ≡ session.old.decoder }
+    ensures at_most_one { IfOk result (λ turn. turn.commands ≤ 1) }
+{
+    laws::effects_fit();
+    laws::a_command_is_its_words();
+    grammar::no_spelling_is_empty();
+    grammar::the_empty_text_is_viable();
+    limits.are_in_range();
+    let used = piece.len() - whole.rest.len();
+    run_lent(whole.command, store, session, limits, alloc)?;
+    Ok(Turn { used, commands: 1 })
+}
+
+/// Reads on with the decoder, and answers what comes of it.
+fn read_turn<S: BuildHasher>(
+    store: &mut Store<S>,
+    session: &mut Session,
+    id: u64,
+    limits: &Limits,
+    alloc: Global,
+    piece: &[u8],
+) -> Result<Turn, AllocError>
+    requires is_open { session.old.closing ≡ false }
+    requires stored { FitsStore limits.now store.old }
+    requires small { id < 2 ^ 63 }
+    requires reading { ReadsBy (server_rules limits.now) session.old.decoder }
+    requires taking { (front : List ℕ) × HasTaken session.old.decoder front }
+    ensures answered { WhereTaken session.old.decoder (λ front. IfOk result (λ turn.
+        AnswersBytes limits.now id store.old store.new session.old session.new front piece.now turn.used
+        turn.commands)) }
+    ensures unchanged { OnErr result (IsAsBefore store.old store.new session.old session.new) }
+    ensures stored { FitsStore limits.now store.new }
+    ensures reading { ReadsBy (server_rules limits.now) session.new.decoder }
     ensures at_most_one { IfOk result (λ turn. turn.commands ≤ 1) }
 {
     grammar::no_spelling_is_empty();
     grammar::the_empty_text_is_viable();
     limits.are_in_range();
-    let fed = match session.decoder.feed(piece) {
+    let fed = match session.decoder.feed(alloc, limits, piece) {
         Ok(fed) => fed,
         Err(fault) => {
             refuse(session, limits, alloc, fault)?;
@@ -81,7 +148,7 @@ fn refuse(
     fault: Fault,
 ) -> Result<(), AllocError>
     requires { (fault.cause ≡ OutOfMemory → ⊥) → IsNamedFault fault }
-    ensures refused { OnOk result (IsRefused session.old session.new fault) }
+    ensures refused { OnOk result (AnswersFault session.old session.new fault) }
     ensures unchanged { OnErr result (session.new.out.items ≡ session.old.out.items) }
     ensures same_version { session.new.version ≡ session.old.version }
     ensures same_decoder { session.new.decoder ≡ session.old.decoder }

@@ -41,11 +41,11 @@ within n limit h = elim (cases_lt limit n) as (λ _. n ≤ limit) [
   | inr l ↦ l
 ]
 
--- words of which it isn't refuted that they fit do fit
-pub words_fit : (limits : Bounds) (words : List (List ℕ)) → AreBounds limits → ((Fits (rules_under Two limits) (command_of words) → ⊥) → ⊥) →
+-- words that are within the limits fit, where their command's text does
+pub words_within_fit : (limits : Bounds) (words : List (List ℕ)) → AreBounds limits → longest (command_of words) ≤ limits.length →
+    most_items (command_of words) ≤ limits.items → length (canonical_text Two (command_of words)) ≤ limits.total →
     Fits (rules_under Two limits) (command_of words)
-words_fit limits words bounds h =
-    let x = command_of words in
+words_within_fit limits words bounds short few small =
     let flat = words_have_no_depth words in
     let least = bounds.depth_in_range.0 in
     record {
@@ -53,8 +53,18 @@ words_fit limits words bounds h =
       has_types = (tt, words_are_in_two words);
       push_at_top = words_have_no_push words;
       within_depth = omega (arith, flat, least);
-      within_length = within (longest x) limits.length (λ over. h (λ (f : Fits (rules_under Two limits) x). let k = f.within_length in omega (arith, over, k)));
-      within_items = within (most_items x) limits.items (λ over. h (λ (f : Fits (rules_under Two limits) x). let k = f.within_items in omega (arith, over, k)));
-      within_total = within (length (canonical_text Two x)) limits.total
-          (λ over. h (λ (f : Fits (rules_under Two limits) x). let k = f.within_total in omega (arith, over, k)));
+      within_length = short;
+      within_items = few;
+      within_total = small;
     }
+
+-- words of which it isn't refuted that they fit do fit
+pub words_fit : (limits : Bounds) (words : List (List ℕ)) → AreBounds limits → ((Fits (rules_under Two limits) (command_of words) → ⊥) → ⊥) →
+    Fits (rules_under Two limits) (command_of words)
+words_fit limits words bounds h =
+    let x = command_of words in
+    words_within_fit limits words bounds
+    (within (longest x) limits.length (λ over. h (λ (f : Fits (rules_under Two limits) x). let k = f.within_length in omega (arith, over, k))))
+    (within (most_items x) limits.items (λ over. h (λ (f : Fits (rules_under Two limits) x). let k = f.within_items in omega (arith, over, k))))
+    (within (length (canonical_text Two x)) limits.total
+    (λ over. h (λ (f : Fits (rules_under Two limits) x). let k = f.within_total in omega (arith, over, k))))

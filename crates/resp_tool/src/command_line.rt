@@ -2,7 +2,7 @@
 
 ghost use Rattle.std.specs.Prelude.{◌≡◌, ◌≢◌, ◌⊎◌, ◌≤◌, ◌+◌, ℕ, List, [], Some, IfErr, IfOk, IfSome, IsErrOf, OnOk, codes};
 ghost use Rattle.resp_tool.specs.Faults.{fault_line, open_failed_line, status_of};
-ghost use Rattle.resp_tool.specs.Runs.{HasRun, Lives, RunsTo, TellsFailure};
+ghost use Rattle.resp_tool.specs.Runs.{HasRun, Lives, TaskWrites, TellsFailure};
 ghost use Rattle.resp_tool.specs.Streams.{AreRead, AtEnd};
 ghost use Rattle.resp_tool.specs.Written.{TriesText, WritesText};
 ghost use Rattle.resp_value.specs.Rules.{rules_under};
@@ -122,7 +122,7 @@ pub fn perform<R: LiveSource<W>, W: LiveSink>(
 ) -> Result<(), ToolError>
     requires { (1 ≤ options.now.piece) × (options.now.piece ≤ 65536) }
     ensures ran { (bytes : List ℕ) × AreRead (R.remaining reader.old) (R.remaining reader.new)
-        bytes × RunsTo options.now.task (rules_under options.now.version options.now.limits) bytes
+        bytes × TaskWrites options.now.task (rules_under options.now.version options.now.limits) bytes
         (W.written writer.old) (W.written writer.new) result }
     ensures read_to_its_end { AtEnd result (IfSome (R.remaining reader.old) (λ _.
         R.remaining reader.new ≡ Some [])) }

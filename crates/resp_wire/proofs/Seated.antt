@@ -4,9 +4,9 @@ use Rattle.std.specs.Map.{lookup}
 use Rattle.std.specs.Option.{option_map}
 use Rattle.std.proofs.lemmas.List.{drop_all, take-append-drop}
 use Rattle.resp_value.specs.Devices.{Appends}
-use Rattle.resp_decode.specs.Decoding.{HasTaken}
 use Rattle.resp_server.specs.Handling.{WhereOpen}
 use Rattle.resp_server.specs.Hubs.{HubState, Seat, seat_at, seated, with_seat}
+use Rattle.resp_server.specs.Reading.{HasTaken}
 use Rattle.resp_wire.specs.Serving.{HasSent, IsClosing, IsOpen, IsThere}
 
 found_by : (id : ℕ) (e : ℕ × Seat) (es : List (ℕ × Seat)) (old new : Seat) (here : Bool) → (id == e.0) ≡ here →

@@ -6,14 +6,13 @@ use Rattle.std.proofs.lemmas.List.{append-nil}
 use Rattle.std.specs.Option.{option_map}
 use Rattle.resp_value.specs.Devices.{Appends}
 use Rattle.resp_value.specs.declared.version.Version.{Version}
-use Rattle.resp_decode.specs.Decoding.{HasTaken}
-use Rattle.resp_decode.specs.declared.decoder.Decoder.{Decoder}
 use Rattle.resp_session.specs.AnswerLaws.{AnswersAreAdded, AnswersGoOn}
 use Rattle.resp_session.specs.Answers.{Answers}
 use Rattle.resp_session.specs.Stores.{Store}
 use Rattle.resp_server.specs.Answering.{state_with}
 use Rattle.resp_server.specs.Handling.{HasAnswered, HasCutShort, WhereOpen}
 use Rattle.resp_server.specs.Hubs.{HubState, Seat, seat_at, seated, stocked}
+use Rattle.resp_server.specs.Reading.{HasTaken, Reading}
 use Rattle.resp_wire.specs.Serving.{AnswersBefore, HadAnswered, HasSent, IsClosing, IsOpen, IsThere, Serves, ServesFirst, StopsServing}
 use Rattle.resp_wire.specs.declared.error.ServeError.{ServeError}
 use Rattle.resp_wire.specs.declared.error.ServeError.TheVariants.{NoSession, OutOfMemory, Read, Write, TooManyTurns}
@@ -21,7 +20,7 @@ use Rattle.resp_wire.proofs.Seated.{at_open, where_open, one_seat, seat_here, se
 use Rattle.resp_wire.proofs.Pieces.{before_more, concat_more}
 use Rattle.resp_wire.proofs.Turning.{appends_more, appends_nothing}
 
-abbrev pub seat_with : Version → List ℕ → Bool → Decoder → Seat
+abbrev pub seat_with : Version → List ℕ → Bool → Reading → Seat
 seat_with version out closing decoder = record { version = version; out = out; closing = closing; decoder = decoder }
 
 -- the session after a change, and its text and its hub after a write of what waited
@@ -29,7 +28,7 @@ pub seat_given : (old given : HubState) (id : ℕ) (s seat : Seat) (store : Stor
     given ≡ stocked (seated old id seat) store → seat_at given id ≡ Some seat
 seat_given old given id s seat store here is = ap (λ h. seat_at h id) is ∙ seat_here old id s seat here
 
-pub text_sent : (old given new : HubState) (id : ℕ) (s : Seat) (version : Version) (out : List ℕ) (closing : Bool) (decoder : Decoder) (store : Store)
+pub text_sent : (old given new : HubState) (id : ℕ) (s : Seat) (version : Version) (out : List ℕ) (closing : Bool) (decoder : Reading) (store : Store)
     (held held' : Option (List ℕ)) (waits : List ℕ) → seat_at old id ≡ Some s → given ≡ stocked (seated old id (seat_with version out closing decoder)) store →
     (h : HasSent given new id held held' waits) → out ≡ h.text ++ waits
 text_sent old given new id s version out closing decoder store held held' waits here is h =
@@ -37,7 +36,7 @@ text_sent old given new id s version out closing decoder store held held' waits 
     let same : h.seat ≡ seat = one_seat (seat_at given id) h.seat seat h.here (seat_given old given id s seat store here is) in
     sym (ap (λ (t : Seat). t.out) same) ∙ h.parts
 
-pub hub_sent : (old given new : HubState) (id : ℕ) (s : Seat) (version : Version) (out : List ℕ) (closing : Bool) (decoder : Decoder) (store : Store)
+pub hub_sent : (old given new : HubState) (id : ℕ) (s : Seat) (version : Version) (out : List ℕ) (closing : Bool) (decoder : Reading) (store : Store)
     (held held' : Option (List ℕ)) (waits : List ℕ) → seat_at old id ≡ Some s → given ≡ stocked (seated old id (seat_with version out closing decoder)) store →
     HasSent given new id held held' waits → new ≡ stocked (seated old id (seat_with version waits closing decoder)) store
 hub_sent old given new id s version out closing decoder store held held' waits here is h =
@@ -52,7 +51,7 @@ pub record Stands (old cur : HubState) (id : ℕ) (s : Seat) (text : List ℕ) (
   pub reply : List ℕ
   pub store : Store
   pub version : Version
-  pub decoder : Decoder
+  pub decoder : Reading
   pub rest : List ℕ
   pub commands : ℕ
   pub answers : Answers old.limits id (state_with old.store s.version [] false 0) text (state_with store version reply false commands) rest
@@ -109,7 +108,7 @@ answers_on go_on added old cur id s text held held' st piece rest reply store ve
 
 -- what is written after it is written after the whole
 sent_on : (old cur given new : HubState) (id : ℕ) (s : Seat) (text : List ℕ) (held held' held'' : Option (List ℕ)) → seat_at old id ≡ Some s →
-    (st : Stands old cur id s text held held') (reply : List ℕ) (store : Store) (version : Version) (closing : Bool) (decoder : Decoder) (waits : List ℕ) →
+    (st : Stands old cur id s text held held') (reply : List ℕ) (store : Store) (version : Version) (closing : Bool) (decoder : Reading) (waits : List ℕ) →
     given ≡ stocked (seated cur id (seat_with version reply closing decoder)) store → HasSent given new id held' held'' waits →
     HasSent (stocked (seated old id (seat_with version (s.out ++ (st.reply ++ reply)) closing decoder)) store) new id held held'' waits
 sent_on old cur given new id s text held held' held'' here st reply store version closing decoder waits is h =

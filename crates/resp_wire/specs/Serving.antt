@@ -3,9 +3,9 @@ use Rattle.std.specs.Prelude.{◌≡◌, ◌⊎◌, ℕ, ◌<◌, Bool, true, fa
 use Rattle.std.specs.List.{concat}
 use Rattle.std.specs.Option.{option_map}
 use Rattle.resp_value.specs.Devices.{Appends, HasRisen}
-use Rattle.resp_decode.specs.Decoding.{HasTaken}
 use Rattle.resp_server.specs.Handling.{HasAnswered, HasCutShort}
 use Rattle.resp_server.specs.Hubs.{HubState, Seat, seat_at, seated}
+use Rattle.resp_server.specs.Reading.{HasTaken}
 use Rattle.resp_wire.specs.Turns.{TellsEnd}
 use Rattle.resp_wire.specs.declared.error.ServeError.{ServeError}
 use Rattle.resp_wire.specs.declared.error.ServeError.TheVariants.{NoSession, OutOfMemory, Read, Write, TooManyTurns}

@@ -12,7 +12,6 @@ use Rattle.resp_value.specs.declared.value.Members.{Members}
 use Rattle.resp_value.specs.declared.value.Value.{Value}
 use Rattle.resp_value.specs.declared.value.Value.TheVariants as value
 use Rattle.resp_value.specs.declared.version.Version.TheVariants.{Two}
-use Rattle.resp_decode.specs.Decoding as decode
 use Rattle.resp_session.specs.Connections.{Connection, back_text, sent_text, shown_messages, shown_pushes, shown_replies, values_of}
 use Rattle.resp_session.specs.Reading.{ReadsAs}
 use Rattle.resp_session.specs.Requests as session
@@ -25,6 +24,7 @@ use Rattle.resp_session.specs.Worlds.{World, WorldEvent, connection_at, new_worl
 use Rattle.resp_client.specs.Clients.{queued, state_of}
 use Rattle.resp_client.specs.Hearing.{HasTaken}
 use Rattle.resp_server.specs.Hubs.{HubState, Seat, seat_at}
+use Rattle.resp_server.specs.Reading as server
 use Rattle.resp_wire.specs.Links.{IsLinkCause, is_of_link}
 use Rattle.resp_wire.specs.Requests.{request_of}
 use Rattle.resp_wire.specs.declared.asked.Request.{Request}
@@ -71,7 +71,7 @@ pub record Stands (limits : Bounds) (seat : Option Seat) (e : End) (c : Connecti
   pub is_open : session.closing ≡ false
   pub answers : session.out ≡ drop c.shown (back_text c)
   pub front : List ℕ
-  pub taking : decode.HasTaken session.decoder front
+  pub taking : server.HasTaken session.decoder front
   pub unfinished : IsUnfinished limits c front
   pub same_limits : (state_of e.client).limits ≡ limits
   pub asks : (state_of e.client).out ≡ drop c.arrived (sent_text c)

@@ -6,11 +6,10 @@ use Rattle.std.proofs.lemmas.Option.{slice_get_within}
 use Rattle.std.specs.Map.{lookup}
 use Rattle.resp_value.specs.Bounds.{Bounds, AreBounds}
 use Rattle.resp_value.specs.declared.version.Version.TheVariants.{Two}
-use Rattle.resp_decode.specs.Decoding.{HasTaken}
-use Rattle.resp_decode.specs.declared.decoder.Decoder.{Decoder}
 use Rattle.resp_session.specs.Connections.{Connection, new_connection}
 use Rattle.resp_session.specs.Worlds.{connection_at, new_connections, new_world}
-use Rattle.resp_server.specs.Hubs.{HubState, IsFull, IsOpened, Seat, seat_at}
+use Rattle.resp_server.specs.Hubs.{HubState, HasNoSessionLeft, IsOpened, Seat, seat_at}
+use Rattle.resp_server.specs.Reading.{HasTaken, Reading}
 use Rattle.resp_server.specs.declared.error.OpenError.{OpenError}
 use Rattle.resp_server.specs.declared.error.OpenError.TheVariants.{TooManySessions, OutOfMemory}
 use Rattle.resp_client.specs.Clients.{ClientState, queued}
@@ -29,7 +28,7 @@ as_many_new : (n : ℕ) → length (new_connections n) ≡ n
 as_many_new zero = refl
 as_many_new (suc n) = ap suc (as_many_new n)
 
-new_shown : (limits : Bounds) (hub : HubState) (k : ℕ) (e : End) (decoder : Decoder) → IsNew limits e → HasTaken decoder [] →
+new_shown : (limits : Bounds) (hub : HubState) (k : ℕ) (e : End) (decoder : Reading) → IsNew limits e → HasTaken decoder [] →
     seat_at hub (suc k) ≡ Some (record { version = Two; out = []; closing = false; decoder = decoder }) →
     ShowsClient limits (seat_at hub (suc k)) e new_connection
 new_shown limits hub k e decoder new nothing there = record {
@@ -92,13 +91,13 @@ none_opened limits hub nothing = record {
   each_seat = λ k within. absurd (omega (arith, within));
 }
 
-not_full : (limits : Bounds) (old hub : HubState) (ends : List End) (count : ℕ) → AreOpened limits old hub ends count → count < 65536 → IsFull hub → ⊥
+not_full : (limits : Bounds) (old hub : HubState) (ends : List End) (count : ℕ) → AreOpened limits old hub ends count → count < 65536 → HasNoSessionLeft hub → ⊥
 not_full limits old hub ends count o few (inl sessions) = let so_many = o.few in omega (arith, few, so_many, sessions)
 not_full limits old hub ends count o few (inr ids) = let last = o.last in omega (arith, few, last, ids)
 
 -- a hub that is not full refuses a session when out of memory alone
 pub memory_alone : (limits : Bounds) (old hub : HubState) (ends : List End) (count : ℕ) (error : OpenError) → AreOpened limits old hub ends count →
-    count < 65536 → (IsErrOf {T = ℕ} {E = OpenError} (Err error) TooManySessions → IsFull hub) → error ≡ OutOfMemory
+    count < 65536 → (IsErrOf {T = ℕ} {E = OpenError} (Err error) TooManySessions → HasNoSessionLeft hub) → error ≡ OutOfMemory
 memory_alone limits old hub ends count OutOfMemory o few full = refl
 memory_alone limits old hub ends count TooManySessions o few full = absurd (not_full limits old hub ends count o few (full refl))
 
@@ -148,7 +147,7 @@ differs a b apart = differs_by a b apart (eqb_tells a b)
 each_session : (limits : Bounds) (old mid new : HubState) (ends : List End) (count id : ℕ) (e : End) → AreOpened limits old mid ends count →
     (opened : IsOpened mid new id) →
     new.sessions ≡ mid.sessions ++ (id, record { version = Two; out = []; closing = false; decoder = opened.decoder }) ∷ [] → id ≡ suc count →
-    (k : ℕ) → k < count + 1 → ((eqb k count ≡ true) × (k ≡ count)) ⊎ ((eqb k count ≡ false) × (k ≢ count)) → (decoder : Decoder) ×
+    (k : ℕ) → k < count + 1 → ((eqb k count ≡ true) × (k ≡ count)) ⊎ ((eqb k count ≡ false) × (k ≢ count)) → (decoder : Reading) ×
     HasTaken decoder [] × (seat_at new (suc k) ≡ Some (record { version = Two; out = []; closing = false; decoder = decoder }))
 each_session limits old mid new ends count id e o opened sessions id_is k within (inl h) =
     let seat : Seat = record { version = Two; out = []; closing = false; decoder = opened.decoder } in

@@ -40,4 +40,10 @@ returns-clause-waiting g c =
     let i = c.self.inside in
     let session = c.in-Some.session.now in
     hub_waits i.limits i.sessions.entries i.store i.last c.args.self.now c.self.view_is c.args.id session c.in-Some.ensures.value
-    (sound_at i.limits i.last i.sessions.entries c.args.id session c.in-Some.ensures.value c.self.invariant.sound).reading c.taken-taken.ensures.viable
+    c.taken-taken.ensures.viable
+
+pub taken-taken-requires : goal.taken-taken-requires
+taken-taken-requires g c =
+    let i = c.self.inside in record {
+      reading = (sound_at i.limits i.last i.sessions.entries c.args.id c.in-Some.session.now c.in-Some.ensures.value c.self.invariant.sound).reading;
+    }

@@ -1,7 +1,6 @@
 use Rattle.std.proofs.Common.{sym, ap, ◌∙◌}
 use Rattle.resp_session.specs.Stores.{value_at}
 use Rattle.resp_server.proofs.StorePlaces.{looked_up, no_value}
-use Rattle.resp_server.proofs.ClosingUp.{goes_down}
 use Rattle.resp_server.proofs.store.Store.get.Goals as goal
 
 pub returns-in-Some : goal.returns-in-Some

@@ -1,10 +1,9 @@
 use Rattle.std.proofs.Common.{◌≡◌, ◌++◌, ◌-◌, ◌≤◌, ℕ, List, false, length, take}
-use Rattle.resp_scan.specs.Kinds.{rules_of}
-use Rattle.resp_decode.specs.Decoding.{HasTaken}
 use Rattle.resp_session.specs.Answers.{server_rules}
 use Rattle.resp_session.specs.Fitting.{FitsStore}
 use Rattle.resp_server.specs.Answering.{IsAnswered}
-use Rattle.resp_server.proofs.answer.answer.Given as goal
+use Rattle.resp_server.specs.Reading.{HasTaken, ReadsBy}
+use Rattle.resp_server.proofs.answer.answer_turns.Given as goal
 
 abbrev pub invariant-loop-used : goal.invariant-loop-used
 invariant-loop-used g l = record {
@@ -12,7 +11,7 @@ invariant-loop-used g l = record {
       IsAnswered l.limits l.id l.fn.store l.store l.fn.session l.session (front ++ take l.used l.piece) l.commands;
   is_open : l.session.closing ≡ false;
   stored : FitsStore l.limits l.store;
-  reading : rules_of l.session.decoder.scanner ≡ server_rules l.limits;
+  reading : ReadsBy (server_rules l.limits) l.session.decoder;
   taking : (front : List ℕ) × HasTaken l.session.decoder front;
   within : l.used ≤ length l.piece;
   few : l.commands ≤ l.used;

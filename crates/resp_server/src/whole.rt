@@ -1,0 +1,148 @@
+//! Commands that lie whole in a piece, as clients mostly write them: they are read without a
+//! decoder, and their words are lent.
+
+ghost use Rattle.std.specs.Prelude.{◌≤◌, length, Some, IfSome};
+
+use crate::operation::verb_of;
+use crate::refusal::Verb;
+use resp_value::laws as grammar;
+use resp_value::limits::Limits;
+
+/// What a command asks, with words of the piece.
+#[derive(Clone, Copy)]
+pub(crate) enum Lent<'a> {
+    /// A sign of life.
+    Ping,
+    /// The value of the key.
+    Get(&'a [u8]),
+    /// That the key has the value, whether it is there or not.
+    Set(&'a [u8], &'a [u8]),
+}
+
+/// A command that lies whole in the piece, and what follows it.
+#[derive(Clone, Copy)]
+pub(crate) struct Whole<'a> {
+    pub(crate) command: Lent<'a>,
+    pub(crate) rest: &'a [u8],
+}
+
+ghost use Rattle.resp_server.specs.Whole.{AsksWith, BeginsWithCommand, BeginsWithHead, BeginsWithWord, lent_operation};
+ghost use Rattle.resp_server.specs.declared.refusal.Verb.TheVariants.{Ping, Get, Set};
+
+/// The command that the piece begins with, where it lies whole in it, is a PING, a GET or a SET
+/// without options, and each of its numbers is written in one digit or two without a leading zero.
+/// Of all else the decoder decides.
+pub(crate) fn whole_command<'a>(piece: &'a [u8], limits: &Limits) -> Option<Whole<'a>>
+    ensures { IfSome result (λ whole.
+        BeginsWithCommand limits.now piece.now (lent_operation whole.command) whole.rest.now) }
+{
+    grammar::canonical_text_spells_what_fits();
+    limits.are_in_range();
+    let (count, words) = head(piece, b'*')?;
+    let (name, text) = word(words)?;
+    let whole = asked_with(verb_of(name), count, text)?;
+    let used = piece.len() - whole.rest.len();
+    if limits.length() < 99 || limits.total() < used as u64 {
+        return None;
+    }
+    Some(whole)
+}
+
+/// What the command of this name asks with this many words, whose arguments begin the text.
+fn asked_with(verb: Option<Verb>, count: usize, text: &[u8]) -> Option<Whole<'_>>
+    ensures { IfSome result (λ whole.
+        AsksWith verb count text.now (lent_operation whole.command) whole.rest.now) }
+{
+    match verb {
+        Some(Verb::Ping) => ping(count, text),
+        Some(Verb::Get) => get(count, text),
+        Some(Verb::Set) => set(count, text),
+        _ => None,
+    }
+}
+
+/// What PING asks.
+fn ping(count: usize, text: &[u8]) -> Option<Whole<'_>>
+    ensures { IfSome result (λ whole.
+        AsksWith (Some Ping) count text.now (lent_operation whole.command) whole.rest.now) }
+{
+    if count != 1 {
+        return None;
+    }
+    Some(Whole {
+        command: Lent::Ping,
+        rest: text,
+    })
+}
+
+/// What GET asks.
+fn get(count: usize, text: &[u8]) -> Option<Whole<'_>>
+    ensures { IfSome result (λ whole.
+        AsksWith (Some Get) count text.now (lent_operation whole.command) whole.rest.now) }
+{
+    if count != 2 {
+        return None;
+    }
+    let (key, rest) = word(text)?;
+    Some(Whole {
+        command: Lent::Get(key),
+        rest,
+    })
+}
+
+/// What SET asks.
+fn set(count: usize, text: &[u8]) -> Option<Whole<'_>>
+    ensures { IfSome result (λ whole.
+        AsksWith (Some Set) count text.now (lent_operation whole.command) whole.rest.now) }
+{
+    if count != 3 {
+        return None;
+    }
+    let (key, text) = word(text)?;
+    let (value, rest) = word(text)?;
+    Some(Whole {
+        command: Lent::Set(key, value),
+        rest,
+    })
+}
+
+/// A head of this type byte with a number of one digit or two, and what follows it.
+fn head(text: &[u8], kind: u8) -> Option<(usize, &[u8])>
+    ensures begins { IfSome result (λ head. BeginsWithHead text.now kind head.0 head.1.now) }
+    ensures small { IfSome result (λ head. head.0 ≤ 99) }
+{
+    if text.len() < 5 || text[0] != kind {
+        return None;
+    }
+    let first = text[1];
+    if first < b'0' || b'9' < first {
+        return None;
+    }
+    if text[2] == b'\r' && text[3] == b'\n' {
+        return Some(((first - b'0') as usize, &text[4..]));
+    }
+    let second = text[2];
+    if first == b'0' || second < b'0' || b'9' < second {
+        return None;
+    }
+    if text[3] != b'\r' || text[4] != b'\n' {
+        return None;
+    }
+    let number = 10 * (first - b'0') as usize + (second - b'0') as usize;
+    Some((number, &text[5..]))
+}
+
+/// A bulk string that lies whole in the text, and what follows it.
+fn word(text: &[u8]) -> Option<(&[u8], &[u8])>
+    ensures begins { IfSome result (λ word. BeginsWithWord text.now word.0.now word.1.now) }
+    ensures short { IfSome result (λ word. length word.0.now ≤ 99) }
+{
+    let (length, content) = head(text, b'$')?;
+    if content.len() < length + 2 {
+        return None;
+    }
+    if content[length] != b'\r' || content[length + 1] != b'\n' {
+        return None;
+    }
+    Some((&content[..length], &content[length + 2..]))
+}
