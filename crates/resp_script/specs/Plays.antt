@@ -24,6 +24,10 @@ play_fault_line (Stopped line cause) = codes "line " ++ decimal line ++ codes ":
 play_fault_line Write = codes "write failed\n"
 play_fault_line Memory = codes "out of memory\n"
 
+-- the line of a client that no connection was opened for, and why
+abbrev pub no_connection_line : ℕ → List ℕ → List ℕ
+no_connection_line client why = codes "no connection for client " ++ decimal client ++ codes ": " ++ why ++ codes "\n"
+
 -- as many bytes as an event can move
 abbrev pub all_bytes : ℕ
 all_bytes = 18446744073709551615

@@ -1,7 +1,7 @@
 //! `loop`: the events of a script in a world, and what comes of each.
 
 ghost use Rattle.std.specs.Prelude.{◌≡◌, true, ◌+◌, ◌<◌, ◌^◌, ◌++◌, ◌∷◌, [], codes, decimal, drop, length, None, Option, Some, IfErr, OnOk};
-ghost use Rattle.resp_script.specs.Plays.{AreThere, EndsPrint, FailsToWrite, HasShown, IsAtLine, IsAtStep, KeepsCause, PlaysScript, PlaysTo, flush_events, played, step_events, steps_events};
+ghost use Rattle.resp_script.specs.Plays.{AreThere, EndsPrint, FailsToWrite, HasShown, IsAtLine, IsAtStep, KeepsCause, PlaysScript, PlaysTo, flush_events, no_connection_line, played, step_events, steps_events};
 ghost use Rattle.resp_script.specs.Printed.{Prints, counts_text, key_count, gone_text, heard_text, outcome_text, refused_text};
 ghost use Rattle.resp_session.specs.Connections.{Connection};
 ghost use Rattle.resp_session.specs.Worlds as session;
@@ -72,6 +72,21 @@ impl PlayError {
     {
         3
     }
+}
+
+/// Writes the line of a client, counted from 1, that no connection was opened for, and why, with an
+/// LF. Refuses where a write fails, and then the first bytes of the line were written.
+pub fn write_no_connection<W: Sink>(
+    writer: &mut W,
+    client: u64,
+    why: &[u8],
+) -> Result<(), WriteFault>
+    ensures { WritesText (W.written writer.old) (W.written writer.new) (W.failures writer.old)
+        (W.failures writer.new) result (no_connection_line client why.now) }
+{
+    write_number(writer, b"no connection for client ", client, b": ")?;
+    write_text(writer, why)?;
+    write_text(writer, b"\n")
 }
 
 /// Takes each event of a script, and writes what comes of it, and last how many commands were run

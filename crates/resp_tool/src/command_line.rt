@@ -112,8 +112,9 @@ fn write_open_failed<F: Sink>(name: &[u8], why: &[u8], faults: &mut F) -> Result
     write_text(faults, b"\n")
 }
 
-/// Does what the options ask for.
-fn run<R: LiveSource<W>, W: LiveSink>(
+/// Does what the options ask for with the stream of `reader`, or says why not. What the writer holds
+/// back at the end is the caller's to flush.
+pub fn perform<R: LiveSource<W>, W: LiveSink>(
     alloc: Global,
     options: &Options<'_>,
     reader: &mut R,
@@ -191,7 +192,7 @@ pub fn run_options<R: LiveSource<W>, W: LiveSink, F: Sink>(
     ensures told_at_three { result ≡ 3 → TellsFailure (F.written faults.old)
         (F.written faults.new) (F.failures faults.old) (F.failures faults.new) }
 {
-    match run(alloc, options, reader, writer) {
+    match perform(alloc, options, reader, writer) {
         Ok(()) => 0,
         Err(error) => stop(&error, faults),
     }
@@ -199,9 +200,9 @@ pub fn run_options<R: LiveSource<W>, W: LiveSink, F: Sink>(
 
 /// Does what the words say, the program's name first among them, with the stream of `reader`, and
 /// answers the status: 0 where all is well or help was asked for, 1 where the input was refused, 2
-/// where the words are bad or name a file, and 3 where a device or memory failed. What is wrong is
-/// said on `faults`, whether or not that takes it. What the writer holds back at the end is the
-/// caller's to flush.
+/// where the words are bad, name a file or ask for an explanation, and 3 where a device or memory
+/// failed. What is wrong is said on `faults`, whether or not that takes it. What the writer holds
+/// back at the end is the caller's to flush.
 pub fn command<S: AsStr, R: LiveSource<W>, W: LiveSink, F: Sink>(
     alloc: Global,
     words: &[S],
@@ -227,6 +228,10 @@ pub fn command<S: AsStr, R: LiveSource<W>, W: LiveSink, F: Sink>(
     };
     if options.file != STANDARD_INPUT {
         let _ = write_text(faults, b"error: these words name a file\n");
+        return BAD_ARGUMENTS;
+    }
+    if options.explains {
+        let _ = write_text(faults, b"error: these words ask for an explanation\n");
         return BAD_ARGUMENTS;
     }
     run_options(alloc, &options, reader, writer, faults)
