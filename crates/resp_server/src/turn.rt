@@ -11,7 +11,7 @@ ghost use Rattle.resp_server.specs.Whole.{BeginsWithCommand, lent_operation};
 
 use crate::answer_value::answer_value;
 use crate::fault_line::append_fault;
-use crate::run::run_lent;
+use crate::run_lent::run_lent;
 use crate::session::Session;
 use crate::store::Store;
 use crate::whole::{Whole, whole_command};
