@@ -14,8 +14,8 @@ use Rattle.resp_value.specs.declared.kind.OpenKind.TheVariants as kind
 use Rattle.resp_value.specs.declared.version.Version.{Version}
 use Rattle.resp_value.specs.declared.version.Version.TheVariants.{Two}
 
--- Where the answer is 0 the text stands at the front of the room, and after it is what was there. Else the answer is 65,
--- the room is shorter than the text, and nothing was written. The size of the text is told either way.
+-- Where the answer is 0 the text stands at the front of the room, and after it is what was there. Else the answer is
+-- 65, the room is shorter than the text, and nothing was written. The size of the text is told either way.
 pub record Writes (old new text : List ℕ) (size answer : ℕ) : Type 0 where
   pub size_told : size ≡ length text
   pub written : answer ≡ 0 → new ≡ text ++ drop (length text) old
