@@ -5,14 +5,18 @@
 mod input;
 mod output;
 
+ghost use Rattle.std.specs.Prelude.{◌≤◌};
+
 use input::read_input;
 use output::Output;
-use resp_script::play::play;
+use resp_script::play::{play, write_no_connection};
 use resp_script::script::read_script;
-use resp_tool::command_line::{read_words, refuse_file, refuse_words, run_options, stop};
+use resp_tool::command_line::{perform, read_words, refuse_file, refuse_words, run_options, stop};
+use resp_tool::explain::explain;
 use resp_tool::live::{Gathering, LiveSink};
-use resp_tool::options::STANDARD_INPUT;
+use resp_tool::options::{Options, STANDARD_INPUT};
 use resp_tool::tool_error::ToolError;
+use resp_tool::watched::Watched;
 use resp_value::device::{Device, MemorySink, Sink, Source};
 use resp_value::limits::Limits;
 use resp_wire::{TcpLink, World};
@@ -21,7 +25,7 @@ use std::cell::Cell;
 use std::env;
 use std::fs::File;
 use std::hash::RandomState;
-use std::io::Write;
+use std::io::{Read, Write};
 use std::net::{Net, TcpListener, TcpStream};
 use std::process::ExitCode;
 
@@ -42,8 +46,8 @@ fn main(rt: HostRuntime) -> ExitCode {
     }
 }
 
-/// Runs the program's words, and answers the status. What is wrong is said after what was shown, and
-/// nothing where what reads the output has closed it.
+/// Runs the program's words, and answers the status. What is wrong is said after what was shown,
+/// and nothing where what reads the output has closed it.
 fn run(rt: &HostRuntime) -> Result<u8, AllocError> {
     let alloc = rt.alloc();
     let mut faults = MemorySink::new(alloc, MOST_FAULTS, MOST_FAULTS)?;
@@ -100,17 +104,39 @@ fn run_task<W: LiveSink, F: Sink>(
         Err(status) => return Ok(status),
     };
     if options.file == STANDARD_INPUT {
-        let mut reader = Device::new(rt.stdin());
-        return Ok(run_options(alloc, &options, &mut reader, writer, faults));
+        return Ok(run_stream(alloc, &options, rt.stdin(), writer, faults));
     }
     match File::open(rt, options.file) {
-        Ok(file) => {
-            let mut reader = Device::new(file);
-            Ok(run_options(alloc, &options, &mut reader, writer, faults))
-        }
+        Ok(file) => Ok(run_stream(alloc, &options, file, writer, faults)),
         Err(error) => {
             let why = format!(in alloc; "{error}")?;
             Ok(refuse_file(options.file, why.as_str(), faults))
+        }
+    }
+}
+
+/// Does what the options say with a stream, and answers the status. What was refused is explained
+/// after its line where they ask for that.
+fn run_stream<R: Read + Drop, W: LiveSink, F: Sink>(
+    alloc: Global,
+    options: &Options<'_>,
+    stream: R,
+    writer: &mut W,
+    faults: &mut F,
+) -> u8
+    requires { (1 ≤ options.now.piece) × (options.now.piece ≤ 65536) }
+{
+    let mut reader = Device::new(stream);
+    if !options.explains {
+        return run_options(alloc, options, &mut reader, writer, faults);
+    }
+    let mut watched = Watched::new(alloc, reader, options.version, &options.limits);
+    match perform(alloc, options, &mut watched, writer) {
+        Ok(()) => 0,
+        Err(error) => {
+            let status = stop(&error, faults);
+            let _ = explain(alloc, &error, options, &mut watched, faults);
+            status
         }
     }
 }
@@ -136,10 +162,15 @@ fn run_loop<R: Source, W: Sink, F: Sink>(
         }
     };
     let mut links = Vec::new(alloc);
-    for _ in 0..script.clients {
-        match TcpLink::open(net) {
+    for index in 0..script.clients {
+        match TcpLink::connect(net) {
             Ok(link) => links.push(link)?,
-            Err(_) => return Ok(stop(&ToolError::Read, faults)),
+            Err(error) => {
+                let why = format!(in alloc; "{error}")?;
+                let why = why.as_str().as_bytes();
+                let _ = write_no_connection(faults, index as u64 + 1, why);
+                return Ok(DEVICE_FAILED);
+            }
         }
     }
     let Some(hasher) = hasher else {

@@ -2,3 +2,9 @@ pub mod ScriptWords
 pub mod ScriptLines
 pub mod ScriptReading
 pub mod Playing
+pub mod Printing
+pub mod Played
+pub mod ShownValues
+pub mod HeardOf
+pub mod Taking
+pub mod Flushed

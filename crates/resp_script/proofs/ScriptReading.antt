@@ -5,7 +5,7 @@ use Rattle.std.proofs.lemmas.List.{append-nil, length_push, map_push}
 use Rattle.std.proofs.lemmas.List.Elements.{All-head, All-nil, All-push, All-tail}
 use Rattle.std.proofs.lemmas.List.Sums.{sum_by-append}
 use Rattle.resp_wire.specs.declared.event.Event.{Event}
-use Rattle.resp_script.specs.ScriptSteps.{SaysClients, SaysStep, clients_words, joined, step_words}
+use Rattle.resp_script.specs.ScriptSteps.{SaysClients, SaysStep, clients_words, joined_words, step_words}
 use Rattle.resp_script.specs.Scripts.{AreWithin, IsFirstBad, IsScript, NameNoClients, SayScript, SaySoFar, SaysNothing, bytes_to_end, is_passed_over, lines_of, step_line}
 use Rattle.resp_script.specs.SaidLines.{Says}
 use Rattle.resp_script.specs.declared.script.Script.{Script}
@@ -95,32 +95,32 @@ say_nothing_more (Some clients) done line steps passed said = record {
 say_clients : (clients : ℕ) (done : List (List ℕ)) (line : List ℕ) (number : ℕ) (steps : List (ℕ × Option Event)) → is_passed_over line ≡ false →
     length done + 1 ≡ number → SaysClients line clients → SaySoFar None done steps → SayScript clients (done ++ line ∷ []) steps
 say_clients clients done line number steps passed counted says said =
-    let text : line ≡ joined (clients_words clients) = says.words.text in
+    let text : line ≡ joined_words (clients_words clients) = says.words.text in
     record {
       number = number;
       in_turn =
           said_one_more done line number passed counted ∙ ap (λ z. z ++ (number, line) ∷ []) said.0
-          ∙ ap (λ z. (number, z) ∷ []) text ∙ ap (λ z. (number, joined (clients_words clients)) ∷ map step_line z) (sym said.1);
+          ∙ ap (λ z. (number, z) ∷ []) text ∙ ap (λ z. (number, joined_words (clients_words clients)) ∷ map step_line z) (sym said.1);
       clients_named = subst (λ z. SaysClients z clients) text says;
       steps_said =
-          subst (All (λ (step : ℕ × Option Event). SaysStep clients (joined (step_words step.1)) step.1)) (sym said.1)
-          (All-nil (λ (step : ℕ × Option Event). SaysStep clients (joined (step_words step.1)) step.1));
+          subst (All (λ (step : ℕ × Option Event). SaysStep clients (joined_words (step_words step.1)) step.1)) (sym said.1)
+          (All-nil (λ (step : ℕ × Option Event). SaysStep clients (joined_words (step_words step.1)) step.1));
     }
 
 say_step : (clients : ℕ) (done : List (List ℕ)) (line : List ℕ) (number : ℕ) (steps : List (ℕ × Option Event)) (step : Option Event) →
     is_passed_over line ≡ false → length done + 1 ≡ number → SaysStep clients line step → SayScript clients done steps →
     SayScript clients (done ++ line ∷ []) (steps ++ (number, step) ∷ [])
 say_step clients done line number steps step passed counted says said =
-    let text : line ≡ joined (step_words step) = says.words.text in
+    let text : line ≡ joined_words (step_words step) = says.words.text in
     record {
       number = said.number;
       in_turn =
           said_one_more done line number passed counted ∙ ap (λ z. z ++ (number, line) ∷ []) said.in_turn
-          ∙ ap (λ z. (said.number, joined (clients_words clients)) ∷ (map step_line steps ++ (number, z) ∷ [])) text
-          ∙ ap (λ z. (said.number, joined (clients_words clients)) ∷ z) (sym (map_push step_line steps (number, step)));
+          ∙ ap (λ z. (said.number, joined_words (clients_words clients)) ∷ (map step_line steps ++ (number, z) ∷ [])) text
+          ∙ ap (λ z. (said.number, joined_words (clients_words clients)) ∷ z) (sym (map_push step_line steps (number, step)));
       clients_named = said.clients_named;
       steps_said =
-          All-push (λ (step : ℕ × Option Event). SaysStep clients (joined (step_words step.1)) step.1) steps (number, step) said.steps_said
+          All-push (λ (step : ℕ × Option Event). SaysStep clients (joined_words (step_words step.1)) step.1) steps (number, step) said.steps_said
           (subst (λ z. SaysStep clients z step) text says);
     }
 

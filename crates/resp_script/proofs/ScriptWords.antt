@@ -6,7 +6,7 @@ use Rattle.std.proofs.lemmas.Bool.{eqb-true}
 use Rattle.std.proofs.lemmas.List.{get_or-map, length-map, take_more}
 use Rattle.std.proofs.lemmas.List.Elements.{All-head, All-tail, All-weaker}
 use Rattle.std.proofs.lemmas.List.Splits.{join_with_byte-slice_split, length-slice_split, slice_split_at, slice_split_none}
-use Rattle.resp_script.specs.ScriptSteps.{AreWords, IsSeen, IsWord, IsInRange, clients_words, joined, step_words}
+use Rattle.resp_script.specs.ScriptSteps.{AreWords, IsSeen, IsWord, IsStepInRange, clients_words, joined_words, step_words}
 use Rattle.resp_wire.specs.declared.event.Event.{Event}
 use Rattle.resp_script.specs.Scripts.{SaysSomething}
 use Rattle.resp_script.specs.declared.script.words.LineFault.{LineFault}
@@ -36,18 +36,18 @@ no_space : (word : List ℕ) → All IsSeen word → All (λ b. eqb b 32 ≡ fal
 no_space word seen = All-weaker IsSeen (λ b. eqb b 32 ≡ false) seen_is_no_space word seen
 
 -- words are the parts of their line
-pub split_joined : (words : List (List ℕ)) → All IsWord words → 1 ≤ length words → slice_split (λ b. eqb b 32) (joined words) ≡ words
+pub split_joined : (words : List (List ℕ)) → All IsWord words → 1 ≤ length words → slice_split (λ b. eqb b 32) (joined_words words) ≡ words
 split_joined [] all some = absurd (omega (arith, some))
 split_joined (word ∷ []) all some = slice_split_none (λ b. eqb b 32) word (no_space word (All-head IsWord word [] all).1)
 split_joined (word ∷ next ∷ words) all some =
-    slice_split_at (λ b. eqb b 32) word 32 (joined (next ∷ words)) (no_space word (All-head IsWord word (next ∷ words) all).1) refl
+    slice_split_at (λ b. eqb b 32) word 32 (joined_words (next ∷ words)) (no_space word (All-head IsWord word (next ∷ words) all).1) refl
     ∙ ap (λ z. word ∷ z) (split_joined (next ∷ words) (All-tail IsWord word (next ∷ words) all) (omega arith))
 
 -- the parts of a line are its words, where each is a word
 pub are_parts : (line : List ℕ) (parts : List (List ℕ)) → parts ≡ slice_split (λ b. eqb b 32) line → All IsWord parts → length parts ≤ 64 →
     AreWords line parts
 are_parts line parts split all few = record {
-  text = sym (join_with_byte-slice_split 32 line) ∙ ap joined (sym split);
+  text = sym (join_with_byte-slice_split 32 line) ∙ ap joined_words (sym split);
   are_words = all;
   some = omega (arith, ap length split, length-slice_split (λ b. eqb b 32) line);
   few = few;
@@ -91,7 +91,7 @@ no_clients line items words same are none (clients, says) =
 -- words that say no step, so that their line says none
 pub no_step : (clients : ℕ) (line : List ℕ) (items words : List (Bor (List ℕ))) →
     words ≡ items → AreWords line (map (λ (word : Bor (List ℕ)). word.now) items) →
-    ((step : Option Event) → map (λ (word : Bor (List ℕ)). word.now) words ≡ step_words step → IsInRange clients step → ⊥) →
+    ((step : Option Event) → map (λ (word : Bor (List ℕ)). word.now) words ≡ step_words step → IsStepInRange clients step → ⊥) →
     SaysSomething (Some clients) line → ⊥
 no_step clients line items words same are none (step, says) =
     none step (ap (map (λ (word : Bor (List ℕ)). word.now)) same ∙ one_reading line _ _ are says.words) says.range

@@ -1,4 +1,6 @@
 pub mod ScriptSteps
 pub mod Scripts
 pub mod SaidLines
+pub mod Growing
+pub mod Printed
 pub mod Plays

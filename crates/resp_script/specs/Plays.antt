@@ -1,9 +1,20 @@
--- Why the events of a script are not played to their end.
-use Rattle.std.specs.Prelude.{◌≡◌, ◌⊎◌, ℕ, List, ◌++◌, map, Contains, Option, Some, Result, Ok, Err, codes, decimal}
+-- What the steps of a script come to, and why they are not played to their end.
+use Rattle.std.specs.Prelude.{◌≡◌, ◌⊎◌, ℕ, zero, suc, List, [], ◌∷◌, ◌++◌, length, Contains, map, Bool, true, false, Option, None, Some, Result, Ok, Err, codes, decimal}
+use Rattle.std.specs.List.{flat_map}
+use Rattle.resp_value.specs.Bounds.{Bounds}
 use Rattle.resp_value.specs.Causes.{name_of}
 use Rattle.resp_value.specs.Devices.{Appends, count_after}
 use Rattle.resp_value.specs.declared.cause.Cause.{Cause}
+use Rattle.resp_session.specs.Connections.{Connection, shown_pushes, shown_replies}
+use Rattle.resp_session.specs.Runs as runs
+use Rattle.resp_session.specs.Runs.{Step, connection_of}
+use Rattle.resp_session.specs.Worlds.{World, WorldEvent, ToServer, ToClient, client_of}
+use Rattle.resp_tool.specs.Written.{AppendsPart}
+use Rattle.resp_wire.specs.Worlds.{Shows, WorldState, event_of}
 use Rattle.resp_wire.specs.declared.event.Event.{Event}
+use Rattle.resp_wire.specs.declared.event.Outcome.{Outcome}
+use Rattle.resp_wire.specs.declared.event.Outcome.TheVariants.{Done}
+use Rattle.resp_script.specs.Printed.{PlayedEvent, counts_text, outcome_text}
 use Rattle.resp_script.specs.declared.play.PlayError.{PlayError}
 use Rattle.resp_script.specs.declared.play.PlayError.TheVariants.{Stopped, Write, Memory}
 
@@ -13,27 +24,146 @@ play_fault_line (Stopped line cause) = codes "line " ++ decimal line ++ codes ":
 play_fault_line Write = codes "write failed\n"
 play_fault_line Memory = codes "out of memory\n"
 
--- a stop is at the line of one of these steps
-abbrev pub IsAtStep : List (ℕ × Option Event) → PlayError → Type 0
-IsAtStep steps (Stopped line cause) = Contains (map (λ (step : ℕ × Option Event). step.0) steps) line
-IsAtStep steps _ = Unit {0}
+-- the line of a client that no connection was opened for, and why
+abbrev pub no_connection_line : ℕ → List ℕ → List ℕ
+no_connection_line client why = codes "no connection for client " ++ decimal client ++ codes ": " ++ why ++ codes "\n"
+
+-- as many bytes as an event can move
+abbrev pub all_bytes : ℕ
+all_bytes = 18446744073709551615
+
+-- an event of the step in this line
+abbrev pub played : ℕ → Bool → WorldEvent → PlayedEvent
+played line is_flush event = record { line = line; event = event; is_flush = is_flush }
+
+-- the events of `flush`: what waits of each of this many clients goes to its session, and then what waits there to it
+abbrev pub flush_events : ℕ → ℕ → List PlayedEvent
+flush_events line zero = []
+flush_events line (suc clients) = flush_events line clients ++
+    (played line true (ToServer (suc clients) all_bytes) ∷ played line true (ToClient (suc clients) all_bytes) ∷ [])
+
+-- the events of the step in this line, where there are this many clients
+abbrev pub step_events : ℕ → ℕ → Option Event → List PlayedEvent
+step_events clients line (Some event) = played line false (event_of event) ∷ []
+step_events clients line None = flush_events line clients
+
+-- the events of steps, in order
+abbrev pub steps_events : ℕ → List (ℕ × Option Event) → List PlayedEvent
+steps_events clients steps = flat_map (λ (step : ℕ × Option Event). step_events clients step.0 step.1) steps
+
+-- the text of what comes of an event, which leads from one world to the next
+abbrev pub text_of_step : World → PlayedEvent → runs.Outcome → World → List ℕ
+text_of_step w played outcome next = outcome_text (client_of played.event) played.is_flush outcome
+    (connection_of w played.event) (connection_of next played.event)
+
+-- The events come to what they come to in the definitions, one after another, and this is the text of it.
+abbrev pub Plays : Bounds → World → List PlayedEvent → List ℕ → World → Type 0
+Plays limits w [] text last = (text ≡ []) × (last ≡ w)
+Plays limits w (played ∷ events) text last = (outcome : runs.Outcome) × (next : World) × (rest : List ℕ) ×
+    Step limits w played.event outcome next × Plays limits next events rest last ×
+    (text ≡ text_of_step w played outcome next ++ rest)
+
+-- all of the events were played, the world shows what they leave, and their text was appended
+pub record PlaysAll {L : Type 0} (is_honest : L → Type 0) (limits : Bounds) (w : World) (events : List PlayedEvent)
+    (after : WorldState L) (held held' : Option (List ℕ)) : Type 0 where
+  pub text : List ℕ
+  pub last : World
+  pub plays : Plays limits w events text last
+  pub shows : Shows is_honest after limits last
+  pub appended : Appends held held' text
+
+-- the events before one in this line were played, and their text was appended
+pub record PlaysUpTo (limits : Bounds) (w : World) (events : List PlayedEvent) (line : ℕ)
+    (held held' : Option (List ℕ)) : Type 0 where
+  pub done : List PlayedEvent
+  pub stopped_at : PlayedEvent
+  pub beyond : List PlayedEvent
+  pub whole : events ≡ done ++ stopped_at ∷ beyond
+  pub at_line : stopped_at.line ≡ line
+  pub text : List ℕ
+  pub last : World
+  pub plays : Plays limits w done text last
+  pub appended : Appends held held' text
+
+-- some first events were played, or all of them, and a first part of their text was appended
+pub record PlaysPart (limits : Bounds) (w : World) (events : List PlayedEvent) (held held' : Option (List ℕ)) : Type 0
+  where
+    pub done : List PlayedEvent
+    pub later : List PlayedEvent
+    pub whole : events ≡ done ++ later
+    pub text : List ℕ
+    pub last : World
+    pub plays : Plays limits w done text last
+    pub part : AppendsPart held held' text
+
+-- What comes of events: all of them and their text; or the first of them, up to that at which the world stopped, and
+-- their text; or a first part of the text, where a write failed or when out of memory.
+abbrev pub PlaysTo : {L : Type 0} → (L → Type 0) → Bounds → World → List PlayedEvent → WorldState L →
+    Option (List ℕ) → Option (List ℕ) → Result (Unit {0}) PlayError → Type 0
+PlaysTo {L} is_honest limits w events after held held' (Ok x) = PlaysAll is_honest limits w events after held held'
+PlaysTo {L} is_honest limits w events after held held' (Err (Stopped line cause)) =
+    PlaysUpTo limits w events line held held'
+PlaysTo {L} is_honest limits w events after held held' (Err e) = PlaysPart limits w events held held'
+
+-- all of the events were played, and their text was appended, and after it the line of counts
+pub record PlaysWhole {L : Type 0} (is_honest : L → Type 0) (limits : Bounds) (w : World) (events : List PlayedEvent)
+    (after : WorldState L) (held held' : Option (List ℕ)) : Type 0 where
+  pub text : List ℕ
+  pub last : World
+  pub plays : Plays limits w events text last
+  pub shows : Shows is_honest after limits last
+  pub appended : Appends held held' (text ++ counts_text last)
+
+-- all of the events were played, and a first part of their text and the line of counts was appended
+pub record BreaksInCounts (limits : Bounds) (w : World) (events : List PlayedEvent) (held held' : Option (List ℕ)) :
+    Type 0 where
+  pub text : List ℕ
+  pub last : World
+  pub plays : Plays limits w events text last
+  pub part : AppendsPart held held' (text ++ counts_text last)
+
+-- What comes of all the events of a script, with the line of counts after their text.
+abbrev pub PlaysScript : {L : Type 0} → (L → Type 0) → Bounds → World → List PlayedEvent → WorldState L →
+    Option (List ℕ) → Option (List ℕ) → Result (Unit {0}) PlayError → Type 0
+PlaysScript {L} is_honest limits w events after held held' (Ok x) =
+    PlaysWhole is_honest limits w events after held held'
+PlaysScript {L} is_honest limits w events after held held' (Err (Stopped line cause)) =
+    PlaysUpTo limits w events line held held'
+PlaysScript {L} is_honest limits w events after held held' (Err e) =
+    PlaysPart limits w events held held' ⊎ BreaksInCounts limits w events held held'
 
 -- a stop is at this line
 abbrev pub IsAtLine : ℕ → PlayError → Type 0
 IsAtLine line (Stopped stopped cause) = stopped ≡ line
 IsAtLine line _ = Unit {0}
 
+-- a stop is at the line of one of these steps
+abbrev pub IsAtStep : List (ℕ × Option Event) → PlayError → Type 0
+IsAtStep steps (Stopped line cause) = Contains (map (λ (step : ℕ × Option Event). step.0) steps) line
+IsAtStep steps _ = Unit {0}
+
 -- at a stop the world keeps its cause
 abbrev pub KeepsCause : Option Cause → PlayError → Type 0
 KeepsCause stopped (Stopped line cause) = stopped ≡ Some cause
 KeepsCause stopped _ = Unit {0}
 
--- a reason that is no stop
-abbrev pub IsNoStop : PlayError → Type 0
-IsNoStop (Stopped line cause) = ⊥
-IsNoStop _ = Unit {0}
-
 -- one write failed where that was the reason to stop, and else none did
 abbrev pub FailsToWrite : ℕ → ℕ → Result (Unit {0}) PlayError → Type 0
 FailsToWrite failures failures' (Err Write) = failures' ≡ count_after 1 failures
 FailsToWrite failures failures' _ = failures' ≡ failures
+
+-- how many replies and pushes were shown on a connection, if there is one
+abbrev pub HasShown : ℕ → ℕ → Option Connection → Type 0
+HasShown replies pushes None = Unit {0}
+HasShown replies pushes (Some c) = (replies ≡ length (shown_replies c)) × (pushes ≡ length (shown_pushes c))
+
+-- where the event happened, it is of a connection that stands before and after
+abbrev pub AreThere : Outcome → Option Connection → Option Connection → Type 0
+AreThere Done (Some before) (Some after) = Unit {0}
+AreThere Done before after = ⊥
+AreThere outcome before after = Unit {0}
+
+-- what was printed doesn't stop the world, and one write failed where that was the reason to end, and else none did
+abbrev pub EndsPrint : ℕ → ℕ → Result (Unit {0}) PlayError → Type 0
+EndsPrint failures failures' (Err (Stopped line cause)) = ⊥
+EndsPrint failures failures' result = FailsToWrite failures failures' result

@@ -23,24 +23,24 @@ abbrev pub IsWord : List ℕ → Type 0
 IsWord word = IsFull word × All IsSeen word
 
 -- words with a space between each two
-abbrev pub joined : List (List ℕ) → List ℕ
-joined words = join_with_byte (byte " ") words
+abbrev pub joined_words : List (List ℕ) → List ℕ
+joined_words words = join_with_byte (byte " ") words
 
 -- the line is these words, from 1 to 64 of them
 pub record AreWords (line : List ℕ) (words : List (List ℕ)) : Type 0 where
-  pub text : line ≡ joined words
+  pub text : line ≡ joined_words words
   pub are_words : All IsWord words
   pub some : 1 ≤ length words
   pub few : length words ≤ 64
 
 -- the first word of a line, for the event that it says
-abbrev pub name_of : Verb → List ℕ
-name_of verb.Send = codes "send"
-name_of verb.Hello = codes "hello"
-name_of verb.Server = codes "server"
-name_of verb.Client = codes "client"
-name_of verb.Push = codes "push"
-name_of verb.Drop = codes "drop"
+abbrev pub verb_name : Verb → List ℕ
+verb_name verb.Send = codes "send"
+verb_name verb.Hello = codes "hello"
+verb_name verb.Server = codes "server"
+verb_name verb.Client = codes "client"
+verb_name verb.Push = codes "push"
+verb_name verb.Drop = codes "drop"
 
 -- what happens in an event
 abbrev pub verb_of : Event → Verb
@@ -52,13 +52,13 @@ verb_of (event.Push client items) = verb.Push
 verb_of (event.Drop client) = verb.Drop
 
 -- the client of an event
-abbrev pub client_of : Event → ℕ
-client_of (event.Send client command) = client
-client_of (event.Hello client asked) = client
-client_of (event.ToServer client count) = client
-client_of (event.ToClient client count) = client
-client_of (event.Push client items) = client
-client_of (event.Drop client) = client
+abbrev pub step_client : Event → ℕ
+step_client (event.Send client command) = client
+step_client (event.Hello client asked) = client
+step_client (event.ToServer client count) = client
+step_client (event.ToClient client count) = client
+step_client (event.Push client items) = client
+step_client (event.Drop client) = client
 
 -- the word for an item of a push; none but a bulk string has one
 abbrev pub item_word : Value → List ℕ
@@ -83,7 +83,7 @@ arguments_of (event.Drop client) = []
 -- the words for a step: an event, or None for `flush`
 abbrev pub step_words : Option Event → List (List ℕ)
 step_words None = codes "flush" ∷ []
-step_words (Some event) = name_of (verb_of event) ∷ decimal (client_of event) ∷ arguments_of event
+step_words (Some event) = verb_name (verb_of event) ∷ decimal (step_client event) ∷ arguments_of event
 
 -- this many bytes may be moved by one line
 abbrev pub IsMoved : ℕ → Type 0
@@ -96,14 +96,14 @@ HasRange (event.ToClient client count) = IsMoved count
 HasRange _ = Unit {0}
 
 -- the client of a step is one of this many, and its count is in its range
-abbrev pub IsInRange : ℕ → Option Event → Type 0
-IsInRange clients None = Unit {0}
-IsInRange clients (Some event) = (1 ≤ client_of event) × (client_of event ≤ clients) × HasRange event
+abbrev pub IsStepInRange : ℕ → Option Event → Type 0
+IsStepInRange clients None = Unit {0}
+IsStepInRange clients (Some event) = (1 ≤ step_client event) × (step_client event ≤ clients) × HasRange event
 
 -- the line says this step, where there are this many clients
 pub record SaysStep (clients : ℕ) (line : List ℕ) (step : Option Event) : Type 0 where
   pub words : AreWords line (step_words step)
-  pub range : IsInRange clients step
+  pub range : IsStepInRange clients step
 
 -- the words that name the number of clients
 abbrev pub clients_words : ℕ → List (List ℕ)

@@ -3,7 +3,7 @@ use Rattle.std.specs.Prelude.{◌≡◌, ◌⊎◌, ℕ, ◌+◌, ◌≤◌, ◌
 use Rattle.std.specs.List.{before_first, enumerate_from}
 use Rattle.std.specs.Str.{byte}
 use Rattle.resp_wire.specs.declared.event.Event.{Event}
-use Rattle.resp_script.specs.ScriptSteps.{SaysStep, SaysClients, joined, clients_words, step_words}
+use Rattle.resp_script.specs.ScriptSteps.{SaysStep, SaysClients, joined_words, clients_words, step_words}
 use Rattle.resp_script.specs.declared.script.Script.{Script}
 use Rattle.resp_script.specs.declared.script.ScriptError.{ScriptError}
 use Rattle.resp_script.specs.declared.script.ScriptError.TheVariants.{BadScript, Memory}
@@ -29,15 +29,15 @@ said_lines lines = filter (λ line. not (is_passed_over line.1)) (enumerate_from
 
 -- the line for a step, with its number
 abbrev pub step_line : ℕ × Option Event → ℕ × List ℕ
-step_line step = (step.0, joined (step_words step.1))
+step_line step = (step.0, joined_words (step_words step.1))
 
 -- The lines say this number of clients, and after it these steps, each with the number of its line. Nothing else
 -- stands there but what is passed over.
 pub record SayScript (clients : ℕ) (lines : List (List ℕ)) (steps : List (ℕ × Option Event)) : Type 0 where
   pub number : ℕ
-  pub in_turn : said_lines lines ≡ (number, joined (clients_words clients)) ∷ map step_line steps
-  pub clients_named : SaysClients (joined (clients_words clients)) clients
-  pub steps_said : All (λ step. SaysStep clients (joined (step_words step.1)) step.1) steps
+  pub in_turn : said_lines lines ≡ (number, joined_words (clients_words clients)) ∷ map step_line steps
+  pub clients_named : SaysClients (joined_words (clients_words clients)) clients
+  pub steps_said : All (λ step. SaysStep clients (joined_words (step_words step.1)) step.1) steps
 
 -- what lines say so far: nothing, or the number of clients and steps
 abbrev pub SaySoFar : Option ℕ → List (List ℕ) → List (ℕ × Option Event) → Type 0
@@ -94,9 +94,9 @@ abbrev pub IsRefusedAt : List ℕ → ℕ → Type 0
 IsRefusedAt text number =
     NameNoClients (lines_of text) × (number ≡ 1) ⊎ (NameNoClients (lines_of text) → ⊥) × IsFirstBad text number
 
-abbrev pub IsRefused : List ℕ → ScriptError → Type 0
-IsRefused text (BadScript number) = IsRefusedAt text number
-IsRefused text Memory = Unit {0}
+abbrev pub IsRefusedScript : List ℕ → ScriptError → Type 0
+IsRefusedScript text (BadScript number) = IsRefusedAt text number
+IsRefusedScript text Memory = Unit {0}
 
 -- the line that says why a script is not taken
 abbrev pub script_fault_line : ScriptError → List ℕ

@@ -2,5 +2,7 @@
 //! world of clients of one server.
 #![tactic(auto)]
 
+mod growing_sink;
+mod heard;
 pub mod play;
 pub mod script;

@@ -1,7 +1,7 @@
 //! The script of `loop`: lines, each an event for the client of a number.
 
 ghost use Rattle.std.specs.Prelude.{◌≡◌, ◌+◌, ◌-◌, ◌<◌, [], ◌∷◌, length, IfOk, IfErr, IfSome, IfNone, MatchBool};
-ghost use Rattle.resp_script.specs.Scripts.{IsRefused, IsScript, NameNoClients, lines_of};
+ghost use Rattle.resp_script.specs.Scripts.{IsRefusedScript, IsScript, NameNoClients, lines_of};
 ghost use Rattle.resp_tool.specs.Written.{WritesText};
 
 mod steps;
@@ -81,7 +81,7 @@ impl ScriptError {
 /// when out of memory.
 pub fn read_script(alloc: Global, bytes: &[u8]) -> Result<Script, ScriptError>
     ensures script { IfOk result (λ script. IsScript bytes.now script) }
-    ensures refused { IfErr result (λ error. IsRefused bytes.now error) }
+    ensures refused { IfErr result (λ error. IsRefusedScript bytes.now error) }
 {
     if !names_clients(bytes) {
         return Err(ScriptError::BadScript { line: 1 });
@@ -116,7 +116,7 @@ pub fn read_script(alloc: Global, bytes: &[u8]) -> Result<Script, ScriptError>
 }
 
 /// The first line of a text, without its LF, and what stands after that.
-fn first_line(text: &[u8]) -> Option<(&[u8], &[u8])>
+pub(crate) fn first_line(text: &[u8]) -> Option<(&[u8], &[u8])>
     ensures line { IfSome result (λ parts.
         lines_of text.now ≡ parts.0.now ∷ lines_of parts.1.now) }
     ensures left { IfSome result (λ parts.

@@ -8,7 +8,7 @@ use Rattle.resp_value.specs.Spellings.{IsViable}
 use Rattle.resp_session.specs.Answers.{Answers, server_rules}
 use Rattle.resp_session.specs.AnswerLaws.{AnswersGoOn, AnswersEnd}
 use Rattle.resp_session.specs.Stores.{Store}
-use Rattle.resp_server.specs.Answering.{IsTurn, IsAnswered, IsCutShort, state_with}
+use Rattle.resp_server.specs.Answering.{AnswersBytes, IsAnswered, IsCutShort, state_with}
 use Rattle.resp_server.specs.Running.{IsAsBefore}
 use Rattle.resp_server.specs.Reading.{HasTaken}
 use Rattle.resp_server.specs.declared.session.Session.{Session}
@@ -32,11 +32,11 @@ none_answered limits id store session front taken viable is_open = record {
 -- a turn more
 pub turn_answered : AnswersGoOn → (limits : Bounds) (id : ℕ) (store store' store'' : Store) (before middle after : Session) (front piece : List ℕ)
     (n used k commands : ℕ) → middle.closing ≡ false → (a : IsAnswered limits id store store' before middle (front ++ take n piece) k) →
-    IsTurn limits id store' store'' middle after a.rest (take (length piece - n) (drop n piece)) used commands →
+    AnswersBytes limits id store' store'' middle after a.rest (take (length piece - n) (drop n piece)) used commands →
     IsAnswered limits id store store'' before after (front ++ take (n + used) piece) (k + commands)
 turn_answered go_on limits id store store' store'' before middle after front piece n used k commands is_open a turn =
-    let t : IsTurn limits id store' store'' middle after a.rest (drop n piece) used commands =
-    subst (λ p. IsTurn limits id store' store'' middle after a.rest p used commands) (take_rest piece n) turn in
+    let t : AnswersBytes limits id store' store'' middle after a.rest (drop n piece) used commands =
+    subst (λ p. AnswersBytes limits id store' store'' middle after a.rest p used commands) (take_rest piece n) turn in
     let start = state_with store before.version [] false 0 in
     let more = take used (drop n piece) in
     let now = state_with store' middle.version a.reply false k in

@@ -21,7 +21,7 @@ use Rattle.resp_decode.proofs.Feeding.{no_value_at_start}
 use Rattle.resp_session.specs.Answers.{SessionState, Answers, BeginsNoValue, Ends, server_rules, after_value, after_error}
 use Rattle.resp_session.specs.Replies.{error}
 use Rattle.resp_session.specs.Stores.{Store}
-use Rattle.resp_server.specs.Answering.{IsAnswerTo, IsTurn, IsNamedFault, state_with}
+use Rattle.resp_server.specs.Answering.{IsAnswerTo, AnswersBytes, IsNamedFault, state_with}
 use Rattle.resp_server.specs.Reading.{HasTaken, Reading, ReadsOn, ReadsValue, Refuses}
 use Rattle.resp_server.specs.declared.session.Session.{Session}
 
@@ -171,7 +171,7 @@ pub refused_turn : (limits : Bounds) (id : ℕ) (store : Store) (before after : 
     RefusesByte (server_rules limits) front piece fault → after.version ≡ before.version → after.closing ≡ true →
     after.out.items ≡ before.out.items ++ canonical_text before.version
     (error (codes "ERR Protocol error: " ++ name_of fault.cause ++ codes " at byte " ++ decimal fault.at)) →
-    IsTurn limits id store store before after front piece (length piece) 0
+    AnswersBytes limits id store store before after front piece (length piece) 0
 refused_turn limits id store before after front piece fault refused version closes line =
     let reply = canonical_text before.version (error (codes "ERR Protocol error: " ++ name_of fault.cause ++ codes " at byte " ++ decimal fault.at)) in
     let whole : front ++ take (length piece) piece ≡ front ++ piece = ap (λ p. front ++ p) (take_all (length piece) piece (omega arith)) in
@@ -192,7 +192,7 @@ refused_turn limits id store before after front piece fault refused version clos
 -- the turn of a piece in which no value ended
 pub waiting_turn : (limits : Bounds) (id : ℕ) (store : Store) (before after : Session) (front piece : List ℕ) (used : ℕ) →
     ReadsOn (server_rules limits) after.decoder (front ++ piece) piece used → after.version ≡ before.version → after.closing ≡ false →
-    after.out.items ≡ before.out.items → IsTurn limits id store store before after front piece used 0
+    after.out.items ≡ before.out.items → AnswersBytes limits id store store before after front piece used 0
 waiting_turn limits id store before after front piece used taken version is_open out =
     let is = taken.whole_piece in
     let whole : front ++ take used piece ≡ front ++ piece = ap (λ p. front ++ p) (take_all used piece (omega (arith, is))) in
@@ -216,7 +216,7 @@ waiting_turn limits id store before after front piece used taken version is_open
 pub spelled_turn : NoSpellingIsEmpty → TheEmptyTextIsViable → (limits : Bounds) → AreBounds limits → (id : ℕ) (store store' : Store)
     (before after : Session) (front piece : List ℕ) (x : Datum) (used commands : ℕ) → HasNoValue front →
     IsSpelling (server_rules limits) x (front ++ take used piece) → used ≤ length piece → HasTaken after.decoder [] →
-    IsAnswerTo id x store store' before after commands → IsTurn limits id store store' before after front piece used commands
+    IsAnswerTo id x store store' before after commands → AnswersBytes limits id store store' before after front piece used commands
 spelled_turn full empty limits bounds id store store' before after front piece x used commands none spelled within takes answered = record {
   reply = answered.reply;
   rest = [];
@@ -233,7 +233,7 @@ spelled_turn full empty limits bounds id store store' before after front piece x
 pub value_turn : NoSpellingIsEmpty → TheEmptyTextIsViable → (limits : Bounds) → AreBounds limits → (id : ℕ) (store store' : Store)
     (before after : Session) (front piece : List ℕ) (reading : Reading) (value : Value) (used commands : ℕ) →
     HasNoValue front → ReadsValue (server_rules limits) reading (front ++ take used piece) value → used ≤ length piece → after.decoder ≡ reading →
-    IsAnswerTo id (datum_of value) store store' before after commands → IsTurn limits id store store' before after front piece used commands
+    IsAnswerTo id (datum_of value) store store' before after commands → AnswersBytes limits id store store' before after front piece used commands
 value_turn full empty limits bounds id store store' before after front piece reading value used commands none given within kept answered =
     spelled_turn full empty limits bounds id store store' before after front piece (datum_of value) used commands none given.spelling within
     (subst (λ d. HasTaken d []) (sym kept) given.takes) answered

@@ -10,7 +10,7 @@ use Rattle.resp_session.specs.Answers.{server_rules}
 use Rattle.resp_session.specs.Fitting.{EffectsFit, FitsEffect, FitsStore}
 use Rattle.resp_session.specs.Operations.{Operation, operation_of}
 use Rattle.resp_session.specs.Stores.{Store, effect_of}
-use Rattle.resp_server.specs.Answering.{IsTurn}
+use Rattle.resp_server.specs.Answering.{AnswersBytes}
 use Rattle.resp_server.specs.Reading.{HasTaken}
 use Rattle.resp_server.specs.Running.{HasEffect, HasSameRest}
 use Rattle.resp_server.specs.Whole.{BeginsWithCommand, lent_operation}
@@ -48,7 +48,7 @@ pub whole_turn : NoSpellingIsEmpty → TheEmptyTextIsViable → ACommandIsItsWor
     (before after : Session) (piece rest : List ℕ) (command : Lent) → HasTaken before.decoder [] → before.closing ≡ false →
     (begins : BeginsWithCommand limits piece (lent_operation command) rest) →
     HasEffect store' before after (effect_of store before.version 0 (lent_operation command)) → HasSameRest before after →
-    IsTurn limits id store store' before after [] piece (length piece - length rest) 1
+    AnswersBytes limits id store store' before after [] piece (length piece - length rest) 1
 whole_turn full empty words_law limits bounds id store store' before after piece rest command between is_open begins effect same =
     let all : List (List ℕ) = begins.name ∷ begins.arguments in
     let (bytes, within) = used_is piece begins.written rest begins.whole in

@@ -83,5 +83,5 @@ pub record IsOpened (old new : HubState) (id : ℕ) : Type 0 where
   }
 
 -- as many sessions are open as can be, or the ids are used up
-abbrev pub IsFull : HubState → Type 0
-IsFull hub = (65536 ≤ length hub.sessions) ⊎ (9223372036854775807 ≤ hub.last)
+abbrev pub HasNoSessionLeft : HubState → Type 0
+HasNoSessionLeft hub = (65536 ≤ length hub.sessions) ⊎ (9223372036854775807 ≤ hub.last)

@@ -17,25 +17,26 @@ TakesPushes None = ⊥
 TakesPushes (Some s) = (s.closing ≡ false) × (s.version ≡ Three)
 
 -- the session refuses the push for this reason, and has none before it; OutOfMemory comes only where it has none
-abbrev pub RefusesPush : Bounds → Option Seat → Datum → PushError → Type 0
-RefusesPush limits seat push NoSession = seat ≡ None
-RefusesPush limits None push error = ⊥
-RefusesPush limits (Some s) push Closing = s.closing ≡ true
-RefusesPush limits (Some s) push NotInVersion = (s.closing ≡ false) × (s.version ≡ Two)
-RefusesPush limits (Some s) push Double = TakesPushes (Some s) × (AllowsDoubles limits push → ⊥)
-RefusesPush limits (Some s) push NestedPush =
+abbrev pub HubRefusesPush : Bounds → Option Seat → Datum → PushError → Type 0
+HubRefusesPush limits seat push NoSession = seat ≡ None
+HubRefusesPush limits None push error = ⊥
+HubRefusesPush limits (Some s) push Closing = s.closing ≡ true
+HubRefusesPush limits (Some s) push NotInVersion = (s.closing ≡ false) × (s.version ≡ Two)
+HubRefusesPush limits (Some s) push Double = TakesPushes (Some s) × (AllowsDoubles limits push → ⊥)
+HubRefusesPush limits (Some s) push NestedPush =
     TakesPushes (Some s) × AllowsDoubles limits push × (HasPushAtTop push → ⊥)
-RefusesPush limits (Some s) push (OverLimits limit) =
-    TakesPushes (Some s) × AllowsDoubles limits push × HasPushAtTop push × IsFirstOver (rules_under Three limits) push limit
-RefusesPush limits (Some s) push OutOfMemory = TakesPushes (Some s) × Fits (rules_under Three limits) push
+HubRefusesPush limits (Some s) push (OverLimits limit) =
+    TakesPushes (Some s) × AllowsDoubles limits push × HasPushAtTop push ×
+    IsFirstOver (rules_under Three limits) push limit
+HubRefusesPush limits (Some s) push OutOfMemory = TakesPushes (Some s) × Fits (rules_under Three limits) push
 
 -- a push is queued where the session takes pushes and it is within the limits, and else it is refused for the first
 -- reason, OutOfMemory aside
 pub record IsPushVerdict (limits : Bounds) (seat : Option Seat) (push : Datum) (result : Result (Unit {0}) PushError) :
     Type 0 where
   pub taken : OnOk result (TakesPushes seat × Fits (rules_under Three limits) push)
-  pub first : IfErr result (RefusesPush limits seat push)
-  pub every : (error : PushError) → error ≢ OutOfMemory → RefusesPush limits seat push error → IsErrOf result error
+  pub first : IfErr result (HubRefusesPush limits seat push)
+  pub every : (error : PushError) → error ≢ OutOfMemory → HubRefusesPush limits seat push error → IsErrOf result error
 
 -- why a push is refused that is not encoded for this reason
 abbrev pub push_error : EncodeError → PushError

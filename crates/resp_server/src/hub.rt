@@ -66,7 +66,7 @@ impl<S: BuildHasher> Model for Hub<S> {
 
 impl<S: BuildHasher> Hub<S> {
     ghost use Rattle.resp_server.specs.Hubs.{HubState, Seat, seat_at, seated, without_seat};
-    ghost use Rattle.resp_server.specs.Hubs.{IsOpened, IsFull};
+    ghost use Rattle.resp_server.specs.Hubs.{IsOpened, HasNoSessionLeft};
 
     /// A hub without a session, over an empty store, whose sessions read and write within these
     /// limits. Takes no memory.
@@ -170,7 +170,7 @@ impl<S: BuildHasher> Hub<S> {
     /// were given, and else when out of memory. Then nothing is changed.
     pub fn open(&mut self) -> Result<u64, OpenError>
         ensures opened { IfOk result (IsOpened self.old self.new) }
-        ensures too_many { IsErrOf result OpenError.TooManySessions ↔ IsFull self.old }
+        ensures too_many { IsErrOf result OpenError.TooManySessions ↔ HasNoSessionLeft self.old }
         ensures unchanged { OnErr result (self.new ≡ self.old) }
     {
         if self.sessions.len() >= 65_536 || self.last >= 9_223_372_036_854_775_807 {

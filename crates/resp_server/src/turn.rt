@@ -4,7 +4,7 @@ ghost use Rattle.std.specs.Prelude.{◌≡◌, ◌<◌, ◌≤◌, ◌^◌, List
 ghost use Rattle.resp_value.specs.declared.cause.Cause.TheVariants.{OutOfMemory};
 ghost use Rattle.resp_session.specs.Answers.{server_rules};
 ghost use Rattle.resp_session.specs.Fitting.{FitsStore};
-ghost use Rattle.resp_server.specs.Answering.{IsTurn, IsRefused, IsNamedFault};
+ghost use Rattle.resp_server.specs.Answering.{AnswersBytes, AnswersFault, IsNamedFault};
 ghost use Rattle.resp_server.specs.Reading.{HasTaken, ReadsBy, WhereTaken};
 ghost use Rattle.resp_server.specs.Running.{IsAsBefore};
 ghost use Rattle.resp_server.specs.Whole.{BeginsWithCommand, lent_operation};
@@ -48,8 +48,8 @@ pub(crate) fn take_turn<S: BuildHasher>(
     requires reading { ReadsBy (server_rules limits.now) session.old.decoder }
     requires taking { (front : List ℕ) × HasTaken session.old.decoder front }
     ensures answered { WhereTaken session.old.decoder (λ front. IfOk result (λ turn.
-        IsTurn limits.now id store.old store.new session.old session.new front piece.now turn.used
-        turn.commands)) }
+        AnswersBytes limits.now id store.old store.new session.old session.new front piece.now
+        turn.used turn.commands)) }
     ensures unchanged { OnErr result (IsAsBefore store.old store.new session.old session.new) }
     ensures stored { FitsStore limits.now store.new }
     ensures reading { ReadsBy (server_rules limits.now) session.new.decoder }
@@ -79,8 +79,8 @@ fn run_whole<S: BuildHasher>(
     requires between { HasTaken session.old.decoder [] }
     requires begins { BeginsWithCommand limits.now piece.now (lent_operation whole.command)
         whole.rest.now }
-    ensures answered { IfOk result (λ turn. IsTurn limits.now id store.old store.new session.old
-        session.new [] piece.now turn.used turn.commands) }
+    ensures answered { IfOk result (λ turn. AnswersBytes limits.now id store.old store.new
+        session.old session.new [] piece.now turn.used turn.commands) }
     ensures unchanged { OnErr result (IsAsBefore store.old store.new session.old session.new) }
     ensures stored { FitsStore limits.now store.new }
     ensures same_decoder { session.new.decoder ≡ session.old.decoder }
@@ -111,8 +111,8 @@ fn read_turn<S: BuildHasher>(
     requires reading { ReadsBy (server_rules limits.now) session.old.decoder }
     requires taking { (front : List ℕ) × HasTaken session.old.decoder front }
     ensures answered { WhereTaken session.old.decoder (λ front. IfOk result (λ turn.
-        IsTurn limits.now id store.old store.new session.old session.new front piece.now turn.used
-        turn.commands)) }
+        AnswersBytes limits.now id store.old store.new session.old session.new front piece.now
+        turn.used turn.commands)) }
     ensures unchanged { OnErr result (IsAsBefore store.old store.new session.old session.new) }
     ensures stored { FitsStore limits.now store.new }
     ensures reading { ReadsBy (server_rules limits.now) session.new.decoder }
@@ -148,7 +148,7 @@ fn refuse(
     fault: Fault,
 ) -> Result<(), AllocError>
     requires { (fault.cause ≡ OutOfMemory → ⊥) → IsNamedFault fault }
-    ensures refused { OnOk result (IsRefused session.old session.new fault) }
+    ensures refused { OnOk result (AnswersFault session.old session.new fault) }
     ensures unchanged { OnErr result (session.new.out.items ≡ session.old.out.items) }
     ensures same_version { session.new.version ≡ session.old.version }
     ensures same_decoder { session.new.decoder ≡ session.old.decoder }

@@ -23,7 +23,7 @@ use Rattle.resp_encode.specs.declared.error.EncodeToError.{EncodeToError}
 use Rattle.resp_encode.specs.declared.error.EncodeToError.TheVariants as to
 use Rattle.resp_tool.specs.Canons.{HasDecoded, stop_at, stop_for, stop_of}
 use Rattle.resp_tool.specs.Counts.{LeavesNothing}
-use Rattle.resp_tool.specs.Takings.{Declines, Ends, IsByteFault, IsEndFault, Refuses, Takes, TakesFront, TakesValue}
+use Rattle.resp_tool.specs.Takings.{Declines, EndsInput, IsByteFault, IsEndFault, RefusesInput, Takes, TakesUnfinished, WritesValue}
 use Rattle.resp_tool.specs.Takings as tool
 use Rattle.resp_tool.specs.Written.{AppendsPart, BreaksText}
 use Rattle.resp_tool.proofs.Scanned.{ends_inside, no_spelling_without_value, no_value_at_start, value_uses_some}
@@ -34,7 +34,7 @@ use Rattle.resp_tool.proofs.WrittenLemmas.{Appends-none}
 pub decodes_value : (r : Rules) (d : Decoder) (front piece so_far : List ℕ) (before after : Option (List ℕ)) (used : ℕ) (x y : Value) → y ≡ x →
     HasNoValue front → so_far ≡ [] → GivesValue r d (front ++ take used piece) x → rules_of d.scanner ≡ r → Fits r (datum_of y) →
     Appends before after (canonical_text r.version (datum_of y)) →
-    (0 < used) × TakesValue r (canonical_text r.version) (Fits r) (HasDecoded r d) (front ++ take used piece) so_far before after
+    (0 < used) × WritesValue r (canonical_text r.version) (Fits r) (HasDecoded r d) (front ++ take used piece) so_far before after
 decodes_value r d front piece so_far before after used x y is none nothing given same fits appended = (
   value_uses_some front piece used given.spelling.tree none given.spelling.spells,
   record {
@@ -51,7 +51,7 @@ decodes_value r d front piece so_far before after used x y is none nothing given
 -- a piece that was taken whole
 pub decodes_front : (r : Rules) (d : Decoder) (front piece so_far : List ℕ) (held : Option (List ℕ)) (used : ℕ) → so_far ≡ [] →
     TakesPiece r d (front ++ piece) piece used → rules_of d.scanner ≡ r →
-    (used ≡ length piece) × TakesFront r (HasDecoded r d) (front ++ piece) so_far held held
+    (used ≡ length piece) × TakesUnfinished r (HasDecoded r d) (front ++ piece) so_far held held
 decodes_front r d front piece so_far held used nothing taken same = (
   taken.whole_piece,
   record {
@@ -163,7 +163,7 @@ decoder_stops r H front piece so_far held fault nothing (inl w) =
     subst (λ c. Takes r (canonical_text r.version) (Fits r) LeavesNothing LeavesNothing H front piece so_far held held (Err (stop_for c fault))) (sym w.names)
     (by_rule w.rule)
   where
-    refuses : Refuses r (IsByteFault r) LeavesNothing (front ++ piece) so_far held held fault.cause fault.at
+    refuses : RefusesInput r (IsByteFault r) LeavesNothing (front ++ piece) so_far held held fault.cause fault.at
     refuses = record {
       fault = record { rule = w.rule; names = w.names; fault_of = w.fault_of };
       no_spelling = w.no_value;
@@ -192,13 +192,13 @@ decoder_stops r H front piece so_far held fault nothing (inr w) =
 pub decoder_ends : (r : Rules) (front so_far : List ℕ) (held : Option (List ℕ)) (fault : Fault) → so_far ≡ [] → HasNoValue front →
     IsViable r WithinTotal front →
     fault.cause ≡ cause.Truncated → fault.at ≡ length front → (front ≡ [] → ⊥) →
-    Ends r (canonical_text r.version) LeavesNothing LeavesNothing front so_far held held (Err (stop_at fault))
+    EndsInput r (canonical_text r.version) LeavesNothing LeavesNothing front so_far held held (Err (stop_at fault))
 decoder_ends r front so_far held fault nothing none viable names place begun =
-    let refuses : Refuses r (IsEndFault r) LeavesNothing front so_far held held fault.cause fault.at = record {
+    let refuses : RefusesInput r (IsEndFault r) LeavesNothing front so_far held held fault.cause fault.at = record {
       fault = ends_inside r front fault.cause fault.at viable names place begun;
       no_spelling = no_spelling_without_value r front none;
       more = [];
       appended = Appends-none held;
       is_left = append-nil so_far ∙ nothing;
     } in
-    subst (λ c. Ends r (canonical_text r.version) LeavesNothing LeavesNothing front so_far held held (Err (stop_for c fault))) (sym names) refuses
+    subst (λ c. EndsInput r (canonical_text r.version) LeavesNothing LeavesNothing front so_far held held (Err (stop_for c fault))) (sym names) refuses

@@ -11,3 +11,5 @@ pub mod Decoded
 pub mod ShownTrees
 pub mod PageLemmas
 pub mod Showing
+pub mod BegunLemmas
+pub mod CauseTexts

@@ -13,7 +13,7 @@ use Rattle.resp_value.specs.Devices.{Appends}
 use Rattle.resp_value.specs.declared.cause.Cause.{Cause}
 use Rattle.resp_scan.specs.Reading.{HasNoSpelling}
 use Rattle.resp_tool.specs.Stops.{error_of}
-use Rattle.resp_tool.specs.Takings.{Ends, IsByteFault, IsEndFault, Refuses, Declines, Takes, TakesFront, TakesValue, WritesPart}
+use Rattle.resp_tool.specs.Takings.{EndsInput, IsByteFault, IsEndFault, RefusesInput, Declines, Takes, TakesUnfinished, WritesValue, WritesPart}
 use Rattle.resp_tool.specs.Streams.{HasRendered, IsBeforeEnd, RendersCounted, RendersFront, RendersMost, RendersPart, RendersStopped, RendersUpTo, most_values}
 use Rattle.resp_tool.specs.declared.stream.Totals.{Totals}
 use Rattle.resp_tool.specs.declared.rendering.Taken.{Taken}
@@ -48,7 +48,7 @@ text_on text xs x = flat_map-append text xs (x ∷ []) ∙ ap (λ last. flat_map
 
 -- a value more
 pub renders_value : (r : Rules) (text : Datum → List ℕ) (W : Datum → Type 0) (H H' : List ℕ → List ℕ → Type 0) (bytes piece : List ℕ)
-    (start mid after : Option (List ℕ)) (n : ℕ) (s : HasRendered r text W H bytes start mid n) → TakesValue r text W H' (s.begun ++ piece) s.so_far mid after →
+    (start mid after : Option (List ℕ)) (n : ℕ) (s : HasRendered r text W H bytes start mid n) → WritesValue r text W H' (s.begun ++ piece) s.so_far mid after →
     HasRendered r text W H' (bytes ++ piece) start after (n + 1)
 renders_value r text W H H' bytes piece start mid after n s t = record {
   values = s.values ++ t.value ∷ [];
@@ -71,7 +71,7 @@ renders_value r text W H H' bytes piece start mid after n s t = record {
 -- more of the value that was begun
 pub renders_on : (r : Rules) (text : Datum → List ℕ) (W : Datum → Type 0) (H H' : List ℕ → List ℕ → Type 0) (bytes piece : List ℕ)
     (start mid after : Option (List ℕ)) (n : ℕ) → (n ≡ most_values → ⊥) → (s : HasRendered r text W H bytes start mid n) →
-    TakesFront r H' (s.begun ++ piece) s.so_far mid after → HasRendered r text W H' (bytes ++ piece) start after n
+    TakesUnfinished r H' (s.begun ++ piece) s.so_far mid after → HasRendered r text W H' (bytes ++ piece) start after n
 renders_on r text W H H' bytes piece start mid after n few s t = record {
   values = s.values;
   front = s.front;
@@ -96,8 +96,8 @@ pub took_value : (r : Rules) (text : Datum → List ℕ) (W : Datum → Type 0) 
     (start mid after : Option (List ℕ)) (n : ℕ) (taken : Taken) → TakesOf r text W L B H H' piece mid after (Ok taken) → taken.is_whole ≡ true →
     HasRendered r text W H bytes start mid n → (0 < taken.used) × HasRendered r text W H' (bytes ++ take taken.used piece) start after (n + 1)
 took_value r text W L B H H' bytes piece start mid after n taken takes whole s =
-    let t = subst (λ b. MatchBool b ((0 < taken.used) × TakesValue r text W H' (s.begun ++ take taken.used piece) s.so_far mid after)
-    ((taken.used ≡ length piece) × TakesFront r H' (s.begun ++ piece) s.so_far mid after)) whole (takes s.begun s.so_far s.takes) in
+    let t = subst (λ b. MatchBool b ((0 < taken.used) × WritesValue r text W H' (s.begun ++ take taken.used piece) s.so_far mid after)
+    ((taken.used ≡ length piece) × TakesUnfinished r H' (s.begun ++ piece) s.so_far mid after)) whole (takes s.begun s.so_far s.takes) in
     (t.0, renders_value r text W H H' bytes (take taken.used piece) start mid after n s t.1)
 
 pub took_front : (r : Rules) (text : Datum → List ℕ) (W : Datum → Type 0) (L B H H' : List ℕ → List ℕ → Type 0) (bytes piece : List ℕ)
@@ -105,8 +105,8 @@ pub took_front : (r : Rules) (text : Datum → List ℕ) (W : Datum → Type 0) 
     taken.is_whole ≡ false → HasRendered r text W H bytes start mid n →
     (taken.used ≡ length piece) × HasRendered r text W H' (bytes ++ take taken.used piece) start after n
 took_front r text W L B H H' bytes piece start mid after n taken few takes whole s =
-    let t = subst (λ b. MatchBool b ((0 < taken.used) × TakesValue r text W H' (s.begun ++ take taken.used piece) s.so_far mid after)
-    ((taken.used ≡ length piece) × TakesFront r H' (s.begun ++ piece) s.so_far mid after)) whole (takes s.begun s.so_far s.takes) in
+    let t = subst (λ b. MatchBool b ((0 < taken.used) × WritesValue r text W H' (s.begun ++ take taken.used piece) s.so_far mid after)
+    ((taken.used ≡ length piece) × TakesUnfinished r H' (s.begun ++ piece) s.so_far mid after)) whole (takes s.begun s.so_far s.takes) in
     let all : take taken.used piece ≡ piece = ap (λ k. take k piece) t.0 ∙ take_all (length piece) piece (omega arith) in
     (t.0, subst (λ z. HasRendered r text W H' (bytes ++ z) start after n) (sym all) (renders_on r text W H H' bytes piece start mid after n few s t.1))
 
@@ -124,7 +124,7 @@ no_more r rest none x next beyond spelling is =
 pub renders_refused : (r : Rules) (text : Datum → List ℕ) (W : Datum → Type 0) (F : List ℕ → Cause → ℕ → Type 0) (L H : List ℕ → List ℕ → Type 0)
     (bytes piece : List ℕ) (start mid after : Option (List ℕ)) (n : ℕ) (c : Cause) (at : ℕ) (s : HasRendered r text W H bytes start mid n) →
     ((rest : List ℕ) → F rest c at → IsByteFault r rest c at ⊎ IsEndFault r rest c at) →
-    Refuses r F L (s.begun ++ piece) s.so_far mid after c at → RendersFront r text W L (bytes ++ piece) start after (n + 1) c at
+    RefusesInput r F L (s.begun ++ piece) s.so_far mid after c at → RendersFront r text W L (bytes ++ piece) start after (n + 1) c at
 renders_refused r text W F L H bytes piece start mid after n c at s why t = record {
   values = s.values;
   rest = s.begun ++ piece;
@@ -301,7 +301,7 @@ none_before (byte ∷ front) beyond is = absurd (cc)
 
 -- what holds at the end of the input
 abbrev pub EndsOf : (r : Rules) (text : Datum → List ℕ) (L B H : List ℕ → List ℕ → Type 0) (mid after : Option (List ℕ)) → Result (Unit {0}) Stop → Type 0
-EndsOf r text L B H mid after result = (front so_far : List ℕ) → H front so_far → Ends r text L B front so_far mid after result
+EndsOf r text L B H mid after result = (front so_far : List ℕ) → H front so_far → EndsInput r text L B front so_far mid after result
 
 -- the end between two values
 pub renders_counted : (r : Rules) (text : Datum → List ℕ) (W : Datum → Type 0) (L B H : List ℕ → List ℕ → Type 0) (bytes : List ℕ)
@@ -335,7 +335,7 @@ pub ended_stop : (r : Rules) (text : Datum → List ℕ) (W : Datum → Type 0) 
     (start mid after : Option (List ℕ)) (n : ℕ) (why : Stop) → EndsOf r text L B H mid after (Err why) → HasRendered r text W H bytes start mid n →
     RendersStopped r text W L B bytes start after (error_of (n + 1) why)
 ended_stop r text W L B H bytes start mid after n (stop.Fault fault) ends s =
-    let refused = subst (λ z. Refuses r (IsEndFault r) L z s.so_far mid after fault.cause fault.at) (sym (append-nil s.begun))
+    let refused = subst (λ z. RefusesInput r (IsEndFault r) L z s.so_far mid after fault.cause fault.at) (sym (append-nil s.begun))
     (ends s.begun s.so_far s.takes) in
     subst (λ z. RendersFront r text W L z start after (n + 1) fault.cause fault.at) (append-nil bytes)
     (renders_refused r text W (IsEndFault r) L H bytes [] start mid after n fault.cause fault.at s (λ rest f. inr f) refused)

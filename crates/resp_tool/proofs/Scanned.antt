@@ -19,7 +19,7 @@ use Rattle.resp_scan.specs.declared.event.Fault.{Fault}
 use Rattle.resp_scan.specs.declared.event.Scanned.{Scanned}
 use Rattle.resp_tool.specs.Counts.{IsAny, LeavesNothing, no_text}
 use Rattle.resp_tool.specs.Scans.{HasLookedAt, HasScanned}
-use Rattle.resp_tool.specs.Takings.{IsByteFault, IsEndFault, Refuses, TakesFront, TakesValue}
+use Rattle.resp_tool.specs.Takings.{IsByteFault, IsEndFault, RefusesInput, TakesUnfinished, WritesValue}
 use Rattle.resp_tool.proofs.WrittenLemmas.{Appends-none}
 
 -- nothing is due of no byte
@@ -129,13 +129,13 @@ pub looks_on : (r : Rules) (s s' : Place) (H : Events → Type 0) (front piece s
     (scanned.is_whole ≡ false → scanned.used ≡ length piece) →
     ((bytes : List ℕ) (given : Events) → HasRead s' bytes given → IsViable r WithinTotal bytes) →
     MatchBool scanned.is_whole
-    ((0 < scanned.used) × TakesValue r no_text IsAny (HasLookedAt s') (front ++ take scanned.used piece) so_far held held)
-    ((scanned.used ≡ length piece) × TakesFront r (HasLookedAt s') (front ++ piece) so_far held held)
+    ((0 < scanned.used) × WritesValue r no_text IsAny (HasLookedAt s') (front ++ take scanned.used piece) so_far held held)
+    ((scanned.used ≡ length piece) × TakesUnfinished r (HasLookedAt s') (front ++ piece) so_far held held)
 looks_on r s s' H front piece so_far held scanned looked whole part all viable = case scanned.is_whole refl
   where
     case : (b : Bool) → scanned.is_whole ≡ b → MatchBool b
-        ((0 < scanned.used) × TakesValue r no_text IsAny (HasLookedAt s') (front ++ take scanned.used piece) so_far held held)
-        ((scanned.used ≡ length piece) × TakesFront r (HasLookedAt s') (front ++ piece) so_far held held)
+        ((0 < scanned.used) × WritesValue r no_text IsAny (HasLookedAt s') (front ++ take scanned.used piece) so_far held held)
+        ((scanned.used ≡ length piece) × TakesUnfinished r (HasLookedAt s') (front ++ piece) so_far held held)
     case true is =
         let ((given, scanned_so), nothing) = looked in
         let h = whole given scanned_so.reads is in (
@@ -166,7 +166,7 @@ looks_on r s s' H front piece so_far held scanned looked whole part all viable =
 pub looks_refused : (r : Rules) (s : Place) (H : Events → Type 0) (front piece so_far : List ℕ) (held : Option (List ℕ)) (fault : Fault) →
     FrontsOfViableTextsAreViable → HasLookedAt s front so_far →
     ((given : Events) → HasRead s front given → HearsRefusal r H front piece fault) →
-    Refuses r (IsByteFault r) LeavesNothing (front ++ piece) so_far held held fault.cause fault.at
+    RefusesInput r (IsByteFault r) LeavesNothing (front ++ piece) so_far held held fault.cause fault.at
 looks_refused r s H front piece so_far held fault law looked refusal =
     let ((given, scanned_so), nothing) = looked in
     let h = refusal given scanned_so.reads in
@@ -181,7 +181,7 @@ looks_refused r s H front piece so_far held fault law looked refusal =
 -- the end of the input inside a value
 pub looks_truncated : (r : Rules) (front so_far : List ℕ) (held : Option (List ℕ)) (c : Cause) (at : ℕ) → HasNoValue front → IsViable r WithinTotal front →
     c ≡ cause.Truncated → at ≡ length front → (front ≡ [] → ⊥) → so_far ≡ [] →
-    Refuses r (IsEndFault r) LeavesNothing front so_far held held c at
+    RefusesInput r (IsEndFault r) LeavesNothing front so_far held held c at
 looks_truncated r front so_far held c at none viable names place begun nothing = record {
   fault = ends_inside r front c at viable names place begun;
   no_spelling = no_spelling_without_value r front none;

@@ -13,3 +13,5 @@ pub mod Canons
 pub mod Counts
 pub mod Laws
 pub mod Runs
+pub mod Begun
+pub mod Explained

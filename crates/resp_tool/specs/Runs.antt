@@ -14,10 +14,11 @@ use Rattle.resp_tool.specs.declared.options.Task.TheVariants.{Show, Check, Canon
 use Rattle.resp_tool.specs.declared.tool_error.ToolError.{ToolError}
 
 -- what a task has written of bytes that were read, by how it ended
-abbrev pub RunsTo : Task → Rules → List ℕ → Option (List ℕ) → Option (List ℕ) → Result (Unit {0}) ToolError → Type 0
-RunsTo Show r bytes before after result = Renders r shown_text IsAny IsShownOf (IsShownIn r) bytes before after result
-RunsTo Check r bytes before after result = Counts r bytes before after result
-RunsTo Canon r bytes before after result =
+abbrev pub TaskWrites : Task → Rules → List ℕ → Option (List ℕ) → Option (List ℕ) → Result (Unit {0}) ToolError → Type 0
+TaskWrites Show r bytes before after result =
+    Renders r shown_text IsAny IsShownOf (IsShownIn r) bytes before after result
+TaskWrites Check r bytes before after result = Counts r bytes before after result
+TaskWrites Canon r bytes before after result =
     Renders r (canonical_text r.version) (Fits r) LeavesNothing LeavesNothing bytes before after result
 
 -- at each read of a task that writes as it reads, what is due by then had been sent
@@ -33,9 +34,9 @@ status_of_run (Ok x) = 0
 status_of_run (Err e) = status_of e
 
 -- nothing is said of what ended well, and of what was refused or failed its line; or one write of that failed
-abbrev pub Tells : Option (List ℕ) → Option (List ℕ) → ℕ → ℕ → Result (Unit {0}) ToolError → Type 0
-Tells said said' failures failures' (Ok x) = (said' ≡ said) × (failures' ≡ failures)
-Tells said said' failures failures' (Err error) = TriesText said said' failures failures' (fault_line error)
+abbrev pub TellsOutcome : Option (List ℕ) → Option (List ℕ) → ℕ → ℕ → Result (Unit {0}) ToolError → Type 0
+TellsOutcome said said' failures failures' (Ok x) = (said' ≡ said) × (failures' ≡ failures)
+TellsOutcome said said' failures failures' (Err error) = TriesText said said' failures failures' (fault_line error)
 
 -- the line of a failure that ends the program with status 3 was told; or one write of that failed
 abbrev pub TellsFailure : Option (List ℕ) → Option (List ℕ) → ℕ → ℕ → Type 0
@@ -51,7 +52,7 @@ pub record HasRun (left left' before after said said' : Option (List ℕ)) (look
   pub result : Result (Unit {0}) ToolError
   pub read : AreRead left left' bytes
   pub to_its_end : AtEnd result (IfSome left (λ _. left' ≡ Some []))
-  pub ran : RunsTo task rules bytes before after result
+  pub ran : TaskWrites task rules bytes before after result
   pub live : Lives task rules left before looks looks'
   pub ended : status_of_run result ≡ status
-  pub told : Tells said said' failures failures' result
+  pub told : TellsOutcome said said' failures failures' result

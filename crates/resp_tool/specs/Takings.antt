@@ -27,7 +27,7 @@ pub record IsEndFault (r : Rules) (bytes : List ℕ) (c : Cause) (at : ℕ) : Ty
 
 -- the bytes are a spelling of a value that is written, the rest of its text was appended, and nothing is taken of the
 -- next
-pub record TakesValue (r : Rules) (text : Datum → List ℕ) (IsWritten : Datum → Type 0)
+pub record WritesValue (r : Rules) (text : Datum → List ℕ) (IsWritten : Datum → Type 0)
     (HasTaken : List ℕ → List ℕ → Type 0) (bytes so_far : List ℕ) (before after : Option (List ℕ)) : Type 0 where
   pub value : Datum
   pub spelling : IsSpelling r value bytes
@@ -38,7 +38,7 @@ pub record TakesValue (r : Rules) (text : Datum → List ℕ) (IsWritten : Datum
   pub takes : HasTaken [] []
 
 -- no value has ended in the bytes, they are viable, and were taken
-pub record TakesFront (r : Rules) (HasTaken : List ℕ → List ℕ → Type 0) (bytes so_far : List ℕ)
+pub record TakesUnfinished (r : Rules) (HasTaken : List ℕ → List ℕ → Type 0) (bytes so_far : List ℕ)
     (before after : Option (List ℕ)) : Type 0 where
   pub no_value : HasNoValue bytes
   pub viable : IsViable r WithinTotal bytes
@@ -47,7 +47,7 @@ pub record TakesFront (r : Rules) (HasTaken : List ℕ → List ℕ → Type 0) 
   pub takes : HasTaken bytes (so_far ++ more)
 
 -- the bytes are refused, no front of them is a spelling, and what stands of them was written
-pub record Refuses (r : Rules) (IsFault : List ℕ → Cause → ℕ → Type 0) (IsLeft : List ℕ → List ℕ → Type 0)
+pub record RefusesInput (r : Rules) (IsFault : List ℕ → Cause → ℕ → Type 0) (IsLeft : List ℕ → List ℕ → Type 0)
     (bytes so_far : List ℕ) (before after : Option (List ℕ)) (c : Cause) (at : ℕ) : Type 0 where
   pub fault : IsFault bytes c at
   pub no_spelling : HasNoSpelling r bytes
@@ -89,20 +89,21 @@ abbrev pub Takes : Rules → (Datum → List ℕ) → (Datum → Type 0) → (Li
     Option (List ℕ) → Result Taken Stop → Type 0
 Takes r text IsWritten IsLeft IsBegun HasTaken front piece so_far before after (Ok taken) =
     MatchBool taken.is_whole
-    ((0 < taken.used) × TakesValue r text IsWritten HasTaken (front ++ take taken.used piece) so_far before after)
-    ((taken.used ≡ length piece) × TakesFront r HasTaken (front ++ piece) so_far before after)
+    ((0 < taken.used) × WritesValue r text IsWritten HasTaken (front ++ take taken.used piece) so_far before after)
+    ((taken.used ≡ length piece) × TakesUnfinished r HasTaken (front ++ piece) so_far before after)
 Takes r text IsWritten IsLeft IsBegun HasTaken front piece so_far before after (Err (stop.Fault fault)) =
-    Refuses r (IsByteFault r) IsLeft (front ++ piece) so_far before after fault.cause fault.at
+    RefusesInput r (IsByteFault r) IsLeft (front ++ piece) so_far before after fault.cause fault.at
 Takes r text IsWritten IsLeft IsBegun HasTaken front piece so_far before after (Err stop.OverLimits) =
     Declines r IsWritten (front ++ piece) so_far before after
 Takes r text IsWritten IsLeft IsBegun HasTaken front piece so_far before after (Err e) =
     WritesPart r text IsBegun (front ++ piece) so_far before after
 
 -- what comes of the input's end after a front
-abbrev pub Ends : Rules → (Datum → List ℕ) → (List ℕ → List ℕ → Type 0) → (List ℕ → List ℕ → Type 0) → List ℕ →
+abbrev pub EndsInput : Rules → (Datum → List ℕ) → (List ℕ → List ℕ → Type 0) → (List ℕ → List ℕ → Type 0) → List ℕ →
     List ℕ → Option (List ℕ) → Option (List ℕ) → Result (Unit {0}) Stop → Type 0
-Ends r text IsLeft IsBegun front so_far before after (Ok x) = (front ≡ []) × (so_far ≡ []) × Appends before after []
-Ends r text IsLeft IsBegun front so_far before after (Err (stop.Fault fault)) =
-    Refuses r (IsEndFault r) IsLeft front so_far before after fault.cause fault.at
-Ends r text IsLeft IsBegun front so_far before after (Err stop.OverLimits) = ⊥
-Ends r text IsLeft IsBegun front so_far before after (Err e) = WritesPart r text IsBegun front so_far before after
+EndsInput r text IsLeft IsBegun front so_far before after (Ok x) =
+    (front ≡ []) × (so_far ≡ []) × Appends before after []
+EndsInput r text IsLeft IsBegun front so_far before after (Err (stop.Fault fault)) =
+    RefusesInput r (IsEndFault r) IsLeft front so_far before after fault.cause fault.at
+EndsInput r text IsLeft IsBegun front so_far before after (Err stop.OverLimits) = ⊥
+EndsInput r text IsLeft IsBegun front so_far before after (Err e) = WritesPart r text IsBegun front so_far before after

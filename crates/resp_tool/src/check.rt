@@ -24,7 +24,7 @@ use std::alloc::Global;
 
 /// Hears nothing, and never stops.
 #[derive(Clone, Copy)]
-struct Nobody;
+pub struct Nobody;
 
 impl Listener for Nobody {
     ghost Origin = { Unit {0} };

@@ -2,7 +2,7 @@
 
 ghost use Rattle.std.specs.Prelude.{◌≡◌, ◌≢◌, ◌⊎◌, ◌≤◌, ◌+◌, ℕ, List, [], Some, IfErr, IfOk, IfSome, IsErrOf, OnOk, codes};
 ghost use Rattle.resp_tool.specs.Faults.{fault_line, open_failed_line, status_of};
-ghost use Rattle.resp_tool.specs.Runs.{HasRun, Lives, RunsTo, TellsFailure};
+ghost use Rattle.resp_tool.specs.Runs.{HasRun, Lives, TaskWrites, TellsFailure};
 ghost use Rattle.resp_tool.specs.Streams.{AreRead, AtEnd};
 ghost use Rattle.resp_tool.specs.Written.{TriesText, WritesText};
 ghost use Rattle.resp_value.specs.Rules.{rules_under};
@@ -112,8 +112,9 @@ fn write_open_failed<F: Sink>(name: &[u8], why: &[u8], faults: &mut F) -> Result
     write_text(faults, b"\n")
 }
 
-/// Does what the options ask for.
-fn run<R: LiveSource<W>, W: LiveSink>(
+/// Does what the options ask for with the stream of `reader`, or says why not. What the writer
+/// holds back at the end is the caller's to flush.
+pub fn perform<R: LiveSource<W>, W: LiveSink>(
     alloc: Global,
     options: &Options<'_>,
     reader: &mut R,
@@ -121,8 +122,8 @@ fn run<R: LiveSource<W>, W: LiveSink>(
 ) -> Result<(), ToolError>
     requires { (1 ≤ options.now.piece) × (options.now.piece ≤ 65536) }
     ensures ran { (bytes : List ℕ) × AreRead (R.remaining reader.old) (R.remaining reader.new)
-        bytes × RunsTo options.now.task (rules_under options.now.version options.now.limits) bytes
-        (W.written writer.old) (W.written writer.new) result }
+        bytes × TaskWrites options.now.task (rules_under options.now.version options.now.limits)
+        bytes (W.written writer.old) (W.written writer.new) result }
     ensures read_to_its_end { AtEnd result (IfSome (R.remaining reader.old) (λ _.
         R.remaining reader.new ≡ Some [])) }
     ensures live { Lives options.now.task (rules_under options.now.version options.now.limits)
@@ -169,10 +170,10 @@ pub fn read_words<'a, S: AsStr, W: Sink, F: Sink>(
     }
 }
 
-/// Does what the options ask for with the stream of `reader`, and answers the status: 0 where all is
-/// well, 1 where the input was refused, and 3 where a device or memory failed. What is wrong is said
-/// on `faults`, whether or not that takes it. What the writer holds back at the end is the caller's
-/// to flush.
+/// Does what the options ask for with the stream of `reader`, and answers the status: 0 where all
+/// is well, 1 where the input was refused, and 3 where a device or memory failed. What is wrong is
+/// said on `faults`, whether or not that takes it. What the writer holds back at the end is the
+/// caller's to flush.
 pub fn run_options<R: LiveSource<W>, W: LiveSink, F: Sink>(
     alloc: Global,
     options: &Options<'_>,
@@ -191,7 +192,7 @@ pub fn run_options<R: LiveSource<W>, W: LiveSink, F: Sink>(
     ensures told_at_three { result ≡ 3 → TellsFailure (F.written faults.old)
         (F.written faults.new) (F.failures faults.old) (F.failures faults.new) }
 {
-    match run(alloc, options, reader, writer) {
+    match perform(alloc, options, reader, writer) {
         Ok(()) => 0,
         Err(error) => stop(&error, faults),
     }
@@ -199,9 +200,9 @@ pub fn run_options<R: LiveSource<W>, W: LiveSink, F: Sink>(
 
 /// Does what the words say, the program's name first among them, with the stream of `reader`, and
 /// answers the status: 0 where all is well or help was asked for, 1 where the input was refused, 2
-/// where the words are bad or name a file, and 3 where a device or memory failed. What is wrong is
-/// said on `faults`, whether or not that takes it. What the writer holds back at the end is the
-/// caller's to flush.
+/// where the words are bad, name a file or ask for an explanation, and 3 where a device or memory
+/// failed. What is wrong is said on `faults`, whether or not that takes it. What the writer holds
+/// back at the end is the caller's to flush.
 pub fn command<S: AsStr, R: LiveSource<W>, W: LiveSink, F: Sink>(
     alloc: Global,
     words: &[S],
@@ -227,6 +228,10 @@ pub fn command<S: AsStr, R: LiveSource<W>, W: LiveSink, F: Sink>(
     };
     if options.file != STANDARD_INPUT {
         let _ = write_text(faults, b"error: these words name a file\n");
+        return BAD_ARGUMENTS;
+    }
+    if options.explains {
+        let _ = write_text(faults, b"error: these words ask for an explanation\n");
         return BAD_ARGUMENTS;
     }
     run_options(alloc, &options, reader, writer, faults)

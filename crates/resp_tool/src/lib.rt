@@ -7,6 +7,7 @@
 pub mod canon;
 pub mod check;
 pub mod command_line;
+pub mod explain;
 pub mod laws;
 mod lines;
 pub mod live;
@@ -15,6 +16,8 @@ mod printer;
 mod rendering;
 mod short_line;
 pub mod show;
+mod starts;
 mod stream;
 pub mod text;
 pub mod tool_error;
+pub mod watched;

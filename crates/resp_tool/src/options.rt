@@ -109,6 +109,8 @@ pub struct Options<'a> {
     pub piece: usize,
     /// The name of the file that is read, or [`STANDARD_INPUT`].
     pub file: &'a str,
+    /// Whether it is said, for people, where and why the input was refused.
+    pub explains: bool,
 }
 
 /// Reads the words, the program's name first among them. None where they are `loop` alone, which is
@@ -178,6 +180,10 @@ fn with_options<'a>(alloc: Global, command: Command<'a>) -> Result<Command<'a>, 
         .long("doubles")
         .help("Lets doubles through, which version 3 alone has")
         .action(ArgAction::SetTrue);
+    let explain = Arg::new(alloc, "explain")
+        .long("explain")
+        .help("Says where in the input and why a byte was refused")
+        .action(ArgAction::SetTrue);
     Ok(
         command
             .arg(proto)?
@@ -188,6 +194,7 @@ fn with_options<'a>(alloc: Global, command: Command<'a>) -> Result<Command<'a>, 
             .arg(no_streamed)?
             .arg(doubles)?
             .arg(PIECE.option(alloc))?
+            .arg(explain)?
             .arg(file)?
             .after_help(STATUSES),
     )
@@ -224,5 +231,6 @@ fn options_of<'a>(task: Task, matches: &ArgMatches<'a>) -> Option<Options<'a>>
         limits,
         piece: piece as usize,
         file: matches.get_str("file")?,
+        explains: matches.get_flag("explain"),
     })
 }

@@ -67,7 +67,7 @@ impl Stop {
 /// What is written for each value of a stream.
 pub trait Rendering {
     ghost use Rattle.resp_tool.specs.Stops.{failed_to_write};
-    ghost use Rattle.resp_tool.specs.Takings.{Ends, Takes};
+    ghost use Rattle.resp_tool.specs.Takings.{EndsInput, Takes};
 
     /// The version and limits under which values are read.
     ghost rules: { Self → Rules };
@@ -133,7 +133,7 @@ pub trait Rendering {
     fn finish<W: Sink>(&mut self, writer: &mut W) -> Result<(), Stop>
         requires { (front : List ℕ) × (so_far : List ℕ) × has_taken self.old front so_far }
         ensures ends { (front so_far : List ℕ) → has_taken self.old front so_far →
-            Ends (rules self.old) (text (rules self.old)) (is_left (rules self.old))
+            EndsInput (rules self.old) (text (rules self.old)) (is_left (rules self.old))
             (is_begun (rules self.old)) front so_far (W.written writer.old)
             (W.written writer.new) result }
         ensures memory_taken { IsErrOf result Stop.Memory → takes_memory }

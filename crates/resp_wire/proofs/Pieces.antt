@@ -6,7 +6,7 @@ use Rattle.std.proofs.lemmas.List.{append-nil, length-append, length-take-le, ta
 use Rattle.std.proofs.lemmas.List.Folds.{concat-append}
 use Rattle.resp_value.specs.Devices.{count_after}
 use Rattle.resp_wire.specs.Pieces.{GivesPiece, GivesPieces, ReadsNothing, ReadsPieces}
-use Rattle.resp_wire.specs.Turns.{HasRead, has_failed}
+use Rattle.resp_wire.specs.Turns.{WereRead, has_failed}
 use Rattle.resp_wire.specs.declared.turns.Halt.{Halt}
 use Rattle.resp_wire.specs.declared.turns.Halt.TheVariants.{Failed, NoTurn}
 use Rattle.resp_wire.proofs.Turning.{has_read_more, reads_none}
@@ -22,7 +22,7 @@ only_pieces remaining calls failures a b pieces is_over given none =
     subst (ReadsPieces remaining calls failures a b pieces) (sym none) (record { between = b; given = given; over = refl })
 
 -- a read that halted gave nothing, if it was made
-pub halted : {R : Type 0} → (remaining : R → Option (List ℕ)) (calls : R → ℕ) (a b : R) (halt : Halt) → HasRead (remaining a) (remaining b) [] →
+pub halted : {R : Type 0} → (remaining : R → Option (List ℕ)) (calls : R → ℕ) (a b : R) (halt : Halt) → WereRead (remaining a) (remaining b) [] →
     (halt ≡ Failed → calls b ≡ count_after 1 (calls a)) → (halt ≡ NoTurn → b ≡ a) → ReadsNothing remaining calls a b (has_failed halt)
 halted remaining calls a b Failed nothing once none = (nothing, once refl)
 halted remaining calls a b NoTurn nothing once none = none refl
@@ -38,7 +38,7 @@ given_more remaining calls failures a b c (first ∷ pieces) piece (between, giv
 
 -- the first bytes of what a read moved into its room
 pub gives : {R : Type 0} → (remaining : R → Option (List ℕ)) (calls failures : R → ℕ) (a b c : R) (pieces : List (List ℕ)) (into : List ℕ) (n : ℕ) →
-    GivesPieces remaining calls failures a b pieces → n ≤ length into → 0 < n → n ≤ 16384 → HasRead (remaining b) (remaining c) (take n into) →
+    GivesPieces remaining calls failures a b pieces → n ≤ length into → 0 < n → n ≤ 16384 → WereRead (remaining b) (remaining c) (take n into) →
     calls c ≡ count_after 1 (calls b) → failures c ≡ failures b → GivesPieces remaining calls failures a c (pieces ++ take n into ∷ [])
 gives remaining calls failures a b c pieces into n given within some short read once none_failed =
     let long = length-take-le n into within in
@@ -52,8 +52,8 @@ gives remaining calls failures a b c pieces into n given within some short read 
 
 -- what was read are the pieces, joined
 pub all_read : {R : Type 0} → (remaining : R → Option (List ℕ)) (calls failures : R → ℕ) (a b : R) (pieces : List (List ℕ)) →
-    GivesPieces remaining calls failures a b pieces → HasRead (remaining a) (remaining b) (concat pieces)
-all_read remaining calls failures a b [] same = subst (λ r. HasRead (remaining a) (remaining r) []) (sym same) (reads_none (remaining a))
+    GivesPieces remaining calls failures a b pieces → WereRead (remaining a) (remaining b) (concat pieces)
+all_read remaining calls failures a b [] same = subst (λ r. WereRead (remaining a) (remaining r) []) (sym same) (reads_none (remaining a))
 all_read remaining calls failures a b (piece ∷ pieces) (between, gives, given) =
     has_read_more (remaining a) (remaining between) (remaining b) piece (concat pieces) gives.read
     (all_read remaining calls failures between b pieces given)

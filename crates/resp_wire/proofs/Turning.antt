@@ -7,7 +7,7 @@ use Rattle.std.proofs.Math.Seq.{take-add}
 use Rattle.resp_value.specs.Devices.{Appends, HasRisen, Reads, ReadsFront, count_after, failures_after, last_count}
 use Rattle.resp_value.specs.declared.device.DeviceFault.{DeviceFault}
 use Rattle.resp_wire.specs.Asking.{SpendsTurns}
-use Rattle.resp_wire.specs.Turns.{HasRead, Spends, TellsEnd}
+use Rattle.resp_wire.specs.Turns.{WereRead, Spends, TellsEnd}
 
 -- Failures.
 
@@ -109,29 +109,29 @@ appends_part a b c text count n first second =
 
 -- Reads.
 
-pub reads_none : (left : Option (List ℕ)) → HasRead left left []
+pub reads_none : (left : Option (List ℕ)) → WereRead left left []
 reads_none None = tt
 reads_none (Some left) = (left, refl, refl)
 
 -- bytes were read, and then more
-pub has_read_more : (a b c : Option (List ℕ)) (came more : List ℕ) → HasRead a b came → HasRead b c more → HasRead a c (came ++ more)
+pub has_read_more : (a b c : Option (List ℕ)) (came more : List ℕ) → WereRead a b came → WereRead b c more → WereRead a c (came ++ more)
 has_read_more None b c came more first second = tt
 has_read_more (Some left) b c came more (rest, parts, beyond) second =
-    let (last, parts', beyond') : HasRead (Some rest) c more = subst (λ z. HasRead z c more) beyond second in
+    let (last, parts', beyond') : WereRead (Some rest) c more = subst (λ z. WereRead z c more) beyond second in
     (last, parts ∙ ap (λ z. came ++ z) parts' ∙ sym (append_assoc came more last), beyond')
 
 -- no byte more was read
-pub has_read_same : (a b c : Option (List ℕ)) (came more : List ℕ) → more ≡ [] → HasRead a b came → HasRead b c more → HasRead a c came
+pub has_read_same : (a b c : Option (List ℕ)) (came more : List ℕ) → more ≡ [] → WereRead a b came → WereRead b c more → WereRead a c came
 has_read_same a b c came more none first second =
-    subst (HasRead a c) (ap (λ z. came ++ z) none ∙ append-nil came) (has_read_more a b c came more first second)
+    subst (WereRead a c) (ap (λ z. came ++ z) none ∙ append-nil came) (has_read_more a b c came more first second)
 
 -- the end is told after what was read
-pub end_after : (a b c : Option (List ℕ)) (came : List ℕ) → HasRead a b came → TellsEnd b c → TellsEnd a c
+pub end_after : (a b c : Option (List ℕ)) (came : List ℕ) → WereRead a b came → TellsEnd b c → TellsEnd a c
 end_after None b c came first second = tt
 end_after (Some left) b c came (rest, parts, beyond) second = subst (λ z. TellsEnd z c) beyond second
 
 -- more was read
-pub reads_more : (a b c : Option (List ℕ)) (came into : List ℕ) (n : ℕ) → HasRead a b came → Reads b c into (Ok n) → HasRead a c (came ++ take n into)
+pub reads_more : (a b c : Option (List ℕ)) (came into : List ℕ) (n : ℕ) → WereRead a b came → Reads b c into (Ok n) → WereRead a c (came ++ take n into)
 reads_more None b c came into n first second = tt
 reads_more (Some left) b c came into n (rest, parts, beyond) second =
     let read : ReadsFront rest c into n = subst (λ z. Reads z c into (Ok n)) beyond second in (
@@ -142,15 +142,15 @@ reads_more (Some left) b c came into n (rest, parts, beyond) second =
     )
 
 -- a read that failed took nothing
-pub reads_failed : (a b c : Option (List ℕ)) (came into : List ℕ) (fault : DeviceFault) → HasRead a b came → Reads b c into (Err fault) → HasRead a c came
+pub reads_failed : (a b c : Option (List ℕ)) (came into : List ℕ) (fault : DeviceFault) → WereRead a b came → Reads b c into (Err fault) → WereRead a c came
 reads_failed None b c came into fault first second = tt
 reads_failed (Some left) b c came into fault (rest, parts, beyond) second =
     let same : c ≡ Some rest = subst (λ z. Reads z c into (Err fault)) beyond second in
     (rest, parts, same)
 
 -- where a read of some room gives nothing, a device that tells its bytes has none left
-pub reads_end : (a b c : Option (List ℕ)) (came into : List ℕ) (n : ℕ) → HasRead a b came → Reads b c into (Ok n) → n ≡ 0 → 0 < length into →
-    HasRead a c came × TellsEnd a c
+pub reads_end : (a b c : Option (List ℕ)) (came into : List ℕ) (n : ℕ) → WereRead a b came → Reads b c into (Ok n) → n ≡ 0 → 0 < length into →
+    WereRead a c came × TellsEnd a c
 reads_end None b c came into n first second none room = (tt, tt)
 reads_end (Some left) b c came into zero (rest, parts, beyond) second none room =
     let read : ReadsFront rest c into 0 = subst (λ z. Reads z c into (Ok 0)) beyond second in

@@ -51,11 +51,11 @@ pub record StaysAs (old new : End) : Type 0 where
   pub same_heard : HeardStays old new
 
 -- what came of a request
-abbrev pub Takes : End → End → session.Request → Outcome → Type 0
-Takes old new request Done = Queues old new request
-Takes old new request (Refused cause) =
+abbrev pub TakesRequest : End → End → session.Request → Outcome → Type 0
+TakesRequest old new request Done = Queues old new request
+TakesRequest old new request (Refused cause) =
     RefusesRequest (state_of old.client).limits (queued (state_of old.client)) request cause × StaysAs old new
-Takes old new request Gone = ⊥
+TakesRequest old new request Gone = ⊥
 
 -- what comes of a request that a client doesn't queue: OutOfMemory stops the world
 abbrev pub outcome_of_send : SendError → Result Outcome Cause
@@ -75,7 +75,7 @@ outcome_of_push (push.OverLimits limit) = Ok (Refused (cause.OverLimits limit))
 outcome_of_push push.OutOfMemory = Err cause.OutOfMemory
 
 -- what was heard is kept, the replies without their numbers
-pub record Keeps (old new : End) (heard : Asked) : Type 0 where
+pub record KeepsHeard (old new : End) (heard : Asked) : Type 0 where
   pub client : new.client ≡ old.client
   pub asked : new.asked ≡ old.asked
   pub replies : values_in new.replies.items ≡

@@ -1,14 +1,14 @@
 -- What came, piece by piece. Of a reader are known the bytes that are left, its reads, and those of them that failed.
 use Rattle.std.specs.Prelude.{◌≡◌, ℕ, ◌<◌, ◌≤◌, Bool, true, false, List, [], ◌∷◌, length, Option}
 use Rattle.resp_value.specs.Devices.{count_after}
-use Rattle.resp_wire.specs.Turns.{HasRead}
+use Rattle.resp_wire.specs.Turns.{WereRead}
 
 -- one read, which didn't fail, gave this piece
 pub record GivesPiece {R : Type 0} (remaining : R → Option (List ℕ)) (calls failures : R → ℕ) (before after : R)
     (piece : List ℕ) : Type 0 where
   pub some : 0 < length piece
   pub short : length piece ≤ 16384
-  pub read : HasRead (remaining before) (remaining after) piece
+  pub read : WereRead (remaining before) (remaining after) piece
   pub once : calls after ≡ count_after 1 (calls before)
   pub none_failed : failures after ≡ failures before
 
@@ -22,7 +22,7 @@ GivesPieces {R} remaining calls failures before after (piece ∷ pieces) = (betw
 -- one read was made that gave nothing, or none was made
 abbrev pub ReadsNothing : {R : Type 0} → (R → Option (List ℕ)) → (R → ℕ) → R → R → Bool → Type 0
 ReadsNothing remaining calls before after true =
-    HasRead (remaining before) (remaining after) [] × (calls after ≡ count_after 1 (calls before))
+    WereRead (remaining before) (remaining after) [] × (calls after ≡ count_after 1 (calls before))
 ReadsNothing remaining calls before after false = after ≡ before
 
 -- What was read are these pieces, in order, each by one read, and then a read gave nothing, or there was none.

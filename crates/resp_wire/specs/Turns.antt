@@ -5,9 +5,9 @@ use Rattle.resp_wire.specs.declared.turns.Halt.{Halt}
 use Rattle.resp_wire.specs.declared.turns.Halt.TheVariants.{Failed, NoTurn}
 
 -- Bytes were read: of those that were left, where the device tells them, these are the first.
-abbrev pub HasRead : Option (List ℕ) → Option (List ℕ) → List ℕ → Type 0
-HasRead None after came = Unit {0}
-HasRead (Some left) after came = (rest : List ℕ) × (left ≡ came ++ rest) × (after ≡ Some rest)
+abbrev pub WereRead : Option (List ℕ) → Option (List ℕ) → List ℕ → Type 0
+WereRead None after came = Unit {0}
+WereRead (Some left) after came = (rest : List ℕ) × (left ≡ came ++ rest) × (after ≡ Some rest)
 
 -- A count of calls has risen by `count`, which were spent of the turns that were left.
 pub record Spends (calls calls' turns turns' : ℕ) : Type 0 where

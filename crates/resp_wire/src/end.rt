@@ -30,9 +30,9 @@ pub(crate) struct End {
 impl End {
     ghost use Rattle.resp_client.specs.Clients.{state_of};
     ghost use Rattle.resp_client.specs.Sending.{MayBeSent};
-    ghost use Rattle.resp_wire.specs.Ends.{IsNew, Keeps, Takes};
+    ghost use Rattle.resp_wire.specs.Ends.{IsNew, KeepsHeard, TakesRequest};
 
-    /// A client that asked nothing. Takes no memory.
+    /// A client that asked nothing. TakesRequest no memory.
     pub(crate) fn new(alloc: Global, limits: &Limits) -> End
         ensures { IsNew limits.now result }
     {
@@ -48,7 +48,7 @@ impl End {
     /// Queues a command.
     pub(crate) fn send(&mut self, alloc: Global, command: &Command) -> Result<Outcome, Cause>
         ensures takes { IfOk result
-            (Takes self.old self.new (session.Command (words_of command.now))) }
+            (TakesRequest self.old self.new (session.Command (words_of command.now))) }
         ensures bytes { IfOk result (λ outcome. outcome ≡ Outcome.Done →
             session.HasBytes (session.Command (words_of command.now))) }
         ensures memory { IfErr result (λ cause. cause ≡ Cause.OutOfMemory) }
@@ -69,7 +69,7 @@ impl End {
 
     /// Queues HELLO.
     pub(crate) fn hello(&mut self, asked: Option<Version>) -> Result<Outcome, Cause>
-        ensures takes { IfOk result (Takes self.old self.new (session.Hello asked)) }
+        ensures takes { IfOk result (TakesRequest self.old self.new (session.Hello asked)) }
         ensures memory { IfErr result (λ cause. cause ≡ Cause.OutOfMemory) }
         ensures may_be_sent { OnErr result
             (MayBeSent (state_of self.old.client) (session.Hello asked)) }
@@ -83,9 +83,9 @@ impl End {
         Ok(Outcome::Done)
     }
 
-    /// Keeps what was heard, the replies without their numbers.
+    /// KeepsHeard what was heard, the replies without their numbers.
     pub(crate) fn keep(&mut self, heard: Asked) -> Result<Outcome, Cause>
-        ensures kept { OnOk result (Keeps self.old self.new heard) }
+        ensures kept { OnOk result (KeepsHeard self.old self.new heard) }
         ensures done { IfOk result (λ outcome. outcome ≡ Outcome.Done) }
         ensures memory { IfErr result (λ cause. cause ≡ Cause.OutOfMemory) }
     {

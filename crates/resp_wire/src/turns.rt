@@ -2,7 +2,7 @@
 
 ghost use Rattle.std.specs.Prelude.{◌≡◌, ◌<◌, ◌≤◌, [], drop, length, take, IfOk, IfErr, IsErrOf, OnOk, OnErr};
 ghost use Rattle.resp_value.specs.Devices.{Appends, count_after, failures_after};
-ghost use Rattle.resp_wire.specs.Turns.{Halts, HasRead, Spends, TellsEnd, is_failed};
+ghost use Rattle.resp_wire.specs.Turns.{Halts, WereRead, Spends, TellsEnd, is_failed};
 
 use resp_value::device::{Sink, Source};
 
@@ -70,11 +70,11 @@ pub(crate) fn read_some<R: Source>(
     turns: &mut u64,
 ) -> Result<usize, Halt>
     ensures within { IfOk result (λ count. count ≤ length into.new) }
-    ensures read { IfOk result (λ count. HasRead (R.remaining reader.old) (R.remaining reader.new)
+    ensures read { IfOk result (λ count. WereRead (R.remaining reader.old) (R.remaining reader.new)
         (take count into.new)) }
     ensures end { 0 < length into.old → IfOk result (λ count. count ≡ 0 →
         TellsEnd (R.remaining reader.old) (R.remaining reader.new)) }
-    ensures unread { OnErr result (HasRead (R.remaining reader.old) (R.remaining reader.new) []) }
+    ensures unread { OnErr result (WereRead (R.remaining reader.old) (R.remaining reader.new) []) }
     ensures none_failed { OnOk result (R.failures reader.new ≡ R.failures reader.old) }
     ensures failures { R.failures reader.new ≡
         failures_after (is_failed result) (R.failures reader.old) }

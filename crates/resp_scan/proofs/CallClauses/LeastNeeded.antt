@@ -22,7 +22,7 @@ use Rattle.resp_scan.specs.Machine.Tokens.{Token, Place, AtStart, AtEnd, AtTextE
 use Rattle.resp_scan.specs.Kinds.{rules_of}
 use Rattle.resp_scan.specs.Machine.Beginnings as b
 use Rattle.resp_scan.specs.Machine.Beginnings.{TextWhole}
-use Rattle.resp_scan.specs.Machine.Standing.{AwaitsMember, IsClosing, IsClosingIn, HasEnded, HaveBegun, IsInside, StandsAfterAt, IsWholeValue, busy_levels, waiting_levels, StandsAfter}
+use Rattle.resp_scan.specs.Machine.Standing.{AwaitsMember, IsBeingClosed, IsClosingIn, HasEnded, HaveBegun, IsInside, StandsAfterAt, IsWholeValue, busy_levels, waiting_levels, StandsAfter}
 use Rattle.resp_scan.specs.Machine.Sound.{IsClosed, IsSoundBy, need_of_frame, need_of_frames, needed, start_needed, token_needed}
 use Rattle.resp_scan.proofs.TokenMoves.Begins.{is_between}
 use Rattle.resp_scan.proofs.TokenMoves.RefusedMoves.{frames_needed_is, inside_least, waiting_needed}
@@ -60,7 +60,7 @@ text_end_is_least r fs front es w =
     (whole_least (LeafKeeps r WithinItems) (NodeKeeps r WithinItems) w.frames (leaf w.took.leaf) (shortest_keeps r WithinItems) w.can_end w.took.is_leaf
     w.took.keeps)
 
-closing_is_least : (r : Rules) (k : OpenKind) (fs : List Frame) (last rest front : List ℕ) (es : List Event) → IsClosing r k fs last rest front es →
+closing_is_least : (r : Rules) (k : OpenKind) (fs : List Frame) (last rest front : List ℕ) (es : List Event) → IsBeingClosed r k fs last rest front es →
     IsLeast r front (length rest + need_of_frames fs)
 closing_is_least r k fs last rest front es w =
     least_by_texts r front (text_around (w.frame ∷ w.outer) last) (length rest + frames_needed w.outer) (length rest + need_of_frames fs) w.whole

@@ -11,7 +11,7 @@ use Rattle.resp_scan.specs.Reading.{HasNoDone}
 use Rattle.resp_scan.specs.Machine.Tokens.{Place, Token, AtStart, AtEnd, AtCloseCr, AtCloseLf}
 use Rattle.resp_scan.specs.Kinds.{rules_of}
 use Rattle.resp_scan.specs.Machine.Beginnings as b
-use Rattle.resp_scan.specs.Machine.Standing.{AwaitsMember, IsClosing, IsClosingIn, HasEnded, IsInside, StandsAfter, StandsAfterAt, busy_levels, waiting_levels}
+use Rattle.resp_scan.specs.Machine.Standing.{AwaitsMember, IsBeingClosed, IsClosingIn, HasEnded, IsInside, StandsAfter, StandsAfterAt, busy_levels, waiting_levels}
 use Rattle.resp_scan.proofs.DueEvents.FewEvents.{frames_few, tree_few}
 use Rattle.resp_scan.proofs.TokenMoves.Moves.{at_level, length-busy}
 use Rattle.resp_scan.proofs.DueEvents.Opens.{LeaveOpen, frames_open, open-append, tree_opens}
@@ -58,7 +58,7 @@ between_given : (r : Rules) (fs : List Frame) (front : List ℕ) (es : List Even
 between_given r fs front es w = frames_given fs w.frames [] front es (sym (same_length (waiting_levels fs) w.frames w.of_levels) ∙ length-waiting fs) w.whole
     w.told
 
-closing_given : (r : Rules) (f : Frame) (fs : List Frame) (last rest front : List ℕ) (es : List Event) → IsClosing r f.kind fs last rest front es →
+closing_given : (r : Rules) (f : Frame) (fs : List Frame) (last rest front : List ℕ) (es : List Event) → IsBeingClosed r f.kind fs last rest front es →
     AreGiven (f ∷ fs) front es
 closing_given r f fs last rest front es w = frames_given (f ∷ fs) (w.frame ∷ w.outer) last front es
     (ap suc (sym (same_length (busy_levels fs) w.outer w.of_levels) ∙ length-busy fs)) w.whole w.told

@@ -14,7 +14,7 @@ use Rattle.resp_scan.specs.Machine.Heads.{head_needed, may_end, HasFrame}
 use Rattle.resp_scan.specs.Machine.Room.{begun_count, innermost}
 use Rattle.resp_scan.specs.Machine.Moves.{may_close}
 use Rattle.resp_scan.specs.Machine.Fields.{place_of, token_at}
-use Rattle.resp_scan.specs.Machine.Sound.{IsWithinRoom, IsOpen, IsOpenShape, need_of_frame, need_of_frames, IsSound, AreCounted, token_needed}
+use Rattle.resp_scan.specs.Machine.Sound.{IsWithinRoom, MayHaveMore, IsOpenShape, need_of_frame, need_of_frames, IsSound, AreCounted, token_needed}
 use Rattle.resp_scan.proofs.Soundness.SoundMoves.{cond_if}
 use Rattle.resp_scan.proofs.Soundness.SoundHeads.{head_more}
 use Rattle.resp_scan.proofs.Soundness.SoundFrames.{closes_three}
@@ -145,7 +145,7 @@ chunk_few m h e = omega (arith, few_needed m state.ChunkContent h e)
 
 -- What holds of the innermost aggregate where a member may begin.
 
-top_open : (fs : List Frame) (f : Frame) → innermost fs ≡ Some f → IsOpen fs → IsOpenShape f.shape
+top_open : (fs : List Frame) (f : Frame) → innermost fs ≡ Some f → MayHaveMore fs → IsOpenShape f.shape
 top_open [] f e h = absurd (cc)
 top_open (g ∷ fs) f e h = let q : g ≡ f = cc in subst (λ v. IsOpenShape v.shape) q h
 

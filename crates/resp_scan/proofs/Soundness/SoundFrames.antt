@@ -14,7 +14,7 @@ use Rattle.resp_scan.specs.Machine.Room.{over_total, after_begin_in, items_cause
 use Rattle.resp_scan.specs.Machine.Heads.{after_open, after_streamed_open}
 use Rattle.resp_scan.specs.Machine.Moves.{may_close, may_close_of, without_first}
 use Rattle.resp_scan.specs.Kinds.{rules_of}
-use Rattle.resp_scan.specs.Machine.Sound.{need_of_streamed, start_needed, need_of_frame, need_of_frames, token_needed, AreCounted, IsOpenShape, IsOpen, IsClosed, IsTokenSound, IsSoundBy}
+use Rattle.resp_scan.specs.Machine.Sound.{need_of_streamed, start_needed, need_of_frame, need_of_frames, token_needed, AreCounted, IsOpenShape, MayHaveMore, IsClosed, IsTokenSound, IsSoundBy}
 use Rattle.resp_scan.proofs.Soundness.SoundMoves.{cond_if, IsNext, none_else, total_room}
 
 needed_shape : (depth : ℕ) (f : Frame) (fs : List Frame) (sh : Shape) → token_needed (token_in_shape sh) depth (f ∷ fs) ≡ 0
@@ -141,7 +141,7 @@ sound_begun s (x ∷ fs) n u e h c l q f =
       bounds = h.bounds;
       nested = subst (λ v. length v ≤ s.bounds.depth) e h.nested;
       counted = (begun_counted x.kind x.shape s.bounds.items z.0 k.0, k.1);
-      frames_need = begun_need x.kind x.shape s.frames_need (need_of_frames fs) (subst IsOpen e h.token) (h.frames_need ∙ ap need_of_frames e);
+      frames_need = begun_need x.kind x.shape s.frames_need (need_of_frames fs) (subst MayHaveMore e h.token) (h.frames_need ∙ ap need_of_frames e);
       total = omega (arith, w, q);
       token = f;
     }

@@ -30,7 +30,7 @@ use Rattle.resp_scan.specs.Machine.Tokens.{Byte, Give, Go, Move, Place, Refuse}
 use Rattle.resp_scan.specs.Machine.Room.{begin_cause, after_begin, after_begin_in, has_all, has_all_of, over_total, need_after_begin, shape_after_begin}
 use Rattle.resp_scan.specs.Machine.Moves.{move_unless}
 use Rattle.resp_scan.specs.Kinds.{IsRefusedFor, rules_of}
-use Rattle.resp_scan.specs.Machine.Standing.{AwaitsMember, HasCountsOf, HasBegun, IsInside, Leads, busy_shape, busy_levels, waiting_shape, waiting_levels}
+use Rattle.resp_scan.specs.Machine.Standing.{AwaitsMember, HasCountsOf, HasBegunMember, IsInside, Leads, busy_shape, busy_levels, waiting_shape, waiting_levels}
 use Rattle.resp_scan.specs.Machine.Sound.{need_of_frame, need_of_frames}
 use Rattle.resp_scan.proofs.TokenMoves.Moves.{length-busy}
 use Rattle.resp_scan.proofs.TokenMoves.RefusedMoves.{fits_or_past, unless_over}
@@ -52,7 +52,7 @@ begun_shape : (k : Kind) (shape : Shape) (form : Form) (n : ℕ) → HasShape k 
 begun_shape k (Left m) form n h = (h.0, h.1, h.2, omega (arith, h.3, h.4), omega (arith, h.4))
 begun_shape k (Begun m) form n h = (h.0, omega (arith, h.1))
 
-has_begun : (shape : Shape) → HasBegun (shape_after_begin shape)
+has_begun : (shape : Shape) → HasBegunMember (shape_after_begin shape)
 has_begun (Left m) = tt
 has_begun (Begun m) = omega arith
 

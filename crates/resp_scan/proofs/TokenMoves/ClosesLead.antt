@@ -26,11 +26,11 @@ use Rattle.resp_scan.specs.Machine.Tokens as k
 use Rattle.resp_scan.specs.Machine.Tokens.{Give, Go, Move, Place, Refuse, AtCloseCr, AtCloseLf, AtEnd, at, at_boundary, token_at_boundary}
 use Rattle.resp_scan.specs.Machine.Moves.{only_byte, without_first}
 use Rattle.resp_scan.specs.Kinds.{IsRefusedFor, rules_of}
-use Rattle.resp_scan.specs.Machine.Standing.{IsClosing, IsClosingIn, Leads, StandsAfterAt, busy_levels, StandsAfter}
+use Rattle.resp_scan.specs.Machine.Standing.{IsBeingClosed, IsClosingIn, Leads, StandsAfterAt, busy_levels, StandsAfter}
 use Rattle.resp_scan.proofs.TokenMoves.Moves.{given-append, longer, value_lies, ALead}
 
 -- the rest of the close ends the aggregate
-closing_ends : (r : Rules) (k : OpenKind) (fs : List Frame) (last rest front : List ℕ) (es : List Event) → IsClosing r k fs last rest front es →
+closing_ends : (r : Rules) (k : OpenKind) (fs : List Frame) (last rest front : List ℕ) (es : List Event) → IsBeingClosed r k fs last rest front es →
     StandsAfterAt r (token_at_boundary fs) fs (front ++ rest) (es ++ e.Close ∷ [])
 closing_ends r k fs last rest front es w =
     let f = w.frame in
@@ -55,7 +55,7 @@ close_is_owed s f fs front es w =
 
 -- one byte more of it
 closes_more : (r : Rules) (k : OpenKind) (fs : List Frame) (last rest front : List ℕ) (es : List Event) (byte : ℕ) →
-    IsClosing r k fs last (byte ∷ rest) front es → IsClosing r k fs (last ++ byte ∷ []) rest (front ++ byte ∷ []) es
+    IsBeingClosed r k fs last (byte ∷ rest) front es → IsBeingClosed r k fs (last ++ byte ∷ []) rest (front ++ byte ∷ []) es
 closes_more r k fs last rest front es byte w = record {
   frame = w.frame;
   outer = w.outer;
@@ -83,7 +83,7 @@ stop_follows L N f fs beyond streamed m = case m.members m.whole
 
 -- what completes a front after `.` completes its line
 line_follows : (r : Rules) (k : OpenKind) (fs : List Frame) (last rest front beyond : List ℕ) (es : List Event) →
-    (w : IsClosing r k fs (46 ∷ last) rest front es) → w.frame.form ≡ Streamed → CompletesFront r Grammar front beyond →
+    (w : IsBeingClosed r k fs (46 ∷ last) rest front es) → w.frame.form ≡ Streamed → CompletesFront r Grammar front beyond →
     (more : List ℕ) × (last ++ beyond ≡ 13 ∷ 10 ∷ more)
 line_follows r k fs last rest front beyond es w streamed c =
     let f = w.frame in
@@ -103,7 +103,7 @@ syntax : (r : Rules) (front : List ℕ) → ((rest : List ℕ) → CompletesFron
 syntax r front dead = record { rule = Grammar; names = refl; cause = grammar_cause r front dead }
 
 no_return : (r : Rules) (k : OpenKind) (fs : List Frame) (front : List ℕ) (es : List Event) (byte : ℕ) → (byte ≡ 13 → ⊥) →
-    IsClosing r k fs (46 ∷ []) (13 ∷ 10 ∷ []) front es → (rest : List ℕ) → CompletesFront r Grammar (front ++ byte ∷ []) rest → ⊥
+    IsBeingClosed r k fs (46 ∷ []) (13 ∷ 10 ∷ []) front es → (rest : List ℕ) → CompletesFront r Grammar (front ++ byte ∷ []) rest → ⊥
 no_return r k fs front es byte other w rest c =
     let x = line_follows r k fs [] (13 ∷ 10 ∷ []) front (byte ∷ rest) es w (is_streamed w.frame.form 46 (13 ∷ 10 ∷ []) w.closes)
     (subst (IsWholeText (LeafKeeps r Grammar) (NodeKeeps r Grammar)) (append_assoc front (byte ∷ []) rest) c) in
@@ -111,7 +111,7 @@ no_return r k fs front es byte other w rest c =
     other cc
 
 no_newline : (r : Rules) (k : OpenKind) (fs : List Frame) (front : List ℕ) (es : List Event) (byte : ℕ) → (byte ≡ 10 → ⊥) →
-    IsClosing r k fs (46 ∷ 13 ∷ []) (10 ∷ []) front es → (rest : List ℕ) → CompletesFront r Grammar (front ++ byte ∷ []) rest → ⊥
+    IsBeingClosed r k fs (46 ∷ 13 ∷ []) (10 ∷ []) front es → (rest : List ℕ) → CompletesFront r Grammar (front ++ byte ∷ []) rest → ⊥
 no_newline r k fs front es byte other w rest c =
     let x = line_follows r k fs (13 ∷ []) (10 ∷ []) front (byte ∷ rest) es w (is_streamed w.frame.form 46 (13 ∷ 10 ∷ []) w.closes)
     (subst (IsWholeText (LeafKeeps r Grammar) (NodeKeeps r Grammar)) (append_assoc front (byte ∷ []) rest) c) in
@@ -127,7 +127,7 @@ close_cr_leads s used byte front es is_byte c w = case s.frames w
     case [] w = absurd w
     case (f ∷ fs) w = if_equal byte 13 (λ z. Leads (record s { token = AtCloseCr; frames = f ∷ fs }) front es byte
         (cond z (Go (record s { token = AtCloseLf; frames = f ∷ fs })) (Refuse cause.Syntax)))
-        (λ is. subst (λ z. IsClosing (rules_of s) f.kind fs (46 ∷ 13 ∷ []) (10 ∷ []) (front ++ z ∷ []) es) (sym is)
+        (λ is. subst (λ z. IsBeingClosed (rules_of s) f.kind fs (46 ∷ 13 ∷ []) (10 ∷ []) (front ++ z ∷ []) es) (sym is)
         (closes_more (rules_of s) f.kind fs (46 ∷ []) (10 ∷ []) front es 13 w))
         (λ other. syntax (rules_of s) (front ++ byte ∷ []) (no_return (rules_of s) f.kind fs front es byte other w))
 

@@ -24,7 +24,7 @@ use Rattle.resp_scan.specs.declared.frame.Frame.{Frame}
 use Rattle.resp_scan.specs.declared.frame.Shape.{Shape}
 use Rattle.resp_scan.specs.declared.frame.Shape.TheVariants.{Left, Begun}
 use Rattle.resp_scan.specs.Machine.Tokens.{AtStart, AtEnd, token_at_boundary, token_in_shape, Place}
-use Rattle.resp_scan.specs.Machine.Standing.{HasBegun, HaveBegun, IsInside, StandsAfterAt, busy_shape, busy_levels, StandsAfter, Leads, HasCountsOf}
+use Rattle.resp_scan.specs.Machine.Standing.{HasBegunMember, HaveBegun, IsInside, StandsAfterAt, busy_shape, busy_levels, StandsAfter, Leads, HasCountsOf}
 use Rattle.resp_scan.specs.declared.machine.Head.{Head}
 use Rattle.resp_scan.specs.declared.machine.Head.TheVariants.{Bulk, BulkError, Verbatim, Chunk}
 use Rattle.resp_scan.specs.Machine.Moves.{next}
@@ -162,7 +162,7 @@ count_with g u = omega (arith, count-joined_trees g.done (t.more u none))
 
 -- the innermost frame has all of its members, or waits for one more
 member_ends : (r : Rules) (f : Frame) (fs : List Frame) (g : opened.Frame) (gs : List opened.Frame) (u : Tree) (shape : Shape) (front : List ℕ)
-    (es : List Event) → kind_of f.kind ≡ g.kind → HasShape g.kind (busy_shape shape) g.form (count g.done) → HasBegun shape → HaveBegun fs →
+    (es : List Event) → kind_of f.kind ≡ g.kind → HasShape g.kind (busy_shape shape) g.form (count g.done) → HasBegunMember shape → HaveBegun fs →
     AreLevelsOf (busy_levels fs) gs → AreReady (LeafKeeps r WithinItems) (NodeKeeps r WithinItems) (with_member g u ∷ gs) →
     front ≡ text_around (with_member g u ∷ gs) [] → es ≡ without_places (events_around (with_member g u ∷ gs)) →
     StandsAfterAt r (token_in_shape shape) (record f { shape = shape } ∷ fs) front es

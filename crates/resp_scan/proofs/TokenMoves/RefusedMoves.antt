@@ -24,7 +24,7 @@ use Rattle.resp_scan.specs.Machine.Tokens.{Move, Place, Refuse}
 use Rattle.resp_scan.specs.Machine.Room.{has_total_room, over_total}
 use Rattle.resp_scan.specs.Machine.Moves.{move_unless}
 use Rattle.resp_scan.specs.Kinds.{IsRefusedFor, rules_of}
-use Rattle.resp_scan.specs.Machine.Standing.{HasCountsOf, HasBegun, HaveBegun, IsInside, Leads, busy_shape, busy_levels, waiting_shape}
+use Rattle.resp_scan.specs.Machine.Standing.{HasCountsOf, HasBegunMember, HaveBegun, IsInside, Leads, busy_shape, busy_levels, waiting_shape}
 use Rattle.resp_scan.specs.Machine.Sound.{need_of_frame, need_of_frames}
 use Rattle.resp_scan.proofs.TokenMoves.Moves.{Tells, follows_by, length-busy}
 
@@ -45,11 +45,11 @@ waiting_needed kind.Map (Begun n) =
 waiting_needed _ _ = refl
 
 -- once its open member is whole none is open
-after_busy : (s : Shape) → HasBegun s → l.shape_after (busy_shape s) ≡ waiting_shape s
+after_busy : (s : Shape) → HasBegunMember s → l.shape_after (busy_shape s) ≡ waiting_shape s
 after_busy (Left n) h = ap o.to_come (omega arith)
 after_busy (Begun n) h = ap o.so_far (omega (arith, h))
 
-shape_needed_is : (k : OpenKind) (s : Shape) → HasBegun s → l.shape_needed (kind_of k) (l.shape_after (busy_shape s)) ≡ need_of_frame k s
+shape_needed_is : (k : OpenKind) (s : Shape) → HasBegunMember s → l.shape_needed (kind_of k) (l.shape_after (busy_shape s)) ≡ need_of_frame k s
 shape_needed_is k s h = ap (l.shape_needed (kind_of k)) (after_busy s h) ∙ waiting_needed k s
 
 -- frames in each of which a member is open need what they owe

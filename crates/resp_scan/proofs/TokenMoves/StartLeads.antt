@@ -53,7 +53,7 @@ use Rattle.resp_scan.specs.Machine.Moves.{aggregate_move, begin_move, close_move
 use Rattle.resp_scan.specs.Kinds.{IsRefusedFor, event_of, rules_of}
 use Rattle.resp_scan.specs.Machine.Beginnings as b
 use Rattle.resp_scan.specs.Machine.Beginnings.{AggregateBegun, LineBegun, NullLine}
-use Rattle.resp_scan.specs.Machine.Standing.{AwaitsMember, IsClosing, HasCountsOf, IsInside, Leads, StandsAfter, StandsAfterAt, busy_levels, waiting_shape, waiting_levels}
+use Rattle.resp_scan.specs.Machine.Standing.{AwaitsMember, IsBeingClosed, HasCountsOf, IsInside, Leads, StandsAfter, StandsAfterAt, busy_levels, waiting_shape, waiting_levels}
 use Rattle.resp_scan.proofs.TokenMoves.Begins.{begins_leads, is_between, length-waiting}
 use Rattle.resp_scan.proofs.HeadMoves.HeadsLead.{aggregate_row, no_two_in_three, attribute_row}
 use Rattle.resp_scan.proofs.TokenMoves.LinesLead.{line_row}
@@ -191,12 +191,12 @@ streamed_has_all kind.Map m can = grind (arith, nat_tests)
 streamed_has_all _ m can = refl
 
 closes_from : (r : Rules) (f : Frame) (fs : List Frame) (front : List ℕ) (es : List Event) → (w : AwaitsMember r (f ∷ fs) front es) →
-    may_close_of f.kind f.shape ≡ true → IsClosing r f.kind fs (46 ∷ []) (13 ∷ 10 ∷ []) (front ++ 46 ∷ []) es
+    may_close_of f.kind f.shape ≡ true → IsBeingClosed r f.kind fs (46 ∷ []) (13 ∷ 10 ∷ []) (front ++ 46 ∷ []) es
 closes_from r f fs front es w can = case w.frames f.shape w.of_levels w.ready w.whole w.told can
   where
     case : (gs : List opened.Frame) (shape : Shape) → AreLevelsOf (record { kind = kind_of f.kind; shape = waiting_shape shape } ∷ busy_levels fs) gs →
         AreReady (LeafKeeps r WithinItems) (NodeKeeps r WithinItems) gs → front ≡ text_around gs [] → es ≡ without_places (events_around gs) →
-        may_close_of f.kind shape ≡ true → IsClosing r f.kind fs (46 ∷ []) (13 ∷ 10 ∷ []) (front ++ 46 ∷ []) es
+        may_close_of f.kind shape ≡ true → IsBeingClosed r f.kind fs (46 ∷ []) (13 ∷ 10 ∷ []) (front ++ 46 ∷ []) es
     case [] shape a o e told can = absurd a
     case (g ∷ gs) (Left m) a o e told can = absurd cc
     case (g ∷ gs) (Begun m) a o e told can =

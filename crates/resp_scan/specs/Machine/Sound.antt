@@ -100,9 +100,9 @@ IsOpenShape (Left n) = 0 < n
 IsOpenShape (Begun n) = Unit {0}
 
 -- the innermost aggregate may have a member more
-abbrev pub IsOpen : List Frame → Type 0
-IsOpen [] = Unit {0}
-IsOpen (f ∷ fs) = IsOpenShape f.shape
+abbrev pub MayHaveMore : List Frame → Type 0
+MayHaveMore [] = Unit {0}
+MayHaveMore (f ∷ fs) = IsOpenShape f.shape
 
 -- or has all
 abbrev pub IsClosed : List Frame → Type 0
@@ -122,7 +122,7 @@ IsWithinRoom _ n = Unit {0}
 
 -- what holds of a token within these frames, at this depth
 abbrev pub IsTokenSound : Token → ℕ → List Frame → Type 0
-IsTokenSound AtStart depth fs = IsOpen fs
+IsTokenSound AtStart depth fs = MayHaveMore fs
 IsTokenSound AtEnd depth fs = IsClosed fs
 IsTokenSound (InInt negative n) depth fs = n ≤ greatest_magnitude negative
 IsTokenSound (AtIntLf negative n) depth fs = n ≤ greatest_magnitude negative

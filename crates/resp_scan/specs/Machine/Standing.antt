@@ -44,14 +44,14 @@ waiting_levels [] = []
 waiting_levels (f ∷ fs) = record { kind = kind_of f.kind; shape = waiting_shape f.shape } ∷ busy_levels fs
 
 -- at least one member has begun in a streamed aggregate whose member is open
-abbrev pub HasBegun : Shape → Type 0
-HasBegun (Left n) = Unit {0}
-HasBegun (Begun n) = 0 < n
+abbrev pub HasBegunMember : Shape → Type 0
+HasBegunMember (Left n) = Unit {0}
+HasBegunMember (Begun n) = 0 < n
 
 -- at least one member has begun in each that is streamed
 abbrev pub HaveBegun : List Frame → Type 0
 HaveBegun [] = Unit {0}
-HaveBegun (f ∷ fs) = HasBegun f.shape × HaveBegun fs
+HaveBegun (f ∷ fs) = HasBegunMember f.shape × HaveBegun fs
 
 -- at least one member has begun in each of the outer ones that is streamed
 abbrev pub OuterBegun : List Frame → Type 0
@@ -92,28 +92,28 @@ pub record IsWholeValue (r : Rules) (front : List ℕ) (es : List Event) : Type 
 
 -- an aggregate with all of its members, of whose close these bytes have come and those are still to come: of a counted
 -- one there are none
-pub record IsClosing (r : Rules) (k : OpenKind) (fs : List Frame) (last rest front : List ℕ) (es : List Event) : Type 0
-  where
-    pub frame : opened.Frame
-    pub outer : List opened.Frame
-    pub begun : HaveBegun fs
-    pub of_kind : kind_of k ≡ frame.kind
-    pub has_all : members_missing frame.kind frame.form (count frame.done) ≡ 0
-    pub closes : close frame.form ≡ last ++ rest
-    pub of_levels : AreLevelsOf (busy_levels fs) outer
-    pub ready : AreReady (LeafKeeps r WithinItems) (NodeKeeps r WithinItems) (frame ∷ outer)
-    pub whole : front ≡ text_around (frame ∷ outer) last
-    pub told : es ≡ without_places (events_around (frame ∷ outer))
+pub record IsBeingClosed (r : Rules) (k : OpenKind) (fs : List Frame) (last rest front : List ℕ) (es : List Event) :
+    Type 0 where
+  pub frame : opened.Frame
+  pub outer : List opened.Frame
+  pub begun : HaveBegun fs
+  pub of_kind : kind_of k ≡ frame.kind
+  pub has_all : members_missing frame.kind frame.form (count frame.done) ≡ 0
+  pub closes : close frame.form ≡ last ++ rest
+  pub of_levels : AreLevelsOf (busy_levels fs) outer
+  pub ready : AreReady (LeafKeeps r WithinItems) (NodeKeeps r WithinItems) (frame ∷ outer)
+  pub whole : front ≡ text_around (frame ∷ outer) last
+  pub told : es ≡ without_places (events_around (frame ∷ outer))
 
 -- the innermost aggregate closes
 abbrev pub IsClosingIn : Rules → List Frame → List ℕ → List ℕ → List ℕ → List Event → Type 0
 IsClosingIn r [] last rest front es = ⊥
-IsClosingIn r (f ∷ fs) last rest front es = IsClosing r f.kind fs last rest front es
+IsClosingIn r (f ∷ fs) last rest front es = IsBeingClosed r f.kind fs last rest front es
 
 -- a value has ended
 abbrev pub HasEnded : Rules → List Frame → List ℕ → List Event → Type 0
 HasEnded r [] front es = IsWholeValue r front es
-HasEnded r (f ∷ fs) front es = IsClosing r f.kind fs [] [] front es
+HasEnded r (f ∷ fs) front es = IsBeingClosed r f.kind fs [] [] front es
 
 -- what the bytes taken and the events given are, at a token
 abbrev pub StandsAfterAt : Rules → Token → List Frame → List ℕ → List Event → Type 0

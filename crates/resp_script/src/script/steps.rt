@@ -2,7 +2,7 @@
 
 ghost use Rattle.std.specs.Prelude.{◌≡◌, ℕ, ◌≤◌, ◌<◌, List, [], ◌∷◌, length, map, Option, IsErrOf, IfOk, IfSome, IfNone, decimal};
 ghost use Rattle.resp_value.specs.Words.{texts_of};
-ghost use Rattle.resp_script.specs.ScriptSteps.{arguments_of, asked_words, client_of, clients_words, item_word, name_of, step_words, verb_of, HasRange, IsInRange, IsMoved};
+ghost use Rattle.resp_script.specs.ScriptSteps.{arguments_of, asked_words, step_client, clients_words, item_word, verb_name, step_words, verb_of, HasRange, IsStepInRange, IsMoved};
 ghost use Rattle.resp_script.specs.Scripts.{is_passed_over, SaysNothing};
 ghost use Rattle.resp_script.specs.SaidLines.{Says};
 
@@ -100,9 +100,9 @@ fn clients_of(words: &[&[u8]]) -> Option<usize>
 /// The step that these words say, where there are `clients` clients.
 fn step_of(alloc: Global, clients: usize, words: &[&[u8]]) -> Result<Option<Event>, LineFault>
     ensures step { IfOk result (λ step.
-        (map (λ word. word.now) words.now ≡ step_words step) × IsInRange clients step) }
+        (map (λ word. word.now) words.now ≡ step_words step) × IsStepInRange clients step) }
     ensures bad { IsErrOf result LineFault.Bad → (step : Option Event) →
-        map (λ word. word.now) words.now ≡ step_words step → IsInRange clients step → ⊥ }
+        map (λ word. word.now) words.now ≡ step_words step → IsStepInRange clients step → ⊥ }
 {
     let Some((name, beyond)) = words.split_first() else {
         return Err(LineFault::Bad);
@@ -131,8 +131,8 @@ fn step_of(alloc: Global, clients: usize, words: &[&[u8]]) -> Result<Option<Even
 
 /// What the first word of a line says.
 fn verb_of(name: &[u8]) -> Option<Verb>
-    ensures verb { IfSome result (λ verb. name.now ≡ name_of verb) }
-    ensures none { IfNone result ((verb : Verb) → name.now ≡ name_of verb → ⊥) }
+    ensures verb { IfSome result (λ verb. name.now ≡ verb_name verb) }
+    ensures none { IfNone result ((verb : Verb) → name.now ≡ verb_name verb → ⊥) }
 {
     if name == b"send".as_slice() {
         Some(Verb::Send)
@@ -153,7 +153,7 @@ fn verb_of(name: &[u8]) -> Option<Verb>
 
 /// The event of this client with these words after its number.
 fn event_of(alloc: Global, verb: Verb, client: usize, words: &[&[u8]]) -> Result<Event, LineFault>
-    ensures event { IfOk result (λ event. (verb_of event ≡ verb) × (client_of event ≡ client) ×
+    ensures event { IfOk result (λ event. (verb_of event ≡ verb) × (step_client event ≡ client) ×
         (map (λ word. word.now) words.now ≡ arguments_of event) × HasRange event) }
     ensures bad { IsErrOf result LineFault.Bad → (event : Event) → verb_of event ≡ verb →
         map (λ word. word.now) words.now ≡ arguments_of event → HasRange event → ⊥ }
@@ -189,7 +189,7 @@ fn event_of(alloc: Global, verb: Verb, client: usize, words: &[&[u8]]) -> Result
 /// The command of these words, asked by this client.
 fn sent(alloc: Global, client: usize, words: &[&[u8]]) -> Result<Event, LineFault>
     ensures event { IfOk result (λ event. (verb_of event ≡ Verb.Send) ×
-        (client_of event ≡ client) × (map (λ word. word.now) words.now ≡ arguments_of event) ×
+        (step_client event ≡ client) × (map (λ word. word.now) words.now ≡ arguments_of event) ×
         HasRange event) }
     ensures bad { IsErrOf result LineFault.Bad → words.now ≡ [] }
 {

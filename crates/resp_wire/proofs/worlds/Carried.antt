@@ -25,7 +25,7 @@ use Rattle.resp_client.specs.Clients.{ClientState, next_number, queued, state_of
 use Rattle.resp_client.specs.Hearing.{HasTaken, KeepsReading}
 use Rattle.resp_client.specs.declared.client.Client.{Client}
 use Rattle.resp_wire.specs.Carrying.{HasBrought, HasClosed, HearsOn, MeetsFault}
-use Rattle.resp_wire.specs.Ends.{Keeps}
+use Rattle.resp_wire.specs.Ends.{KeepsHeard}
 use Rattle.resp_wire.specs.Hearing.{pushes_in, replies_in}
 use Rattle.resp_wire.specs.Worlds.{ShowsClient, ShowsEach, Stands, requests_of}
 use Rattle.resp_wire.specs.declared.asked.Request.{Request as Asking}
@@ -209,7 +209,7 @@ pub shown_on : ReadingsGoOn → WhatIsReadIsShown → AChangeIsOfOneConnection �
     (c : Connection) → slice_get ends i ≡ Some e → connection_at w.connections (suc i) ≡ Some c → (is_open : c.dropped ≡ false) → i < length ends →
     (s : Stands limits (seat_at hub (suc i)) e c) → replies_in fresh ≡ [] → pushes_in fresh ≡ [] →
     HearsOn (state_of e.client) client' fresh heard (s.rest ++ take k s.session.out) → hub' ≡ seated hub (suc i) (sent_seat k s.session) →
-    Keeps (record e { client = client' }) e' heard →
+    KeepsHeard (record e { client = client' }) e' heard →
     Step limits w (ToClient (suc i) k) Done (after_event w (ToClient (suc i) k)) ×
     ShowsEach limits hub' (set ends i e') order (after_event w (ToClient (suc i) k))
 shown_on go_on nothing_else change limits hub hub' ends order w at i k e e' client' fresh heard c here its is_open within s no_reply no_push on now kept =

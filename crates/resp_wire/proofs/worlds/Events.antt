@@ -14,7 +14,7 @@ use Rattle.resp_session.specs.WorldLaws.{AChangeIsOfOneConnection, IsPossible}
 use Rattle.resp_session.specs.Worlds.{Greet, Send, World, WorldEvent, after_event, connection_at, world_with}
 use Rattle.resp_server.specs.Hubs.{HubState, seat_at}
 use Rattle.resp_client.specs.Clients.{queued, state_of}
-use Rattle.resp_wire.specs.Ends.{Queues, Takes}
+use Rattle.resp_wire.specs.Ends.{Queues, TakesRequest}
 use Rattle.resp_wire.specs.Happening.{Happens, IsOpenEnd}
 use Rattle.resp_wire.specs.Worlds.{Shows, ShowsEach, outcome_of}
 use Rattle.resp_wire.specs.declared.end.End.{End}
@@ -97,7 +97,7 @@ request_taken : {L : Type 0} (is_honest : L → Type 0) → ReadingsStay → Wha
     (hub : HubState) (ends : List End) (links : List L) (order : List ℕ) (stopped : Option Cause) (w : World) (i : ℕ) (e e' : End)
     (event : WorldEvent) (request : Request) (outcome : Outcome) →
     (shows : Shows is_honest (world_of hub ends links order stopped) limits w) →
-    (a : IsAt limits hub ends order w i e) → Takes e e' request outcome → (outcome ≡ Done → IsPossible event) →
+    (a : IsAt limits hub ends order w i e) → TakesRequest e e' request outcome → (outcome ≡ Done → IsPossible event) →
     ((cause : Cause) → RefusesEvent limits (Some a.connection) event cause → RefusesRequest limits (length a.connection.requests) request cause) →
     ((cause : Cause) → RefusesRequest limits (length a.connection.requests) request cause → RefusesEvent limits (Some a.connection) event cause) →
     connection_of w event ≡ Some a.connection → after_event w event ≡ world_with (with_request request) w (suc i) →
@@ -135,7 +135,7 @@ numbered number least = omega (arith, least)
 pub sends : {L : Type 0} (is_honest : L → Type 0) → ReadingsStay → WhatHasComeWasSent → ArrivalsStay → AChangeIsOfOneConnection → (hub : HubState)
     (ends : List End) (links : List L) (order : List ℕ) (stopped : Option Cause) (number : ℕ) (words : List (List ℕ)) (e e' : End)
     (outcome : Outcome) → (1 ≤ number) × (number ≤ length ends) → IsOpenEnd ends (number - 1) → e ≡ get_or ends (number - 1) e →
-    Takes e e' (Command words) outcome → (outcome ≡ Done → HasBytes (Command words)) →
+    TakesRequest e e' (Command words) outcome → (outcome ≡ Done → HasBytes (Command words)) →
     Happens is_honest (world_of hub ends links order stopped)
     (world_of hub (set ends (number - 1) e') links order stopped) (Send number words) outcome
 sends {L} is_honest readings sent arrivals change hub ends links order stopped number words e e' outcome there open_end e_is takes bytes limits w shows =
@@ -152,7 +152,7 @@ sends {L} is_honest readings sent arrivals change hub ends links order stopped n
 pub greets : {L : Type 0} (is_honest : L → Type 0) → ReadingsStay → WhatHasComeWasSent → ArrivalsStay → AChangeIsOfOneConnection → (hub : HubState)
     (ends : List End) (links : List L) (order : List ℕ) (stopped : Option Cause) (number : ℕ) (asked : Option Version) (e e' : End)
     (outcome : Outcome) → (1 ≤ number) × (number ≤ length ends) → IsOpenEnd ends (number - 1) → e ≡ get_or ends (number - 1) e →
-    Takes e e' (Hello asked) outcome →
+    TakesRequest e e' (Hello asked) outcome →
     Happens is_honest (world_of hub ends links order stopped)
     (world_of hub (set ends (number - 1) e') links order stopped) (Greet number asked) outcome
 greets {L} is_honest readings sent arrivals change hub ends links order stopped number asked e e' outcome there open_end e_is takes limits w shows =

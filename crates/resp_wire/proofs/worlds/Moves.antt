@@ -30,7 +30,7 @@ use Rattle.resp_server.specs.declared.error.PushError.{PushError}
 use Rattle.resp_server.specs.declared.error.PushError.TheVariants as push
 use Rattle.resp_server.specs.Hubs.{HubState, Seat, seat_at, seated, without_seat}
 use Rattle.resp_wire.specs.Carrying.{HasBrought, HearsOn, StopsCarrying, StopsShowing}
-use Rattle.resp_wire.specs.Ends.{Keeps, outcome_of_push}
+use Rattle.resp_wire.specs.Ends.{KeepsHeard, outcome_of_push}
 use Rattle.resp_wire.specs.Happening.{Fails, Happens, IsOpenEnd}
 use Rattle.resp_wire.specs.Hearing.{pushes_in, replies_in}
 use Rattle.resp_wire.specs.Worlds.{HasFailed, KeepFailures, Shows, ShowsEach, Stands, StopsBy, WorldState, outcome_of}
@@ -201,7 +201,7 @@ pub moves_to_client : {L : Type 0} (is_honest : L → Type 0) → ReadingsGoOn �
     between →
     replies_in fresh ≡ [] → pushes_in fresh ≡ [] → (is_honest link → IfSome (seat_at hub number) (λ s. WhereTaken e.client (λ front.
     HearsOn (state_of e.client) client' fresh heard (front ++ take count s.out)))) →
-    IfSome (seat_at hub number) (λ s. hub' ≡ seated hub number (sent_seat count s)) → (is_honest link → is_honest link') → Keeps between e' heard →
+    IfSome (seat_at hub number) (λ s. hub' ≡ seated hub number (sent_seat count s)) → (is_honest link → is_honest link') → KeepsHeard between e' heard →
     Happens is_honest (world_of hub ends links order stopped)
     (world_of hub' (set (set ends (number - 1) (with_client e client')) (number - 1) e') (set links (number - 1) link') order stopped) (ToClient number count)
     Done
@@ -224,7 +224,7 @@ moves_to_client {L} is_honest go_on nothing_else change hub hub' ends links orde
     (subst (λ n. IfSome (seat_at hub n) (λ t. hub' ≡ seated hub n (sent_seat count t))) (sym is) now) in
     let done = shown_on go_on nothing_else change limits hub hub' ends order w shows.each i count e e' client' fresh heard c a.here a.its a.is_open a.within s
     no_reply
-    no_push heard_on seated_so (subst (λ d. Keeps d e' heard) same kept) in
+    no_push heard_on seated_so (subst (λ d. KeepsHeard d e' heard) same kept) in
     let ends_are : set ends i e' ≡ set (set ends i (with_client e client')) i e' = sym (set_twice ends i (with_client e client') e') in
     subst (λ n. Leads is_honest limits w (world_of hub' (set (set ends i (with_client e client')) i e') (set links i link') order stopped) (ToClient n count)
     Done) is (
@@ -345,7 +345,7 @@ err_of {T} {E} (Err e) P f = f e refl
 
 -- why a session that is open refuses a push: a refusal of the push, or OutOfMemory
 push_refused : (limits : Bounds) (s : Seat) (version : Version) (x : Datum) (error : PushError) → s.version ≡ version →
-    server.RefusesPush limits (Some s) x error →
+    server.HubRefusesPush limits (Some s) x error →
     IfOk (outcome_of_push error) (λ outcome. (cause : Cause) × (outcome ≡ Refused cause) × RefusesPush limits version x cause)
 push_refused limits s version x push.NoSession same r = tt
 push_refused limits s version x push.Closing same r = tt
@@ -355,7 +355,7 @@ push_refused limits s version x push.NestedPush same r = (cause.PushBelowTop, re
 push_refused limits s version x (push.OverLimits limit) same r = (cause.OverLimits limit, refl, (sym same ∙ r.0.1, r.1, r.2, r.3))
 push_refused limits s version x push.OutOfMemory same r = tt
 
-push_stopped : (limits : Bounds) (s : Seat) (x : Datum) (error : PushError) → s.closing ≡ false → server.RefusesPush limits (Some s) x error →
+push_stopped : (limits : Bounds) (s : Seat) (x : Datum) (error : PushError) → s.closing ≡ false → server.HubRefusesPush limits (Some s) x error →
     IfErr (outcome_of_push error) (λ cause. cause ≡ OutOfMemory)
 push_stopped limits s x push.NoSession is_open r = absurd (cc)
 push_stopped limits s x push.Closing is_open r = absurd (cc)
@@ -368,9 +368,9 @@ push_stopped limits s x push.OutOfMemory is_open r = refl
 -- the session's reason for its refusal of a push
 pub session_refuses : (limits : Bounds) (hub : HubState) (ends : List End) (order : List ℕ) (w : World) (number : ℕ) (x : Datum) (error : PushError)
     (at : ShowsEach limits hub ends order w) (seat : Seat) → seat_at hub number ≡ Some seat →
-    server.IsPushVerdict hub.limits (seat_at hub number) x (Err error) → server.RefusesPush limits (Some seat) x error
+    server.IsPushVerdict hub.limits (seat_at hub number) x (Err error) → server.HubRefusesPush limits (Some seat) x error
 session_refuses limits hub ends order w number x error at seat there verdict =
-    subst (λ o. server.RefusesPush limits o x error) there (subst (λ l. server.RefusesPush l (seat_at hub number) x error) at.same_limits verdict.first)
+    subst (λ o. server.HubRefusesPush limits o x error) there (subst (λ l. server.HubRefusesPush l (seat_at hub number) x error) at.same_limits verdict.first)
 
 pub refuses_push : {L : Type 0} (is_honest : L → Type 0) (hub hub' : HubState) (ends : List End) (links : List L) (order : List ℕ)
     (stopped : Option Cause) (number : ℕ) (items : List Value) (error : PushError) (result : Result Outcome Cause) → result ≡ outcome_of_push error →

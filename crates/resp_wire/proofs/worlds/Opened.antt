@@ -8,7 +8,7 @@ use Rattle.resp_value.specs.Bounds.{Bounds, AreBounds}
 use Rattle.resp_value.specs.declared.version.Version.TheVariants.{Two}
 use Rattle.resp_session.specs.Connections.{Connection, new_connection}
 use Rattle.resp_session.specs.Worlds.{connection_at, new_connections, new_world}
-use Rattle.resp_server.specs.Hubs.{HubState, IsFull, IsOpened, Seat, seat_at}
+use Rattle.resp_server.specs.Hubs.{HubState, HasNoSessionLeft, IsOpened, Seat, seat_at}
 use Rattle.resp_server.specs.Reading.{HasTaken, Reading}
 use Rattle.resp_server.specs.declared.error.OpenError.{OpenError}
 use Rattle.resp_server.specs.declared.error.OpenError.TheVariants.{TooManySessions, OutOfMemory}
@@ -91,13 +91,13 @@ none_opened limits hub nothing = record {
   each_seat = λ k within. absurd (omega (arith, within));
 }
 
-not_full : (limits : Bounds) (old hub : HubState) (ends : List End) (count : ℕ) → AreOpened limits old hub ends count → count < 65536 → IsFull hub → ⊥
+not_full : (limits : Bounds) (old hub : HubState) (ends : List End) (count : ℕ) → AreOpened limits old hub ends count → count < 65536 → HasNoSessionLeft hub → ⊥
 not_full limits old hub ends count o few (inl sessions) = let so_many = o.few in omega (arith, few, so_many, sessions)
 not_full limits old hub ends count o few (inr ids) = let last = o.last in omega (arith, few, last, ids)
 
 -- a hub that is not full refuses a session when out of memory alone
 pub memory_alone : (limits : Bounds) (old hub : HubState) (ends : List End) (count : ℕ) (error : OpenError) → AreOpened limits old hub ends count →
-    count < 65536 → (IsErrOf {T = ℕ} {E = OpenError} (Err error) TooManySessions → IsFull hub) → error ≡ OutOfMemory
+    count < 65536 → (IsErrOf {T = ℕ} {E = OpenError} (Err error) TooManySessions → HasNoSessionLeft hub) → error ≡ OutOfMemory
 memory_alone limits old hub ends count OutOfMemory o few full = refl
 memory_alone limits old hub ends count TooManySessions o few full = absurd (not_full limits old hub ends count o few (full refl))
 

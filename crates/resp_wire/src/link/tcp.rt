@@ -1,6 +1,6 @@
 //! A link over TCP.
 
-ghost use Rattle.std.specs.Prelude.{◌≡◌, ◌+◌, ◌≤◌, IfErr, OnOk};
+ghost use Rattle.std.specs.Prelude.{◌≡◌, ◌+◌, ◌≤◌, IfErr, IfOk, OnOk};
 ghost use Rattle.resp_wire.specs.Links.{IsLinkCause};
 
 use super::{Direction, Link, LinkFault};
@@ -27,21 +27,18 @@ pub struct TcpLink {
 }
 
 impl TcpLink {
-    /// Opens a connection to 127.0.0.1 at a port that the machine picks. Refuses by Read where that
-    /// fails.
-    pub fn open(
-        net: &impl Net<Listener = TcpListener, Stream = TcpStream>,
-    ) -> Result<Self, LinkFault>
-        ensures refusal { IfErr result (λ fault. fault.cause ≡ Cause.Read) }
+    /// Connects to 127.0.0.1 at a port that the machine picks. Refuses with the error of the call
+    /// that failed, as where no descriptor or no port is left.
+    pub fn connect(net: &impl Net<Listener = TcpListener, Stream = TcpStream>) -> io::Result<Self>
+        ensures unused { IfOk result (λ link. link.client_end.calls + link.server_end.calls ≡ 0) }
+        ensures none_failed { IfOk result (λ link. link.failures ≡ 0) }
     {
-        match connect(net) {
-            Ok((client_end, server_end)) => Ok(TcpLink {
-                client_end: Device::new(client_end),
-                server_end: Device::new(server_end),
-                failures: 0,
-            }),
-            Err(_) => Err(LinkFault { cause: Cause::Read }),
-        }
+        let (client_end, server_end) = connect(net)?;
+        Ok(TcpLink {
+            client_end: Device::new(client_end),
+            server_end: Device::new(server_end),
+            failures: 0,
+        })
     }
 }
 

@@ -3,7 +3,7 @@ use Rattle.std.proofs.Common.{rules, refl, false, [], ◌≡◌, ◌-◌, ◌∷
 use Rattle.resp_client.specs.Clients.{state_of}
 use Rattle.resp_wire.specs.Hearing.{HearsAll}
 use Rattle.resp_wire.specs.Stops.{StopsHearing, StopsListening, is_of_last_read}
-use Rattle.resp_wire.specs.Turns.{HasRead}
+use Rattle.resp_wire.specs.Turns.{WereRead}
 use Rattle.resp_wire.proofs.Listening.{fails_reading, hears_no_bytes, hears_piece, no_last_read, stops_listening, stops_piece, waits_for_none, waits_for_piece}
 use Rattle.resp_wire.proofs.Pieces.{all_read, concat_more, gives, only_pieces}
 use Rattle.resp_wire.proofs.Turning.{end_after, reads_end, reads_failed, reads_more, reads_none, spends_nothing, spends_one}
@@ -63,7 +63,7 @@ returns-in-Ok-eq0-clause-heard g c =
         between = c.loop-piece.reader;
         given = given;
         over = (
-          subst (λ n. HasRead before after (take n c.read.new.into)) none
+          subst (λ n. WereRead before after (take n c.read.new.into)) none
               (reads_more before before after [] c.read.new.into c.in-Ok-eq0.field-0 (reads_none before) c.in-Ok-eq0.ensures.bytes),
           c.in-Ok-eq0.ensures.calls,
         );

@@ -4,7 +4,7 @@ use Rattle.std.proofs.Common.{rules, refl, Err, false, [], ◌∷◌, ◌++◌, 
 use Rattle.resp_server.specs.Handling.{HasAnswered, WhereOpen}
 use Rattle.resp_wire.specs.Serving.{AnswersBefore, FailsServing, Serves, StopsServing, is_of_reader}
 use Rattle.resp_wire.specs.Pieces.{ReadsNothing}
-use Rattle.resp_wire.specs.Turns.{HasRead}
+use Rattle.resp_wire.specs.Turns.{WereRead}
 use Rattle.resp_wire.proofs.Pieces.{all_read, gives, halted, only_pieces}
 use Rattle.resp_wire.proofs.Seated.{at_open, where_open}
 use Rattle.resp_wire.proofs.ServedTexts.{nothing_before, open_is, piece_serves, piece_stops, sent_is_open, serves_nothing}
@@ -73,7 +73,7 @@ returns-in-Ok-eq0-clause-served g c =
         between = c.loop-count.reader;
         given = given;
         over = (
-          subst (λ n. HasRead (g.R.Source.remaining c.loop-count.reader) (g.R.Source.remaining c.read_some.new.reader) (take n c.read_some.new.into)) none
+          subst (λ n. WereRead (g.R.Source.remaining c.loop-count.reader) (g.R.Source.remaining c.read_some.new.reader) (take n c.read_some.new.into)) none
               c.in-Ok-eq0.ensures.read,
           c.in-Ok-eq0.ensures.once,
         );

@@ -1,7 +1,7 @@
 use Rattle.std.proofs.Common.{refl, ◌-◌, ◌≤◌, length, set, subst}
 use Rattle.resp_session.specs.Requests.{Hello}
 use Rattle.resp_session.specs.Worlds.{Greet}
-use Rattle.resp_wire.specs.Ends.{Takes}
+use Rattle.resp_wire.specs.Ends.{TakesRequest}
 use Rattle.resp_wire.specs.Happening.{Happens, IsOpenEnd}
 use Rattle.resp_wire.specs.Worlds.{WorldState}
 use Rattle.resp_wire.proofs.worlds.Events.{both_ok, greets}
@@ -19,7 +19,7 @@ returns-clause-happens g c =
     let n = c.args.number in
     let asked = c.args.asked in
     let new = world_of s.hub (set s.ends.items (n - 1) c.hello.new.self) s.links.items s.order.items s.stopped in
-    both_ok c.hello.result (Takes c.index_mut.result.now c.hello.new.self (Hello asked)) (Takes c.index_mut.result.now c.hello.new.self (Hello asked))
+    both_ok c.hello.result (TakesRequest c.index_mut.result.now c.hello.new.self (Hello asked)) (TakesRequest c.index_mut.result.now c.hello.new.self (Hello asked))
     (Happens g.L.Link.is_honest c.args.self.now new (Greet n asked)) c.hello.ensures.takes c.hello.ensures.takes
     (λ outcome takes same. subst (λ (z : WorldState g.row.L.Denot). (1 ≤ n) × (n ≤ length z.ends) → IsOpenEnd z.ends (n - 1) →
     Happens g.L.Link.is_honest z new (Greet n asked) outcome) c.self.view_is

@@ -2,7 +2,7 @@ use Rattle.std.proofs.Common.{refl, ◌≡◌, ◌-◌, ◌≤◌, length, set, 
 use Rattle.resp_value.specs.Commands.{words_of}
 use Rattle.resp_session.specs.Requests.{Command, HasBytes}
 use Rattle.resp_session.specs.Worlds.{Send}
-use Rattle.resp_wire.specs.Ends.{Takes}
+use Rattle.resp_wire.specs.Ends.{TakesRequest}
 use Rattle.resp_wire.specs.Happening.{Happens, IsOpenEnd}
 use Rattle.resp_wire.specs.Worlds.{WorldState}
 use Rattle.resp_wire.specs.declared.event.Outcome.TheVariants.{Done}
@@ -21,7 +21,7 @@ returns-clause-happens g c =
     let n = c.args.number in
     let words = words_of c.args.command.now in
     let new = world_of s.hub (set s.ends.items (n - 1) c.send.new.self) s.links.items s.order.items s.stopped in
-    both_ok c.send.result (Takes c.index_mut.result.now c.send.new.self (Command words)) (λ outcome. outcome ≡ Done → HasBytes (Command words))
+    both_ok c.send.result (TakesRequest c.index_mut.result.now c.send.new.self (Command words)) (λ outcome. outcome ≡ Done → HasBytes (Command words))
     (Happens g.L.Link.is_honest c.args.self.now new (Send n words)) c.send.ensures.takes c.send.ensures.bytes
     (λ outcome takes bytes. subst (λ (z : WorldState g.row.L.Denot). (1 ≤ n) × (n ≤ length z.ends) → IsOpenEnd z.ends (n - 1) →
     Happens g.L.Link.is_honest z new (Send n words) outcome) c.self.view_is

@@ -1,7 +1,7 @@
 use Rattle.std.proofs.Common.{arith, ◌≡◌, ◌-◌, ◌≤◌, length, set, sym, subst, IfErr}
 use Rattle.resp_value.specs.declared.cause.Cause.TheVariants.{OutOfMemory}
 use Rattle.resp_session.specs.Worlds.{ToClient}
-use Rattle.resp_wire.specs.Ends.{Keeps}
+use Rattle.resp_wire.specs.Ends.{KeepsHeard}
 use Rattle.resp_wire.specs.Happening.{Fails, Happens, IsOpenEnd}
 use Rattle.resp_wire.specs.Worlds.{KeepFailures, WorldState}
 use Rattle.resp_wire.specs.declared.event.Outcome.TheVariants.{Done}
@@ -24,7 +24,7 @@ returns-clause-happens g c =
     let carried = c.carry_to_client-carried.new in
     let new = world_of carried.hub (set (set s.ends.items (n - 1) (with_client e carried.client)) (n - 1) c.keep.new.self) (set s.links.items (n - 1)
     carried.link) s.order.items s.stopped in
-    both_ok c.keep.result (λ _. Keeps c.index_mut-3.result.now c.keep.new.self carried.heard) (λ outcome. outcome ≡ Done)
+    both_ok c.keep.result (λ _. KeepsHeard c.index_mut-3.result.now c.keep.new.self carried.heard) (λ outcome. outcome ≡ Done)
     (Happens g.L.Link.is_honest c.args.self.now new (ToClient n c.args.count)) c.keep.ensures.kept c.keep.ensures.done
     (λ outcome kept done. subst (Happens g.L.Link.is_honest c.args.self.now new (ToClient n c.args.count)) (sym done)
     (subst (λ (z : WorldState g.row.L.Denot). (1 ≤ n) × (n ≤ length z.ends) → IsOpenEnd z.ends (n - 1) →
@@ -68,7 +68,7 @@ returns-clause-none_failed g c =
     let link' = c.carry_to_client-carried.new.link in
     let kept : KeepFailures g.L.Link.failures s.links.items (set s.links.items (n - 1) link') =
     keep_failures g.L.Link.failures s.links.items (n - 1) c.index_mut.result.now link' c.index_mut.ensures.value c.in_default.ensures.none_failed in
-    both_ok c.keep.result (λ _. Keeps c.index_mut-3.result.now c.keep.new.self c.carry_to_client-carried.new.heard) (λ outcome. outcome ≡ Done) (λ _.
+    both_ok c.keep.result (λ _. KeepsHeard c.index_mut-3.result.now c.keep.new.self c.carry_to_client-carried.new.heard) (λ outcome. outcome ≡ Done) (λ _.
     KeepFailures g.L.Link.failures c.args.self.now.links (set s.links.items (n - 1) link')) c.keep.ensures.kept c.keep.ensures.done
     (λ outcome kept_heard done.
     subst (λ (z : WorldState g.row.L.Denot). KeepFailures g.L.Link.failures z.links (set s.links.items (n - 1) link')) c.self.view_is kept)

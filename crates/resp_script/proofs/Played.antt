@@ -1,0 +1,136 @@
+-- Events played one after another, and their text.
+use Rattle.std.proofs.Common.{◌≡◌, inl, inr, ℕ, List, [], ◌∷◌, ◌++◌, Option, None, Some, Result, Ok, Err, refl, sym, ap, subst, ◌∙◌, append_assoc}
+use Rattle.resp_value.specs.Bounds.{Bounds}
+use Rattle.resp_value.specs.Devices.{Appends}
+use Rattle.resp_session.specs.Worlds.{World}
+use Rattle.resp_tool.specs.Written.{AppendsPart}
+use Rattle.resp_tool.proofs.WrittenLemmas.{Appends-append}
+use Rattle.resp_wire.specs.Worlds.{Shows, WorldState}
+use Rattle.resp_script.proofs.Printing.{part_next}
+use Rattle.resp_script.specs.Plays.{Plays, PlaysAll, PlaysScript, PlaysTo, text_of_step}
+use Rattle.resp_script.specs.Printed.{PlayedEvent, Prints, counts_text}
+use Rattle.resp_script.specs.declared.play.PlayError.{PlayError}
+use Rattle.resp_script.specs.declared.play.PlayError.TheVariants.{Stopped, Write, Memory}
+
+-- some events were played, and then more
+pub plays_more : (limits : Bounds) (w mid last : World) (events more : List PlayedEvent) (text text' : List ℕ) → Plays limits w events text mid →
+    Plays limits mid more text' last → Plays limits w (events ++ more) (text ++ text') last
+plays_more limits w mid last [] more text text' first second =
+    let e : text' ≡ text ++ text' = ap (λ z. z ++ text') (sym first.0) in
+    subst (λ z. Plays limits w more z last) e (subst (λ z. Plays limits z more text' last) first.1 second)
+plays_more limits w mid last (played ∷ events) more text text' (outcome, next, rest, step, plays, is) second = (
+  outcome,
+  next,
+  rest ++ text',
+  step,
+  plays_more limits next mid last events more rest text' plays second,
+  ap (λ z. z ++ text') is ∙ append_assoc (text_of_step w played outcome next) rest text',
+)
+
+-- all of some events were played, and then more came to something
+pub all_then : {L : Type 0} (is_honest : L → Type 0) (limits : Bounds) (w : World) (events more : List PlayedEvent) (between after : WorldState L)
+    (a b c : Option (List ℕ)) (r : Result (Unit {0}) PlayError) (first : PlaysAll is_honest limits w events between a b) →
+    PlaysTo is_honest limits first.last more after b c r → PlaysTo is_honest limits w (events ++ more) after a c r
+all_then is_honest limits w events more between after a b c (Ok x) first second = record {
+  text = first.text ++ second.text;
+  last = second.last;
+  plays = plays_more limits w first.last second.last events more first.text second.text first.plays second.plays;
+  shows = second.shows;
+  appended = Appends-append a b c first.text second.text first.appended second.appended;
+}
+all_then is_honest limits w events more between after a b c (Err (Stopped line cause)) first second = record {
+  done = events ++ second.done;
+  stopped_at = second.stopped_at;
+  beyond = second.beyond;
+  whole = ap (λ z. events ++ z) second.whole ∙ sym (append_assoc events second.done (second.stopped_at ∷ second.beyond));
+  at_line = second.at_line;
+  text = first.text ++ second.text;
+  last = second.last;
+  plays = plays_more limits w first.last second.last events second.done first.text second.text first.plays second.plays;
+  appended = Appends-append a b c first.text second.text first.appended second.appended;
+}
+all_then is_honest limits w events more between after a b c (Err Write) first second = record {
+  done = events ++ second.done;
+  later = second.later;
+  whole = ap (λ z. events ++ z) second.whole ∙ sym (append_assoc events second.done second.later);
+  text = first.text ++ second.text;
+  last = second.last;
+  plays = plays_more limits w first.last second.last events second.done first.text second.text first.plays second.plays;
+  part = part_next a b c first.text second.text first.appended second.part;
+}
+all_then is_honest limits w events more between after a b c (Err Memory) first second = record {
+  done = events ++ second.done;
+  later = second.later;
+  whole = ap (λ z. events ++ z) second.whole ∙ sym (append_assoc events second.done second.later);
+  text = first.text ++ second.text;
+  last = second.last;
+  plays = plays_more limits w first.last second.last events second.done first.text second.text first.plays second.plays;
+  part = part_next a b c first.text second.text first.appended second.part;
+}
+
+-- what stopped some events stops them and more
+pub stops_before : {L : Type 0} (is_honest : L → Type 0) (limits : Bounds) (w : World) (events more : List PlayedEvent) (after : WorldState L)
+    (a b : Option (List ℕ)) (error : PlayError) → PlaysTo is_honest limits w events after a b (Err error) →
+    PlaysTo is_honest limits w (events ++ more) after a b (Err error)
+stops_before is_honest limits w events more after a b (Stopped line cause) first = record {
+  done = first.done;
+  stopped_at = first.stopped_at;
+  beyond = first.beyond ++ more;
+  whole = ap (λ z. z ++ more) first.whole ∙ append_assoc first.done (first.stopped_at ∷ first.beyond) more;
+  at_line = first.at_line;
+  text = first.text;
+  last = first.last;
+  plays = first.plays;
+  appended = first.appended;
+}
+stops_before is_honest limits w events more after a b Write first = record {
+  done = first.done;
+  later = first.later ++ more;
+  whole = ap (λ z. z ++ more) first.whole ∙ append_assoc first.done first.later more;
+  text = first.text;
+  last = first.last;
+  plays = first.plays;
+  part = first.part;
+}
+stops_before is_honest limits w events more after a b Memory first = record {
+  done = first.done;
+  later = first.later ++ more;
+  whole = ap (λ z. z ++ more) first.whole ∙ append_assoc first.done first.later more;
+  text = first.text;
+  last = first.last;
+  plays = first.plays;
+  part = first.part;
+}
+
+-- what stopped the steps of a script stopped the script
+pub stops_script : {L : Type 0} (is_honest : L → Type 0) (limits : Bounds) (w : World) (events : List PlayedEvent) (after : WorldState L)
+    (a b : Option (List ℕ)) (error : PlayError) → PlaysTo is_honest limits w events after a b (Err error) →
+    PlaysScript is_honest limits w events after a b (Err error)
+stops_script is_honest limits w events after a b (Stopped line cause) stops = stops
+stops_script is_honest limits w events after a b Write stops = inl stops
+stops_script is_honest limits w events after a b Memory stops = inl stops
+
+-- all of the events were played, and then what came of the line of counts
+pub counts_then : {L : Type 0} (is_honest : L → Type 0) (limits : Bounds) (w : World) (events : List PlayedEvent) (after : WorldState L)
+    (a b c : Option (List ℕ)) (f g : ℕ) (r : Result (Unit {0}) PlayError) (all : PlaysAll is_honest limits w events after a b) →
+    Prints b c f g r (counts_text all.last) → PlaysScript is_honest limits w events after a c r
+counts_then is_honest limits w events after a b c f g (Ok x) all prints = record {
+  text = all.text;
+  last = all.last;
+  plays = all.plays;
+  shows = all.shows;
+  appended = Appends-append a b c all.text (counts_text all.last) all.appended prints.0;
+}
+counts_then is_honest limits w events after a b c f g (Err Write) all prints = inr (record {
+  text = all.text;
+  last = all.last;
+  plays = all.plays;
+  part = part_next a b c all.text (counts_text all.last) all.appended prints.0;
+})
+counts_then is_honest limits w events after a b c f g (Err Memory) all prints = inr (record {
+  text = all.text;
+  last = all.last;
+  plays = all.plays;
+  part = part_next a b c all.text (counts_text all.last) all.appended prints.0;
+})
+counts_then is_honest limits w events after a b c f g (Err (Stopped line cause)) all prints = absurd prints

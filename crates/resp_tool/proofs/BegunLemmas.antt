@@ -1,0 +1,97 @@
+-- Where the values of a stream begin, as more of its bytes come.
+use Rattle.std.proofs.Common.{◌≡◌, ◌≤◌, inl, inr, ℕ, ◌+◌, ◌-◌, List, [], ◌∷◌, ◌++◌, length, drop, refl, sym, ap, ◌∙◌, arith, append_assoc, append-nil, length-append}
+use Rattle.resp_value.specs.Devices.{last_count}
+use Rattle.resp_value.specs.Rules.{Rules}
+use Rattle.resp_value.specs.Spellings.{IsSpelling}
+use Rattle.resp_value.specs.TreeValues.{value}
+use Rattle.resp_scan.specs.Kinds.{rules_of}
+use Rattle.resp_scan.specs.Listening.{HearsPiece, HearsValue}
+use Rattle.resp_scan.specs.Machine.Tokens.{Place}
+use Rattle.resp_scan.specs.Reading.{Events, IsFaulted}
+use Rattle.resp_scan.specs.declared.event.Fault.{Fault}
+use Rattle.resp_tool.specs.Begun.{BeginsAt, HasCome, HavePassed}
+use Rattle.resp_tool.specs.Scans.{HasScanned}
+use Rattle.resp_tool.specs.declared.starts.Starts.{Starts}
+use Rattle.resp_tool.proofs.Rendered.{spelled_on, spelled_one}
+use Rattle.resp_tool.proofs.Scanned.{scanned_nothing}
+
+-- more bytes
+pub begins_on : (r : Rules) (bytes more : List ℕ) (count start : ℕ) → BeginsAt r bytes count start → BeginsAt r (bytes ++ more) count start
+begins_on r bytes more count start b = record {
+  values = b.values;
+  front = b.front;
+  rest = b.rest ++ more;
+  spelled = b.spelled;
+  whole = ap (λ z. z ++ more) b.whole ∙ append_assoc b.front b.rest more;
+  counted = b.counted;
+  placed = b.placed;
+}
+
+-- a byte was refused in them, or before
+pub passed_refused : (starts after : Starts) (bytes more : List ℕ) (fault : Fault) → HavePassed starts bytes →
+    rules_of after.scanner ≡ rules_of starts.scanner → after.values ≡ starts.values → after.start ≡ starts.start → IsFaulted after.scanner fault →
+    HavePassed after (bytes ++ more)
+passed_refused starts after bytes more fault h same values start faulted = record {
+  begins = rw (same, values, start) (begins_on (rules_of starts.scanner) bytes more starts.values starts.start h.begins);
+  come = inr (fault, faulted);
+}
+
+-- no value has ended in them
+pub passed_on : (starts after : Starts) (bytes more : List ℕ) (H : Events → Type 0) (h : HavePassed starts bytes) →
+    rules_of after.scanner ≡ rules_of starts.scanner → after.values ≡ starts.values → after.start ≡ starts.start →
+    HearsPiece after.scanner H (h.begins.rest ++ more) → HavePassed after (bytes ++ more)
+passed_on starts after bytes more H h same values start hears = record {
+  begins = record {
+    values = h.begins.values;
+    front = h.begins.front;
+    rest = h.begins.rest ++ more;
+    spelled = rw same h.begins.spelled;
+    whole = ap (λ z. z ++ more) h.begins.whole ∙ append_assoc h.begins.front h.begins.rest more;
+    counted = h.begins.counted ∙ sym values;
+    placed = λ small. start ∙ h.begins.placed small;
+  };
+  come = inl (hears.heard, record { reads = hears.reads; all_due = hears.all_due; no_value = hears.no_value });
+}
+
+-- a value has ended with them
+pub passed_value : (starts after : Starts) (bytes more : List ℕ) (H : Events → Type 0) (h : HavePassed starts bytes) →
+    rules_of after.scanner ≡ rules_of starts.scanner → after.values ≡ starts.values + 1 →
+    (starts.start + length (h.begins.rest ++ more) ≤ last_count → after.start ≡ starts.start + length (h.begins.rest ++ more)) →
+    HearsValue (rules_of starts.scanner) after.scanner H (h.begins.rest ++ more) → HavePassed after (bytes ++ more)
+passed_value starts after bytes more H h same values start hears =
+    let b = h.begins in
+    let tree = hears.is_value.tree in
+    let x = value tree in
+    let next = b.rest ++ more in
+    let spelling : IsSpelling (rules_of starts.scanner) x next = record { tree = tree; spells = hears.is_value.spells; keeps = hears.is_value.keeps; valued = refl } in
+    record {
+      begins = record {
+        values = b.values ++ x ∷ [];
+        front = b.front ++ next;
+        rest = [];
+        spelled = rw same (spelled_on (rules_of starts.scanner) b.values (x ∷ []) b.front next b.spelled
+            (spelled_one (rules_of starts.scanner) x next spelling));
+        whole = ap (λ z. z ++ more) b.whole ∙ append_assoc b.front b.rest more ∙ sym (append-nil (b.front ++ next));
+        counted = omega (arith, b.counted, values, length-append b.values (x ∷ []));
+        placed = λ small.
+            let size = length-append b.front next in
+            let before = b.placed (omega (arith, small, size)) in
+            start (omega (arith, small, size, before)) ∙ omega (arith, size, before);
+      };
+      come = inl ([], scanned_nothing after.scanner hears.reads);
+    }
+
+-- where no fault stands a scanner has read the rest
+pub came : (s : Place) (rest : List ℕ) → HasCome s rest → ((fault : Fault) → IsFaulted s fault → ⊥) → (given : Events) × HasScanned s rest given
+came s rest (inl read) sound = read
+came s rest (inr (fault, faulted)) sound = absurd (sound fault faulted)
+
+-- the last of two texts
+pub last_of : (xs ys all : List ℕ) → all ≡ xs ++ ys → drop (length all - length ys) all ≡ ys
+last_of xs ys all is =
+    let size : length all - length ys ≡ length xs = omega (arith, ap length is, length-append xs ys) in
+    ap (λ k. drop k all) size ∙ ap (drop (length xs)) is ∙ beyond xs ys
+  where
+    beyond : (xs ys : List ℕ) → drop (length xs) (xs ++ ys) ≡ ys
+    beyond [] ys = refl
+    beyond (x ∷ xs) ys = beyond xs ys

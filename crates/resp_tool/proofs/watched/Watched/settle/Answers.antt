@@ -1,0 +1,18 @@
+use Rattle.std.proofs.Common.{◌≡◌, ◌-◌, ◌++◌, length, drop, sym, ap, subst, ◌∙◌}
+use Rattle.resp_tool.specs.Begun.{HavePassed}
+use Rattle.resp_tool.specs.declared.watched.Watched.{Watched}
+use Rattle.resp_tool.proofs.watched.Watched.settle.Goals.{then-not-pass, else-not-pass}
+use Rattle.resp_tool.proofs.watched.Watched.settle.Goals as goal
+
+pub returns-clause-gone_through : goal.returns-clause-gone_through
+returns-clause-gone_through g c = λ bytes h sound. elim c.if-not-pass.branch [
+  | then-not-pass w ↦
+      let lost = sym (ap (λ (z : Watched g.row.R.Denot). z.is_lost) w.self-is) ∙ sound in
+      absurd (cc)
+  | else-not-pass w ↦
+      let s = h (sym (ap (λ (z : Watched g.row.R.Denot). z.is_lost) w.self-is) ∙ sound) in
+      let fresh : c.last-fresh.result.now ≡ drop (length c.args.self.now.held.items - c.args.self.now.fresh) c.args.self.now.held.items =
+      c.last-fresh.ensures ∙ ap (λ z. drop (length z - c.args.self.now.fresh) z) c.as_slice.ensures in
+      subst (λ z. HavePassed z bytes) (sym (ap (λ (z : Watched g.row.R.Denot). z.starts) w.self-is))
+      (subst (HavePassed c.pass.new.self) (ap (λ z. s.done ++ z) fresh ∙ sym s.whole) (c.pass.ensures.passed s.done s.passed w.if-not-pass.false))
+]

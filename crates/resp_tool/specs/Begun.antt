@@ -1,0 +1,31 @@
+-- Where the values of a stream begin, of whose bytes pieces have come.
+use Rattle.std.specs.Prelude.{◌≡◌, ◌⊎◌, ℕ, ◌≤◌, List, ◌++◌, length}
+use Rattle.resp_value.specs.Data.{Datum}
+use Rattle.resp_value.specs.Devices.{last_count}
+use Rattle.resp_value.specs.Rules.{Rules}
+use Rattle.resp_value.specs.Spellings.{AreSpellings}
+use Rattle.resp_scan.specs.Kinds.{rules_of}
+use Rattle.resp_scan.specs.Machine.Tokens.{Place}
+use Rattle.resp_scan.specs.Reading.{Events, IsFaulted}
+use Rattle.resp_scan.specs.declared.event.Fault.{Fault}
+use Rattle.resp_tool.specs.Scans.{HasScanned}
+use Rattle.resp_tool.specs.declared.starts.Starts.{Starts}
+
+-- the bytes begin with this many values, and these have this many bytes, where 64 bits hold the number
+pub record BeginsAt (r : Rules) (bytes : List ℕ) (count start : ℕ) : Type 0 where
+  pub values : List Datum
+  pub front : List ℕ
+  pub rest : List ℕ
+  pub spelled : AreSpellings r values front
+  pub whole : bytes ≡ front ++ rest
+  pub counted : length values ≡ count
+  pub placed : length front ≤ last_count → start ≡ length front
+
+-- a scanner has read the rest, in which no value has ended, or has refused a byte
+abbrev pub HasCome : Place → List ℕ → Type 0
+HasCome s rest = ((given : Events) × HasScanned s rest given) ⊎ ((fault : Fault) × IsFaulted s fault)
+
+-- the bytes have come, up to the first that is refused
+pub record HavePassed (starts : Starts) (bytes : List ℕ) : Type 0 where
+  pub begins : BeginsAt (rules_of starts.scanner) bytes starts.values starts.start
+  pub come : HasCome starts.scanner begins.rest

@@ -1,0 +1,101 @@
+-- What is said, for people, of the place where a stream was refused.
+use Rattle.std.specs.Prelude.{◌≡◌, ℕ, ◌+◌, ◌-◌, ◌≤◌, false, List, [], ◌++◌, length, drop, codes, decimal, replicate, Option}
+use Rattle.resp_value.specs.Data.{Datum}
+use Rattle.resp_value.specs.Devices.{Appends, last_count}
+use Rattle.resp_value.specs.Rules.{Rules}
+use Rattle.resp_value.specs.Spellings.{AreSpellings}
+use Rattle.resp_value.specs.declared.cause.Cause.{Cause}
+use Rattle.resp_value.specs.declared.cause.Cause.TheVariants as cause
+use Rattle.resp_value.specs.declared.version.Version.{Version}
+use Rattle.resp_value.specs.declared.version.Version.TheVariants.{Two, Three}
+use Rattle.resp_scan.specs.Kinds.{rules_of}
+use Rattle.resp_tool.specs.Begun.{HavePassed}
+use Rattle.resp_tool.specs.Shown.{quoted_text}
+use Rattle.resp_tool.specs.declared.tool_error.ToolError.{ToolError}
+use Rattle.resp_tool.specs.declared.tool_error.ToolError.TheVariants.{Refused, OverLimits, TooManyValues}
+use Rattle.resp_tool.specs.declared.watched.Watched.{Watched}
+
+-- the version and limits of the values that are watched
+abbrev pub rules_watched : {R : Type 0} → Watched R → Rules
+rules_watched w = rules_of w.starts.scanner
+
+-- of these bytes all but the last were gone through, and those are held
+pub record Watches {R : Type 0} (w : Watched R) (bytes : List ℕ) : Type 0 where
+  pub done : List ℕ
+  pub whole : bytes ≡ done ++ drop (length w.held.items - w.fresh) w.held.items
+  pub passed : HavePassed w.starts done
+
+-- these bytes were read while it watched; where memory was refused nothing is claimed of them
+abbrev pub HasWatched : {R : Type 0} → Watched R → List ℕ → Type 0
+HasWatched w bytes = w.is_lost ≡ false → Watches w bytes
+
+-- this many bytes stand before this byte of the value with this number, where 64 bits hold that
+pub record IsPlace (r : Rules) (bytes : List ℕ) (value at place : ℕ) : Type 0 where
+  pub values : List Datum
+  pub front : List ℕ
+  pub rest : List ℕ
+  pub spelled : AreSpellings r values front
+  pub whole : bytes ≡ front ++ rest
+  pub counted : length values + 1 ≡ value
+  pub placed : length front + at ≤ last_count → place ≡ length front + at
+
+-- what reads a double
+abbrev pub double_text : Version → List ℕ
+double_text Two = codes "a double; --doubles and --proto 3 read it"
+double_text Three = codes "a double; --doubles reads it"
+
+-- why a byte was refused, and which option lets it through
+abbrev pub cause_text : Rules → ℕ → Cause → List ℕ
+cause_text r missing cause.Double = double_text r.version
+cause_text r missing cause.Version = codes "version 2 doesn't have this; --proto 3 reads it"
+cause_text r missing cause.NestedPush = codes "a push stands at the top alone"
+cause_text r missing cause.Range = codes "the integer doesn't fit into 64 bits"
+cause_text r missing cause.Depth =
+    codes "over --depth " ++ decimal r.limits.depth ++ codes ": aggregates inside one another"
+cause_text r missing cause.Length =
+    codes "over --length " ++ decimal r.limits.length ++ codes ": bytes of one string or line"
+cause_text r missing cause.Items =
+    codes "over --items " ++ decimal r.limits.items ++ codes ": members or pairs of one aggregate"
+cause_text r missing cause.Total =
+    codes "over --total " ++ decimal r.limits.total ++ codes ": bytes of one value"
+cause_text r missing cause.Streamed = codes "a streamed form; without --no-streamed it is read"
+cause_text r missing cause.Truncated =
+    codes "the input ends; bytes that are missing at least: " ++ decimal missing ++ codes ""
+cause_text r missing _ = codes "no spelling goes on so"
+
+-- the first line up to the place
+abbrev pub margin_text : ℕ → List ℕ → List ℕ
+margin_text place before = codes "  at byte " ++ decimal place ++ codes " of the input: " ++ quoted_text before
+
+-- what is said of the reason that the program stops for, at some value
+abbrev pub sentence_text : Rules → ℕ → ToolError → List ℕ
+sentence_text r missing (Refused value c at) = cause_text r missing c
+sentence_text r missing (OverLimits value) = codes "its canonical spelling is over the limits"
+sentence_text r missing _ = codes "no more than 1000000000 values are read"
+
+-- a line that ends with the bytes from a place on, and a line with a caret and a sentence after a blank
+abbrev pub explanation_lines : List ℕ → List ℕ → List ℕ → List ℕ → List ℕ
+explanation_lines margin after blank sentence =
+    margin ++ (quoted_text after ++ (codes "\n" ++ (blank ++ (codes "^ " ++ (sentence ++ codes "\n")))))
+
+-- The place of a byte of a value was told, with some bytes before and after it, and below the place a caret and the
+-- sentence.
+pub record ExplainsAt (r options : Rules) (bytes : List ℕ) (value at : ℕ) (said said' : Option (List ℕ))
+    (error : ToolError) : Type 0 where
+  pub place : ℕ
+  pub is_place : IsPlace r bytes value at place
+  pub before : List ℕ
+  pub after : List ℕ
+  pub missing : ℕ
+  pub told : Appends said said' (explanation_lines (margin_text place before) after
+      (replicate (length (margin_text place before)) 32) (sentence_text options missing error))
+
+-- a refusal was explained at its place, and nothing where a device or memory failed
+abbrev pub Explains : Rules → Rules → List ℕ → Option (List ℕ) → Option (List ℕ) → ToolError → Type 0
+Explains r options bytes said said' (Refused value c at) =
+    ExplainsAt r options bytes value at said said' (Refused value c at)
+Explains r options bytes said said' (OverLimits value) =
+    ExplainsAt r options bytes value 0 said said' (OverLimits value)
+Explains r options bytes said said' TooManyValues =
+    ExplainsAt r options bytes 1000000001 0 said said' TooManyValues
+Explains r options bytes said said' e = Appends said said' []

@@ -1,0 +1,221 @@
+//! What is said, for people, of the place where a stream was refused.
+
+ghost use Rattle.std.specs.Prelude.{◌≡◌, ℕ, List, OnOk};
+ghost use Rattle.resp_tool.specs.Explained.{Explains, ExplainsAt, HasWatched, cause_text, double_text, explanation_lines, margin_text, rules_watched, sentence_text};
+ghost use Rattle.resp_tool.specs.Written.{WritesText};
+ghost use Rattle.resp_value.specs.Devices.{Appends};
+ghost use Rattle.resp_value.specs.Rules.{rules_under};
+
+use crate::options::Options;
+use crate::text::{write_number, write_quoted, write_text};
+use crate::tool_error::{MOST_VALUES, ToolError};
+use crate::watched::Watched;
+use resp_value::cause::Cause;
+use resp_value::device::{MemorySink, Sink, WriteFault};
+use resp_value::limits::Limits;
+use resp_value::version::Version;
+use std::alloc::Global;
+
+/// More bytes than a margin has.
+const MOST_IN_MARGIN: usize = 256;
+
+/// Writes two lines that say, for people, where in the stream of `watched` the value of `error` was
+/// refused, and why: the place and the bytes around it, and below the place a caret and a sentence.
+/// Nothing where a device or memory failed.
+///
+/// Refuses where a write fails, and then the first bytes of the lines were written, and when out of
+/// memory, and then nothing was.
+pub fn explain<R, F: Sink>(
+    alloc: Global,
+    error: &ToolError,
+    options: &Options<'_>,
+    watched: &mut Watched<R>,
+    faults: &mut F,
+) -> Result<(), ToolError>
+    ensures { (bytes : List ℕ) → HasWatched watched.old bytes →
+        OnOk result (Explains (rules_watched watched.old)
+        (rules_under options.now.version options.now.limits) bytes (F.written faults.old)
+        (F.written faults.new) error.now) }
+{
+    match error {
+        ToolError::Refused { value, cause, at } => {
+            settle_at_end(*cause, watched);
+            explain_at(alloc, error, *value, *at, options, watched, faults)
+        }
+        ToolError::OverLimits { value } => {
+            explain_at(alloc, error, *value, 0, options, watched, faults)
+        }
+        ToolError::TooManyValues => {
+            explain_at(alloc, error, MOST_VALUES + 1, 0, options, watched, faults)
+        }
+        ToolError::Read | ToolError::Write | ToolError::TooManyTurns | ToolError::Memory => Ok(()),
+    }
+}
+
+/// Goes through the bytes of the last read where the input ended.
+fn settle_at_end<R>(cause: Cause, watched: &mut Watched<R>)
+    ensures watched { (bytes : List ℕ) → HasWatched watched.old bytes →
+        HasWatched watched.new bytes }
+    ensures same_rules { rules_watched watched.new ≡ rules_watched watched.old }
+{
+    if cause == Cause::Truncated {
+        watched.settle();
+    }
+}
+
+/// Explains a refusal at this byte of the value with this number.
+fn explain_at<R, F: Sink>(
+    alloc: Global,
+    error: &ToolError,
+    value: u64,
+    at: u64,
+    options: &Options<'_>,
+    watched: &mut Watched<R>,
+    faults: &mut F,
+) -> Result<(), ToolError>
+    ensures { (bytes : List ℕ) → HasWatched watched.old bytes →
+        OnOk result (ExplainsAt (rules_watched watched.old)
+        (rules_under options.now.version options.now.limits) bytes value at
+        (F.written faults.old) (F.written faults.new) error.now) }
+{
+    let Some(place) = watched.place_of(value, at) else {
+        return Err(ToolError::Memory);
+    };
+    let missing = watched.missing();
+    let (before, after) = watched.around(place);
+    let mut margin = MemorySink::new(alloc, MOST_IN_MARGIN, MOST_IN_MARGIN)?;
+    write_margin(&mut margin, place, before)?;
+    let blank = vec![in alloc; b' '; margin.bytes().len()]?;
+    write_lines(
+        faults,
+        margin.bytes(),
+        after,
+        blank.as_slice(),
+        error,
+        options,
+        missing,
+    )?;
+    Ok(())
+}
+
+/// Writes both lines.
+fn write_lines<F: Sink>(
+    faults: &mut F,
+    margin: &[u8],
+    after: &[u8],
+    blank: &[u8],
+    error: &ToolError,
+    options: &Options<'_>,
+    missing: u64,
+) -> Result<(), WriteFault>
+    ensures { OnOk result (Appends (F.written faults.old) (F.written faults.new)
+        (explanation_lines margin.now after.now blank.now (sentence_text
+        (rules_under options.now.version options.now.limits) missing error.now))) }
+{
+    write_text(faults, margin)?;
+    write_quoted(faults, after)?;
+    write_text(faults, b"\n")?;
+    write_text(faults, blank)?;
+    write_text(faults, b"^ ")?;
+    write_sentence(faults, error, options.version, &options.limits, missing)?;
+    write_text(faults, b"\n")
+}
+
+/// Writes the first line up to the place.
+fn write_margin<F: Sink>(faults: &mut F, place: u64, before: &[u8]) -> Result<(), WriteFault>
+    ensures { WritesText (F.written faults.old) (F.written faults.new) (F.failures faults.old)
+        (F.failures faults.new) result (margin_text place before.now) }
+{
+    write_number(faults, b"  at byte ", place, b" of the input: ")?;
+    write_quoted(faults, before)
+}
+
+/// Writes why a stream was refused.
+fn write_sentence<F: Sink>(
+    faults: &mut F,
+    error: &ToolError,
+    version: Version,
+    limits: &Limits,
+    missing: u64,
+) -> Result<(), WriteFault>
+    ensures { WritesText (F.written faults.old) (F.written faults.new) (F.failures faults.old)
+        (F.failures faults.new) result
+        (sentence_text (rules_under version limits.now) missing error.now) }
+{
+    match error {
+        ToolError::Refused { cause, .. } => write_cause(faults, *cause, version, limits, missing),
+        ToolError::OverLimits { .. } => {
+            write_text(faults, b"its canonical spelling is over the limits")
+        }
+        ToolError::TooManyValues
+        | ToolError::Read
+        | ToolError::Write
+        | ToolError::TooManyTurns
+        | ToolError::Memory => write_text(faults, b"no more than 1000000000 values are read"),
+    }
+}
+
+/// Writes why a byte was refused, and which option lets it through.
+fn write_cause<F: Sink>(
+    faults: &mut F,
+    cause: Cause,
+    version: Version,
+    limits: &Limits,
+    missing: u64,
+) -> Result<(), WriteFault>
+    ensures { WritesText (F.written faults.old) (F.written faults.new) (F.failures faults.old)
+        (F.failures faults.new) result
+        (cause_text (rules_under version limits.now) missing cause) }
+{
+    match cause {
+        Cause::Double => write_double(faults, version),
+        Cause::Version => write_text(faults, b"version 2 doesn't have this; --proto 3 reads it"),
+        Cause::NestedPush => write_text(faults, b"a push stands at the top alone"),
+        Cause::Range => write_text(faults, b"the integer doesn't fit into 64 bits"),
+        Cause::Depth => write_number(
+            faults,
+            b"over --depth ",
+            limits.depth(),
+            b": aggregates inside one another",
+        ),
+        Cause::Length => write_number(
+            faults,
+            b"over --length ",
+            limits.length(),
+            b": bytes of one string or line",
+        ),
+        Cause::Items => write_number(
+            faults,
+            b"over --items ",
+            limits.items(),
+            b": members or pairs of one aggregate",
+        ),
+        Cause::Total => write_number(
+            faults,
+            b"over --total ",
+            limits.total(),
+            b": bytes of one value",
+        ),
+        Cause::Streamed => {
+            write_text(faults, b"a streamed form; without --no-streamed it is read")
+        }
+        Cause::Truncated => write_number(
+            faults,
+            b"the input ends; bytes that are missing at least: ",
+            missing,
+            b"",
+        ),
+        _ => write_text(faults, b"no spelling goes on so"),
+    }
+}
+
+/// Writes what reads a double.
+fn write_double<F: Sink>(faults: &mut F, version: Version) -> Result<(), WriteFault>
+    ensures { WritesText (F.written faults.old) (F.written faults.new) (F.failures faults.old)
+        (F.failures faults.new) result (double_text version) }
+{
+    match version {
+        Version::Two => write_text(faults, b"a double; --doubles and --proto 3 read it"),
+        Version::Three => write_text(faults, b"a double; --doubles reads it"),
+    }
+}

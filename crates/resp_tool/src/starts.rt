@@ -1,0 +1,84 @@
+//! Where the values of a stream begin, found as its bytes come.
+
+ghost use Rattle.std.specs.Prelude.{◌≡◌, ◌≤◌, ◌++◌, ℕ, List, [], true, false};
+ghost use Rattle.resp_scan.specs.Kinds.{rules_of};
+ghost use Rattle.resp_tool.specs.Begun.{BeginsAt, HavePassed};
+ghost use Rattle.resp_value.specs.Rules.{rules_under};
+
+use crate::check::Nobody;
+use resp_scan::scanner::Scanner;
+use resp_value::limits::Limits;
+use resp_value::version::Version;
+
+/// How many values of a stream have ended, and where the next begins.
+#[derive(Drop)]
+pub struct Starts {
+    scanner: Scanner,
+    values: u64,
+    start: u64,
+}
+
+impl Starts {
+    /// The start of a stream.
+    pub fn new(version: Version, limits: &Limits) -> Starts
+        ensures nothing_passed { HavePassed result [] }
+        ensures rules { rules_of result.scanner ≡ rules_under version limits.now }
+    {
+        Starts {
+            scanner: Scanner::new(version, limits),
+            values: 0,
+            start: 0,
+        }
+    }
+
+    /// Goes on through a piece until `most` values have ended, a byte is refused, or the piece
+    /// ends. False where that many have ended before the piece does.
+    pub fn pass(&mut self, piece: &[u8], most: u64) -> bool
+        ensures begins { (bytes : List ℕ) → HavePassed self.old bytes →
+            BeginsAt (rules_of self.old.scanner) (bytes ++ piece.now) self.new.values
+            self.new.start }
+        ensures passed { (bytes : List ℕ) → HavePassed self.old bytes → result ≡ true →
+            HavePassed self.new (bytes ++ piece.now) }
+        ensures at_most { self.old.values ≤ most → self.new.values ≤ most }
+        ensures same_rules { rules_of self.new.scanner ≡ rules_of self.old.scanner }
+    {
+        let mut rest = piece;
+        while self.values < most && !rest.is_empty() {
+            let taken = self.scanner.taken();
+            let scanned = match self.scanner.scan(rest, &mut Nobody) {
+                Ok(scanned) => scanned,
+                Err(_) => return true,
+            };
+            if scanned.used == 0 {
+                return false;
+            }
+            rest = &rest[scanned.used..];
+            if scanned.is_whole {
+                let size = taken.saturating_add(scanned.used as u64);
+                self.start = self.start.saturating_add(size);
+                self.values += 1;
+            }
+        }
+        rest.is_empty()
+    }
+
+    /// How many values have ended.
+    pub fn values(&self) -> u64
+        ensures { result ≡ self.now.values }
+    {
+        self.values
+    }
+
+    /// How many bytes these have, where 64 bits hold the number.
+    pub fn start(&self) -> u64
+        ensures { result ≡ self.now.start }
+    {
+        self.start
+    }
+
+    /// The least number of bytes that complete the value that was begun. It says nothing after a
+    /// refused byte.
+    pub fn needed(&self) -> u64 {
+        self.scanner.needed()
+    }
+}

@@ -1,0 +1,177 @@
+//! A source that remembers where the values of its stream begin, and the last bytes.
+
+ghost use Rattle.std.specs.Prelude.{◌≡◌, ◌≤◌, ◌-◌, ◌++◌, ℕ, List, [], length, drop, take, IfOk, IfSome, IsErr, false};
+ghost use Rattle.resp_tool.specs.Begun.{HavePassed};
+ghost use Rattle.resp_tool.specs.Explained.{HasWatched, IsPlace, rules_watched};
+ghost use Rattle.resp_tool.specs.Live.{Records};
+ghost use Rattle.resp_value.specs.Devices.{Reads, count_after, failures_after, read_fails};
+ghost use Rattle.resp_value.specs.Rules.{rules_under};
+
+use crate::live::{LiveSink, LiveSource};
+use crate::starts::Starts;
+use bytes::BytesMut;
+use resp_value::device::{DeviceFault, Source};
+use resp_value::limits::Limits;
+use resp_value::version::Version;
+use std::alloc::Global;
+
+/// How many bytes are shown before a place, and how many from there on.
+const SHOWN: usize = 16;
+
+/// Reads what another source reads, and remembers where the values begin, the bytes of the last
+/// read, and up to 16 before these.
+#[derive(Drop)]
+pub struct Watched<R> {
+    inner: R,
+    starts: Starts,
+    held: BytesMut,
+    // How many of the last bytes held were not gone through yet.
+    fresh: usize,
+    read: u64,
+    is_lost: bool,
+}
+
+impl<R: Source + Drop> Watched<R> {
+    /// Watches a source from here on, whose values are those of this version within these limits.
+    pub fn new(alloc: Global, inner: R, version: Version, limits: &Limits) -> Watched<R>
+        ensures nothing_read { HasWatched result [] }
+        ensures rules { rules_watched result ≡ rules_under version limits.now }
+        ensures same_source { result.inner ≡ inner }
+        ensures sound { result.is_lost ≡ false }
+    {
+        Watched {
+            inner,
+            starts: Starts::new(version, limits),
+            held: BytesMut::new(alloc),
+            fresh: 0,
+            read: 0,
+            is_lost: false,
+        }
+    }
+}
+
+impl<R> Watched<R> {
+    /// Goes through the bytes of the last read.
+    pub(crate) fn settle(&mut self)
+        ensures watched { (bytes : List ℕ) → HasWatched self.old bytes → HasWatched self.new bytes }
+        ensures gone_through { (bytes : List ℕ) → HasWatched self.old bytes →
+            self.new.is_lost ≡ false → HavePassed self.new.starts bytes }
+        ensures same_rules { rules_watched self.new ≡ rules_watched self.old }
+        ensures same_source { self.new.inner ≡ self.old.inner }
+    {
+        let fresh = last(self.held.as_slice(), self.fresh);
+        if !self.starts.pass(fresh, u64::MAX) {
+            self.is_lost = true;
+        }
+        self.fresh = 0;
+    }
+
+    /// Remembers the bytes of a read.
+    fn keep(&mut self, bytes: &[u8])
+        ensures watched { (before : List ℕ) → HasWatched self.old before →
+            HasWatched self.new (before ++ bytes.now) }
+        ensures same_rules { rules_watched self.new ≡ rules_watched self.old }
+        ensures same_source { self.new.inner ≡ self.old.inner }
+    {
+        self.settle();
+        let beyond = self.held.len().saturating_sub(SHOWN);
+        self.held.advance(beyond);
+        if self.held.extend_from_slice(bytes).is_err() {
+            self.is_lost = true;
+        }
+        self.fresh = bytes.len();
+        self.read = self.read.saturating_add(bytes.len() as u64);
+    }
+
+    /// How many bytes of the stream stand before byte `at` of the value with the number `value`,
+    /// counted from 1. None where memory was refused before, or fewer values have come.
+    ///
+    /// It is asked once: what comes after that value is not gone through any more.
+    pub(crate) fn place_of(&mut self, value: u64, at: u64) -> Option<u64>
+        ensures place { (bytes : List ℕ) → HasWatched self.old bytes →
+            IfSome result (IsPlace (rules_watched self.old) bytes value at) }
+    {
+        if self.is_lost || value == 0 {
+            return None;
+        }
+        let fresh = last(self.held.as_slice(), self.fresh);
+        let _ = self.starts.pass(fresh, value - 1);
+        if self.starts.values() != value - 1 {
+            return None;
+        }
+        Some(self.starts.start().saturating_add(at))
+    }
+
+    /// The least number of bytes that complete the value that was begun.
+    pub(crate) fn missing(&self) -> u64 {
+        self.starts.needed()
+    }
+
+    /// Up to 16 bytes before a place, and up to 16 from there on, as far as they were read; nothing
+    /// and two dots where the place isn't remembered.
+    pub(crate) fn around(&self, place: u64) -> (&[u8], &[u8]) {
+        let held = self.held.as_slice();
+        let first = self.read.saturating_sub(held.len() as u64);
+        let index = place.saturating_sub(first);
+        if place < first || index > held.len() as u64 {
+            return (b"", b"..");
+        }
+        let (before, after) = held.split_at(index as usize);
+        (last(before, SHOWN), &after[..SHOWN.min(after.len())])
+    }
+}
+
+/// The last bytes of a text, this many or all.
+fn last(text: &[u8], count: usize) -> &[u8]
+    ensures { result.now ≡ drop (length text.now - count) text.now }
+{
+    &text[text.len().saturating_sub(count)..]
+}
+
+impl<R: Source> Source for Watched<R> {
+    ghost remaining = { λ w. R.remaining w.inner };
+
+    ghost calls = { λ w. R.calls w.inner };
+
+    ghost failures = { λ w. R.failures w.inner };
+
+    fn read(&mut self, into: &mut [u8]) -> Result<usize, DeviceFault> {
+        match self.inner.read(into) {
+            Ok(count) => {
+                self.keep(&into[..count]);
+                Ok(count)
+            }
+            Err(fault) => Err(fault),
+        }
+    }
+}
+
+impl<R: LiveSource<W>, W: LiveSink> LiveSource<W> for Watched<R> {
+    ghost looks = { λ w. R.looks w.inner };
+
+    fn read_beside(&mut self, into: &mut [u8], writer: &W) -> Result<usize, DeviceFault>
+        ensures within { IfOk result (λ n. n ≤ length into.old) }
+        ensures bytes { Reads (R.remaining self.old.inner) (R.remaining self.new.inner) into.new
+            result }
+        ensures calls { R.calls self.new.inner ≡ count_after 1 (R.calls self.old.inner) }
+        ensures failures { R.failures self.new.inner ≡
+            failures_after (read_fails result) (R.failures self.old.inner) }
+        ensures looks { Records (R.looks self.old.inner) (R.looks self.new.inner) (record {
+          left = R.remaining self.old.inner;
+          sent = W.sent writer.now;
+        }) }
+        ensures watched { (before : List ℕ) → HasWatched self.old before →
+            IfOk result (λ n. HasWatched self.new (before ++ take n into.new)) }
+        ensures failed { IsErr result → (before : List ℕ) → HasWatched self.old before →
+            HasWatched self.new before }
+        ensures same_rules { rules_watched self.new ≡ rules_watched self.old }
+    {
+        match self.inner.read_beside(into, writer) {
+            Ok(count) => {
+                self.keep(&into[..count]);
+                Ok(count)
+            }
+            Err(fault) => Err(fault),
+        }
+    }
+}
