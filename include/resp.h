@@ -1,9 +1,11 @@
-/* Reads RESP2 and RESP3, the wire protocol of Redis, as bytes come: values as events.
+/* Reads RESP2 and RESP3, the wire protocol of Redis, as bytes come: values as events. And writes
+ * commands and values into memory of the caller.
  *
  * No function takes memory from a heap, and none keeps a pointer to a piece. What the caller
  * owes, and nothing checks: the memory of a scanner stays where it is, resp_scanner_init has
  * answered RESP_OK before any other call of the scanner, one call of a scanner runs at a time, and
- * each pointer is to what its type says.
+ * each pointer is to what its type says and never NULL, not even before a length of 0. What a call
+ * writes to overlaps with nothing else that it is given.
  *
  *     struct resp_limits limits;
  *     resp_limits_standard(&limits);
@@ -56,12 +58,26 @@ enum resp_cause {
     RESP_CAUSE_STREAMED = 12,
     /* An aggregate is over the limit of items. */
     RESP_CAUSE_ITEMS = 13,
+    /* A value that is no push came while no command waits. */
+    RESP_CAUSE_UNASKED = 20,
+    /* The numbers of commands are used up. */
+    RESP_CAUSE_TOO_MANY = 24,
+    /* A CR or an LF stands in a line that is to be written. */
+    RESP_CAUSE_BAD_LINE = 60,
+    /* What is to be written as a big number isn't one, or not as it is kept. */
+    RESP_CAUSE_BAD_DIGITS = 61,
     /* The version was to change inside a value or after a refusal. */
     RESP_CAUSE_BUSY = 62,
     /* A limit is outside its range. */
     RESP_CAUSE_BAD_LIMITS = 63,
     /* The version is neither 2 nor 3. */
-    RESP_CAUSE_BAD_VERSION = 64
+    RESP_CAUSE_BAD_VERSION = 64,
+    /* The room is shorter than the text. */
+    RESP_CAUSE_NO_ROOM = 65,
+    /* There is no such kind of aggregate. */
+    RESP_CAUSE_BAD_KIND = 66,
+    /* A HELLO that asks for a version waits already. */
+    RESP_CAUSE_HELLO_WAITS = 67
 };
 
 /* The name of a cause, as "Syntax", or "" for a number that is none. */
@@ -78,9 +94,16 @@ static inline const char *resp_cause_name(uint32_t cause) {
     case RESP_CAUSE_TRUNCATED: return "Truncated";
     case RESP_CAUSE_STREAMED: return "Streamed";
     case RESP_CAUSE_ITEMS: return "Items";
+    case RESP_CAUSE_UNASKED: return "Unasked";
+    case RESP_CAUSE_TOO_MANY: return "TooMany";
+    case RESP_CAUSE_BAD_LINE: return "BadLine";
+    case RESP_CAUSE_BAD_DIGITS: return "BadDigits";
     case RESP_CAUSE_BUSY: return "Busy";
     case RESP_CAUSE_BAD_LIMITS: return "BadLimits";
     case RESP_CAUSE_BAD_VERSION: return "BadVersion";
+    case RESP_CAUSE_NO_ROOM: return "NoRoom";
+    case RESP_CAUSE_BAD_KIND: return "BadKind";
+    case RESP_CAUSE_HELLO_WAITS: return "HelloWaits";
     default: return "";
     }
 }
@@ -212,6 +235,136 @@ uint64_t resp_scanner_needed(struct resp_scanner *scanner);
 /* The bytes of a RESP_PART, `event->part` of them, where `piece` is what the step was given. */
 static inline const uint8_t *resp_event_part(const struct resp_event *event, const uint8_t *piece) {
     return event->used ? piece + (event->used - event->part) : &event->digit;
+}
+
+/* Which command each reply answers, and in which version it is read: a client without its values.
+ * The caller owns it, sets it by resp_pairing_init, and changes no field. */
+struct resp_pairing {
+    /* The version, 2 or 3. */
+    uint32_t version;
+    /* The version that the HELLO asks for that waits, or 0. */
+    uint32_t hello;
+    /* The commands that wait before it, or all that wait where there is none, and those after it. */
+    uint64_t before;
+    uint64_t beyond;
+    /* The replies that came whole. */
+    uint64_t answered;
+    /* What has come of the value that is being read. */
+    uint64_t nested;
+    uint32_t refuses;
+    uint32_t first;
+};
+
+/* Begins: nothing waits, and the version is 2. The scanner is to be between two values then. */
+void resp_pairing_init(struct resp_pairing *pairing);
+
+/* Queues a command that is sent: `hello` is the version that a HELLO asks for, and 0 for any other
+ * command. Sets `*number` to that of its reply, from 1 on. Refuses RESP_CAUSE_BAD_VERSION;
+ * RESP_CAUSE_HELLO_WAITS, a HELLO with a version while another one waits; and RESP_CAUSE_TOO_MANY
+ * after 2^63 commands. A refusal changes nothing. */
+uint32_t resp_pairing_queue(struct resp_pairing *pairing, uint32_t hello, uint64_t *number);
+
+/* The first byte of a value, before the scanner is given it: sets `*version` to the one in which the
+ * value is read. That is the pairing's, or the greater one that a HELLO asks for which waits first.
+ * Refuses RESP_CAUSE_UNASKED, any byte but `>` where no command waits, and changes nothing. */
+uint32_t resp_pairing_first(struct resp_pairing *pairing, uint8_t byte, uint32_t *version);
+
+/* An event of that value, in order: sets `*number` to that of the reply to which it belongs, or to 0
+ * for a push. At RESP_DONE a reply answers the first command that waits, and the version is the one
+ * that a HELLO asked for, unless its reply is an error, attributes before it aside. */
+void resp_pairing_take(struct resp_pairing *pairing, const struct resp_event *event, uint64_t *number);
+
+/* Steps as resp_scanner_step, and pairs. The scanner was begun in any version between two values,
+ * and is stepped by this call alone. Refuses as resp_pairing_first, after which the same byte may
+ * come again once a command was queued; and as resp_scanner_step. It is these calls in order. Of
+ * RESP_MORE before a value's first event `*number` says nothing. */
+static inline uint32_t resp_pairing_step(struct resp_pairing *pairing, struct resp_scanner *scanner,
+                                         const uint8_t *piece, size_t length, struct resp_event *event,
+                                         uint64_t *number) {
+    uint32_t cause, version = 0;
+    if (length > 0 && resp_scanner_taken(scanner) == 0) {
+        cause = resp_pairing_first(pairing, piece[0], &version);
+        if (cause != RESP_OK)
+            return cause;
+        /* (a scanner that has refused a byte keeps its version, and refuses again) */
+        (void)resp_scanner_set_version(scanner, version);
+    }
+    cause = resp_scanner_step(scanner, piece, length, event);
+    if (cause == RESP_OK)
+        resp_pairing_take(pairing, event, number);
+    return cause;
+}
+
+/* The calls that write put the one canonical text to the front of the caller's `length` bytes at
+ * `room`: numbers without a plus and without leading zeros, strings and aggregates by their length
+ * or number, never streamed. Each sets `*size` to the bytes of that text. Where the room is shorter
+ * than that it refuses by RESP_CAUSE_NO_ROOM: nothing is written then, and `*size` is set all the
+ * same. Any other refusal, which is named at the call, leaves the room and `*size`. What stands in
+ * the room after the text is left as it was.
+ *
+ * No limits are looked at but by resp_command_size: what a value is part of, no call sees. */
+
+/* The head of an aggregate, RESP_ARRAY to RESP_PUSH, of so many members, or pairs in a map or an
+ * attribute. The texts of the members follow it, an attribute's pairs and then the value that it
+ * annotates. RESP_CAUSE_BAD_KIND refuses another kind. Version 2 has RESP_ARRAY alone. */
+uint32_t resp_write_head(uint8_t *room, size_t length, uint32_t kind, uint64_t members, size_t *size);
+
+/* A bulk string of `count` bytes. */
+uint32_t resp_write_bulk(uint8_t *room, size_t length, const uint8_t *bytes, size_t count, size_t *size);
+
+/* A bulk error of `count` bytes, which version 2 hasn't. */
+uint32_t resp_write_bulk_error(uint8_t *room, size_t length, const uint8_t *bytes, size_t count, size_t *size);
+
+/* A verbatim string: three bytes of format, as "txt", and `count` bytes of text. Version 2 hasn't
+ * any. */
+uint32_t resp_write_verbatim(uint8_t *room, size_t length, const uint8_t format[3], const uint8_t *text,
+                             size_t count, size_t *size);
+
+/* An integer. */
+uint32_t resp_write_int(uint8_t *room, size_t length, int64_t number, size_t *size);
+
+/* Null as version 2 or 3 has it. RESP_CAUSE_BAD_VERSION refuses another version. */
+uint32_t resp_write_null(uint8_t *room, size_t length, uint32_t version, size_t *size);
+
+/* A truth value, which version 2 hasn't. */
+uint32_t resp_write_bool(uint8_t *room, size_t length, bool truth, size_t *size);
+
+/* A simple string, an error, and a double by its text, of `count` bytes. RESP_CAUSE_BAD_LINE
+ * refuses a text with CR or LF; whether the text of a double is a number isn't looked at. Version 2
+ * hasn't doubles. */
+uint32_t resp_write_simple(uint8_t *room, size_t length, const uint8_t *text, size_t count, size_t *size);
+uint32_t resp_write_error(uint8_t *room, size_t length, const uint8_t *text, size_t count, size_t *size);
+uint32_t resp_write_double(uint8_t *room, size_t length, const uint8_t *text, size_t count, size_t *size);
+
+/* A big number by its sign and its `count` digits, which version 2 hasn't. RESP_CAUSE_BAD_DIGITS
+ * refuses other bytes than digits, none, a leading zero but of "0", and a zero with a sign. */
+uint32_t resp_write_big(uint8_t *room, size_t length, bool is_negative, const uint8_t *digits, size_t count,
+                        size_t *size);
+
+/* Sets `*size` to the bytes of a command's text, by the lengths of its `count` words. Refuses by
+ * RESP_CAUSE_BAD_LIMITS; by RESP_CAUSE_LENGTH where a word is over the limit of length; else by
+ * RESP_CAUSE_ITEMS where there are more words than the limit of items; else by RESP_CAUSE_TOTAL
+ * where the text is over the limit of total. A refusal leaves `*size`. */
+uint32_t resp_command_size(const struct resp_limits *limits, const size_t *lengths, size_t count, size_t *size);
+
+/* Writes a command of `argc` words, `argvlen` bytes at each `argv`, to the front of the room, as
+ * each call that writes does: an array of bulk strings. Refuses as resp_command_size; and by
+ * RESP_CAUSE_NO_ROOM, and then tells the size. It is this loop over calls that are proved. */
+static inline uint32_t resp_write_command(uint8_t *room, size_t length, const struct resp_limits *limits,
+                                          size_t argc, const char *const *argv, const size_t *argvlen,
+                                          size_t *size) {
+    size_t at = 0, used = 0, word;
+    uint32_t cause = resp_command_size(limits, argvlen, argc, size);
+    if (cause == RESP_OK && length < *size)
+        cause = RESP_CAUSE_NO_ROOM;
+    if (cause != RESP_OK)
+        return cause;
+    cause = resp_write_head(room, length, RESP_ARRAY, argc, &used);
+    for (word = 0; cause == RESP_OK && word < argc; word++) {
+        at += used;
+        cause = resp_write_bulk(room + at, length - at, (const uint8_t *)argv[word], argvlen[word], &used);
+    }
+    return cause;
 }
 
 #ifdef __cplusplus

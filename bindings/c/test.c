@@ -220,7 +220,262 @@ static void calls(void) {
     free(scanner.memory);
 }
 
+/* The calls that write, each with what the row gives it. */
+static const char *LONG_BYTES;
+
+#define BYTES(text) (const uint8_t *)text, sizeof text - 1
+#define WRITES(name, call)                                                     \
+    static uint32_t name(uint8_t *room, size_t length, size_t *size) { return call; }
+
+WRITES(write_array, resp_write_head(room, length, RESP_ARRAY, 2, size))
+WRITES(write_set, resp_write_head(room, length, RESP_SET, 0, size))
+WRITES(write_map, resp_write_head(room, length, RESP_MAP, 10, size))
+WRITES(write_attribute, resp_write_head(room, length, RESP_ATTRIBUTE, 123456789, size))
+WRITES(write_push, resp_write_head(room, length, RESP_PUSH, UINT64_MAX, size))
+WRITES(write_bulk, resp_write_bulk(room, length, BYTES("he\r\no"), size))
+WRITES(write_empty, resp_write_bulk(room, length, BYTES(""), size))
+WRITES(write_long, resp_write_bulk(room, length, (const uint8_t *)LONG_BYTES, 1000, size))
+WRITES(write_bulk_error, resp_write_bulk_error(room, length, BYTES("E x"), size))
+WRITES(write_verbatim, resp_write_verbatim(room, length, (const uint8_t *)"txt", BYTES("abc"), size))
+WRITES(write_zero, resp_write_int(room, length, 0, size))
+WRITES(write_least, resp_write_int(room, length, INT64_MIN, size))
+WRITES(write_most, resp_write_int(room, length, INT64_MAX, size))
+WRITES(write_null_2, resp_write_null(room, length, 2, size))
+WRITES(write_null_3, resp_write_null(room, length, 3, size))
+WRITES(write_true, resp_write_bool(room, length, true, size))
+WRITES(write_false, resp_write_bool(room, length, false, size))
+WRITES(write_simple, resp_write_simple(room, length, BYTES("OK"), size))
+WRITES(write_error, resp_write_error(room, length, BYTES("ERR no"), size))
+WRITES(write_double, resp_write_double(room, length, BYTES("1.5"), size))
+WRITES(write_big, resp_write_big(room, length, true, BYTES("12"), size))
+WRITES(write_big_zero, resp_write_big(room, length, false, BYTES("0"), size))
+WRITES(write_lf, resp_write_simple(room, length, BYTES("a\n"), size))
+WRITES(write_cr, resp_write_error(room, length, BYTES("\ra"), size))
+WRITES(write_double_lf, resp_write_double(room, length, BYTES("\n"), size))
+WRITES(write_no_digits, resp_write_big(room, length, false, BYTES(""), size))
+WRITES(write_no_digit, resp_write_big(room, length, false, BYTES("1a"), size))
+WRITES(write_leading_zero, resp_write_big(room, length, false, BYTES("01"), size))
+WRITES(write_minus_zero, resp_write_big(room, length, true, BYTES("0"), size))
+WRITES(write_version_4, resp_write_null(room, length, 4, size))
+WRITES(write_kind_5, resp_write_head(room, length, 5, 1, size))
+
+static const char *const WORDS[] = {"SET", "key", "a\r\nb"};
+static const size_t LENGTHS[] = {3, 3, 4};
+
+static uint32_t command(uint8_t *room, size_t length, size_t *size, void (*limit)(struct resp_limits *), size_t count) {
+    struct resp_limits limits;
+    resp_limits_standard(&limits);
+    if (limit)
+        limit(&limits);
+    return resp_write_command(room, length, &limits, count, WORDS, LENGTHS, size);
+}
+
+WRITES(write_command, command(room, length, size, 0, 3))
+WRITES(write_no_words, command(room, length, size, 0, 0))
+
+/* A call that writes, and the text that it has to write or why it refuses. */
+struct written {
+    uint32_t (*write)(uint8_t *room, size_t length, size_t *size);
+    const char *text;
+    uint32_t cause;
+};
+
+static const struct written WRITTEN[] = {
+    {write_array, "*2\r\n", RESP_OK},
+    {write_set, "~0\r\n", RESP_OK},
+    {write_map, "%10\r\n", RESP_OK},
+    {write_attribute, "|123456789\r\n", RESP_OK},
+    {write_push, ">18446744073709551615\r\n", RESP_OK},
+    {write_bulk, "$5\r\nhe\r\no\r\n", RESP_OK},
+    {write_empty, "$0\r\n\r\n", RESP_OK},
+    {write_bulk_error, "!3\r\nE x\r\n", RESP_OK},
+    {write_verbatim, "=7\r\ntxt:abc\r\n", RESP_OK},
+    {write_zero, ":0\r\n", RESP_OK},
+    {write_least, ":-9223372036854775808\r\n", RESP_OK},
+    {write_most, ":9223372036854775807\r\n", RESP_OK},
+    {write_null_2, "$-1\r\n", RESP_OK},
+    {write_null_3, "_\r\n", RESP_OK},
+    {write_true, "#t\r\n", RESP_OK},
+    {write_false, "#f\r\n", RESP_OK},
+    {write_simple, "+OK\r\n", RESP_OK},
+    {write_error, "-ERR no\r\n", RESP_OK},
+    {write_double, ",1.5\r\n", RESP_OK},
+    {write_big, "(-12\r\n", RESP_OK},
+    {write_big_zero, "(0\r\n", RESP_OK},
+    {write_command, "*3\r\n$3\r\nSET\r\n$3\r\nkey\r\n$4\r\na\r\nb\r\n", RESP_OK},
+    {write_no_words, "*0\r\n", RESP_OK},
+    {write_lf, "", RESP_CAUSE_BAD_LINE},
+    {write_cr, "", RESP_CAUSE_BAD_LINE},
+    {write_double_lf, "", RESP_CAUSE_BAD_LINE},
+    {write_no_digits, "", RESP_CAUSE_BAD_DIGITS},
+    {write_no_digit, "", RESP_CAUSE_BAD_DIGITS},
+    {write_leading_zero, "", RESP_CAUSE_BAD_DIGITS},
+    {write_minus_zero, "", RESP_CAUSE_BAD_DIGITS},
+    {write_version_4, "", RESP_CAUSE_BAD_VERSION},
+    {write_kind_5, "", RESP_CAUSE_BAD_KIND},
+};
+
+/* Whether each byte is one that no text has. */
+static bool is_blank(const uint8_t *room, size_t length) {
+    while (length > 0 && room[length - 1] == 0xAA)
+        length--;
+    return length == 0;
+}
+
+/* Writes a row into room of its own of this length, so that a write outside it is found. */
+static void write_into(const struct written *row, size_t length) {
+    size_t wanted = strlen(row->text), size = 999;
+    uint8_t *room = malloc(length ? length : 1);
+    memset(room, 0xAA, length ? length : 1);
+    uint32_t cause = row->write(room, length, &size);
+    if (row->cause != RESP_OK) {
+        check(cause == row->cause && size == 999 && is_blank(room, length), resp_cause_name(row->cause), "written");
+    } else if (length < wanted) {
+        check(cause == RESP_CAUSE_NO_ROOM, row->text, "written without room");
+        check(size == wanted && is_blank(room, length), row->text, "another size, or a byte, without room");
+    } else {
+        check(cause == RESP_OK && size == wanted, row->text, "not written");
+        check(memcmp(room, row->text, wanted) == 0, row->text, "another text");
+        check(is_blank(room + wanted, length - wanted), row->text, "more was written");
+    }
+    free(room);
+}
+
+static void writes(void) {
+    size_t size = 999;
+    struct resp_limits limits;
+    uint8_t room[1100];
+    char long_bytes[1000];
+    for (size_t row = 0; row < sizeof WRITTEN / sizeof *WRITTEN; row++)
+        for (size_t length = 0; length <= strlen(WRITTEN[row].text) + 2; length++)
+            write_into(&WRITTEN[row], length);
+    memset(long_bytes, 'x', sizeof long_bytes);
+    LONG_BYTES = long_bytes;
+    check(write_long(room, sizeof room, &size) == RESP_OK && size == 1009, "a thousand bytes", "another size");
+    check(memcmp(room, "$1000\r\nxx", 9) == 0 && memcmp(room + 1005, "xx\r\n", 4) == 0, "a thousand bytes", "another text");
+    size = 999;
+    check(command(room, sizeof room, &size, shallow, 3) == RESP_OK && size == 32, "a shallow command", "refused");
+    size = 999;
+    resp_limits_standard(&limits);
+    limits.depth = 0;
+    check(resp_command_size(&limits, LENGTHS, 3, &size) == RESP_CAUSE_BAD_LIMITS && size == 999, "command", "bad limits");
+    resp_limits_standard(&limits);
+    limits.length = 64, limits.total = 256, limits.items = 16;
+    size_t lengths[17] = {64, 64, 60};
+    check(resp_command_size(&limits, lengths, 3, &size) == RESP_OK && size == 213, "command", "within limits");
+    size = 999;
+    lengths[3] = 65;
+    check(resp_command_size(&limits, lengths, 17, &size) == RESP_CAUSE_LENGTH && size == 999, "command", "over length");
+    lengths[3] = SIZE_MAX;
+    check(resp_command_size(&limits, lengths, 17, &size) == RESP_CAUSE_LENGTH && size == 999, "command", "far over length");
+    lengths[3] = 64;
+    check(resp_command_size(&limits, lengths, 17, &size) == RESP_CAUSE_ITEMS && size == 999, "command", "over items");
+    check(resp_command_size(&limits, lengths, 16, &size) == RESP_CAUSE_TOTAL && size == 999, "command", "over total");
+}
+
+/* A text that comes to a pairing that has queued these commands: each is the version of a HELLO, or 0. What is wanted has
+ * the events, before each value's end the number of its reply, and the version then. */
+struct paired {
+    const char *commands;
+    const char *text;
+    const char *wanted;
+};
+
+static const struct paired PAIRED[] = {
+    {"00", "+a\r\n:1\r\n", "+\"a\"=1v2.:1=2v2."},
+    {"0", "+a\r\n:1\r\n", "+\"a\"=1v2.!20"},
+    {"", "+a\r\n", "!20"},
+    {"3", ">1\r\n+m\r\n%0\r\n", ">1+\"m\"]=0v2.%0]=1v3."},
+    {"", ">1\r\n+m\r\n", "!3"},
+    {"030", "+a\r\n%1\r\n+k\r\n:1\r\n_\r\n>1\r\n+m\r\n+b\r\n",
+     "+\"a\"=1v2.%1+\"k\":1]=2v3._=3v3.>1+\"m\"]=0v3.!20"},
+    {"030", "_\r\n", "!3"},
+    {"30", "-ERR no\r\n_\r\n", "-\"ERR no\"=1v2.!3"},
+    {"30", "!3\r\nE x\r\n_\r\n", "!\"E x\"=1v2.!3"},
+    {"30", "|1\r\n+a\r\n:1\r\n-ERR no\r\n_\r\n", "|1+\"a\":1-\"ERR no\"]=1v2.!3"},
+    {"30", "|1\r\n+a\r\n-b\r\n+OK\r\n_\r\n", "|1+\"a\"-\"b\"+\"OK\"]=1v3._=2v3."},
+    {"30", "|1\r\n|1\r\n+a\r\n-b\r\n:1\r\n:2\r\n-no\r\n_\r\n", "|1|1+\"a\"-\"b\":1]:2-\"no\"]=1v2.!3"},
+    {"30", "*1\r\n-ERR no\r\n_\r\n", "*1-\"ERR no\"]=1v3._=2v3."},
+    {"30", "|1\r\n+a\r\n:1\r\n*1\r\n-no\r\n_\r\n", "|1+\"a\":1*1-\"no\"]]=1v3._=2v3."},
+    {"20", "*2\r\n+a\r\n:1\r\n+b\r\n", "*2+\"a\":1]=1v2.+\"b\"=2v2."},
+    {"0", "*1\r\n-no\r\n", "*1-\"no\"]=1v2."},
+};
+
+static bool pair_piece(struct story *story, struct resp_pairing *pairing, struct resp_scanner *scanner, const char *text,
+                       size_t length) {
+    uint8_t *piece = malloc(length ? length : 1);
+    uint32_t cause = RESP_OK;
+    memcpy(piece, text, length);
+    for (size_t at = 0;;) {
+        struct resp_event event;
+        uint64_t number = 99;
+        cause = resp_pairing_step(pairing, scanner, piece + at, length - at, &event, &number);
+        if (cause != RESP_OK || event.kind == RESP_MORE)
+            break;
+        if (event.kind == RESP_DONE)
+            say(story, "=%" PRIu64 "v%" PRIu32, number, pairing->version);
+        say_event(story, &event, piece + at);
+        at += event.used;
+    }
+    if (cause != RESP_OK)
+        say(story, "!%" PRIu32, cause);
+    free(piece);
+    return cause == RESP_OK;
+}
+
+/* Runs a row, cut before the byte `cut`; at its length and one more, byte by byte. */
+static void pair(const struct paired *row, size_t cut) {
+    size_t length = strlen(row->text);
+    struct story story = {"", 0};
+    struct resp_pairing pairing;
+    struct resp_limits limits;
+    struct resp_scanner scanner = {malloc(resp_scanner_size())};
+    uint64_t number = 0;
+    resp_limits_standard(&limits);
+    resp_scanner_init(&scanner, 3, &limits);
+    resp_pairing_init(&pairing);
+    for (const char *command = row->commands; *command; command++) {
+        uint32_t cause = resp_pairing_queue(&pairing, (uint32_t)(*command - '0'), &number);
+        check(cause == RESP_OK && number == (uint64_t)(command - row->commands) + 1, row->text, "not queued");
+    }
+    bool goes_on = true;
+    if (cut <= length) {
+        goes_on = pair_piece(&story, &pairing, &scanner, row->text, cut) &&
+                  pair_piece(&story, &pairing, &scanner, row->text + cut, length - cut);
+    } else {
+        for (size_t at = 0; goes_on && at < length; at++)
+            goes_on = pair_piece(&story, &pairing, &scanner, row->text + at, 1) &&
+                      pair_piece(&story, &pairing, &scanner, "", 0);
+    }
+    check(strcmp(story.said, row->wanted) == 0, row->text, story.said);
+    free(scanner.memory);
+}
+
+static void pairs(void) {
+    struct resp_pairing pairing, before;
+    uint64_t number = 99;
+    uint32_t version = 99;
+    for (size_t row = 0; row < sizeof PAIRED / sizeof *PAIRED; row++)
+        for (size_t cut = 0; cut <= strlen(PAIRED[row].text) + 1; cut++)
+            pair(&PAIRED[row], cut);
+    resp_pairing_init(&pairing);
+    check(resp_pairing_queue(&pairing, 4, &number) == RESP_CAUSE_BAD_VERSION && number == 99, "queue", "version 4");
+    check(resp_pairing_queue(&pairing, 3, &number) == RESP_OK && number == 1, "queue", "no HELLO");
+    before = pairing;
+    check(resp_pairing_queue(&pairing, 2, &number) == RESP_CAUSE_HELLO_WAITS && number == 1, "queue", "two HELLOs");
+    check(memcmp(&before, &pairing, sizeof pairing) == 0, "queue", "a refusal has changed it");
+    check(resp_pairing_queue(&pairing, 0, &number) == RESP_OK && number == 2, "queue", "no command after HELLO");
+    check(resp_pairing_first(&pairing, '%', &version) == RESP_OK && version == 3, "first", "not in version 3");
+    resp_pairing_init(&pairing);
+    check(resp_pairing_first(&pairing, '+', &version) == RESP_CAUSE_UNASKED && version == 3, "first", "asked");
+    check(resp_pairing_first(&pairing, '>', &version) == RESP_OK && version == 2, "first", "no push");
+    pairing.answered = UINT64_C(1) << 63;
+    check(resp_pairing_queue(&pairing, 0, &number) == RESP_CAUSE_TOO_MANY && number == 2, "queue", "too many");
+}
+
 int main(void) {
+    writes();
+    pairs();
     for (size_t row = 0; row < sizeof ROWS / sizeof *ROWS; row++)
         for (size_t cut = 0; cut <= strlen(ROWS[row].text) + 1; cut++)
             run(&ROWS[row], cut);

@@ -53,7 +53,8 @@ struct reader {
 
 static PyObject *ProtocolError, *ReplyError, *Push;
 
-static bool append(struct bytes *bytes, const uint8_t *more, size_t length) {
+/* Gives room for `length` bytes more. */
+static bool reserve(struct bytes *bytes, size_t length) {
     if (length > bytes->room - bytes->length) {
         size_t room = bytes->length + length;
         room = room < 512 ? 512 : room + room / 2;
@@ -65,6 +66,12 @@ static bool append(struct bytes *bytes, const uint8_t *more, size_t length) {
         bytes->start = start;
         bytes->room = room;
     }
+    return true;
+}
+
+static bool append(struct bytes *bytes, const uint8_t *more, size_t length) {
+    if (!reserve(bytes, length))
+        return false;
     if (length)
         memcpy(bytes->start + bytes->length, more, length);
     bytes->length += length;
@@ -501,10 +508,24 @@ static void reader_dealloc(struct reader *reader) {
     Py_DECREF(type);
 }
 
-static bool append_text(struct bytes *bytes, char type, size_t number) {
-    char head[24];
-    PyOS_snprintf(head, sizeof head, "%c%zu\r\n", type, number);
-    return append(bytes, (const uint8_t *)head, strlen(head));
+/* Adds the head of a command of this many words. */
+static bool append_head(struct bytes *bytes, size_t words) {
+    uint8_t head[24];
+    size_t size = 0;
+    return resp_write_head(head, sizeof head, RESP_ARRAY, words, &size) == RESP_OK && append(bytes, head, size);
+}
+
+/* Adds a bulk string after the head. */
+static bool append_bulk(struct bytes *bytes, const uint8_t *start, size_t length) {
+    size_t size = 0, room = bytes->room - bytes->length;
+    uint32_t cause = resp_write_bulk(bytes->start + bytes->length, room, start, length, &size);
+    if (cause == RESP_CAUSE_NO_ROOM) {
+        if (!reserve(bytes, size))
+            return false;
+        resp_write_bulk(bytes->start + bytes->length, size, start, length, &size);
+    }
+    bytes->length += size;
+    return true;
 }
 
 /* Adds a word of a command: bytes as they are, and else its text in UTF-8. */
@@ -521,9 +542,7 @@ static bool append_word(struct bytes *bytes, PyObject *word) {
     char *start;
     Py_ssize_t length;
     bool is_added = made && !PyBytes_AsStringAndSize(made, &start, &length) &&
-                    append_text(bytes, '$', (size_t)length) &&
-                    append(bytes, (const uint8_t *)start, (size_t)length) &&
-                    append(bytes, (const uint8_t *)"\r\n", 2);
+                    append_bulk(bytes, (const uint8_t *)start, (size_t)length);
     Py_XDECREF(made);
     return is_added;
 }
@@ -537,7 +556,7 @@ static PyObject *pack(PyObject *module, PyObject *words) {
         PyErr_SetString(PyExc_ValueError, "a command without a word");
         return NULL;
     }
-    bool is_packed = append_text(&bytes, '*', (size_t)count);
+    bool is_packed = append_head(&bytes, (size_t)count);
     for (Py_ssize_t at = 0; is_packed && at < count; at++)
         is_packed = append_word(&bytes, PyTuple_GetItem(words, at));
     if (is_packed)

@@ -154,6 +154,7 @@ class Rows(unittest.TestCase):
     def test_pack(self):
         self.assertEqual(resp.pack("SET", b"\xff", 1, 1.5, "\xe4"),
                          b"*5\r\n$3\r\nSET\r\n$1\r\n\xff\r\n$1\r\n1\r\n$3\r\n1.5\r\n$2\r\n\xc3\xa4\r\n")
+        self.assertEqual(resp.pack("SET", b"", b"x" * 1000), b"*3\r\n$3\r\nSET\r\n$0\r\n\r\n$1000\r\n" + b"x" * 1000 + b"\r\n")
         with self.assertRaises(ValueError):
             resp.pack()
 

@@ -1,4 +1,5 @@
-//! Reads RESP2 and RESP3, the wire protocol of Redis, as bytes come: values as events.
+//! Reads RESP2 and RESP3, the wire protocol of Redis, as bytes come: values as events. And writes
+//! commands.
 //!
 //! What stands in the bytes, which byte is refused and why is proved, as of the crate `resp_scan`
 //! that the library is built from. A [`Scanner`] copies nothing: a part of a text is lent from the
@@ -23,7 +24,10 @@
 //! # Ok::<(), Box<dyn std::error::Error>>(())
 //! ```
 
+mod command;
 mod raw;
+
+pub use command::{command, CommandError};
 
 use std::error::Error;
 use std::fmt;

@@ -4,6 +4,12 @@ use crate::{Aggregate, Cause, Event as Told, Limits as Given, Text};
 use std::ffi::c_void;
 
 pub const OK: u32 = 0;
+pub const LENGTH: u32 = 7;
+pub const TOTAL: u32 = 8;
+pub const ITEMS: u32 = 13;
+
+/// The number of an array among the kinds of aggregate.
+pub const ARRAY: u32 = 0;
 
 #[repr(C)]
 pub struct Scanner {
@@ -45,6 +51,15 @@ extern "C" {
     pub fn resp_scanner_depth(scanner: *mut Scanner) -> usize;
     pub fn resp_scanner_taken(scanner: *mut Scanner) -> u64;
     pub fn resp_scanner_needed(scanner: *mut Scanner) -> u64;
+    pub fn resp_command_size(limits: *const Limits, lengths: *const usize, count: usize, size: *mut usize) -> u32;
+    pub fn resp_write_head(room: *mut u8, length: usize, kind: u32, members: u64, size: *mut usize) -> u32;
+    pub fn resp_write_bulk(
+        room: *mut u8,
+        length: usize,
+        bytes: *const u8,
+        count: usize,
+        size: *mut usize,
+    ) -> u32;
 }
 
 impl From<&Given> for Limits {

@@ -1,6 +1,6 @@
 //! Rows of what the scanner tells of texts, each at every cut, and of its other calls.
 
-use resp::{Aggregate, BadLimits, Busy, Cause, Event, Fault, Limits, Scanner, Text, Version};
+use resp::{command, Aggregate, BadLimits, Busy, Cause, CommandError, Event, Fault, Limits, Scanner, Text, Version};
 use std::fmt::Write;
 
 /// The events of pieces: `_`, `#1`, `:7`, a text's type byte and its bytes in quotes, an aggregate's with the number of
@@ -125,4 +125,16 @@ fn calls() {
     let mut scanner = Scanner::new(Version::Two, &Limits::default()).expect("limits");
     assert_eq!(scanner.set_version(Version::Three), Ok(()));
     assert_eq!(scanner.step(b"_\r\n").expect("a null").event, Some(Event::Null));
+}
+
+#[test]
+fn commands() {
+    let limits = Limits { length: 64, total: 256, items: 16, ..Limits::default() };
+    let no_words: [&str; 0] = [];
+    assert_eq!(command(&limits, &no_words), Ok(b"*0\r\n".to_vec()));
+    assert_eq!(command(&limits, &["SET", "", "a\r\n"]), Ok(b"*3\r\n$3\r\nSET\r\n$0\r\n\r\n$3\r\na\r\n\r\n".to_vec()));
+    assert_eq!(command(&limits, &[[0; 65]]), Err(CommandError::Length));
+    assert_eq!(command(&limits, &["a"; 17]), Err(CommandError::Items));
+    assert_eq!(command(&limits, &[[0; 64]; 4]), Err(CommandError::Total));
+    assert_eq!(command(&Limits { depth: 3, ..limits }, &["a"]), Err(CommandError::BadLimits));
 }

@@ -46,8 +46,8 @@ fn main(rt: HostRuntime) -> ExitCode {
     }
 }
 
-/// Runs the program's words, and answers the status. What is wrong is said after what was shown, and
-/// nothing where what reads the output has closed it.
+/// Runs the program's words, and answers the status. What is wrong is said after what was shown,
+/// and nothing where what reads the output has closed it.
 fn run(rt: &HostRuntime) -> Result<u8, AllocError> {
     let alloc = rt.alloc();
     let mut faults = MemorySink::new(alloc, MOST_FAULTS, MOST_FAULTS)?;

@@ -6,3 +6,7 @@ pub mod Versions
 -- The memory of the caller.
 pub mod Memory
 pub mod Lent
+-- What is written.
+pub mod Writes
+-- Which reply an event belongs to.
+pub mod Pairs

@@ -1,5 +1,5 @@
 -- What a step does with the scanner in memory of the caller, in the words of the scanner's own contract.
-use Rattle.std.specs.Prelude.{◌≡◌, ℕ, List, [], ◌++◌, length, take, Option, Some, Result, Ok, Err, IfOk, IfErr}
+use Rattle.std.specs.Prelude.{◌≡◌, ℕ, List, ◌++◌, take, Option, Some, Result, Err, IfOk, IfErr}
 use Rattle.resp_scan.specs.declared.event.Fault.{Fault}
 use Rattle.resp_scan.specs.declared.event.Step.{Step}
 use Rattle.resp_scan.specs.Kinds.{rules_of}

@@ -1,5 +1,5 @@
 -- What C is told of a step.
-use Rattle.std.specs.Prelude.{◌≡◌, ℕ, ℤ, pos, Bool, true, false, List, [], ◌∷◌, length, Option, Some, None}
+use Rattle.std.specs.Prelude.{◌≡◌, ℕ, ℤ, pos, Bool, true, false, [], ◌∷◌, length, Option, Some, None}
 use Rattle.resp_scan.specs.declared.event.TextKind.{TextKind}
 use Rattle.resp_scan.specs.declared.event.TextKind.TheVariants as text
 use Rattle.resp_value.specs.declared.kind.OpenKind.{OpenKind}

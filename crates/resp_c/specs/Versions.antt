@@ -1,5 +1,5 @@
 -- Versions as C gives them.
-use Rattle.std.specs.Prelude.{◌≡◌, ◌⊎◌, ℕ, Bool, cond, eqb}
+use Rattle.std.specs.Prelude.{◌≡◌, ◌⊎◌, ℕ, cond, eqb}
 use Rattle.resp_value.specs.declared.version.Version.{Version}
 use Rattle.resp_value.specs.declared.version.Version.TheVariants as version
 

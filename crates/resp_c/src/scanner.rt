@@ -25,7 +25,7 @@ use resp_value::version::Version;
 use std::mem::{align_of, size_of};
 
 /// The number of the refusal of a version that isn't 2 or 3.
-const BAD_VERSION: u32 = 64;
+pub(crate) const BAD_VERSION: u32 = 64;
 
 /// The number of bytes of a scanner's memory.
 #[unsafe(no_mangle)]
@@ -40,7 +40,7 @@ pub extern "C" fn resp_scanner_align() -> usize {
 }
 
 /// The version of this number, 2 or 3.
-fn version(number: u32) -> Option<Version>
+pub(crate) fn version(number: u32) -> Option<Version>
     ensures some { IfSome result (λ version. (version ≡ version_of number) × IsVersion number) }
     ensures none { result ≡ None → IsVersion number → ⊥ }
 {

@@ -31,7 +31,8 @@ pub struct Client {
     pub(crate) fault: Option<Fault>,
     ghost in_range: { answered + length asks.items ≤ 2 ^ 63 },
     /// It has taken some front of a value, or a fault stands.
-    pub ghost reading: { ∥ TakesOrStands limits (record { version = version; asks = asks.items }) decoder fault ∥₁ },
+    pub ghost reading: { ∥ TakesOrStands limits (record { version = version; asks = asks.items })
+        decoder fault ∥₁ },
 }
 
 impl Client {

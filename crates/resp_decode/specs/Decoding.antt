@@ -20,8 +20,8 @@ use Rattle.resp_decode.specs.declared.fed.Fed.{Fed}
 abbrev pub rules_of : Decoder → Rules
 rules_of d = kinds.rules_of d.scanner
 
--- What a decoder has taken of a value: the bytes of this front. How a decoder stands to them is opaque to callers: `new`
--- establishes this relation, and `feed` keeps it until a fault.
+-- What a decoder has taken of a value: the bytes of this front. How a decoder stands to them is opaque to callers:
+-- `new` establishes this relation, and `feed` keeps it until a fault.
 abbrev pub HasTaken : Decoder → List ℕ → Type 0
 HasTaken d front = TakesFront d.scanner d.held front
 

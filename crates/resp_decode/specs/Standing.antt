@@ -8,8 +8,8 @@ use Rattle.resp_decode.specs.Hearing.{HasHeard}
 use Rattle.resp_decode.specs.Holding.{construction_of}
 use Rattle.resp_decode.specs.declared.held.Held.{Held}
 
--- the scanner has read the bytes of this front, no value has ended in them, and what is held is what the events that are
--- due build
+-- the scanner has read the bytes of this front, no value has ended in them, and what is held is what the events that
+-- are due build
 pub record TakesFront (scanner : Place) (held : Held) (front : List ℕ) : Type 0 where
   pub given : Events
   pub reads : HasRead scanner front given

@@ -9,3 +9,4 @@ pub mod Verdicts
 pub mod Found
 pub mod Attempted
 pub mod ReadValues
+pub mod Commands

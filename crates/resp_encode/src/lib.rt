@@ -21,5 +21,5 @@ mod writer;
 
 pub use error::{EncodeError, EncodeToError};
 pub use values::{encode, encode_push, size};
-pub use words::{check_words, encode_words};
+pub use words::{check_words, encode_words, words_size};
 pub use writer::encode_to;

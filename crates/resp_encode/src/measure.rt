@@ -33,7 +33,7 @@ pub(crate) struct Measure {
 
 /// The sum of two sizes, if a `u64` holds it.
 #[inline]
-fn sum(left: Option<u64>, right: Option<u64>) -> Option<u64>
+pub(crate) fn sum(left: Option<u64>, right: Option<u64>) -> Option<u64>
     ensures { (m n : ℕ) → IsSize left m → IsSize right n → IsSize result (m + n) }
 {
     match (left, right) {

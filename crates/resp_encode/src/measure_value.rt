@@ -1,6 +1,6 @@
 //! One walk over a value, which measures it.
 
-ghost use Rattle.std.specs.Prelude.{◌≡◌, ℕ, [], ◌∷◌, ◌++◌, ◌+◌, ◌≤◌, ◌^◌, length, map};
+ghost use Rattle.std.specs.Prelude.{◌≡◌, ℕ, List, [], ◌∷◌, ◌++◌, ◌+◌, ◌≤◌, ◌^◌, length, map};
 ghost use Rattle.resp_value.specs.Bytes.{IsText};
 ghost use Rattle.resp_value.specs.Numbers.{decimal};
 ghost use Rattle.resp_value.specs.Data.{Datum, scalar, aggregate, items_of, data_of_list, in_turn};
@@ -12,7 +12,7 @@ ghost use Rattle.resp_value.specs.Kinds.{kind_of};
 ghost use Rattle.resp_encode.specs.Walks.Measures.{Describes, DescribesEach};
 
 use crate::digits::digit_count;
-use crate::measure::{Measure, head_size};
+use crate::measure::{Measure, head_size, sum};
 use resp_value::kind::OpenKind;
 use resp_value::value::Value;
 use resp_value::version::Version;
@@ -89,6 +89,19 @@ pub(crate) fn measure_bulk(bytes: &[u8]) -> Measure
 {
     let counted = bytes.len() as u64;
     Measure::scalar(true, counted, string_size(counted))
+}
+
+/// The measure of a bulk string of this number of bytes, which may be any.
+#[inline]
+pub(crate) fn measure_bulk_of(counted: u64) -> Measure
+    ensures { (version : Version) (bytes : List ℕ) → length bytes ≡ counted →
+        Describes version (scalar (d.Bulk bytes)) result }
+{
+    let found = Measure::scalar(true, counted, 0);
+    Measure {
+        size: sum(Some(head_size(counted) + 2), Some(counted)),
+        ..found
+    }
 }
 
 /// The measure of a bulk error of these bytes, which version 2 hasn't.

@@ -2,23 +2,26 @@
 
 ghost use Rattle.resp_value.specs.Rules.{rules_under};
 ghost use Rattle.resp_encode.specs.Encodings.{IsVerdict, AppendsWhole};
-ghost use Rattle.std.specs.Prelude.{◌≡◌, ◌<◌, ◌≤◌, length, map, IsErrOf, IfOk, OnOk};
+ghost use Rattle.std.specs.Prelude.{◌≡◌, ℕ, ◌<◌, ◌≤◌, List, length, map, IsErrOf, IfErr, IfOk, OnOk};
 ghost use Rattle.resp_value.specs.Data.{data_of_list};
 ghost use Rattle.resp_value.specs.Trees.{texts};
-ghost use Rattle.resp_value.specs.Canonical.{AreValues, IsValue, canonical_text, canonical_trees};
+ghost use Rattle.resp_value.specs.Canonical.{AreValues, Fits, IsFirstOver, IsValue, canonical_text, canonical_trees};
 ghost use Rattle.resp_encode.specs.Walks.Measures.{DescribesEach};
 ghost use Rattle.resp_value.specs.Words.{texts_of, word_datum, command_of};
+ghost use Rattle.resp_encode.specs.Lengths.{HaveLengths};
 ghost use Rattle.resp_encode.specs.Walks.Writings.{Fills};
+ghost use Rattle.resp_value.specs.declared.cause.Limit.{Limit};
 ghost use Rattle.resp_encode.specs.declared.error.EncodeError.{EncodeError};
 ghost use Rattle.resp_value.specs.declared.version.Version.TheVariants.{Two};
 
 use crate::error::EncodeError;
 use crate::first_fault::checked_size;
 use crate::measure::Measure;
-use crate::measure_value::measure_bulk;
+use crate::measure_value::{measure_bulk, measure_bulk_of};
 use crate::room::reserve;
 use crate::text::{write_head, write_string};
 use bytes::BytesMut;
+use resp_value::cause::Limit;
 use resp_value::kind::OpenKind;
 use resp_value::limits::Limits;
 use resp_value::version::Version;
@@ -101,4 +104,48 @@ pub fn encode_words(
     reserve(out, size)?;
     write_words(words, out);
     Ok(())
+}
+
+/// The measure of words of these lengths as bulk strings side by side.
+fn measure_lengths(lengths: &[usize]) -> Measure
+    ensures { (words : List (List ℕ)) → HaveLengths words lengths.now →
+        DescribesEach Two (data_of_list (map word_datum words)) result }
+{
+    let mut found = Measure::nothing();
+    for counted in lengths {
+        found = found.with(&measure_bulk_of(*counted as u64));
+    }
+    found
+}
+
+/// The limit that a command is over, which has no other fault.
+fn limit_of(error: EncodeError) -> Limit
+    ensures { (over : Limit) → error ≡ EncodeError.OverLimits over → result ≡ over }
+{
+    match error {
+        EncodeError::OverLimits(over) => over,
+        EncodeError::Double
+        | EncodeError::NotInVersion
+        | EncodeError::NestedPush
+        | EncodeError::OutOfMemory => Limit::Total,
+    }
+}
+
+/// The bytes of the text of a command, by the lengths of its words. Takes no memory.
+///
+/// Refuses exactly where a command of such words is over the limits, by the first limit that it
+/// breaks.
+pub fn words_size(limits: &Limits, lengths: &[usize]) -> Result<usize, Limit>
+    ensures fits { (words : List (List ℕ)) → HaveLengths words lengths.now →
+        OnOk result (Fits (rules_under Two limits.now) (command_of words)) }
+    ensures size { (words : List (List ℕ)) → HaveLengths words lengths.now →
+        IfOk result (λ size. size ≡ length (canonical_text Two (command_of words))) }
+    ensures first_limit { (words : List (List ℕ)) → HaveLengths words lengths.now →
+        IfErr result (IsFirstOver (rules_under Two limits.now) (command_of words)) }
+{
+    let found = measure_lengths(lengths).inside(OpenKind::Array, lengths.len() as u64);
+    match checked_size(&found, Version::Two, limits) {
+        Ok(size) => Ok(size),
+        Err(error) => Err(limit_of(error)),
+    }
 }

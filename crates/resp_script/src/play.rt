@@ -270,8 +270,8 @@ impl Before {
     /// What the client of this number has heard: nothing, where there is none.
     fn new<L: Link, S: BuildHasher + Drop>(client: usize, world: &World<L, S>) -> Self
         ensures client { result.client ≡ client }
-        ensures heard { (limits : Bounds) (w : session.World) → Shows L.is_honest world.now limits w →
-            HasShown result.replies result.pushes (connection_at w.connections client) }
+        ensures heard { (limits : Bounds) (w : session.World) →
+            Shows L.is_honest world.now limits w → HasShown result.replies result.pushes (connection_at w.connections client) }
     {
         if client == 0 || client > world.clients() {
             return Before {

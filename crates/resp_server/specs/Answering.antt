@@ -27,8 +27,8 @@ pub record IsAnswerTo (id : ℕ) (x : Datum) (store store' : Store) (before afte
       state_with store' after.version (text ++ reply) after.closing (count + commands)
 
 -- this many bytes of the piece were answered, after the front that was read, whatever was written and run before them
-pub record AnswersBytes (limits : Bounds) (id : ℕ) (store store' : Store) (before after : Session) (front piece : List ℕ)
-    (used commands : ℕ) : Type 0 where
+pub record AnswersBytes (limits : Bounds) (id : ℕ) (store store' : Store) (before after : Session)
+    (front piece : List ℕ) (used commands : ℕ) : Type 0 where
   pub reply : List ℕ
   pub rest : List ℕ
   pub replied : after.out.items ≡ before.out.items ++ reply

@@ -26,7 +26,8 @@ HubRefusesPush limits (Some s) push Double = TakesPushes (Some s) × (AllowsDoub
 HubRefusesPush limits (Some s) push NestedPush =
     TakesPushes (Some s) × AllowsDoubles limits push × (HasPushAtTop push → ⊥)
 HubRefusesPush limits (Some s) push (OverLimits limit) =
-    TakesPushes (Some s) × AllowsDoubles limits push × HasPushAtTop push × IsFirstOver (rules_under Three limits) push limit
+    TakesPushes (Some s) × AllowsDoubles limits push × HasPushAtTop push ×
+    IsFirstOver (rules_under Three limits) push limit
 HubRefusesPush limits (Some s) push OutOfMemory = TakesPushes (Some s) × Fits (rules_under Three limits) push
 
 -- a push is queued where the session takes pushes and it is within the limits, and else it is refused for the first

@@ -33,7 +33,8 @@ BeginsWithWords text (word ∷ words) rest = (next : List ℕ) × BeginsWithWord
     BeginsWithWords next words rest
 
 -- with this many words, the last of them at the front of the text, the command of this name asks this
-pub record AsksWith (verb : Option Verb) (count : ℕ) (text : List ℕ) (operation : Operation) (rest : List ℕ) : Type 0 where
+pub record AsksWith (verb : Option Verb) (count : ℕ) (text : List ℕ) (operation : Operation) (rest : List ℕ) :
+    Type 0 where
   pub arguments : List (List ℕ)
   pub as_many : length arguments + 1 ≡ count
   pub few : count ≤ 3

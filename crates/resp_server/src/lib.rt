@@ -14,6 +14,7 @@ mod refusal;
 mod reply;
 mod row;
 mod run;
+mod run_lent;
 mod session;
 mod store;
 mod stored;

@@ -8,19 +8,17 @@ ghost use Rattle.resp_session.specs.Stores.{effect_of, value_at};
 ghost use Rattle.resp_session.specs.Stores as stores;
 ghost use Rattle.resp_server.specs.Operations.{operation_in, condition_in};
 ghost use Rattle.resp_server.specs.Running.{HasEffect, IsAsBefore, HasSameRest};
-ghost use Rattle.resp_server.specs.Whole.{lent_operation};
 
 use crate::operation::{Condition, Operation};
 use crate::reply::{NUMBER_ROOM, reply, reply_greeting, reply_number};
 use crate::session::Session;
 use crate::store::Store;
-use crate::whole::Lent;
 use resp_session::words::Words;
 use resp_value::content::Content;
 use resp_value::limits::Limits;
 use resp_value::value::Value;
 use resp_value::version::Version;
-use std::alloc::{AllocError, Global};
+use std::alloc::AllocError;
 use std::hash::BuildHasher;
 
 /// Does what a command asks in the session of this number, and queues the reply. When out of
@@ -60,50 +58,8 @@ pub(crate) fn run<S: BuildHasher>(
     }
 }
 
-/// Does what a command of lent words asks in the session, and queues the reply. When out of memory,
-/// the store, the session's version and what waits are as before.
-pub(crate) fn run_lent<S: BuildHasher>(
-    command: Lent<'_>,
-    store: &mut Store<S>,
-    session: &mut Session,
-    limits: &Limits,
-    alloc: Global,
-) -> Result<(), AllocError>
-    requires fits { FitsEffect limits.now
-        (effect_of store.old session.old.version 0 (lent_operation command)) }
-    ensures done { OnOk result (HasEffect store.new session.old session.new
-        (effect_of store.old session.old.version 0 (lent_operation command.entry))) }
-    ensures unchanged { OnErr result (IsAsBefore store.old store.new session.old session.new) }
-    ensures rest { HasSameRest session.old session.new }
-{
-    match command {
-        Lent::Ping => session.out.extend_from_slice(b"+PONG\r\n"),
-        Lent::Get(key) => get(key, store, session, limits),
-        Lent::Set(key, value) => set_lent(key, value, store, session, alloc),
-    }
-}
-
-/// Sets a key, and replies that it was set.
-fn set_lent<S: BuildHasher>(
-    key: &[u8],
-    value: &[u8],
-    store: &mut Store<S>,
-    session: &mut Session,
-    alloc: Global,
-) -> Result<(), AllocError>
-    ensures done { OnOk result (HasEffect store.new session.old session.new
-        (effect_of store.old session.old.version 0 (spec.Set spec.Always key.now value.now))) }
-    ensures unchanged { OnErr result (IsAsBefore store.old store.new session.old session.new) }
-    ensures rest { HasSameRest session.old session.new }
-{
-    session.out.reserve(5)?;
-    store.set_lent(key, value, alloc)?;
-    session.out.extend_reserved(b"+OK\r\n");
-    Ok(())
-}
-
 /// Replies the value of a key.
-fn get<S: BuildHasher>(
+pub(crate) fn get<S: BuildHasher>(
     key: &[u8],
     store: &Store<S>,
     session: &mut Session,

@@ -11,7 +11,7 @@ ghost use Rattle.resp_server.specs.Whole.{BeginsWithCommand, lent_operation};
 
 use crate::answer_value::answer_value;
 use crate::fault_line::append_fault;
-use crate::run::run_lent;
+use crate::run_lent::run_lent;
 use crate::session::Session;
 use crate::store::Store;
 use crate::whole::{Whole, whole_command};
@@ -48,8 +48,8 @@ pub(crate) fn take_turn<S: BuildHasher>(
     requires reading { ReadsBy (server_rules limits.now) session.old.decoder }
     requires taking { (front : List ℕ) × HasTaken session.old.decoder front }
     ensures answered { WhereTaken session.old.decoder (λ front. IfOk result (λ turn.
-        AnswersBytes limits.now id store.old store.new session.old session.new front piece.now turn.used
-        turn.commands)) }
+        AnswersBytes limits.now id store.old store.new session.old session.new front piece.now
+        turn.used turn.commands)) }
     ensures unchanged { OnErr result (IsAsBefore store.old store.new session.old session.new) }
     ensures stored { FitsStore limits.now store.new }
     ensures reading { ReadsBy (server_rules limits.now) session.new.decoder }
@@ -79,8 +79,8 @@ fn run_whole<S: BuildHasher>(
     requires between { HasTaken session.old.decoder [] }
     requires begins { BeginsWithCommand limits.now piece.now (lent_operation whole.command)
         whole.rest.now }
-    ensures answered { IfOk result (λ turn. AnswersBytes limits.now id store.old store.new session.old
-        session.new [] piece.now turn.used turn.commands) }
+    ensures answered { IfOk result (λ turn. AnswersBytes limits.now id store.old store.new
+        session.old session.new [] piece.now turn.used turn.commands) }
     ensures unchanged { OnErr result (IsAsBefore store.old store.new session.old session.new) }
     ensures stored { FitsStore limits.now store.new }
     ensures same_decoder { session.new.decoder ≡ session.old.decoder }
@@ -111,8 +111,8 @@ fn read_turn<S: BuildHasher>(
     requires reading { ReadsBy (server_rules limits.now) session.old.decoder }
     requires taking { (front : List ℕ) × HasTaken session.old.decoder front }
     ensures answered { WhereTaken session.old.decoder (λ front. IfOk result (λ turn.
-        AnswersBytes limits.now id store.old store.new session.old session.new front piece.now turn.used
-        turn.commands)) }
+        AnswersBytes limits.now id store.old store.new session.old session.new front piece.now
+        turn.used turn.commands)) }
     ensures unchanged { OnErr result (IsAsBefore store.old store.new session.old session.new) }
     ensures stored { FitsStore limits.now store.new }
     ensures reading { ReadsBy (server_rules limits.now) session.new.decoder }

@@ -37,7 +37,8 @@ RefusesPush limits version push Double = (version ≡ Three) × (AllowsDoubles l
 RefusesPush limits version push PushBelowTop =
     (version ≡ Three) × AllowsDoubles limits push × (HasPushAtTop push → ⊥)
 RefusesPush limits version push (OverLimits limit) =
-    (version ≡ Three) × AllowsDoubles limits push × HasPushAtTop push × IsFirstOver (rules_under Three limits) push limit
+    (version ≡ Three) × AllowsDoubles limits push × HasPushAtTop push ×
+    IsFirstOver (rules_under Three limits) push limit
 RefusesPush limits version push _ = ⊥
 
 -- why an event on this connection is refused; bytes and drops never are

@@ -15,7 +15,8 @@ use Rattle.resp_tool.specs.declared.tool_error.ToolError.{ToolError}
 
 -- what a task has written of bytes that were read, by how it ended
 abbrev pub TaskWrites : Task → Rules → List ℕ → Option (List ℕ) → Option (List ℕ) → Result (Unit {0}) ToolError → Type 0
-TaskWrites Show r bytes before after result = Renders r shown_text IsAny IsShownOf (IsShownIn r) bytes before after result
+TaskWrites Show r bytes before after result =
+    Renders r shown_text IsAny IsShownOf (IsShownIn r) bytes before after result
 TaskWrites Check r bytes before after result = Counts r bytes before after result
 TaskWrites Canon r bytes before after result =
     Renders r (canonical_text r.version) (Fits r) LeavesNothing LeavesNothing bytes before after result

@@ -101,7 +101,8 @@ Takes r text IsWritten IsLeft IsBegun HasTaken front piece so_far before after (
 -- what comes of the input's end after a front
 abbrev pub EndsInput : Rules → (Datum → List ℕ) → (List ℕ → List ℕ → Type 0) → (List ℕ → List ℕ → Type 0) → List ℕ →
     List ℕ → Option (List ℕ) → Option (List ℕ) → Result (Unit {0}) Stop → Type 0
-EndsInput r text IsLeft IsBegun front so_far before after (Ok x) = (front ≡ []) × (so_far ≡ []) × Appends before after []
+EndsInput r text IsLeft IsBegun front so_far before after (Ok x) =
+    (front ≡ []) × (so_far ≡ []) × Appends before after []
 EndsInput r text IsLeft IsBegun front so_far before after (Err (stop.Fault fault)) =
     RefusesInput r (IsEndFault r) IsLeft front so_far before after fault.cause fault.at
 EndsInput r text IsLeft IsBegun front so_far before after (Err stop.OverLimits) = ⊥

@@ -112,8 +112,8 @@ fn write_open_failed<F: Sink>(name: &[u8], why: &[u8], faults: &mut F) -> Result
     write_text(faults, b"\n")
 }
 
-/// Does what the options ask for with the stream of `reader`, or says why not. What the writer holds
-/// back at the end is the caller's to flush.
+/// Does what the options ask for with the stream of `reader`, or says why not. What the writer
+/// holds back at the end is the caller's to flush.
 pub fn perform<R: LiveSource<W>, W: LiveSink>(
     alloc: Global,
     options: &Options<'_>,
@@ -122,8 +122,8 @@ pub fn perform<R: LiveSource<W>, W: LiveSink>(
 ) -> Result<(), ToolError>
     requires { (1 ≤ options.now.piece) × (options.now.piece ≤ 65536) }
     ensures ran { (bytes : List ℕ) × AreRead (R.remaining reader.old) (R.remaining reader.new)
-        bytes × TaskWrites options.now.task (rules_under options.now.version options.now.limits) bytes
-        (W.written writer.old) (W.written writer.new) result }
+        bytes × TaskWrites options.now.task (rules_under options.now.version options.now.limits)
+        bytes (W.written writer.old) (W.written writer.new) result }
     ensures read_to_its_end { AtEnd result (IfSome (R.remaining reader.old) (λ _.
         R.remaining reader.new ≡ Some [])) }
     ensures live { Lives options.now.task (rules_under options.now.version options.now.limits)
@@ -170,10 +170,10 @@ pub fn read_words<'a, S: AsStr, W: Sink, F: Sink>(
     }
 }
 
-/// Does what the options ask for with the stream of `reader`, and answers the status: 0 where all is
-/// well, 1 where the input was refused, and 3 where a device or memory failed. What is wrong is said
-/// on `faults`, whether or not that takes it. What the writer holds back at the end is the caller's
-/// to flush.
+/// Does what the options ask for with the stream of `reader`, and answers the status: 0 where all
+/// is well, 1 where the input was refused, and 3 where a device or memory failed. What is wrong is
+/// said on `faults`, whether or not that takes it. What the writer holds back at the end is the
+/// caller's to flush.
 pub fn run_options<R: LiveSource<W>, W: LiveSink, F: Sink>(
     alloc: Global,
     options: &Options<'_>,

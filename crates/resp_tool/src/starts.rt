@@ -31,8 +31,8 @@ impl Starts {
         }
     }
 
-    /// Goes on through a piece until `most` values have ended, a byte is refused, or the piece ends.
-    /// False where that many have ended before the piece does.
+    /// Goes on through a piece until `most` values have ended, a byte is refused, or the piece
+    /// ends. False where that many have ended before the piece does.
     pub fn pass(&mut self, piece: &[u8], most: u64) -> bool
         ensures begins { (bytes : List ℕ) → HavePassed self.old bytes →
             BeginsAt (rules_of self.old.scanner) (bytes ++ piece.now) self.new.values

@@ -42,7 +42,8 @@ fn nested_pushes(rt: HostRuntime) {
     check_nested(&rt, Version::Two, EncodeError::NotInVersion);
 }
 
-/// That `encode` refuses this value in both versions where doubles aren't allowed, since it has one.
+/// That `encode` refuses this value in both versions where doubles aren't allowed, since it has
+/// one.
 fn check_doubles<R: Abort + AllocGlobal>(rt: &R, value: &Value) {
     let limits = &Limits::standard();
     check_encode(rt, Version::Three, limits, value, Err(EncodeError::Double));

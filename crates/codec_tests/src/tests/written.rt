@@ -2,7 +2,7 @@
 
 use super::build::{bare_buffer, small_limits, words};
 use super::check_equal;
-use resp_encode::{EncodeError, check_words, encode_push, encode_words};
+use resp_encode::{EncodeError, check_words, encode_push, encode_words, words_size};
 use resp_value::cause::Limit;
 use resp_value::value::Value;
 use std::process::Abort;
@@ -39,6 +39,7 @@ fn commands(rt: HostRuntime) {
     let words = words(&rt, &[b"SET", b"a", b"1"]);
     let text = b"kept*3\r\n$3\r\nSET\r\n$1\r\na\r\n$1\r\n1\r\n";
     check_written(&rt, words.as_slice(), Ok(()), text);
+    check_equal(&rt, words_size(&small_limits(), &[3, 1, 1]), Ok(27));
 }
 
 #[test]
@@ -46,4 +47,5 @@ fn a_word_that_is_too_long(rt: HostRuntime) {
     let words = words(&rt, &[&[b'a'; 65]]);
     let over = Err(EncodeError::OverLimits(Limit::Length));
     check_written(&rt, words.as_slice(), over, b"kept");
+    check_equal(&rt, words_size(&small_limits(), &[65]), Err(Limit::Length));
 }

@@ -133,8 +133,8 @@ pub(super) fn attempt_error(
     true
 }
 
-/// Appends a double, or leaves the buffer where doubles aren't allowed, in version 2, over length or
-/// without room.
+/// Appends a double, or leaves the buffer where doubles aren't allowed, in version 2, over length
+/// or without room.
 #[inline(never)]
 pub(super) fn attempt_double(
     line: &Line,

@@ -92,18 +92,18 @@ pub record IsWholeValue (r : Rules) (front : List ℕ) (es : List Event) : Type 
 
 -- an aggregate with all of its members, of whose close these bytes have come and those are still to come: of a counted
 -- one there are none
-pub record IsBeingClosed (r : Rules) (k : OpenKind) (fs : List Frame) (last rest front : List ℕ) (es : List Event) : Type 0
-  where
-    pub frame : opened.Frame
-    pub outer : List opened.Frame
-    pub begun : HaveBegun fs
-    pub of_kind : kind_of k ≡ frame.kind
-    pub has_all : members_missing frame.kind frame.form (count frame.done) ≡ 0
-    pub closes : close frame.form ≡ last ++ rest
-    pub of_levels : AreLevelsOf (busy_levels fs) outer
-    pub ready : AreReady (LeafKeeps r WithinItems) (NodeKeeps r WithinItems) (frame ∷ outer)
-    pub whole : front ≡ text_around (frame ∷ outer) last
-    pub told : es ≡ without_places (events_around (frame ∷ outer))
+pub record IsBeingClosed (r : Rules) (k : OpenKind) (fs : List Frame) (last rest front : List ℕ) (es : List Event) :
+    Type 0 where
+  pub frame : opened.Frame
+  pub outer : List opened.Frame
+  pub begun : HaveBegun fs
+  pub of_kind : kind_of k ≡ frame.kind
+  pub has_all : members_missing frame.kind frame.form (count frame.done) ≡ 0
+  pub closes : close frame.form ≡ last ++ rest
+  pub of_levels : AreLevelsOf (busy_levels fs) outer
+  pub ready : AreReady (LeafKeeps r WithinItems) (NodeKeeps r WithinItems) (frame ∷ outer)
+  pub whole : front ≡ text_around (frame ∷ outer) last
+  pub told : es ≡ without_places (events_around (frame ∷ outer))
 
 -- the innermost aggregate closes
 abbrev pub IsClosingIn : Rules → List Frame → List ℕ → List ℕ → List ℕ → List Event → Type 0

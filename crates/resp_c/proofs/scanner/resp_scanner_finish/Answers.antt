@@ -1,8 +1,7 @@
-use Rattle.std.proofs.Common.{◌≡◌, Some, Err, sym, ◌∙◌, subst}
+use Rattle.std.proofs.Common.{◌≡◌, sym, ◌∙◌, subst}
 use Rattle.std.proofs.lemmas.Option.{same_Some}
 use Rattle.std.proofs.lemmas.Result.{IfErr-at_err}
 use Rattle.resp_scan.specs.Reading.{IsFaulted}
-use Rattle.resp_scan.specs.declared.event.Fault.{Fault}
 use Rattle.resp_value.specs.Causes.{number_of}
 use Rattle.resp_c.proofs.scanner.resp_scanner_finish.Goals as goal
 

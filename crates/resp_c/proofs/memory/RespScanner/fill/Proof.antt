@@ -7,7 +7,7 @@ use base.Fraction.{full_share}
 use mir.Syntax.{named, Ty}
 use mir.Val.{Val, vptr, vunit}
 use base.Logic.{SProp, ent, id⊢}
-use base.Fml.{Lft, GName, Share, ftrue, fat, flft}
+use base.Fml.{Lft, Share, ftrue, fat, flft}
 use prog.Memory.{Memory}
 use prog.Routine.{Routine}
 use prog.Wp.{Calls, Loops, WpFn}

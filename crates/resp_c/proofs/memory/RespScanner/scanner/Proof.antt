@@ -6,14 +6,11 @@ use seplogic.Ra.Ura.{Ura}
 use base.Fraction.{full_share}
 use mir.Syntax.{named}
 use mir.Val.{Val, vptr}
-use base.Logic.{SProp, ent, sep, id⊢}
-use base.Fml.{Lft, GName, Share, Fml, ftrue, flft, fsep}
-use prog.Memory.{Memory}
-use prog.Routine.{Routine}
-use contract.Monad.{Fun}
+use base.Logic.{ent, sep, id⊢}
+use base.Fml.{GName, Fml, ftrue, flft, fsep}
 use contract.Running.{tables}
 use types.Logic.{Logic, sem}
-use types.Kit.{‵, raw, ◌⊛◌, some, later, at_ret, ◌$◌, ◌∵◌, !, qed, by, move, keep, use1, split, join, pick, fsplit, fsplit3, fjoin, fpack, rewrite, suffices, frame, group, await, done}
+use types.Kit.{‵, raw, ◌⊛◌, some, later, at_ret, ◌$◌, ◌∵◌, !, qed, move, keep, use1, split, join, pick, fsplit, fsplit3, fjoin, fpack, rewrite, suffices, frame, group, await, done}
 use types.Part.{whole, sub, look_in}
 use types.Run.{stop, fld, load, of_opd, first, blocks, exec, returns, enter, addr}
 use types.ByLocal.{alloc_all, pass_all, free_all, look_at, get, through, sets, env, sets_last}
@@ -25,11 +22,11 @@ use denote.Ref.{MutRef, mut_vals, mut_Tells}
 use denote.Signature.{plain, mut_ref_to}
 use denote.Steps.{nothing, opens, peeks, heard}
 use contract.Monad.{fact}
-use Rattle.std.specs.Prelude.{Option, Some, None}
+use Rattle.std.specs.Prelude.{Option, Some}
 use Rattle.resp_c.specs.Memory.{holds}
 use denote.Struct.Struct.{Struct}
 use denote.Struct.Owning.{shape, to}
-use denote.Follow.{follows, Part, lends_Part}
+use denote.Follow.{follows, lends_Part}
 use denote.Triple.Walked.{says, Stays, stay_dropped, walk_of, ends_at, Goes-spent_ref}
 use Rattle.std.proofs.raw_atomic.Walks.{proved}
 use Rattle.std.proofs.VecSteps.Shapes.{after}

@@ -1,0 +1,103 @@
+/* Tells the events of many streams, to be compared with what the crate `stream_events` tells of them
+ * by the scanner itself: for each stream a sum of the numbers that tell its steps. That crate says
+ * how standard input has the streams. */
+#include "resp.h"
+
+#include <inttypes.h>
+#include <stdio.h>
+#include <stdlib.h>
+
+static uint64_t sum;
+
+/* Adds a number to the sum of the stream: FNV-1a of 64 bits, a number at a time. */
+static void add(uint64_t number) { sum = (sum ^ number) * UINT64_C(1099511628211); }
+
+static void add_bytes(const uint8_t *bytes, size_t count) {
+    for (size_t at = 0; at < count; at++)
+        add(bytes[at]);
+}
+
+/* Adds what a step did, but for the bytes that it used. */
+static void add_event(const struct resp_event *event, const uint8_t *piece) {
+    if (event->kind != RESP_MORE)
+        add(event->kind);
+    switch (event->kind) {
+    case RESP_BOOL:
+        add((uint64_t)event->number);
+        break;
+    case RESP_INT:
+        for (int bits = 0; bits < 64; bits += 8)
+            add((uint64_t)event->number >> bits & 255);
+        break;
+    case RESP_TEXT:
+        add(event->form);
+        if (event->form == RESP_TEXT_VERBATIM)
+            add_bytes(event->format, sizeof event->format);
+        if (event->form == RESP_TEXT_BIG)
+            add((uint64_t)event->number);
+        break;
+    case RESP_PART:
+        add(event->part);
+        add_bytes(resp_event_part(event, piece), event->part);
+        break;
+    case RESP_OPEN:
+        add(event->form);
+        add(event->members);
+        break;
+    }
+}
+
+/* Adds the steps of a piece, and then what the scanner says of itself, or why it refuses a byte.
+ * Whether it refuses none. The piece stands in memory of its own, so that a read outside it is
+ * found. */
+static bool add_piece(struct resp_scanner *scanner, const uint8_t *piece, size_t length) {
+    struct resp_event event;
+    uint32_t cause;
+    size_t at = 0;
+    while ((cause = resp_scanner_step(scanner, piece + at, length - at, &event)) == RESP_OK) {
+        add(event.used);
+        add_event(&event, piece + at);
+        at += event.used;
+        if (event.kind == RESP_MORE)
+            break;
+    }
+    if (cause == RESP_OK) {
+        add(resp_scanner_depth(scanner));
+        add(resp_scanner_taken(scanner));
+        add(resp_scanner_needed(scanner));
+    } else {
+        add(cause);
+        add(resp_scanner_taken(scanner));
+    }
+    return cause == RESP_OK;
+}
+
+int main(void) {
+    struct resp_scanner scanner = {malloc(resp_scanner_size())};
+    uint8_t head[3], lengths[255];
+    if (!scanner.memory)
+        return 3;
+    while (fread(head, 1, sizeof head, stdin) == sizeof head) {
+        struct resp_limits limits;
+        bool goes_on = true;
+        resp_limits_standard(&limits);
+        if (head[1] & 4)
+            limits = (struct resp_limits){4, 64, 256, 16, true, false};
+        limits.doubles = head[1] & 1;
+        limits.streamed = !(head[1] & 2);
+        if (resp_scanner_init(&scanner, head[0], &limits) != RESP_OK || fread(lengths, 1, head[2], stdin) != head[2])
+            return 3;
+        sum = 0;
+        for (size_t number = 0; number < head[2]; number++) {
+            uint8_t *piece = malloc(lengths[number] ? lengths[number] : 1);
+            if (!piece || fread(piece, 1, lengths[number], stdin) != lengths[number])
+                return 3;
+            goes_on = goes_on && add_piece(&scanner, piece, lengths[number]);
+            free(piece);
+        }
+        add(resp_scanner_finish(&scanner));
+        printf("%08" PRIx32 "\n", (uint32_t)(sum >> 32));
+    }
+    free(scanner.memory);
+    return 0;
+}

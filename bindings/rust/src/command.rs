@@ -1,0 +1,75 @@
+//! Commands, as a client sends them.
+
+use crate::{raw, Limits};
+use std::error::Error;
+use std::fmt;
+
+/// Why there is no text of a command.
+#[derive(Clone, Copy, Debug, PartialEq, Eq)]
+pub enum CommandError {
+    /// A limit is outside its range.
+    BadLimits,
+    /// A word is over the limit of length.
+    Length,
+    /// There are more words than the limit of items, and none is over that of length.
+    Items,
+    /// The text is over the limit of total, and the command over no other.
+    Total,
+}
+
+impl fmt::Display for CommandError {
+    fn fmt(&self, f: &mut fmt::Formatter<'_>) -> fmt::Result {
+        f.write_str(match self {
+            CommandError::BadLimits => "a limit is outside its range",
+            CommandError::Length => "a word is over the limit of length",
+            CommandError::Items => "there are more words than the limit of items",
+            CommandError::Total => "the command is over the limit of total",
+        })
+    }
+}
+
+impl Error for CommandError {}
+
+/// The text of a command: an array of its words as bulk strings. Refuses a command over the limits,
+/// and names the first that it breaks.
+///
+/// ```
+/// use resp::{command, Limits};
+///
+/// let text = command(&Limits::default(), &["GET", "key"])?;
+/// assert_eq!(text, b"*2\r\n$3\r\nGET\r\n$3\r\nkey\r\n");
+/// # Ok::<(), resp::CommandError>(())
+/// ```
+pub fn command<W: AsRef<[u8]>>(limits: &Limits, words: &[W]) -> Result<Vec<u8>, CommandError> {
+    let words: Vec<&[u8]> = words.iter().map(AsRef::as_ref).collect();
+    let lengths: Vec<usize> = words.iter().map(|word| word.len()).collect();
+    let mut text = vec![0; size(limits, &lengths)?];
+    let mut rest: &mut [u8] = &mut text;
+    let mut used = 0;
+    // SAFETY: the room is ours, of this length.
+    let cause =
+        unsafe { raw::resp_write_head(rest.as_mut_ptr(), rest.len(), raw::ARRAY, words.len() as u64, &mut used) };
+    assert_eq!(cause, raw::OK);
+    for word in words {
+        rest = &mut rest[used..];
+        // SAFETY: the room is ours, of this length, and the word, of that length, lies elsewhere.
+        let cause =
+            unsafe { raw::resp_write_bulk(rest.as_mut_ptr(), rest.len(), word.as_ptr(), word.len(), &mut used) };
+        assert_eq!(cause, raw::OK);
+    }
+    Ok(text)
+}
+
+/// The bytes of the text of a command by the lengths of its words.
+fn size(limits: &Limits, lengths: &[usize]) -> Result<usize, CommandError> {
+    let mut size = 0;
+    let limits = raw::Limits::from(limits);
+    // SAFETY: each pointer is to what we have, and the lengths are so many.
+    match unsafe { raw::resp_command_size(&limits, lengths.as_ptr(), lengths.len(), &mut size) } {
+        raw::OK => Ok(size),
+        raw::LENGTH => Err(CommandError::Length),
+        raw::ITEMS => Err(CommandError::Items),
+        raw::TOTAL => Err(CommandError::Total),
+        _ => Err(CommandError::BadLimits),
+    }
+}

@@ -1,0 +1,4 @@
+pub mod RoomTexts
+pub mod Refusals
+pub mod Asks
+pub mod ShownEvents

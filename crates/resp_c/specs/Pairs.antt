@@ -1,0 +1,124 @@
+-- Which reply an event belongs to, whether it refuses its command, and what waits, as C keeps it.
+use Rattle.std.specs.Prelude.{◌≡◌, ◌⊎◌, ℕ, zero, suc, ◌+◌, ◌-◌, Bool, true, false, List, [], ◌∷◌, ◌++◌, Option, None, Some, cond, eqb}
+use Rattle.resp_value.specs.Data.{Kind, Attr}
+use Rattle.resp_value.specs.Trees.{Tree, IsTree}
+use Rattle.resp_value.specs.TreeValues.{value}
+use Rattle.resp_value.specs.declared.version.Version.{Version}
+use Rattle.resp_fronts.specs.Events.{Event, TextKind, events, without_places}
+use Rattle.resp_fronts.specs.Events as e
+use Rattle.resp_session.specs.Reading.{Waiting, is_refusal}
+use Rattle.resp_c.specs.Versions.{IsVersion, version_of}
+use Rattle.resp_c.specs.declared.pairing.RespPairing.{RespPairing}
+
+-- what events have shown of a value: how many aggregates are open within the outermost that is no attribute, with it;
+-- and whether the last value that stands in attributes alone, or in none, is an error
+pub record Look : Type 0 where
+  pub nested : ℕ
+  pub refuses : Bool
+
+-- a value within other aggregates than attributes shows nothing
+abbrev pub where_seen : ℕ → Bool → Bool → Bool
+where_seen zero before now = now
+where_seen (suc n) before now = before
+
+abbrev pub opened : ℕ → Kind → ℕ
+opened zero Attr = zero
+opened zero _ = suc zero
+opened (suc n) _ = suc (suc n)
+
+abbrev pub refuses_at_open : ℕ → Kind → Bool → Bool
+refuses_at_open zero Attr before = before
+refuses_at_open zero _ before = false
+refuses_at_open (suc n) _ before = before
+
+abbrev pub closed : ℕ → ℕ
+closed zero = zero
+closed (suc n) = n
+
+abbrev pub is_error_kind : TextKind → Bool
+is_error_kind e.Error = true
+is_error_kind e.BulkError = true
+is_error_kind _ = false
+
+-- a value that begins, an error or not
+abbrev pub seen : Look → Bool → Look
+seen look now = record { nested = look.nested; refuses = where_seen look.nested look.refuses now }
+
+abbrev pub after_event : Look → Event → Look
+after_event look e.Null = seen look false
+after_event look (e.Bool truth) = seen look false
+after_event look (e.Int number) = seen look false
+after_event look (e.Text kind) = seen look (is_error_kind kind)
+after_event look (e.Open kind members) = record {
+  nested = opened look.nested kind;
+  refuses = refuses_at_open look.nested kind look.refuses;
+}
+after_event look e.Close = record { nested = closed look.nested; refuses = look.refuses }
+after_event look (e.Byte byte) = look
+after_event look e.TextEnd = look
+after_event look e.Done = look
+
+-- after events, one after another
+abbrev pub after_events : Look → List Event → Look
+after_events look [] = look
+after_events look (event ∷ events) = after_events (after_event look event) events
+
+-- where a value begins
+abbrev pub new_look : Look
+new_look = record { nested = 0; refuses = false }
+
+-- what the events of a value have shown at its end is whether it refuses its command
+abbrev pub TheEventsShowARefusal : Type 0
+TheEventsShowARefusal = (tree : Tree) → IsTree tree →
+    after_events new_look (without_places (events 0 tree)) ≡ record { nested = 0; refuses = is_refusal (value tree) }
+
+-- so many commands that ask for no version
+abbrev pub nones : ℕ → List (Option Version)
+nones zero = []
+nones (suc n) = None ∷ nones n
+
+-- what a command asks that was queued with this number
+abbrev pub ask_of : ℕ → Option Version
+ask_of zero = None
+ask_of (suc n) = Some (version_of (suc n))
+
+-- the HELLO of this version and so many commands after it, or nothing where it is 0
+abbrev pub hello_asks : ℕ → ℕ → List (Option Version)
+hello_asks zero beyond = []
+hello_asks (suc n) beyond = Some (version_of (suc n)) ∷ nones beyond
+
+-- what waits
+abbrev pub waiting_of : RespPairing → Waiting
+waiting_of p = record { version = version_of p.version; asks = nones p.before ++ hello_asks p.hello p.beyond }
+
+-- what the events so far have shown of the value
+abbrev pub look_of : RespPairing → Look
+look_of p = record { nested = p.nested; refuses = eqb p.refuses 1 }
+
+-- what is asked: no version, or one
+abbrev pub IsAsk : ℕ → Type 0
+IsAsk hello = (hello ≡ 0) ⊎ IsVersion hello
+
+-- another command waits
+abbrev pub with_ask : Option Version → Waiting → Waiting
+with_ask ask w = record { version = w.version; asks = w.asks ++ ask ∷ [] }
+
+-- the number of the reply, or 0 for a push
+abbrev pub number_of_reply : RespPairing → ℕ
+number_of_reply p = cond (eqb p.first 62) 0 (p.answered + 1)
+
+-- 1 for a reply, and 0 for a push
+abbrev pub count_of_reply : RespPairing → ℕ
+count_of_reply p = cond (eqb p.first 62) 0 1
+
+-- what C is told of an event shows this
+abbrev pub nested_by : ℕ → ℕ → ℕ → ℕ
+nested_by nested kind form = cond (eqb kind 7) (cond (eqb nested 0) (cond (eqb form 3) 0 1) (nested + 1))
+    (cond (eqb kind 8) (nested - 1) nested)
+
+abbrev pub refuses_by : ℕ → Bool → ℕ → ℕ → Bool
+refuses_by nested before kind form = cond (eqb nested 0)
+    (cond (eqb kind 7) (cond (eqb form 3) before false)
+    (cond (eqb kind 4) (cond (eqb form 1) true (eqb form 4))
+    (cond (eqb kind 1) false (cond (eqb kind 2) false (cond (eqb kind 3) false before)))))
+    before

@@ -1,0 +1,70 @@
+-- What the calls that write promise.
+use Rattle.std.specs.Prelude.{◌≡◌, ℕ, ◌<◌, ◌≤◌, List, [], ◌∷◌, ◌++◌, length, drop, cond, eqb}
+use Rattle.resp_value.specs.Bytes.{crlf}
+use Rattle.resp_value.specs.Canonical.{canonical_text, canonical_trees}
+use Rattle.resp_value.specs.Data.{Data, Kind, aggregate, count, items_of, scalar}
+use Rattle.resp_value.specs.Data as d
+use Rattle.resp_value.specs.Numbers.{decimal}
+use Rattle.resp_value.specs.Trees.{kind_byte, texts}
+use Rattle.resp_value.specs.Words.{command_of}
+use Rattle.resp_value.specs.declared.cause.Limit.{Limit}
+use Rattle.resp_value.specs.declared.cause.Limit.TheVariants.{Depth, Length, Items, Total}
+use Rattle.resp_value.specs.declared.kind.OpenKind.{OpenKind}
+use Rattle.resp_value.specs.declared.kind.OpenKind.TheVariants as kind
+use Rattle.resp_value.specs.declared.version.Version.{Version}
+use Rattle.resp_value.specs.declared.version.Version.TheVariants.{Two}
+
+-- Where the answer is 0 the text stands at the front of the room, and after it is what was there. Else the answer is
+-- 65, the room is shorter than the text, and nothing was written. The size of the text is told either way.
+pub record Writes (old new text : List ℕ) (size answer : ℕ) : Type 0 where
+  pub size_told : size ≡ length text
+  pub written : answer ≡ 0 → new ≡ text ++ drop (length text) old
+  pub has_room : answer ≡ 0 → length text ≤ length old
+  pub no_room : (answer ≡ 0 → ⊥) → length old < length text
+  pub nothing_written : (answer ≡ 0 → ⊥) → new ≡ old
+  pub cause : (answer ≡ 0 → ⊥) → answer ≡ 65
+
+-- nothing was written, and no size told
+pub record WritesNothing (old new : List ℕ) (size size' : ℕ) : Type 0 where
+  pub same_room : new ≡ old
+  pub same_size : size' ≡ size
+
+-- the text stands between the front of the room and this place, and after it is what was there
+pub record Stands (old text new : List ℕ) (at : ℕ) : Type 0 where
+  pub place : at ≡ length text
+  pub filled : new ≡ text ++ drop (length text) old
+
+-- a number that names a kind of aggregate
+abbrev pub IsAggregate : ℕ → Type 0
+IsAggregate n = n ≤ 4
+
+-- the kind that it names
+abbrev pub aggregate_of : ℕ → OpenKind
+aggregate_of n = cond (eqb n 0) kind.Array
+    (cond (eqb n 1) kind.Set (cond (eqb n 2) kind.Map (cond (eqb n 3) kind.Attr kind.Push)))
+
+-- the head of an aggregate of this kind, with this number
+abbrev pub head_text : Kind → ℕ → List ℕ
+head_text k n = (kind_byte k ∷ decimal n) ++ crlf []
+
+-- the number of the refusal of what is over a limit
+abbrev pub limit_number : Limit → ℕ
+limit_number Depth = 6
+limit_number Length = 7
+limit_number Total = 8
+limit_number Items = 13
+
+-- the texts of words as bulk strings, one after another
+abbrev pub bulk_texts : List (List ℕ) → List ℕ
+bulk_texts [] = []
+bulk_texts (word ∷ words) = canonical_text Two (scalar (d.Bulk word)) ++ bulk_texts words
+
+-- the head of an aggregate and then the texts of its members are its text
+abbrev pub AHeadAndItsMembersAreTheText : Type 0
+AHeadAndItsMembersAreTheText = (version : Version) (k : Kind) (xs : Data) →
+    head_text k (items_of k (count xs)) ++ texts (canonical_trees version xs) ≡ canonical_text version (aggregate k xs)
+
+-- the head of an array of as many members as a command has words, and then each word as a bulk string, are its text
+abbrev pub AHeadAndItsWordsAreTheCommand : Type 0
+AHeadAndItsWordsAreTheCommand = (words : List (List ℕ)) →
+    head_text d.Array (length words) ++ bulk_texts words ≡ canonical_text Two (command_of words)

@@ -1,0 +1,252 @@
+//! Which command a reply answers, and in which version it is read: a client without its values.
+//!
+//! What waits stands in numbers of the caller's: the commands before a HELLO that asks for a
+//! version, that version, and the commands after it. One such HELLO waits at most.
+
+ghost use Rattle.std.specs.Prelude.{◌≡◌, ◌↔◌, ◌⊎◌, ℕ, ◌+◌, ◌-◌, ◌<◌, ◌≤◌, ◌^◌, false, List, [], ◌∷◌, length, min, eqb, Some};
+ghost use Rattle.resp_value.specs.Data.{Datum};
+ghost use Rattle.resp_value.specs.declared.version.Version.TheVariants.{Two};
+ghost use Rattle.resp_scan.specs.Reading.{events_of};
+ghost use Rattle.resp_scan.specs.declared.event.Event.{Event};
+ghost use Rattle.resp_session.specs.Heard.{is_push};
+ghost use Rattle.resp_session.specs.Reading.{IsUnasked, is_refusal, reading_version, waiting_after};
+ghost use Rattle.resp_c.specs.Told.{Tells};
+ghost use Rattle.resp_c.specs.Versions.{version_of};
+ghost use Rattle.resp_c.specs.Pairs.{IsAsk, after_events, ask_of, count_of_reply, hello_asks, look_of, nested_by, new_look, number_of_reply, refuses_by, waiting_of, with_ask};
+
+use crate::event::RespEvent;
+use crate::scanner::BAD_VERSION;
+use resp_value::cause::Cause;
+
+/// The number of the refusal of a HELLO while another one waits.
+const HELLO_WAITS: u32 = 67;
+
+/// What waits for replies, and what has come of the value that is being read.
+#[repr(C)]
+#[derive(Clone, Copy)]
+pub struct RespPairing {
+    /// The version, 2 or 3.
+    pub version: u32,
+    /// The version that the HELLO asks for that waits, or 0 where none waits.
+    pub hello: u32,
+    /// The commands that wait before the HELLO, or all that wait where there is none.
+    pub before: u64,
+    /// The commands that wait after the HELLO.
+    pub beyond: u64,
+    /// The replies that came whole.
+    pub answered: u64,
+    /// The open aggregates from the outermost on that is no attribute.
+    pub nested: u64,
+    /// 1 where the last value outside of those is an error, else 0.
+    pub refuses: u32,
+    /// The first byte of the value.
+    pub first: u32,
+}
+
+/// Begins: nothing waits, and the version is 2.
+#[unsafe(no_mangle)]
+pub extern "C" fn resp_pairing_init(pairing: &mut RespPairing)
+    ensures waiting { waiting_of pairing.new ≡ record { version = Two; asks = [] } }
+    ensures none_answered { pairing.new.answered ≡ 0 }
+{
+    *pairing = RespPairing {
+        version: 2,
+        hello: 0,
+        before: 0,
+        beyond: 0,
+        answered: 0,
+        nested: 0,
+        refuses: 0,
+        first: 0,
+    };
+}
+
+/// How many commands wait from the HELLO on, up to the greatest number that there is.
+fn from_hello(pairing: &RespPairing) -> u64
+    ensures { result ≡
+        min (length (hello_asks pairing.now.hello pairing.now.beyond)) (2 ^ 64 - 1) }
+{
+    if pairing.hello == 0 {
+        return 0;
+    }
+    pairing.beyond.saturating_add(1)
+}
+
+/// How many commands wait, up to the greatest number that there is.
+fn waits(pairing: &RespPairing) -> u64
+    ensures { result ≡ min (length (waiting_of pairing.now).asks) (2 ^ 64 - 1) }
+{
+    pairing.before.saturating_add(from_hello(pairing))
+}
+
+/// Queues a command, after its text was sent or before: 0 for one that asks for no version, and the
+/// version for a HELLO that does. Tells its number, which is that of its reply, from 1 on. Refuses,
+/// and changes nothing: 64 another version, 67 a HELLO while one waits, 24 where the numbers are
+/// used up.
+#[unsafe(no_mangle)]
+pub extern "C" fn resp_pairing_queue(pairing: &mut RespPairing, hello: u32, number: &mut u64) -> u32
+    ensures queued { result ≡ 0 → waiting_of pairing.new ≡
+        with_ask (ask_of hello) (waiting_of pairing.old) }
+    ensures number { result ≡ 0 →
+        number.new ≡ pairing.old.answered + length (waiting_of pairing.old).asks + 1 }
+    ensures same_value { (look_of pairing.new ≡ look_of pairing.old) ×
+        (number_of_reply pairing.new ≡ number_of_reply pairing.old) }
+    ensures bad_version { (result ≡ 64) ↔ (IsAsk hello → ⊥) }
+    ensures hello_waits { result ≡ 67 → (hello ≡ 0 → ⊥) × (pairing.old.hello ≡ 0 → ⊥) }
+    ensures too_many { result ≡ 24 →
+        2 ^ 63 ≤ pairing.old.answered + length (waiting_of pairing.old).asks }
+    ensures ok { IsAsk hello → ((hello ≡ 0) ⊎ (pairing.old.hello ≡ 0)) →
+        pairing.old.answered + length (waiting_of pairing.old).asks < 2 ^ 63 → result ≡ 0 }
+    ensures unchanged { (result ≡ 0 → ⊥) → (pairing.new ≡ pairing.old) ×
+        (number.new ≡ number.old) }
+{
+    if hello != 0 && hello != 2 && hello != 3 {
+        return BAD_VERSION;
+    }
+    if hello != 0 && pairing.hello != 0 {
+        return HELLO_WAITS;
+    }
+    let queued = pairing.answered.saturating_add(waits(pairing));
+    if queued >= 1 << 63 {
+        return Cause::TooMany.number();
+    }
+    *number = queued + 1;
+    if hello != 0 {
+        pairing.hello = hello;
+        pairing.beyond = 0;
+    } else if pairing.hello == 0 {
+        pairing.before += 1;
+    } else {
+        pairing.beyond += 1;
+    }
+    0
+}
+
+/// The first byte of a value, before it is read: tells the version in which the value is read.
+/// Refuses by 20, Unasked, a value that is no push where no command waits, and changes nothing.
+#[unsafe(no_mangle)]
+pub extern "C" fn resp_pairing_first(pairing: &mut RespPairing, byte: u8, version: &mut u32) -> u32
+    ensures unasked { (beyond : List ℕ) →
+        (result ≡ 0 → ⊥) ↔ IsUnasked (waiting_of pairing.old) (byte ∷ beyond) }
+    ensures cause { (result ≡ 0 → ⊥) → result ≡ 20 }
+    ensures version { result ≡ 0 → version_of version.new ≡
+        reading_version (waiting_of pairing.old).version (waiting_of pairing.old).asks }
+    ensures begins { result ≡ 0 → (look_of pairing.new ≡ new_look) ×
+        (pairing.new.first ≡ byte) }
+    ensures same_waiting { (waiting_of pairing.new ≡ waiting_of pairing.old) ×
+        (pairing.new.answered ≡ pairing.old.answered) }
+    ensures unchanged { (result ≡ 0 → ⊥) → (pairing.new ≡ pairing.old) ×
+        (version.new ≡ version.old) }
+{
+    let waits_for_hello = pairing.before == 0 && pairing.hello != 0;
+    if byte != b'>' && pairing.before == 0 && !waits_for_hello {
+        return Cause::Unasked.number();
+    }
+    *version = if waits_for_hello && pairing.version == 2 {
+        pairing.hello
+    } else {
+        pairing.version
+    };
+    pairing.nested = 0;
+    pairing.refuses = 0;
+    pairing.first = u32::from(byte);
+    0
+}
+
+/// The open aggregates after an event.
+fn nested_after(nested: u64, event: &RespEvent) -> u64
+    ensures { nested < 2 ^ 64 - 1 → result ≡ nested_by nested event.now.kind event.now.form }
+{
+    match event.kind {
+        7 => {
+            if nested == 0 && event.form == 3 {
+                0
+            } else {
+                nested.saturating_add(1)
+            }
+        }
+        8 => nested.saturating_sub(1),
+        _ => nested,
+    }
+}
+
+/// Whether the last value outside of them is an error, after an event.
+fn refuses_after(nested: u64, refuses: u32, event: &RespEvent) -> u32
+    ensures { eqb result 1 ≡
+        refuses_by nested (eqb refuses 1) event.now.kind event.now.form }
+{
+    if nested != 0 {
+        return refuses;
+    }
+    match event.kind {
+        7 => { if event.form == 3 { refuses } else { 0 } }
+        4 => {
+            if event.form == 1 || event.form == 4 {
+                1
+            } else {
+                0
+            }
+        }
+        1 | 2 | 3 => 0,
+        _ => refuses,
+    }
+}
+
+/// What a reply leaves waiting.
+fn answer(pairing: &mut RespPairing)
+    ensures waiting { (x : Datum) → is_push x ≡ false → is_refusal x ≡ eqb pairing.old.refuses 1 →
+        waiting_of pairing.new ≡ waiting_after (waiting_of pairing.old) x }
+    ensures answered { pairing.old.answered < 2 ^ 63 →
+        pairing.new.answered ≡ pairing.old.answered + 1 }
+    ensures same_value { (look_of pairing.new ≡ look_of pairing.old) ×
+        (pairing.new.first ≡ pairing.old.first) }
+{
+    pairing.answered = pairing.answered.saturating_add(1);
+    if pairing.before > 0 {
+        pairing.before -= 1;
+        return;
+    }
+    if pairing.hello != 0 {
+        if pairing.refuses != 1 {
+            pairing.version = pairing.hello;
+        }
+        pairing.before = pairing.beyond;
+        pairing.hello = 0;
+    }
+}
+
+/// Takes an event of the value whose first byte came, and tells the number of the reply that it
+/// belongs to, or 0 for a push. With `RESP_DONE` the reply answers the first command that waits,
+/// and the version is the one that a HELLO asked for, unless the reply is an error.
+#[unsafe(no_mangle)]
+pub extern "C" fn resp_pairing_take(pairing: &mut RespPairing, event: &RespEvent, number: &mut u64)
+    ensures number { pairing.old.answered < 2 ^ 63 →
+        number.new ≡ number_of_reply pairing.old }
+    ensures shown { pairing.old.nested < 2 ^ 63 → (told : Event) → Tells event.now (Some told) →
+        look_of pairing.new ≡ after_events (look_of pairing.old) (events_of told) }
+    ensures answered { event.now.kind ≡ 9 → (x : Datum) → is_push x ≡ eqb pairing.old.first 62 →
+        is_refusal x ≡ (look_of pairing.old).refuses →
+        waiting_of pairing.new ≡ waiting_after (waiting_of pairing.old) x }
+    ensures counted { event.now.kind ≡ 9 → pairing.old.answered < 2 ^ 63 →
+        pairing.new.answered ≡ pairing.old.answered + count_of_reply pairing.old }
+    ensures same_waiting { (event.now.kind ≡ 9 → ⊥) →
+        (waiting_of pairing.new ≡ waiting_of pairing.old) ×
+        (pairing.new.answered ≡ pairing.old.answered) }
+    ensures same_byte { pairing.new.first ≡ pairing.old.first }
+{
+    let is_push = pairing.first == 62;
+    *number = if is_push {
+        0
+    } else {
+        pairing.answered.saturating_add(1)
+    };
+    if event.kind == 9 {
+        if !is_push {
+            answer(pairing);
+        }
+        return;
+    }
+    let nested = pairing.nested;
+    pairing.nested = nested_after(nested, event);
+    pairing.refuses = refuses_after(nested, pairing.refuses, event);
+}

@@ -1,0 +1,234 @@
+//! The canonical texts of values without members, and the heads of those with members, into room of
+//! the caller.
+//!
+//! Each call answers 0 and tells the text's size; or 65 where the room is shorter than the text,
+//! whose size it tells then too; or why there is no such text. A refusal leaves the room as it was.
+
+ghost use Rattle.std.specs.Prelude.{◌≡◌, ◌↔◌, ◌<◌, ◌≤◌, ◌++◌, [], All, IsTrue, IfSome, length};
+ghost use Rattle.resp_value.specs.Bytes.{IsLine, crlf};
+ghost use Rattle.resp_value.specs.Canonical.{canonical_text};
+ghost use Rattle.resp_value.specs.Data.{scalar};
+ghost use Rattle.resp_value.specs.Data as d;
+ghost use Rattle.resp_value.specs.Kinds.{kind_of};
+ghost use Rattle.resp_value.specs.Numbers.{IsDigit, IsKept};
+ghost use Rattle.resp_value.specs.declared.version.Version.{Version};
+ghost use Rattle.resp_c.specs.Versions.{IsVersion, version_of};
+ghost use Rattle.resp_c.specs.Writes.{IsAggregate, Writes, WritesNothing, aggregate_of, head_text};
+
+use crate::room::{write_line, write_number, write_string};
+use crate::scanner::BAD_VERSION;
+use resp_value::cause::Cause;
+use resp_value::kind::OpenKind;
+use resp_value::version::Version;
+
+/// The number of the refusal of a kind of aggregate that there isn't.
+const BAD_KIND: u32 = 66;
+
+/// The kind of aggregate of this number, `RESP_ARRAY` to `RESP_PUSH`.
+fn kind(number: u32) -> Option<OpenKind>
+    ensures some { IfSome result (λ kind. (kind ≡ aggregate_of number) × IsAggregate number) }
+    ensures none { result ≡ None → IsAggregate number → ⊥ }
+{
+    match number {
+        0 => Some(OpenKind::Array),
+        1 => Some(OpenKind::Set),
+        2 => Some(OpenKind::Map),
+        3 => Some(OpenKind::Attr),
+        4 => Some(OpenKind::Push),
+        _ => None,
+    }
+}
+
+/// Writes the head of an aggregate: its members' number, or its pairs' in a map or an attribute.
+/// The texts of its members follow it.
+#[unsafe(no_mangle)]
+pub extern "C" fn resp_write_head(room: &mut [u8], kind: u32, members: u64, size: &mut usize) -> u32
+    ensures head { IsAggregate kind → Writes room.old room.new
+        (head_text (kind_of (aggregate_of kind)) members) size.new result }
+    ensures bad_kind { (IsAggregate kind → ⊥) → (result ≡ 66) ×
+        WritesNothing room.old room.new size.old size.new }
+{
+    let Some(kind) = crate::write::kind(kind) else {
+        return BAD_KIND;
+    };
+    write_number(room, &[kind.byte()], members, size)
+}
+
+/// Writes a bulk string.
+#[unsafe(no_mangle)]
+pub extern "C" fn resp_write_bulk(room: &mut [u8], bytes: &[u8], size: &mut usize) -> u32
+    ensures { (version : Version) → Writes room.old room.new
+        (canonical_text version (scalar (d.Bulk bytes.now))) size.new result }
+{
+    write_string(room, b'$', bytes.len() as u64, b"", bytes, size)
+}
+
+/// Writes a bulk error, which version 2 hasn't.
+#[unsafe(no_mangle)]
+pub extern "C" fn resp_write_bulk_error(room: &mut [u8], bytes: &[u8], size: &mut usize) -> u32
+    ensures { (version : Version) → Writes room.old room.new
+        (canonical_text version (scalar (d.BulkError bytes.now))) size.new result }
+{
+    write_string(room, b'!', bytes.len() as u64, b"", bytes, size)
+}
+
+/// Writes a verbatim string of a format of three bytes, which version 2 hasn't.
+#[unsafe(no_mangle)]
+pub extern "C" fn resp_write_verbatim(
+    room: &mut [u8],
+    format: &[u8; 3],
+    text: &[u8],
+    size: &mut usize,
+) -> u32
+    ensures { (version : Version) → Writes room.old room.new
+        (canonical_text version (scalar (d.Verbatim format.now text.now))) size.new result }
+{
+    let mut prefix = [b':'; 4];
+    prefix[..3].copy_from_slice(format);
+    write_string(room, b'=', text.len() as u64 + 4, &prefix, text, size)
+}
+
+/// Writes an integer.
+#[unsafe(no_mangle)]
+pub extern "C" fn resp_write_int(room: &mut [u8], number: i64, size: &mut usize) -> u32
+    ensures { (version : Version) → Writes room.old room.new
+        (canonical_text version (scalar (d.Int number))) size.new result }
+{
+    let magnitude = number.unsigned_abs();
+    if number < 0 {
+        write_number(room, b":-", magnitude, size)
+    } else {
+        write_number(room, b":", magnitude, size)
+    }
+}
+
+/// Writes Null as version 2 or 3 has it. Refuses by 64 another version.
+#[unsafe(no_mangle)]
+pub extern "C" fn resp_write_null(room: &mut [u8], version: u32, size: &mut usize) -> u32
+    ensures null { IsVersion version → Writes room.old room.new
+        (canonical_text (version_of version) (scalar d.Null)) size.new result }
+    ensures bad_version { (IsVersion version → ⊥) → (result ≡ 64) ×
+        WritesNothing room.old room.new size.old size.new }
+{
+    match crate::scanner::version(version) {
+        Some(Version::Two) => write_line(room, b"$-1", b"", size),
+        Some(Version::Three) => write_line(room, b"_", b"", size),
+        None => BAD_VERSION,
+    }
+}
+
+/// Writes a truth value, which version 2 hasn't.
+#[unsafe(no_mangle)]
+pub extern "C" fn resp_write_bool(room: &mut [u8], truth: bool, size: &mut usize) -> u32
+    ensures { (version : Version) → Writes room.old room.new
+        (canonical_text version (scalar (d.Bool truth))) size.new result }
+{
+    if truth {
+        write_line(room, b"#t", b"", size)
+    } else {
+        write_line(room, b"#f", b"", size)
+    }
+}
+
+/// Whether none of the bytes is CR or LF.
+fn is_line(bytes: &[u8]) -> bool
+    ensures { IsTrue result ↔ IsLine bytes.now }
+{
+    bytes.iter().all(|byte| *byte != b'\r' && *byte != b'\n')
+}
+
+/// Writes a line. Refuses by the number of BadLine a text with CR or LF.
+fn write_plain(room: &mut [u8], front: &[u8], text: &[u8], size: &mut usize) -> u32
+    requires { length front.now ≤ 8 }
+    ensures line { IsLine text.now → Writes room.old room.new
+        (front.now ++ (text.now ++ crlf [])) size.new result }
+    ensures bad_line { (IsLine text.now → ⊥) → (result ≡ 60) ×
+        WritesNothing room.old room.new size.old size.new }
+{
+    if !is_line(text) {
+        return Cause::BadLine.number();
+    }
+    write_line(room, front, text, size)
+}
+
+/// Writes a simple string. Refuses by 60 a text with CR or LF.
+#[unsafe(no_mangle)]
+pub extern "C" fn resp_write_simple(room: &mut [u8], text: &[u8], size: &mut usize) -> u32
+    ensures simple { IsLine text.now → (version : Version) → Writes room.old room.new
+        (canonical_text version (scalar (d.Simple text.now))) size.new result }
+    ensures bad_line { (IsLine text.now → ⊥) → (result ≡ 60) ×
+        WritesNothing room.old room.new size.old size.new }
+{
+    write_plain(room, b"+", text, size)
+}
+
+/// Writes an error. Refuses by 60 a text with CR or LF.
+#[unsafe(no_mangle)]
+pub extern "C" fn resp_write_error(room: &mut [u8], text: &[u8], size: &mut usize) -> u32
+    ensures error { IsLine text.now → (version : Version) → Writes room.old room.new
+        (canonical_text version (scalar (d.Error text.now))) size.new result }
+    ensures bad_line { (IsLine text.now → ⊥) → (result ≡ 60) ×
+        WritesNothing room.old room.new size.old size.new }
+{
+    write_plain(room, b"-", text, size)
+}
+
+/// Writes the text of a double, which version 2 hasn't. Refuses by 60 a text with CR or LF, and
+/// looks no further.
+#[unsafe(no_mangle)]
+pub extern "C" fn resp_write_double(room: &mut [u8], text: &[u8], size: &mut usize) -> u32
+    ensures double { IsLine text.now → (version : Version) → Writes room.old room.new
+        (canonical_text version (scalar (d.Double text.now))) size.new result }
+    ensures bad_line { (IsLine text.now → ⊥) → (result ≡ 60) ×
+        WritesNothing room.old room.new size.old size.new }
+{
+    write_plain(room, b",", text, size)
+}
+
+/// Whether the text is one or more decimal digits.
+fn are_digits(text: &[u8]) -> bool
+    ensures { IsTrue result ↔ ((0 < length text.now) × All IsDigit text.now) }
+{
+    !text.is_empty() && text.iter().all(|byte| byte.is_ascii_digit())
+}
+
+/// Whether a big number keeps these digits so: one or more, without a leading zero, and no sign at
+/// a zero.
+fn is_kept(negative: bool, digits: &[u8]) -> bool
+    ensures { IsTrue result ↔ IsKept negative digits.now }
+{
+    if !are_digits(digits) {
+        return false;
+    }
+    if digits[0] != b'0' {
+        return true;
+    }
+    if negative {
+        return false;
+    }
+    digits.len() == 1
+}
+
+/// Writes a big number, which version 2 hasn't, by its sign and its digits. Refuses by 61 what a
+/// big number doesn't keep: other bytes than digits or none, a leading zero, and a negative zero.
+#[unsafe(no_mangle)]
+pub extern "C" fn resp_write_big(
+    room: &mut [u8],
+    negative: bool,
+    digits: &[u8],
+    size: &mut usize,
+) -> u32
+    ensures big { IsKept negative digits.now → (version : Version) → Writes room.old room.new
+        (canonical_text version (scalar (d.Big negative digits.now))) size.new result }
+    ensures bad_digits { (IsKept negative digits.now → ⊥) → (result ≡ 61) ×
+        WritesNothing room.old room.new size.old size.new }
+{
+    if !is_kept(negative, digits) {
+        return Cause::BadDigits.number();
+    }
+    if negative {
+        write_line(room, b"(-", digits, size)
+    } else {
+        write_line(room, b"(", digits, size)
+    }
+}
