@@ -10,16 +10,16 @@ use Rattle.resp_value.specs.TreeValues.{value, values, leaf_value}
 use Rattle.resp_fronts.specs.Events.{Timed, TextKind, big_events, bytes_from, chunk_events, events, events_each, last_of, leaf_events, open_event, close_event, text_events, without_places}
 use Rattle.resp_fronts.specs.Events as e
 use Rattle.resp_session.specs.Reading.{is_error, is_refusal}
-use Rattle.resp_c.specs.Pairs.{Look, after_events, is_error_kind, new_look, seen}
+use Rattle.resp_c.specs.Pairs.{ValueLook, after_events, is_error_kind, new_look, seen}
 
-abbrev looks : Look → List Timed → Look
+abbrev looks : ValueLook → List Timed → ValueLook
 looks look xs = after_events look (without_places xs)
 
-skip_bytes : (look : Look) (at : ℕ) (s : List ℕ) (rest : List Timed) → looks look (bytes_from at s ++ rest) ≡ looks look rest
+skip_bytes : (look : ValueLook) (at : ℕ) (s : List ℕ) (rest : List Timed) → looks look (bytes_from at s ++ rest) ≡ looks look rest
 skip_bytes look at [] rest = refl
 skip_bytes look at (byte ∷ bytes) rest = skip_bytes look (at + 1) bytes rest
 
-skip_chunks : (look : Look) (at : ℕ) (cs : List Chunk) (rest : List Timed) → looks look (chunk_events at cs ++ rest) ≡ looks look rest
+skip_chunks : (look : ValueLook) (at : ℕ) (cs : List Chunk) (rest : List Timed) → looks look (chunk_events at cs ++ rest) ≡ looks look rest
 skip_chunks look at [] rest = refl
 skip_chunks look at (c ∷ cs) rest =
     let beyond = chunk_events (at + length c.digits + length c.content + 5) cs in
@@ -27,20 +27,20 @@ skip_chunks look at (c ∷ cs) rest =
     ∙ skip_bytes look (at + length c.digits + 3) c.content (beyond ++ rest)
     ∙ skip_chunks look (at + length c.digits + length c.content + 5) cs rest
 
-text_looks : (look : Look) (kind : TextKind) (begins from : ℕ) (s : List ℕ) (ends : ℕ) (rest : List Timed) →
+text_looks : (look : ValueLook) (kind : TextKind) (begins from : ℕ) (s : List ℕ) (ends : ℕ) (rest : List Timed) →
     looks look (text_events kind begins from s ends ++ rest) ≡ looks (seen look (is_error_kind kind)) rest
 text_looks look kind begins from s ends rest =
     let end : List Timed = record { at = ends; event = e.TextEnd } ∷ [] in
     let now = seen look (is_error_kind kind) in
     ap (looks now) (append_assoc (bytes_from from s) end rest) ∙ skip_bytes now from s (end ++ rest)
 
-big_looks : (look : Look) (negative : Bool) (digits : List ℕ) (last : ℕ) (rest : List Timed) →
+big_looks : (look : ValueLook) (negative : Bool) (digits : List ℕ) (last : ℕ) (rest : List Timed) →
     looks look (big_events negative digits last ++ rest) ≡ looks (seen look false) rest
 big_looks look negative [] last rest = text_looks look (e.Big negative) last last [] last rest
 big_looks look negative (digit ∷ digits) last rest = text_looks look (e.Big negative) (last - 2 - length digits)
     (last - 2 - length digits) (digit ∷ digits) last rest
 
-leaf_looks : (look : Look) (from : ℕ) (l : Leaf) (rest : List Timed) → looks look (leaf_events from l ++ rest) ≡
+leaf_looks : (look : ValueLook) (from : ℕ) (l : Leaf) (rest : List Timed) → looks look (leaf_events from l ++ rest) ≡
     looks (seen look (is_error (scalar (leaf_value l)))) rest
 leaf_looks look from (line t.Simple s) rest = text_looks look e.Simple from (from + 1) s (last_of from (leaf_text (line t.Simple s))) rest
 leaf_looks look from (line t.Error s) rest = text_looks look e.Error from (from + 1) s (last_of from (leaf_text (line t.Error s))) rest
@@ -62,7 +62,7 @@ leaf_looks look from (chunked chunks zeros) rest =
     let now = seen look false in
     ap (looks now) (append_assoc (chunk_events (from + 4) chunks) end rest) ∙ skip_chunks now (from + 4) chunks (end ++ rest)
 
-abbrev within : ℕ → Bool → Look
+abbrev within : ℕ → Bool → ValueLook
 within n b = record { nested = suc n; refuses = b }
 
 mutual
@@ -83,7 +83,7 @@ mutual
       ∙ inside n b from u (events_each (from + length (text u)) us ++ rest)
       ∙ inside_each n b (from + length (text u)) us rest
 
-abbrev at_top : Bool → Look
+abbrev at_top : Bool → ValueLook
 at_top b = record { nested = 0; refuses = b }
 
 -- an aggregate that is no attribute is no refusal

@@ -9,14 +9,14 @@ use Rattle.resp_value.specs.Trees.{texts}
 use Rattle.resp_value.specs.Words.{command_of, word_datum}
 use Rattle.resp_value.specs.declared.version.Version.TheVariants.{Two}
 use Rattle.resp_encode.proofs.Counts.{count-map}
-use Rattle.resp_c.specs.Writes.{Stands, Writes, bulk_texts, head_text}
+use Rattle.resp_c.specs.Writes.{StandsInRoom, Writes, bulk_texts, head_text}
 
 -- nothing was put there
-pub stands_none : (old : List ℕ) → Stands old [] old 0
+pub stands_none : (old : List ℕ) → StandsInRoom old [] old 0
 stands_none old = record { place = refl; filled = refl }
 
 -- a text that stands there was written
-pub writes_whole : (old text new : List ℕ) (size at : ℕ) → Stands old text new at → size ≡ at → size ≤ length old →
+pub writes_whole : (old text new : List ℕ) (size at : ℕ) → StandsInRoom old text new at → size ≡ at → size ≤ length old →
     Writes old new text size 0
 writes_whole old text new size at stands last room = record {
   size_told = last ∙ stands.place;

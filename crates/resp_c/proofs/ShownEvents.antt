@@ -10,23 +10,23 @@ use Rattle.resp_scan.specs.declared.event.Event.{Event}
 use Rattle.resp_scan.specs.declared.event.Event.TheVariants as event
 use Rattle.resp_scan.specs.declared.event.TextKind.{TextKind}
 use Rattle.resp_scan.specs.declared.event.TextKind.TheVariants as text
-use Rattle.resp_c.specs.Pairs.{Look, after_events, closed, is_error_kind, nested_by, opened, refuses_at_open, refuses_by, where_seen}
+use Rattle.resp_c.specs.Pairs.{ValueLook, after_events, closed, is_error_kind, nested_by, opened, refuses_at_open, refuses_by, where_seen}
 use Rattle.resp_c.specs.Told.{Tells, kind_form, text_form}
 use Rattle.resp_c.specs.declared.event.RespEvent.{RespEvent}
 
 -- what numbers show of an event
-abbrev pub shown : Look → ℕ → ℕ → Look
+abbrev pub shown : ValueLook → ℕ → ℕ → ValueLook
 shown look kind form = record {
   nested = nested_by look.nested kind form;
   refuses = refuses_by look.nested look.refuses kind form;
 }
 
 look_eq : (m n : ℕ) (a b : Bool) → m ≡ n → a ≡ b →
-    let one : Look = record { nested = m; refuses = a } in
-    let other : Look = record { nested = n; refuses = b } in
+    let one : ValueLook = record { nested = m; refuses = a } in
+    let other : ValueLook = record { nested = n; refuses = b } in
     one ≡ other
-look_eq m n a b p q = ap (λ (k : ℕ). let look : Look = record { nested = k; refuses = a } in look) p ∙
-    ap (λ (c : Bool). let look : Look = record { nested = n; refuses = c } in look) q
+look_eq m n a b p q = ap (λ (k : ℕ). let look : ValueLook = record { nested = k; refuses = a } in look) p ∙
+    ap (λ (c : Bool). let look : ValueLook = record { nested = n; refuses = c } in look) q
 
 suc-eqb : (n : ℕ) → eqb (suc n) 0 ≡ false
 suc-eqb n = elim (eqb_tells (suc n) 0) as (λ _. eqb (suc n) 0 ≡ false) [
@@ -71,11 +71,11 @@ nested_at_close : (n : ℕ) → n - 1 ≡ closed n
 nested_at_close zero = refl
 nested_at_close (suc n) = omega arith
 
-content_shows : (look : Look) (bytes : List ℕ) → after_events look (content_events bytes) ≡ look
+content_shows : (look : ValueLook) (bytes : List ℕ) → after_events look (content_events bytes) ≡ look
 content_shows look [] = refl
 content_shows look (byte ∷ bytes) = content_shows look bytes
 
-pub shown_by : (look : Look) (out : RespEvent) (told : Event) → Tells out (Some told) →
+pub shown_by : (look : ValueLook) (out : RespEvent) (told : Event) → Tells out (Some told) →
     shown look out.kind out.form ≡ after_events look (events_of told)
 shown_by look out event.Null tells = ap (λ k. shown look k out.form) tells ∙
     look_eq _ _ _ _ refl (at_seen look.nested look.refuses false)

@@ -12,7 +12,7 @@ use Rattle.resp_c.specs.declared.pairing.RespPairing.{RespPairing}
 
 -- what events have shown of a value: how many aggregates are open within the outermost that is no attribute, with it;
 -- and whether the last value that stands in attributes alone, or in none, is an error
-pub record Look : Type 0 where
+pub record ValueLook : Type 0 where
   pub nested : ℕ
   pub refuses : Bool
 
@@ -41,30 +41,30 @@ is_error_kind e.BulkError = true
 is_error_kind _ = false
 
 -- a value that begins, an error or not
-abbrev pub seen : Look → Bool → Look
+abbrev pub seen : ValueLook → Bool → ValueLook
 seen look now = record { nested = look.nested; refuses = where_seen look.nested look.refuses now }
 
-abbrev pub after_event : Look → Event → Look
-after_event look e.Null = seen look false
-after_event look (e.Bool truth) = seen look false
-after_event look (e.Int number) = seen look false
-after_event look (e.Text kind) = seen look (is_error_kind kind)
-after_event look (e.Open kind members) = record {
+abbrev pub look_after_event : ValueLook → Event → ValueLook
+look_after_event look e.Null = seen look false
+look_after_event look (e.Bool truth) = seen look false
+look_after_event look (e.Int number) = seen look false
+look_after_event look (e.Text kind) = seen look (is_error_kind kind)
+look_after_event look (e.Open kind members) = record {
   nested = opened look.nested kind;
   refuses = refuses_at_open look.nested kind look.refuses;
 }
-after_event look e.Close = record { nested = closed look.nested; refuses = look.refuses }
-after_event look (e.Byte byte) = look
-after_event look e.TextEnd = look
-after_event look e.Done = look
+look_after_event look e.Close = record { nested = closed look.nested; refuses = look.refuses }
+look_after_event look (e.Byte byte) = look
+look_after_event look e.TextEnd = look
+look_after_event look e.Done = look
 
 -- after events, one after another
-abbrev pub after_events : Look → List Event → Look
+abbrev pub after_events : ValueLook → List Event → ValueLook
 after_events look [] = look
-after_events look (event ∷ events) = after_events (after_event look event) events
+after_events look (event ∷ events) = after_events (look_after_event look event) events
 
 -- where a value begins
-abbrev pub new_look : Look
+abbrev pub new_look : ValueLook
 new_look = record { nested = 0; refuses = false }
 
 -- what the events of a value have shown at its end is whether it refuses its command
@@ -92,7 +92,7 @@ abbrev pub waiting_of : RespPairing → Waiting
 waiting_of p = record { version = version_of p.version; asks = nones p.before ++ hello_asks p.hello p.beyond }
 
 -- what the events so far have shown of the value
-abbrev pub look_of : RespPairing → Look
+abbrev pub look_of : RespPairing → ValueLook
 look_of p = record { nested = p.nested; refuses = eqb p.refuses 1 }
 
 -- what is asked: no version, or one
@@ -100,8 +100,8 @@ abbrev pub IsAsk : ℕ → Type 0
 IsAsk hello = (hello ≡ 0) ⊎ IsVersion hello
 
 -- another command waits
-abbrev pub with_ask : Option Version → Waiting → Waiting
-with_ask ask w = record { version = w.version; asks = w.asks ++ ask ∷ [] }
+abbrev pub with_ask_queued : Option Version → Waiting → Waiting
+with_ask_queued ask w = record { version = w.version; asks = w.asks ++ ask ∷ [] }
 
 -- the number of the reply, or 0 for a push
 abbrev pub number_of_reply : RespPairing → ℕ

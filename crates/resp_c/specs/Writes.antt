@@ -30,7 +30,7 @@ pub record WritesNothing (old new : List ℕ) (size size' : ℕ) : Type 0 where
   pub same_size : size' ≡ size
 
 -- the text stands between the front of the room and this place, and after it is what was there
-pub record Stands (old text new : List ℕ) (at : ℕ) : Type 0 where
+pub record StandsInRoom (old text new : List ℕ) (at : ℕ) : Type 0 where
   pub place : at ≡ length text
   pub filled : new ≡ text ++ drop (length text) old
 

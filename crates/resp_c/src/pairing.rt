@@ -12,7 +12,7 @@ ghost use Rattle.resp_session.specs.Heard.{is_push};
 ghost use Rattle.resp_session.specs.Reading.{IsUnasked, is_refusal, reading_version, waiting_after};
 ghost use Rattle.resp_c.specs.Told.{Tells};
 ghost use Rattle.resp_c.specs.Versions.{version_of};
-ghost use Rattle.resp_c.specs.Pairs.{IsAsk, after_events, ask_of, count_of_reply, hello_asks, look_of, nested_by, new_look, number_of_reply, refuses_by, waiting_of, with_ask};
+ghost use Rattle.resp_c.specs.Pairs.{IsAsk, after_events, ask_of, count_of_reply, hello_asks, look_of, nested_by, new_look, number_of_reply, refuses_by, waiting_of, with_ask_queued};
 
 use crate::event::RespEvent;
 use crate::scanner::BAD_VERSION;
@@ -86,7 +86,7 @@ fn waits(pairing: &RespPairing) -> u64
 #[unsafe(no_mangle)]
 pub extern "C" fn resp_pairing_queue(pairing: &mut RespPairing, hello: u32, number: &mut u64) -> u32
     ensures queued { result ≡ 0 → waiting_of pairing.new ≡
-        with_ask (ask_of hello) (waiting_of pairing.old) }
+        with_ask_queued (ask_of hello) (waiting_of pairing.old) }
     ensures number { result ≡ 0 →
         number.new ≡ pairing.old.answered + length (waiting_of pairing.old).asks + 1 }
     ensures same_value { (look_of pairing.new ≡ look_of pairing.old) ×

@@ -3,7 +3,7 @@
 ghost use Rattle.std.specs.Prelude.{◌≡◌, ◌+◌, ◌≤◌, ◌++◌, ◌∷◌, ℕ, List, [], length};
 ghost use Rattle.resp_value.specs.Bytes.{crlf};
 ghost use Rattle.resp_value.specs.Numbers.{decimal};
-ghost use Rattle.resp_c.specs.Writes.{Stands, Writes};
+ghost use Rattle.resp_c.specs.Writes.{StandsInRoom, Writes};
 
 use itoa::Buffer;
 
@@ -15,8 +15,8 @@ const NO_ROOM: u32 = 65;
 fn put(room: &mut [u8], at: usize, bytes: &[u8]) -> usize
     requires { at + length bytes.now ≤ length room.old }
     ensures end { result ≡ at + length bytes.now }
-    ensures more { (old text : List ℕ) → Stands old text room.old at →
-        Stands old (text ++ bytes.now) room.new result }
+    ensures more { (old text : List ℕ) → StandsInRoom old text room.old at →
+        StandsInRoom old (text ++ bytes.now) room.new result }
 {
     let end = at + bytes.len();
     room[at..end].copy_from_slice(bytes);

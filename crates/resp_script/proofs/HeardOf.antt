@@ -14,7 +14,7 @@ use Rattle.resp_wire.proofs.worlds.Places.{connection_there, none_beyond}
 use Rattle.resp_wire.specs.Worlds.{pushes_with, values_in}
 use Rattle.resp_wire.specs.declared.event.Outcome.{Outcome}
 use Rattle.resp_wire.specs.declared.event.Outcome.TheVariants.{Done, Refused, Gone}
-use Rattle.resp_script.specs.Plays.{AreThere, HasShown}
+use Rattle.resp_script.specs.Plays.{AreThere, AreShownOn}
 
 -- there is no client 0
 pub none_at_zero : (cs : List Connection) → connection_at cs 0 ≡ None

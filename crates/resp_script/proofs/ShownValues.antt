@@ -16,7 +16,7 @@ use Rattle.resp_value.specs.declared.value.Members.{Members}
 use Rattle.resp_value.specs.declared.value.Value.{Value}
 use Rattle.resp_value.specs.declared.value.Value.TheVariants as value
 use Rattle.resp_wire.specs.Worlds.{pushes_with, values_in}
-use Rattle.resp_script.specs.Plays.{HasShown}
+use Rattle.resp_script.specs.Plays.{AreShownOn}
 
 first_is_nothing : (next beyond : List ℕ) → [] ≡ next ++ beyond → next ≡ []
 first_is_nothing [] beyond e = refl
@@ -46,7 +46,7 @@ shown_whole one_cut no_empty r x text left held bytes values spells read at_end 
 
 -- how many replies and pushes a client has heard is how many are shown on its connection
 pub has_shown : (c : Option Connection) (replies : List Value) (pushes : List Members) → IfSome c (λ c. values_in replies ≡ shown_replies c) →
-    IfSome c (λ c. pushes_with pushes ≡ shown_pushes c) → HasShown (length replies) (length pushes) c
+    IfSome c (λ c. pushes_with pushes ≡ shown_pushes c) → AreShownOn (length replies) (length pushes) c
 has_shown None replies pushes first second = tt
 has_shown (Some c) replies pushes first second = (
   sym (length-map replies datum_of) ∙ ap length first,

@@ -8,7 +8,7 @@ use Rattle.resp_wire.specs.Worlds.{Shows, WorldState, outcome_of}
 use Rattle.resp_wire.specs.declared.event.Outcome.{Outcome}
 use Rattle.resp_wire.specs.declared.event.Outcome.TheVariants.{Done}
 use Rattle.resp_script.proofs.HeardOf.{are_there, still_there}
-use Rattle.resp_script.specs.Plays.{AreThere, HasShown, PlaysTo, text_of_step}
+use Rattle.resp_script.specs.Plays.{AreThere, AreShownOn, PlaysTo, text_of_step}
 use Rattle.resp_script.specs.Printed.{PlayedEvent, Prints, outcome_text}
 use Rattle.resp_script.specs.declared.play.PlayError.{PlayError}
 use Rattle.resp_script.specs.declared.play.PlayError.TheVariants.{Stopped, Write, Memory}
@@ -60,6 +60,6 @@ stands is_honest limits w next event outcome before after shows shows' as_many s
     (sym shows'.each.as_many ∙ as_many ∙ shows.each.as_many) there)
 
 -- what a client is known to have heard, by its number
-pub heard_by : (w : World) (event : WorldEvent) (client replies pushes : ℕ) → client ≡ client_of event → HasShown replies pushes (connection_at w.connections client) →
-    HasShown replies pushes (connection_of w event)
-heard_by w event client replies pushes is shown = subst (λ n. HasShown replies pushes (connection_at w.connections n)) is shown
+pub heard_by : (w : World) (event : WorldEvent) (client replies pushes : ℕ) → client ≡ client_of event → AreShownOn replies pushes (connection_at w.connections client) →
+    AreShownOn replies pushes (connection_of w event)
+heard_by w event client replies pushes is shown = subst (λ n. AreShownOn replies pushes (connection_at w.connections n)) is shown

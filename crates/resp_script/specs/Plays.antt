@@ -153,9 +153,9 @@ FailsToWrite failures failures' (Err Write) = failures' ≡ count_after 1 failur
 FailsToWrite failures failures' _ = failures' ≡ failures
 
 -- how many replies and pushes were shown on a connection, if there is one
-abbrev pub HasShown : ℕ → ℕ → Option Connection → Type 0
-HasShown replies pushes None = Unit {0}
-HasShown replies pushes (Some c) = (replies ≡ length (shown_replies c)) × (pushes ≡ length (shown_pushes c))
+abbrev pub AreShownOn : ℕ → ℕ → Option Connection → Type 0
+AreShownOn replies pushes None = Unit {0}
+AreShownOn replies pushes (Some c) = (replies ≡ length (shown_replies c)) × (pushes ≡ length (shown_pushes c))
 
 -- where the event happened, it is of a connection that stands before and after
 abbrev pub AreThere : Outcome → Option Connection → Option Connection → Type 0

@@ -34,13 +34,13 @@ pub record AreWords (line : List ℕ) (words : List (List ℕ)) : Type 0 where
   pub few : length words ≤ 64
 
 -- the first word of a line, for the event that it says
-abbrev pub verb_name : Verb → List ℕ
-verb_name verb.Send = codes "send"
-verb_name verb.Hello = codes "hello"
-verb_name verb.Server = codes "server"
-verb_name verb.Client = codes "client"
-verb_name verb.Push = codes "push"
-verb_name verb.Drop = codes "drop"
+abbrev pub step_name : Verb → List ℕ
+step_name verb.Send = codes "send"
+step_name verb.Hello = codes "hello"
+step_name verb.Server = codes "server"
+step_name verb.Client = codes "client"
+step_name verb.Push = codes "push"
+step_name verb.Drop = codes "drop"
 
 -- what happens in an event
 abbrev pub verb_of : Event → Verb
@@ -83,7 +83,7 @@ arguments_of (event.Drop client) = []
 -- the words for a step: an event, or None for `flush`
 abbrev pub step_words : Option Event → List (List ℕ)
 step_words None = codes "flush" ∷ []
-step_words (Some event) = verb_name (verb_of event) ∷ decimal (step_client event) ∷ arguments_of event
+step_words (Some event) = step_name (verb_of event) ∷ decimal (step_client event) ∷ arguments_of event
 
 -- this many bytes may be moved by one line
 abbrev pub IsMoved : ℕ → Type 0

@@ -1,7 +1,7 @@
 //! `loop`: the events of a script in a world, and what comes of each.
 
 ghost use Rattle.std.specs.Prelude.{◌≡◌, true, ◌+◌, ◌<◌, ◌^◌, ◌++◌, ◌∷◌, [], codes, decimal, drop, length, None, Option, Some, IfErr, OnOk};
-ghost use Rattle.resp_script.specs.Plays.{AreThere, EndsPrint, FailsToWrite, HasShown, IsAtLine, IsAtStep, KeepsCause, PlaysScript, PlaysTo, flush_events, no_connection_line, played, step_events, steps_events};
+ghost use Rattle.resp_script.specs.Plays.{AreThere, EndsPrint, FailsToWrite, AreShownOn, IsAtLine, IsAtStep, KeepsCause, PlaysScript, PlaysTo, flush_events, no_connection_line, played, step_events, steps_events};
 ghost use Rattle.resp_script.specs.Printed.{Prints, counts_text, key_count, gone_text, heard_text, outcome_text, refused_text};
 ghost use Rattle.resp_session.specs.Connections.{Connection};
 ghost use Rattle.resp_session.specs.Worlds as session;
@@ -271,7 +271,7 @@ impl Before {
     fn new<L: Link, S: BuildHasher + Drop>(client: usize, world: &World<L, S>) -> Self
         ensures client { result.client ≡ client }
         ensures heard { (limits : Bounds) (w : session.World) →
-            Shows L.is_honest world.now limits w → HasShown result.replies result.pushes (connection_at w.connections client) }
+            Shows L.is_honest world.now limits w → AreShownOn result.replies result.pushes (connection_at w.connections client) }
     {
         if client == 0 || client > world.clients() {
             return Before {
@@ -298,7 +298,7 @@ impl Before {
     ) -> Result<(), PlayError>
         ensures prints { (limits : Bounds) (next : session.World) →
             Shows L.is_honest world.now limits next → (c : Option Connection) →
-            HasShown self.now.replies self.now.pushes c →
+            AreShownOn self.now.replies self.now.pushes c →
             AreThere outcome c (connection_at next.connections self.now.client) →
             Prints (W.written writer.old) (W.written writer.new) (W.failures writer.old)
             (W.failures writer.new) result (outcome_text self.now.client is_flush

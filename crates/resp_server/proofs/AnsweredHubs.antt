@@ -12,7 +12,7 @@ use Rattle.resp_session.specs.Stores.{Store}
 use Rattle.resp_server.specs.Answering.{IsAnswered, IsCutShort, state_with}
 use Rattle.resp_server.specs.Handling.{WhereOpen, HasAnswered, HasCutShort}
 use Rattle.resp_server.specs.Hubs.{HubState, Seat, AreSound, HubIsSound, seat_of, seats_of, seat_at, with_seat}
-use Rattle.resp_server.specs.Reading.{HasTaken, ReadsBy}
+use Rattle.resp_server.specs.Reading.{HasReadFront, ReadsBy}
 use Rattle.resp_server.specs.declared.session.Session.{Session}
 use Rattle.resp_server.proofs.Seats.{is_id, state_of, seats-lookup, seats-set, sound_set, with_same}
 use Rattle.resp_server.proofs.Turns.{none_taken, waits_on}
@@ -28,10 +28,10 @@ at_found limits es store last hub view id old found P p =
 pub hub_answered : (limits : Bounds) (es : List (ℕ × Session)) (store : Store) (last : ℕ) (hub : HubState) → state_of limits es store last ≡ hub →
     (ns : List (ℕ × Session)) (store' : Store) (id : ℕ) (old new : Session) → ns ≡ set_value (is_id id) es new →
     Some old ≡ lookup (is_id id) es → (piece : List ℕ) (k : ℕ) →
-    ((front : List ℕ) → HasTaken old.decoder front → IsAnswered limits id store store' old new (front ++ piece) k) →
+    ((front : List ℕ) → HasReadFront old.decoder front → IsAnswered limits id store store' old new (front ++ piece) k) →
     WhereOpen hub id (λ s front. HasAnswered hub (state_of limits ns store' last) id s (front ++ piece) k)
 hub_answered limits es store last hub view ns store' id old new written found piece k answered =
-    at_found limits es store last hub view id old found (λ h s. s.closing ≡ false → (front : List ℕ) → HasTaken s.decoder front →
+    at_found limits es store last hub view id old found (λ h s. s.closing ≡ false → (front : List ℕ) → HasReadFront s.decoder front →
     HasAnswered h (state_of limits ns store' last) id s (front ++ piece) k) (λ is_open front taken.
     let a = answered front taken in
     let seat : seat_of new ≡ record { version = new.version; out = old.out.items ++ a.reply; closing = new.closing; decoder = new.decoder } =
@@ -52,10 +52,10 @@ hub_answered limits es store last hub view ns store' id old new written found pi
 pub hub_cut_short : (limits : Bounds) (es : List (ℕ × Session)) (store : Store) (last : ℕ) (hub : HubState) → state_of limits es store last ≡ hub →
     (ns : List (ℕ × Session)) (store' : Store) (id : ℕ) (old new : Session) → ns ≡ set_value (is_id id) es new →
     Some old ≡ lookup (is_id id) es → (piece : List ℕ) (k : ℕ) →
-    ((front : List ℕ) → HasTaken old.decoder front → IsCutShort limits id store store' old new front piece k) →
+    ((front : List ℕ) → HasReadFront old.decoder front → IsCutShort limits id store store' old new front piece k) →
     WhereOpen hub id (λ s front. HasCutShort hub (state_of limits ns store' last) id s front piece k)
 hub_cut_short limits es store last hub view ns store' id old new written found piece k cut =
-    at_found limits es store last hub view id old found (λ h s. s.closing ≡ false → (front : List ℕ) → HasTaken s.decoder front →
+    at_found limits es store last hub view id old found (λ h s. s.closing ≡ false → (front : List ℕ) → HasReadFront s.decoder front →
     HasCutShort h (state_of limits ns store' last) id s front piece k) (λ is_open front taken.
     let a = cut front taken in
     let seat : seat_of new ≡ record { version = new.version; out = old.out.items ++ a.reply; closing = true; decoder = new.decoder } =
@@ -80,7 +80,7 @@ hub_cut_short limits es store last hub view ns store' id old new written found p
 pub answered_sound : (limits : Bounds) (es : List (ℕ × Session)) (store : Store) (last : ℕ) → HubIsSound limits es store last →
     (ns : List (ℕ × Session)) (store' : Store) (id : ℕ) (old new : Session) → ns ≡ set_value (is_id id) es new →
     Some old ≡ lookup (is_id id) es → FitsStore limits store' → ReadsBy (server_rules limits) new.decoder →
-    (new.closing ≡ false → (front : List ℕ) × HasTaken new.decoder front) → HubIsSound limits ns store' last
+    (new.closing ≡ false → (front : List ℕ) × HasReadFront new.decoder front) → HubIsSound limits ns store' last
 answered_sound limits es store last h ns store' id old new written found stored reading taking = record {
   stored = stored;
   few = h.few;
@@ -103,7 +103,7 @@ if_closing limits es store last hub view id old found Q q = at_found limits es s
 pub not_open : (limits : Bounds) (es : List (ℕ × Session)) (store : Store) (last : ℕ) (hub : HubState) → state_of limits es store last ≡ hub → (id : ℕ)
     (old : Session) → Some old ≡ lookup (is_id id) es → old.closing ≡ true → (P : Seat → List ℕ → Type 0) → WhereOpen hub id P
 not_open limits es store last hub view id old found closes P =
-    at_found limits es store last hub view id old found (λ h s. s.closing ≡ false → (front : List ℕ) → HasTaken s.decoder front → P s front)
+    at_found limits es store last hub view id old found (λ h s. s.closing ≡ false → (front : List ℕ) → HasReadFront s.decoder front → P s front)
     (λ is_open. absurd (false≢true (sym is_open ∙ closes)))
 
 -- nothing is said of a session that isn't there
@@ -112,7 +112,7 @@ if_none o P none = subst (λ x. IfSome x P) (sym none) tt
 
 -- a session whose front is waited on has answered it
 waits_in : (limits : Bounds) (es : List (ℕ × Session)) (store : Store) (last : ℕ) (id : ℕ) (old : Session) → Some old ≡ lookup (is_id id) es →
-    (front : List ℕ) → HasTaken old.decoder front → old.closing ≡ false → IsViable (server_rules limits) WithinTotal front →
+    (front : List ℕ) → HasReadFront old.decoder front → old.closing ≡ false → IsViable (server_rules limits) WithinTotal front →
     HasAnswered (state_of limits es store last) (state_of limits es store last) id (seat_of old) front 0
 waits_in limits es store last id old found front taken is_open viable =
     let there : lookup (λ other. id == other) (seats_of es) ≡ Some (seat_of old) = sym (seats-lookup es id) ∙ ap (option_map seat_of) (sym found) in
@@ -134,10 +134,10 @@ waits_in limits es store last id old found front taken is_open viable =
 
 pub hub_waits : (limits : Bounds) (es : List (ℕ × Session)) (store : Store) (last : ℕ) (hub : HubState) → state_of limits es store last ≡ hub → (id : ℕ)
     (old : Session) → Some old ≡ lookup (is_id id) es →
-    ((front : List ℕ) → HasTaken old.decoder front → IsViable (server_rules limits) WithinTotal front) →
+    ((front : List ℕ) → HasReadFront old.decoder front → IsViable (server_rules limits) WithinTotal front) →
     WhereOpen hub id (λ s front. HasAnswered hub hub id s front 0)
 hub_waits limits es store last hub view id old found viable =
-    at_found limits es store last hub view id old found (λ h s. s.closing ≡ false → (front : List ℕ) → HasTaken s.decoder front →
+    at_found limits es store last hub view id old found (λ h s. s.closing ≡ false → (front : List ℕ) → HasReadFront s.decoder front →
     HasAnswered h h id s front 0) (λ is_open front taken. waits_in limits es store last id old found front taken is_open
     (viable front taken))
 

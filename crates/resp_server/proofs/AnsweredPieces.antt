@@ -10,13 +10,13 @@ use Rattle.resp_session.specs.AnswerLaws.{AnswersGoOn, AnswersEnd}
 use Rattle.resp_session.specs.Stores.{Store}
 use Rattle.resp_server.specs.Answering.{AnswersBytes, IsAnswered, IsCutShort, state_with}
 use Rattle.resp_server.specs.Running.{IsAsBefore}
-use Rattle.resp_server.specs.Reading.{HasTaken}
+use Rattle.resp_server.specs.Reading.{HasReadFront}
 use Rattle.resp_server.specs.declared.session.Session.{Session}
 use Rattle.resp_server.proofs.Turns.{none_taken, waits_on}
 
 -- before a piece nothing is answered
 pub none_answered : (limits : Bounds) (id : ℕ) (store : Store) (session : Session) (front : List ℕ) →
-    HasTaken session.decoder front → IsViable (server_rules limits) WithinTotal front → session.closing ≡ false →
+    HasReadFront session.decoder front → IsViable (server_rules limits) WithinTotal front → session.closing ≡ false →
     IsAnswered limits id store store session session (front ++ []) 0
 none_answered limits id store session front taken viable is_open = record {
   reply = [];
@@ -97,7 +97,7 @@ cut_short limits id store store' store'' before middle after last front piece n 
 -- an answer stays one where the session then reads with something else that has taken the same
 pub answered_shrunk : (limits : Bounds) (id : ℕ) (store store' : Store) (before middle after : Session) (text : List ℕ) (k : ℕ) →
     after.version ≡ middle.version → after.out.items ≡ middle.out.items → after.closing ≡ middle.closing →
-    (middle.closing ≡ false → (front : List ℕ) → HasTaken middle.decoder front → HasTaken after.decoder front) →
+    (middle.closing ≡ false → (front : List ℕ) → HasReadFront middle.decoder front → HasReadFront after.decoder front) →
     IsAnswered limits id store store' before middle text k → IsAnswered limits id store store' before after text k
 answered_shrunk limits id store store' before middle after text k version out closing taken a =
     let start = state_with store before.version [] false 0 in

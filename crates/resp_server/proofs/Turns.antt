@@ -22,7 +22,7 @@ use Rattle.resp_session.specs.Answers.{SessionState, Answers, BeginsNoValue, End
 use Rattle.resp_session.specs.Replies.{error}
 use Rattle.resp_session.specs.Stores.{Store}
 use Rattle.resp_server.specs.Answering.{IsAnswerTo, AnswersBytes, IsNamedFault, state_with}
-use Rattle.resp_server.specs.Reading.{HasTaken, Reading, ReadsOn, ReadsValue, Refuses}
+use Rattle.resp_server.specs.Reading.{HasReadFront, Reading, ReadsOn, ReadsValue, RefusesReading}
 use Rattle.resp_server.specs.declared.session.Session.{Session}
 
 -- no front of the text is a spelling
@@ -137,17 +137,17 @@ refused_is_named limits bounds front piece fault r =
 
 -- a fault that isn't OutOfMemory has a short name, and stands within the limit of total
 pub fault_is_named : (limits : Bounds) → AreBounds limits → (front piece : List ℕ) (fault : Fault) →
-    Refuses (server_rules limits) front piece fault → (fault.cause ≡ OutOfMemory → ⊥) → IsNamedFault fault
+    RefusesReading (server_rules limits) front piece fault → (fault.cause ≡ OutOfMemory → ⊥) → IsNamedFault fault
 fault_is_named limits bounds front piece fault (inl refused) other = refused_is_named limits bounds front piece fault refused
 fault_is_named limits bounds front piece fault (inr lacks) other = absurd (other lacks)
 
 pub refused_by : (limits : Bounds) (front piece : List ℕ) (fault : Fault) →
-    Refuses (server_rules limits) front piece fault → (fault.cause ≡ OutOfMemory → ⊥) → RefusesByte (server_rules limits) front piece fault
+    RefusesReading (server_rules limits) front piece fault → (fault.cause ≡ OutOfMemory → ⊥) → RefusesByte (server_rules limits) front piece fault
 refused_by limits front piece fault (inl refused) other = refused
 refused_by limits front piece fault (inr lacks) other = absurd (other lacks)
 
 -- no value has ended in what was taken
-pub none_taken : (reading : Reading) (front : List ℕ) → HasTaken reading front → HasNoValue front
+pub none_taken : (reading : Reading) (front : List ℕ) → HasReadFront reading front → HasNoValue front
 none_taken None front taken = subst HasNoValue (sym taken) no_value_at_start
 none_taken (Some decoder) front taken = taken.no_value
 
@@ -215,7 +215,7 @@ waiting_turn limits id store before after front piece used taken version is_open
 -- the turn of a value that is spelled by what was taken and the bytes used
 pub spelled_turn : NoSpellingIsEmpty → TheEmptyTextIsViable → (limits : Bounds) → AreBounds limits → (id : ℕ) (store store' : Store)
     (before after : Session) (front piece : List ℕ) (x : Datum) (used commands : ℕ) → HasNoValue front →
-    IsSpelling (server_rules limits) x (front ++ take used piece) → used ≤ length piece → HasTaken after.decoder [] →
+    IsSpelling (server_rules limits) x (front ++ take used piece) → used ≤ length piece → HasReadFront after.decoder [] →
     IsAnswerTo id x store store' before after commands → AnswersBytes limits id store store' before after front piece used commands
 spelled_turn full empty limits bounds id store store' before after front piece x used commands none spelled within takes answered = record {
   reply = answered.reply;
@@ -236,7 +236,7 @@ pub value_turn : NoSpellingIsEmpty → TheEmptyTextIsViable → (limits : Bounds
     IsAnswerTo id (datum_of value) store store' before after commands → AnswersBytes limits id store store' before after front piece used commands
 value_turn full empty limits bounds id store store' before after front piece reading value used commands none given within kept answered =
     spelled_turn full empty limits bounds id store store' before after front piece (datum_of value) used commands none given.spelling within
-    (subst (λ d. HasTaken d []) (sym kept) given.takes) answered
+    (subst (λ d. HasReadFront d []) (sym kept) given.takes) answered
 
 -- it makes no difference to an answer with what the session reads
 pub same_answer : (id : ℕ) (x : Datum) (store store' : Store) (before middle after : Session) (commands : ℕ) → middle.version ≡ before.version →

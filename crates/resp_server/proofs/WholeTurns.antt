@@ -11,7 +11,7 @@ use Rattle.resp_session.specs.Fitting.{EffectsFit, FitsEffect, FitsStore}
 use Rattle.resp_session.specs.Operations.{Operation, operation_of}
 use Rattle.resp_session.specs.Stores.{Store, effect_of}
 use Rattle.resp_server.specs.Answering.{AnswersBytes}
-use Rattle.resp_server.specs.Reading.{HasTaken}
+use Rattle.resp_server.specs.Reading.{HasReadFront}
 use Rattle.resp_server.specs.Running.{HasEffect, HasSameRest}
 use Rattle.resp_server.specs.Whole.{BeginsWithCommand, lent_operation}
 use Rattle.resp_server.specs.declared.session.Session.{Session}
@@ -45,7 +45,7 @@ used_is piece written rest whole =
     )
 
 pub whole_turn : NoSpellingIsEmpty → TheEmptyTextIsViable → ACommandIsItsWords → (limits : Bounds) → AreBounds limits → (id : ℕ) (store store' : Store)
-    (before after : Session) (piece rest : List ℕ) (command : Lent) → HasTaken before.decoder [] → before.closing ≡ false →
+    (before after : Session) (piece rest : List ℕ) (command : Lent) → HasReadFront before.decoder [] → before.closing ≡ false →
     (begins : BeginsWithCommand limits piece (lent_operation command) rest) →
     HasEffect store' before after (effect_of store before.version 0 (lent_operation command)) → HasSameRest before after →
     AnswersBytes limits id store store' before after [] piece (length piece - length rest) 1
@@ -57,6 +57,6 @@ whole_turn full empty words_law limits bounds id store store' before after piece
     spelled_turn full empty limits bounds id store store' before after [] piece (command_of all) (length piece - length rest) 1
     (none_taken before.decoder [] between)
     (subst (IsSpelling (server_rules limits) (command_of all)) (sym bytes) begins.spelled) within
-    (subst (λ d. HasTaken d []) (sym same.same_decoder) between)
+    (subst (λ d. HasReadFront d []) (sym same.same_decoder) between)
     (command_answer id (command_of all) all store store' before after (omega arith)
     (sym ((words_law (command_of all) begins.name begins.arguments).1 refl)) is_open did same)

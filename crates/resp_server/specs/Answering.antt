@@ -11,7 +11,7 @@ use Rattle.resp_scan.specs.declared.event.Fault.{Fault}
 use Rattle.resp_session.specs.Answers.{SessionState, Answers, after_value}
 use Rattle.resp_session.specs.Replies.{error}
 use Rattle.resp_session.specs.Stores.{Store}
-use Rattle.resp_server.specs.Reading.{HasTaken}
+use Rattle.resp_server.specs.Reading.{HasReadFront}
 use Rattle.resp_server.specs.declared.session.Session.{Session}
 
 -- a session over this store that has written this text and run this many commands
@@ -34,7 +34,7 @@ pub record AnswersBytes (limits : Bounds) (id : ℕ) (store store' : Store) (bef
   pub replied : after.out.items ≡ before.out.items ++ reply
   pub answers : (text : List ℕ) (count : ℕ) → Answers limits id (state_with store before.version text false count)
       (front ++ take used piece) (state_with store' after.version (text ++ reply) after.closing (count + commands)) rest
-  pub taking : after.closing ≡ false → HasTaken after.decoder rest
+  pub taking : after.closing ≡ false → HasReadFront after.decoder rest
   pub within : used ≤ length piece
   -- an open session uses a byte at least, where there is one
   pub onward : after.closing ≡ false → 0 < length piece → 0 < used
@@ -47,7 +47,7 @@ pub record IsAnswered (limits : Bounds) (id : ℕ) (store store' : Store) (befor
   pub replied : after.out.items ≡ before.out.items ++ reply
   pub answers : Answers limits id (state_with store before.version [] false 0) text
       (state_with store' after.version reply after.closing commands) rest
-  pub taking : after.closing ≡ false → HasTaken after.decoder rest
+  pub taking : after.closing ≡ false → HasReadFront after.decoder rest
 
 -- memory was out after the front and the first bytes of the piece, which were answered: nothing of what stands
 -- after them was done, and the session is closing

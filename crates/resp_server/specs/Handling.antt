@@ -5,14 +5,14 @@ use Rattle.resp_session.specs.Answers.{Answers}
 use Rattle.resp_session.specs.Stores.{Store}
 use Rattle.resp_server.specs.Answering.{state_with}
 use Rattle.resp_server.specs.Hubs.{HubState, Seat, seat_at, seated, stocked}
-use Rattle.resp_server.specs.Reading.{HasTaken, Reading}
+use Rattle.resp_server.specs.Reading.{HasReadFront, Reading}
 use Rattle.resp_server.specs.declared.error.HubError.{HubError}
 use Rattle.resp_server.specs.declared.error.HubError.TheVariants.{NoSession, OutOfMemory}
 
 -- where the session of this id is open: this holds of it and of every front of a value that it has taken
 abbrev pub WhereOpen : HubState → ℕ → (Seat → List ℕ → Type 0) → Type 0
 WhereOpen hub id P =
-    IfSome (seat_at hub id) (λ s. s.closing ≡ false → (front : List ℕ) → HasTaken s.decoder front → P s front)
+    IfSome (seat_at hub id) (λ s. s.closing ≡ false → (front : List ℕ) → HasReadFront s.decoder front → P s front)
 
 -- the text was answered in this session, and nothing else of the hub is changed
 pub record HasAnswered (old new : HubState) (id : ℕ) (s : Seat) (text : List ℕ) (commands : ℕ) : Type 0 where
@@ -27,7 +27,7 @@ pub record HasAnswered (old new : HubState) (id : ℕ) (s : Seat) (text : List �
   pub state : new ≡ stocked (seated old id
       (record { version = version; out = s.out ++ reply; closing = closing; decoder = decoder })) store
   -- an open session has taken the rest
-  pub taking : closing ≡ false → HasTaken decoder rest
+  pub taking : closing ≡ false → HasReadFront decoder rest
 
 -- the front and the first bytes of the piece were answered and not all of it, the session is closing, and nothing else
 -- of the hub is changed

@@ -8,7 +8,7 @@ use Rattle.resp_value.specs.declared.version.Version.{Version}
 use Rattle.resp_value.specs.declared.version.Version.TheVariants.{Two}
 use Rattle.resp_session.specs.Fitting.{FitsStore}
 use Rattle.resp_session.specs.Stores.{Store}
-use Rattle.resp_server.specs.Reading.{HasTaken, Reading, ReadsBy}
+use Rattle.resp_server.specs.Reading.{HasReadFront, Reading, ReadsBy}
 use Rattle.resp_server.specs.declared.session.Session.{Session}
 
 -- a session: the version in which it answers, what waits to be sent, whether it is closing, and what it reads with
@@ -57,7 +57,7 @@ without_seat (e ∷ es) id = cond (id == e.0) es (e ∷ without_seat es id)
 pub record SessionIsSound (limits : Bounds) (last : ℕ) (id : ℕ) (decoder : Reading) (closing : Bool) : Type 0 where
   pub numbered : id ≤ last
   pub reading : ReadsBy (rules_under Two limits) decoder
-  pub taking : closing ≡ false → (front : List ℕ) × HasTaken decoder front
+  pub taking : closing ≡ false → (front : List ℕ) × HasReadFront decoder front
 
 abbrev pub AreSound : Bounds → ℕ → List (ℕ × Session) → Type 0
 AreSound limits last sessions =
@@ -74,7 +74,7 @@ pub record HubIsSound (limits : Bounds) (sessions : List (ℕ × Session)) (stor
 pub record IsOpened (old new : HubState) (id : ℕ) : Type 0 where
   pub next : id ≡ old.last + 1
   pub decoder : Reading
-  pub nothing_taken : HasTaken decoder []
+  pub nothing_taken : HasReadFront decoder []
   pub fresh : seat_at old id ≡ None
   pub there : seat_at new id ≡ Some (record { version = Two; out = []; closing = false; decoder = decoder })
   pub state : new ≡ record old {

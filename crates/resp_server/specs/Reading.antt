@@ -16,13 +16,13 @@ abbrev pub Reading : Type 0
 Reading = Option Decoder
 
 -- the bytes of this front were taken of a value
-abbrev pub HasTaken : Reading → List ℕ → Type 0
-HasTaken None front = front ≡ []
-HasTaken (Some decoder) front = decoding.HasTaken decoder front
+abbrev pub HasReadFront : Reading → List ℕ → Type 0
+HasReadFront None front = front ≡ []
+HasReadFront (Some decoder) front = decoding.HasTaken decoder front
 
 -- this holds of every front that was taken
-abbrev pub WhereTaken : Reading → (List ℕ → Type 0) → Type 0
-WhereTaken reading P = (front : List ℕ) → HasTaken reading front → P front
+abbrev pub WhereFrontRead : Reading → (List ℕ → Type 0) → Type 0
+WhereFrontRead reading P = (front : List ℕ) → HasReadFront reading front → P front
 
 -- what is read is read by these rules
 abbrev pub ReadsBy : Rules → Reading → Type 0
@@ -32,15 +32,15 @@ ReadsBy rules (Some decoder) = decoding.rules_of decoder ≡ rules
 -- the text is a spelling of the value, and nothing is taken of the next
 pub record ReadsValue (rules : Rules) (reading : Reading) (written : List ℕ) (value : Value) : Type 0 where
   pub spelling : IsSpelling rules (datum_of value) written
-  pub takes : HasTaken reading []
+  pub takes : HasReadFront reading []
 
 -- the piece is used up: no value has ended in the text, which may go on, and is taken
 pub record ReadsOn (rules : Rules) (reading : Reading) (written piece : List ℕ) (used : ℕ) : Type 0 where
   pub whole_piece : used ≡ length piece
   pub no_value : HasNoValue written
   pub viable : IsViable rules WithinTotal written
-  pub takes : HasTaken reading written
+  pub takes : HasReadFront reading written
 
 -- a byte of the piece is refused, or no memory was found
-abbrev pub Refuses : Rules → List ℕ → List ℕ → Fault → Type 0
-Refuses rules front piece fault = RefusesByte rules front piece fault ⊎ (fault.cause ≡ OutOfMemory)
+abbrev pub RefusesReading : Rules → List ℕ → List ℕ → Fault → Type 0
+RefusesReading rules front piece fault = RefusesByte rules front piece fault ⊎ (fault.cause ≡ OutOfMemory)

@@ -4,7 +4,7 @@ ghost use Rattle.std.specs.Prelude.{◌≡◌, ◌<◌, ◌^◌, ◌++◌, List,
 ghost use Rattle.resp_session.specs.Answers.{server_rules};
 ghost use Rattle.resp_session.specs.Fitting.{FitsStore};
 ghost use Rattle.resp_server.specs.Answering.{IsAnswered, IsCutShort};
-ghost use Rattle.resp_server.specs.Reading.{HasTaken, ReadsBy, WhereTaken};
+ghost use Rattle.resp_server.specs.Reading.{HasReadFront, ReadsBy, WhereFrontRead};
 
 use crate::session::Session;
 use crate::store::Store;
@@ -28,10 +28,10 @@ pub(crate) fn answer<S: BuildHasher>(
     requires stored { FitsStore limits.now store.old }
     requires small { id < 2 ^ 63 }
     requires reading { ReadsBy (server_rules limits.now) session.old.decoder }
-    requires taking { (front : List ℕ) × HasTaken session.old.decoder front }
-    ensures answered { WhereTaken session.old.decoder (λ front. IfOk result (IsAnswered limits.now
+    requires taking { (front : List ℕ) × HasReadFront session.old.decoder front }
+    ensures answered { WhereFrontRead session.old.decoder (λ front. IfOk result (IsAnswered limits.now
         id store.old store.new session.old session.new (front ++ piece.now))) }
-    ensures cut_short { WhereTaken session.old.decoder (λ front. IfErr result (IsCutShort limits.now
+    ensures cut_short { WhereFrontRead session.old.decoder (λ front. IfErr result (IsCutShort limits.now
         id store.old store.new session.old session.new front piece.now)) }
     ensures stored { FitsStore limits.now store.new }
     ensures reading { ReadsBy (server_rules limits.now) session.new.decoder }
@@ -54,10 +54,10 @@ fn answer_turns<S: BuildHasher>(
     requires stored { FitsStore limits.now store.old }
     requires small { id < 2 ^ 63 }
     requires reading { ReadsBy (server_rules limits.now) session.old.decoder }
-    requires taking { (front : List ℕ) × HasTaken session.old.decoder front }
-    ensures answered { WhereTaken session.old.decoder (λ front. IfOk result (IsAnswered limits.now
+    requires taking { (front : List ℕ) × HasReadFront session.old.decoder front }
+    ensures answered { WhereFrontRead session.old.decoder (λ front. IfOk result (IsAnswered limits.now
         id store.old store.new session.old session.new (front ++ piece.now))) }
-    ensures cut_short { WhereTaken session.old.decoder (λ front. IfErr result (IsCutShort limits.now
+    ensures cut_short { WhereFrontRead session.old.decoder (λ front. IfErr result (IsCutShort limits.now
         id store.old store.new session.old session.new front piece.now)) }
     ensures stored { FitsStore limits.now store.new }
     ensures reading { ReadsBy (server_rules limits.now) session.new.decoder }

@@ -7,7 +7,7 @@ ghost use Rattle.resp_value.specs.declared.version.Version.TheVariants.{Three};
 ghost use Rattle.resp_encode.specs.Pushes.{push_of};
 ghost use Rattle.resp_session.specs.Stores.{value_at};
 ghost use Rattle.resp_server.specs.PushRefusals.{IsPushVerdict};
-ghost use Rattle.resp_server.specs.Reading.{HasTaken};
+ghost use Rattle.resp_server.specs.Reading.{HasReadFront};
 ghost use Rattle.resp_server.specs.Handling.{WhereOpen, HasAnswered, HasCutShort, IfOutOfMemory};
 ghost use Rattle.resp_server.specs.declared.error.HubError.{HubError};
 ghost use Rattle.resp_server.specs.declared.error.OpenError.{OpenError};
@@ -138,7 +138,7 @@ impl<S: BuildHasher> Hub<S> {
         ensures none { OnErr result (seat_at self.now id ≡ None) }
         // An open session has taken a front of a value, which is answered by nothing yet.
         ensures taking { IfSome (seat_at self.now id) (λ (s : Seat). s.closing ≡ false →
-            (front : List ℕ) × HasTaken s.decoder front) }
+            (front : List ℕ) × HasReadFront s.decoder front) }
         ensures waiting { WhereOpen self.now id (λ s front.
             HasAnswered self.now self.now id s front 0) }
     {

@@ -6,7 +6,7 @@ ghost use Rattle.resp_decode.specs.Decoding.{IfNoValue, IfValue};
 ghost use Rattle.resp_value.specs.Rules.{Rules, WithinTotal};
 ghost use Rattle.resp_value.specs.Spellings.{IsViable};
 ghost use Rattle.resp_session.specs.Answers.{server_rules};
-ghost use Rattle.resp_server.specs.Reading.{HasTaken, ReadsBy, ReadsOn, ReadsValue, Refuses, WhereTaken};
+ghost use Rattle.resp_server.specs.Reading.{HasReadFront, ReadsBy, ReadsOn, ReadsValue, RefusesReading, WhereFrontRead};
 
 use resp_decode::{Decoder, Fed};
 use resp_scan::event::Fault;
@@ -40,7 +40,7 @@ impl Model for Reader {
 impl Reader {
     /// One that has read nothing. Takes no memory.
     pub(crate) fn new() -> Reader
-        ensures nothing_taken { HasTaken result [] }
+        ensures nothing_taken { HasReadFront result [] }
         ensures reading { (rules : Rules) → ReadsBy rules result }
     {
         Reader { decoder: None }
@@ -55,12 +55,12 @@ impl Reader {
         piece: &[u8],
     ) -> Result<Fed, Fault>
         requires reading { ReadsBy (server_rules limits.now) self.old }
-        ensures value_whole { WhereTaken self.old (λ front. IfValue result (λ used.
+        ensures value_whole { WhereFrontRead self.old (λ front. IfValue result (λ used.
             ReadsValue (server_rules limits.now) self.new (front ++ take used piece.now))) }
-        ensures used_up { WhereTaken self.old (λ front. IfNoValue result
+        ensures used_up { WhereFrontRead self.old (λ front. IfNoValue result
             (ReadsOn (server_rules limits.now) self.new (front ++ piece.now) piece.now)) }
-        ensures refusal { WhereTaken self.old (λ front. IfErr result
-            (Refuses (server_rules limits.now) front piece.now)) }
+        ensures refusal { WhereFrontRead self.old (λ front. IfErr result
+            (RefusesReading (server_rules limits.now) front piece.now)) }
         ensures within_piece { IfOk result (λ fed. fed.used ≤ length piece.now) }
         ensures reading { ReadsBy (server_rules limits.now) self.new }
     {
@@ -77,7 +77,7 @@ impl Reader {
 
     /// Whether nothing is taken of a value.
     pub(crate) fn is_between(&self) -> bool
-        ensures { result ≡ true → WhereTaken self.now (λ front. front ≡ []) }
+        ensures { result ≡ true → WhereFrontRead self.now (λ front. front ≡ []) }
     {
         match &self.decoder {
             Some(decoder) => decoder.taken() == 0,
@@ -87,7 +87,7 @@ impl Reader {
 
     /// Gives the decoder's memory back, where nothing is taken of a value.
     pub(crate) fn shrink(&mut self)
-        ensures same_taken { WhereTaken self.old (HasTaken self.new) }
+        ensures same_taken { WhereFrontRead self.old (HasReadFront self.new) }
         ensures reading { (rules : Rules) → ReadsBy rules self.old → ReadsBy rules self.new }
     {
         if self.is_between() {
@@ -98,8 +98,8 @@ impl Reader {
     /// The number of bytes taken of the value that is being read.
     pub(crate) fn taken(&self, limits: &Limits) -> u64
         requires reading { ReadsBy (server_rules limits.now) self.now }
-        ensures length_of_front { WhereTaken self.now (λ front. result ≡ length front) }
-        ensures viable { WhereTaken self.now (IsViable (server_rules limits.now) WithinTotal) }
+        ensures length_of_front { WhereFrontRead self.now (λ front. result ≡ length front) }
+        ensures viable { WhereFrontRead self.now (IsViable (server_rules limits.now) WithinTotal) }
     {
         grammar::the_empty_text_is_viable();
         limits.are_in_range();
@@ -119,7 +119,7 @@ fn begun(
     requires reading { ReadsBy (server_rules limits.now)
         (option_map (λ decoder. decoder.value) decoder) }
     ensures same_taken { IfOk result (λ begun.
-        WhereTaken (option_map (λ decoder. decoder.value) decoder) (HasTaken (Some begun.value))) }
+        WhereFrontRead (option_map (λ decoder. decoder.value) decoder) (HasReadFront (Some begun.value))) }
     ensures reading { IfOk result (λ begun.
         ReadsBy (server_rules limits.now) (Some begun.value)) }
 {

@@ -3,7 +3,7 @@
 ghost use Rattle.std.specs.Prelude.{◌≡◌, [], false};
 ghost use Rattle.resp_value.specs.Rules.{Rules};
 ghost use Rattle.resp_value.specs.declared.version.Version.TheVariants.{Two};
-ghost use Rattle.resp_server.specs.Reading.{HasTaken, ReadsBy, WhereTaken};
+ghost use Rattle.resp_server.specs.Reading.{HasReadFront, ReadsBy, WhereFrontRead};
 
 use crate::reader::Reader;
 use bytes::BytesMut;
@@ -29,7 +29,7 @@ impl Session {
         ensures version { result.version ≡ Two }
         ensures out { result.out.items ≡ [] }
         ensures open { result.closing ≡ false }
-        ensures nothing_taken { HasTaken result.decoder [] }
+        ensures nothing_taken { HasReadFront result.decoder [] }
         ensures reading { (rules : Rules) → ReadsBy rules result.decoder }
     {
         Session {
@@ -47,7 +47,7 @@ impl Session {
         ensures same_out { self.new.out.items ≡ self.old.out.items }
         ensures same_closing { self.new.closing ≡ self.old.closing }
         ensures same_taken { self.old.closing ≡ false →
-            WhereTaken self.old.decoder (HasTaken self.new.decoder) }
+            WhereFrontRead self.old.decoder (HasReadFront self.new.decoder) }
         ensures reading { (rules : Rules) →
             ReadsBy rules self.old.decoder → ReadsBy rules self.new.decoder }
     {

@@ -5,7 +5,7 @@ ghost use Rattle.resp_value.specs.declared.cause.Cause.TheVariants.{OutOfMemory}
 ghost use Rattle.resp_session.specs.Answers.{server_rules};
 ghost use Rattle.resp_session.specs.Fitting.{FitsStore};
 ghost use Rattle.resp_server.specs.Answering.{AnswersBytes, AnswersFault, IsNamedFault};
-ghost use Rattle.resp_server.specs.Reading.{HasTaken, ReadsBy, WhereTaken};
+ghost use Rattle.resp_server.specs.Reading.{HasReadFront, ReadsBy, WhereFrontRead};
 ghost use Rattle.resp_server.specs.Running.{IsAsBefore};
 ghost use Rattle.resp_server.specs.Whole.{BeginsWithCommand, lent_operation};
 
@@ -46,8 +46,8 @@ pub(crate) fn take_turn<S: BuildHasher>(
     requires stored { FitsStore limits.now store.old }
     requires small { id < 2 ^ 63 }
     requires reading { ReadsBy (server_rules limits.now) session.old.decoder }
-    requires taking { (front : List ℕ) × HasTaken session.old.decoder front }
-    ensures answered { WhereTaken session.old.decoder (λ front. IfOk result (λ turn.
+    requires taking { (front : List ℕ) × HasReadFront session.old.decoder front }
+    ensures answered { WhereFrontRead session.old.decoder (λ front. IfOk result (λ turn.
         AnswersBytes limits.now id store.old store.new session.old session.new front piece.now
         turn.used turn.commands)) }
     ensures unchanged { OnErr result (IsAsBefore store.old store.new session.old session.new) }
@@ -76,7 +76,7 @@ fn run_whole<S: BuildHasher>(
     requires is_open { session.old.closing ≡ false }
     requires stored { FitsStore limits.now store.old }
     requires small { id < 2 ^ 63 }
-    requires between { HasTaken session.old.decoder [] }
+    requires between { HasReadFront session.old.decoder [] }
     requires begins { BeginsWithCommand limits.now piece.now (lent_operation whole.command)
         whole.rest.now }
     ensures answered { IfOk result (λ turn. AnswersBytes limits.now id store.old store.new
@@ -109,8 +109,8 @@ fn read_turn<S: BuildHasher>(
     requires stored { FitsStore limits.now store.old }
     requires small { id < 2 ^ 63 }
     requires reading { ReadsBy (server_rules limits.now) session.old.decoder }
-    requires taking { (front : List ℕ) × HasTaken session.old.decoder front }
-    ensures answered { WhereTaken session.old.decoder (λ front. IfOk result (λ turn.
+    requires taking { (front : List ℕ) × HasReadFront session.old.decoder front }
+    ensures answered { WhereFrontRead session.old.decoder (λ front. IfOk result (λ turn.
         AnswersBytes limits.now id store.old store.new session.old session.new front piece.now
         turn.used turn.commands)) }
     ensures unchanged { OnErr result (IsAsBefore store.old store.new session.old session.new) }

@@ -9,7 +9,7 @@ use Rattle.resp_scan.specs.Listening.{HearsPiece, HearsValue}
 use Rattle.resp_scan.specs.Machine.Tokens.{Place}
 use Rattle.resp_scan.specs.Reading.{Events, IsFaulted}
 use Rattle.resp_scan.specs.declared.event.Fault.{Fault}
-use Rattle.resp_tool.specs.Begun.{BeginsAt, HasCome, HavePassed}
+use Rattle.resp_tool.specs.Begun.{BeginsAt, HasReadOrRefused, HavePassed}
 use Rattle.resp_tool.specs.Scans.{HasScanned}
 use Rattle.resp_tool.specs.declared.starts.Starts.{Starts}
 use Rattle.resp_tool.proofs.Rendered.{spelled_on, spelled_one}
@@ -82,7 +82,7 @@ passed_value starts after bytes more H h same values start hears =
     }
 
 -- where no fault stands a scanner has read the rest
-pub came : (s : Place) (rest : List ℕ) → HasCome s rest → ((fault : Fault) → IsFaulted s fault → ⊥) → (given : Events) × HasScanned s rest given
+pub came : (s : Place) (rest : List ℕ) → HasReadOrRefused s rest → ((fault : Fault) → IsFaulted s fault → ⊥) → (given : Events) × HasScanned s rest given
 came s rest (inl read) sound = read
 came s rest (inr (fault, faulted)) sound = absurd (sound fault faulted)
 

@@ -23,7 +23,7 @@ use Rattle.resp_encode.specs.declared.error.EncodeToError.{EncodeToError}
 use Rattle.resp_encode.specs.declared.error.EncodeToError.TheVariants as to
 use Rattle.resp_tool.specs.Canons.{HasDecoded, stop_at, stop_for, stop_of}
 use Rattle.resp_tool.specs.Counts.{LeavesNothing}
-use Rattle.resp_tool.specs.Takings.{Declines, EndsInput, IsByteFault, IsEndFault, RefusesInput, Takes, TakesUnfinished, WritesValue}
+use Rattle.resp_tool.specs.Takings.{Declines, EndsInput, IsByteFault, IsEndFault, LeavesRefused, Takes, TakesUnfinished, WritesValue}
 use Rattle.resp_tool.specs.Takings as tool
 use Rattle.resp_tool.specs.Written.{AppendsPart, BreaksText}
 use Rattle.resp_tool.proofs.Scanned.{ends_inside, no_spelling_without_value, no_value_at_start, value_uses_some}
@@ -163,7 +163,7 @@ decoder_stops r H front piece so_far held fault nothing (inl w) =
     subst (λ c. Takes r (canonical_text r.version) (Fits r) LeavesNothing LeavesNothing H front piece so_far held held (Err (stop_for c fault))) (sym w.names)
     (by_rule w.rule)
   where
-    refuses : RefusesInput r (IsByteFault r) LeavesNothing (front ++ piece) so_far held held fault.cause fault.at
+    refuses : LeavesRefused r (IsByteFault r) LeavesNothing (front ++ piece) so_far held held fault.cause fault.at
     refuses = record {
       fault = record { rule = w.rule; names = w.names; fault_of = w.fault_of };
       no_spelling = w.no_value;
@@ -194,7 +194,7 @@ pub decoder_ends : (r : Rules) (front so_far : List ℕ) (held : Option (List �
     fault.cause ≡ cause.Truncated → fault.at ≡ length front → (front ≡ [] → ⊥) →
     EndsInput r (canonical_text r.version) LeavesNothing LeavesNothing front so_far held held (Err (stop_at fault))
 decoder_ends r front so_far held fault nothing none viable names place begun =
-    let refuses : RefusesInput r (IsEndFault r) LeavesNothing front so_far held held fault.cause fault.at = record {
+    let refuses : LeavesRefused r (IsEndFault r) LeavesNothing front so_far held held fault.cause fault.at = record {
       fault = ends_inside r front fault.cause fault.at viable names place begun;
       no_spelling = no_spelling_without_value r front none;
       more = [];

@@ -13,7 +13,7 @@ use Rattle.resp_value.specs.Devices.{Appends}
 use Rattle.resp_value.specs.declared.cause.Cause.{Cause}
 use Rattle.resp_scan.specs.Reading.{HasNoSpelling}
 use Rattle.resp_tool.specs.Stops.{error_of}
-use Rattle.resp_tool.specs.Takings.{EndsInput, IsByteFault, IsEndFault, RefusesInput, Declines, Takes, TakesUnfinished, WritesValue, WritesPart}
+use Rattle.resp_tool.specs.Takings.{EndsInput, IsByteFault, IsEndFault, LeavesRefused, Declines, Takes, TakesUnfinished, WritesValue, WritesPart}
 use Rattle.resp_tool.specs.Streams.{HasRendered, IsBeforeEnd, RendersCounted, RendersFront, RendersMost, RendersPart, RendersStopped, RendersUpTo, most_values}
 use Rattle.resp_tool.specs.declared.stream.Totals.{Totals}
 use Rattle.resp_tool.specs.declared.rendering.Taken.{Taken}
@@ -124,7 +124,7 @@ no_more r rest none x next beyond spelling is =
 pub renders_refused : (r : Rules) (text : Datum → List ℕ) (W : Datum → Type 0) (F : List ℕ → Cause → ℕ → Type 0) (L H : List ℕ → List ℕ → Type 0)
     (bytes piece : List ℕ) (start mid after : Option (List ℕ)) (n : ℕ) (c : Cause) (at : ℕ) (s : HasRendered r text W H bytes start mid n) →
     ((rest : List ℕ) → F rest c at → IsByteFault r rest c at ⊎ IsEndFault r rest c at) →
-    RefusesInput r F L (s.begun ++ piece) s.so_far mid after c at → RendersFront r text W L (bytes ++ piece) start after (n + 1) c at
+    LeavesRefused r F L (s.begun ++ piece) s.so_far mid after c at → RendersFront r text W L (bytes ++ piece) start after (n + 1) c at
 renders_refused r text W F L H bytes piece start mid after n c at s why t = record {
   values = s.values;
   rest = s.begun ++ piece;
@@ -335,7 +335,7 @@ pub ended_stop : (r : Rules) (text : Datum → List ℕ) (W : Datum → Type 0) 
     (start mid after : Option (List ℕ)) (n : ℕ) (why : Stop) → EndsOf r text L B H mid after (Err why) → HasRendered r text W H bytes start mid n →
     RendersStopped r text W L B bytes start after (error_of (n + 1) why)
 ended_stop r text W L B H bytes start mid after n (stop.Fault fault) ends s =
-    let refused = subst (λ z. RefusesInput r (IsEndFault r) L z s.so_far mid after fault.cause fault.at) (sym (append-nil s.begun))
+    let refused = subst (λ z. LeavesRefused r (IsEndFault r) L z s.so_far mid after fault.cause fault.at) (sym (append-nil s.begun))
     (ends s.begun s.so_far s.takes) in
     subst (λ z. RendersFront r text W L z start after (n + 1) fault.cause fault.at) (append-nil bytes)
     (renders_refused r text W (IsEndFault r) L H bytes [] start mid after n fault.cause fault.at s (λ rest f. inr f) refused)

@@ -19,7 +19,7 @@ use Rattle.resp_scan.specs.declared.event.Fault.{Fault}
 use Rattle.resp_scan.specs.declared.event.Scanned.{Scanned}
 use Rattle.resp_tool.specs.Counts.{IsAny, LeavesNothing, no_text}
 use Rattle.resp_tool.specs.Scans.{HasLookedAt, HasScanned}
-use Rattle.resp_tool.specs.Takings.{IsByteFault, IsEndFault, RefusesInput, TakesUnfinished, WritesValue}
+use Rattle.resp_tool.specs.Takings.{IsByteFault, IsEndFault, LeavesRefused, TakesUnfinished, WritesValue}
 use Rattle.resp_tool.proofs.WrittenLemmas.{Appends-none}
 
 -- nothing is due of no byte
@@ -166,7 +166,7 @@ looks_on r s s' H front piece so_far held scanned looked whole part all viable =
 pub looks_refused : (r : Rules) (s : Place) (H : Events → Type 0) (front piece so_far : List ℕ) (held : Option (List ℕ)) (fault : Fault) →
     FrontsOfViableTextsAreViable → HasLookedAt s front so_far →
     ((given : Events) → HasRead s front given → HearsRefusal r H front piece fault) →
-    RefusesInput r (IsByteFault r) LeavesNothing (front ++ piece) so_far held held fault.cause fault.at
+    LeavesRefused r (IsByteFault r) LeavesNothing (front ++ piece) so_far held held fault.cause fault.at
 looks_refused r s H front piece so_far held fault law looked refusal =
     let ((given, scanned_so), nothing) = looked in
     let h = refusal given scanned_so.reads in
@@ -181,7 +181,7 @@ looks_refused r s H front piece so_far held fault law looked refusal =
 -- the end of the input inside a value
 pub looks_truncated : (r : Rules) (front so_far : List ℕ) (held : Option (List ℕ)) (c : Cause) (at : ℕ) → HasNoValue front → IsViable r WithinTotal front →
     c ≡ cause.Truncated → at ≡ length front → (front ≡ [] → ⊥) → so_far ≡ [] →
-    RefusesInput r (IsEndFault r) LeavesNothing front so_far held held c at
+    LeavesRefused r (IsEndFault r) LeavesNothing front so_far held held c at
 looks_truncated r front so_far held c at none viable names place begun nothing = record {
   fault = ends_inside r front c at viable names place begun;
   no_spelling = no_spelling_without_value r front none;

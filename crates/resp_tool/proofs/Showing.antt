@@ -28,7 +28,7 @@ use Rattle.resp_tool.specs.Pages.{OpenLine, OpenText, Page, blank, end_of_line, 
 use Rattle.resp_tool.specs.Printing.{Call, HasBroken, HasPrinted, IsOfCall, IsPageAfter, Start}
 use Rattle.resp_tool.specs.Scans.{HasShown, IsShownIn, IsShownOf}
 use Rattle.resp_tool.specs.Shown.{shown_text}
-use Rattle.resp_tool.specs.Takings.{IsByteFault, IsEndFault, RefusesInput, TakesUnfinished, WritesValue, WritesPart}
+use Rattle.resp_tool.specs.Takings.{IsByteFault, IsEndFault, LeavesRefused, TakesUnfinished, WritesValue, WritesPart}
 use Rattle.resp_tool.specs.Written.{AppendsPart, WritesText}
 use Rattle.resp_tool.specs.declared.lines.Lines.{Lines}
 use Rattle.resp_tool.proofs.Scanned.{byte_fault, ends_inside, no_spelling_without_value, nothing_given, scanned_nothing, value_uses_some}
@@ -368,7 +368,7 @@ module _ (r : Rules) (since : Start) (front piece : List ℕ) (after : Option (L
 pub shows_refused : (r : Rules) (since : Start) (front piece : List ℕ) (lines : Lines) (now after : Option (List ℕ)) (f : ℕ) (fault : Fault) →
     FrontsOfViableTextsAreViable → HearsRefusal r (HasPrinted since lines now f) front piece fault →
     Appends now after (end_of_line (page_of lines).text) →
-    RefusesInput r (IsByteFault r) IsShownOf (front ++ piece) since.so_far since.held after fault.cause fault.at
+    LeavesRefused r (IsByteFault r) IsShownOf (front ++ piece) since.so_far since.held after fault.cause fault.at
 shows_refused r since front piece lines now after f fault law h ended =
     let w = h.has_heard in
     let ending = end_of_line (page_of lines).text in
@@ -464,7 +464,7 @@ shown_between s lines front so_far none w =
 
 pub shown_truncated : (r : Rules) (s : Place) (lines : Lines) (front so_far : List ℕ) (before after : Option (List ℕ)) (c : Cause) (at : ℕ) →
     IsViable r WithinTotal front → c ≡ cause.Truncated → at ≡ length front → (front ≡ [] → ⊥) → HasShown s lines front so_far →
-    Appends before after (end_of_line (page_of lines).text) → RefusesInput r (IsEndFault r) IsShownOf front so_far before after c at
+    Appends before after (end_of_line (page_of lines).text) → LeavesRefused r (IsEndFault r) IsShownOf front so_far before after c at
 shown_truncated r s lines front so_far before after c at viable names place begun w ended =
     let all : take at front ≡ front = ap (λ k. take k front) place ∙ take_all (length front) front (omega arith) in
     record {

@@ -22,10 +22,10 @@ pub record BeginsAt (r : Rules) (bytes : List ℕ) (count start : ℕ) : Type 0 
   pub placed : length front ≤ last_count → start ≡ length front
 
 -- a scanner has read the rest, in which no value has ended, or has refused a byte
-abbrev pub HasCome : Place → List ℕ → Type 0
-HasCome s rest = ((given : Events) × HasScanned s rest given) ⊎ ((fault : Fault) × IsFaulted s fault)
+abbrev pub HasReadOrRefused : Place → List ℕ → Type 0
+HasReadOrRefused s rest = ((given : Events) × HasScanned s rest given) ⊎ ((fault : Fault) × IsFaulted s fault)
 
 -- the bytes have come, up to the first that is refused
 pub record HavePassed (starts : Starts) (bytes : List ℕ) : Type 0 where
   pub begins : BeginsAt (rules_of starts.scanner) bytes starts.values starts.start
-  pub come : HasCome starts.scanner begins.rest
+  pub come : HasReadOrRefused starts.scanner begins.rest

@@ -47,7 +47,7 @@ pub record TakesUnfinished (r : Rules) (HasTaken : List ℕ → List ℕ → Typ
   pub takes : HasTaken bytes (so_far ++ more)
 
 -- the bytes are refused, no front of them is a spelling, and what stands of them was written
-pub record RefusesInput (r : Rules) (IsFault : List ℕ → Cause → ℕ → Type 0) (IsLeft : List ℕ → List ℕ → Type 0)
+pub record LeavesRefused (r : Rules) (IsFault : List ℕ → Cause → ℕ → Type 0) (IsLeft : List ℕ → List ℕ → Type 0)
     (bytes so_far : List ℕ) (before after : Option (List ℕ)) (c : Cause) (at : ℕ) : Type 0 where
   pub fault : IsFault bytes c at
   pub no_spelling : HasNoSpelling r bytes
@@ -92,7 +92,7 @@ Takes r text IsWritten IsLeft IsBegun HasTaken front piece so_far before after (
     ((0 < taken.used) × WritesValue r text IsWritten HasTaken (front ++ take taken.used piece) so_far before after)
     ((taken.used ≡ length piece) × TakesUnfinished r HasTaken (front ++ piece) so_far before after)
 Takes r text IsWritten IsLeft IsBegun HasTaken front piece so_far before after (Err (stop.Fault fault)) =
-    RefusesInput r (IsByteFault r) IsLeft (front ++ piece) so_far before after fault.cause fault.at
+    LeavesRefused r (IsByteFault r) IsLeft (front ++ piece) so_far before after fault.cause fault.at
 Takes r text IsWritten IsLeft IsBegun HasTaken front piece so_far before after (Err stop.OverLimits) =
     Declines r IsWritten (front ++ piece) so_far before after
 Takes r text IsWritten IsLeft IsBegun HasTaken front piece so_far before after (Err e) =
@@ -104,6 +104,6 @@ abbrev pub EndsInput : Rules → (Datum → List ℕ) → (List ℕ → List ℕ
 EndsInput r text IsLeft IsBegun front so_far before after (Ok x) =
     (front ≡ []) × (so_far ≡ []) × Appends before after []
 EndsInput r text IsLeft IsBegun front so_far before after (Err (stop.Fault fault)) =
-    RefusesInput r (IsEndFault r) IsLeft front so_far before after fault.cause fault.at
+    LeavesRefused r (IsEndFault r) IsLeft front so_far before after fault.cause fault.at
 EndsInput r text IsLeft IsBegun front so_far before after (Err stop.OverLimits) = ⊥
 EndsInput r text IsLeft IsBegun front so_far before after (Err e) = WritesPart r text IsBegun front so_far before after

@@ -6,7 +6,7 @@ use Rattle.std.proofs.lemmas.List.{drop_all, take-append-drop}
 use Rattle.resp_value.specs.Devices.{Appends}
 use Rattle.resp_server.specs.Handling.{WhereOpen}
 use Rattle.resp_server.specs.Hubs.{HubState, Seat, seat_at, seated, with_seat}
-use Rattle.resp_server.specs.Reading.{HasTaken}
+use Rattle.resp_server.specs.Reading.{HasReadFront}
 use Rattle.resp_wire.specs.Serving.{HasSent, IsClosing, IsOpen, IsThere}
 
 found_by : (id : ℕ) (e : ℕ × Seat) (es : List (ℕ × Seat)) (old new : Seat) (here : Bool) → (id == e.0) ≡ here →
@@ -63,20 +63,20 @@ one_seat o a b x y = let z = sym x ∙ y in cc
 
 -- what holds of every front of a session that is open
 where_by : (hub : HubState) (id : ℕ) (P : Seat → List ℕ → Type 0) (o : Option Seat) → seat_at hub id ≡ o →
-    ((s : Seat) → seat_at hub id ≡ Some s → s.closing ≡ false → (front : List ℕ) → HasTaken s.decoder front → P s front) →
-    IfSome o (λ s. s.closing ≡ false → (front : List ℕ) → HasTaken s.decoder front → P s front)
+    ((s : Seat) → seat_at hub id ≡ Some s → s.closing ≡ false → (front : List ℕ) → HasReadFront s.decoder front → P s front) →
+    IfSome o (λ s. s.closing ≡ false → (front : List ℕ) → HasReadFront s.decoder front → P s front)
 where_by hub id P None is all = tt
 where_by hub id P (Some s) is all = all s is
 
 pub where_open : (hub : HubState) (id : ℕ) (P : Seat → List ℕ → Type 0) →
-    ((s : Seat) → seat_at hub id ≡ Some s → s.closing ≡ false → (front : List ℕ) → HasTaken s.decoder front → P s front) → WhereOpen hub id P
+    ((s : Seat) → seat_at hub id ≡ Some s → s.closing ≡ false → (front : List ℕ) → HasReadFront s.decoder front → P s front) → WhereOpen hub id P
 where_open hub id P all = where_by hub id P (seat_at hub id) refl all
 
 pub at_open : (hub : HubState) (id : ℕ) (P : Seat → List ℕ → Type 0) (s : Seat) (front : List ℕ) → WhereOpen hub id P → seat_at hub id ≡ Some s →
-    s.closing ≡ false → HasTaken s.decoder front → P s front
+    s.closing ≡ false → HasReadFront s.decoder front → P s front
 at_open hub id P s front w here is_open taken =
-    let all : s.closing ≡ false → (front : List ℕ) → HasTaken s.decoder front → P s front =
-    subst (λ o. IfSome o (λ (t : Seat). t.closing ≡ false → (front : List ℕ) → HasTaken t.decoder front → P t front)) here w in
+    let all : s.closing ≡ false → (front : List ℕ) → HasReadFront s.decoder front → P s front =
+    subst (λ o. IfSome o (λ (t : Seat). t.closing ≡ false → (front : List ℕ) → HasReadFront t.decoder front → P t front)) here w in
     all is_open front taken
 
 -- a session that is open is there
@@ -88,7 +88,7 @@ not_there hub id (s, here) none = let e : Some s ≡ None = sym here ∙ none in
 
 -- a session that isn't closing is open
 open_by : (hub : HubState) (id : ℕ) (o : Option Seat) → seat_at hub id ≡ o → option_map (λ (s : Seat). s.closing) o ≡ Some false →
-    IfSome o (λ s. s.closing ≡ false → (front : List ℕ) × HasTaken s.decoder front) → IsOpen hub id
+    IfSome o (λ s. s.closing ≡ false → (front : List ℕ) × HasReadFront s.decoder front) → IsOpen hub id
 open_by hub id None is closing taking = absurd (cc)
 open_by hub id (Some s) is closing taking =
     let not_closing : s.closing ≡ false = cc in
@@ -96,7 +96,7 @@ open_by hub id (Some s) is closing taking =
     record { seat = s; here = is; not_closing = not_closing; front = front; taken = taken }
 
 pub is_open : (hub : HubState) (id : ℕ) (closing : Bool) → IsClosing hub id closing → closing ≡ false →
-    IfSome (seat_at hub id) (λ s. s.closing ≡ false → (front : List ℕ) × HasTaken s.decoder front) → IsOpen hub id
+    IfSome (seat_at hub id) (λ s. s.closing ≡ false → (front : List ℕ) × HasReadFront s.decoder front) → IsOpen hub id
 is_open hub id closing is not taking = open_by hub id (seat_at hub id) refl (is ∙ ap Some not) taking
 
 there_by : (hub : HubState) (id : ℕ) (closing : Bool) (o : Option Seat) → seat_at hub id ≡ o → option_map (λ (s : Seat). s.closing) o ≡ Some closing →

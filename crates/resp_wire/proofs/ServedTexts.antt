@@ -12,7 +12,7 @@ use Rattle.resp_session.specs.Stores.{Store}
 use Rattle.resp_server.specs.Answering.{state_with}
 use Rattle.resp_server.specs.Handling.{HasAnswered, HasCutShort, WhereOpen}
 use Rattle.resp_server.specs.Hubs.{HubState, Seat, seat_at, seated, stocked}
-use Rattle.resp_server.specs.Reading.{HasTaken, Reading}
+use Rattle.resp_server.specs.Reading.{HasReadFront, Reading}
 use Rattle.resp_wire.specs.Serving.{AnswersBefore, HadAnswered, HasSent, IsClosing, IsOpen, IsThere, Serves, ServesFirst, StopsServing}
 use Rattle.resp_wire.specs.declared.error.ServeError.{ServeError}
 use Rattle.resp_wire.specs.declared.error.ServeError.TheVariants.{NoSession, OutOfMemory, Read, Write, TooManyTurns}
@@ -56,7 +56,7 @@ pub record Stands (old cur : HubState) (id : ℕ) (s : Seat) (text : List ℕ) (
   pub commands : ℕ
   pub answers : Answers old.limits id (state_with old.store s.version [] false 0) text (state_with store version reply false commands) rest
   pub state : cur ≡ stocked (seated old id (seat_with version [] false decoder)) store
-  pub taken : HasTaken decoder rest
+  pub taken : HasReadFront decoder rest
   pub appended : Appends held held' (s.out ++ reply)
 
 pub stands : (old cur : HubState) (id : ℕ) (s : Seat) (text : List ℕ) (held held' : Option (List ℕ)) → seat_at old id ≡ Some s →
@@ -229,7 +229,7 @@ serves_given old given new id s text held held' waits commands a h = record { gi
 -- what was answered to a piece after a front
 pub answered_at : (old given : HubState) (id : ℕ) (piece : List ℕ) (commands : ℕ) →
     WhereOpen old id (λ s front. HasAnswered old given id s (front ++ piece) commands) → (s : Seat) (front : List ℕ) → seat_at old id ≡ Some s →
-    s.closing ≡ false → HasTaken s.decoder front → HasAnswered old given id s (front ++ piece) commands
+    s.closing ≡ false → HasReadFront s.decoder front → HasAnswered old given id s (front ++ piece) commands
 answered_at old given id piece commands all s front here not_closing taken =
     at_open old id (λ t f. HasAnswered old given id t (f ++ piece) commands) s front all here not_closing taken
 
@@ -255,7 +255,7 @@ sent_is_open old new id held held' waits o h =
       here = ap (λ g. seat_at g id) h.state ∙ seat_here old id h.seat seat h.here;
       not_closing = ap (λ (t : Seat). t.closing) same ∙ o.not_closing;
       front = o.front;
-      taken = subst (λ (t : Seat). HasTaken t.decoder o.front) (sym same) o.taken;
+      taken = subst (λ (t : Seat). HasReadFront t.decoder o.front) (sym same) o.taken;
     }
 
 -- and it isn't closing

@@ -9,7 +9,7 @@ use Rattle.resp_session.specs.Runs as runs
 use Rattle.resp_session.specs.Runs.{Run, Step}
 use Rattle.resp_session.specs.Worlds.{World, WorldEvent, Drop, after_event}
 use Rattle.resp_server.specs.Hubs.{HubState, seat_at}
-use Rattle.resp_server.specs.Reading.{HasTaken, Reading}
+use Rattle.resp_server.specs.Reading.{HasReadFront, Reading}
 use Rattle.resp_wire.specs.Ends.{IsNew}
 use Rattle.resp_wire.specs.Links.{is_of_link}
 use Rattle.resp_wire.specs.Worlds.{CountsFailures, Shows, StopsBy, WorldState, outcome_of}
@@ -70,5 +70,5 @@ pub record AreOpened (limits : Bounds) (old new : HubState) (ends : List End) (c
   pub as_many : length ends ≡ count
   pub none_else : (id : ℕ) → count < id → seat_at new id ≡ None
   pub each_end : (k : ℕ) (e : End) → slice_get ends k ≡ Some e → IsNew limits e
-  pub each_seat : (k : ℕ) → k < count → (decoder : Reading) × HasTaken decoder [] ×
+  pub each_seat : (k : ℕ) → k < count → (decoder : Reading) × HasReadFront decoder [] ×
       (seat_at new (suc k) ≡ Some (record { version = Two; out = []; closing = false; decoder = decoder }))

@@ -5,7 +5,7 @@ use Rattle.std.specs.Option.{option_map}
 use Rattle.resp_value.specs.Devices.{Appends, HasRisen}
 use Rattle.resp_server.specs.Handling.{HasAnswered, HasCutShort}
 use Rattle.resp_server.specs.Hubs.{HubState, Seat, seat_at, seated}
-use Rattle.resp_server.specs.Reading.{HasTaken}
+use Rattle.resp_server.specs.Reading.{HasReadFront}
 use Rattle.resp_wire.specs.Turns.{TellsEnd}
 use Rattle.resp_wire.specs.declared.error.ServeError.{ServeError}
 use Rattle.resp_wire.specs.declared.error.ServeError.TheVariants.{NoSession, OutOfMemory, Read, Write, TooManyTurns}
@@ -22,7 +22,7 @@ pub record IsOpen (hub : HubState) (id : ℕ) : Type 0 where
   pub here : seat_at hub id ≡ Some seat
   pub not_closing : seat.closing ≡ false
   pub front : List ℕ
-  pub taken : HasTaken seat.decoder front
+  pub taken : HasReadFront seat.decoder front
 
 -- whether it is closing
 abbrev pub IsClosing : HubState → ℕ → Bool → Type 0

@@ -71,7 +71,7 @@ pub record Stands (limits : Bounds) (seat : Option Seat) (e : End) (c : Connecti
   pub is_open : session.closing ≡ false
   pub answers : session.out ≡ drop c.shown (back_text c)
   pub front : List ℕ
-  pub taking : server.HasTaken session.decoder front
+  pub taking : server.HasReadFront session.decoder front
   pub unfinished : IsUnfinished limits c front
   pub same_limits : (state_of e.client).limits ≡ limits
   pub asks : (state_of e.client).out ≡ drop c.arrived (sent_text c)

@@ -27,7 +27,7 @@ pub record GoesOn (t : Place) (HasHeard : Events → Type 0) (front : List ℕ) 
   pub heard : HasHeard (given ++ told)
 
 -- a byte was refused, and the fault stands
-pub record RefusesByte (r : Rules) (t : Place) (front : List ℕ) (given : Events) (piece : List ℕ) : Type 0 where
+pub record LeadsToFault (r : Rules) (t : Place) (front : List ℕ) (given : Events) (piece : List ℕ) : Type 0 where
   pub fault : Fault
   pub kept : IsFaulted t fault
   pub refused : IsRefused r front given piece fault
@@ -47,7 +47,7 @@ OutcomeOfTurn s t HasHeard HasStopped front given piece used On = GoesOn t HasHe
 OutcomeOfTurn s t HasHeard HasStopped front given piece used More = UsesUp t front given piece used × HasHeard given
 OutcomeOfTurn s t HasHeard HasStopped front given piece used Done = EndsValue (rules_of s) t front given used ×
     HasHeard given
-OutcomeOfTurn s t HasHeard HasStopped front given piece used Failed = RefusesByte (rules_of s) t front given piece ×
+OutcomeOfTurn s t HasHeard HasStopped front given piece used Failed = LeadsToFault (rules_of s) t front given piece ×
     HasHeard given
 OutcomeOfTurn s t HasHeard HasStopped front given piece used Stopped = Stops (rules_of s) t HasStopped front piece used
 

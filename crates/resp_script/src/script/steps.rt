@@ -2,7 +2,7 @@
 
 ghost use Rattle.std.specs.Prelude.{◌≡◌, ℕ, ◌≤◌, ◌<◌, List, [], ◌∷◌, length, map, Option, IsErrOf, IfOk, IfSome, IfNone, decimal};
 ghost use Rattle.resp_value.specs.Words.{texts_of};
-ghost use Rattle.resp_script.specs.ScriptSteps.{arguments_of, asked_words, step_client, clients_words, item_word, verb_name, step_words, verb_of, HasRange, IsStepInRange, IsMoved};
+ghost use Rattle.resp_script.specs.ScriptSteps.{arguments_of, asked_words, step_client, clients_words, item_word, step_name, step_words, verb_of, HasRange, IsStepInRange, IsMoved};
 ghost use Rattle.resp_script.specs.Scripts.{is_passed_over, SaysNothing};
 ghost use Rattle.resp_script.specs.SaidLines.{Says};
 
@@ -131,8 +131,8 @@ fn step_of(alloc: Global, clients: usize, words: &[&[u8]]) -> Result<Option<Even
 
 /// What the first word of a line says.
 fn verb_of(name: &[u8]) -> Option<Verb>
-    ensures verb { IfSome result (λ verb. name.now ≡ verb_name verb) }
-    ensures none { IfNone result ((verb : Verb) → name.now ≡ verb_name verb → ⊥) }
+    ensures verb { IfSome result (λ verb. name.now ≡ step_name verb) }
+    ensures none { IfNone result ((verb : Verb) → name.now ≡ step_name verb → ⊥) }
 {
     if name == b"send".as_slice() {
         Some(Verb::Send)

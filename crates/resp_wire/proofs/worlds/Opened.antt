@@ -9,7 +9,7 @@ use Rattle.resp_value.specs.declared.version.Version.TheVariants.{Two}
 use Rattle.resp_session.specs.Connections.{Connection, new_connection}
 use Rattle.resp_session.specs.Worlds.{connection_at, new_connections, new_world}
 use Rattle.resp_server.specs.Hubs.{HubState, HasNoSessionLeft, IsOpened, Seat, seat_at}
-use Rattle.resp_server.specs.Reading.{HasTaken, Reading}
+use Rattle.resp_server.specs.Reading.{HasReadFront, Reading}
 use Rattle.resp_server.specs.declared.error.OpenError.{OpenError}
 use Rattle.resp_server.specs.declared.error.OpenError.TheVariants.{TooManySessions, OutOfMemory}
 use Rattle.resp_client.specs.Clients.{ClientState, queued}
@@ -28,7 +28,7 @@ as_many_new : (n : ℕ) → length (new_connections n) ≡ n
 as_many_new zero = refl
 as_many_new (suc n) = ap suc (as_many_new n)
 
-new_shown : (limits : Bounds) (hub : HubState) (k : ℕ) (e : End) (decoder : Reading) → IsNew limits e → HasTaken decoder [] →
+new_shown : (limits : Bounds) (hub : HubState) (k : ℕ) (e : End) (decoder : Reading) → IsNew limits e → HasReadFront decoder [] →
     seat_at hub (suc k) ≡ Some (record { version = Two; out = []; closing = false; decoder = decoder }) →
     ShowsClient limits (seat_at hub (suc k)) e new_connection
 new_shown limits hub k e decoder new nothing there = record {
@@ -148,7 +148,7 @@ each_session : (limits : Bounds) (old mid new : HubState) (ends : List End) (cou
     (opened : IsOpened mid new id) →
     new.sessions ≡ mid.sessions ++ (id, record { version = Two; out = []; closing = false; decoder = opened.decoder }) ∷ [] → id ≡ suc count →
     (k : ℕ) → k < count + 1 → ((eqb k count ≡ true) × (k ≡ count)) ⊎ ((eqb k count ≡ false) × (k ≢ count)) → (decoder : Reading) ×
-    HasTaken decoder [] × (seat_at new (suc k) ≡ Some (record { version = Two; out = []; closing = false; decoder = decoder }))
+    HasReadFront decoder [] × (seat_at new (suc k) ≡ Some (record { version = Two; out = []; closing = false; decoder = decoder }))
 each_session limits old mid new ends count id e o opened sessions id_is k within (inl h) =
     let seat : Seat = record { version = Two; out = []; closing = false; decoder = opened.decoder } in
     let same : suc k ≡ id = ap suc h.1 ∙ sym id_is in

@@ -3,7 +3,7 @@ use Rattle.resp_session.specs.Runs.{connection_of}
 use Rattle.resp_session.specs.Worlds.{client_of, connection_at}
 use Rattle.resp_tool.proofs.WrittenLemmas.{Appends-none}
 use Rattle.resp_wire.specs.Worlds.{event_of, outcome_of}
-use Rattle.resp_script.specs.Plays.{AreThere, HasShown, played}
+use Rattle.resp_script.specs.Plays.{AreThere, AreShownOn, played}
 use Rattle.resp_script.specs.Printed.{Prints, outcome_text}
 use Rattle.resp_script.proofs.Taking.{stands, took}
 use Rattle.resp_script.proofs.play.take.Goals as goal
@@ -29,8 +29,8 @@ returns-clause-plays g c = λ limits w shows.
     let before = connection_of w event in
     let after = g.W.Sink.written c.write_outcome.new.writer in
     let is : c.new-before.result.client ≡ client_of event = c.new-before.ensures.client ∙ c.client.ensures in
-    let shown : HasShown c.new-before.result.replies c.new-before.result.pushes before =
-    subst (λ n. HasShown c.new-before.result.replies c.new-before.result.pushes (connection_at w.connections n)) c.client.ensures
+    let shown : AreShownOn c.new-before.result.replies c.new-before.result.pushes before =
+    subst (λ n. AreShownOn c.new-before.result.replies c.new-before.result.pushes (connection_at w.connections n)) c.client.ensures
     (c.new-before.ensures.heard limits w shows) in
     let there : AreThere outcome before (connection_at next.connections c.new-before.result.client) =
     subst (λ n. AreThere outcome before (connection_at next.connections n)) (sym is)

@@ -2,17 +2,17 @@ use Rattle.std.proofs.Common.{◌≡◌, ◌++◌, ◌-◌, ◌≤◌, ℕ, List
 use Rattle.resp_session.specs.Answers.{server_rules}
 use Rattle.resp_session.specs.Fitting.{FitsStore}
 use Rattle.resp_server.specs.Answering.{IsAnswered}
-use Rattle.resp_server.specs.Reading.{HasTaken, ReadsBy}
+use Rattle.resp_server.specs.Reading.{HasReadFront, ReadsBy}
 use Rattle.resp_server.proofs.answer.answer_turns.Given as goal
 
 abbrev pub invariant-loop-used : goal.invariant-loop-used
 invariant-loop-used g l = record {
-  answered : (front : List ℕ) → HasTaken l.fn.session.decoder front →
+  answered : (front : List ℕ) → HasReadFront l.fn.session.decoder front →
       IsAnswered l.limits l.id l.fn.store l.store l.fn.session l.session (front ++ take l.used l.piece) l.commands;
   is_open : l.session.closing ≡ false;
   stored : FitsStore l.limits l.store;
   reading : ReadsBy (server_rules l.limits) l.session.decoder;
-  taking : (front : List ℕ) × HasTaken l.session.decoder front;
+  taking : (front : List ℕ) × HasReadFront l.session.decoder front;
   within : l.used ≤ length l.piece;
   few : l.commands ≤ l.used;
 }

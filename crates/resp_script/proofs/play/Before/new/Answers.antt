@@ -2,7 +2,7 @@ use Rattle.std.proofs.Common.{◌≡◌, ◌+◌, ◌<◌, [], ◌∷◌, List, 
 use Rattle.resp_session.specs.Connections.{Connection}
 use Rattle.resp_session.specs.Worlds.{connection_at}
 use Rattle.resp_wire.proofs.worlds.Places.{none_beyond}
-use Rattle.resp_script.specs.Plays.{HasShown}
+use Rattle.resp_script.specs.Plays.{AreShownOn}
 use Rattle.resp_script.proofs.ShownValues.{has_shown}
 use Rattle.resp_script.proofs.play.Before.new.Goals.{then-client-eq0-via-then-client-eq0, then-client-eq0-via-else-client-eq0+then-client-clients}
 use Rattle.resp_script.proofs.play.Before.new.Goals as goal
@@ -18,7 +18,7 @@ returns-then-client-eq0-clause-heard g c = λ limits w shows.
       | then-client-eq0-via-else-client-eq0+then-client-clients at ↦
           none_beyond w.connections c.args.client (omega (arith, at.clients.ensures, at.if-client-clients.true, shows.each.as_many))
     ] in
-    subst (HasShown 0 0) (sym none) tt
+    subst (AreShownOn 0 0) (sym none) tt
 
 pub returns-clause-heard : goal.returns-clause-heard
 returns-clause-heard g c = λ limits w shows.
