@@ -1,7 +1,6 @@
 -- The events of a flush, and those of steps, up to a place and beyond it.
-use Rattle.std.proofs.Common.{◌≡◌, ℕ, zero, suc, ◌+◌, ◌-◌, ◌<◌, true, List, [], ◌∷◌, ◌++◌, Option, None, Some, Result, Ok, Err, length, take, drop, get_or, refl, sym, ap, subst, ◌∙◌, arith, append_assoc, append-nil, add-zero, add-suc, add-one, take-append-drop}
+use Rattle.std.proofs.Common.{◌≡◌, ℕ, zero, suc, ◌+◌, ◌-◌, ◌<◌, true, List, [], ◌∷◌, ◌++◌, Option, Err, length, take, drop, get_or, sym, ap, subst, ◌∙◌, arith, append_assoc, append-nil, add-zero, add-suc, add-one, take-append-drop}
 use Rattle.std.proofs.lemmas.Grind.{flat_map-append}
-use Rattle.std.specs.List.{flat_map}
 use Rattle.resp_value.specs.Bounds.{Bounds}
 use Rattle.resp_session.specs.Worlds.{World, ToServer, ToClient}
 use Rattle.resp_wire.specs.Worlds.{WorldState}

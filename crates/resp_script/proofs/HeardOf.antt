@@ -1,20 +1,18 @@
 -- What a client has heard, by what its world shows.
-use Rattle.std.proofs.Common.{◌≡◌, ℕ, zero, suc, ◌+◌, ◌<◌, ◌≤◌, Bool, true, false, List, [], ◌∷◌, ◌++◌, Option, None, Some, Result, length, map, drop, refl, sym, ap, subst, ◌∙◌, arith}
+use Rattle.std.proofs.Common.{◌≡◌, ℕ, zero, suc, true, false, List, [], ◌∷◌, Option, None, Some, length, drop, refl, sym, ap, subst, ◌∙◌, arith}
 use Rattle.std.specs.List.{drop-map}
 use Rattle.std.specs.Option.{IfSome}
 use Rattle.resp_session.specs.Connections.{Connection, shown_pushes, shown_replies}
 use Rattle.resp_session.specs.Runs.{is_gone}
 use Rattle.resp_session.specs.Worlds.{connection_at}
-use Rattle.resp_value.specs.Data.{Datum}
 use Rattle.resp_value.specs.Values.{datum_of}
 use Rattle.resp_value.specs.declared.value.Members.{Members}
 use Rattle.resp_value.specs.declared.value.Value.{Value}
 use Rattle.resp_value.specs.declared.value.Value.TheVariants as value
-use Rattle.resp_wire.proofs.worlds.Places.{connection_there, none_beyond}
 use Rattle.resp_wire.specs.Worlds.{pushes_with, values_in}
 use Rattle.resp_wire.specs.declared.event.Outcome.{Outcome}
 use Rattle.resp_wire.specs.declared.event.Outcome.TheVariants.{Done, Refused, Gone}
-use Rattle.resp_script.specs.Plays.{AreThere, AreShownOn}
+use Rattle.resp_script.specs.Plays.{AreThere}
 
 -- there is no client 0
 pub none_at_zero : (cs : List Connection) → connection_at cs 0 ≡ None

@@ -1,11 +1,9 @@
 -- Events played one after another, and their text.
-use Rattle.std.proofs.Common.{◌≡◌, inl, inr, ℕ, List, [], ◌∷◌, ◌++◌, Option, None, Some, Result, Ok, Err, refl, sym, ap, subst, ◌∙◌, append_assoc}
+use Rattle.std.proofs.Common.{◌≡◌, inl, inr, ℕ, List, [], ◌∷◌, ◌++◌, Option, Result, Ok, Err, sym, ap, subst, ◌∙◌, append_assoc}
 use Rattle.resp_value.specs.Bounds.{Bounds}
-use Rattle.resp_value.specs.Devices.{Appends}
 use Rattle.resp_session.specs.Worlds.{World}
-use Rattle.resp_tool.specs.Written.{AppendsPart}
 use Rattle.resp_tool.proofs.WrittenLemmas.{Appends-append}
-use Rattle.resp_wire.specs.Worlds.{Shows, WorldState}
+use Rattle.resp_wire.specs.Worlds.{WorldState}
 use Rattle.resp_script.proofs.Printing.{part_next}
 use Rattle.resp_script.specs.Plays.{Plays, PlaysAll, PlaysScript, PlaysTo, text_of_step}
 use Rattle.resp_script.specs.Printed.{PlayedEvent, Prints, counts_text}

@@ -1,7 +1,6 @@
 -- One event that was taken.
-use Rattle.std.proofs.Common.{◌≡◌, ℕ, Bool, false, List, [], ◌∷◌, ◌++◌, Option, None, Some, Result, Ok, Err, length, refl, sym, ap, subst, ◌∙◌, append-nil}
+use Rattle.std.proofs.Common.{◌≡◌, ℕ, false, List, [], ◌∷◌, Option, Result, Ok, Err, length, refl, sym, subst, ◌∙◌, append-nil}
 use Rattle.resp_value.specs.Bounds.{Bounds}
-use Rattle.resp_session.specs.Connections.{Connection}
 use Rattle.resp_session.specs.Runs.{Step, connection_of, is_gone}
 use Rattle.resp_session.specs.Worlds.{World, WorldEvent, client_of, connection_at}
 use Rattle.resp_wire.specs.Worlds.{Shows, WorldState, outcome_of}
@@ -9,7 +8,7 @@ use Rattle.resp_wire.specs.declared.event.Outcome.{Outcome}
 use Rattle.resp_wire.specs.declared.event.Outcome.TheVariants.{Done}
 use Rattle.resp_script.proofs.HeardOf.{are_there, still_there}
 use Rattle.resp_script.specs.Plays.{AreThere, AreShownOn, PlaysTo, text_of_step}
-use Rattle.resp_script.specs.Printed.{PlayedEvent, Prints, outcome_text}
+use Rattle.resp_script.specs.Printed.{PlayedEvent, Prints}
 use Rattle.resp_script.specs.declared.play.PlayError.{PlayError}
 use Rattle.resp_script.specs.declared.play.PlayError.TheVariants.{Stopped, Write, Memory}
 

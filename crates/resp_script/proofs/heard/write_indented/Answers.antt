@@ -1,4 +1,4 @@
-use Rattle.std.proofs.Common.{◌++◌, ap, codes}
+use Rattle.std.proofs.Common.{ap}
 use Rattle.std.specs.List.{flat_map}
 use Rattle.resp_script.specs.Printed.{indented, indented_line}
 use Rattle.resp_script.proofs.Printing.{printed_all, printed_as, printed_more, printed_nothing, write_failed}

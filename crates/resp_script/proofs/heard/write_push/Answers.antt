@@ -1,4 +1,3 @@
-use Rattle.std.proofs.Common.{◌++◌, codes, decimal}
 use Rattle.resp_tool.specs.Shown.{shown_text}
 use Rattle.resp_value.specs.Values.{datum_of}
 use Rattle.resp_value.specs.declared.value.Value.TheVariants as value

@@ -1,4 +1,4 @@
-use Rattle.std.proofs.Common.{◌≡◌, ◌+◌, [], ◌∷◌, ◌++◌, min, length, sym, ap, ◌∙◌, arith}
+use Rattle.std.proofs.Common.{min, ap, ◌∙◌, arith}
 use Rattle.std.proofs.lemmas.List.{length_push}
 use Rattle.std.proofs.lemmas.Map.Iter.{iter_end}
 use Rattle.std.specs.Map.Iter.{deref_pair}

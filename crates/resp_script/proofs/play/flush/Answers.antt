@@ -1,5 +1,5 @@
-use Rattle.std.proofs.Common.{◌≡◌, ◌+◌, ◌++◌, ◌∷◌, [], ◌∙◌, Ok, Err, sym, ap, subst, arith, append_assoc}
-use Rattle.resp_script.specs.Plays.{PlaysAll, PlaysTo, flush_events}
+use Rattle.std.proofs.Common.{◌≡◌, ◌+◌, ◌++◌, ◌∷◌, [], ◌∙◌, Ok, Err, sym, subst, arith, append_assoc}
+use Rattle.resp_script.specs.Plays.{PlaysAll, flush_events}
 use Rattle.resp_script.proofs.Flushed.{flush_more, flush_splits, stops_within, to_client, to_server}
 use Rattle.resp_script.proofs.Played.{all_then}
 use Rattle.resp_script.proofs.play.flush.Goals as goal

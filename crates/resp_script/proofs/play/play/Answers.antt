@@ -1,6 +1,6 @@
 use Rattle.std.proofs.Common.{◌≡◌, ◌+◌, ◌<◌, ◌≤◌, ◌++◌, ◌∙◌, Ok, Err, length, take, drop, get_or, sym, ap, subst, arith}
 use Rattle.std.proofs.lemmas.List.{take_all}
-use Rattle.resp_script.specs.Plays.{PlaysAll, PlaysTo, step_events, steps_events}
+use Rattle.resp_script.specs.Plays.{PlaysAll, step_events, steps_events}
 use Rattle.resp_script.proofs.Flushed.{steps_more, steps_split, stops_within}
 use Rattle.resp_script.proofs.Played.{all_then, counts_then, stops_script}
 use Rattle.resp_script.proofs.Playing.{at_step_of, fails_to_write, no_stop_at_step, no_stop_kept}

@@ -1,7 +1,7 @@
-use Rattle.std.proofs.Common.{◌≡◌, ◌∙◌, ◌++◌, ℕ, List, length, sym, ap, subst, codes, decimal, Ok, Err}
+use Rattle.std.proofs.Common.{◌≡◌, ◌∙◌, ◌++◌, ℕ, List, length, ap, subst, codes, decimal}
 use Rattle.std.proofs.lemmas.List.{length-map}
 use Rattle.resp_session.specs.Worlds.{World}
-use Rattle.resp_value.specs.Devices.{Appends, count_after}
+use Rattle.resp_value.specs.Devices.{Appends}
 use Rattle.resp_tool.specs.Written.{AppendsPart}
 use Rattle.resp_script.specs.Printed.{counts_text, key_count}
 use Rattle.resp_script.proofs.play.write_counts.Goals as goal

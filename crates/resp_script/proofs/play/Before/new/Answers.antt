@@ -1,4 +1,4 @@
-use Rattle.std.proofs.Common.{◌≡◌, ◌+◌, ◌<◌, [], ◌∷◌, List, None, length, refl, sym, ap, subst, ◌∙◌, arith}
+use Rattle.std.proofs.Common.{◌≡◌, [], ◌∷◌, List, None, refl, sym, ap, subst, ◌∙◌, arith}
 use Rattle.resp_session.specs.Connections.{Connection}
 use Rattle.resp_session.specs.Worlds.{connection_at}
 use Rattle.resp_wire.proofs.worlds.Places.{none_beyond}

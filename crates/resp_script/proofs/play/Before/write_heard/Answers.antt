@@ -1,9 +1,9 @@
-use Rattle.std.proofs.Common.{◌≡◌, ◌++◌, ◌∙◌, drop, None, Some, Ok, Err, sym, ap, subst, arith}
+use Rattle.std.proofs.Common.{◌≡◌, ◌∙◌, drop, None, Err, ap, arith}
 use Rattle.resp_session.specs.Connections.{shown_pushes, shown_replies}
 use Rattle.resp_session.specs.Worlds.{connection_at}
 use Rattle.resp_wire.proofs.worlds.Places.{none_beyond}
 use Rattle.resp_wire.specs.Worlds.{pushes_with, values_in}
-use Rattle.resp_script.specs.Printed.{Prints, heard_text, push_texts, reply_texts}
+use Rattle.resp_script.specs.Printed.{push_texts, reply_texts}
 use Rattle.resp_script.proofs.HeardOf.{never_there, none_at_zero, pushes_beyond, replies_beyond}
 use Rattle.resp_script.proofs.Printing.{printed_text, prints_as, prints_next, prints_part}
 use Rattle.resp_script.proofs.play.Before.write_heard.Goals.{then-self-eq0-via-then-self-eq0, then-self-eq0-via-else-self-eq0+then-self-clients}
