@@ -62,12 +62,21 @@ fn run(rt: &HostRuntime) -> Result<u8, AllocError> {
     let is_closed = Cell::new(false);
     let output = Output::new(rt.stdout(), &is_closed);
     let mut writer = Gathering::new(alloc, Device::new(output))?;
-    let status = if is_loop(words.as_slice()) {
-        let hasher = RandomState::new(rt).ok();
-        let mut reader = Device::new(rt.stdin());
-        run_loop(rt, alloc, hasher, &mut reader, &mut writer, &mut faults)?
-    } else {
-        run_task(rt, words.as_slice(), &mut writer, &mut faults)?
+    let status = match loop_explains(words.as_slice()) {
+        Some(explains) => {
+            let hasher = RandomState::new(rt).ok();
+            let mut reader = Device::new(rt.stdin());
+            run_loop(
+                rt,
+                alloc,
+                hasher,
+                explains,
+                &mut reader,
+                &mut writer,
+                &mut faults,
+            )?
+        }
+        None => run_task(rt, words.as_slice(), &mut writer, &mut faults)?,
     };
     let is_written = writer.flush().is_ok();
     if is_closed.get() {
@@ -82,11 +91,15 @@ fn run(rt: &HostRuntime) -> Result<u8, AllocError> {
     Ok(status)
 }
 
-/// Whether the words after the program's name are `loop` alone.
-fn is_loop(words: &[String]) -> bool {
+/// Whether a bad line is explained, where the words after the program's name are `loop` with no
+/// option but `--explain`.
+fn loop_explains(words: &[String]) -> Option<bool> {
     match words {
-        [_, word] => word.as_str() == "loop",
-        _ => false,
+        [_, word] if word.as_str() == "loop" => Some(false),
+        [_, word, option] if word.as_str() == "loop" && option.as_str() == "--explain" => {
+            Some(true)
+        }
+        _ => None,
     }
 }
 
@@ -141,11 +154,13 @@ fn run_stream<R: Read + Drop, W: LiveSink, F: Sink>(
     }
 }
 
-/// Plays the script in the input over TCP, and answers the status.
+/// Plays the script in the input over TCP, and answers the status. Why a line is bad is said after
+/// it where that is asked for.
 fn run_loop<R: Source, W: Sink, F: Sink>(
     net: &impl Net<Listener = TcpListener, Stream = TcpStream>,
     alloc: Global,
     hasher: Option<RandomState>,
+    explains: bool,
     reader: &mut R,
     writer: &mut W,
     faults: &mut F,
@@ -158,6 +173,9 @@ fn run_loop<R: Source, W: Sink, F: Sink>(
         Ok(script) => script,
         Err(error) => {
             let _ = error.line(faults);
+            if explains {
+                let _ = error.explain(faults);
+            }
             return Ok(error.status());
         }
     };

@@ -1,14 +1,17 @@
 -- Reading a script, line by line.
-use Rattle.std.proofs.Common.{◌≡◌, ℕ, ◌+◌, ◌-◌, ◌≤◌, List, [], ◌∷◌, ◌++◌, length, map, true, false, Option, None, Some, refl, sym, ap, subst, ◌∙◌, arith, append_assoc}
+use Rattle.std.proofs.Common.{◌≡◌, ℕ, ◌+◌, ◌-◌, ◌≤◌, List, [], ◌∷◌, ◌++◌, length, map, true, false, Option, None, Some, refl, sym, ap, subst, ◌∙◌, inl, arith, append_assoc}
 use Rattle.std.specs.Prelude.{All, ◌⊎◌, sum_by}
 use Rattle.std.proofs.lemmas.List.{append-nil, length_push, map_push}
 use Rattle.std.proofs.lemmas.List.Elements.{All-head, All-nil, All-push, All-tail}
 use Rattle.std.proofs.lemmas.List.Sums.{sum_by-append}
 use Rattle.resp_wire.specs.declared.event.Event.{Event}
 use Rattle.resp_script.specs.ScriptSteps.{SaysClients, SaysStep, clients_words, joined_words, step_words}
-use Rattle.resp_script.specs.Scripts.{AreWithin, IsFirstBad, IsScript, NameNoClients, SayScript, SaySoFar, SaysNothing, bytes_to_end, is_passed_over, lines_of, step_line}
+use Rattle.resp_script.specs.Reasons.{IsReason, parts_of_line}
+use Rattle.resp_script.specs.Scripts.{AreWithin, IsFirstBad, IsScript, NameNoClients, PassesLimit, SayScript, SaySoFar, SaysNothing, bytes_to_end, is_passed_over, lines_of, step_line}
 use Rattle.resp_script.specs.SaidLines.{Says}
 use Rattle.resp_script.specs.declared.script.Script.{Script}
+use Rattle.resp_script.specs.declared.script.reasons.BadLine.{BadLine}
+use Rattle.resp_script.specs.declared.script.reasons.BadLine.TheVariants as reasons
 use Rattle.resp_script.specs.declared.script.steps.Saying.TheVariants.{Nothing, Clients, Step}
 use Rattle.resp_script.proofs.ScriptLines.{none_said_names_none, said_nothing_more, said_one_more}
 
@@ -56,15 +59,6 @@ within_more text rest beyond line done number within counted left left' few shor
 all_at_last : (P : List ℕ → Type 0) (done : List (List ℕ)) (line : List ℕ) → All P (done ++ line ∷ []) → P line
 all_at_last P [] line all = All-head P line [] all
 all_at_last P (first ∷ done) line all = all_at_last P done line (All-tail P first (done ++ line ∷ []) all)
-
--- where a limit is passed, the lines aren't within the limits
-pub passes_a_limit : (text rest beyond line : List ℕ) (done : List (List ℕ)) (number : ℕ) (clients : Option ℕ) (steps : List (ℕ × Option Event)) →
-    HaveRead text rest done number clients steps → length beyond ≡ length rest - (length line + 1) →
-    ((number + 1 ≤ 10000) → (length line ≤ 4096) → (length text - length beyond ≤ 1048576) → ⊥) → AreWithin text (done ++ line ∷ []) → ⊥
-passes_a_limit text rest beyond line done number clients steps read left' over within =
-    let same = bytes_more text rest beyond line done read.left left' in
-    over (omega (arith, within.few, length_push done line, read.counted)) (all_at_last (λ line. length line ≤ 4096) done line within.short)
-    (omega (arith, same, within.small))
 
 -- a line more was read, which says this together with those before it
 read_more : (text rest beyond line : List ℕ) (done : List (List ℕ)) (number : ℕ) (clients clients' : Option ℕ) (steps steps' : List (ℕ × Option Event)) →
@@ -156,8 +150,10 @@ reads_step text rest beyond line done number (Some clients) step steps read part
 -- the line is the first bad one
 pub is_first_bad : (text rest beyond line : List ℕ) (done : List (List ℕ)) (number : ℕ) (clients : Option ℕ) (steps : List (ℕ × Option Event)) →
     HaveRead text rest done number clients steps → lines_of rest ≡ line ∷ lines_of beyond →
-    (AreWithin text (done ++ line ∷ []) → ⊥) ⊎ SaysNothing clients line → IsFirstBad text (number + 1)
-is_first_bad text rest beyond line done number clients steps read parts bad = record {
+    (reason : BadLine) → (AreWithin text (done ++ line ∷ []) → ⊥) ⊎ SaysNothing clients line →
+    PassesLimit (number + 1) (length line) (bytes_to_end text (done ++ line ∷ [])) reason ⊎ IsReason clients (parts_of_line line) reason →
+    IsFirstBad text (number + 1) reason
+is_first_bad text rest beyond line done number clients steps read parts reason bad why = record {
   before = done;
   bad = line;
   beyond = lines_of beyond;
@@ -168,7 +164,29 @@ is_first_bad text rest beyond line done number clients steps read parts bad = re
   said = read.said;
   within = read.within;
   is_bad = bad;
+  why = why;
 }
+
+-- where a limit is passed, the lines aren't within the limits
+not_within : (text line : List ℕ) (done : List (List ℕ)) (reason : BadLine) →
+    PassesLimit (length done + 1) (length line) (bytes_to_end text (done ++ line ∷ [])) reason → AreWithin text (done ++ line ∷ []) → ⊥
+not_within text line done reasons.ManyLines passed within = omega (arith, passed, within.few, length_push done line)
+not_within text line done reasons.LongLine passed within =
+    omega (arith, passed, all_at_last (λ line. length line ≤ 4096) done line within.short)
+not_within text line done reasons.LongScript passed within = omega (arith, passed, within.small)
+not_within text line done _ passed within = absurd passed
+
+-- the line that passes a limit is the first bad one
+pub passes_a_limit : (text rest beyond line : List ℕ) (done : List (List ℕ)) (number : ℕ) (clients : Option ℕ) (steps : List (ℕ × Option Event)) →
+    HaveRead text rest done number clients steps → lines_of rest ≡ line ∷ lines_of beyond → length beyond ≡ length rest - (length line + 1) →
+    (reason : BadLine) → PassesLimit (number + 1) (length line) (length text - length beyond) reason → IsFirstBad text (number + 1) reason
+passes_a_limit text rest beyond line done number clients steps read parts left' reason passed =
+    let same = bytes_more text rest beyond line done read.left left' in
+    let passed' = subst (λ n. PassesLimit (number + 1) (length line) n reason) (sym same) passed in
+    is_first_bad text rest beyond line done number clients steps read parts reason
+    (inl (not_within text line done reason
+    (subst (λ n. PassesLimit (n + 1) (length line) (bytes_to_end text (done ++ line ∷ [])) reason) (sym read.counted) passed')))
+    (inl passed')
 
 -- all lines were read
 all_read : (text : List ℕ) (done : List (List ℕ)) (number : ℕ) (clients : Option ℕ) (steps : List (ℕ × Option Event)) (rest : List ℕ) → rest ≡ [] →

@@ -1,15 +1,19 @@
 -- The words of a line of a script.
-use Rattle.std.proofs.Common.{◌≡◌, ℕ, ◌+◌, ◌<◌, ◌≤◌, List, [], ◌∷◌, ◌++◌, length, map, take, get_or, Bor, true, false, eqb, refl, sym, ap, ◌∙◌, arith, Option, None, Some, Err}
-use Rattle.std.specs.Prelude.{All, IsErrOf}
+use Rattle.std.proofs.Common.{◌≡◌, ℕ, ◌+◌, ◌<◌, ◌≤◌, List, [], ◌∷◌, ◌++◌, length, map, take, get_or, Bor, true, false, eqb, decimal, ◌^◌, refl, sym, ap, subst, ◌∙◌, arith, Option, None, Some}
+use Rattle.std.specs.Prelude.{All}
 use Rattle.std.specs.List.{slice_split}
 use Rattle.std.proofs.lemmas.Bool.{eqb-true}
+use Rattle.std.proofs.lemmas.Fmt.{decimal_nonempty}
 use Rattle.std.proofs.lemmas.List.{get_or-map, length-map, take_more}
-use Rattle.std.proofs.lemmas.List.Elements.{All-head, All-tail, All-weaker}
+use Rattle.std.proofs.lemmas.List.Elements.{All-get_or, All-head, All-tail, All-weaker}
 use Rattle.std.proofs.lemmas.List.Splits.{join_with_byte-slice_split, length-slice_split, slice_split_at, slice_split_none}
 use Rattle.resp_script.specs.ScriptSteps.{AreWords, IsSeen, IsWord, IsStepInRange, clients_words, joined_words, step_words}
 use Rattle.resp_wire.specs.declared.event.Event.{Event}
+use Rattle.resp_script.specs.Reasons.{WhereBad}
 use Rattle.resp_script.specs.Scripts.{SaysSomething}
+use Rattle.resp_script.specs.declared.script.reasons.BadLine.{BadLine}
 use Rattle.resp_script.specs.declared.script.words.LineFault.{LineFault}
+use Rattle.resp_script.specs.declared.script.words.LineFault.TheVariants.{Bad, Memory}
 
 -- one word
 pub one_word : (words : List (Bor (List ℕ))) (d : Bor (List ℕ)) (text : List ℕ) → 1 ≤ length words → length words < 2 →
@@ -74,13 +78,29 @@ taken_more words i d within =
     let long : i < length texts = omega (arith, length-map words (λ (word : Bor (List ℕ)). word.now)) in
     take_more texts i d.now long ∙ ap (λ z. take i texts ++ z ∷ []) (get_or-map (λ (word : Bor (List ℕ)). word.now) words i d d.now within)
 
+-- what holds of each word holds of this one
+pub each_word : (P : List ℕ → Type 0) (words : List (Bor (List ℕ))) (i : ℕ) → i < length words → All P (map (λ (word : Bor (List ℕ)). word.now) words) →
+    (d : Bor (List ℕ)) → P (get_or words i d).now
+each_word P words i within all d =
+    let texts = map (λ (word : Bor (List ℕ)). word.now) words in
+    let long : i < length texts = omega (arith, length-map words (λ (word : Bor (List ℕ)). word.now)) in
+    subst P (get_or-map (λ (word : Bor (List ℕ)). word.now) words i d [] within) (All-get_or P texts i [] long all)
+
+-- the first of some words
+pub first_of : (words rest : List (Bor (List ℕ))) (first : Bor (List ℕ)) (text : List ℕ) → words ≡ first ∷ rest → first.now ≡ text →
+    get_or (map (λ (word : Bor (List ℕ)). word.now) words) 0 [] ≡ text
+first_of words rest first text is named = ap (λ z. get_or (map (λ (word : Bor (List ℕ)). word.now) z) 0 []) is ∙ named
+
+-- where there is one word, no second one is a number
+pub no_second : (words rest : List (Bor (List ℕ))) (first : Bor (List ℕ)) (number : ℕ) → words ≡ first ∷ rest → length rest ≡ 0 → number < 2 ^ 64 →
+    get_or (map (λ (word : Bor (List ℕ)). word.now) words) 1 [] ≡ decimal number → ⊥
+no_second words [] first number is none small named =
+    let empty : [] ≡ decimal number = sym (ap (λ z. get_or (map (λ (word : Bor (List ℕ)). word.now) z) 1 []) is) ∙ named in
+    omega (arith, ap length empty, decimal_nonempty number small)
+no_second words (second ∷ rest) first number is none small named = absurd (omega (arith, none))
+
 pub true_is_not_false : true ≡ false → ⊥
 true_is_not_false e = cc
-
--- the fault of one answer is that of another
-pub same_fault : {T U : Type 0} (fault fault' : LineFault) → IsErrOf {T = T} {E = LineFault} (Err fault) fault' →
-    IsErrOf {T = U} {E = LineFault} (Err fault) fault'
-same_fault fault fault' e = cc
 
 -- words that name no number of clients, so that their line names none
 pub no_clients : (line : List ℕ) (items words : List (Bor (List ℕ))) → words ≡ items → AreWords line (map (λ (word : Bor (List ℕ)). word.now) items) →
@@ -95,3 +115,9 @@ pub no_step : (clients : ℕ) (line : List ℕ) (items words : List (Bor (List �
     SaysSomething (Some clients) line → ⊥
 no_step clients line items words same are none (step, says) =
     none step (ap (map (λ (word : Bor (List ℕ)). word.now)) same ∙ one_reading line _ _ are says.words) says.range
+
+-- what holds of the reason holds of what follows from it
+pub where_bad : {P : BadLine → Type 0} (Q : BadLine → Type 0) → ((reason : BadLine) → P reason → Q reason) → (fault : LineFault) → WhereBad P fault →
+    WhereBad Q fault
+where_bad Q next (Bad reason) bad = next reason bad
+where_bad Q next Memory bad = bad

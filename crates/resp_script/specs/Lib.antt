@@ -1,4 +1,5 @@
 pub mod ScriptSteps
+pub mod Reasons
 pub mod Scripts
 pub mod SaidLines
 pub mod Growing

@@ -1,9 +1,12 @@
 -- Scripts: their lines, what these say together, and the first bad one.
-use Rattle.std.specs.Prelude.{◌≡◌, ◌⊎◌, ℕ, ◌+◌, ◌≤◌, ◌==◌, Bool, true, false, not, List, [], ◌∷◌, ◌++◌, length, map, filter, sum_by, min, All, Option, None, Some, codes, decimal, if◌then◌else◌}
+use Rattle.std.specs.Prelude.{◌≡◌, ◌⊎◌, ℕ, ◌+◌, ◌≤◌, ◌<◌, ◌==◌, Bool, true, false, not, List, [], ◌∷◌, ◌++◌, length, map, filter, sum_by, min, All, Option, None, Some, codes, decimal, if◌then◌else◌}
 use Rattle.std.specs.List.{before_first, enumerate_from}
 use Rattle.std.specs.Str.{byte}
 use Rattle.resp_wire.specs.declared.event.Event.{Event}
 use Rattle.resp_script.specs.ScriptSteps.{SaysStep, SaysClients, joined_words, clients_words, step_words}
+use Rattle.resp_script.specs.Reasons.{IsReason, parts_of_line, reason_text}
+use Rattle.resp_script.specs.declared.script.reasons.BadLine.{BadLine}
+use Rattle.resp_script.specs.declared.script.reasons.BadLine.TheVariants as reasons
 use Rattle.resp_script.specs.declared.script.Script.{Script}
 use Rattle.resp_script.specs.declared.script.ScriptError.{ScriptError}
 use Rattle.resp_script.specs.declared.script.ScriptError.TheVariants.{BadScript, Memory}
@@ -68,8 +71,15 @@ SaysSomething (Some clients) line = (step : Option Event) × SaysStep clients li
 abbrev pub SaysNothing : Option ℕ → List ℕ → Type 0
 SaysNothing named line = (is_passed_over line ≡ false) × (SaysSomething named line → ⊥)
 
--- the line of this number is bad, and those before it are not
-pub record IsFirstBad (text : List ℕ) (number : ℕ) : Type 0 where
+-- a line of this number and length passes a limit, where the script has this many bytes up to its end
+abbrev pub PassesLimit : ℕ → ℕ → ℕ → BadLine → Type 0
+PassesLimit number bytes read reasons.ManyLines = 10000 < number
+PassesLimit number bytes read reasons.LongLine = 4096 < bytes
+PassesLimit number bytes read reasons.LongScript = 1048576 < read
+PassesLimit number bytes read _ = ⊥
+
+-- the line of this number is bad for this reason, and those before it are not bad
+pub record IsFirstBad (text : List ℕ) (number : ℕ) (reason : BadLine) : Type 0 where
   pub before : List (List ℕ)
   pub bad : List ℕ
   pub beyond : List (List ℕ)
@@ -80,6 +90,9 @@ pub record IsFirstBad (text : List ℕ) (number : ℕ) : Type 0 where
   pub said : SaySoFar named before steps
   pub within : AreWithin text before
   pub is_bad : (AreWithin text (before ++ bad ∷ []) → ⊥) ⊎ SaysNothing named bad
+  pub why :
+      PassesLimit number (length bad) (bytes_to_end text (before ++ bad ∷ [])) reason ⊎
+      IsReason named (parts_of_line bad) reason
 
 -- the first word of a line
 abbrev pub first_word : List ℕ → List ℕ
@@ -90,20 +103,26 @@ abbrev pub NameNoClients : List (List ℕ) → Type 0
 NameNoClients lines = All (λ line. first_word line ≡ codes "clients" → ⊥) lines
 
 -- why a text is no script: its first bad line, or line 1 where no line names the number of clients
-abbrev pub IsRefusedAt : List ℕ → ℕ → Type 0
-IsRefusedAt text number =
-    NameNoClients (lines_of text) × (number ≡ 1) ⊎ (NameNoClients (lines_of text) → ⊥) × IsFirstBad text number
+abbrev pub IsRefusedAt : List ℕ → ℕ → BadLine → Type 0
+IsRefusedAt text number reason =
+    NameNoClients (lines_of text) × (number ≡ 1) × (reason ≡ reasons.NoClients) ⊎
+    (NameNoClients (lines_of text) → ⊥) × IsFirstBad text number reason
 
 abbrev pub IsRefusedScript : List ℕ → ScriptError → Type 0
-IsRefusedScript text (BadScript number) = IsRefusedAt text number
+IsRefusedScript text (BadScript number reason) = IsRefusedAt text number reason
 IsRefusedScript text Memory = Unit {0}
 
 -- the line that says why a script is not taken
 abbrev pub script_fault_line : ScriptError → List ℕ
-script_fault_line (BadScript line) = codes "line " ++ decimal line ++ codes ": BadScript\n"
+script_fault_line (BadScript line reason) = codes "line " ++ decimal line ++ codes ": BadScript\n"
 script_fault_line Memory = codes "out of memory\n"
+
+-- the line that says, for people, why a script is bad
+abbrev pub script_reason_line : ScriptError → List ℕ
+script_reason_line (BadScript line reason) = codes "  " ++ reason_text reason ++ codes "\n"
+script_reason_line Memory = []
 
 -- 1 for a bad script, and 3 when out of memory
 abbrev pub script_status : ScriptError → ℕ
-script_status (BadScript line) = 1
+script_status (BadScript line reason) = 1
 script_status Memory = 3

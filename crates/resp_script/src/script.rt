@@ -1,12 +1,14 @@
 //! The script of `loop`: lines, each an event for the client of a number.
 
-ghost use Rattle.std.specs.Prelude.{◌≡◌, ◌+◌, ◌-◌, ◌<◌, [], ◌∷◌, length, IfOk, IfErr, IfSome, IfNone, MatchBool};
-ghost use Rattle.resp_script.specs.Scripts.{IsRefusedScript, IsScript, NameNoClients, lines_of};
+ghost use Rattle.std.specs.Prelude.{◌≡◌, ◌+◌, ◌-◌, ◌<◌, ◌≤◌, [], ◌∷◌, length, IfOk, IfErr, IfSome, IfNone, MatchBool};
+ghost use Rattle.resp_script.specs.Scripts.{IsRefusedScript, IsScript, NameNoClients, PassesLimit, lines_of};
 ghost use Rattle.resp_tool.specs.Written.{WritesText};
 
-mod steps;
+pub mod reasons;
+pub mod steps;
 mod words;
 
+use crate::script::reasons::BadLine;
 use memchr::memchr;
 use resp_tool::text::{write_number, write_text};
 use resp_value::device::{Sink, WriteFault};
@@ -25,6 +27,12 @@ const MOST_LINES: u64 = 10_000;
 /// The most bytes of a line, without its LF.
 const MOST_IN_LINE: usize = 4_096;
 
+/// The refusal of a script that names no number of clients.
+const NO_CLIENTS: ScriptError = ScriptError::BadScript {
+    line: 1,
+    reason: BadLine::NoClients,
+};
+
 /// What a script says.
 #[derive(Debug, PartialEq, Eq, Drop)]
 pub struct Script {
@@ -39,15 +47,15 @@ pub struct Script {
 pub enum ScriptError {
     /// This line, counted from 1, is the first bad one; or it is line 1, and no line begins with
     /// the word `clients`.
-    #[error("line {line} of the script is bad")]
-    BadScript { line: u64 },
+    #[error("line {line} of the script is bad: {reason}")]
+    BadScript { line: u64, reason: BadLine },
     /// A growth was refused.
     #[error("out of memory")]
     Memory,
 }
 
 impl ScriptError {
-    ghost use Rattle.resp_script.specs.Scripts.{script_fault_line, script_status};
+    ghost use Rattle.resp_script.specs.Scripts.{script_fault_line, script_reason_line, script_status};
 
     /// Writes the line that says what was refused, with an LF. Refuses where a write fails, and
     /// then the first bytes of the line were written.
@@ -56,10 +64,26 @@ impl ScriptError {
             (W.failures writer.new) result (script_fault_line self.now) }
     {
         match self {
-            ScriptError::BadScript { line } => {
+            ScriptError::BadScript { line, .. } => {
                 write_number(writer, b"line ", *line, b": BadScript\n")
             }
             ScriptError::Memory => write_text(writer, b"out of memory\n"),
+        }
+    }
+
+    /// Writes a line that says, for people, why the script is bad; nothing when out of memory.
+    /// Refuses where a write fails, and then the first bytes of the line were written.
+    pub fn explain<W: Sink>(&self, writer: &mut W) -> Result<(), WriteFault>
+        ensures { WritesText (W.written writer.old) (W.written writer.new) (W.failures writer.old)
+            (W.failures writer.new) result (script_reason_line self.now) }
+    {
+        match self {
+            ScriptError::BadScript { reason, .. } => {
+                write_text(writer, b"  ")?;
+                write_text(writer, reason.sentence().as_bytes())?;
+                write_text(writer, b"\n")
+            }
+            ScriptError::Memory => Ok(()),
         }
     }
 
@@ -84,7 +108,7 @@ pub fn read_script(alloc: Global, bytes: &[u8]) -> Result<Script, ScriptError>
     ensures refused { IfErr result (λ error. IsRefusedScript bytes.now error) }
 {
     if !names_clients(bytes) {
-        return Err(ScriptError::BadScript { line: 1 });
+        return Err(NO_CLIENTS);
     }
     let mut clients = None;
     let mut steps = Vec::new(alloc);
@@ -93,8 +117,8 @@ pub fn read_script(alloc: Global, bytes: &[u8]) -> Result<Script, ScriptError>
     while let Some((content, beyond)) = first_line(rest) {
         line += 1;
         let read = bytes.len() - beyond.len();
-        if line > MOST_LINES || content.len() > MOST_IN_LINE || read > MOST_BYTES {
-            return Err(ScriptError::BadScript { line });
+        if let Some(reason) = passed_limit(line, content.len(), read) {
+            return Err(ScriptError::BadScript { line, reason });
         }
         match said(alloc, clients, content) {
             Ok(Saying::Nothing) => {}
@@ -104,14 +128,31 @@ pub fn read_script(alloc: Global, bytes: &[u8]) -> Result<Script, ScriptError>
                     return Err(ScriptError::Memory);
                 }
             }
-            Err(LineFault::Bad) => return Err(ScriptError::BadScript { line }),
+            Err(LineFault::Bad(reason)) => return Err(ScriptError::BadScript { line, reason }),
             Err(LineFault::Memory) => return Err(ScriptError::Memory),
         }
         rest = beyond;
     }
     match clients {
         Some(clients) => Ok(Script { clients, steps }),
-        None => Err(ScriptError::BadScript { line: 1 }),
+        None => Err(NO_CLIENTS),
+    }
+}
+
+/// The limit of a script that is passed with the line of this number, of this many bytes, up to
+/// whose end the script has `read` bytes.
+fn passed_limit(line: u64, bytes: usize, read: usize) -> Option<BadLine>
+    ensures within { IfNone result ((line ≤ 10000) × (bytes ≤ 4096) × (read ≤ 1048576)) }
+    ensures passed { IfSome result (PassesLimit line bytes read) }
+{
+    if line > MOST_LINES {
+        Some(BadLine::ManyLines)
+    } else if bytes > MOST_IN_LINE {
+        Some(BadLine::LongLine)
+    } else if read > MOST_BYTES {
+        Some(BadLine::LongScript)
+    } else {
+        None
     }
 }
 

@@ -156,8 +156,16 @@ fn program<'a>(alloc: Global) -> Result<Command<'a>, clap::Error> {
             .subcommand(with_options(alloc, show)?)?
             .subcommand(with_options(alloc, check)?)?
             .subcommand(with_options(alloc, canon)?)?
-            .subcommand(played)?,
+            .subcommand(played.arg(explain(alloc, "Says why a line of the script is bad"))?)?,
     )
+}
+
+/// The option that asks for an explanation of what was refused.
+fn explain<'a>(alloc: Global, help: &'static str) -> Arg<'a> {
+    Arg::new(alloc, "explain")
+        .long("explain")
+        .help(help)
+        .action(ArgAction::SetTrue)
 }
 
 /// A subcommand with the options that all of them have.
@@ -180,10 +188,7 @@ fn with_options<'a>(alloc: Global, command: Command<'a>) -> Result<Command<'a>, 
         .long("doubles")
         .help("Lets doubles through, which version 3 alone has")
         .action(ArgAction::SetTrue);
-    let explain = Arg::new(alloc, "explain")
-        .long("explain")
-        .help("Says where in the input and why a byte was refused")
-        .action(ArgAction::SetTrue);
+    let explain = explain(alloc, "Says where in the input and why a byte was refused");
     Ok(
         command
             .arg(proto)?

@@ -2,6 +2,7 @@
 
 use super::check_equal;
 use resp_script::play::{PlayError, play};
+use resp_script::script::reasons::BadLine;
 use resp_script::script::{MOST_BYTES, Script, ScriptError, read_script};
 use resp_value::cause::Cause;
 use resp_value::device::MemorySink;
@@ -46,7 +47,10 @@ fn a_byte_too_many_is_refused(rt: HostRuntime) {
     let mut text = longest_text(&rt);
     check_equal(&rt, script(&rt, text.as_slice()).clients, 1);
     text.push(b'#').expect(&rt, "out of memory");
-    let refused = Err(ScriptError::BadScript { line: 257 });
+    let refused = Err(ScriptError::BadScript {
+        line: 257,
+        reason: BadLine::LongScript,
+    });
     check_equal(&rt, read_script(rt.alloc(), text.as_slice()), refused);
 }
 

@@ -1,11 +1,13 @@
 //! What a line of a script says.
 
-ghost use Rattle.std.specs.Prelude.{◌≡◌, ℕ, ◌≤◌, ◌<◌, List, [], ◌∷◌, length, map, Option, IsErrOf, IfOk, IfSome, IfNone, decimal};
+ghost use Rattle.std.specs.Prelude.{◌≡◌, ℕ, ◌≤◌, ◌<◌, List, [], ◌∷◌, length, map, Option, Some, IfErr, IfOk, IfSome, IfNone, decimal};
 ghost use Rattle.resp_value.specs.Words.{texts_of};
+ghost use Rattle.resp_script.specs.Reasons.{IsReason, WhereBad, parts_of_line};
 ghost use Rattle.resp_script.specs.ScriptSteps.{arguments_of, asked_words, step_client, clients_words, item_word, step_name, step_words, verb_of, HasRange, IsStepInRange, IsMoved};
 ghost use Rattle.resp_script.specs.Scripts.{is_passed_over, SaysNothing};
 ghost use Rattle.resp_script.specs.SaidLines.{Says};
 
+use crate::script::reasons::BadLine;
 use crate::script::words::{LineFault, number_of, words_of};
 use resp_value::command::Command;
 use resp_value::content::Content;
@@ -31,14 +33,20 @@ pub enum Saying {
     Step(Option<Event>),
 }
 
-/// What happens in an event.
+/// The first word of a line for an event.
 #[derive(Clone, Copy, Debug, PartialEq, Eq)]
-enum Verb {
+pub enum Verb {
+    /// `send`
     Send,
+    /// `hello`
     Hello,
+    /// `server`
     Server,
+    /// `client`
     Client,
+    /// `push`
     Push,
+    /// `drop`
     Drop,
 }
 
@@ -46,7 +54,8 @@ enum Verb {
 /// says nothing there, and when out of memory.
 pub fn said(alloc: Global, clients: Option<usize>, line: &[u8]) -> Result<Saying, LineFault>
     ensures said { IfOk result (λ said. Says clients line.now said) }
-    ensures bad { IsErrOf result LineFault.Bad → SaysNothing clients line.now }
+    ensures bad { IfErr result (WhereBad (λ reason. SaysNothing clients line.now)) }
+    ensures reason { IfErr result (WhereBad (IsReason clients (parts_of_line line.now))) }
 {
     if is_passed_over(line) {
         return Ok(Saying::Nothing);
@@ -58,7 +67,7 @@ pub fn said(alloc: Global, clients: Option<usize>, line: &[u8]) -> Result<Saying
     match clients {
         None => match clients_of(words.as_slice()) {
             Some(count) => Ok(Saying::Clients(count)),
-            None => Err(LineFault::Bad),
+            None => Err(LineFault::Bad(BadLine::NotClients)),
         },
         Some(clients) => match step_of(alloc, clients, words.as_slice()) {
             Ok(step) => Ok(Saying::Step(step)),
@@ -101,31 +110,34 @@ fn clients_of(words: &[&[u8]]) -> Option<usize>
 fn step_of(alloc: Global, clients: usize, words: &[&[u8]]) -> Result<Option<Event>, LineFault>
     ensures step { IfOk result (λ step.
         (map (λ word. word.now) words.now ≡ step_words step) × IsStepInRange clients step) }
-    ensures bad { IsErrOf result LineFault.Bad → (step : Option Event) →
-        map (λ word. word.now) words.now ≡ step_words step → IsStepInRange clients step → ⊥ }
+    ensures bad { IfErr result (WhereBad (λ reason. (step : Option Event) →
+        map (λ word. word.now) words.now ≡ step_words step → IsStepInRange clients step → ⊥)) }
+    ensures reason { IfErr result (WhereBad
+        (IsReason (Some clients) (map (λ word. word.now) words.now))) }
 {
     let Some((name, beyond)) = words.split_first() else {
-        return Err(LineFault::Bad);
+        return Err(LineFault::Bad(BadLine::UnknownWord));
     };
     if *name == b"flush".as_slice() {
         return if beyond.is_empty() {
             Ok(None)
         } else {
-            Err(LineFault::Bad)
+            Err(LineFault::Bad(BadLine::FlushWords))
         };
     }
     let Some(verb) = verb_of(name) else {
-        return Err(LineFault::Bad);
+        return Err(LineFault::Bad(BadLine::UnknownWord));
     };
     let Some((number, arguments)) = beyond.split_first() else {
-        return Err(LineFault::Bad);
+        return Err(LineFault::Bad(BadLine::NoSuchClient));
     };
     let Some(client) = number_of(number, clients as u64) else {
-        return Err(LineFault::Bad);
+        return Err(LineFault::Bad(BadLine::NoSuchClient));
     };
     match event_of(alloc, verb, client as usize, arguments) {
-        Ok(event) => Ok(Some(event)),
-        Err(fault) => Err(fault),
+        Ok(Some(event)) => Ok(Some(event)),
+        Ok(None) => Err(LineFault::Bad(BadLine::Arguments(verb))),
+        Err(AllocError) => Err(LineFault::Memory),
     }
 }
 
@@ -151,55 +163,55 @@ fn verb_of(name: &[u8]) -> Option<Verb>
     }
 }
 
-/// The event of this client with these words after its number.
-fn event_of(alloc: Global, verb: Verb, client: usize, words: &[&[u8]]) -> Result<Event, LineFault>
-    ensures event { IfOk result (λ event. (verb_of event ≡ verb) × (step_client event ≡ client) ×
-        (map (λ word. word.now) words.now ≡ arguments_of event) × HasRange event) }
-    ensures bad { IsErrOf result LineFault.Bad → (event : Event) → verb_of event ≡ verb →
-        map (λ word. word.now) words.now ≡ arguments_of event → HasRange event → ⊥ }
+/// The event of this client with these words after its number; none where they aren't what the
+/// verb takes.
+fn event_of(
+    alloc: Global,
+    verb: Verb,
+    client: usize,
+    words: &[&[u8]],
+) -> Result<Option<Event>, AllocError>
+    ensures event { IfOk result (λ found. IfSome found (λ event. (verb_of event ≡ verb) ×
+        (step_client event ≡ client) × (map (λ word. word.now) words.now ≡ arguments_of event) ×
+        HasRange event)) }
+    ensures none { IfOk result (λ found. IfNone found ((event : Event) → verb_of event ≡ verb →
+        map (λ word. word.now) words.now ≡ arguments_of event → HasRange event → ⊥)) }
 {
-    match verb {
-        Verb::Send => sent(alloc, client, words),
+    Ok(match verb {
+        Verb::Send => sent(alloc, client, words)?,
         Verb::Hello => match asked(words) {
-            Some(asked) => Ok(Event::Hello(client, asked)),
-            None => Err(LineFault::Bad),
+            Some(asked) => Some(Event::Hello(client, asked)),
+            None => None,
         },
         Verb::Server => match moved(words) {
-            Some(count) => Ok(Event::ToServer(client, count)),
-            None => Err(LineFault::Bad),
+            Some(count) => Some(Event::ToServer(client, count)),
+            None => None,
         },
         Verb::Client => match moved(words) {
-            Some(count) => Ok(Event::ToClient(client, count)),
-            None => Err(LineFault::Bad),
+            Some(count) => Some(Event::ToClient(client, count)),
+            None => None,
         },
-        Verb::Push => match items_of(alloc, words) {
-            Ok(items) => Ok(Event::Push(client, Members::new(items))),
-            Err(AllocError) => Err(LineFault::Memory),
-        },
+        Verb::Push => Some(Event::Push(client, Members::new(items_of(alloc, words)?))),
         Verb::Drop => {
             if words.is_empty() {
-                Ok(Event::Drop(client))
+                Some(Event::Drop(client))
             } else {
-                Err(LineFault::Bad)
+                None
             }
         }
-    }
+    })
 }
 
-/// The command of these words, asked by this client.
-fn sent(alloc: Global, client: usize, words: &[&[u8]]) -> Result<Event, LineFault>
-    ensures event { IfOk result (λ event. (verb_of event ≡ Verb.Send) ×
+/// The command of these words, asked by this client; none where there is no word.
+fn sent(alloc: Global, client: usize, words: &[&[u8]]) -> Result<Option<Event>, AllocError>
+    ensures event { IfOk result (λ found. IfSome found (λ event. (verb_of event ≡ Verb.Send) ×
         (step_client event ≡ client) × (map (λ word. word.now) words.now ≡ arguments_of event) ×
-        HasRange event) }
-    ensures bad { IsErrOf result LineFault.Bad → words.now ≡ [] }
+        HasRange event)) }
+    ensures none { IfOk result (λ found. IfNone found (words.now ≡ [])) }
 {
-    let copies = match copies(alloc, words) {
-        Ok(copies) => copies,
-        Err(AllocError) => return Err(LineFault::Memory),
-    };
-    match Command::new(copies) {
-        Ok(command) => Ok(Event::Send(client, command)),
-        Err(_) => Err(LineFault::Bad),
+    match Command::new(copies(alloc, words)?) {
+        Ok(command) => Ok(Some(Event::Send(client, command))),
+        Err(_) => Ok(None),
     }
 }
 

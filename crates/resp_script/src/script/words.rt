@@ -1,9 +1,11 @@
 //! The words of a line of a script, and the numbers among them.
 
-ghost use Rattle.std.specs.Prelude.{◌≡◌, ℕ, ◌≤◌, List, All, map, decimal, IfOk, IfSome, IfNone, IsErrOf, MatchBool};
-ghost use Rattle.resp_script.specs.ScriptSteps.{AreWords, IsWord};
+ghost use Rattle.std.specs.Prelude.{◌≡◌, ℕ, ◌≤◌, List, All, Option, map, decimal, IfOk, IfErr, IfSome, IfNone, MatchBool};
+ghost use Rattle.resp_script.specs.Reasons.{IsReason, WhereBad, parts_of_line};
+ghost use Rattle.resp_script.specs.ScriptSteps.{AreWords, IsSeen, IsWord};
 ghost use Rattle.resp_script.specs.Scripts.{first_word};
 
+use crate::script::reasons::BadLine;
 use itoa::Buffer;
 use memchr::memchr;
 use std::alloc::{AllocError, Global};
@@ -16,7 +18,7 @@ const MOST_WORDS: usize = 64;
 #[derive(Clone, Copy, Debug, PartialEq, Eq)]
 pub enum LineFault {
     /// It says nothing that a line may say.
-    Bad,
+    Bad(BadLine),
     /// A growth was refused.
     Memory,
 }
@@ -35,38 +37,58 @@ pub fn first_word(line: &[u8]) -> &[u8]
 /// such words, and else when out of memory.
 pub fn words_of<'a>(alloc: Global, line: &'a [u8]) -> Result<Vec<&'a [u8]>, LineFault>
     ensures words { IfOk result (λ words. AreWords line.now (map (λ word. word.now) words.items)) }
-    ensures bad { IsErrOf result LineFault.Bad →
-        (words : List (List ℕ)) → AreWords line.now words → ⊥ }
+    ensures parts { IfOk result (λ words.
+        map (λ word. word.now) words.items ≡ parts_of_line line.now) }
+    ensures bad { IfErr result (WhereBad (λ reason.
+        (words : List (List ℕ)) → AreWords line.now words → ⊥)) }
+    ensures reason { (named : Option ℕ) →
+        IfErr result (WhereBad (IsReason named (parts_of_line line.now))) }
 {
-    let words: Vec<&'a [u8]> = match line.split(|byte| *byte == b' ').collect(alloc) {
+    let words = match split(alloc, line) {
         Ok(words) => words,
         Err(AllocError) => return Err(LineFault::Memory),
     };
-    if words.len() <= MOST_WORDS && are_words(words.as_slice()) {
-        Ok(words)
-    } else {
-        Err(LineFault::Bad)
+    if words.len() > MOST_WORDS {
+        return Err(LineFault::Bad(BadLine::ManyWords));
+    }
+    match first_fault(words.as_slice()) {
+        None => Ok(words),
+        Some(reason) => Err(LineFault::Bad(reason)),
     }
 }
 
-/// Whether each of these is a word.
-fn are_words(words: &[&[u8]]) -> bool
-    ensures { MatchBool result (All IsWord (map (λ word. word.now) words.now))
-        (All IsWord (map (λ word. word.now) words.now) → ⊥) }
+/// What stands between the spaces of a line.
+fn split<'a>(alloc: Global, line: &'a [u8]) -> Result<Vec<&'a [u8]>, AllocError>
+    ensures { IfOk result (λ parts.
+        map (λ part. part.now) parts.items ≡ parts_of_line line.now) }
+{
+    line.split(|byte| *byte == b' ').collect(alloc)
+}
+
+/// Why the first of these that is no word is none.
+fn first_fault(words: &[&[u8]]) -> Option<BadLine>
+    ensures words { IfNone result (All IsWord (map (λ word. word.now) words.now)) }
+    ensures no_words { IfSome result (λ reason.
+        All IsWord (map (λ word. word.now) words.now) → ⊥) }
+    ensures reason { (named : Option ℕ) → IfSome result (λ reason.
+        IsReason named (map (λ word. word.now) words.now) reason) }
 {
     for word in words {
-        if !is_word(word) {
-            return false;
+        if word.is_empty() {
+            return Some(BadLine::Spaces);
+        }
+        if !are_seen(word) {
+            return Some(BadLine::UnseenByte);
         }
     }
-    true
+    None
 }
 
-/// Whether this is a word: one byte or more, all of them graphic ASCII.
-fn is_word(text: &[u8]) -> bool
-    ensures { MatchBool result (IsWord text.now) (IsWord text.now → ⊥) }
+/// Whether each of these bytes is graphic ASCII.
+fn are_seen(text: &[u8]) -> bool
+    ensures { MatchBool result (All IsSeen text.now) (All IsSeen text.now → ⊥) }
 {
-    !text.is_empty() && text.iter().all(u8::is_ascii_graphic)
+    text.iter().all(u8::is_ascii_graphic)
 }
 
 /// A number from 1 to this, in decimal digits without a leading zero; none for any other word.

@@ -1,29 +1,21 @@
 use Rattle.std.proofs.Common.{◌≡◌, ◌+◌, [], ◌∷◌, ◌++◌, None, Err, cond, refl, sym, ap, subst, ◌∙◌, inl, inr, arith}
 use Rattle.resp_script.specs.SaidLines.{Says}
+use Rattle.resp_script.specs.Scripts.{IsFirstBad}
 use Rattle.resp_script.proofs.ScriptReading.{HaveRead, is_first_bad, passes_a_limit, read_nothing, reads_clients, reads_no_clients, reads_nothing, reads_step}
 use Rattle.resp_script.proofs.script.read_script.Goals as goal
-use Rattle.resp_script.proofs.script.read_script.Goals.{then-line-gt-MOST_LINES-via-then-line-gt-MOST_LINES, then-line-gt-MOST_LINES-via-else-line-gt-MOST_LINES+then-content-gt-MOST_IN_LINE, then-line-gt-MOST_LINES-via-else-line-gt-MOST_LINES+else-content-gt-MOST_IN_LINE+then-read-gt-MOST_BYTES}
 
 pub loop-content-init : goal.loop-content-init
 loop-content-init c =
     let bytes = c.args.bytes.now in
     ([], subst (λ z. HaveRead bytes bytes [] 0 None z) (sym c.new-steps.ensures.items) (read_nothing bytes))
 
-pub returns-then-line-gt-MOST_LINES-clause-refused : goal.returns-then-line-gt-MOST_LINES-clause-refused
-returns-then-line-gt-MOST_LINES-clause-refused c =
+pub returns-in-Some-passed_limit-clause-refused : goal.returns-in-Some-passed_limit-clause-refused
+returns-in-Some-passed_limit-clause-refused c =
     let (done, read) = c.loop-content.invariant in
     inr (
       c.if-not-names_clients.ensures,
-      is_first_bad c.args.bytes.now c.loop-content.rest.now c.in-Some.beyond.now c.in-Some.content.now done c.loop-content.line c.loop-content.clients
-          c.loop-content.steps.items read c.in-Some.ensures.line
-          (inl (passes_a_limit c.args.bytes.now c.loop-content.rest.now c.in-Some.beyond.now c.in-Some.content.now done c.loop-content.line
-          c.loop-content.clients c.loop-content.steps.items read c.in-Some.ensures.left
-          (λ few short small. elim c.then-line-gt-MOST_LINES.branch [
-            | then-line-gt-MOST_LINES-via-then-line-gt-MOST_LINES w ↦ omega (arith, few, w.if-line-gt-MOST_LINES.true)
-            | then-line-gt-MOST_LINES-via-else-line-gt-MOST_LINES+then-content-gt-MOST_IN_LINE w ↦ omega (arith, short, w.if-content-gt-MOST_IN_LINE.true)
-            | then-line-gt-MOST_LINES-via-else-line-gt-MOST_LINES+else-content-gt-MOST_IN_LINE+then-read-gt-MOST_BYTES w ↦
-                omega (arith, small, w.if-read-gt-MOST_BYTES.true)
-          ]))),
+      passes_a_limit c.args.bytes.now c.loop-content.rest.now c.in-Some.beyond.now c.in-Some.content.now done c.loop-content.line c.loop-content.clients
+          c.loop-content.steps.items read c.in-Some.ensures.line c.in-Some.ensures.left c.in-Some-passed_limit.reason c.in-Some-passed_limit.ensures.passed,
     )
 
 pub returns-in-Err-Bad-clause-refused : goal.returns-in-Err-Bad-clause-refused
@@ -31,8 +23,10 @@ returns-in-Err-Bad-clause-refused c =
     let (done, read) = c.loop-content.invariant in
     inr (
       c.if-not-names_clients.ensures,
-      is_first_bad c.args.bytes.now c.loop-content.rest.now c.in-Some.beyond.now c.in-Some.content.now done c.loop-content.line c.loop-content.clients
-          c.loop-content.steps.items read c.in-Some.ensures.line (inr (c.in-Err-Bad.ensures.bad (ap Err c.in-Err-Bad.field-0-is))),
+      subst (IsFirstBad c.args.bytes.now (c.loop-content.line + 1)) (sym c.in-Err-Bad.reason-is)
+          (is_first_bad c.args.bytes.now c.loop-content.rest.now c.in-Some.beyond.now c.in-Some.content.now done c.loop-content.line
+          c.loop-content.clients c.loop-content.steps.items read c.in-Some.ensures.line c.in-Err-Bad.reason
+          (inr (rw c.in-Err-Bad.field-0-is at c.in-Err-Bad.ensures.bad)) (inr (rw c.in-Err-Bad.field-0-is at c.in-Err-Bad.ensures.reason))),
     )
 
 pub loop-content-preserved-in-Ok-Nothing : goal.loop-content-preserved-in-Ok-Nothing
@@ -40,8 +34,8 @@ loop-content-preserved-in-Ok-Nothing c =
     let (done, read) = c.loop-content.invariant in (
       done ++ c.in-Some.content.now ∷ [],
       reads_nothing c.args.bytes.now c.loop-content.rest.now c.in-Some.beyond.now c.in-Some.content.now done c.loop-content.line c.loop-content.clients
-          c.loop-content.steps.items read c.in-Some.ensures.line c.in-Some.ensures.left c.if-line-gt-MOST_LINES.false c.if-content-gt-MOST_IN_LINE.false
-          c.if-read-gt-MOST_BYTES.false
+          c.loop-content.steps.items read c.in-Some.ensures.line c.in-Some.ensures.left c.in_default-passed_limit.ensures.within.0
+          c.in_default-passed_limit.ensures.within.1 c.in_default-passed_limit.ensures.within.2
           (subst (Says c.loop-content.clients c.in-Some.content.now) c.in-Ok-Nothing.field-0-is c.in-Ok-Nothing.ensures.said),
     )
 
@@ -50,8 +44,8 @@ loop-content-preserved-in-Ok-Clients c =
     let (done, read) = c.loop-content.invariant in (
       done ++ c.in-Some.content.now ∷ [],
       reads_clients c.args.bytes.now c.loop-content.rest.now c.in-Some.beyond.now c.in-Some.content.now done c.loop-content.line c.loop-content.clients
-          c.in-Ok-Clients.count c.loop-content.steps.items read c.in-Some.ensures.line c.in-Some.ensures.left c.if-line-gt-MOST_LINES.false
-          c.if-content-gt-MOST_IN_LINE.false c.if-read-gt-MOST_BYTES.false
+          c.in-Ok-Clients.count c.loop-content.steps.items read c.in-Some.ensures.line c.in-Some.ensures.left c.in_default-passed_limit.ensures.within.0
+          c.in_default-passed_limit.ensures.within.1 c.in_default-passed_limit.ensures.within.2
           (subst (Says c.loop-content.clients c.in-Some.content.now) c.in-Ok-Clients.field-0-is c.in-Ok-Clients.ensures.said),
     )
 
@@ -66,8 +60,8 @@ loop-content-preserved c =
           (HaveRead c.args.bytes.now c.in-Some.beyond.now (done ++ c.in-Some.content.now ∷ []) (c.loop-content.line + 1) c.loop-content.clients)
           (sym pushed)
           (reads_step c.args.bytes.now c.loop-content.rest.now c.in-Some.beyond.now c.in-Some.content.now done c.loop-content.line c.loop-content.clients
-          c.in-Ok-Step.step before read c.in-Some.ensures.line c.in-Some.ensures.left c.if-line-gt-MOST_LINES.false
-          c.if-content-gt-MOST_IN_LINE.false c.if-read-gt-MOST_BYTES.false
+          c.in-Ok-Step.step before read c.in-Some.ensures.line c.in-Some.ensures.left c.in_default-passed_limit.ensures.within.0
+          c.in_default-passed_limit.ensures.within.1 c.in_default-passed_limit.ensures.within.2
           (subst (Says c.loop-content.clients c.in-Some.content.now) c.in-Ok-Step.field-0-is c.in-Ok-Step.ensures.said)),
     )
 
@@ -77,5 +71,6 @@ returns-in-None-clause-refused c =
     inl (
       reads_no_clients c.args.bytes.now done c.loop-content.line c.loop-content.steps.items c.loop-content.rest.now c.in_default.ensures.end
           (subst (λ z. HaveRead c.args.bytes.now c.loop-content.rest.now done c.loop-content.line z c.loop-content.steps.items) c.in-None.is read),
+      refl,
       refl,
     )

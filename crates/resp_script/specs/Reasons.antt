@@ -1,0 +1,71 @@
+-- Why a line of a script is bad: what each reason says of it, and its sentence.
+use Rattle.std.specs.Prelude.{◌≡◌, ◌⊎◌, ℕ, ◌+◌, ◌≤◌, ◌<◌, ◌==◌, List, [], ◌∷◌, ◌++◌, length, get_or, All, Option, None, Some, codes, decimal}
+use Rattle.std.specs.List.{slice_split}
+use Rattle.std.specs.Str.{byte}
+use Rattle.resp_value.specs.Bytes.{IsFull}
+use Rattle.resp_script.specs.ScriptSteps.{IsSeen, step_name}
+use Rattle.resp_script.specs.declared.script.reasons.BadLine.{BadLine}
+use Rattle.resp_script.specs.declared.script.reasons.BadLine.TheVariants as reasons
+use Rattle.resp_script.specs.declared.script.steps.Verb.{Verb}
+use Rattle.resp_script.specs.declared.script.steps.Verb.TheVariants as verb
+use Rattle.resp_script.specs.declared.script.words.LineFault.{LineFault}
+use Rattle.resp_script.specs.declared.script.words.LineFault.TheVariants as fault
+
+-- what stands between the spaces of a line
+abbrev pub parts_of_line : List ℕ → List (List ℕ)
+parts_of_line line = slice_split (λ b. b == byte " ") line
+
+-- the number of one of this many clients
+abbrev pub NamesClient : ℕ → List ℕ → Type 0
+NamesClient clients word = (number : ℕ) × (word ≡ decimal number) × (1 ≤ number) × (number ≤ clients)
+
+-- no line after the first begins with this word
+abbrev pub BeginsNoLine : List ℕ → Type 0
+BeginsNoLine word = ((word ≡ codes "flush") → ⊥) × ((named : Verb) → word ≡ step_name named → ⊥)
+
+-- the first of these parts is a verb's name
+abbrev pub HasVerb : List (List ℕ) → Type 0
+HasVerb parts = (named : Verb) × (get_or parts 0 [] ≡ step_name named)
+
+-- What a reason says of a line with these parts, where this many clients were named, or none yet. The reasons that
+-- are left out here are of more than one line's words.
+abbrev pub IsReason : Option ℕ → List (List ℕ) → BadLine → Type 0
+IsReason _ parts reasons.ManyWords = 64 < length parts
+IsReason _ parts reasons.Spaces = All IsFull parts → ⊥
+IsReason _ parts reasons.UnseenByte = All (All IsSeen) parts → ⊥
+IsReason None parts reasons.NotClients = Unit {0}
+IsReason (Some clients) parts reasons.FlushWords = (get_or parts 0 [] ≡ codes "flush") × (1 < length parts)
+IsReason (Some clients) parts reasons.UnknownWord = BeginsNoLine (get_or parts 0 [])
+IsReason (Some clients) parts reasons.NoSuchClient = HasVerb parts × (NamesClient clients (get_or parts 1 []) → ⊥)
+IsReason (Some clients) parts (reasons.Arguments named) =
+    (get_or parts 0 [] ≡ step_name named) × NamesClient clients (get_or parts 1 [])
+IsReason _ _ _ = ⊥
+
+-- what holds of the reason why a line is bad
+abbrev pub WhereBad : (BadLine → Type 0) → LineFault → Type 0
+WhereBad P (fault.Bad reason) = P reason
+WhereBad P fault.Memory = Unit {0}
+
+-- what follows the number of the client, for each verb
+abbrev pub arguments_text : Verb → List ℕ
+arguments_text verb.Send = codes "a command of one word or more follows the client of send"
+arguments_text verb.Hello = codes "2, 3 or nothing follows the client of hello"
+arguments_text verb.Server = codes "a number of bytes from 1 to 1000000000 follows the client of server and client"
+arguments_text verb.Client = codes "a number of bytes from 1 to 1000000000 follows the client of server and client"
+arguments_text verb.Push = codes "words follow the client of push"
+arguments_text verb.Drop = codes "nothing follows the client of drop"
+
+-- the sentence that says a reason
+abbrev pub reason_text : BadLine → List ℕ
+reason_text reasons.NoClients = codes "no line begins with the word clients"
+reason_text reasons.LongScript = codes "a script has at most 1048576 bytes"
+reason_text reasons.ManyLines = codes "a script has at most 10000 lines"
+reason_text reasons.LongLine = codes "a line has at most 4096 bytes"
+reason_text reasons.ManyWords = codes "a line has at most 64 words"
+reason_text reasons.Spaces = codes "one space stands between two words, and none at either end"
+reason_text reasons.UnseenByte = codes "a byte is neither a space nor printable ASCII"
+reason_text reasons.NotClients = codes "the first line is `clients N`, with N from 1 to 16"
+reason_text reasons.UnknownWord = codes "no line after the first begins with this word, but with send, hello, server, client, push, drop or flush"
+reason_text reasons.FlushWords = codes "nothing follows flush"
+reason_text reasons.NoSuchClient = codes "the second word is the number of a client"
+reason_text (reasons.Arguments named) = arguments_text named

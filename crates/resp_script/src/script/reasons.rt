@@ -1,0 +1,83 @@
+//! Why a line of a script is bad.
+
+ghost use Rattle.std.specs.Prelude.{◌≡◌};
+ghost use Rattle.resp_script.specs.Reasons.{arguments_text, reason_text};
+
+use crate::script::steps::Verb;
+use std::fmt;
+use std::fmt::{Display, Formatter, Write};
+
+/// What is wrong with a line of a script, or with the script as a whole.
+#[derive(Clone, Copy, Debug, PartialEq, Eq)]
+pub enum BadLine {
+    /// No line of the script begins with the word `clients`.
+    NoClients,
+    /// The script has more than 1,048,576 bytes up to the end of this line.
+    LongScript,
+    /// It is the 10,001st line.
+    ManyLines,
+    /// It has more than 4,096 bytes.
+    LongLine,
+    /// It has more than 64 words.
+    ManyWords,
+    /// It begins or ends with a space, or has two spaces side by side.
+    Spaces,
+    /// A byte of it is neither a space nor printable ASCII.
+    UnseenByte,
+    /// It is the first line that isn't passed over, and doesn't name from 1 to 16 clients.
+    NotClients,
+    /// Its first word is none that a line after the first begins with.
+    UnknownWord,
+    /// A word follows `flush`.
+    FlushWords,
+    /// Its second word is no client's number.
+    NoSuchClient,
+    /// What follows the client's number isn't what this verb takes.
+    Arguments(Verb),
+}
+
+impl BadLine {
+    /// Says in a sentence what is wrong.
+    pub fn sentence(&self) -> &'static str
+        ensures { result.now ≡ reason_text self.now }
+    {
+        match self {
+            BadLine::NoClients => "no line begins with the word clients",
+            BadLine::LongScript => "a script has at most 1048576 bytes",
+            BadLine::ManyLines => "a script has at most 10000 lines",
+            BadLine::LongLine => "a line has at most 4096 bytes",
+            BadLine::ManyWords => "a line has at most 64 words",
+            BadLine::Spaces => "one space stands between two words, and none at either end",
+            BadLine::UnseenByte => "a byte is neither a space nor printable ASCII",
+            BadLine::NotClients => "the first line is `clients N`, with N from 1 to 16",
+            BadLine::UnknownWord => {
+                "no line after the first begins with this word, but with send, hello, server, \
+                 client, push, drop or flush"
+            }
+            BadLine::FlushWords => "nothing follows flush",
+            BadLine::NoSuchClient => "the second word is the number of a client",
+            BadLine::Arguments(verb) => arguments_sentence(*verb),
+        }
+    }
+}
+
+/// Says what follows the client's number after this verb.
+fn arguments_sentence(verb: Verb) -> &'static str
+    ensures { result.now ≡ arguments_text verb }
+{
+    match verb {
+        Verb::Send => "a command of one word or more follows the client of send",
+        Verb::Hello => "2, 3 or nothing follows the client of hello",
+        Verb::Server | Verb::Client => {
+            "a number of bytes from 1 to 1000000000 follows the client of server and client"
+        }
+        Verb::Push => "words follow the client of push",
+        Verb::Drop => "nothing follows the client of drop",
+    }
+}
+
+impl Display for BadLine {
+    fn fmt<W: Write>(&self, f: &mut Formatter<W>) -> fmt::Result {
+        f.write_str(self.sentence())
+    }
+}
