@@ -1,5 +1,5 @@
 use Rattle.std.proofs.Common.{refl}
-use Rattle.resp_codec.specs.NextLaws.{waits}
+use Rattle.resp_codec.proofs.Answering.{waits}
 use Rattle.resp_codec.specs.Commands.{reading_commands}
 use Rattle.resp_codec.proofs.command_codec.CommandCodecDecoder.decode.Goals as goal
 

@@ -1,4 +1,4 @@
-use Rattle.resp_codec.specs.NextLaws.{ends_between, ends_inside}
+use Rattle.resp_codec.proofs.Answering.{ends_between, ends_inside}
 use Rattle.resp_codec.specs.Commands.{reading_commands}
 use Rattle.resp_codec.proofs.Ending.{is_between, is_inside}
 use Rattle.resp_codec.proofs.command_codec.CommandCodecDecoder.decode_eof.Goals as goal

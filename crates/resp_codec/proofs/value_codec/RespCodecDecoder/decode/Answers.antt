@@ -1,6 +1,6 @@
 use Rattle.std.proofs.Common.{refl}
 use Rattle.resp_value.specs.Values.{datum_of}
-use Rattle.resp_codec.specs.NextLaws.{gives_or_waits}
+use Rattle.resp_codec.proofs.Answering.{gives_or_waits}
 use Rattle.resp_codec.specs.Values.{reading_values}
 use Rattle.resp_codec.proofs.value_codec.RespCodecDecoder.decode.Goals as goal
 

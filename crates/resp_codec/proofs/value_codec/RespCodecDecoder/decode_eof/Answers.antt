@@ -1,4 +1,4 @@
-use Rattle.resp_codec.specs.NextLaws.{ends_between, ends_inside}
+use Rattle.resp_codec.proofs.Answering.{ends_between, ends_inside}
 use Rattle.resp_codec.specs.Values.{reading_values}
 use Rattle.resp_codec.proofs.Ending.{is_between, is_inside}
 use Rattle.resp_codec.proofs.value_codec.RespCodecDecoder.decode_eof.Goals as goal
