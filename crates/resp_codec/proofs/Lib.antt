@@ -1,0 +1,5 @@
+pub mod Fed
+pub mod After
+pub mod Answering
+pub mod Ending
+pub mod Streams

@@ -1,0 +1,56 @@
+-- What a codec of commands reads and writes.
+use Rattle.std.specs.Prelude.{◌≡◌, ℕ, ◌<◌, List, length}
+use Rattle.resp_value.specs.Rules.{Rules, rules_under}
+use Rattle.resp_value.specs.declared.value.Value.{Value}
+use Rattle.resp_scan.specs.declared.event.Fault.{Fault}
+use Rattle.resp_decode.specs.Decoding as decoding
+use Rattle.resp_session.specs.Asked.{IfCommand, meaning_in}
+use Rattle.resp_session.specs.Commands.{meaning_of}
+use Rattle.resp_session.specs.declared.words.Asked.{Asked}
+use Rattle.tokio_util.specs.Codec.Next.{Gives}
+use Rattle.resp_codec.specs.Next.{Reading, gives_by}
+use Rattle.resp_codec.specs.Values.{RefusesToWrite, Settings, Writes}
+use Rattle.resp_codec.specs.declared.command_codec.CommandCodec.{CommandCodec}
+use Rattle.resp_codec.specs.declared.error.CodecError.{CodecError}
+
+-- the version and the limits that it reads by
+abbrev pub reads_by : CommandCodec → Rules
+reads_by c = decoding.rules_of c.decoder
+
+-- the version and the limits that it writes by
+abbrev pub writes_by : CommandCodec → Rules
+writes_by c = rules_under c.version c.limits
+
+-- the bytes of this front are what it has taken of a value
+abbrev pub HasTaken : CommandCodec → List ℕ → Type 0
+HasTaken c front = decoding.HasTaken c.decoder front
+
+-- it answers this fault for good
+abbrev pub HasFault : CommandCodec → Fault → Type 0
+HasFault c fault = decoding.HasFault c.decoder fault
+
+-- it reads on as the other does, whatever that has taken
+pub record ReadsAs (old new : CommandCodec) : Type 0 where
+  pub taken : (front : List ℕ) → HasTaken old front → HasTaken new front
+  pub fault : (fault : Fault) → HasFault old fault → HasFault new fault
+  pub rules : reads_by new ≡ reads_by old
+
+-- it reads what values ask
+abbrev pub reading_commands : Reading CommandCodec Asked Settings
+reading_commands = record {
+  decoder = λ c. c.decoder;
+  rest = λ c. record { version = c.version; limits = c.limits };
+  Is = λ asked x. (meaning_in asked ≡ meaning_of x) × IfCommand asked (λ words. 0 < length words);
+}
+
+-- what it reads next
+abbrev pub gives_commands : Gives CommandCodec Asked CodecError
+gives_commands = gives_by reading_commands
+
+-- what it writes of a reply
+abbrev pub encodes_replies : CommandCodec → Value → List ℕ → CommandCodec → Type 0
+encodes_replies c reply frame t = Writes (writes_by c) reply frame × (t ≡ c)
+
+-- what it refuses to write
+abbrev pub refuses_replies : CommandCodec → Value → ℕ → CodecError → Type 0
+refuses_replies c reply spare e = RefusesToWrite (writes_by c) reply spare e

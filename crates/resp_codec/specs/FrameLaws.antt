@@ -1,0 +1,67 @@
+-- What comes next, when more bytes follow or some were taken before.
+use Rattle.std.proofs.Common.{◌≡◌, ◌⊎◌, inl, inr, ℕ, ◌≤◌, List, ◌++◌, length, take, refl, sym, ap, subst, ◌∙◌, append_assoc, length-append, take_at, arith}
+use Rattle.std.proofs.Math.Logic.{∥∥₁_elim}
+use Rattle.resp_value.specs.Data.{Datum}
+use Rattle.resp_value.specs.Rules.{Rules, WithinTotal}
+use Rattle.resp_value.specs.Spellings.{FaultOf, IsSpelling, IsViable}
+use Rattle.resp_value.specs.Trees.{Spells}
+use Rattle.resp_scan.specs.Machine.Standing.{StandsAfterAt}
+use Rattle.resp_scan.specs.Reading.{HasNoSpelling, HasNoValue}
+use Rattle.resp_scan.specs.declared.event.Fault.{Fault}
+use Rattle.resp_decode.specs.Brief.{BeginsBrief, BringMemoryWants}
+use Rattle.resp_decode.specs.Decoding.{HasTaken, LacksMemory, RefusesByte, WhereTaken, rules_of}
+use Rattle.resp_decode.specs.Standing.{TakesOrStands}
+use Rattle.resp_decode.specs.declared.decoder.Decoder.{Decoder}
+use Rattle.resp_codec.specs.Frames.{EndsBetween, EndsInside, EndsValue, IsBegun, IsReading, IsTruncated, Refuses, TakesAll}
+
+-- no front was taken where a fault stands
+pub taken_is_reading : (d : Decoder) (front : List ℕ) → HasTaken d front → IsReading d
+taken_is_reading d front w fault stands =
+    let inside = subst (λ token. StandsAfterAt (rules_of d) token d.scanner.frames front w.given) stands.0.0
+    w.reads.stands in
+    inside.took
+
+-- a decoder at which no fault stands has taken some front, by which nothing is shown
+pub some_front : (d : Decoder) → IsReading d → WhereTaken d (λ front. ⊥) → ⊥
+some_front d reading none = ∥∥₁_elim d.reading (λ a b. absurd a) of
+  where
+    of : TakesOrStands d.scanner d.held → ⊥
+    of (inl (front, w)) = none front w
+    of (inr (fault, stands)) = reading fault stands
+
+-- a buffer in which a value ends isn't one in which none does
+pub not_both : (d : Decoder) (buffer : List ℕ) (x : Datum) (after : Decoder) (left : List ℕ) → IsBegun d buffer →
+    EndsValue d buffer x after left → ⊥
+not_both d buffer x after left b v = some_front d b.reading (λ front taken.
+    let s = v.spelling front taken in
+    let n = length (front ++ v.used) in
+    let text : front ++ buffer ≡ (front ++ v.used) ++ left =
+    ap (λ z. front ++ z) v.whole ∙ sym (append_assoc front v.used left) in
+    let cut : take n (front ++ buffer) ≡ front ++ v.used =
+    ap (take n) text ∙ take_at (front ++ v.used) left n refl in
+    b.no_value front taken n s.tree (subst (Spells s.tree) (sym cut) s.spells))
+
+-- More bytes after the buffer.
+
+pub value_before : (d : Decoder) (buffer : List ℕ) (x : Datum) (after : Decoder) (left more : List ℕ) →
+    EndsValue d buffer x after left → EndsValue d (buffer ++ more) x after (left ++ more)
+value_before d buffer x after left more v = record {
+  reading = v.reading;
+  used = v.used;
+  whole = ap (λ z. z ++ more) v.whole ∙ append_assoc v.used left more;
+  spelling = v.spelling;
+  takes = v.takes;
+}
+
+pub refusal_before : (d : Decoder) (buffer : List ℕ) (fault : Fault) (after : Decoder) (left more : List ℕ) →
+    Refuses d buffer fault after left → Refuses d (buffer ++ more) fault after (left ++ more)
+refusal_before d buffer fault after left more w = record {
+  seen = w.seen;
+  beyond = w.beyond ++ more;
+  begins = ap (λ z. z ++ more) w.begins ∙ append_assoc w.seen w.beyond more;
+  refused = w.refused;
+  answered_again = w.answered_again;
+  stands = w.stands;
+  dropped = w.dropped;
+  ends = ap (λ z. z ++ more) w.ends ∙ append_assoc w.dropped left more;
+}

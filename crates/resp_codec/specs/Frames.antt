@@ -1,0 +1,66 @@
+-- What comes next out of the bytes of a buffer, after those that a decoder has taken of a value.
+use Rattle.std.specs.Prelude.{◌≡◌, ◌⊎◌, ℕ, List, [], ◌++◌, length}
+use Rattle.resp_value.specs.Data.{Datum}
+use Rattle.resp_value.specs.Rules.{WithinTotal}
+use Rattle.resp_value.specs.Spellings.{IsSpelling, IsViable}
+use Rattle.resp_value.specs.declared.cause.Cause.TheVariants as cause
+use Rattle.resp_scan.specs.Reading.{HasNoValue}
+use Rattle.resp_scan.specs.declared.event.Fault.{Fault}
+use Rattle.resp_decode.specs.Decoding.{HasFault, HasTaken, LacksMemory, RefusesByte, WhereTaken, rules_of}
+use Rattle.resp_decode.specs.declared.decoder.Decoder.{Decoder}
+
+-- no fault stands, so that some front was taken
+abbrev pub IsReading : Decoder → Type 0
+IsReading d = (fault : Fault) → HasFault d fault → ⊥
+
+-- a value ends in the buffer: with the bytes used, what was taken is a spelling of it, and nothing is taken of the next
+pub record EndsValue (d : Decoder) (buffer : List ℕ) (x : Datum) (after : Decoder) (left : List ℕ) : Type 0 where
+  pub reading : IsReading d
+  pub used : List ℕ
+  pub whole : buffer ≡ used ++ left
+  pub spelling : WhereTaken d (λ front. IsSpelling (rules_of d) x (front ++ used))
+  pub takes : WhereTaken d (λ front. HasTaken after [])
+
+-- no value ends in the buffer, and some value within the rules goes on so
+pub record IsBegun (d : Decoder) (buffer : List ℕ) : Type 0 where
+  pub reading : IsReading d
+  pub no_value : WhereTaken d (λ front. HasNoValue (front ++ buffer))
+  pub viable : WhereTaken d (λ front. IsViable (rules_of d) WithinTotal (front ++ buffer))
+
+-- the whole buffer is taken
+pub record TakesAll (d : Decoder) (buffer : List ℕ) (after : Decoder) (left : List ℕ) : Type 0 where
+  pub none_left : left ≡ []
+  pub takes : WhereTaken d (λ front. HasTaken after (front ++ buffer))
+
+-- no value ends in the buffer, which is taken
+pub record ReadsOn (d : Decoder) (buffer : List ℕ) (after : Decoder) (left : List ℕ) : Type 0 where
+  pub reading : IsReading d
+  pub takes_all : TakesAll d buffer after left
+  pub begun : IsBegun after left
+
+-- Within the first bytes of the buffer a byte is refused, the first after which nothing can follow, or no memory was
+-- found. A fault that stands is answered again. The fault stands from then on, and what is left is an end of the buffer.
+pub record Refuses (d : Decoder) (buffer : List ℕ) (fault : Fault) (after : Decoder) (left : List ℕ) : Type 0 where
+  pub seen : List ℕ
+  pub beyond : List ℕ
+  pub begins : buffer ≡ seen ++ beyond
+  pub refused : WhereTaken d (λ front.
+      RefusesByte (rules_of d) front seen fault ⊎ LacksMemory (rules_of d) front seen fault)
+  pub answered_again : (standing : Fault) → HasFault d standing → fault ≡ standing
+  pub stands : HasFault after fault
+  pub dropped : List ℕ
+  pub ends : buffer ≡ dropped ++ left
+
+-- the input ends between two values
+abbrev pub EndsBetween : Decoder → List ℕ → Type 0
+EndsBetween d buffer = WhereTaken d (λ front. front ++ buffer ≡ [])
+
+-- an input that ends after this part of a value
+pub record IsTruncated (part : List ℕ) (fault : Fault) : Type 0 where
+  pub names : fault.cause ≡ cause.Truncated
+  pub place : fault.at ≡ length part
+  pub begun : part ≡ [] → ⊥
+
+-- the input ends inside a value
+abbrev pub EndsInside : Decoder → List ℕ → Fault → Type 0
+EndsInside d buffer fault = WhereTaken d (λ front. IsTruncated (front ++ buffer) fault)

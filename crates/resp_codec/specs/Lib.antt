@@ -1,0 +1,12 @@
+-- What comes next out of a decoder and a buffer, and what a codec gives by it.
+pub mod Frames
+pub mod Next
+pub mod Values
+pub mod Commands
+-- What a stream of values is.
+pub mod Streams
+-- The proofs of the laws that a codec has to keep.
+pub mod FrameLaws
+pub mod NextLaws
+pub mod ValuesLaws
+pub mod CommandsLaws

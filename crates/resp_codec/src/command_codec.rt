@@ -1,0 +1,106 @@
+//! Commands in, and replies out.
+
+ghost use Rattle.std.specs.Prelude.{◌≡◌, [], IfOk, IfNone};
+ghost use Rattle.resp_value.specs.Rules.{rules_under};
+ghost use Rattle.resp_value.specs.declared.version.Version.TheVariants.{Two};
+ghost use Rattle.resp_decode.specs.Decoding as decoding;
+ghost use Rattle.tokio_util.specs.Codec.Next.{Decodes};
+ghost use Rattle.resp_codec.specs.Commands.{HasTaken, ReadsAs, reads_by, writes_by, gives_commands, encodes_replies, refuses_replies};
+ghost use Rattle.resp_codec.specs.CommandsLaws.{commands_stable, commands_partial, commands_end};
+
+use crate::error::CodecError;
+use crate::reading::next_value;
+use bytes::BytesMut;
+use resp_decode::Decoder;
+use resp_encode::encode;
+use resp_session::words::{Asked, asked_by};
+use resp_value::limits::Limits;
+use resp_value::value::Value;
+use resp_value::version::Version;
+use std::alloc::Global;
+use tokio_util::codec;
+
+/// Reads what clients ask, always in version 2, and writes replies in the version of the session.
+#[derive(Drop)]
+pub struct CommandCodec {
+    decoder: Decoder,
+    version: Version,
+    limits: Limits,
+}
+
+impl CommandCodec {
+    /// A codec within these limits, between two commands, which writes version 2. Takes no memory.
+    pub fn new(alloc: Global, limits: &Limits) -> CommandCodec
+        ensures nothing_taken { HasTaken result [] }
+        ensures reads { reads_by result ≡ rules_under Two limits.now }
+        ensures writes { writes_by result ≡ rules_under Two limits.now }
+    {
+        CommandCodec {
+            decoder: Decoder::new(alloc, Version::Two, limits),
+            version: Version::Two,
+            limits: *limits,
+        }
+    }
+
+    /// Writes this version from the next reply on, as after a HELLO that asked for it.
+    pub fn set_version(&mut self, version: Version)
+        ensures writes { writes_by self.new ≡ rules_under version (writes_by self.old).limits }
+        ensures reads_as_before { ReadsAs self.old self.new }
+    {
+        self.version = version;
+    }
+}
+
+impl codec::Decoder for CommandCodec {
+    type Item = Asked;
+
+    type Error = CodecError;
+
+    ghost gives = { gives_commands };
+
+    ghost stable = { commands_stable };
+
+    ghost partial_has_no_frame = { commands_partial };
+
+    ghost end_is_partial = { commands_end };
+
+    /// What the value asks that ends in the buffer. Without one it takes all bytes, and reads on
+    /// from there.
+    ///
+    /// Refuses as [`Decoder::feed`] does, clears the buffer, and every later call answers the same.
+    fn decode(&mut self, src: &mut BytesMut) -> Result<Option<Asked>, CodecError>
+        ensures next { Decodes gives_commands self.old src.old.items result self.new src.new.items }
+        ensures all_taken { IfOk result (λ next. IfNone next (src.new.items ≡ [])) }
+    {
+        match next_value(&mut self.decoder, src)? {
+            Some(value) => Ok(Some(asked_by(value))),
+            None => Ok(None),
+        }
+    }
+
+    /// The same, and Truncated where the input ends inside a value.
+    fn decode_eof(&mut self, src: &mut BytesMut) -> Result<Option<Asked>, CodecError> {
+        match self.decode(src)? {
+            Some(asked) => Ok(Some(asked)),
+            None => {
+                self.decoder.finish()?;
+                Ok(None)
+            }
+        }
+    }
+}
+
+impl codec::Encoder<Value> for CommandCodec {
+    type Error = CodecError;
+
+    ghost encodes = { encodes_replies };
+
+    ghost refuses = { refuses_replies };
+
+    /// Appends the canonical text of the reply, whole or not at all, and refuses as [`encode`]
+    /// does.
+    fn encode(&mut self, item: Value, dst: &mut BytesMut) -> Result<(), CodecError> {
+        encode(self.version, &self.limits, &item, dst)?;
+        Ok(())
+    }
+}

@@ -1,0 +1,54 @@
+//! Why a stream of frames or a sink of them failed.
+
+use resp_encode::EncodeError;
+use resp_scan::event::Fault;
+use std::io;
+use thiserror::Error;
+
+/// Why a frame isn't read or isn't written.
+#[derive(Clone, Copy, Debug, Error)]
+pub enum CodecError {
+    /// The bytes that were read are refused, with the cause and the number of bytes of the value
+    /// before it. Nothing is read after it.
+    #[error("{0}")]
+    Fault(Fault),
+    /// The value isn't encoded. The buffer and the codec are as they were.
+    #[error("{0}")]
+    Refused(EncodeError),
+    /// The reader or the writer failed, or no memory was found for the buffer over it.
+    #[error("{0}")]
+    Io(io::Error),
+}
+
+impl From<Fault> for CodecError {
+    ghost use Rattle.std.specs.Prelude.{◌≡◌};
+    ghost use Rattle.resp_codec.specs.declared.error.CodecError.{CodecError};
+
+    ghost from_gives = { λ fault error. error ≡ CodecError.Fault fault };
+
+    fn from(fault: Fault) -> CodecError {
+        CodecError::Fault(fault)
+    }
+}
+
+impl From<EncodeError> for CodecError {
+    ghost use Rattle.std.specs.Prelude.{◌≡◌};
+    ghost use Rattle.resp_codec.specs.declared.error.CodecError.{CodecError};
+
+    ghost from_gives = { λ refusal error. error ≡ CodecError.Refused refusal };
+
+    fn from(refusal: EncodeError) -> CodecError {
+        CodecError::Refused(refusal)
+    }
+}
+
+impl From<io::Error> for CodecError {
+    ghost use Rattle.std.specs.Prelude.{◌≡◌};
+    ghost use Rattle.resp_codec.specs.declared.error.CodecError.{CodecError};
+
+    ghost from_gives = { λ failure error. error ≡ CodecError.Io failure };
+
+    fn from(failure: io::Error) -> CodecError {
+        CodecError::Io(failure)
+    }
+}

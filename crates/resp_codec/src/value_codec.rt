@@ -1,0 +1,120 @@
+//! Values both ways.
+
+ghost use Rattle.std.specs.Prelude.{◌≡◌, ◌↔◌, [], IsOk, OnOk, OnErr, IfOk, IfNone};
+ghost use Rattle.resp_value.specs.Rules.{rules_under};
+ghost use Rattle.resp_decode.specs.Decoding as decoding;
+
+use crate::error::CodecError;
+use crate::reading::next_value;
+use bytes::BytesMut;
+use resp_decode::Decoder;
+use resp_encode::encode;
+use resp_scan::event::Busy;
+use resp_value::limits::Limits;
+use resp_value::value::Value;
+use resp_value::version::Version;
+use std::alloc::Global;
+use tokio_util::codec;
+
+/// Reads and writes values in a version and within limits. A client writes commands as arrays of
+/// bulk strings by it, and reads the replies.
+#[derive(Drop)]
+pub struct RespCodec {
+    decoder: Decoder,
+    version: Version,
+    limits: Limits,
+    /// It reads and writes by the same version and limits.
+    ghost same_rules: { decoding.rules_of decoder ≡ rules_under version limits },
+}
+
+impl RespCodec {
+    ghost use Rattle.resp_scan.specs.declared.event.Fault.{Fault};
+    ghost use Rattle.resp_codec.specs.Values.{HasFault, HasTaken, WhereTaken, rules_of};
+
+    /// A codec of this version within these limits, between two values. Takes no memory.
+    pub fn new(alloc: Global, version: Version, limits: &Limits) -> RespCodec
+        ensures nothing_taken { HasTaken result [] }
+        ensures rules { rules_of result ≡ rules_under version limits.now }
+    {
+        RespCodec {
+            decoder: Decoder::new(alloc, version, limits),
+            version,
+            limits: *limits,
+        }
+    }
+
+    /// Reads and writes this version from the next value on.
+    ///
+    /// Refuses, and changes nothing, from a value's first byte until the value was given, and after
+    /// a fault.
+    pub fn set_version(&mut self, version: Version) -> Result<(), Busy>
+        ensures only_between_values { WhereTaken self.old (λ front. IsOk result ↔ (front ≡ [])) }
+        ensures nothing_taken { WhereTaken self.old (λ front. OnOk result (HasTaken self.new [])) }
+        ensures new_version { OnOk result (rules_of self.new ≡
+            rules_under version (rules_of self.old).limits) }
+        ensures unchanged_where_busy { OnErr result (self.new ≡ self.old) }
+        ensures never_after_a_fault { (fault : Fault) → HasFault self.old fault → OnOk result ⊥ }
+    {
+        self.decoder.set_version(version)?;
+        self.version = version;
+        Ok(())
+    }
+}
+
+impl codec::Decoder for RespCodec {
+    ghost use Rattle.tokio_util.specs.Codec.Next.{Decodes};
+    ghost use Rattle.resp_codec.specs.Values.{gives_values};
+    ghost use Rattle.resp_codec.specs.ValuesLaws.{values_end, values_partial, values_stable};
+
+    type Item = Value;
+
+    type Error = CodecError;
+
+    ghost gives = { gives_values };
+
+    ghost stable = { values_stable };
+
+    ghost partial_has_no_frame = { values_partial };
+
+    ghost end_is_partial = { values_end };
+
+    /// The value that ends in the buffer, as [`Decoder::feed`] gives it. Without one it takes all
+    /// bytes, and reads on from there.
+    ///
+    /// Refuses as that does, clears the buffer, and every later call answers the same.
+    fn decode(&mut self, src: &mut BytesMut) -> Result<Option<Value>, CodecError>
+        ensures next { Decodes gives_values self.old src.old.items result self.new src.new.items }
+        ensures all_taken { IfOk result (λ next. IfNone next (src.new.items ≡ [])) }
+    {
+        let value = next_value(&mut self.decoder, src)?;
+        Ok(value)
+    }
+
+    /// The same, and Truncated where the input ends inside a value.
+    fn decode_eof(&mut self, src: &mut BytesMut) -> Result<Option<Value>, CodecError> {
+        match self.decode(src)? {
+            Some(value) => Ok(Some(value)),
+            None => {
+                self.decoder.finish()?;
+                Ok(None)
+            }
+        }
+    }
+}
+
+impl codec::Encoder<Value> for RespCodec {
+    ghost use Rattle.resp_codec.specs.Values.{encodes_values, refuses_values};
+
+    type Error = CodecError;
+
+    ghost encodes = { encodes_values };
+
+    ghost refuses = { refuses_values };
+
+    /// Appends the canonical text of the value, whole or not at all, and refuses as [`encode`]
+    /// does.
+    fn encode(&mut self, item: Value, dst: &mut BytesMut) -> Result<(), CodecError> {
+        encode(self.version, &self.limits, &item, dst)?;
+        Ok(())
+    }
+}
