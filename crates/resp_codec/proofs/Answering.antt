@@ -63,6 +63,7 @@ module _ {C T S : Type 0} (r : Reading C T S) where
     takes = λ front taken. subst (λ z. HasTaken (r.decoder c) (front ++ z)) (sym none)
         (subst (HasTaken (r.decoder c)) (sym (append-nil front)) taken);
   }
+
   -- where no value is given, the whole buffer is taken and no value has ended
   pub gives_or_waits : (value_of : T → Datum) → ((item : T) → r.Is item (value_of item)) → (c : C) (buffer : List ℕ) (t : C) (left : List ℕ)
       (next : Option T) → IfSome next (λ item. EndsValue (r.decoder c) buffer (value_of item) (r.decoder t) left) →

@@ -3,3 +3,4 @@ pub mod After
 pub mod Answering
 pub mod Ending
 pub mod Streams
+pub mod Written

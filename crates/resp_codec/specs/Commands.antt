@@ -1,5 +1,6 @@
 -- What a codec of commands reads and writes.
 use Rattle.std.specs.Prelude.{◌≡◌, ℕ, ◌<◌, List, length}
+use Rattle.resp_value.specs.Data.{Datum}
 use Rattle.resp_value.specs.Rules.{Rules, rules_under}
 use Rattle.resp_value.specs.declared.value.Value.{Value}
 use Rattle.resp_scan.specs.declared.event.Fault.{Fault}
@@ -35,12 +36,16 @@ pub record ReadsAs (old new : CommandCodec) : Type 0 where
   pub fault : (fault : Fault) → HasFault old fault → HasFault new fault
   pub rules : reads_by new ≡ reads_by old
 
+-- the value asks this, and a command has a name
+abbrev pub Asks : Asked → Datum → Type 0
+Asks asked x = (meaning_in asked ≡ meaning_of x) × IfCommand asked (λ words. 0 < length words)
+
 -- it reads what values ask
 abbrev pub reading_commands : Reading CommandCodec Asked Settings
 reading_commands = record {
   decoder = λ c. c.decoder;
   rest = λ c. record { version = c.version; limits = c.limits };
-  Is = λ asked x. (meaning_in asked ≡ meaning_of x) × IfCommand asked (λ words. 0 < length words);
+  Is = Asks;
 }
 
 -- what it reads next

@@ -1,15 +1,21 @@
--- What a whole stream of values is, and what comes back of a value that was written.
+-- What a whole stream is, and what comes back of a value that was written.
 use Rattle.std.specs.Prelude.{◌≡◌, ◌⊎◌, ℕ, List, [], ◌∷◌, ◌++◌, Result, Ok, Err}
+use Rattle.resp_value.specs.Data.{Datum}
 use Rattle.resp_value.specs.Rules.{Rules}
 use Rattle.resp_value.specs.Spellings.{IsSpelling}
 use Rattle.resp_value.specs.Values.{datum_of}
 use Rattle.resp_value.specs.declared.value.Value.{Value}
+use Rattle.resp_value.specs.declared.cause.Cause.TheVariants as cause
 use Rattle.resp_scan.specs.declared.event.Fault.{Fault}
 use Rattle.resp_decode.specs.Decoding.{LacksMemory, RefusesByte}
 use Rattle.resp_decode.specs.Inputs.{EndsInside}
-use Rattle.tokio_util.specs.Codec.Next.{decoded}
+use Rattle.resp_session.specs.declared.words.Asked.{Asked}
+use Rattle.tokio_util.specs.Codec.Next.{Next, decoded, partial, at_end}
 use Rattle.tokio_util.specs.Codec.Whole.{ReadsAll}
-use Rattle.resp_codec.specs.Values.{HasTaken, encodes_values, gives_values, rules_of}
+use Rattle.resp_codec.specs.Commands as commands
+use Rattle.resp_codec.specs.Commands.{Asks, gives_commands, reads_by}
+use Rattle.resp_codec.specs.Values.{HasTaken, Holds, encodes_values, gives_values, rules_of}
+use Rattle.resp_codec.specs.declared.command_codec.CommandCodec.{CommandCodec}
 use Rattle.resp_codec.specs.declared.error.CodecError.{CodecError}
 use Rattle.resp_codec.specs.declared.error.CodecError.TheVariants as error
 use Rattle.resp_codec.specs.declared.value_codec.RespCodec.{RespCodec}
@@ -20,20 +26,33 @@ IsRefused r rest fault =
     ((seen : List ℕ) × (beyond : List ℕ) × (rest ≡ seen ++ beyond) ×
     (RefusesByte r [] seen fault ⊎ LacksMemory r [] seen fault)) ⊎ EndsInside r rest fault
 
--- the items are the values that the input spells, in order, up to its end or the error of its first fault
-abbrev pub IsReadAs : Rules → List ℕ → List (Result Value CodecError) → Type 0
-IsReadAs r input [] = input ≡ []
-IsReadAs r input (Ok value ∷ items) = (front : List ℕ) × (rest : List ℕ) × IsSpelling r (datum_of value) front ×
-    IsReadAs r rest items × (input ≡ front ++ rest)
-IsReadAs r input (Err e ∷ items) = (fault : Fault) × (e ≡ error.Fault fault) × IsRefused r input fault
+-- the items stand for the values that the input spells, in order, up to its end or the error of its first fault
+abbrev pub IsReadAs : {T : Type 0} → (T → Datum → Type 0) → Rules → List ℕ → List (Result T CodecError) → Type 0
+IsReadAs Is r input [] = input ≡ []
+IsReadAs Is r input (Ok item ∷ items) = (x : Datum) × (front : List ℕ) × (rest : List ℕ) × Is item x ×
+    IsSpelling r x front × IsReadAs Is r rest items × (input ≡ front ++ rest)
+IsReadAs Is r input (Err e ∷ items) = (fault : Fault) × (e ≡ error.Fault fault) × IsRefused r input fault
 
 -- an input that is there whole is read as the values that it spells
 abbrev pub AStreamIsItsValues : Type 0
 AStreamIsItsValues = (c : RespCodec) (input : List ℕ) (items : List (Result Value CodecError)) → HasTaken c [] →
-    ReadsAll gives_values c input items → IsReadAs (rules_of c) input items
+    ReadsAll gives_values c input items → IsReadAs Holds (rules_of c) input items
 
--- a value that was written is what is read where its frame begins, and exactly its frame is taken
+-- an input that is there whole is read as what the values ask that it spells
+abbrev pub AStreamIsItsCommands : Type 0
+AStreamIsItsCommands = (c : CommandCodec) (input : List ℕ) (items : List (Result Asked CodecError)) →
+    commands.HasTaken c [] → ReadsAll gives_commands c input items → IsReadAs Asks (reads_by c) input items
+
+-- this value comes, with exactly its frame taken, or no memory is found for it
+abbrev pub ComesBack : Datum → List ℕ → Next RespCodec Value CodecError → Type 0
+ComesBack x more (decoded (Ok read) t left) = (datum_of read ≡ x) × (left ≡ more)
+ComesBack x more (decoded (Err e) t left) =
+    (fault : Fault) × (e ≡ error.Fault fault) × (fault.cause ≡ cause.OutOfMemory)
+ComesBack x more partial = ⊥
+ComesBack x more (at_end answer t left) = ⊥
+
+-- what is read by the same rules where the frame of a value begins is that value, whatever follows
 abbrev pub WhatIsWrittenComesBack : Type 0
-WhatIsWrittenComesBack = (c d t : RespCodec) (value read : Value) (frame more left : List ℕ) → HasTaken d [] →
-    encodes_values c value frame c → gives_values d (frame ++ more) (decoded (Ok read) t left) →
-    (datum_of read ≡ datum_of value) × (left ≡ more)
+WhatIsWrittenComesBack = (c d : RespCodec) (value : Value) (frame more : List ℕ)
+    (next : Next RespCodec Value CodecError) → encodes_values c value frame c → HasTaken d [] →
+    rules_of d ≡ rules_of c → gives_values d (frame ++ more) next → ComesBack (datum_of value) more next

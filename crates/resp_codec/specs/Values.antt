@@ -2,6 +2,7 @@
 use Rattle.std.specs.Prelude.{◌≡◌, ℕ, ◌<◌, List, length}
 use Rattle.resp_value.specs.Bounds.{Bounds}
 use Rattle.resp_value.specs.Canonical.{canonical_text}
+use Rattle.resp_value.specs.Data.{Datum}
 use Rattle.resp_value.specs.Rules.{Rules, rules_under}
 use Rattle.resp_value.specs.Spellings.{IsSpelling}
 use Rattle.resp_value.specs.Values.{datum_of}
@@ -39,12 +40,16 @@ pub record Settings : Type 0 where
   pub version : Version
   pub limits : Bounds
 
+-- the value is this one, apart from memory
+abbrev pub Holds : Value → Datum → Type 0
+Holds value x = datum_of value ≡ x
+
 -- it reads values as they are
 abbrev pub reading_values : Reading RespCodec Value Settings
 reading_values = record {
   decoder = λ c. c.decoder;
   rest = λ c. record { version = c.version; limits = c.limits };
-  Is = λ value x. datum_of value ≡ x;
+  Is = Holds;
 }
 
 -- what it reads next
