@@ -1,5 +1,5 @@
-//! The program `resp`: shows, checks and rewrites streams of the Redis wire protocol, and plays
-//! scripts of clients of one server.
+//! The program `resp`: shows, checks and rewrites streams of the Redis wire protocol, plays scripts
+//! of clients of one server, and serves clients.
 #![tactic(auto)]
 
 mod input;
@@ -11,10 +11,13 @@ use input::read_input;
 use output::Output;
 use resp_script::play::{play, write_no_connection};
 use resp_script::script::read_script;
+use resp_serve::Server;
 use resp_tool::command_line::{perform, read_words, refuse_file, refuse_words, run_options, stop};
 use resp_tool::explain::explain;
 use resp_tool::live::{Gathering, LiveSink};
 use resp_tool::options::{Options, STANDARD_INPUT};
+use resp_tool::serving::read_serving;
+use resp_tool::text::write_text;
 use resp_tool::tool_error::ToolError;
 use resp_tool::watched::Watched;
 use resp_value::device::{Device, MemorySink, Sink, Source};
@@ -22,12 +25,12 @@ use resp_value::limits::Limits;
 use resp_wire::{TcpLink, World};
 use std::alloc::{AllocError, Global};
 use std::cell::Cell;
-use std::env;
 use std::fs::File;
 use std::hash::RandomState;
 use std::io::{Read, Write};
 use std::net::{Net, TcpListener, TcpStream};
 use std::process::ExitCode;
+use std::{env, io};
 
 /// The status of a failed device, and of OutOfMemory.
 const DEVICE_FAILED: u8 = 3;
@@ -76,6 +79,9 @@ fn run(rt: &HostRuntime) -> Result<u8, AllocError> {
                 &mut faults,
             )?
         }
+        None if is_serve(words.as_slice()) => {
+            run_serve(rt, words.as_slice(), &mut writer, &mut faults)?
+        }
         None => run_task(rt, words.as_slice(), &mut writer, &mut faults)?,
     };
     let is_written = writer.flush().is_ok();
@@ -100,6 +106,14 @@ fn loop_explains(words: &[String]) -> Option<bool> {
             Some(true)
         }
         _ => None,
+    }
+}
+
+/// Whether the first of the words after the program's name is `serve`.
+fn is_serve(words: &[String]) -> bool {
+    match words {
+        [_, word, ..] => word.as_str() == "serve",
+        _ => false,
     }
 }
 
@@ -152,6 +166,52 @@ fn run_stream<R: Read + Drop, W: LiveSink, F: Sink>(
             status
         }
     }
+}
+
+/// Serves clients where the words say, and answers the status where it can't be gone on with that.
+fn run_serve<W: LiveSink, F: Sink>(
+    rt: &HostRuntime,
+    words: &[String],
+    writer: &mut W,
+    faults: &mut F,
+) -> Result<u8, AllocError> {
+    let alloc = rt.alloc();
+    let serving = match read_serving(alloc, words, writer, faults) {
+        Ok(serving) => serving,
+        Err(status) => return Ok(status),
+    };
+    let Ok(hasher) = RandomState::new(rt) else {
+        return Ok(stop(&ToolError::Read, faults));
+    };
+    let limits = serving.limits;
+    let most = serving.clients;
+    let mut server = match Server::listen(rt, alloc, serving.address, limits, most, hasher) {
+        Ok(server) => server,
+        Err(error) => return refuse_address(alloc, serving.address_text, &error, faults),
+    };
+    let address = match server.address() {
+        Ok(address) => address,
+        Err(error) => return refuse_address(alloc, serving.address_text, &error, faults),
+    };
+    let line = format!(in alloc; "listening on {address}\n")?;
+    if write_text(writer, line.as_str().as_bytes()).is_err() || writer.flush().is_err() {
+        return Ok(stop(&ToolError::Write, faults));
+    }
+    match server.run() {
+        Ok(()) => Ok(0),
+        Err(error) => refuse_address(alloc, serving.address_text, &error, faults),
+    }
+}
+
+/// Says of an address that it can't be listened on, and why, and answers the status.
+fn refuse_address<F: Sink>(
+    alloc: Global,
+    address: &str,
+    error: &io::Error,
+    faults: &mut F,
+) -> Result<u8, AllocError> {
+    let why = format!(in alloc; "{error}")?;
+    Ok(refuse_file(address, why.as_str(), faults))
 }
 
 /// Plays the script in the input over TCP, and answers the status. Why a line is bad is said after

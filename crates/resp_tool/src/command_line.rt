@@ -22,13 +22,13 @@ use std::convert::AsStr;
 use std::io::ErrorKind as IoErrorKind;
 
 /// The status of bad arguments.
-const BAD_ARGUMENTS: u8 = 2;
+pub(crate) const BAD_ARGUMENTS: u8 = 2;
 
 /// The status of a failed device.
 const DEVICE_FAILED: u8 = 3;
 
 /// Says what is wrong with the words, or helps, and answers the status.
-fn explain<W: Sink, F: Sink>(
+pub(crate) fn explain<W: Sink, F: Sink>(
     alloc: Global,
     error: &clap::Error,
     writer: &mut W,

@@ -14,6 +14,7 @@ pub mod live;
 pub mod options;
 mod printer;
 mod rendering;
+pub mod serving;
 mod short_line;
 pub mod show;
 mod starts;

@@ -2,6 +2,7 @@
 
 ghost use Rattle.std.specs.Prelude.{◌≤◌, IfOk, IfSome};
 
+use crate::serving::with_serve_options;
 use clap::{Arg, ArgAction, ArgMatches, Command};
 use resp_value::limits::Limits;
 use resp_value::version::Version;
@@ -23,12 +24,12 @@ const STATUSES: &str = "Statuses:
 
 /// An option with a number in a range.
 #[derive(Clone, Copy)]
-struct NumberOption {
-    name: &'static str,
-    help: &'static str,
-    least: i64,
-    most: i64,
-    default: &'static str,
+pub(crate) struct NumberOption {
+    pub(crate) name: &'static str,
+    pub(crate) help: &'static str,
+    pub(crate) least: i64,
+    pub(crate) most: i64,
+    pub(crate) default: &'static str,
 }
 
 /// `--depth`: the limit of depth, in aggregates inside one another.
@@ -78,7 +79,7 @@ const PIECE: NumberOption = NumberOption {
 
 impl NumberOption {
     /// The option for the parser of the words, which refuses a number outside the range.
-    fn option<'a>(self, alloc: Global) -> Arg<'a> {
+    pub(crate) fn option<'a>(self, alloc: Global) -> Arg<'a> {
         Arg::new(alloc, self.name)
             .long(self.name)
             .value_name("N")
@@ -113,9 +114,9 @@ pub struct Options<'a> {
     pub explains: bool,
 }
 
-/// Reads the words, the program's name first among them. None where they are `loop` alone, which is
-/// played elsewhere, or where a number is outside its range, which the parser of the words refuses
-/// before.
+/// Reads the words, the program's name first among them. None where they begin with `loop` or
+/// `serve`, which are done elsewhere, or where a number is outside its range, which the parser of
+/// the words refuses before.
 pub fn parse<'a, S: AsStr>(
     alloc: Global,
     words: &'a [S],
@@ -123,14 +124,22 @@ pub fn parse<'a, S: AsStr>(
     ensures piece_in_range { IfOk result (λ found. IfSome found (λ options.
         (1 ≤ options.piece) × (options.piece ≤ 65536))) }
 {
-    let matches = program(alloc)?.try_get_matches_from(words)?;
+    let matches = matches_of(alloc, words)?;
     Ok(match matches.subcommand() {
         Some(("check", options)) => options_of(Task::Check, options),
         Some(("canon", options)) => options_of(Task::Canon, options),
-        Some(("loop", _)) => None,
+        Some(("loop" | "serve", _)) => None,
         Some((_, options)) => options_of(Task::Show, options),
         None => None,
     })
+}
+
+/// What the parser of the words finds in them.
+pub(crate) fn matches_of<'a, S: AsStr>(
+    alloc: Global,
+    words: &'a [S],
+) -> Result<ArgMatches<'a>, clap::Error> {
+    program(alloc)?.try_get_matches_from(words)
 }
 
 /// The parser of the words: the subcommands, each with its options.
@@ -147,6 +156,9 @@ fn program<'a>(alloc: Global) -> Result<Command<'a>, clap::Error> {
     let played = Command::new(alloc, "loop").about(
         "Plays a script of clients of one server, over TCP",
     );
+    let serve = Command::new(alloc, "serve").about(
+        "Serves PING, ECHO, GET, SET, DEL and HELLO to many clients at once",
+    );
     Ok(
         Command::new(alloc, "resp")
             .bin_name("resp")?
@@ -156,7 +168,8 @@ fn program<'a>(alloc: Global) -> Result<Command<'a>, clap::Error> {
             .subcommand(with_options(alloc, show)?)?
             .subcommand(with_options(alloc, check)?)?
             .subcommand(with_options(alloc, canon)?)?
-            .subcommand(played.arg(explain(alloc, "Says why a line of the script is bad"))?)?,
+            .subcommand(played.arg(explain(alloc, "Says why a line of the script is bad"))?)?
+            .subcommand(with_serve_options(alloc, serve)?)?,
     )
 }
 
@@ -176,10 +189,6 @@ fn with_options<'a>(alloc: Global, command: Command<'a>) -> Result<Command<'a>, 
         .help("The version of the protocol")
         .value_parser(["2", "3"].as_slice())
         .default_value("2");
-    let no_streamed = Arg::new(alloc, "no-streamed")
-        .long("no-streamed")
-        .help("Refuses streamed strings and aggregates")
-        .action(ArgAction::SetTrue);
     let file = Arg::new(alloc, "file")
         .value_name("FILE")
         .help("The file that is read, or - for standard input")
@@ -190,19 +199,43 @@ fn with_options<'a>(alloc: Global, command: Command<'a>) -> Result<Command<'a>, 
         .action(ArgAction::SetTrue);
     let explain = explain(alloc, "Says where in the input and why a byte was refused");
     Ok(
-        command
-            .arg(proto)?
-            .arg(DEPTH.option(alloc))?
-            .arg(LENGTH.option(alloc))?
-            .arg(TOTAL.option(alloc))?
-            .arg(ITEMS.option(alloc))?
-            .arg(no_streamed)?
+        with_limits(alloc, command.arg(proto)?)?
             .arg(doubles)?
             .arg(PIECE.option(alloc))?
             .arg(explain)?
             .arg(file)?
             .after_help(STATUSES),
     )
+}
+
+/// A subcommand with the options that limit values.
+pub(crate) fn with_limits<'a>(
+    alloc: Global,
+    command: Command<'a>,
+) -> Result<Command<'a>, clap::Error> {
+    let no_streamed = Arg::new(alloc, "no-streamed")
+        .long("no-streamed")
+        .help("Refuses streamed strings and aggregates")
+        .action(ArgAction::SetTrue);
+    Ok(
+        command
+            .arg(DEPTH.option(alloc))?
+            .arg(LENGTH.option(alloc))?
+            .arg(TOTAL.option(alloc))?
+            .arg(ITEMS.option(alloc))?
+            .arg(no_streamed)?,
+    )
+}
+
+/// The limits that the options say; none where a number is outside its range.
+pub(crate) fn limits_of(matches: &ArgMatches<'_>) -> Option<Limits> {
+    let depth = matches.get_one::<u64>("depth")?;
+    let length = matches.get_one::<u64>("length")?;
+    let total = matches.get_one::<u64>("total")?;
+    let items = matches.get_one::<u64>("items")?;
+    let limits = Limits::new(depth, length, total).ok()?;
+    let limits = limits.with_items(items).ok()?;
+    Some(limits.with_streamed(!matches.get_flag("no-streamed")))
 }
 
 /// The options of a subcommand; none where a number is outside its range.
@@ -213,19 +246,7 @@ fn options_of<'a>(task: Task, matches: &ArgMatches<'a>) -> Option<Options<'a>>
         Some("3") => Version::Three,
         _ => Version::Two,
     };
-    let depth = matches.get_one::<u64>("depth")?;
-    let length = matches.get_one::<u64>("length")?;
-    let total = matches.get_one::<u64>("total")?;
-    let items = matches.get_one::<u64>("items")?;
-    let Ok(limits) = Limits::new(depth, length, total) else {
-        return None;
-    };
-    let Ok(limits) = limits.with_items(items) else {
-        return None;
-    };
-    let limits = limits
-        .with_streamed(!matches.get_flag("no-streamed"))
-        .with_doubles(matches.get_flag("doubles"));
+    let limits = limits_of(matches)?.with_doubles(matches.get_flag("doubles"));
     let piece = matches.get_one::<u64>("piece")?;
     if piece < 1 || piece > 65_536 {
         return None;

@@ -1,0 +1,84 @@
+//! A non-blocking socket as a reader and a writer that say why they failed.
+
+use std::io;
+use std::io::{ErrorKind, Read, Write};
+
+/// A reader that tells, after a failed read, whether the read would only have waited.
+///
+/// A socket that gives fewer bytes than there is room for has no more of them, so that the next
+/// read would wait, and isn't made. At the end of the input it is made all the same: the socket
+/// won't tell of the end again.
+#[derive(Drop)]
+pub(crate) struct Input<R> {
+    inner: R,
+    is_at_end: bool,
+    is_dry: bool,
+}
+
+impl<R> Input<R> {
+    /// A reader over `inner`, of which nothing was read. `is_at_end` tells whether the input may
+    /// have ended.
+    pub(crate) fn new(inner: R, is_at_end: bool) -> Self {
+        Input {
+            inner,
+            is_at_end,
+            is_dry: false,
+        }
+    }
+
+    /// Whether the next read would wait.
+    pub(crate) fn would_wait(&self) -> bool {
+        self.is_dry
+    }
+}
+
+impl<R: Read> Read for Input<R> {
+    fn read(&mut self, into: &mut [u8]) -> io::Result<usize> {
+        if self.is_dry {
+            return Err(ErrorKind::WouldBlock.into());
+        }
+        let count = self.inner.read(into);
+        self.is_dry = match &count {
+            Ok(count) => *count < into.len() && !self.is_at_end,
+            Err(error) => error.kind() == ErrorKind::WouldBlock,
+        };
+        count
+    }
+}
+
+/// A writer that tells, after a failed write, whether the write would only have waited.
+#[derive(Drop)]
+pub(crate) struct Output<W> {
+    inner: W,
+    is_full: bool,
+}
+
+impl<W> Output<W> {
+    /// A writer over `inner`, to which nothing was written.
+    pub(crate) fn new(inner: W) -> Self {
+        Output {
+            inner,
+            is_full: false,
+        }
+    }
+
+    /// Whether the last write failed because it would have waited.
+    pub(crate) fn would_wait(&self) -> bool {
+        self.is_full
+    }
+}
+
+impl<W: Write> Write for Output<W> {
+    fn write(&mut self, from: &[u8]) -> io::Result<usize> {
+        let count = self.inner.write(from);
+        self.is_full = match &count {
+            Ok(_) => false,
+            Err(error) => error.kind() == ErrorKind::WouldBlock,
+        };
+        count
+    }
+
+    fn flush(&mut self) -> io::Result<()> {
+        self.inner.flush()
+    }
+}

@@ -1,0 +1,219 @@
+//! The server: its listener, its connections, and the loop that serves those that are ready.
+
+use crate::connection::{Connection, Next, refuse};
+use mio::net::{TcpListener, TcpStream};
+use mio::{Events, Interest, Poll, Token};
+use resp_server::Hub;
+use resp_value::limits::Limits;
+use slab::Slab;
+use std::alloc::Global;
+use std::hash::BuildHasher;
+use std::io::ErrorKind;
+use std::net::{Net, SocketAddr};
+use std::time::Duration;
+use std::{io, mem};
+
+/// The token of the listener. A connection's is its place and 1.
+const LISTENER: usize = 0;
+
+/// How many events one wait tells at most.
+const EVENTS: usize = 1_024;
+
+/// How many connections are accepted before those that are ready have their turn.
+const ACCEPTED: usize = 256;
+
+/// How long it is until connections are accepted again after a failure, in milliseconds.
+const PAUSE: u64 = 100;
+
+/// What a connection over the most is answered.
+const TOO_MANY: &[u8] = b"-ERR max number of clients reached\r\n";
+
+/// Whether connections wait to be accepted.
+#[derive(Clone, Copy, Debug, PartialEq, Eq)]
+enum Backlog {
+    /// None, as far as is known.
+    Empty,
+    /// There may be some.
+    Waiting,
+    /// There may be some, and the last could not be accepted.
+    Failing,
+}
+
+/// A server of PING, ECHO, GET, SET, DEL and HELLO for many clients at once, over one store.
+///
+/// Of a connection nothing is read while a reply to it waits, so that what waits is bounded by the
+/// answer to one piece of 16,384 bytes. A connection that has much to do is served in turn with the
+/// others.
+#[derive(Drop)]
+pub struct Server<S: BuildHasher> {
+    alloc: Global,
+    poll: Poll,
+    listener: TcpListener,
+    backlog: Backlog,
+    hub: Hub<S>,
+    connections: Slab<Connection>,
+    /// The most connections.
+    most: usize,
+    /// The places of those that are served again without waiting for their sockets.
+    queue: Vec<usize>,
+}
+
+impl<S: BuildHasher + Drop> Server<S> {
+    /// Listens on an address, for `most` clients at once, whose sessions read within these limits.
+    pub fn listen(
+        net: &impl Net,
+        alloc: Global,
+        address: SocketAddr,
+        limits: Limits,
+        most: usize,
+        hasher: S,
+    ) -> io::Result<Self> {
+        let poll = Poll::new(net)?;
+        let mut listener = TcpListener::bind(net, address)?;
+        poll.registry()
+            .register(&mut listener, Token(LISTENER), Interest::READABLE)?;
+        Ok(Server {
+            alloc,
+            poll,
+            listener,
+            backlog: Backlog::Empty,
+            hub: Hub::new(alloc, limits, hasher),
+            connections: Slab::new(alloc),
+            most,
+            queue: Vec::new(alloc),
+        })
+    }
+
+    /// The address that it listens on.
+    pub fn address(&self) -> io::Result<SocketAddr> {
+        self.listener.local_addr()
+    }
+
+    /// Serves all that connect, until a wait for them fails.
+    pub fn run(&mut self) -> io::Result<()> {
+        let Ok(mut events) = Events::with_capacity(self.alloc, EVENTS) else {
+            return Err(ErrorKind::OutOfMemory.into());
+        };
+        for _ in 0..u64::MAX {
+            self.turn(&mut events)?;
+        }
+        Ok(())
+    }
+
+    /// Waits until something is ready, and serves it.
+    fn turn(&mut self, events: &mut Events) -> io::Result<()> {
+        let timeout = self.timeout();
+        self.poll.poll(events, timeout)?;
+        let queue = mem::replace(&mut self.queue, Vec::new(self.alloc));
+        for event in events.iter() {
+            match event.token() {
+                Token(LISTENER) => self.backlog = Backlog::Waiting,
+                Token(token) => self.serve_ready(token - 1, event.is_read_closed()),
+            }
+        }
+        for place in queue {
+            self.serve_queued(place);
+        }
+        if self.backlog != Backlog::Empty {
+            self.accept_some();
+        }
+        Ok(())
+    }
+
+    /// How long is waited at most.
+    fn timeout(&self) -> Option<Duration> {
+        if !self.queue.is_empty() || self.backlog == Backlog::Waiting {
+            return Some(Duration::from_millis(0));
+        }
+        match self.backlog {
+            Backlog::Failing => Some(Duration::from_millis(PAUSE)),
+            _ => None,
+        }
+    }
+
+    /// Accepts connections that wait.
+    fn accept_some(&mut self) {
+        for _ in 0..ACCEPTED {
+            match self.listener.accept() {
+                Ok((stream, _)) => self.admit(stream),
+                Err(error) => {
+                    self.backlog = match error.kind() {
+                        ErrorKind::WouldBlock => Backlog::Empty,
+                        _ => Backlog::Failing,
+                    };
+                    return;
+                }
+            }
+        }
+        self.backlog = Backlog::Waiting;
+    }
+
+    /// Takes a connection, or refuses it where there are as many as may be.
+    fn admit(&mut self, stream: TcpStream) {
+        if self.connections.len() >= self.most {
+            refuse(&stream, TOO_MANY);
+            return;
+        }
+        // Without memory for it, or without a socket that works, it is closed.
+        if let Ok(id) = self.hub.open() {
+            if self.place(stream, id).is_err() {
+                let _ = self.hub.close(id);
+            }
+        }
+    }
+
+    /// Gives a connection with its session a place.
+    fn place(&mut self, stream: TcpStream, id: u64) -> io::Result<()> {
+        let mut stream = stream;
+        stream.set_nodelay(true)?;
+        let token = Token(self.connections.vacant_key().saturating_add(1));
+        self.poll.registry().register(&mut stream, token, Interest::READABLE | Interest::WRITABLE)?;
+        match self.connections.insert(Connection::new(stream, id)) {
+            Ok(_) => Ok(()),
+            Err(_) => Err(ErrorKind::OutOfMemory.into()),
+        }
+    }
+
+    /// Serves the connection in a place, whose socket is ready. One that is queued has its turn
+    /// there.
+    fn serve_ready(&mut self, place: usize, is_at_end: bool) {
+        if let Some(connection) = self.connections.get(place) {
+            if !connection.is_queued {
+                self.serve(place, is_at_end);
+            }
+        }
+    }
+
+    /// Serves the connection in a place, which was queued.
+    fn serve_queued(&mut self, place: usize) {
+        if let Some(connection) = self.connections.get_mut(place) {
+            connection.is_queued = false;
+            // The event that would have told of the end may have passed.
+            self.serve(place, true);
+        }
+    }
+
+    /// Serves the connection in a place, if one is there.
+    fn serve(&mut self, place: usize, is_at_end: bool) {
+        let Some(connection) = self.connections.get_mut(place) else {
+            return;
+        };
+        match connection.serve(&mut self.hub, is_at_end) {
+            Next::Wait => {}
+            Next::Again if self.queue.push(place).is_ok() => connection.is_queued = true,
+            Next::Again | Next::Close => self.close(place),
+        }
+    }
+
+    /// Closes the connection in a place, and its session. The place is used again.
+    fn close(&mut self, place: usize) {
+        if let Some(connection) = self.connections.try_remove(place) {
+            let _ = self.hub.close(connection.id);
+            connection.close();
+        }
+        // Where no connection could be accepted, one may be now.
+        if self.backlog == Backlog::Failing {
+            self.backlog = Backlog::Waiting;
+        }
+    }
+}
