@@ -10,6 +10,7 @@ mod command;
 mod content;
 mod device;
 mod digits;
+mod framed;
 mod lifetimes;
 mod limits;
 mod line;
