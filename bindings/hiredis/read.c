@@ -64,7 +64,8 @@ struct reader {
     uint64_t taken;
     /* The first byte of the line that is being read, where an earlier call took it, or 0. */
     char type;
-    struct resp_event text;
+    /* The kind of the text that is being read. */
+    uint32_t form;
     /* Whether a text is being read, and its bytes that came: at `start` of `buf`, or in `gathered`. */
     bool is_text;
     size_t start, length;
@@ -212,7 +213,7 @@ static bool gather(struct reader *reader, const void *more, size_t length) {
 
 /* A text begins. That of a verbatim string has its format before it, and of a big number its sign. */
 static bool begin_text(struct reader *reader, const struct resp_event *event) {
-    reader->text = *event;
+    reader->form = event->form;
     reader->is_text = true;
     reader->length = 0;
     reader->is_gathered = event->form == RESP_TEXT_VERBATIM || event->form == RESP_TEXT_BIG;
@@ -233,10 +234,10 @@ static bool add_part(struct reader *reader, const struct resp_event *event, size
 
 static bool add_text(struct reader *reader) {
     static char none[] = "";
-    if (reader->text.form == RESP_TEXT_BIG && !reader->length && !gather(reader, "0", 1))
+    if (reader->form == RESP_TEXT_BIG && !reader->length && !gather(reader, "0", 1))
         return false;
     char *start = !reader->length ? none : reader->is_gathered ? reader->gathered : reader->base.buf + reader->start;
-    switch (reader->text.form) {
+    switch (reader->form) {
     case RESP_TEXT_SIMPLE:
         return add_string(reader, REDIS_REPLY_STATUS, start, reader->length);
     case RESP_TEXT_ERROR:
