@@ -4,7 +4,7 @@ use Rattle.std.proofs.lemmas.List.{append-nil}
 use Rattle.resp_value.specs.Data.{Datum}
 use Rattle.resp_scan.specs.declared.event.Fault.{Fault}
 use Rattle.resp_decode.specs.Decoding.{HasTaken}
-use Rattle.tokio_util.specs.Codec.Next.{Next, decoded, partial, at_end, Decodes, DecodesAtEnd, IsStable, PartialHasNoFrame, EndIsPartial, Resumes}
+use Rattle.tokio_util.specs.Codec.Next.{Next, decoded, partial, at_end, Decodes, DecodesAtEnd, Resumes}
 use Rattle.tokio_util.proofs.CodecLemmas.Next.{Resumes_now}
 use Rattle.resp_codec.specs.Frames.{EndsBetween, EndsInside, EndsValue, ReadsOn, TakesAll}
 use Rattle.resp_codec.proofs.After.{begun_after, between_after, inside_after, refusal_after, takes_after, value_after}
