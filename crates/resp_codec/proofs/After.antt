@@ -1,16 +1,12 @@
 -- What comes next of a buffer, when some bytes were taken before it.
-use Rattle.std.proofs.Common.{◌≡◌, ◌⊎◌, inl, inr, ℕ, ◌≤◌, List, ◌++◌, length, take, refl, sym, ap, subst, ◌∙◌, append_assoc, length-append, take_at, arith}
-use Rattle.std.proofs.Math.Logic.{∥∥₁_elim}
+use Rattle.std.proofs.Common.{◌≡◌, ◌⊎◌, inl, inr, ℕ, ◌≤◌, List, ◌++◌, length, take, sym, ap, subst, ◌∙◌, append_assoc, length-append, arith}
 use Rattle.resp_value.specs.Data.{Datum}
 use Rattle.resp_value.specs.Rules.{Rules, WithinTotal}
 use Rattle.resp_value.specs.Spellings.{FaultOf, IsSpelling, IsViable}
-use Rattle.resp_value.specs.Trees.{Spells}
-use Rattle.resp_scan.specs.Machine.Standing.{StandsAfterAt}
 use Rattle.resp_scan.specs.Reading.{HasNoSpelling, HasNoValue}
 use Rattle.resp_scan.specs.declared.event.Fault.{Fault}
 use Rattle.resp_decode.specs.Brief.{BeginsBrief, BringMemoryWants}
 use Rattle.resp_decode.specs.Decoding.{HasTaken, LacksMemory, RefusesByte, WhereTaken, rules_of}
-use Rattle.resp_decode.specs.Standing.{TakesOrStands}
 use Rattle.resp_decode.specs.declared.decoder.Decoder.{Decoder}
 use Rattle.resp_codec.specs.Frames.{EndsBetween, EndsInside, EndsValue, IsBegun, IsReading, IsTruncated, Refuses, TakesAll}
 

@@ -4,7 +4,7 @@ use Rattle.std.proofs.lemmas.List.{append-nil}
 use Rattle.resp_value.specs.Data.{Datum}
 use Rattle.resp_scan.specs.declared.event.Fault.{Fault}
 use Rattle.resp_decode.specs.Decoding.{HasTaken}
-use Rattle.tokio_util.specs.Codec.Next.{Next, decoded, partial, at_end, Decodes, DecodesAtEnd, IsStable, PartialHasNoFrame, EndIsPartial, Resumes}
+use Rattle.tokio_util.specs.Codec.Next.{Next, decoded, partial, at_end, Decodes, DecodesAtEnd, Resumes}
 use Rattle.tokio_util.proofs.CodecLemmas.Next.{Resumes_now}
 use Rattle.resp_codec.specs.Frames.{EndsBetween, EndsInside, EndsValue, ReadsOn, TakesAll}
 use Rattle.resp_codec.proofs.After.{begun_after, between_after, inside_after, refusal_after, takes_after, value_after}
@@ -24,8 +24,12 @@ module _ {C T S : Type 0} (r : Reading C T S) where
       of next now
     where
       of : (next : Next C T CodecError) → gives_by r t more next → gives_by r c (buffer ++ more) next
-      of (decoded (Ok item) u rest) (x, is, v, after) =
-          (x, is, value_after (r.decoder c) (r.decoder t) buffer on.reading on.takes_all.takes same.rules more x (r.decoder u) rest v, same_after c t u same after)
+      of (decoded (Ok item) u rest) (x, is, v, after) = (
+        x,
+        is,
+        value_after (r.decoder c) (r.decoder t) buffer on.reading on.takes_all.takes same.rules more x (r.decoder u) rest v,
+        same_after c t u same after,
+      )
       of (decoded (Err e) u rest) (fault, is, w, after) = (
         fault,
         is,
@@ -84,5 +88,13 @@ module _ {C T S : Type 0} (r : Reading C T S) where
       EndsInside (r.decoder t) [] fault → DecodesAtEnd (gives_by r) c buffer answer t left
   ends_inside c buffer t left fault (Ok next) waiting none is inside = absurd is
   ends_inside c buffer t left fault (Err e) waiting none is inside =
-      inr (Resumes_now (gives_by r) c buffer t left (at_end (Err e) t left) waiting.1
-      (waiting.0, (fault, is, subst (λ z. EndsInside (r.decoder t) z fault) (sym none) inside, takes_nothing t left none, record { rest = refl; rules = refl })))
+      inr (Resumes_now (gives_by r) c buffer t left (at_end (Err e) t left) waiting.1 (
+        waiting.0,
+        (
+          fault,
+          is,
+          subst (λ z. EndsInside (r.decoder t) z fault) (sym none) inside,
+          takes_nothing t left none,
+          record { rest = refl; rules = refl },
+        ),
+      ))

@@ -26,8 +26,8 @@ is_inside d (Err other) fault is only truncated =
     }
 
 -- a refusal to change the version says that a value was begun
-pub refused_inside : {A B E : Type 0} (refused : Result A B) (answer : Result A E) (front : List ℕ) → IsErr refused → IsErr answer → IsOk refused ↔ (front ≡ []) →
-    IsOk answer ↔ (front ≡ [])
+pub refused_inside : {A B E : Type 0} (refused : Result A B) (answer : Result A E) (front : List ℕ) → IsErr refused → IsErr answer →
+    IsOk refused ↔ (front ≡ []) → IsOk answer ↔ (front ≡ [])
 refused_inside (Ok x) answer front bad is only = cc
 refused_inside (Err e) (Ok x) front bad is only = cc
 refused_inside (Err e) (Err f) front bad is only = (λ ok. cc, λ none. let wrong = only.1 none in cc)

@@ -1,9 +1,7 @@
 -- What a codec finds in an input that is there whole.
-use Rattle.std.proofs.Common.{◌≡◌, ◌⊎◌, inl, inr, ℕ, ◌<◌, List, [], ◌∷◌, ◌++◌, length, Result, Ok, Err, refl, sym, subst, ◌∙◌, arith}
-use Rattle.resp_value.specs.Rules.{Rules, WithinTotal}
-use Rattle.resp_value.specs.Spellings.{IsSpelling, IsViable}
+use Rattle.std.proofs.Common.{◌≡◌, inl, inr, ℕ, ◌<◌, List, [], ◌∷◌, length, Result, Ok, Err, refl, subst, arith}
 use Rattle.resp_scan.specs.declared.event.Fault.{Fault}
-use Rattle.resp_decode.specs.Decoding.{HasTaken, LacksMemory, RefusesByte, rules_of}
+use Rattle.resp_decode.specs.Decoding.{HasTaken, rules_of}
 use Rattle.resp_decode.specs.declared.decoder.Decoder.{Decoder}
 use Rattle.tokio_util.specs.Codec.Whole.{ReadsAll, whole_frame, last_frame, no_frame}
 use Rattle.resp_codec.specs.Frames.{IsBegun, IsTruncated, Refuses}

@@ -1,5 +1,5 @@
 -- What is read where the frame of a value begins.
-use Rattle.std.proofs.Common.{◌≡◌, ◌⊎◌, inl, inr, ℕ, ◌≤◌, ◌<◌, List, [], ◌++◌, length, take, drop, Some, None, Ok, Err, refl, sym, ap, subst, ◌∙◌, append_assoc, length-append, take_at, arith}
+use Rattle.std.proofs.Common.{◌≡◌, ◌⊎◌, inl, inr, ℕ, ◌≤◌, List, [], ◌++◌, length, take, drop, Some, None, Ok, Err, refl, sym, ap, subst, ◌∙◌, append_assoc, length-append, take_at, arith}
 use Rattle.std.proofs.lemmas.List.{take-append-drop, take-append-le}
 use Rattle.std.proofs.lemmas.Bool.{cases_lt}
 use Rattle.resp_value.specs.Data.{Datum}
@@ -15,9 +15,8 @@ use Rattle.resp_scan.specs.declared.event.Fault.{Fault}
 use Rattle.resp_decode.specs.Decoding as decoding
 use Rattle.resp_decode.specs.Decoding.{LacksMemory, RefusesByte}
 use Rattle.tokio_util.specs.Codec.Next.{Next, decoded, partial, at_end}
-use Rattle.resp_codec.specs.Next.{gives_by}
 use Rattle.resp_codec.specs.Streams.{ComesBack, WhatIsWrittenComesBack}
-use Rattle.resp_codec.specs.Values.{HasTaken, gives_values, rules_of}
+use Rattle.resp_codec.specs.Values.{gives_values}
 use Rattle.resp_codec.specs.declared.error.CodecError.{CodecError}
 use Rattle.resp_codec.specs.declared.value_codec.RespCodec.{RespCodec}
 

@@ -39,7 +39,7 @@ pub record ReadsOn (d : Decoder) (buffer : List ℕ) (after : Decoder) (left : L
   pub begun : IsBegun after left
 
 -- Within the first bytes of the buffer a byte is refused, the first after which nothing can follow, or no memory was
--- found. A fault that stands is answered again. The fault stands from then on, and what is left is an end of the buffer.
+-- found. A fault that stands is answered again. It stands from then on, and what is left is an end of the buffer.
 pub record Refuses (d : Decoder) (buffer : List ℕ) (fault : Fault) (after : Decoder) (left : List ℕ) : Type 0 where
   pub seen : List ℕ
   pub beyond : List ℕ

@@ -1,16 +1,8 @@
 -- A codec that reads by a decoder keeps the laws of `Decoder`.
-use Rattle.std.proofs.Common.{◌≡◌, ℕ, List, [], ◌++◌, IfSome, IfNone, IsErrAnd, Option, Some, None, Result, Ok, Err, refl, sym, inr, subst, ◌∙◌}
-use Rattle.std.proofs.lemmas.List.{append-nil}
-use Rattle.resp_value.specs.Data.{Datum}
-use Rattle.resp_scan.specs.declared.event.Fault.{Fault}
-use Rattle.resp_decode.specs.Decoding.{HasTaken}
-use Rattle.tokio_util.specs.Codec.Next.{Next, decoded, partial, at_end, Decodes, DecodesAtEnd, IsStable, PartialHasNoFrame, EndIsPartial, Resumes}
-use Rattle.tokio_util.proofs.CodecLemmas.Next.{Resumes_now}
-use Rattle.resp_codec.specs.Frames.{EndsBetween, EndsInside, EndsValue, ReadsOn, TakesAll}
+use Rattle.std.proofs.Common.{Some, None, Ok, Err}
+use Rattle.tokio_util.specs.Codec.Next.{IsStable, PartialHasNoFrame, EndIsPartial}
 use Rattle.resp_codec.specs.FrameLaws.{not_both, refusal_before, value_before}
-use Rattle.resp_codec.specs.Next.{IsSame, Reading, gives_by}
-use Rattle.resp_codec.specs.declared.error.CodecError.{CodecError}
-use Rattle.resp_codec.specs.declared.error.CodecError.TheVariants as error
+use Rattle.resp_codec.specs.Next.{Reading, gives_by}
 
 module _ {C T S : Type 0} (r : Reading C T S) where
   pub stable : IsStable (gives_by r)
