@@ -65,25 +65,7 @@ fn run(rt: &HostRuntime) -> Result<u8, AllocError> {
     let is_closed = Cell::new(false);
     let output = Output::new(rt.stdout(), &is_closed);
     let mut writer = Gathering::new(alloc, Device::new(output))?;
-    let status = match loop_explains(words.as_slice()) {
-        Some(explains) => {
-            let hasher = RandomState::new(rt).ok();
-            let mut reader = Device::new(rt.stdin());
-            run_loop(
-                rt,
-                alloc,
-                hasher,
-                explains,
-                &mut reader,
-                &mut writer,
-                &mut faults,
-            )?
-        }
-        None if is_serve(words.as_slice()) => {
-            run_serve(rt, words.as_slice(), &mut writer, &mut faults)?
-        }
-        None => run_task(rt, words.as_slice(), &mut writer, &mut faults)?,
-    };
+    let status = run_words(rt, words.as_slice(), &mut writer, &mut faults)?;
     let is_written = writer.flush().is_ok();
     if is_closed.get() {
         return Ok(DEVICE_FAILED);
@@ -95,6 +77,32 @@ fn run(rt: &HostRuntime) -> Result<u8, AllocError> {
     }
     let _ = rt.stderr().write_all(faults.bytes());
     Ok(status)
+}
+
+/// Does what the words say, and answers the status.
+fn run_words<W: LiveSink, F: Sink>(
+    rt: &HostRuntime,
+    words: &[String],
+    writer: &mut W,
+    faults: &mut F,
+) -> Result<u8, AllocError> {
+    if let Some(explains) = loop_explains(words) {
+        let hasher = RandomState::new(rt).ok();
+        let mut reader = Device::new(rt.stdin());
+        return run_loop(
+            rt,
+            rt.alloc(),
+            hasher,
+            explains,
+            &mut reader,
+            writer,
+            faults,
+        );
+    }
+    if is_serve(words) {
+        return run_serve(rt, words, writer, faults);
+    }
+    run_task(rt, words, writer, faults)
 }
 
 /// Whether a bad line is explained, where the words after the program's name are `loop` with no
