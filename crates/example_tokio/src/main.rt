@@ -1,4 +1,5 @@
-//! Reads values by a framed stream of tokio_util, and prints them; then writes one by a framed sink.
+//! Reads values by a framed stream of tokio_util, and prints them; then writes one by a framed
+//! sink.
 //!
 //! The reader and the writer are memory here. With the handles `Wait` and `Threads`, which this
 //! repository doesn't allow itself, a program runs the same futures over sockets by a runtime of

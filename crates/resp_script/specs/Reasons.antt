@@ -65,7 +65,8 @@ reason_text reasons.ManyWords = codes "a line has at most 64 words"
 reason_text reasons.Spaces = codes "one space stands between two words, and none at either end"
 reason_text reasons.UnseenByte = codes "a byte is neither a space nor printable ASCII"
 reason_text reasons.NotClients = codes "the first line is `clients N`, with N from 1 to 16"
-reason_text reasons.UnknownWord = codes "no line after the first begins with this word, but with send, hello, server, client, push, drop or flush"
+reason_text reasons.UnknownWord =
+    codes "no line after the first begins with this word, but with send, hello, server, client, push, drop or flush"
 reason_text reasons.FlushWords = codes "nothing follows flush"
 reason_text reasons.NoSuchClient = codes "the second word is the number of a client"
 reason_text (reasons.Arguments named) = arguments_text named
