@@ -87,6 +87,12 @@ impl Machine {
                             is_whole: true,
                         });
                     }
+                    if self.is_cut(beyond(piece, used)) {
+                        return Ok(Scanned {
+                            used,
+                            is_whole: false,
+                        });
+                    }
                 }
                 Turn::More => {
                     return Ok(Scanned {
@@ -133,6 +139,22 @@ impl Machine {
         self.state = State::Start;
         self.taken = 0;
         true
+    }
+
+    /// Whether the piece has ended inside the content of a value at the top, as it mostly does where
+    /// it cuts one. Asked after each event, since one more turn would cost more.
+    #[inline(always)]
+    fn is_cut(&self, rest: &[u8]) -> bool
+        ensures cut { result ≡ true →
+            out_by EventTag.More 0 self.now ≡ out_from (place_of self.now) rest.now }
+    {
+        if !self.frames.is_empty() {
+            return false;
+        }
+        let State::Content = self.state else {
+            return false;
+        };
+        rest.is_empty()
     }
 
     /// No byte is read any more.

@@ -246,14 +246,23 @@ is_done taken m s p HasHeard HasStopped text is sound out =
       );
     }
 
+-- no bytes leave a place as it is
+after_no_bytes : (m : Machine) → after_bytes 0 (place_of m) ≡ place_of m
+after_no_bytes m = ap (λ k. record (place_of m) { taken = k }) (let z : m.taken + 0 ≡ m.taken = omega arith in z)
+
 -- So is one of a machine that answers so.
 pub is_ended : {O : Type 0} (m : Machine) (s : Place) (p : List ℕ) (HasHeard HasStopped : O → Events → Type 0) → IsText p → IsSound s →
     out_by tag.Done 0 m ≡ out_from s p → IsTurn O s (place_of m) HasHeard HasHeard HasStopped p (record { used = 0; turn = turn.Done })
 is_ended {O} m s p HasHeard HasStopped text sound out =
-    let same : after_bytes 0 (place_of m) ≡ place_of m =
-    ap (λ k. record (place_of m) { taken = k }) (let z : m.taken + 0 ≡ m.taken = omega arith in z) in
-    subst (λ t. IsTurn O s t HasHeard HasHeard HasStopped p (record { used = 0; turn = turn.Done })) same
+    subst (λ t. IsTurn O s t HasHeard HasHeard HasStopped p (record { used = 0; turn = turn.Done })) (after_no_bytes m)
     (is_done (record { used = 0; tag = tag.Done }) m s p HasHeard HasStopped text refl sound out)
+
+-- So is the end of the piece.
+pub is_used_up : {O : Type 0} (m : Machine) (s : Place) (p : List ℕ) (HasHeard HasStopped : O → Events → Type 0) → IsText p → IsSound s →
+    out_by tag.More 0 m ≡ out_from s p → IsTurn O s (place_of m) HasHeard HasHeard HasStopped p (record { used = 0; turn = turn.More })
+is_used_up {O} m s p HasHeard HasStopped text sound out =
+    subst (λ t. IsTurn O s t HasHeard HasHeard HasStopped p (record { used = 0; turn = turn.More })) (after_no_bytes m)
+    (is_more (record { used = 0; tag = tag.More }) m s p HasHeard HasStopped text refl sound out)
 
 -- A byte was refused.
 pub is_failed : {O : Type 0} (taken : Taken) (m : Machine) (s : Place) (p : List ℕ) (HasHeard HasStopped : O → Events → Type 0) → IsText p →

@@ -1,4 +1,4 @@
-use Rattle.std.specs.Prelude.{Err, drop, take}
+use Rattle.std.specs.Prelude.{Err, drop, take, true}
 use Rattle.std.proofs.Common.{◌≡◌, ◌+◌, ◌<◌, ◌++◌, arith, refl, sym, ap, subst, ◌∙◌}
 use Rattle.std.proofs.lemmas.List.{length-drop}
 use Rattle.resp_scan.specs.declared.event.ScanError.TheVariants as stop
@@ -12,7 +12,7 @@ use Rattle.resp_scan.specs.Machine.Turns.{IsTurn}
 use Rattle.resp_scan.specs.Reading.{IsFaulted}
 use Rattle.resp_scan.proofs.CallClauses.Calls.{is_text}
 use Rattle.resp_scan.proofs.CallClauses.Loops.{Runs, fault_again, less_work, piece_heard, refusal_heard, runs_on, same_fault, stop_heard, value_heard, work_left}
-use Rattle.resp_scan.proofs.CallClauses.Turns.{is_ended}
+use Rattle.resp_scan.proofs.CallClauses.Turns.{is_ended, is_used_up}
 use Rattle.resp_scan.proofs.CallClauses.WholeTexts.{text_after}
 use Rattle.resp_scan.proofs.machine.Machine.scan.Given as given
 use Rattle.resp_scan.proofs.machine.Machine.scan.Goals as goal
@@ -61,6 +61,45 @@ pub returns-then-begins_anew-clause-fault_is_final : goal.returns-then-begins_an
 returns-then-begins_anew-clause-fault_is_final g c fault f =
     let r = went_on g c in
     absurd (let z : turn.Done ≡ turn.Failed = ((ended g c).dead fault (subst (λ x. IsFaulted x fault) (sym (r.dead fault f)) f)).0 in cc)
+
+-- the turns so far, where the piece has ended inside a content, and the turn that uses it up
+cut_on : (g : given.Over) (c : goal.Then-is_cut g) → Runs g.L.Listener.Origin (place_of c.args.self.now) (place_of c.turn-turned.new.self)
+    (g.L.Listener.has_heard c.args.listener.now) (g.L.Listener.has_heard c.turn-turned.new.listener) c.args.piece.now
+    (c.loop-self.used + c.turn-turned.result.used)
+cut_on g c =
+    let v = rw c.beyond.ensures at c.turn-turned.ensures.is_turn in
+    runs_on (place_of c.args.self.now) (place_of c.loop-self.self) (place_of c.turn-turned.new.self)
+    (g.L.Listener.has_heard c.args.listener.now) (g.L.Listener.has_heard c.loop-self.listener) (g.L.Listener.has_heard c.turn-turned.new.listener)
+    (g.L.Listener.has_stopped c.turn-turned.new.listener) c.args.piece.now c.loop-self.used c.turn-turned.result c.loop-self.invariant v c.in-On.is
+
+cut : (g : given.Over) (c : goal.Then-is_cut g) → c.is_cut.result ≡ true → IsTurn g.L.Listener.Origin (place_of c.turn-turned.new.self) (place_of c.begins_anew.new.self)
+    (g.L.Listener.has_heard c.turn-turned.new.listener) (g.L.Listener.has_heard c.turn-turned.new.listener)
+    (g.L.Listener.has_stopped c.turn-turned.new.listener) (drop (c.loop-self.used + c.turn-turned.result.used) c.args.piece.now)
+    (record { used = 0; turn = turn.More })
+cut g c is =
+    let same = c.begins_anew.ensures.unchanged c.if-begins_anew.false in
+    is_used_up c.begins_anew.new.self (place_of c.turn-turned.new.self) (drop (c.loop-self.used + c.turn-turned.result.used) c.args.piece.now)
+    (g.L.Listener.has_heard c.turn-turned.new.listener) (g.L.Listener.has_stopped c.turn-turned.new.listener)
+    (text_after (c.loop-self.used + c.turn-turned.result.used) c.args.piece.now (is_text c.args.piece.now (λ i. (c.type_inv.piece i).fits)))
+    (cut_on g c).sound
+    (subst (λ p. out_by tag.More 0 c.begins_anew.new.self ≡ out_from (place_of c.turn-turned.new.self) p) c.beyond-in-On-2.ensures
+    (c.is_cut.ensures.cut is ∙ ap (λ m. out_from (place_of m) c.beyond-in-On-2.result.now) same))
+
+pub returns-then-is_cut-clause-used_up : goal.returns-then-is_cut-clause-used_up
+returns-then-is_cut-clause-used_up g c since front given w had none =
+    piece_heard (place_of c.args.self.now) (place_of c.turn-turned.new.self) (place_of c.begins_anew.new.self)
+    (g.L.Listener.has_heard c.args.listener.now) (g.L.Listener.has_heard c.turn-turned.new.listener)
+    (g.L.Listener.has_heard c.turn-turned.new.listener) (g.L.Listener.has_stopped c.turn-turned.new.listener) c.args.piece.now
+    (c.loop-self.used + c.turn-turned.result.used) (record { used = 0; turn = turn.More }) (cut_on g c) (cut g c c.if-is_cut.true) refl since front given w had
+
+pub returns-then-is_cut-clause-whole_piece : goal.returns-then-is_cut-clause-whole_piece
+returns-then-is_cut-clause-whole_piece g c none =
+    omega (arith, (cut g c c.if-is_cut.true).whole_piece refl, length-drop (c.loop-self.used + c.turn-turned.result.used) c.args.piece.now, (cut_on g c).within)
+
+pub returns-then-is_cut-clause-fault_is_final : goal.returns-then-is_cut-clause-fault_is_final
+returns-then-is_cut-clause-fault_is_final g c fault f =
+    let r = cut_on g c in
+    absurd (let z : turn.More ≡ turn.Failed = ((cut g c c.if-is_cut.true).dead fault (subst (λ x. IsFaulted x fault) (sym (r.dead fault f)) f)).0 in cc)
 
 pub loop-self-smaller : goal.loop-self-smaller
 loop-self-smaller g c =
