@@ -8,7 +8,7 @@ use Rattle.resp_scan.specs.declared.event.Fault.{Fault}
 use Rattle.resp_decode.specs.Brief.{BeginsBrief, BringMemoryWants}
 use Rattle.resp_decode.specs.Decoding.{HasTaken, LacksMemory, RefusesByte, WhereTaken, rules_of}
 use Rattle.resp_decode.specs.declared.decoder.Decoder.{Decoder}
-use Rattle.resp_codec.specs.Frames.{EndsBetween, EndsInside, EndsValue, IsBegun, IsReading, IsTruncated, Refuses, TakesAll}
+use Rattle.resp_codec.specs.Frames.{EndsBetween, EndsInsideValue, ValueEnds, IsBegun, IsReading, IsTruncated, RefusesBuffer, TakesAll}
 
 -- a byte is refused, or no memory was found
 abbrev IsRefusedAfter : Rules → List ℕ → List ℕ → Fault → Type 0
@@ -41,7 +41,7 @@ refused_after r front taken seen fault (inr w) =
 module _ (d t : Decoder) (bytes : List ℕ) (reading : IsReading d)
     (takes : WhereTaken d (λ front. HasTaken t (front ++ bytes))) (same : rules_of t ≡ rules_of d) where
   pub value_after : (buffer : List ℕ) (x : Datum) (after : Decoder) (left : List ℕ) →
-      EndsValue t buffer x after left → EndsValue d (bytes ++ buffer) x after left
+      ValueEnds t buffer x after left → ValueEnds d (bytes ++ buffer) x after left
   value_after buffer x after left v = record {
     reading = reading;
     used = bytes ++ v.used;
@@ -73,7 +73,7 @@ module _ (d t : Decoder) (bytes : List ℕ) (reading : IsReading d)
   }
 
   pub refusal_after : (buffer : List ℕ) (fault : Fault) (after : Decoder) (left : List ℕ) →
-      Refuses t buffer fault after left → Refuses d (bytes ++ buffer) fault after left
+      RefusesBuffer t buffer fault after left → RefusesBuffer d (bytes ++ buffer) fault after left
   refusal_after buffer fault after left w = record {
     seen = bytes ++ w.seen;
     beyond = w.beyond;
@@ -92,7 +92,7 @@ module _ (d t : Decoder) (bytes : List ℕ) (reading : IsReading d)
   between_after buffer b = λ front taken.
       sym (append_assoc front bytes buffer) ∙ b (front ++ bytes) (takes front taken)
 
-  pub inside_after : (buffer : List ℕ) (fault : Fault) → EndsInside t buffer fault →
-      EndsInside d (bytes ++ buffer) fault
+  pub inside_after : (buffer : List ℕ) (fault : Fault) → EndsInsideValue t buffer fault →
+      EndsInsideValue d (bytes ++ buffer) fault
   inside_after buffer fault w = λ front taken.
       subst (λ z. IsTruncated z fault) (append_assoc front bytes buffer) (w (front ++ bytes) (takes front taken))

@@ -6,18 +6,18 @@ use Rattle.resp_scan.specs.declared.event.Fault.{Fault}
 use Rattle.resp_decode.specs.Decoding.{HasTaken}
 use Rattle.tokio_util.specs.Codec.Next.{Next, decoded, partial, at_end, Decodes, DecodesAtEnd, Resumes}
 use Rattle.tokio_util.proofs.CodecLemmas.Next.{Resumes_now}
-use Rattle.resp_codec.specs.Frames.{EndsBetween, EndsInside, EndsValue, ReadsOn, TakesAll}
+use Rattle.resp_codec.specs.Frames.{EndsBetween, EndsInsideValue, ValueEnds, TakesPart, TakesAll}
 use Rattle.resp_codec.proofs.After.{begun_after, between_after, inside_after, refusal_after, takes_after, value_after}
-use Rattle.resp_codec.specs.Next.{IsSame, Reading, gives_by}
+use Rattle.resp_codec.specs.Next.{IsSame, ItemReading, gives_by}
 use Rattle.resp_codec.specs.declared.error.CodecError.{CodecError}
 use Rattle.resp_codec.specs.declared.error.CodecError.TheVariants as error
 
-module _ {C T S : Type 0} (r : Reading C T S) where
+module _ {C T S : Type 0} (r : ItemReading C T S) where
   same_after : (c t u : C) → IsSame r c t → IsSame r t u → IsSame r c u
   same_after c t u first second = record { rest = second.rest ∙ first.rest; rules = second.rules ∙ first.rules }
 
   -- where the whole buffer was taken, what comes next is what comes of it with more bytes
-  pub resumes : (c : C) (buffer : List ℕ) (t : C) (left : List ℕ) → ReadsOn (r.decoder c) buffer (r.decoder t) left → IsSame r c t →
+  pub resumes : (c : C) (buffer : List ℕ) (t : C) (left : List ℕ) → TakesPart (r.decoder c) buffer (r.decoder t) left → IsSame r c t →
       Resumes (gives_by r) c buffer t left
   resumes c buffer t left on same more next h =
       let now : gives_by r t more next = subst (λ z. gives_by r t (z ++ more) next) on.takes_all.none_left h in
@@ -56,7 +56,7 @@ module _ {C T S : Type 0} (r : Reading C T S) where
       )
 
   -- what `decode` answers where no value ends
-  pub waits : (c : C) (buffer : List ℕ) (t : C) (left : List ℕ) → ReadsOn (r.decoder c) buffer (r.decoder t) left → IsSame r c t →
+  pub waits : (c : C) (buffer : List ℕ) (t : C) (left : List ℕ) → TakesPart (r.decoder c) buffer (r.decoder t) left → IsSame r c t →
       Decodes (gives_by r) c buffer (Ok None) t left
   waits c buffer t left on same = (on.begun, resumes c buffer t left on same)
 
@@ -70,8 +70,8 @@ module _ {C T S : Type 0} (r : Reading C T S) where
 
   -- where no value is given, the whole buffer is taken and no value has ended
   pub gives_or_waits : (value_of : T → Datum) → ((item : T) → r.Is item (value_of item)) → (c : C) (buffer : List ℕ) (t : C) (left : List ℕ)
-      (next : Option T) → IfSome next (λ item. EndsValue (r.decoder c) buffer (value_of item) (r.decoder t) left) →
-      IfNone next (ReadsOn (r.decoder c) buffer (r.decoder t) left) → IsSame r c t → Decodes (gives_by r) c buffer (Ok next) t left
+      (next : Option T) → IfSome next (λ item. ValueEnds (r.decoder c) buffer (value_of item) (r.decoder t) left) →
+      IfNone next (TakesPart (r.decoder c) buffer (r.decoder t) left) → IsSame r c t → Decodes (gives_by r) c buffer (Ok next) t left
   gives_or_waits value_of is c buffer t left None some none same = waits c buffer t left none same
   gives_or_waits value_of is c buffer t left (Some item) some none same = (value_of item, is item, some, same)
 
@@ -85,7 +85,7 @@ module _ {C T S : Type 0} (r : Reading C T S) where
   -- the end of the input inside a value
   pub ends_inside : (c : C) (buffer : List ℕ) (t : C) (left : List ℕ) (fault : Fault) (answer : Result (Option T) CodecError) →
       Decodes (gives_by r) c buffer (Ok None) t left → left ≡ [] → IsErrAnd answer (λ e. e ≡ error.Fault fault) →
-      EndsInside (r.decoder t) [] fault → DecodesAtEnd (gives_by r) c buffer answer t left
+      EndsInsideValue (r.decoder t) [] fault → DecodesAtEnd (gives_by r) c buffer answer t left
   ends_inside c buffer t left fault (Ok next) waiting none is inside = absurd is
   ends_inside c buffer t left fault (Err e) waiting none is inside =
       inr (Resumes_now (gives_by r) c buffer t left (at_end (Err e) t left) waiting.1 (
@@ -93,7 +93,7 @@ module _ {C T S : Type 0} (r : Reading C T S) where
         (
           fault,
           is,
-          subst (λ z. EndsInside (r.decoder t) z fault) (sym none) inside,
+          subst (λ z. EndsInsideValue (r.decoder t) z fault) (sym none) inside,
           takes_nothing t left none,
           record { rest = refl; rules = refl },
         ),

@@ -6,7 +6,7 @@ use Rattle.resp_value.specs.declared.cause.Cause.TheVariants as cause
 use Rattle.resp_scan.specs.declared.event.Fault.{Fault}
 use Rattle.resp_decode.specs.Decoding.{WhereTaken}
 use Rattle.resp_decode.specs.declared.decoder.Decoder.{Decoder}
-use Rattle.resp_codec.specs.Frames.{EndsBetween, EndsInside}
+use Rattle.resp_codec.specs.Frames.{EndsBetween, EndsInsideValue}
 
 -- between two values
 pub is_between : (d : Decoder) (ended : Result (Unit {0}) Fault) → ended ≡ Ok tt → WhereTaken d (λ front. IsOk ended ↔ (front ≡ [])) → EndsBetween d []
@@ -15,7 +15,7 @@ is_between d (Ok u) is only = λ front taken. append-nil front ∙ (only front t
 
 -- inside a value
 pub is_inside : (d : Decoder) (ended : Result (Unit {0}) Fault) (fault : Fault) → ended ≡ Err fault → WhereTaken d (λ front. IsOk ended ↔ (front ≡ [])) →
-    WhereTaken d (λ front. IfErr ended (λ f. let z : Fault = f in (z.cause ≡ cause.Truncated) × (z.at ≡ length front))) → EndsInside d [] fault
+    WhereTaken d (λ front. IfErr ended (λ f. let z : Fault = f in (z.cause ≡ cause.Truncated) × (z.at ≡ length front))) → EndsInsideValue d [] fault
 is_inside d (Ok u) fault is only truncated = cc
 is_inside d (Err other) fault is only truncated =
     let same : other ≡ fault = cc in

@@ -8,7 +8,7 @@ use Rattle.resp_value.specs.declared.value.Value.{Value}
 use Rattle.resp_scan.specs.Reading.{HasNoValue}
 use Rattle.resp_decode.specs.Decoding.{GivesValue, TakesPiece, WhereTaken, rules_of}
 use Rattle.resp_decode.specs.declared.decoder.Decoder.{Decoder}
-use Rattle.resp_codec.specs.Frames.{EndsValue, IsReading, ReadsOn}
+use Rattle.resp_codec.specs.Frames.{ValueEnds, IsReading, TakesPart}
 use Rattle.resp_codec.specs.FrameLaws.{some_front, taken_is_reading}
 
 pub if_some : {A : Type 0} (next : Option A) (P : A → Type 0) → ((x : A) → next ≡ Some x → P x) → IfSome next P
@@ -22,7 +22,7 @@ if_none (Some x) P h = tt
 -- a value that has ended
 pub value_ends : (d after : Decoder) (buffer left : List ℕ) (used : ℕ) (value : Value) → IsReading d →
     WhereTaken d (λ front. GivesValue (rules_of d) after (front ++ take used buffer) value) → left ≡ drop used buffer →
-    EndsValue d buffer (datum_of value) after left
+    ValueEnds d buffer (datum_of value) after left
 value_ends d after buffer left used value reading given is = record {
   reading = reading;
   used = take used buffer;
@@ -34,7 +34,7 @@ value_ends d after buffer left used value reading given is = record {
 -- a buffer in which none has ended
 pub buffer_taken : (d after : Decoder) (buffer left : List ℕ) (used : ℕ) → IsReading d →
     WhereTaken d (λ front. TakesPiece (rules_of d) after (front ++ buffer) buffer used) → used ≡ length buffer →
-    WhereTaken after (IsViable (rules_of after) WithinTotal) → left ≡ drop used buffer → ReadsOn d buffer after left
+    WhereTaken after (IsViable (rules_of after) WithinTotal) → left ≡ drop used buffer → TakesPart d buffer after left
 buffer_taken d after buffer left used reading given whole viable is =
     let none : left ≡ [] = is ∙ drop_all used buffer (omega (arith, whole)) in
     record {

@@ -4,9 +4,9 @@ use Rattle.resp_scan.specs.declared.event.Fault.{Fault}
 use Rattle.resp_decode.specs.Decoding.{HasTaken, rules_of}
 use Rattle.resp_decode.specs.declared.decoder.Decoder.{Decoder}
 use Rattle.tokio_util.specs.Codec.Whole.{ReadsAll, whole_frame, last_frame, no_frame}
-use Rattle.resp_codec.specs.Frames.{IsBegun, IsTruncated, Refuses}
-use Rattle.resp_codec.specs.Next.{Reading, gives_by}
-use Rattle.resp_codec.specs.Streams.{IsReadAs, IsRefused}
+use Rattle.resp_codec.specs.Frames.{IsBegun, IsTruncated, RefusesBuffer}
+use Rattle.resp_codec.specs.Next.{ItemReading, gives_by}
+use Rattle.resp_codec.specs.Streams.{IsReadAs, IsRestRefused}
 use Rattle.resp_codec.specs.declared.error.CodecError.{CodecError}
 
 some_bytes : (part : List ℕ) → (part ≡ [] → ⊥) → 0 < length part
@@ -14,12 +14,12 @@ some_bytes [] begun = absurd (begun refl)
 some_bytes (byte ∷ part) begun = omega arith
 
 -- what is refused between two values
-refused : (d after : Decoder) (input : List ℕ) (fault : Fault) (left : List ℕ) → HasTaken d [] → Refuses d input fault after left →
-    IsRefused (rules_of d) input fault
+refused : (d after : Decoder) (input : List ℕ) (fault : Fault) (left : List ℕ) → HasTaken d [] → RefusesBuffer d input fault after left →
+    IsRestRefused (rules_of d) input fault
 refused d after input fault left taken w = inl (w.seen, w.beyond, w.begins, w.refused [] taken)
 
 -- an input that ends inside its first value
-truncated : (d : Decoder) (input : List ℕ) (fault : Fault) → HasTaken d [] → IsBegun d input → IsTruncated input fault → IsRefused (rules_of d) input fault
+truncated : (d : Decoder) (input : List ℕ) (fault : Fault) → HasTaken d [] → IsBegun d input → IsTruncated input fault → IsRestRefused (rules_of d) input fault
 truncated d input fault taken b w = inr (record {
   names = w.names;
   place = w.place;
@@ -28,7 +28,7 @@ truncated d input fault taken b w = inr (record {
   no_value = b.no_value [] taken;
 })
 
-module _ {C T S : Type 0} (r : Reading C T S) where
+module _ {C T S : Type 0} (r : ItemReading C T S) where
   pub is_read : (c : C) (input : List ℕ) (items : List (Result T CodecError)) → HasTaken (r.decoder c) [] → ReadsAll (gives_by r) c input items →
       IsReadAs r.Is (rules_of (r.decoder c)) input items
   is_read _ _ _ taken (whole_frame c input (Ok item) t left items (x, is, ends, same) later) = (

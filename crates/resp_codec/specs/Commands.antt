@@ -9,7 +9,7 @@ use Rattle.resp_session.specs.Asked.{IfCommand, meaning_in}
 use Rattle.resp_session.specs.Commands.{meaning_of}
 use Rattle.resp_session.specs.declared.words.Asked.{Asked}
 use Rattle.tokio_util.specs.Codec.Next.{Gives}
-use Rattle.resp_codec.specs.Next.{Reading, gives_by}
+use Rattle.resp_codec.specs.Next.{ItemReading, gives_by}
 use Rattle.resp_codec.specs.Values.{RefusesToWrite, Settings, Writes}
 use Rattle.resp_codec.specs.declared.command_codec.CommandCodec.{CommandCodec}
 use Rattle.resp_codec.specs.declared.error.CodecError.{CodecError}
@@ -31,7 +31,7 @@ abbrev pub HasFault : CommandCodec → Fault → Type 0
 HasFault c fault = decoding.HasFault c.decoder fault
 
 -- it reads on as the other does, whatever that has taken
-pub record ReadsAs (old new : CommandCodec) : Type 0 where
+pub record KeepsReading (old new : CommandCodec) : Type 0 where
   pub taken : (front : List ℕ) → HasTaken old front → HasTaken new front
   pub fault : (fault : Fault) → HasFault old fault → HasFault new fault
   pub rules : reads_by new ≡ reads_by old
@@ -41,7 +41,7 @@ abbrev pub Asks : Asked → Datum → Type 0
 Asks asked x = (meaning_in asked ≡ meaning_of x) × IfCommand asked (λ words. 0 < length words)
 
 -- it reads what values ask
-abbrev pub reading_commands : Reading CommandCodec Asked Settings
+abbrev pub reading_commands : ItemReading CommandCodec Asked Settings
 reading_commands = record {
   decoder = λ c. c.decoder;
   rest = λ c. record { version = c.version; limits = c.limits };

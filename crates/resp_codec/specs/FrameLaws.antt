@@ -8,7 +8,7 @@ use Rattle.resp_scan.specs.declared.event.Fault.{Fault}
 use Rattle.resp_decode.specs.Decoding.{HasTaken, WhereTaken, rules_of}
 use Rattle.resp_decode.specs.Standing.{TakesOrStands}
 use Rattle.resp_decode.specs.declared.decoder.Decoder.{Decoder}
-use Rattle.resp_codec.specs.Frames.{EndsValue, IsBegun, IsReading, Refuses}
+use Rattle.resp_codec.specs.Frames.{ValueEnds, IsBegun, IsReading, RefusesBuffer}
 
 -- no front was taken where a fault stands
 pub taken_is_reading : (d : Decoder) (front : List ℕ) → HasTaken d front → IsReading d
@@ -27,7 +27,7 @@ some_front d reading none = ∥∥₁_elim d.reading (λ a b. absurd a) of
 
 -- a buffer in which a value ends isn't one in which none does
 pub not_both : (d : Decoder) (buffer : List ℕ) (x : Datum) (after : Decoder) (left : List ℕ) → IsBegun d buffer →
-    EndsValue d buffer x after left → ⊥
+    ValueEnds d buffer x after left → ⊥
 not_both d buffer x after left b v = some_front d b.reading (λ front taken.
     let s = v.spelling front taken in
     let n = length (front ++ v.used) in
@@ -40,7 +40,7 @@ not_both d buffer x after left b v = some_front d b.reading (λ front taken.
 -- More bytes after the buffer.
 
 pub value_before : (d : Decoder) (buffer : List ℕ) (x : Datum) (after : Decoder) (left more : List ℕ) →
-    EndsValue d buffer x after left → EndsValue d (buffer ++ more) x after (left ++ more)
+    ValueEnds d buffer x after left → ValueEnds d (buffer ++ more) x after (left ++ more)
 value_before d buffer x after left more v = record {
   reading = v.reading;
   used = v.used;
@@ -50,7 +50,7 @@ value_before d buffer x after left more v = record {
 }
 
 pub refusal_before : (d : Decoder) (buffer : List ℕ) (fault : Fault) (after : Decoder) (left more : List ℕ) →
-    Refuses d buffer fault after left → Refuses d (buffer ++ more) fault after (left ++ more)
+    RefusesBuffer d buffer fault after left → RefusesBuffer d (buffer ++ more) fault after (left ++ more)
 refusal_before d buffer fault after left more w = record {
   seen = w.seen;
   beyond = w.beyond ++ more;

@@ -14,7 +14,7 @@ abbrev pub IsReading : Decoder → Type 0
 IsReading d = (fault : Fault) → HasFault d fault → ⊥
 
 -- a value ends in the buffer: with the bytes used, what was taken is a spelling of it, and nothing is taken of the next
-pub record EndsValue (d : Decoder) (buffer : List ℕ) (x : Datum) (after : Decoder) (left : List ℕ) : Type 0 where
+pub record ValueEnds (d : Decoder) (buffer : List ℕ) (x : Datum) (after : Decoder) (left : List ℕ) : Type 0 where
   pub reading : IsReading d
   pub used : List ℕ
   pub whole : buffer ≡ used ++ left
@@ -33,14 +33,14 @@ pub record TakesAll (d : Decoder) (buffer : List ℕ) (after : Decoder) (left : 
   pub takes : WhereTaken d (λ front. HasTaken after (front ++ buffer))
 
 -- no value ends in the buffer, which is taken
-pub record ReadsOn (d : Decoder) (buffer : List ℕ) (after : Decoder) (left : List ℕ) : Type 0 where
+pub record TakesPart (d : Decoder) (buffer : List ℕ) (after : Decoder) (left : List ℕ) : Type 0 where
   pub reading : IsReading d
   pub takes_all : TakesAll d buffer after left
   pub begun : IsBegun after left
 
 -- Within the first bytes of the buffer a byte is refused, the first after which nothing can follow, or no memory was
 -- found. A fault that stands is answered again. It stands from then on, and what is left is an end of the buffer.
-pub record Refuses (d : Decoder) (buffer : List ℕ) (fault : Fault) (after : Decoder) (left : List ℕ) : Type 0 where
+pub record RefusesBuffer (d : Decoder) (buffer : List ℕ) (fault : Fault) (after : Decoder) (left : List ℕ) : Type 0 where
   pub seen : List ℕ
   pub beyond : List ℕ
   pub begins : buffer ≡ seen ++ beyond
@@ -62,5 +62,5 @@ pub record IsTruncated (part : List ℕ) (fault : Fault) : Type 0 where
   pub begun : part ≡ [] → ⊥
 
 -- the input ends inside a value
-abbrev pub EndsInside : Decoder → List ℕ → Fault → Type 0
-EndsInside d buffer fault = WhereTaken d (λ front. IsTruncated (front ++ buffer) fault)
+abbrev pub EndsInsideValue : Decoder → List ℕ → Fault → Type 0
+EndsInsideValue d buffer fault = WhereTaken d (λ front. IsTruncated (front ++ buffer) fault)

@@ -5,28 +5,28 @@ use Rattle.resp_scan.specs.declared.event.Fault.{Fault}
 use Rattle.resp_decode.specs.Decoding.{rules_of}
 use Rattle.resp_decode.specs.declared.decoder.Decoder.{Decoder}
 use Rattle.tokio_util.specs.Codec.Next.{Gives, decoded, partial, at_end}
-use Rattle.resp_codec.specs.Frames.{EndsBetween, EndsInside, EndsValue, IsBegun, Refuses, TakesAll}
+use Rattle.resp_codec.specs.Frames.{EndsBetween, EndsInsideValue, ValueEnds, IsBegun, RefusesBuffer, TakesAll}
 use Rattle.resp_codec.specs.declared.error.CodecError.{CodecError}
 use Rattle.resp_codec.specs.declared.error.CodecError.TheVariants as error
 
 -- how a codec C reads items T: by this decoder, keeping the rest of it, and each item stands for these values
-pub record Reading (C T S : Type 0) : Type 1 where
+pub record ItemReading (C T S : Type 0) : Type 1 where
   pub decoder : C → Decoder
   pub rest : C → S
   pub Is : T → Datum → Type 0
 
 -- what isn't of the value that is being read is as it was
-pub record IsSame {C T S : Type 0} (r : Reading C T S) (c t : C) : Type 0 where
+pub record IsSame {C T S : Type 0} (r : ItemReading C T S) (c t : C) : Type 0 where
   pub rest : r.rest t ≡ r.rest c
   pub rules : rules_of (r.decoder t) ≡ rules_of (r.decoder c)
 
 -- What comes next: the item of the value that ends in the buffer; the error of a fault; at the end of the input nothing
 -- between two values, and the error of Truncated inside one.
-abbrev pub gives_by : {C T S : Type 0} → Reading C T S → Gives C T CodecError
+abbrev pub gives_by : {C T S : Type 0} → ItemReading C T S → Gives C T CodecError
 gives_by r c buffer (decoded (Ok item) t left) =
-    (x : Datum) × r.Is item x × EndsValue (r.decoder c) buffer x (r.decoder t) left × IsSame r c t
+    (x : Datum) × r.Is item x × ValueEnds (r.decoder c) buffer x (r.decoder t) left × IsSame r c t
 gives_by r c buffer (decoded (Err e) t left) =
-    (fault : Fault) × (e ≡ error.Fault fault) × Refuses (r.decoder c) buffer fault (r.decoder t) left × IsSame r c t
+    (fault : Fault) × (e ≡ error.Fault fault) × RefusesBuffer (r.decoder c) buffer fault (r.decoder t) left × IsSame r c t
 gives_by r c buffer partial = IsBegun (r.decoder c) buffer
 gives_by r c buffer (at_end (Ok (Some item)) t left) = ⊥
 gives_by r c buffer (at_end (Ok None) t left) =
@@ -34,5 +34,5 @@ gives_by r c buffer (at_end (Ok None) t left) =
     IsSame r c t
 gives_by r c buffer (at_end (Err e) t left) =
     IsBegun (r.decoder c) buffer ×
-    ((fault : Fault) × (e ≡ error.Fault fault) × EndsInside (r.decoder c) buffer fault ×
+    ((fault : Fault) × (e ≡ error.Fault fault) × EndsInsideValue (r.decoder c) buffer fault ×
     TakesAll (r.decoder c) buffer (r.decoder t) left × IsSame r c t)

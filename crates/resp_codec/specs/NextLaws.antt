@@ -2,9 +2,9 @@
 use Rattle.std.proofs.Common.{Some, None, Ok, Err}
 use Rattle.tokio_util.specs.Codec.Next.{IsStable, PartialHasNoFrame, EndIsPartial}
 use Rattle.resp_codec.specs.FrameLaws.{not_both, refusal_before, value_before}
-use Rattle.resp_codec.specs.Next.{Reading, gives_by}
+use Rattle.resp_codec.specs.Next.{ItemReading, gives_by}
 
-module _ {C T S : Type 0} (r : Reading C T S) where
+module _ {C T S : Type 0} (r : ItemReading C T S) where
   pub stable : IsStable (gives_by r)
   stable c buffer (Ok item) t left more (x, is, v, same) =
       (x, is, value_before (r.decoder c) buffer x (r.decoder t) left more v, same)

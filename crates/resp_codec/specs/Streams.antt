@@ -21,8 +21,8 @@ use Rattle.resp_codec.specs.declared.error.CodecError.TheVariants as error
 use Rattle.resp_codec.specs.declared.value_codec.RespCodec.{RespCodec}
 
 -- the rest of an input is refused as the value that it begins: within its first bytes, or where it ends
-abbrev pub IsRefused : Rules → List ℕ → Fault → Type 0
-IsRefused r rest fault =
+abbrev pub IsRestRefused : Rules → List ℕ → Fault → Type 0
+IsRestRefused r rest fault =
     ((seen : List ℕ) × (beyond : List ℕ) × (rest ≡ seen ++ beyond) ×
     (RefusesByte r [] seen fault ⊎ LacksMemory r [] seen fault)) ⊎ EndsInside r rest fault
 
@@ -31,7 +31,7 @@ abbrev pub IsReadAs : {T : Type 0} → (T → Datum → Type 0) → Rules → Li
 IsReadAs Is r input [] = input ≡ []
 IsReadAs Is r input (Ok item ∷ items) = (x : Datum) × (front : List ℕ) × (rest : List ℕ) × Is item x ×
     IsSpelling r x front × IsReadAs Is r rest items × (input ≡ front ++ rest)
-IsReadAs Is r input (Err e ∷ items) = (fault : Fault) × (e ≡ error.Fault fault) × IsRefused r input fault
+IsReadAs Is r input (Err e ∷ items) = (fault : Fault) × (e ≡ error.Fault fault) × IsRestRefused r input fault
 
 -- an input that is there whole is read as the values that it spells
 abbrev pub AStreamIsItsValues : Type 0

@@ -14,7 +14,7 @@ use Rattle.resp_encode.specs.Refusals.{IsFirstFault}
 use Rattle.resp_encode.specs.declared.error.EncodeError.{EncodeError}
 use Rattle.resp_encode.specs.declared.error.EncodeError.TheVariants.{OutOfMemory}
 use Rattle.tokio_util.specs.Codec.Next.{Gives}
-use Rattle.resp_codec.specs.Next.{Reading, gives_by}
+use Rattle.resp_codec.specs.Next.{ItemReading, gives_by}
 use Rattle.resp_codec.specs.declared.error.CodecError.{CodecError}
 use Rattle.resp_codec.specs.declared.error.CodecError.TheVariants as error
 use Rattle.resp_codec.specs.declared.value_codec.RespCodec.{RespCodec}
@@ -45,7 +45,7 @@ abbrev pub Holds : Value → Datum → Type 0
 Holds value x = datum_of value ≡ x
 
 -- it reads values as they are
-abbrev pub reading_values : Reading RespCodec Value Settings
+abbrev pub reading_values : ItemReading RespCodec Value Settings
 reading_values = record {
   decoder = λ c. c.decoder;
   rest = λ c. record { version = c.version; limits = c.limits };

@@ -3,7 +3,7 @@
 ghost use Rattle.std.specs.Prelude.{◌≡◌, IfOk, IfErr, IfSome, IfNone};
 ghost use Rattle.resp_value.specs.Values.{datum_of};
 ghost use Rattle.resp_decode.specs.Decoding.{rules_of};
-ghost use Rattle.resp_codec.specs.Frames.{EndsValue, ReadsOn, Refuses};
+ghost use Rattle.resp_codec.specs.Frames.{ValueEnds, TakesPart, RefusesBuffer};
 
 use bytes::BytesMut;
 use resp_decode::Decoder;
@@ -13,11 +13,11 @@ use resp_value::value::Value;
 /// The value that ends in the buffer, whose bytes it takes. Else it takes all bytes.
 pub(crate) fn next_value(decoder: &mut Decoder, src: &mut BytesMut) -> Result<Option<Value>, Fault>
     ensures value { IfOk result (λ next. IfSome next (λ value.
-        EndsValue decoder.old src.old.items (datum_of value) decoder.new src.new.items)) }
+        ValueEnds decoder.old src.old.items (datum_of value) decoder.new src.new.items)) }
     ensures none { IfOk result (λ next. IfNone next
-        (ReadsOn decoder.old src.old.items decoder.new src.new.items)) }
+        (TakesPart decoder.old src.old.items decoder.new src.new.items)) }
     ensures refused { IfErr result (λ fault.
-        Refuses decoder.old src.old.items fault decoder.new src.new.items) }
+        RefusesBuffer decoder.old src.old.items fault decoder.new src.new.items) }
     ensures same_rules { rules_of decoder.new ≡ rules_of decoder.old }
 {
     let fed = match decoder.feed(src.as_slice()) {
