@@ -4,3 +4,4 @@ pub mod Answering
 pub mod Ending
 pub mod Streams
 pub mod Written
+pub mod Framed
