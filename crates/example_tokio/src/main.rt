@@ -1,10 +1,13 @@
 //! Reads values by a framed stream of tokio_util, and prints them; then writes one by a framed
-//! sink.
+//! sink. At last a client sends a pipeline of commands, and a server answers them.
 //!
 //! The reader and the writer are memory here. With the handles `Wait` and `Threads`, which this
 //! repository doesn't allow itself, a program runs the same futures over sockets by a runtime of
 //! tokio, with `block_on` in place of `now_or_never`.
 #![tactic(auto)]
+
+mod pipeline;
+mod server;
 
 use anyhow::Result;
 use futures::{FutureExt, SinkExt, StreamExt};
@@ -15,7 +18,8 @@ use tokio_util::codec::{FramedRead, FramedWrite};
 fn main(rt: HostRuntime) -> Result<()> {
     let limits = Limits::standard();
     read_values(&rt, &limits)?;
-    write_value(&rt, &limits)
+    write_value(&rt, &limits)?;
+    pipeline::run(&rt, &limits)
 }
 
 /// Prints the values of a stream, and the fault of what follows them.

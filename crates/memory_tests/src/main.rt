@@ -8,6 +8,7 @@
 mod decoding;
 mod encoding;
 mod engines;
+mod framing;
 mod given;
 mod outcome;
 mod pipelining;
@@ -110,6 +111,14 @@ fn of_wire(alloc: Global) -> [Part; 3] {
     ]
 }
 
+fn of_codecs(alloc: Global) -> [Part; 3] {
+    [
+        ("framed values in", framing::of_values_in(alloc)),
+        ("framed commands in", framing::of_commands_in(alloc)),
+        ("framed replies out", framing::of_replies_out(alloc)),
+    ]
+}
+
 fn main(rt: HostRuntime) -> Result<()> {
     let alloc = rt.alloc();
     allocate(alloc, count_input(&mut rt.stdin())?)?;
@@ -117,5 +126,6 @@ fn main(rt: HostRuntime) -> Result<()> {
     print(&rt, &of_encoder(alloc))?;
     print(&rt, &of_client(alloc))?;
     print(&rt, &of_hub(alloc))?;
-    print(&rt, &of_wire(alloc))
+    print(&rt, &of_wire(alloc))?;
+    print(&rt, &of_codecs(alloc))
 }

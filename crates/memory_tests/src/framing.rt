@@ -1,0 +1,118 @@
+//! Parts on the codecs for framed streams.
+
+use crate::decoding::values;
+use crate::encoding::{SAMPLE, is_written_so};
+use crate::outcome::Outcome;
+use bytes::BytesMut;
+use resp_codec::{CodecError, CommandCodec, RespCodec};
+use resp_encode::EncodeError;
+use resp_session::words::Asked;
+use resp_value::cause::Cause;
+use resp_value::limits::Limits;
+use resp_value::value::Value;
+use resp_value::version::Version;
+use std::alloc::Global;
+use tokio_util::codec::{Decoder, Encoder};
+
+/// What a buffer holds before a frame is appended.
+const BEFORE: &[u8] = b"+a\r\n";
+
+/// How many bytes of a text come at once.
+const PIECE: usize = 16;
+
+/// Whether it is a refusal of a growth, after which the buffer is empty.
+fn is_refusal(error: &CodecError, buffer: &BytesMut) -> bool {
+    match error {
+        CodecError::Fault(fault) => fault.cause == Cause::OutOfMemory && buffer.is_empty(),
+        _ => false,
+    }
+}
+
+/// Whether the codec of values answers so again, whatever comes.
+fn stays_refused(codec: &mut RespCodec, buffer: &mut BytesMut) -> bool {
+    match codec.decode(buffer) {
+        Ok(_) => false,
+        Err(again) => is_refusal(&again, buffer),
+    }
+}
+
+/// The value that ends with the last piece of a text, where each piece is added to the buffer.
+fn read(
+    codec: &mut RespCodec,
+    text: &[u8],
+    buffer: &mut BytesMut,
+) -> Result<Option<Value>, Outcome> {
+    let mut last = None;
+    for piece in text.chunks(PIECE) {
+        if buffer.extend_from_slice(piece).is_err() {
+            return Err(Outcome::OutOfMemory);
+        }
+        last = match codec.decode(buffer) {
+            Ok(value) => value,
+            Err(error) => {
+                let refused = is_refusal(&error, buffer) && stays_refused(codec, buffer);
+                return Err(Outcome::refused(refused));
+            }
+        };
+    }
+    Ok(last)
+}
+
+pub(crate) fn of_values_in(alloc: Global) -> Outcome {
+    let mut codec = RespCodec::new(alloc, Version::Three, &Limits::standard());
+    match read(&mut codec, SAMPLE, &mut BytesMut::new(alloc)) {
+        Ok(Some(value)) => is_written_so(alloc, &value, SAMPLE),
+        Ok(None) => Outcome::Wrong,
+        Err(outcome) => outcome,
+    }
+}
+
+/// Whether it is a command of these two words.
+fn is_get(asked: &Asked) -> bool {
+    match asked {
+        Asked::Command(words) => {
+            words.len() == 2
+                && words.word(0) == b"GET".as_slice()
+                && words.word(1) == b"a".as_slice()
+        }
+        _ => false,
+    }
+}
+
+pub(crate) fn of_commands_in(alloc: Global) -> Outcome {
+    let mut codec = CommandCodec::new(alloc, &Limits::standard());
+    let Ok(mut buffer) = BytesMut::copy_from_slice(alloc, b"*2\r\n$3\r\nGET\r\n$1\r\na\r\n+") else {
+        return Outcome::OutOfMemory;
+    };
+    match codec.decode(&mut buffer) {
+        Ok(Some(asked)) => Outcome::of(is_get(&asked) && buffer.as_slice() == b"+".as_slice()),
+        Ok(None) => Outcome::Wrong,
+        Err(error) => Outcome::refused(is_refusal(&error, &buffer)),
+    }
+}
+
+/// What came of appending a value's frame to what stood in a buffer.
+fn is_framed(alloc: Global, value: Value, text: &[u8]) -> Outcome {
+    let Ok(mut out) = BytesMut::copy_from_slice(alloc, BEFORE) else {
+        return Outcome::OutOfMemory;
+    };
+    let mut codec = CommandCodec::new(alloc, &Limits::standard());
+    codec.set_version(Version::Three);
+    match codec.encode(value, &mut out) {
+        Ok(()) => Outcome::of(out.as_slice().strip_prefix(BEFORE) == Some(text)),
+        Err(CodecError::Refused(EncodeError::OutOfMemory)) => {
+            Outcome::refused(out.as_slice() == BEFORE)
+        }
+        Err(_) => Outcome::Wrong,
+    }
+}
+
+pub(crate) fn of_replies_out(alloc: Global) -> Outcome {
+    match values(alloc, SAMPLE) {
+        Ok(mut read) => match read.pop() {
+            Some(value) => is_framed(alloc, value, SAMPLE),
+            None => Outcome::Wrong,
+        },
+        Err(_) => Outcome::OutOfMemory,
+    }
+}
