@@ -1,12 +1,14 @@
-//! How long the encoder, the scanner, the decoder, the client and the server take, to be compared
-//! with others.
+//! How long the encoder, the scanner, the decoder, the client, the server and the codecs take, to be
+//! compared with others.
 //!
-//! The arguments name a part, `encode`, `scan`, `client`, `server` or `grow`, and what it is to do.
+//! The arguments name a part, `encode`, `scan`, `client`, `server`, `framed` or `grow`, and what it
+//! is to do.
 //! With no argument each part counts what it does with short texts, the same on every run.
 #![tactic(auto)]
 
 mod client;
 mod encode;
+mod framed;
 mod grow;
 mod scan;
 mod server;
@@ -28,7 +30,7 @@ fn nanos(rt: &HostRuntime) -> Result<u128> {
 
 /// Runs the parts that the words name, or each where they name none.
 fn bench(rt: &HostRuntime, words: &[String]) -> Result<()> {
-    let names = ["encode", "scan", "client", "server", "grow"];
+    let names = ["encode", "scan", "client", "server", "framed", "grow"];
     let all = !names.iter().any(|name| has(words, name));
     for name in names {
         if all || has(words, name) {
@@ -44,6 +46,7 @@ fn bench_part(rt: &HostRuntime, name: &str, words: &[String]) -> Result<()> {
         "scan" => scan::bench(rt, words),
         "client" => client::bench(rt, words),
         "server" => server::bench(rt, words),
+        "framed" => framed::bench(rt, words),
         _ => grow::bench(rt, words),
     }
 }

@@ -1,0 +1,268 @@
+//! How long framed streams take for GETs and their replies, beside `serve` and `ask` over memory.
+//!
+//! A text of commands is read by a framed stream and each is answered null into a buffer, and
+//! `serve` answers the same text from an empty hub. A text of replies is read by a framed stream and
+//! their commands are encoded into a buffer, and `ask` sends the same commands in pipelines and
+//! hears the replies. Then a bulk string comes in pieces of one byte. What was counted is printed,
+//! the same on every run. With the argument `times` there are a million commands, and nanoseconds
+//! are printed too.
+
+use crate::server::{Kind, command as text_of, new_hub};
+use crate::{has, nanos};
+use anyhow::Result;
+use bytes::BytesMut;
+use futures::stream::ReadyChunks;
+use futures::{FutureExt, Stream, StreamExt};
+use resp_client::client::Client;
+use resp_codec::{CommandCodec, RespCodec};
+use resp_value::command::Command;
+use resp_value::content::Content;
+use resp_value::device::{MemorySink, MemorySource};
+use resp_value::limits::Limits;
+use resp_value::value::{Members, Value};
+use resp_value::version::Version;
+use resp_wire::ask::ask;
+use resp_wire::serve::serve;
+use resp_wire::{Asked, Request};
+use std::alloc::{AllocError, Global};
+use tokio_util::codec::{Decoder, Encoder, FramedRead};
+
+/// How many bytes a reader gives at once.
+const PIECE: usize = 16_384;
+
+/// How many items of a stream are taken at once, and how many commands are in a pipeline of `ask`.
+const ITEMS: usize = 100;
+
+/// A reply, a bulk string of 16 bytes.
+const REPLY: &[u8] = b"$16\r\nxxxxxxxxxxxxxxxx\r\n";
+
+/// Appends what is written for a number of items to a buffer, which is emptied once it is full.
+trait Answers {
+    fn answer(&mut self, alloc: Global, count: usize, out: &mut BytesMut) -> Result<()>;
+}
+
+/// `count` times this text.
+fn repeated(alloc: Global, text: &[u8], count: usize) -> Result<Vec<u8>> {
+    let mut all = Vec::new(alloc);
+    for _ in 0..count {
+        all.extend_from_slice(text)?;
+    }
+    Ok(all)
+}
+
+/// The value that a client sends for `GET key:NNNNNNNNNNNN`.
+fn get(alloc: Global) -> Result<Value, AllocError> {
+    let name = Value::Bulk(Content::new(b"GET".to_vec(alloc)?));
+    let key = Value::Bulk(Content::new(b"key:000000000001".to_vec(alloc)?));
+    Ok(Value::Array(Members::new(vec![in alloc; name, key]?)))
+}
+
+/// A server that answers null.
+#[derive(Drop)]
+struct Nulls {
+    codec: CommandCodec,
+}
+
+impl Answers for Nulls {
+    fn answer(&mut self, _alloc: Global, count: usize, out: &mut BytesMut) -> Result<()> {
+        for _ in 0..count {
+            self.codec.encode(Value::Null, out)?;
+        }
+        Ok(())
+    }
+}
+
+/// A client that sends GETs.
+#[derive(Drop)]
+struct Gets {
+    codec: RespCodec,
+}
+
+impl Answers for Gets {
+    fn answer(&mut self, alloc: Global, count: usize, out: &mut BytesMut) -> Result<()> {
+        for _ in 0..count {
+            self.codec.encode(get(alloc)?, out)?;
+        }
+        Ok(())
+    }
+}
+
+/// Takes all items of a stream, and answers each. How many there were, and how many bytes were
+/// written.
+fn converse<S: Stream, A: Answers>(
+    rt: &HostRuntime,
+    mut items: ReadyChunks<S, S::Item>,
+    answers: &mut A,
+) -> Result<(usize, usize)>
+where
+    S::Item: Drop,
+{
+    let mut out = BytesMut::new(rt.alloc());
+    let mut count: usize = 0;
+    let mut written: usize = 0;
+    for _ in 0..u64::MAX {
+        match items.next().now_or_never(rt)? {
+            Some(Some(chunk)) => {
+                let items = chunk?.len();
+                count = count.saturating_add(items);
+                answers.answer(rt.alloc(), items, &mut out)?;
+            }
+            Some(None) => break,
+            None => {}
+        }
+        written = written.saturating_add(out.len());
+        out.clear();
+    }
+    Ok((count, written))
+}
+
+/// A line of what was counted, with the nanoseconds of one where it is timed.
+fn print_line(
+    rt: &HostRuntime,
+    timed: bool,
+    name: &str,
+    counted: (usize, usize),
+    nanos: u128,
+) -> Result<()> {
+    let (count, written) = counted;
+    print!(rt; "{name}: {count} commands, {written} bytes written;")?;
+    if timed {
+        print!(rt; " {} ns", nanos / (count.max(1) as u128))?;
+    }
+    println!(rt; "")?;
+    Ok(())
+}
+
+/// A server's end: a framed stream of commands, and `serve`.
+fn bench_servers(rt: &HostRuntime, timed: bool, count: usize) -> Result<()> {
+    let alloc = rt.alloc();
+    let one = text_of(alloc, Kind::Get, 1)?;
+    let text = repeated(alloc, one.as_bytes(), count)?;
+    let mut nulls = Nulls {
+        codec: CommandCodec::new(alloc, &Limits::standard()),
+    };
+    let start = nanos(rt)?;
+    let codec = CommandCodec::new(alloc, &Limits::standard());
+    let read = FramedRead::with_capacity(alloc, text.as_slice(), codec, PIECE)?;
+    let counted = converse(rt, read.ready_chunks(alloc, ITEMS), &mut nulls)?;
+    let taken = nanos(rt)?.saturating_sub(start);
+    print_line(rt, timed, "commands by a framed stream", counted, taken)?;
+    let mut hub = new_hub(alloc);
+    let id = hub.open()?;
+    let mut writer = MemorySink::new(alloc, PIECE, count.saturating_mul(5))?;
+    let start = nanos(rt)?;
+    let mut reader = MemorySource::new(text.as_slice(), PIECE);
+    serve(&mut reader, &mut writer, &mut hub, id, u64::MAX)?;
+    let taken = nanos(rt)?.saturating_sub(start);
+    let written = writer.bytes().len();
+    print_line(rt, timed, "commands by serve", (count, written), taken)
+}
+
+/// A pipeline of GETs.
+fn pipeline(alloc: Global) -> Result<Vec<Request>> {
+    let mut requests = Vec::new(alloc);
+    for _ in 0..ITEMS {
+        let name = b"GET".to_vec(alloc)?;
+        let key = b"key:000000000001".to_vec(alloc)?;
+        let command = Command::new(vec![in alloc; name, key]?)?;
+        requests.push(Request::Command(command))?;
+    }
+    Ok(requests)
+}
+
+/// Asks so many pipelines, and answers how many replies were heard and how many bytes were written.
+fn ask_all(
+    rt: &HostRuntime,
+    requests: &[Request],
+    text: &[u8],
+    pipelines: usize,
+) -> Result<(usize, usize)> {
+    let alloc = rt.alloc();
+    let mut client = Client::new(alloc, &Limits::standard());
+    let mut heard: usize = 0;
+    let mut written: usize = 0;
+    for _ in 0..pipelines {
+        let mut asked = Asked::new(alloc);
+        let mut reader = MemorySource::new(text, PIECE);
+        let mut writer = MemorySink::new(alloc, PIECE, PIECE)?;
+        ask(
+            &mut reader,
+            &mut writer,
+            &mut client,
+            requests,
+            &mut asked,
+            u64::MAX,
+        )?;
+        heard = heard.saturating_add(asked.replies.len());
+        written = written.saturating_add(writer.bytes().len());
+    }
+    Ok((heard, written))
+}
+
+/// A client's end: a framed stream of replies, and `ask`.
+fn bench_clients(rt: &HostRuntime, timed: bool, count: usize) -> Result<()> {
+    let alloc = rt.alloc();
+    let limits = Limits::standard();
+    let text = repeated(alloc, REPLY, count)?;
+    let mut gets = Gets {
+        codec: RespCodec::new(alloc, Version::Two, &limits),
+    };
+    let start = nanos(rt)?;
+    let codec = RespCodec::new(alloc, Version::Two, &limits);
+    let read = FramedRead::with_capacity(alloc, text.as_slice(), codec, PIECE)?;
+    let counted = converse(rt, read.ready_chunks(alloc, ITEMS), &mut gets)?;
+    let taken = nanos(rt)?.saturating_sub(start);
+    print_line(rt, timed, "replies by a framed stream", counted, taken)?;
+    let requests = pipeline(alloc)?;
+    let replies = repeated(alloc, REPLY, ITEMS)?;
+    let start = nanos(rt)?;
+    let counted = ask_all(rt, requests.as_slice(), replies.as_slice(), count / ITEMS)?;
+    let taken = nanos(rt)?.saturating_sub(start);
+    print_line(rt, timed, "replies by ask", counted, taken)
+}
+
+/// Feeds a codec a text byte by byte, and answers how many values came.
+fn by_single_bytes(alloc: Global, text: &[u8]) -> Result<usize> {
+    let mut codec = RespCodec::new(alloc, Version::Two, &Limits::standard());
+    let mut buffer = BytesMut::new(alloc);
+    let mut values: usize = 0;
+    for byte in text {
+        buffer.extend_from_slice(&[*byte])?;
+        if codec.decode(&mut buffer)?.is_some() {
+            values = values.saturating_add(1);
+        }
+    }
+    Ok(values)
+}
+
+/// A bulk string that comes in pieces of one byte. What a byte takes is to be the same for each
+/// length.
+fn bench_bytes(rt: &HostRuntime, timed: bool, length: usize) -> Result<()> {
+    let alloc = rt.alloc();
+    let mut text = format!(in alloc; "${length}\r\n")?.into_bytes();
+    text.extend_from_slice(repeated(alloc, b"x", length)?.as_slice())?;
+    text.extend_from_slice(b"\r\n")?;
+    let start = nanos(rt)?;
+    let values = by_single_bytes(alloc, text.as_slice())?;
+    let taken = nanos(rt)?.saturating_sub(start);
+    print!(rt; "a bulk string of {length} by single bytes: {values} value;")?;
+    if timed {
+        print!(rt; " {} ns a byte", taken / (length.max(1) as u128))?;
+    }
+    println!(rt; "")?;
+    Ok(())
+}
+
+/// Runs it as the words ask.
+pub(crate) fn bench(rt: &HostRuntime, words: &[String]) -> Result<()> {
+    let timed = has(words, "times");
+    let count = if timed { 1_000_000 } else { 1_000 };
+    bench_servers(rt, timed, count)?;
+    bench_clients(rt, timed, count)?;
+    for length in [1_024, 32_768, 1_048_576] {
+        if timed || length < 2_048 {
+            bench_bytes(rt, timed, length)?;
+        }
+    }
+    Ok(())
+}
