@@ -1,8 +1,8 @@
 //! How long the encoder, the scanner, the decoder, the client, the server and the codecs take, to be
 //! compared with others.
 //!
-//! The arguments name a part, `encode`, `scan`, `client`, `server`, `framed` or `grow`, and what it
-//! is to do.
+//! The arguments name a part, `encode`, `scan`, `client`, `server`, `framed`, `worlds` or `grow`, and
+//! what it is to do.
 //! With no argument each part counts what it does with short texts, the same on every run.
 #![tactic(auto)]
 
@@ -13,6 +13,7 @@ mod grow;
 mod scan;
 mod server;
 mod texts;
+mod worlds;
 
 use anyhow::Result;
 use std::env;
@@ -30,7 +31,9 @@ fn nanos(rt: &HostRuntime) -> Result<u128> {
 
 /// Runs the parts that the words name, or each where they name none.
 fn bench(rt: &HostRuntime, words: &[String]) -> Result<()> {
-    let names = ["encode", "scan", "client", "server", "framed", "grow"];
+    let names = [
+        "encode", "scan", "client", "server", "framed", "worlds", "grow",
+    ];
     let all = !names.iter().any(|name| has(words, name));
     for name in names {
         if all || has(words, name) {
@@ -47,6 +50,7 @@ fn bench_part(rt: &HostRuntime, name: &str, words: &[String]) -> Result<()> {
         "client" => client::bench(rt, words),
         "server" => server::bench(rt, words),
         "framed" => framed::bench(rt, words),
+        "worlds" => worlds::bench(rt, words),
         _ => grow::bench(rt, words),
     }
 }

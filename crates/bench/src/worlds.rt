@@ -1,0 +1,64 @@
+//! What a command costs in a world of few clients and in one of many.
+//!
+//! Each client in turn asks a PING, which comes to its session, and hears the reply. With no
+//! argument there are a hundred clients, and what came of them is printed, the same on every run.
+//! With `times` there are a thousand and 16,000, and nanoseconds of one command are printed too.
+
+use crate::{has, nanos};
+use anyhow::Result;
+use resp_value::command::Command;
+use resp_value::limits::Limits;
+use resp_wire::{Event, MemoryLink, World};
+use std::alloc::Global;
+use std::hash::{BuildHasherDefault, FoldHasher};
+
+/// How many commands each client asks.
+const ROUNDS: usize = 10;
+
+type BenchWorld = World<MemoryLink, BuildHasherDefault<FoldHasher>>;
+
+fn ping(alloc: Global) -> Result<Command> {
+    let name = b"PING".to_vec(alloc)?;
+    Ok(Command::new(vec![in alloc; name]?)?)
+}
+
+/// One client asks, and hears the reply.
+fn converse(alloc: Global, world: &mut BenchWorld, client: usize) -> Result<()> {
+    world.step(&Event::Send(client, ping(alloc)?))?;
+    world.step(&Event::ToServer(client, u64::MAX))?;
+    world.step(&Event::ToClient(client, u64::MAX))?;
+    Ok(())
+}
+
+/// Each client in turn, `ROUNDS` times. How many nanoseconds that took.
+fn converse_all(rt: &HostRuntime, world: &mut BenchWorld, clients: usize) -> Result<u128> {
+    let start = nanos(rt)?;
+    for _ in 0..ROUNDS {
+        for client in 0..clients {
+            converse(rt.alloc(), world, client.wrapping_add(1))?;
+        }
+    }
+    Ok(nanos(rt)?.saturating_sub(start))
+}
+
+fn run(rt: &HostRuntime, clients: usize, timed: bool) -> Result<()> {
+    let hasher = BuildHasherDefault::new();
+    let mut world: BenchWorld = World::new(rt.alloc(), clients, Limits::standard(), hasher)?;
+    let nanos = converse_all(rt, &mut world, clients)?;
+    let commands = world.order().len();
+    print!(rt; "a world of {clients} clients: {commands} commands;")?;
+    if timed {
+        print!(rt; " {} ns each", nanos / (commands.max(1) as u128))?;
+    }
+    println!(rt; "")?;
+    Ok(())
+}
+
+/// Runs it as the words ask.
+pub(crate) fn bench(rt: &HostRuntime, words: &[String]) -> Result<()> {
+    if !has(words, "times") {
+        return run(rt, 100, false);
+    }
+    run(rt, 1_000, true)?;
+    run(rt, 16_000, true)
+}
