@@ -12,7 +12,7 @@ use crate::{has, nanos};
 use anyhow::Result;
 use bytes::BytesMut;
 use futures::stream::ReadyChunks;
-use futures::{FutureExt, Stream, StreamExt};
+use futures::{FutureExt, StreamExt};
 use resp_client::client::Client;
 use resp_codec::{CommandCodec, RespCodec};
 use resp_value::command::Command;
@@ -87,15 +87,16 @@ impl Answers for Gets {
     }
 }
 
-/// Takes all items of a stream, and answers each. How many there were, and how many bytes were
-/// written.
-fn converse<S: Stream, A: Answers>(
+/// Takes all items that a framed stream reads of a text, and answers each. How many there were, and
+/// how many bytes were written.
+fn converse<D: Decoder + Drop, A: Answers>(
     rt: &HostRuntime,
-    mut items: ReadyChunks<S, S::Item>,
+    mut items: ReadyChunks<FramedRead<&[u8], D>, Result<D::Item, D::Error>>,
     answers: &mut A,
 ) -> Result<(usize, usize)>
 where
-    S::Item: Drop,
+    D::Item: Drop,
+    D::Error: Drop,
 {
     let mut out = BytesMut::new(rt.alloc());
     let mut count: usize = 0;

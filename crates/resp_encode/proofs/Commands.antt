@@ -1,10 +1,8 @@
--- What commands are, whatever their words: values of version 2, without doubles and without pushes.
+-- What commands are refused for, and what describes them.
 use Rattle.std.proofs.Common.{◌≡◌, ℕ, List, [], ◌∷◌, length, map, refl, sym, ap, ◌∙◌, subst}
 use Rattle.std.proofs.lemmas.List.{length-map}
-use Rattle.std.specs.List.{AllByRecursion}
 use Rattle.resp_value.specs.Bounds.{Bounds}
-use Rattle.resp_value.specs.Bytes.{IsText}
-use Rattle.resp_value.specs.Canonical.{IsValue, AreValues, AreInTwo, HaveNoDouble, HaveNoPush, IsFirstOver}
+use Rattle.resp_value.specs.Canonical.{IsFirstOver}
 use Rattle.resp_value.specs.Data.{Array, Data, aggregate, count, data_of_list}
 use Rattle.resp_value.specs.Rules.{rules_under}
 use Rattle.resp_value.specs.Words.{word_datum, command_of}
@@ -16,27 +14,9 @@ use Rattle.resp_encode.specs.declared.error.EncodeError.TheVariants.{Double, Not
 use Rattle.resp_encode.specs.declared.measure.Measure.{Measure}
 use Rattle.resp_encode.specs.Lengths.{HaveLengths}
 use Rattle.resp_encode.specs.Walks.Measures.{Describes, DescribesEach}
+use Rattle.resp_value.proofs.CommandValues.{words_are_in_two, words_have_no_double, words_have_no_push}
 use Rattle.resp_encode.proofs.Counts.{count-map}
 use Rattle.resp_value.specs.declared.version.Version.{Version}
-
-words_are_values : (words : List (List ℕ)) → AllByRecursion IsText words → AreValues (data_of_list (map word_datum words))
-words_are_values [] h = tt
-words_are_values (word ∷ words) h = (h.0, words_are_values words h.1)
-
-pub command_is_value : (words : List (List ℕ)) → AllByRecursion IsText words → IsValue (command_of words)
-command_is_value words h = (tt, words_are_values words h)
-
-words_are_in_two : (words : List (List ℕ)) → AreInTwo (data_of_list (map word_datum words))
-words_are_in_two [] = tt
-words_are_in_two (word ∷ words) = (tt, words_are_in_two words)
-
-words_have_no_double : (words : List (List ℕ)) → HaveNoDouble (data_of_list (map word_datum words))
-words_have_no_double [] = tt
-words_have_no_double (word ∷ words) = (tt, words_have_no_double words)
-
-words_have_no_push : (words : List (List ℕ)) → HaveNoPush (data_of_list (map word_datum words))
-words_have_no_push [] = tt
-words_have_no_push (word ∷ words) = (tt, words_have_no_push words)
 
 -- the only fault of a command is a limit that it breaks
 pub limit_of_fault : (limits : Bounds) (words : List (List ℕ)) (error : EncodeError) (limit : Limit) →

@@ -15,7 +15,8 @@ use Rattle.resp_encode.proofs.Counts.{count-map}
 use Rattle.resp_scan.proofs.CallClauses.Calls.{is_text}
 use Rattle.resp_session.specs.Answers.{server_rules}
 use Rattle.resp_session.specs.Operations.{Operation, operation_of}
-use Rattle.resp_session.proofs.FittingWords.{command_is_value, words_within_fit}
+use Rattle.resp_value.proofs.CommandValues.{command_is_value}
+use Rattle.resp_session.proofs.FittingWords.{words_within_fit}
 use Rattle.resp_server.specs.Operations.{operation_by}
 use Rattle.resp_server.specs.Whole.{AsksWith, BeginsWithCommand, BeginsWithHead, BeginsWithWord, BeginsWithWords}
 use Rattle.resp_server.specs.declared.refusal.Verb.{Verb}

@@ -4,31 +4,12 @@ use Rattle.std.proofs.lemmas.Bool.{cases_lt}
 use Rattle.std.specs.List.{AllByRecursion}
 use Rattle.resp_value.specs.Bounds.{Bounds, AreBounds}
 use Rattle.resp_value.specs.Bytes.{IsText}
-use Rattle.resp_value.specs.Canonical.{canonical_text, IsValue, AreValues, AreInTwo, HaveNoDouble, HaveNoPush, Fits}
+use Rattle.resp_value.specs.Canonical.{canonical_text, Fits}
 use Rattle.resp_value.specs.Data.{data_of_list, greatest_depth, longest, most_items}
 use Rattle.resp_value.specs.Rules.{rules_under}
 use Rattle.resp_value.specs.Words.{word_datum, command_of}
 use Rattle.resp_value.specs.declared.version.Version.TheVariants.{Two}
-
-words_are_values : (words : List (List ℕ)) → AllByRecursion IsText words → AreValues (data_of_list (map word_datum words))
-words_are_values [] h = tt
-words_are_values (word ∷ words) h = (h.0, words_are_values words h.1)
-
--- words of bytes make a value
-pub command_is_value : (words : List (List ℕ)) → AllByRecursion IsText words → IsValue (command_of words)
-command_is_value words h = (tt, words_are_values words h)
-
-words_are_in_two : (words : List (List ℕ)) → AreInTwo (data_of_list (map word_datum words))
-words_are_in_two [] = tt
-words_are_in_two (word ∷ words) = (tt, words_are_in_two words)
-
-words_have_no_double : (words : List (List ℕ)) → HaveNoDouble (data_of_list (map word_datum words))
-words_have_no_double [] = tt
-words_have_no_double (word ∷ words) = (tt, words_have_no_double words)
-
-words_have_no_push : (words : List (List ℕ)) → HaveNoPush (data_of_list (map word_datum words))
-words_have_no_push [] = tt
-words_have_no_push (word ∷ words) = (tt, words_have_no_push words)
+use Rattle.resp_value.proofs.CommandValues.{words_are_in_two, words_have_no_double, words_have_no_push}
 
 words_have_no_depth : (words : List (List ℕ)) → greatest_depth (data_of_list (map word_datum words)) ≡ 0
 words_have_no_depth [] = refl

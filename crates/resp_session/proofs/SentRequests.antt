@@ -21,7 +21,8 @@ use Rattle.resp_session.specs.WorldLaws.{IsPossible, HasName, request_values, Wh
 use Rattle.resp_session.specs.Worlds.{World, WorldEvent, Send, Greet, ToServer, ToClient, Push, Drop, connection_at, world_with, after_event, after_arrival, commands_for, new_world}
 use Rattle.resp_session.proofs.Changes.{is_changed}
 use Rattle.resp_session.proofs.Elements.{all_and_last}
-use Rattle.resp_session.proofs.FittingWords.{command_is_value, words_fit}
+use Rattle.resp_value.proofs.CommandValues.{command_is_value}
+use Rattle.resp_session.proofs.FittingWords.{words_fit}
 use Rattle.resp_session.proofs.Parts.{comes_from}
 use Rattle.resp_session.proofs.WorldsHold.{new_at}
 

@@ -21,3 +21,4 @@ pub mod Examples
 pub mod RefusedExamples
 pub mod ReadValues
 pub mod EqualValues
+pub mod CommandValues

@@ -19,40 +19,6 @@ use Rattle.resp_wire.specs.declared.end.End.{End}
 use Rattle.resp_wire.proofs.worlds.Places.{never_gone}
 use Rattle.resp_wire.proofs.worlds.Reading.{one_more_request}
 
--- what may be sent is refused for no cause
-pub not_refused : (limits : Bounds) (count : ℕ) (request : Request) → is_unsent_request request ≡ false → FitsRequest limits request → count < 2 ^ 63 →
-    (cause : Cause) → RefusesRequest limits count request cause → ⊥
-not_refused limits count request sent fits few cause.Syntax r = r
-not_refused limits count request sent fits few cause.Double r = r
-not_refused limits count request sent fits few cause.Version r = r
-not_refused limits count request sent fits few cause.NestedPush r = r
-not_refused limits count request sent fits few cause.Range r = r
-not_refused limits count request sent fits few cause.Depth r = r
-not_refused limits count request sent fits few cause.Length r = r
-not_refused limits count request sent fits few cause.Total r = r
-not_refused limits count request sent fits few cause.Truncated r = r
-not_refused limits count request sent fits few cause.OutOfMemory r = r
-not_refused limits count request sent fits few cause.Streamed r = r
-not_refused limits count request sent fits few cause.Items r = r
-not_refused limits count request sent fits few cause.Unasked r = r
-not_refused limits count request sent fits few cause.TooLarge r = r.1 fits
-not_refused limits count request sent fits few cause.BadCommand r = absurd (cc)
-not_refused limits count request sent fits few cause.TooMany r = let many = r.2 in omega (arith, few, many)
-not_refused limits count request sent fits few cause.TooManySessions r = r
-not_refused limits count request sent fits few cause.NoSession r = r
-not_refused limits count request sent fits few cause.Closing r = r
-not_refused limits count request sent fits few cause.NotInVersion r = r
-not_refused limits count request sent fits few cause.PushBelowTop r = r
-not_refused limits count request sent fits few (cause.OverLimits limit) r = r
-not_refused limits count request sent fits few cause.Read r = r
-not_refused limits count request sent fits few cause.Write r = r
-not_refused limits count request sent fits few cause.TooManyTurns r = r
-not_refused limits count request sent fits few cause.Ended r = r
-not_refused limits count request sent fits few cause.BadLine r = r
-not_refused limits count request sent fits few cause.BadDigits r = r
-not_refused limits count request sent fits few cause.Busy r = r
-not_refused limits count request sent fits few cause.BadLimits r = r
-
 -- a client that queues a request shows what its connection shows with it
 pub with_one_more : ReadingsStay → WhatHasComeWasSent → ArrivalsStay → (limits : Bounds) (hub : HubState) (ends : List End) (order : List ℕ) (w : World)
     (at : ShowsEach limits hub ends order w) (i : ℕ) (e e' : End) (c : Connection) (request : Request) → slice_get ends i ≡ Some e →

@@ -12,6 +12,7 @@ use Rattle.resp_session.specs.Runs.{RefusesEvent, Step, connection_of, is_gone}
 use Rattle.resp_session.specs.Serving.{ArrivalsStay, WhatHasComeWasSent}
 use Rattle.resp_session.specs.WorldLaws.{AChangeIsOfOneConnection, IsPossible}
 use Rattle.resp_session.specs.Worlds.{Greet, Send, World, WorldEvent, after_event, connection_at, world_with}
+use Rattle.resp_session.proofs.FittingSent.{requests_that_fit_are_sent}
 use Rattle.resp_server.specs.Hubs.{HubState, seat_at}
 use Rattle.resp_client.specs.Clients.{queued, state_of}
 use Rattle.resp_wire.specs.Ends.{Queues, TakesRequest}
@@ -20,7 +21,7 @@ use Rattle.resp_wire.specs.Worlds.{Shows, ShowsEach, outcome_of}
 use Rattle.resp_wire.specs.declared.end.End.{End}
 use Rattle.resp_wire.specs.declared.event.Outcome.{Outcome}
 use Rattle.resp_wire.specs.declared.event.Outcome.TheVariants.{Done, Gone, Refused}
-use Rattle.resp_wire.proofs.worlds.Asked.{as_before, not_refused, with_one_more}
+use Rattle.resp_wire.proofs.worlds.Asked.{as_before, with_one_more}
 use Rattle.resp_wire.proofs.worlds.Frames.{Beyond, IsFramed, beyond, framed, kept}
 use Rattle.resp_wire.proofs.worlds.Places.{connection_there, world_of}
 
@@ -68,7 +69,7 @@ request_done readings sent arrivals change limits hub ends order w i e e' event 
     let few = may.number_left in
     let counts = s.same_count in
     let refused : (cause : Cause) → RefusesEvent limits (connection_of w event) event cause → ⊥ =
-    λ cause r. not_refused limits (length c.requests) request may.is_sent (subst (λ l. FitsRequest l request) s.same_limits may.fits) (omega (
+    λ cause r. requests_that_fit_are_sent limits (length c.requests) request may.is_sent (subst (λ l. FitsRequest l request) s.same_limits may.fits) (omega (
       arith,
       few,
       counts,

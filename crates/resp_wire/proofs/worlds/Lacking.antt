@@ -9,6 +9,7 @@ use Rattle.resp_session.specs.Connections.{Connection, push_message}
 use Rattle.resp_session.specs.Requests.{Command, FitsRequest, Hello, RefusesRequest, Request}
 use Rattle.resp_session.specs.Runs.{Done, RefusesEvent, Step, connection_of, is_gone}
 use Rattle.resp_session.specs.Worlds.{Greet, Push, Send, ToClient, ToServer, World, WorldEvent, after_event, connection_at}
+use Rattle.resp_session.proofs.FittingSent.{requests_that_fit_are_sent}
 use Rattle.resp_client.specs.Clients.{state_of}
 use Rattle.resp_client.specs.Sending.{MayBeSent}
 use Rattle.resp_server.specs.PushRefusals as server
@@ -19,7 +20,6 @@ use Rattle.resp_wire.specs.Ends.{outcome_of_push}
 use Rattle.resp_wire.specs.Happening.{IsNoDrop, IsOpenEnd, MayLackMemory}
 use Rattle.resp_wire.specs.Worlds.{ShowsEach, WorldState}
 use Rattle.resp_wire.specs.declared.end.End.{End}
-use Rattle.resp_wire.proofs.worlds.Asked.{not_refused}
 use Rattle.resp_wire.proofs.worlds.Moves.{at_work, some_at_work}
 use Rattle.resp_wire.proofs.worlds.Places.{world_of}
 use Rattle.resp_wire.proofs.worlds.Pushed.{push_not_refused}
@@ -68,7 +68,7 @@ request_lacks {L} is_honest hub ends links order stopped number e event request 
       let counts = s.same_count in
       let at : connection_of w event ≡ Some c = its w ∙ ap (connection_at w.connections) (sym work.is) ∙ work.at.its in
       let refused : (cause : Cause) → RefusesEvent limits (connection_of w event) event cause → ⊥ =
-      λ cause r. not_refused limits (length c.requests) request may.is_sent (subst (λ l. FitsRequest l request) s.same_limits may.fits)
+      λ cause r. requests_that_fit_are_sent limits (length c.requests) request may.is_sent (subst (λ l. FitsRequest l request) s.same_limits may.fits)
       (omega (arith, few, counts)) cause (refusing limits c cause (subst (λ o. RefusesEvent limits o event cause) at r)) in
       (ap is_gone at ∙ work.at.is_open, refused, refl);
 }

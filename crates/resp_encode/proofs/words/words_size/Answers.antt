@@ -3,7 +3,8 @@ use Rattle.resp_value.specs.declared.version.Version.TheVariants.{Two}
 use Rattle.resp_value.specs.Words.{command_of}
 use Rattle.resp_encode.specs.Lengths.{HaveLengths}
 use Rattle.resp_encode.specs.Walks.Measures.{Describes}
-use Rattle.resp_encode.proofs.Commands.{command_is_value, describes_command, limit_of_fault}
+use Rattle.resp_value.proofs.CommandValues.{command_is_value}
+use Rattle.resp_encode.proofs.Commands.{describes_command, limit_of_fault}
 use Rattle.resp_encode.proofs.words.words_size.Goals as goal
 use Rattle.resp_encode.proofs.words.words_size.Goals.{After-inside-found}
 
