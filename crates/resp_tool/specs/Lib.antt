@@ -15,3 +15,5 @@ pub mod Laws
 pub mod Runs
 pub mod Begun
 pub mod Explained
+pub mod Program
+pub mod CommandWords

@@ -1,0 +1,7 @@
+use Rattle.std.proofs.Common.{rules, ◌≡◌, ◌∙◌, ap, ap₂, refl, false, [], ◌∷◌, Some, codes, map, List}
+use Rattle.clap.specs.declared.builder.value_parser.ValueParser.TheVariants as vp
+use Rattle.resp_tool.proofs.AskingLemmas.{is_program}
+use Rattle.resp_tool.proofs.parser.matches_of.Goals as goal
+
+pub returns : goal.returns
+returns g c = record { finds = is_program _ _ _ c.matches_among.ensures (search rules) }
