@@ -1,7 +1,7 @@
 -- What the words give an option, from what the matches read of it.
-use Rattle.std.proofs.Common.{subst, ◌≤◌, zero, suc, arith, inl, inr, ◌⊎◌, ◌≢◌, ◌∙◌, ◌≡◌, ℕ, ap, Bool, true, false, List, [], ◌∷◌, map, refl, sym, Option, Some, None, Result, Ok, Err, IfOk, IfSome, IfNone, codes, option_map}
-use Rattle.std.specs.Str.Parse.{ParsesBool, ParsesUnsigned, digits_value, without_leading_plus}
-use Rattle.clap.specs.Words.{App, FailsBy, HasKind, HasMatchesOf, IsAmong, kind_of, ReadsOne, Row, Text, fault_of, first_of, found_of, is_simple, is_simple_and_free, one_of, one_text, rows_of, subcommand_of, subcommand_rows_of}
+use Rattle.std.proofs.Common.{subst, ◌≤◌, zero, suc, arith, inl, inr, ◌⊎◌, ◌≢◌, ◌∙◌, ◌≡◌, ℕ, ap, Bool, true, false, List, [], ◌∷◌, map, refl, sym, Option, Some, None, Result, Ok, Err, IfOk, IfSome, IfNone, codes}
+use Rattle.std.specs.Str.Parse.{ParsesBool, ParsesUnsigned}
+use Rattle.clap.specs.Words.{App, FailsBy, HasKind, HasMatchesOf, IsAmong, kind_of, ReadsOne, Row, Text, fault_of, first_of, is_simple, is_simple_and_free, one_of, one_text, rows_of, subcommand_of, subcommand_rows_of}
 use Rattle.clap.specs.declared.error.Error.{Error}
 use Rattle.clap.specs.declared.error.kind.ErrorKind.{ErrorKind}
 use Rattle.clap.specs.declared.error.kind.ErrorKind.TheVariants.{DisplayHelp, DisplayVersion, OutOfMemory}
@@ -10,8 +10,8 @@ use Rattle.clap.specs.declared.parser.matches.ArgMatches.{ArgMatches}
 use Rattle.clap.specs.declared.parser.matches.Found.{Found}
 use Rattle.clap.proofs.OnLiterals.{clap_on_literals}
 use Rattle.clap.proofs.WalkLemmas.{one_text-rows}
-use Rattle.resp_tool.specs.CommandWords.{AnswersStatus, AnswersWords, AskFor, Enters, FindsWords, HasFlag, HasNumber, flag_text}
-use Rattle.resp_tool.specs.Runs.{AsksForRun, DoesWords, IsWordStatus}
+use Rattle.resp_tool.specs.CommandWords.{AnswersStatus, AnswersWords, AreWrong, AskFor, AskToServe, Enters, EntersServe, FindsWords, HasFlag, HasNumber, flag_text}
+use Rattle.resp_tool.specs.Runs.{AskForRun, DoesWords, IsWordStatus}
 use Rattle.std.proofs.lemmas.Slice.Eq.{bytes_eq-Decides}
 use Rattle.std.specs.Str.{bytes_eq}
 use Rattle.std.specs.Prelude.{not, unwrap_or}
@@ -21,6 +21,7 @@ use Rattle.resp_tool.proofs.CommandLemmas.{names_take_versions}
 use Rattle.std.specs.Borrow.{Bor}
 use Rattle.clap.specs.declared.builder.value_parser.ValueParser.TheVariants as vp
 use Rattle.resp_tool.specs.declared.options.Options.{Options}
+use Rattle.resp_tool.specs.declared.serving.Serving.{Serving}
 
 none≢some : {X : Type 0} (x : X) → Some x ≡ None → ⊥
 none≢some x e = cc
@@ -113,8 +114,10 @@ pub answered_by_program : (program : App) (words : List Text) (found : Result Ar
     IfNone asked ((options : Options) → Enters (subcommand_rows_of m) options → ⊥) → AnswersWords AskFor program words (Ok asked)
 answered_by_program program words found m (Some options) finds is some none =
     asks_if_entered Enters program words found m finds is options some
-answered_by_program program words found m None finds is some none =
-    λ options asks. none options (entered_if_asks Enters program words found m finds is options asks)
+answered_by_program program words found m None finds is some none = inr (
+  (rw is at finds).0,
+  λ options asks. none options (entered_if_asks Enters program words found m finds is options asks),
+)
 
 -- it is the program's definition, where `--proto` takes the two names
 pub is_program : (names : Bor (List (Bor Text))) (words : List Text) (found : Result ArgMatches Error) →
@@ -130,28 +133,36 @@ among k k' kinds is h = rw is at h
 
 -- the status of what the parser refuses or helps with
 pub refused_by_program : {X : Type 0} (Ask : App → List Text → X → Type 0) (program : App) (words : List Text) (error : Error) (status : ℕ) →
-    ((x : X) → Ask program words x → fault_of program words ≡ []) → HasKind (fault_of program words) error →
-    (status ≡ 0 → (kind_of error ≡ DisplayHelp) ⊎ (kind_of error ≡ DisplayVersion)) → (status ≡ 2 → kind_of error ≢ OutOfMemory) →
+    HasKind (fault_of program words) error → (status ≡ 0 → (kind_of error ≡ DisplayHelp) ⊎ (kind_of error ≡ DisplayVersion)) →
+    (status ≡ 2 → (kind_of error ≢ OutOfMemory) × (kind_of error ≢ DisplayHelp) × (kind_of error ≢ DisplayVersion)) →
     AnswersStatus Ask program words (Err status)
-refused_by_program Ask program words error status taken (inl memory) helps refuses = (
-  λ zero. elim (helps zero) [
+refused_by_program Ask program words error status (inl memory) helps refuses = (
+  λ none. elim (helps none) [
     | inl help ↦ let bad : OutOfMemory ≡ DisplayHelp = sym memory ∙ help in cc
     | inr version ↦ let bad : OutOfMemory ≡ DisplayVersion = sym memory ∙ version in cc
   ],
-  λ two. absurd (refuses two memory),
+  λ two. absurd ((refuses two).0 memory),
 )
-refused_by_program Ask program words error status taken (inr kind) helps refuses = (
-  λ zero. elim (helps zero) [
+refused_by_program Ask program words error status (inr kind) helps refuses = (
+  λ none. elim (helps none) [
     | inl help ↦ inl (among _ _ _ help kind)
     | inr version ↦ inr (among _ _ _ version kind)
   ],
-  λ two x asks. let none : IsAmong (kind_of error) [] = rw (taken x asks) at kind in none,
+  λ two. inl (kind_of error, kind, (refuses two).1, (refuses two).2),
 )
 
 -- the status of words that ask for nothing here
-pub asked_for_nothing : {X : Type 0} (Ask : App → List Text → X → Type 0) (program : App) (words : List Text) →
-    ((x : X) → Ask program words x → ⊥) → AnswersStatus Ask program words (Err 2)
-asked_for_nothing Ask program words none = (λ two. absurd (omega arith), λ two. none)
+pub asked_for_nothing : {X : Type 0} (Ask : App → List Text → X → Type 0) (program : App) (words : List Text) → AreWrong Ask program words →
+    AnswersStatus Ask program words (Err 2)
+asked_for_nothing Ask program words wrong = (λ two. absurd (omega arith), λ two. wrong)
+
+-- and of other words than those for `serve`
+pub asked_for_other : (program : App) (words : List Text) (found : Result ArgMatches Error) (m : ArgMatches) → FindsWords program words found →
+    found ≡ Ok m → ((serving : Serving) → EntersServe (subcommand_rows_of m) serving → ⊥) → AnswersStatus AskToServe program words (Err 2)
+asked_for_other program words found m finds is none = asked_for_nothing AskToServe program words (inr (
+  (rw is at finds).0,
+  λ serving asks. none serving (entered_if_asks EntersServe program words found m finds is serving asks),
+))
 
 two_or_three : (n : ℕ) → 2 ≤ n → n ≤ 3 → (n ≡ 2) ⊎ (n ≡ 3)
 two_or_three zero low high = absurd (omega arith)
@@ -160,12 +171,16 @@ two_or_three (suc (suc zero)) low high = inl refl
 two_or_three (suc (suc (suc zero))) low high = inr refl
 two_or_three (suc (suc (suc (suc n)))) low high = absurd (omega arith)
 
+wrong_for_run : (program : App) (words : List Text) → AreWrong AskFor program words → AreWrong AskForRun program words
+wrong_for_run program words (inl refused) = inl refused
+wrong_for_run program words (inr other) = inr (other.0, λ options asks. other.1 options asks.0)
+
 -- what comes of words that ask for nothing to be run
 pub does_nothing : (program : App) (words : List Text) (Stays : Type 0) (Runs : Options → Type 0) (status : ℕ) → Stays →
     AnswersStatus AskFor program words (Err status) → IsWordStatus status → DoesWords program words Stays Runs status
 does_nothing program words Stays Runs status stays answers (inl none) = inl (stays, none, answers.0 none)
 does_nothing program words Stays Runs status stays answers (inr range) = elim (two_or_three status range.0 range.1) [
-  | inl two ↦ inr (inl (stays, two, λ options asks. answers.1 two options asks.0))
+  | inl two ↦ inr (inl (stays, two, wrong_for_run program words (answers.1 two)))
   | inr three ↦ inr (inr (inl (stays, three)))
 ]
 
@@ -202,13 +217,19 @@ asked_once program words a b asks asks' =
 
 -- words that name a file, or ask for an explanation, ask for nothing to be run
 module _ (program : App) (words : List Text) (options : Options) (asks : AskFor program words options) where
-  pub runs_no_file : not (bytes_eq options.file.now (codes "-")) ≡ true → (other : Options) → AsksForRun program words other → ⊥
-  runs_no_file named other runs =
-      let is : options.file.now ≡ codes "-" = (asked_once program words options other asks runs.0).0 ∙ runs.1 in
-      let bad : true ≡ false = sym named ∙ ap (λ (t : Text). not (bytes_eq t (codes "-"))) is in
-      cc
+  pub runs_no_file : not (bytes_eq options.file.now (codes "-")) ≡ true → AreWrong AskForRun program words
+  runs_no_file named = inr (
+    asks.0,
+    λ other runs.
+        let is : options.file.now ≡ codes "-" = (asked_once program words options other asks runs.0).0 ∙ runs.1 in
+        let bad : true ≡ false = sym named ∙ ap (λ (t : Text). not (bytes_eq t (codes "-"))) is in
+        cc,
+  )
 
-  pub runs_no_explanation : options.explains ≡ true → (other : Options) → AsksForRun program words other → ⊥
-  runs_no_explanation explains other runs =
-      let bad : true ≡ false = sym explains ∙ (asked_once program words options other asks runs.0).1 ∙ runs.2 in
-      cc
+  pub runs_no_explanation : options.explains ≡ true → AreWrong AskForRun program words
+  runs_no_explanation explains = inr (
+    asks.0,
+    λ other runs.
+        let bad : true ≡ false = sym explains ∙ (asked_once program words options other asks runs.0).1 ∙ runs.2 in
+        cc,
+  )

@@ -1,5 +1,5 @@
 -- Commands to which options are added.
-use Rattle.std.proofs.Common.{◌∙◌, ◌≡◌, ◌||◌, ap, ap₂, Bool, true, false, List, [], ◌∷◌, map, refl, sym}
+use Rattle.std.proofs.Common.{◌∙◌, ◌≡◌, ◌||◌, ap, ap₂, Bool, true, false, List, [], ◌∷◌, map, refl}
 use Rattle.std.specs.Prelude.{codes}
 use Rattle.std.specs.Borrow.{Bor}
 use Rattle.std.specs.List.{list_any}
@@ -8,7 +8,6 @@ use Rattle.clap.specs.Words.{AddsArg, AddsSubcommand, App, Rule, Text, app_of, r
 use Rattle.clap.specs.declared.builder.arg.Arg.{Arg}
 use Rattle.clap.specs.declared.builder.command.Command.{Command}
 use Rattle.clap.specs.declared.builder.command.Command.TheViews.{out-Command}
-use Rattle.clap.specs.declared.builder.value_parser.ValueParser.{ValueParser}
 use Rattle.clap.specs.declared.builder.value_parser.ValueParser.TheVariants as vp
 use Rattle.clap.proofs.WalkLemmas.{list_any-map}
 use Rattle.resp_tool.specs.Program.{GainsOptions, TakesVersions, with_options}

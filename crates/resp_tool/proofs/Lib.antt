@@ -15,3 +15,4 @@ pub mod BegunLemmas
 pub mod CauseTexts
 pub mod AskingLemmas
 pub mod CommandLemmas
+pub mod CommandExamples

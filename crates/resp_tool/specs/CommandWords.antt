@@ -1,10 +1,12 @@
 -- Which words ask for which options.
-use Rattle.std.specs.Prelude.{◌≡◌, ◌⊎◌, ◌≤◌, ◌<◌, ◌^◌, ℕ, Bool, false, not, List, [], Option, Some, None, codes, Result, Ok, Err}
-use Rattle.std.specs.Prelude.{if◌then◌else◌}
+use Rattle.std.specs.Prelude.{◌≡◌, ◌≢◌, ◌⊎◌, ◌≤◌, ◌<◌, ◌^◌, ℕ, Bool, false, not, if◌then◌else◌, codes}
+use Rattle.std.specs.Prelude.{List, [], Option, Some, None, Result, Ok, Err}
 use Rattle.std.specs.Net.Grammar.{IsSocketText}
 use Rattle.std.specs.Str.Parse.{IsNumeral, digits_value, without_leading_plus}
-use Rattle.clap.specs.Words.{App, HasKind, IsAmong, Row, Text, fault_of, first_of, one_of, subcommand_of, subcommand_rows_of}
+use Rattle.clap.specs.Words.{App, HasKind, IsAmong, Row, Text, fault_of, first_of, one_of, subcommand_of}
+use Rattle.clap.specs.Words.{subcommand_rows_of}
 use Rattle.clap.specs.declared.error.Error.{Error}
+use Rattle.clap.specs.declared.error.kind.ErrorKind.{ErrorKind}
 use Rattle.clap.specs.declared.error.kind.ErrorKind.TheVariants.{DisplayHelp, DisplayVersion}
 use Rattle.clap.specs.declared.parser.matches.ArgMatches.{ArgMatches}
 use Rattle.resp_value.specs.Bounds.{AreBounds, Bounds}
@@ -20,7 +22,8 @@ use Rattle.resp_tool.specs.declared.serving.Serving.{Serving}
 -- it is this number, of 64 bits
 abbrev pub HasNumber : List Row → Text → ℕ → Type 0
 HasNumber given name number = (text : Text) × (one_of name given ≡ Some text) ×
-    IsNumeral 10 (without_leading_plus text) × (digits_value 10 (without_leading_plus text) ≡ number) × (number < 2 ^ 64)
+    IsNumeral 10 (without_leading_plus text) × (digits_value 10 (without_leading_plus text) ≡ number)
+    × (number < 2 ^ 64)
 
 abbrev pub flag_text : Bool → Text
 flag_text on = if on then codes "true" else codes "false"
@@ -77,11 +80,13 @@ task_word Canon = codes "canon"
 
 -- this is what was entered: a task that reads a stream, with these options
 abbrev pub Enters : Option (Text × List Row) → Options → Type 0
-Enters entered options = (given : List Row) × (entered ≡ Some (task_word options.task, given)) × HasOptions given options
+Enters entered options =
+    (given : List Row) × (entered ≡ Some (task_word options.task, given)) × HasOptions given options
 
 -- or `serve`
 abbrev pub EntersServe : Option (Text × List Row) → Serving → Type 0
-EntersServe entered serving = (given : List Row) × (entered ≡ Some (codes "serve", given)) × HasServing given serving
+EntersServe entered serving =
+    (given : List Row) × (entered ≡ Some (codes "serve", given)) × HasServing given serving
 
 -- ---- all words, of which the first is the program's own name
 
@@ -98,6 +103,12 @@ abbrev pub AskForHelp : App → List Text → Type 0
 AskForHelp program words =
     IsAmong DisplayHelp (fault_of program words) ⊎ IsAmong DisplayVersion (fault_of program words)
 
+-- the program refuses them, or it takes them and they ask for nothing of a sort
+abbrev pub AreWrong : {X : Type 0} → (App → List Text → X → Type 0) → App → List Text → Type 0
+AreWrong {X} Ask program words =
+    ((kind : ErrorKind) × IsAmong kind (fault_of program words) × (kind ≢ DisplayHelp) × (kind ≢ DisplayVersion))
+    ⊎ ((fault_of program words ≡ []) × ((x : X) → Ask program words x → ⊥))
+
 -- ---- what is answered to them
 
 -- the program takes the words, and this is what they give its subcommand, or it refuses them
@@ -106,14 +117,16 @@ FindsWords program words (Ok found) =
     (fault_of program words ≡ []) × (subcommand_rows_of found ≡ subcommand_of program words)
 FindsWords program words (Err error) = HasKind (fault_of program words) error
 
--- options where the words ask for them, none where they ask for none, and else what the parser refuses or helps with
-abbrev pub AnswersWords : {X : Type 0} → (App → List Text → X → Type 0) → App → List Text → Result (Option X) Error → Type 0
+-- options of a sort where the words ask for them, none where they ask for none, and else what the parser refuses or
+-- helps with
+abbrev pub AnswersWords : {X : Type 0} → (App → List Text → X → Type 0) → App → List Text
+    → Result (Option X) Error → Type 0
 AnswersWords Ask program words (Ok (Some x)) = Ask program words x
-AnswersWords {X} Ask program words (Ok None) = (x : X) → Ask program words x → ⊥
+AnswersWords Ask program words (Ok None) = AreWrong Ask program words
 AnswersWords Ask program words (Err error) = HasKind (fault_of program words) error
 
--- the same with a status in place of an error: 0 where they ask for help, and 2 only where they ask for nothing
+-- the same with a status in place of an error: 0 where the words ask for help, and 2 where they are wrong
 abbrev pub AnswersStatus : {X : Type 0} → (App → List Text → X → Type 0) → App → List Text → Result X ℕ → Type 0
 AnswersStatus Ask program words (Ok x) = Ask program words x
-AnswersStatus {X} Ask program words (Err status) =
-    (status ≡ 0 → AskForHelp program words) × (status ≡ 2 → (x : X) → Ask program words x → ⊥)
+AnswersStatus Ask program words (Err status) =
+    (status ≡ 0 → AskForHelp program words) × (status ≡ 2 → AreWrong Ask program words)

@@ -17,3 +17,4 @@ pub mod Begun
 pub mod Explained
 pub mod Program
 pub mod CommandWords
+pub mod Commands

@@ -1,6 +1,6 @@
 -- The program as the parser of its words knows it: its tasks with their options, the range of each number, and what
 -- stands for an option that isn't given.
-use Rattle.std.specs.Prelude.{◌≡◌, ◌++◌, ℕ, ℤ, Bool, false, true, List, [], ◌∷◌, Some, codes}
+use Rattle.std.specs.Prelude.{◌≡◌, ◌++◌, ℕ, ℤ, false, true, List, [], ◌∷◌, Some, codes}
 use Rattle.std.specs.Int.{saturate_unsigned, w64}
 use Rattle.std.specs.List.{list_any}
 use Rattle.std.specs.Ordering.{nat_cmp, ord_max}

@@ -3,7 +3,7 @@ use Rattle.std.specs.Prelude.{◌≡◌, ◌⊎◌, ◌≤◌, ℕ, false, codes
 use Rattle.resp_value.specs.Canonical.{canonical_text, Fits}
 use Rattle.resp_value.specs.Rules.{Rules}
 use Rattle.clap.specs.Words.{App, Text}
-use Rattle.resp_tool.specs.CommandWords.{AskFor, AskForHelp}
+use Rattle.resp_tool.specs.CommandWords.{AreWrong, AskFor, AskForHelp}
 use Rattle.resp_tool.specs.Counts.{Counts, IsAny, LeavesNothing}
 use Rattle.resp_tool.specs.Faults.{fault_line, status_of}
 use Rattle.resp_tool.specs.Live.{EachRead, IsLive, Look}
@@ -47,8 +47,8 @@ TellsFailure said said' failures failures' = (error : ToolError) × (status_of e
     TriesText said said' failures failures' (fault_line error)
 
 -- the task ran under the rules, ended with this status, and was told of so
-pub record HasRun (task : Task) (rules : Rules) (left left' before after said said' : Option (List ℕ)) (looks looks' : Option (List Look))
-    (failures failures' status : ℕ) : Type 0 where
+pub record HasRun (task : Task) (rules : Rules) (left left' before after said said' : Option (List ℕ))
+    (looks looks' : Option (List Look)) (failures failures' status : ℕ) : Type 0 where
   pub bytes : List ℕ
   pub result : Result (Unit {0}) ToolError
   pub read : AreRead left left' bytes
@@ -63,14 +63,15 @@ abbrev pub IsWordStatus : ℕ → Type 0
 IsWordStatus status = (status ≡ 0) ⊎ (2 ≤ status) × (status ≤ 3)
 
 -- the words ask for a task over standard input, and for nothing that is done elsewhere
-abbrev pub AsksForRun : App → List Text → Options → Type 0
-AsksForRun program words options = AskFor program words options × (options.file.now ≡ codes "-") × (options.explains ≡ false)
+abbrev pub AskForRun : App → List Text → Options → Type 0
+AskForRun program words options =
+    AskFor program words options × (options.file.now ≡ codes "-") × (options.explains ≡ false)
 
--- what the words bring about, where this says that nothing was read, and this which options were run: help, or nothing since
--- they are wrong, or since a device or memory failed, or a run of what they ask for
+-- what the words bring about, where the first says that nothing was read, and the second which options were run: help, or
+-- nothing since they are wrong, or since a device or memory failed, or a run of what they ask for
 abbrev pub DoesWords : App → List Text → Type 0 → (Options → Type 0) → ℕ → Type 0
 DoesWords program words Stays Runs status =
     (Stays × (status ≡ 0) × AskForHelp program words)
-    ⊎ (Stays × (status ≡ 2) × ((options : Options) → AsksForRun program words options → ⊥))
+    ⊎ (Stays × (status ≡ 2) × AreWrong AskForRun program words)
     ⊎ (Stays × (status ≡ 3))
-    ⊎ ((options : Options) × AsksForRun program words options × Runs options)
+    ⊎ ((options : Options) × AskForRun program words options × Runs options)

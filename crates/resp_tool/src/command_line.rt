@@ -40,7 +40,9 @@ pub(crate) fn explain<W: Sink, F: Sink>(
     ensures never_one { IsWordStatus result }
     ensures help_at_zero { result ≡ 0 → (kind_of error.now ≡ ErrorKind.DisplayHelp)
         ⊎ (kind_of error.now ≡ ErrorKind.DisplayVersion) }
-    ensures not_memory_at_two { result ≡ 2 → kind_of error.now ≢ ErrorKind.OutOfMemory }
+    ensures refused_at_two { result ≡ 2 → (kind_of error.now ≢ ErrorKind.OutOfMemory)
+        × (kind_of error.now ≢ ErrorKind.DisplayHelp)
+        × (kind_of error.now ≢ ErrorKind.DisplayVersion) }
     ensures bad_words_write_nothing { result ≡ 2 → writer.new ≡ writer.old }
     ensures nothing_told_at_zero { result ≡ 0 → faults.new ≡ faults.old }
     ensures told_at_three { result ≡ 3 → TellsFailure (F.written faults.old)

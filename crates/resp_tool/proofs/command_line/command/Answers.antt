@@ -1,4 +1,4 @@
-use Rattle.std.proofs.Common.{◌≡◌, ◌∙◌, inl, inr, map, refl, sym}
+use Rattle.std.proofs.Common.{◌∙◌, inl, inr, map, refl, sym}
 use Rattle.resp_tool.proofs.AskingLemmas.{does_nothing, runs_no_explanation, runs_no_file, is_standard_input}
 use Rattle.resp_tool.proofs.command_line.command.Goals as goal
 

@@ -1,5 +1,4 @@
-use Rattle.std.proofs.Common.{rules, ◌≡◌, ◌∙◌, ap, ap₂, refl, false, [], ◌∷◌, Some, codes, map, List}
-use Rattle.clap.specs.declared.builder.value_parser.ValueParser.TheVariants as vp
+use Rattle.std.proofs.Common.{rules}
 use Rattle.resp_tool.proofs.AskingLemmas.{is_program}
 use Rattle.resp_tool.proofs.parser.matches_of.Goals as goal
 

@@ -1,10 +1,4 @@
-use Rattle.std.proofs.Common.{rules, ◌≡◌, ◌∙◌, ap, ap₂, refl, false, [], ◌∷◌, Some, codes, map, List}
-use Rattle.clap.specs.Words.{app_of, rule_of, new_rule}
-use Rattle.clap.specs.declared.builder.value_parser.ValueParser.{ValueParser}
-use Rattle.clap.specs.declared.builder.value_parser.ValueParser.TheVariants as vp
-use Rattle.clap.specs.declared.builder.command.Command.TheViews.{out-Command}
-use Rattle.resp_tool.specs.Program.{file_word, flag_option, value_option}
-use Rattle.resp_tool.proofs.CommandLemmas.{IsRead, names_take_versions, nothing_added, option_added}
+use Rattle.resp_tool.proofs.CommandLemmas.{nothing_added, option_added}
 use Rattle.resp_tool.proofs.parser.with_limits.Goals as goal
 
 pub returns-clause-gains : goal.returns-clause-gains

@@ -1,13 +1,9 @@
-use Rattle.std.proofs.Common.{rules, ◌≡◌, ◌∙◌, ap, ap₂, refl, false, [], ◌∷◌, Some, codes, map, List}
-use Rattle.clap.specs.Words.{app_of, rule_of, new_app, new_rule}
+use Rattle.std.proofs.Common.{◌∙◌, ap}
 use Rattle.clap.specs.Simple.{app_of_fields}
-use Rattle.clap.specs.declared.builder.value_parser.ValueParser.{ValueParser}
-use Rattle.clap.specs.declared.builder.value_parser.ValueParser.TheVariants as vp
-use Rattle.clap.specs.declared.builder.command.Command.TheViews.{out-Command}
 use Rattle.clap.specs.declared.builder.command.Command.TheOpen.{Command-F}
 use Rattle.clap.specs.declared.builder.command.Command.{Command}
 use Rattle.resp_tool.specs.Program.{limit_options}
-use Rattle.resp_tool.proofs.CommandLemmas.{IsRead, names_take_versions, nothing_added, option_added, options_added, subcommand_added}
+use Rattle.resp_tool.proofs.CommandLemmas.{nothing_added, option_added, options_added}
 use Rattle.resp_tool.proofs.parser.with_options.Goals as goal
 
 pub returns-clause-gains : goal.returns-clause-gains

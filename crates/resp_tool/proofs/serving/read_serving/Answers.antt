@@ -1,6 +1,6 @@
 use Rattle.std.proofs.Common.{map}
 use Rattle.resp_tool.specs.CommandWords.{AskToServe, EntersServe}
-use Rattle.resp_tool.proofs.AskingLemmas.{asked_for_nothing, asks_if_entered, entered_if_asks}
+use Rattle.resp_tool.proofs.AskingLemmas.{asked_for_other, asks_if_entered, refused_by_program}
 use Rattle.resp_tool.proofs.serving.read_serving.Goals as goal
 
 pub returns-in-Ok-asked_serving-clause-asked : goal.returns-in-Ok-asked_serving-clause-asked
@@ -14,20 +14,19 @@ returns-in-Ok-asked_serving-clause-asked g c =
 
 pub returns-in-Err-OtherWords-clause-asked : goal.returns-in-Err-OtherWords-clause-asked
 returns-in-Err-OtherWords-clause-asked g c =
-    let finds = c.matches_of.ensures.finds in (
-      finds.0,
-      finds.1,
-      asked_for_nothing AskToServe finds.0 (map g.S.AsStr.text c.args.words.now) (λ serving asks.
-          c.in-Err-OtherWords.ensures.err serving
-          (entered_if_asks EntersServe finds.0 (map g.S.AsStr.text c.args.words.now) _ _ finds.2 c.in-Ok.is serving asks)),
-    )
+    let finds = c.matches_of.ensures.finds in
+    (finds.0, finds.1, asked_for_other finds.0 (map g.S.AsStr.text c.args.words.now) _ _ finds.2 c.in-Ok.is c.in-Err-OtherWords.ensures.err)
 
 pub returns-clause-asked : goal.returns-clause-asked
 returns-clause-asked g c =
-    let finds = c.matches_of.ensures.finds in (
+    let finds = c.matches_of.ensures.finds in
+    (finds.0, finds.1, asked_for_other finds.0 (map g.S.AsStr.text c.args.words.now) _ _ finds.2 c.in-Ok.is c.in-Err-BadAddress.ensures.err)
+
+pub returns-in-Err-clause-asked : goal.returns-in-Err-clause-asked
+returns-in-Err-clause-asked g c =
+    let finds = c.in-Err.ensures.finds in (
       finds.0,
       finds.1,
-      asked_for_nothing AskToServe finds.0 (map g.S.AsStr.text c.args.words.now) (λ serving asks.
-          c.in-Err-BadAddress.ensures.err serving
-          (entered_if_asks EntersServe finds.0 (map g.S.AsStr.text c.args.words.now) _ _ finds.2 c.in-Ok.is serving asks)),
+      refused_by_program AskToServe finds.0 (map g.S.AsStr.text c.args.words.now) c.in-Err.error _ finds.2
+          c.explain.ensures.help_at_zero c.explain.ensures.refused_at_two,
     )
