@@ -13,3 +13,6 @@ pub mod PageLemmas
 pub mod Showing
 pub mod BegunLemmas
 pub mod CauseTexts
+pub mod AskingLemmas
+pub mod CommandLemmas
+pub mod CommandExamples

@@ -15,3 +15,6 @@ pub mod Laws
 pub mod Runs
 pub mod Begun
 pub mod Explained
+pub mod Program
+pub mod CommandWords
+pub mod Commands

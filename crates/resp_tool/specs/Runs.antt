@@ -1,7 +1,9 @@
 -- What a run of the program does with its stream.
-use Rattle.std.specs.Prelude.{◌≡◌, ℕ, List, [], Option, Some, IfSome, Result, Ok, Err}
+use Rattle.std.specs.Prelude.{◌≡◌, ◌⊎◌, ◌≤◌, ℕ, false, codes, List, [], Option, Some, IfSome, Result, Ok, Err}
 use Rattle.resp_value.specs.Canonical.{canonical_text, Fits}
 use Rattle.resp_value.specs.Rules.{Rules}
+use Rattle.clap.specs.Words.{App, Text}
+use Rattle.resp_tool.specs.CommandWords.{AreWrong, AskFor, AskForHelp}
 use Rattle.resp_tool.specs.Counts.{Counts, IsAny, LeavesNothing}
 use Rattle.resp_tool.specs.Faults.{fault_line, status_of}
 use Rattle.resp_tool.specs.Live.{EachRead, IsLive, Look}
@@ -9,6 +11,7 @@ use Rattle.resp_tool.specs.Scans.{IsShownDue, IsShownIn, IsShownOf}
 use Rattle.resp_tool.specs.Shown.{shown_text}
 use Rattle.resp_tool.specs.Streams.{AreRead, AtEnd, Renders}
 use Rattle.resp_tool.specs.Written.{TriesText}
+use Rattle.resp_tool.specs.declared.options.Options.{Options}
 use Rattle.resp_tool.specs.declared.options.Task.{Task}
 use Rattle.resp_tool.specs.declared.options.Task.TheVariants.{Show, Check, Canon}
 use Rattle.resp_tool.specs.declared.tool_error.ToolError.{ToolError}
@@ -43,11 +46,9 @@ abbrev pub TellsFailure : Option (List ℕ) → Option (List ℕ) → ℕ → �
 TellsFailure said said' failures failures' = (error : ToolError) × (status_of error ≡ 3) ×
     TriesText said said' failures failures' (fault_line error)
 
--- one of the tasks ran, under some version and limits, ended with this status, and was told of so
-pub record HasRun (left left' before after said said' : Option (List ℕ)) (looks looks' : Option (List Look))
-    (failures failures' status : ℕ) : Type 0 where
-  pub task : Task
-  pub rules : Rules
+-- the task ran under the rules, ended with this status, and was told of so
+pub record HasRun (task : Task) (rules : Rules) (left left' before after said said' : Option (List ℕ))
+    (looks looks' : Option (List Look)) (failures failures' status : ℕ) : Type 0 where
   pub bytes : List ℕ
   pub result : Result (Unit {0}) ToolError
   pub read : AreRead left left' bytes
@@ -56,3 +57,21 @@ pub record HasRun (left left' before after said said' : Option (List ℕ)) (look
   pub live : Lives task rules left before looks looks'
   pub ended : status_of_run result ≡ status
   pub told : TellsOutcome said said' failures failures' result
+
+-- the status of words that ask for help, that are wrong or that nothing was done for since a device or memory failed
+abbrev pub IsWordStatus : ℕ → Type 0
+IsWordStatus status = (status ≡ 0) ⊎ (2 ≤ status) × (status ≤ 3)
+
+-- the words ask for a task over standard input, and for nothing that is done elsewhere
+abbrev pub AskForRun : App → List Text → Options → Type 0
+AskForRun program words options =
+    AskFor program words options × (options.file.now ≡ codes "-") × (options.explains ≡ false)
+
+-- what the words bring about, where the first says that nothing was read, and the second which options were run: help, or
+-- nothing since they are wrong, or since a device or memory failed, or a run of what they ask for
+abbrev pub DoesWords : App → List Text → Type 0 → (Options → Type 0) → ℕ → Type 0
+DoesWords program words Stays Runs status =
+    (Stays × (status ≡ 0) × AskForHelp program words)
+    ⊎ (Stays × (status ≡ 2) × AreWrong AskForRun program words)
+    ⊎ (Stays × (status ≡ 3))
+    ⊎ ((options : Options) × AskForRun program words options × Runs options)

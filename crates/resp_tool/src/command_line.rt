@@ -1,8 +1,11 @@
 //! The command line of the program: what its words bring about, and the status.
 
-ghost use Rattle.std.specs.Prelude.{◌≡◌, ◌≢◌, ◌⊎◌, ◌≤◌, ◌+◌, ℕ, List, [], Some, IfErr, IfOk, IfSome, IsErrOf, OnOk, codes};
+ghost use Rattle.std.specs.Prelude.{◌≡◌, ◌≢◌, ◌⊎◌, ◌≤◌, ◌+◌, ℕ, List, [], Some, IfErr, IfOk, IfSome, IsErrOf, OnOk, codes, map};
+ghost use Rattle.clap.specs.Words.{App, kind_of};
+ghost use Rattle.resp_tool.specs.CommandWords.{AnswersStatus, AskFor};
 ghost use Rattle.resp_tool.specs.Faults.{fault_line, open_failed_line, status_of};
-ghost use Rattle.resp_tool.specs.Runs.{HasRun, Lives, TaskWrites, TellsFailure};
+ghost use Rattle.resp_tool.specs.Program.{IsProgram};
+ghost use Rattle.resp_tool.specs.Runs.{DoesWords, HasRun, IsWordStatus, Lives, TaskWrites, TellsFailure};
 ghost use Rattle.resp_tool.specs.Streams.{AreRead, AtEnd};
 ghost use Rattle.resp_tool.specs.Written.{TriesText, WritesText};
 ghost use Rattle.resp_value.specs.Rules.{rules_under};
@@ -34,7 +37,12 @@ pub(crate) fn explain<W: Sink, F: Sink>(
     writer: &mut W,
     faults: &mut F,
 ) -> u8
-    ensures never_one { (result ≡ 0) ⊎ (2 ≤ result) × (result ≤ 3) }
+    ensures never_one { IsWordStatus result }
+    ensures help_at_zero { result ≡ 0 → (kind_of error.now ≡ ErrorKind.DisplayHelp)
+        ⊎ (kind_of error.now ≡ ErrorKind.DisplayVersion) }
+    ensures refused_at_two { result ≡ 2 → (kind_of error.now ≢ ErrorKind.OutOfMemory)
+        × (kind_of error.now ≢ ErrorKind.DisplayHelp)
+        × (kind_of error.now ≢ ErrorKind.DisplayVersion) }
     ensures bad_words_write_nothing { result ≡ 2 → writer.new ≡ writer.old }
     ensures nothing_told_at_zero { result ≡ 0 → faults.new ≡ faults.old }
     ensures told_at_three { result ≡ 3 → TellsFailure (F.written faults.old)
@@ -44,15 +52,19 @@ pub(crate) fn explain<W: Sink, F: Sink>(
         Ok(text) => text,
         Err(_) => return stop(&ToolError::Memory, faults),
     };
-    if error.kind() == ErrorKind::OutOfMemory {
-        stop(&ToolError::Memory, faults)
-    } else if error.use_stderr() {
-        let _ = write_text(faults, text.as_str().as_bytes());
-        BAD_ARGUMENTS
-    } else if write_text(writer, text.as_str().as_bytes()).is_err() {
-        stop(&ToolError::Write, faults)
-    } else {
-        0
+    match error.kind() {
+        ErrorKind::OutOfMemory => stop(&ToolError::Memory, faults),
+        ErrorKind::DisplayHelp | ErrorKind::DisplayVersion => {
+            if write_text(writer, text.as_str().as_bytes()).is_err() {
+                stop(&ToolError::Write, faults)
+            } else {
+                0
+            }
+        }
+        _ => {
+            let _ = write_text(faults, text.as_str().as_bytes());
+            BAD_ARGUMENTS
+        }
     }
 }
 
@@ -150,23 +162,27 @@ pub fn read_words<'a, S: AsStr, W: Sink, F: Sink>(
     writer: &mut W,
     faults: &mut F,
 ) -> Result<Options<'a>, u8>
+    ensures asked { (program : App) × IsProgram program
+        × AnswersStatus AskFor program (map S.text words.entry.now) result }
     ensures piece_in_range { IfOk result (λ options.
         (1 ≤ options.piece) × (options.piece ≤ 65536)) }
     ensures nothing_said { OnOk result ((writer.new ≡ writer.old) × (faults.new ≡ faults.old)) }
-    ensures never_one { IfErr result (λ status.
-        (status ≡ 0) ⊎ (2 ≤ status) × (status ≤ 3)) }
+    ensures never_one { IfErr result IsWordStatus }
     ensures nothing_told_at_zero { IsErrOf result 0 → faults.new ≡ faults.old }
     ensures nothing_at_two { IsErrOf result 2 → writer.new ≡ writer.old }
     ensures told_at_three { IsErrOf result 3 → TellsFailure (F.written faults.old)
         (F.written faults.new) (F.failures faults.old) (F.failures faults.new) }
 {
-    match parse(alloc, words) {
-        Ok(Some(options)) => Ok(options),
-        Ok(None) => {
+    let asked = match parse(alloc, words) {
+        Ok(asked) => asked,
+        Err(error) => return Err(explain(alloc, &error, writer, faults)),
+    };
+    match asked {
+        Some(options) => Ok(options),
+        None => {
             let _ = write_text(faults, b"error: these words ask for nothing here\n");
             Err(BAD_ARGUMENTS)
         }
-        Err(error) => Err(explain(alloc, &error, writer, faults)),
     }
 }
 
@@ -183,10 +199,11 @@ pub fn run_options<R: LiveSource<W>, W: LiveSink, F: Sink>(
 ) -> u8
     requires { (1 ≤ options.now.piece) × (options.now.piece ≤ 65536) }
     ensures status { (result ≤ 3) × (result ≢ 2) }
-    ensures ran { HasRun (R.remaining reader.old) (R.remaining reader.new) (W.written writer.old)
-        (W.written writer.new) (F.written faults.old) (F.written faults.new)
-        (R.looks reader.old) (R.looks reader.new) (F.failures faults.old)
-        (F.failures faults.new) result }
+    ensures ran { HasRun options.now.task
+        (rules_under options.now.version options.now.limits) (R.remaining reader.old)
+        (R.remaining reader.new) (W.written writer.old) (W.written writer.new)
+        (F.written faults.old) (F.written faults.new) (R.looks reader.old) (R.looks reader.new)
+        (F.failures faults.old) (F.failures faults.new) result }
     ensures reads_bounded { R.calls reader.new ≤ R.calls reader.old + MOST_READS }
     ensures nothing_told_at_zero { result ≡ 0 → faults.new ≡ faults.old }
     ensures told_at_three { result ≡ 3 → TellsFailure (F.written faults.old)
@@ -211,10 +228,12 @@ pub fn command<S: AsStr, R: LiveSource<W>, W: LiveSink, F: Sink>(
     faults: &mut F,
 ) -> u8
     ensures at_most_three { result ≤ 3 }
-    ensures ran { ((reader.new ≡ reader.old) × (result ≢ 1)) ⊎ HasRun (R.remaining reader.old)
+    ensures does { (program : App) × IsProgram program × DoesWords program
+        (map S.text words.now) (reader.new ≡ reader.old) (λ options. HasRun options.task
+        (rules_under options.version options.limits) (R.remaining reader.old)
         (R.remaining reader.new) (W.written writer.old) (W.written writer.new)
         (F.written faults.old) (F.written faults.new) (R.looks reader.old) (R.looks reader.new)
-        (F.failures faults.old) (F.failures faults.new) result }
+        (F.failures faults.old) (F.failures faults.new) result) result }
     ensures reads_bounded { R.calls reader.new ≤ R.calls reader.old + MOST_READS }
     ensures nothing_told_at_zero { result ≡ 0 → faults.new ≡ faults.old }
     ensures told_at_three { result ≡ 3 → TellsFailure (F.written faults.old)

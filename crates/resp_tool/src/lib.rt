@@ -12,6 +12,7 @@ pub mod laws;
 mod lines;
 pub mod live;
 pub mod options;
+mod parser;
 mod printer;
 mod rendering;
 pub mod serving;

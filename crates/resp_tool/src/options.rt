@@ -1,93 +1,20 @@
 //! What the words of the command line ask for.
 
-ghost use Rattle.std.specs.Prelude.{◌≤◌, IfOk, IfSome};
+ghost use Rattle.std.specs.Prelude.{◌≡◌, ◌≤◌, ℕ, Bool, false, IfNone, IfOk, IfSome, map, option_map};
+ghost use Rattle.clap.specs.Words.{App, first_of, found_of, rows_of, subcommand_rows_of};
+ghost use Rattle.resp_tool.specs.CommandWords.{AnswersWords, AskFor, Enters, HasFlag, HasLimits, HasNumber, HasOptions, HasProto};
+ghost use Rattle.resp_tool.specs.Program.{IsProgram};
+ghost use Rattle.resp_value.specs.Bounds.{Bounds};
 
-use crate::serving::with_serve_options;
-use clap::{Arg, ArgAction, ArgMatches, Command};
+use crate::parser::matches_of;
+use clap::ArgMatches;
 use resp_value::limits::Limits;
 use resp_value::version::Version;
 use std::alloc::Global;
 use std::convert::AsStr;
 
-/// The greatest limit of total and of items.
-const MOST_TOTAL: i64 = 1_099_511_627_776;
-
 /// The name of a file that is standard input.
 pub const STANDARD_INPUT: &str = "-";
-
-/// What the help of a task says of its statuses.
-const STATUSES: &str = "Statuses:
-  0  All input was read
-  1  A value was refused
-  2  The words of the command line are wrong
-  3  A file can't be opened, the input can't be read, the output can't be written, or memory is out";
-
-/// An option with a number in a range.
-#[derive(Clone, Copy)]
-pub(crate) struct NumberOption {
-    pub(crate) name: &'static str,
-    pub(crate) help: &'static str,
-    pub(crate) least: i64,
-    pub(crate) most: i64,
-    pub(crate) default: &'static str,
-}
-
-/// `--depth`: the limit of depth, in aggregates inside one another.
-const DEPTH: NumberOption = NumberOption {
-    name: "depth",
-    help: "The most aggregates inside one another, from 4 to 128",
-    least: 4,
-    most: 128,
-    default: "32",
-};
-
-/// `--length`: the limit of length, in bytes.
-const LENGTH: NumberOption = NumberOption {
-    name: "length",
-    help: "The most bytes of one string or line, from 64 to 1073741824",
-    least: 64,
-    most: 1_073_741_824,
-    default: "536870912",
-};
-
-/// `--total`: the limit of total, in bytes.
-const TOTAL: NumberOption = NumberOption {
-    name: "total",
-    help: "The most bytes of one value, from 256 to 1099511627776",
-    least: 256,
-    most: MOST_TOTAL,
-    default: "1073741824",
-};
-
-/// `--items`: the limit of items, in members or pairs.
-const ITEMS: NumberOption = NumberOption {
-    name: "items",
-    help: "The most members or pairs of one aggregate, from 16 to 1099511627776",
-    least: 16,
-    most: MOST_TOTAL,
-    default: "1099511627776",
-};
-
-/// `--piece`: the most bytes of one read.
-const PIECE: NumberOption = NumberOption {
-    name: "piece",
-    help: "The most bytes of one read, from 1 to 65536",
-    least: 1,
-    most: 65_536,
-    default: "4096",
-};
-
-impl NumberOption {
-    /// The option for the parser of the words, which refuses a number outside the range.
-    pub(crate) fn option<'a>(self, alloc: Global) -> Arg<'a> {
-        Arg::new(alloc, self.name)
-            .long(self.name)
-            .value_name("N")
-            .help(self.help)
-            .value_parser(clap::value_parser!(u64).range(self.least..=self.most))
-            .default_value(self.default)
-    }
-}
 
 /// What is done with the values of the stream.
 #[derive(Clone, Copy, Debug, PartialEq, Eq)]
@@ -123,131 +50,93 @@ pub fn parse<'a, S: AsStr>(
 ) -> Result<Option<Options<'a>>, clap::Error>
     ensures piece_in_range { IfOk result (λ found. IfSome found (λ options.
         (1 ≤ options.piece) × (options.piece ≤ 65536))) }
+    ensures answers { (program : App) × IsProgram program
+        × AnswersWords AskFor program (map S.text words.entry.now) result }
 {
     let matches = matches_of(alloc, words)?;
-    Ok(match matches.subcommand() {
-        Some(("check", options)) => options_of(Task::Check, options),
-        Some(("canon", options)) => options_of(Task::Canon, options),
-        Some(("loop" | "serve", _)) => None,
-        Some((_, options)) => options_of(Task::Show, options),
-        None => None,
-    })
+    Ok(asked_of(&matches))
 }
 
-/// What the parser of the words finds in them.
-pub(crate) fn matches_of<'a, S: AsStr>(
-    alloc: Global,
-    words: &'a [S],
-) -> Result<ArgMatches<'a>, clap::Error> {
-    program(alloc)?.try_get_matches_from(words)
-}
-
-/// The parser of the words: the subcommands, each with its options.
-fn program<'a>(alloc: Global) -> Result<Command<'a>, clap::Error> {
-    let show = Command::new(alloc, "show").about(
-        "Prints each value of the stream as lines of text",
-    );
-    let check = Command::new(alloc, "check").about(
-        "Reads the stream and prints how many values it has",
-    );
-    let canon = Command::new(alloc, "canon").about(
-        "Writes each value of the stream in its canonical spelling",
-    );
-    let played = Command::new(alloc, "loop").about(
-        "Plays a script of clients of one server, over TCP",
-    );
-    let serve = Command::new(alloc, "serve").about(
-        "Serves PING, ECHO, GET, SET, DEL and HELLO to many clients at once",
-    );
-    Ok(
-        Command::new(alloc, "resp")
-            .bin_name("resp")?
-            .version("0.1.0")
-            .about("Reads a stream of the Redis wire protocol from a file or standard input")
-            .subcommand_required(true)
-            .subcommand(with_options(alloc, show)?)?
-            .subcommand(with_options(alloc, check)?)?
-            .subcommand(with_options(alloc, canon)?)?
-            .subcommand(played.arg(explain(alloc, "Says why a line of the script is bad"))?)?
-            .subcommand(with_serve_options(alloc, serve)?)?,
-    )
-}
-
-/// The option that asks for an explanation of what was refused.
-fn explain<'a>(alloc: Global, help: &'static str) -> Arg<'a> {
-    Arg::new(alloc, "explain")
-        .long("explain")
-        .help(help)
-        .action(ArgAction::SetTrue)
-}
-
-/// A subcommand with the options that all of them have.
-fn with_options<'a>(alloc: Global, command: Command<'a>) -> Result<Command<'a>, clap::Error> {
-    let proto = Arg::new(alloc, "proto")
-        .long("proto")
-        .value_name("VERSION")
-        .help("The version of the protocol")
-        .value_parser(["2", "3"].as_slice())
-        .default_value("2");
-    let file = Arg::new(alloc, "file")
-        .value_name("FILE")
-        .help("The file that is read, or - for standard input")
-        .default_value(STANDARD_INPUT);
-    let doubles = Arg::new(alloc, "doubles")
-        .long("doubles")
-        .help("Lets doubles through, which version 3 alone has")
-        .action(ArgAction::SetTrue);
-    let explain = explain(alloc, "Says where in the input and why a byte was refused");
-    Ok(
-        with_limits(alloc, command.arg(proto)?)?
-            .arg(doubles)?
-            .arg(PIECE.option(alloc))?
-            .arg(explain)?
-            .arg(file)?
-            .after_help(STATUSES),
-    )
-}
-
-/// A subcommand with the options that limit values.
-pub(crate) fn with_limits<'a>(
-    alloc: Global,
-    command: Command<'a>,
-) -> Result<Command<'a>, clap::Error> {
-    let no_streamed = Arg::new(alloc, "no-streamed")
-        .long("no-streamed")
-        .help("Refuses streamed strings and aggregates")
-        .action(ArgAction::SetTrue);
-    Ok(
-        command
-            .arg(DEPTH.option(alloc))?
-            .arg(LENGTH.option(alloc))?
-            .arg(TOTAL.option(alloc))?
-            .arg(ITEMS.option(alloc))?
-            .arg(no_streamed)?,
-    )
+/// The options that the words ask for.
+fn asked_of<'a>(matches: &ArgMatches<'a>) -> Option<Options<'a>>
+    ensures some { IfSome result (Enters (subcommand_rows_of matches.now)) }
+    ensures none { IfNone result ((options : Options)
+        → Enters (subcommand_rows_of matches.now) options → ⊥) }
+{
+    match matches.subcommand() {
+        Some(("show", given)) => options_of(Task::Show, given),
+        Some(("check", given)) => options_of(Task::Check, given),
+        Some(("canon", given)) => options_of(Task::Canon, given),
+        _ => None,
+    }
 }
 
 /// The limits that the options say; none where a number is outside its range.
-pub(crate) fn limits_of(matches: &ArgMatches<'_>) -> Option<Limits> {
-    let depth = matches.get_one::<u64>("depth")?;
-    let length = matches.get_one::<u64>("length")?;
-    let total = matches.get_one::<u64>("total")?;
-    let items = matches.get_one::<u64>("items")?;
+pub(crate) fn limits_of(matches: &ArgMatches<'_>) -> Option<Limits>
+    ensures some { IfSome result (HasLimits (rows_of (found_of matches.now))) }
+    ensures no_doubles { IfSome result (λ limits. limits.doubles ≡ false) }
+    ensures none { IfNone result ((limits : Bounds)
+        → HasLimits (rows_of (found_of matches.now)) limits → ⊥) }
+{
+    let depth = number_of(matches, "depth")?;
+    let length = number_of(matches, "length")?;
+    let total = number_of(matches, "total")?;
+    let items = number_of(matches, "items")?;
+    let no_streamed = flag_of(matches, "no-streamed")?;
     let limits = Limits::new(depth, length, total).ok()?;
     let limits = limits.with_items(items).ok()?;
-    Some(limits.with_streamed(!matches.get_flag("no-streamed")))
+    Some(limits.with_streamed(!no_streamed))
+}
+
+/// The number of an option.
+pub(crate) fn number_of(matches: &ArgMatches<'_>, name: &str) -> Option<u64>
+    ensures some { IfSome result (HasNumber (rows_of (found_of matches.now)) name.now) }
+    ensures none { IfNone result ((number : ℕ)
+        → HasNumber (rows_of (found_of matches.now)) name.now number → ⊥) }
+{
+    matches.get_one::<u64>(name)
+}
+
+/// Whether an option is given.
+fn flag_of(matches: &ArgMatches<'_>, name: &str) -> Option<bool>
+    ensures some { IfSome result (HasFlag (rows_of (found_of matches.now)) name.now) }
+    ensures none { IfNone result ((on : Bool)
+        → HasFlag (rows_of (found_of matches.now)) name.now on → ⊥) }
+{
+    matches.get_one::<bool>(name)
+}
+
+/// The text of an option.
+pub(crate) fn text_of<'a>(matches: &ArgMatches<'a>, name: &str) -> Option<&'a str>
+    ensures { option_map (λ text. text.now) result
+        ≡ first_of name.now (rows_of (found_of matches.now)) }
+{
+    matches.get_str(name)
+}
+
+/// The version of `--proto`.
+fn version_of(matches: &ArgMatches<'_>) -> Option<Version>
+    ensures some { IfSome result (HasProto (rows_of (found_of matches.now))) }
+    ensures none { IfNone result ((version : Version)
+        → HasProto (rows_of (found_of matches.now)) version → ⊥) }
+{
+    match text_of(matches, "proto")? {
+        "2" => Some(Version::Two),
+        "3" => Some(Version::Three),
+        _ => None,
+    }
 }
 
 /// The options of a subcommand; none where a number is outside its range.
 fn options_of<'a>(task: Task, matches: &ArgMatches<'a>) -> Option<Options<'a>>
-    ensures { IfSome result (λ options. (1 ≤ options.piece) × (options.piece ≤ 65536)) }
+    ensures task { IfSome result (λ options. options.task ≡ task) }
+    ensures some { IfSome result (HasOptions (rows_of (found_of matches.now))) }
+    ensures none { IfNone result ((options : Options)
+        → HasOptions (rows_of (found_of matches.now)) options → ⊥) }
 {
-    let version = match matches.get_str("proto") {
-        Some("3") => Version::Three,
-        _ => Version::Two,
-    };
-    let limits = limits_of(matches)?.with_doubles(matches.get_flag("doubles"));
-    let piece = matches.get_one::<u64>("piece")?;
+    let version = version_of(matches)?;
+    let limits = limits_of(matches)?.with_doubles(flag_of(matches, "doubles")?);
+    let piece = number_of(matches, "piece")?;
     if piece < 1 || piece > 65_536 {
         return None;
     }
@@ -256,7 +145,7 @@ fn options_of<'a>(task: Task, matches: &ArgMatches<'a>) -> Option<Options<'a>>
         version,
         limits,
         piece: piece as usize,
-        file: matches.get_str("file")?,
-        explains: matches.get_flag("explain"),
+        file: text_of(matches, "file")?,
+        explains: flag_of(matches, "explain")?,
     })
 }

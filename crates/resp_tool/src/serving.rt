@@ -1,31 +1,22 @@
 //! What the words of `resp serve` ask for.
 
-ghost use Rattle.std.specs.Prelude.{◌≡◌, ◌⊎◌, ◌≤◌, IfErr, IfOk, IfSome, IsErrOf, OnOk};
-ghost use Rattle.resp_tool.specs.Runs.{TellsFailure};
+ghost use Rattle.std.specs.Prelude.{◌≡◌, ◌≤◌, ℕ, List, IfErr, IfNone, IfOk, IfSome, IsErrOf, OnErr, OnOk, map};
+ghost use Rattle.clap.specs.Words.{App, found_of, rows_of, subcommand_rows_of};
+ghost use Rattle.resp_tool.specs.CommandWords.{AnswersStatus, AskToServe, EntersServe, HasServeWords, HasServing};
+ghost use Rattle.resp_tool.specs.Program.{IsProgram};
+ghost use Rattle.resp_tool.specs.Runs.{IsWordStatus, TellsFailure};
+ghost use Rattle.resp_value.specs.Bounds.{Bounds};
 
 use crate::command_line::{BAD_ARGUMENTS, explain};
-use crate::options::{NumberOption, limits_of, matches_of, with_limits};
+use crate::options::{limits_of, number_of, text_of};
+use crate::parser::matches_of;
 use crate::text::write_text;
-use clap::{Arg, ArgMatches, Command};
+use clap::ArgMatches;
 use resp_value::device::{Sink, WriteFault};
 use resp_value::limits::Limits;
 use std::alloc::Global;
 use std::convert::AsStr;
 use std::net::SocketAddr;
-
-/// What the help says of the statuses.
-const STATUSES: &str = "Statuses:
-  2  The words of the command line are wrong
-  3  The address can't be opened, or memory is out";
-
-/// `--clients`: the most clients at once.
-const CLIENTS: NumberOption = NumberOption {
-    name: "clients",
-    help: "The most clients at once, from 1 to 65536",
-    least: 1,
-    most: 65_536,
-    default: "1000",
-};
 
 /// Where clients are served, how many at once, and within which limits their values are read.
 #[derive(Clone, Copy, Debug)]
@@ -46,21 +37,13 @@ struct Words<'a> {
     clients: usize,
 }
 
-/// The subcommand `serve` with its options.
-pub(crate) fn with_serve_options<'a>(
-    alloc: Global,
-    command: Command<'a>,
-) -> Result<Command<'a>, clap::Error> {
-    let address = Arg::new(alloc, "address")
-        .value_name("ADDRESS")
-        .help("The address to listen on, as 127.0.0.1:6380")
-        .required(true);
-    Ok(
-        with_limits(alloc, command)?
-            .arg(CLIENTS.option(alloc))?
-            .arg(address)?
-            .after_help(STATUSES),
-    )
+/// Why there is nothing to serve.
+#[derive(Clone, Copy)]
+enum NoServing<'a> {
+    /// The words ask for something else.
+    OtherWords,
+    /// The text is no address.
+    BadAddress(&'a str),
 }
 
 /// Reads the words, the program's name first among them, and `serve` second. Where they ask for
@@ -72,11 +55,12 @@ pub fn read_serving<'a, S: AsStr, W: Sink, F: Sink>(
     writer: &mut W,
     faults: &mut F,
 ) -> Result<Serving<'a>, u8>
+    ensures asked { (program : App) × IsProgram program
+        × AnswersStatus AskToServe program (map S.text words.entry.now) result }
     ensures clients_in_range { IfOk result (λ serving.
         (1 ≤ serving.clients) × (serving.clients ≤ 65536)) }
     ensures nothing_said { OnOk result ((writer.new ≡ writer.old) × (faults.new ≡ faults.old)) }
-    ensures never_one { IfErr result (λ status.
-        (status ≡ 0) ⊎ (2 ≤ status) × (status ≤ 3)) }
+    ensures never_one { IfErr result IsWordStatus }
     ensures nothing_told_at_zero { IsErrOf result 0 → faults.new ≡ faults.old }
     ensures nothing_at_two { IsErrOf result 2 → writer.new ≡ writer.old }
     ensures told_at_three { IsErrOf result 3 → TellsFailure (F.written faults.old)
@@ -86,39 +70,65 @@ pub fn read_serving<'a, S: AsStr, W: Sink, F: Sink>(
         Ok(matches) => matches,
         Err(error) => return Err(explain(alloc, &error, writer, faults)),
     };
-    let found = match matches.subcommand() {
-        Some(("serve", options)) => words_of(options),
-        _ => None,
-    };
-    let Some(found) = found else {
-        let _ = write_text(faults, b"error: these words ask for nothing here\n");
-        return Err(BAD_ARGUMENTS);
-    };
-    match found.address.parse::<SocketAddr>() {
-        Ok(address) => Ok(Serving {
-            address,
-            address_text: found.address,
-            limits: found.limits,
-            clients: found.clients,
-        }),
-        Err(_) => {
-            let _ = write_bad_address(found.address, faults);
+    match asked_serving(&matches) {
+        Ok(serving) => Ok(serving),
+        Err(NoServing::OtherWords) => {
+            let _ = write_text(faults, b"error: these words ask for nothing here\n");
+            Err(BAD_ARGUMENTS)
+        }
+        Err(NoServing::BadAddress(address)) => {
+            let _ = write_bad_address(address, faults);
             Err(BAD_ARGUMENTS)
         }
     }
 }
 
-/// What the options of the subcommand are; none where a number is outside its range, which the
-/// parser of the words refuses before.
-fn words_of<'a>(matches: &ArgMatches<'a>) -> Option<Words<'a>>
-    ensures { IfSome result (λ words. (1 ≤ words.clients) × (words.clients ≤ 65536)) }
+/// What the words ask to be served, or why they don't.
+fn asked_serving<'a>(matches: &ArgMatches<'a>) -> Result<Serving<'a>, NoServing<'a>>
+    ensures ok { IfOk result (EntersServe (subcommand_rows_of matches.now)) }
+    ensures err { OnErr result ((serving : Serving)
+        → EntersServe (subcommand_rows_of matches.now) serving → ⊥) }
 {
-    let clients = matches.get_one::<u64>("clients")?;
+    match matches.subcommand() {
+        Some(("serve", given)) => serving_of(given),
+        _ => Err(NoServing::OtherWords),
+    }
+}
+
+/// What the options of `serve` say.
+fn serving_of<'a>(matches: &ArgMatches<'a>) -> Result<Serving<'a>, NoServing<'a>>
+    ensures ok { IfOk result (HasServing (rows_of (found_of matches.now))) }
+    ensures err { OnErr result ((serving : Serving)
+        → HasServing (rows_of (found_of matches.now)) serving → ⊥) }
+{
+    let Some(words) = words_of(matches) else {
+        return Err(NoServing::OtherWords);
+    };
+    match words.address.parse::<SocketAddr>() {
+        Ok(address) => Ok(Serving {
+            address,
+            address_text: words.address,
+            limits: words.limits,
+            clients: words.clients,
+        }),
+        Err(_) => Err(NoServing::BadAddress(words.address)),
+    }
+}
+
+/// The same, before the address is read; none where a number is outside its range, which the parser
+/// of the words refuses before.
+fn words_of<'a>(matches: &ArgMatches<'a>) -> Option<Words<'a>>
+    ensures some { IfSome result (λ words. HasServeWords (rows_of (found_of matches.now))
+        words.address.now words.limits words.clients) }
+    ensures none { IfNone result ((address : List ℕ) (limits : Bounds) (clients : ℕ)
+        → HasServeWords (rows_of (found_of matches.now)) address limits clients → ⊥) }
+{
+    let clients = number_of(matches, "clients")?;
     if clients < 1 || clients > 65_536 {
         return None;
     }
     Some(Words {
-        address: matches.get_str("address")?,
+        address: text_of(matches, "address")?,
         limits: limits_of(matches)?,
         clients: clients as usize,
     })

@@ -1,0 +1,235 @@
+-- What the words give an option, from what the matches read of it.
+use Rattle.std.proofs.Common.{subst, ◌≤◌, zero, suc, arith, inl, inr, ◌⊎◌, ◌≢◌, ◌∙◌, ◌≡◌, ℕ, ap, Bool, true, false, List, [], ◌∷◌, map, refl, sym, Option, Some, None, Result, Ok, Err, IfOk, IfSome, IfNone, codes}
+use Rattle.std.specs.Str.Parse.{ParsesBool, ParsesUnsigned}
+use Rattle.clap.specs.Words.{App, FailsBy, HasKind, HasMatchesOf, IsAmong, kind_of, ReadsOne, Row, Text, fault_of, first_of, is_simple, is_simple_and_free, one_of, one_text, rows_of, subcommand_of, subcommand_rows_of}
+use Rattle.clap.specs.declared.error.Error.{Error}
+use Rattle.clap.specs.declared.error.kind.ErrorKind.{ErrorKind}
+use Rattle.clap.specs.declared.error.kind.ErrorKind.TheVariants.{DisplayHelp, DisplayVersion, OutOfMemory}
+use Rattle.clap.specs.declared.builder.value_parser.ValueParser.{ValueParser}
+use Rattle.clap.specs.declared.parser.matches.ArgMatches.{ArgMatches}
+use Rattle.clap.specs.declared.parser.matches.Found.{Found}
+use Rattle.clap.proofs.OnLiterals.{clap_on_literals}
+use Rattle.clap.proofs.WalkLemmas.{one_text-rows}
+use Rattle.resp_tool.specs.CommandWords.{AnswersStatus, AnswersWords, AreWrong, AskFor, AskToServe, Enters, EntersServe, FindsWords, HasFlag, HasNumber, flag_text}
+use Rattle.resp_tool.specs.Runs.{AskForRun, DoesWords, IsWordStatus}
+use Rattle.std.proofs.lemmas.Slice.Eq.{bytes_eq-Decides}
+use Rattle.std.specs.Str.{bytes_eq}
+use Rattle.std.specs.Prelude.{not, unwrap_or}
+use Rattle.std.specs.Option.{option_map_or}
+use Rattle.resp_tool.specs.Program.{IsProgram, resp_app}
+use Rattle.resp_tool.proofs.CommandLemmas.{names_take_versions}
+use Rattle.std.specs.Borrow.{Bor}
+use Rattle.clap.specs.declared.builder.value_parser.ValueParser.TheVariants as vp
+use Rattle.resp_tool.specs.declared.options.Options.{Options}
+use Rattle.resp_tool.specs.declared.serving.Serving.{Serving}
+
+none≢some : {X : Type 0} (x : X) → Some x ≡ None → ⊥
+none≢some x e = cc
+
+module _ {E : Type 0} (f : Found) (name : Text) where
+  -- a number that was read is the option's, and where none was read the option has none
+  pub number_read : (G : List ℕ → Result ℕ E → Type 0) (r : Option ℕ) → ((t : Text) (x : Result ℕ E) → G t x → ParsesUnsigned 64 10 t x) →
+      (one_text f name ≡ None → r ≡ None) → ((t : Text) → one_text f name ≡ Some t → ReadsOne G t r) →
+      IfSome r (HasNumber (rows_of f) name)
+  number_read G None parses none value = tt
+  number_read G (Some v) parses none value = go (one_text f name) refl
+    where
+      go : (o : Option Text) → one_text f name ≡ o → HasNumber (rows_of f) name v
+      go None e = absurd (none≢some v (none e))
+      go (Some t) e =
+          let p = parses t (Ok v) (value t e) in
+          (t, sym (one_text-rows f name) ∙ e, p.0.0, sym p.1, rw p.1 p.0.1)
+
+  pub no_number_read : (G : List ℕ → Result ℕ E → Type 0) (r : Option ℕ) → ((t : Text) (x : Result ℕ E) → G t x → ParsesUnsigned 64 10 t x) →
+      ((t : Text) → one_text f name ≡ Some t → ReadsOne G t r) →
+      IfNone r ((n : ℕ) → HasNumber (rows_of f) name n → ⊥)
+  no_number_read G (Some v) parses value = tt
+  no_number_read G None parses value = λ n has.
+      let got = value has.0 (one_text-rows f name ∙ has.1) in
+      parses has.0 (Err got.0) got.1 (has.2, rw has.3 has.4)
+
+-- and so of a flag
+module _ (E : Type 0) (f : Found) (name : Text) where
+  pub flag_read : (r : Option Bool) → (one_text f name ≡ None → r ≡ None) →
+      ((t : Text) → one_text f name ≡ Some t → ReadsOne (ParsesBool {E = E}) t r) → IfSome r (HasFlag (rows_of f) name)
+  flag_read None none value = tt
+  flag_read (Some on) none value = go (one_text f name) refl on none value
+    where
+      go : (o : Option Text) → one_text f name ≡ o → (b : Bool) → (one_text f name ≡ None → Some b ≡ None) →
+          ((t : Text) → one_text f name ≡ Some t → ParsesBool {E = E} t (Ok b)) → HasFlag (rows_of f) name b
+      go None e b none value = absurd (none≢some b (none e))
+      go (Some t) e true none value = sym (one_text-rows f name) ∙ e ∙ ap (λ (w : Text). Some w) (value t e)
+      go (Some t) e false none value = sym (one_text-rows f name) ∙ e ∙ ap (λ (w : Text). Some w) (value t e)
+
+  pub no_flag_read : (r : Option Bool) → ((t : Text) → one_text f name ≡ Some t → ReadsOne (ParsesBool {E = E}) t r) →
+      IfNone r ((on : Bool) → HasFlag (rows_of f) name on → ⊥)
+  no_flag_read (Some b) value = tt
+  no_flag_read None value = go
+    where
+      go : (on : Bool) → HasFlag (rows_of f) name on → ⊥
+      go true has = (value (codes "true") (one_text-rows f name ∙ has)).1.0 refl
+      go false has = (value (codes "false") (one_text-rows f name ∙ has)).1.1 refl
+
+pub if_none : {X : Type 0} (r : Option X) (P : Type 0) → P → IfNone r P
+if_none (Some x) P p = tt
+if_none None P p = p
+
+-- the program is one of which the matches are known
+program_is_simple : (versions : ValueParser) → is_simple (resp_app versions) ≡ true
+unfolding clap_on_literals
+program_is_simple versions = refl
+
+program_is_free : (versions : ValueParser) → is_simple_and_free (resp_app versions) ≡ true
+unfolding clap_on_literals
+program_is_free versions = refl
+
+-- what the parser finds is what the program's definition says
+pub found_by_program : (versions : ValueParser) (app : App) (words : List Text) (found : Result ArgMatches Error) → app ≡ resp_app versions →
+    (is_simple_and_free app ≡ true → FailsBy (fault_of app words) found) → IfOk found (HasMatchesOf app words) →
+    FindsWords (resp_app versions) words found
+found_by_program versions app words (Ok m) is fails matches =
+    let known = rw is at matches in
+    let taken = rw is at fails in
+    (taken (program_is_free versions), (known (program_is_simple versions)).1)
+found_by_program versions app words (Err e) is fails matches =
+    let taken = rw is at fails in
+    taken (program_is_free versions)
+
+-- what was entered is what the words ask for
+module _ {X : Type 0} (Enter : Option (Text × List Row) → X → Type 0) (program : App) (words : List Text)
+    (found : Result ArgMatches Error) (m : ArgMatches) (finds : FindsWords program words found) (is : found ≡ Ok m) where
+  pub asks_if_entered : (x : X) → Enter (subcommand_rows_of m) x → (fault_of program words ≡ []) × Enter (subcommand_of program words) x
+  asks_if_entered x enters =
+      let all = rw is at finds in
+      (all.0, subst (λ (entered : Option (Text × List Row)). Enter entered x) all.1 enters)
+
+  pub entered_if_asks : (x : X) → (fault_of program words ≡ []) × Enter (subcommand_of program words) x → Enter (subcommand_rows_of m) x
+  entered_if_asks x asks =
+      let all = rw is at finds in
+      subst (λ (entered : Option (Text × List Row)). Enter entered x) (sym all.1) asks.1
+
+-- and so is what is answered to the words
+pub answered_by_program : (program : App) (words : List Text) (found : Result ArgMatches Error) (m : ArgMatches) (asked : Option Options) →
+    FindsWords program words found → found ≡ Ok m → IfSome asked (Enters (subcommand_rows_of m)) →
+    IfNone asked ((options : Options) → Enters (subcommand_rows_of m) options → ⊥) → AnswersWords AskFor program words (Ok asked)
+answered_by_program program words found m (Some options) finds is some none =
+    asks_if_entered Enters program words found m finds is options some
+answered_by_program program words found m None finds is some none = inr (
+  (rw is at finds).0,
+  λ options asks. none options (entered_if_asks Enters program words found m finds is options asks),
+)
+
+-- it is the program's definition, where `--proto` takes the two names
+pub is_program : (names : Bor (List (Bor Text))) (words : List Text) (found : Result ArgMatches Error) →
+    FindsWords (resp_app (vp.Names names)) words found → map (λ s. s.now) names.now ≡ codes "2" ∷ codes "3" ∷ [] →
+    (program : App) × IsProgram program × FindsWords program words found
+is_program names words found finds are =
+    (resp_app (vp.Names names), (vp.Names names, names_take_versions names are, refl), finds)
+
+-- ---- statuses
+
+among : (k k' : ErrorKind) (kinds : List ErrorKind) → k ≡ k' → IsAmong k kinds → IsAmong k' kinds
+among k k' kinds is h = rw is at h
+
+-- the status of what the parser refuses or helps with
+pub refused_by_program : {X : Type 0} (Ask : App → List Text → X → Type 0) (program : App) (words : List Text) (error : Error) (status : ℕ) →
+    HasKind (fault_of program words) error → (status ≡ 0 → (kind_of error ≡ DisplayHelp) ⊎ (kind_of error ≡ DisplayVersion)) →
+    (status ≡ 2 → (kind_of error ≢ OutOfMemory) × (kind_of error ≢ DisplayHelp) × (kind_of error ≢ DisplayVersion)) →
+    AnswersStatus Ask program words (Err status)
+refused_by_program Ask program words error status (inl memory) helps refuses = (
+  λ none. elim (helps none) [
+    | inl help ↦ let bad : OutOfMemory ≡ DisplayHelp = sym memory ∙ help in cc
+    | inr version ↦ let bad : OutOfMemory ≡ DisplayVersion = sym memory ∙ version in cc
+  ],
+  λ two. absurd ((refuses two).0 memory),
+)
+refused_by_program Ask program words error status (inr kind) helps refuses = (
+  λ none. elim (helps none) [
+    | inl help ↦ inl (among _ _ _ help kind)
+    | inr version ↦ inr (among _ _ _ version kind)
+  ],
+  λ two. inl (kind_of error, kind, (refuses two).1, (refuses two).2),
+)
+
+-- the status of words that ask for nothing here
+pub asked_for_nothing : {X : Type 0} (Ask : App → List Text → X → Type 0) (program : App) (words : List Text) → AreWrong Ask program words →
+    AnswersStatus Ask program words (Err 2)
+asked_for_nothing Ask program words wrong = (λ two. absurd (omega arith), λ two. wrong)
+
+-- and of other words than those for `serve`
+pub asked_for_other : (program : App) (words : List Text) (found : Result ArgMatches Error) (m : ArgMatches) → FindsWords program words found →
+    found ≡ Ok m → ((serving : Serving) → EntersServe (subcommand_rows_of m) serving → ⊥) → AnswersStatus AskToServe program words (Err 2)
+asked_for_other program words found m finds is none = asked_for_nothing AskToServe program words (inr (
+  (rw is at finds).0,
+  λ serving asks. none serving (entered_if_asks EntersServe program words found m finds is serving asks),
+))
+
+two_or_three : (n : ℕ) → 2 ≤ n → n ≤ 3 → (n ≡ 2) ⊎ (n ≡ 3)
+two_or_three zero low high = absurd (omega arith)
+two_or_three (suc zero) low high = absurd (omega arith)
+two_or_three (suc (suc zero)) low high = inl refl
+two_or_three (suc (suc (suc zero))) low high = inr refl
+two_or_three (suc (suc (suc (suc n)))) low high = absurd (omega arith)
+
+wrong_for_run : (program : App) (words : List Text) → AreWrong AskFor program words → AreWrong AskForRun program words
+wrong_for_run program words (inl refused) = inl refused
+wrong_for_run program words (inr other) = inr (other.0, λ options asks. other.1 options asks.0)
+
+-- what comes of words that ask for nothing to be run
+pub does_nothing : (program : App) (words : List Text) (Stays : Type 0) (Runs : Options → Type 0) (status : ℕ) → Stays →
+    AnswersStatus AskFor program words (Err status) → IsWordStatus status → DoesWords program words Stays Runs status
+does_nothing program words Stays Runs status stays answers (inl none) = inl (stays, none, answers.0 none)
+does_nothing program words Stays Runs status stays answers (inr range) = elim (two_or_three status range.0 range.1) [
+  | inl two ↦ inr (inl (stays, two, wrong_for_run program words (answers.1 two)))
+  | inr three ↦ inr (inr (inl (stays, three)))
+]
+
+flag_of_text : (a b : Bool) → flag_text a ≡ flag_text b → a ≡ b
+flag_of_text true true e = refl
+flag_of_text false false e = refl
+flag_of_text true false e = ap (λ (t : Text). bytes_eq t (codes "true")) e
+flag_of_text false true e = ap (λ (t : Text). bytes_eq t (codes "false")) (sym e)
+
+text_in : Option Text → Text
+text_in o = unwrap_or o []
+
+given_in : Option (Text × List Row) → List Row
+given_in o = option_map_or (λ p. p.1) o []
+
+pub is_standard_input : (name : Text) → not (bytes_eq name (codes "-")) ≡ false → name ≡ codes "-"
+is_standard_input name e = go (bytes_eq name (codes "-")) refl e
+  where
+    go : (b : Bool) → bytes_eq name (codes "-") ≡ b → not b ≡ false → name ≡ codes "-"
+    go true is e = (bytes_eq-Decides name (codes "-")).0 is
+    go false is e = cc
+
+-- words ask for one file, and either for explanations or for none
+pub asked_once : (program : App) (words : List Text) (a b : Options) → AskFor program words a → AskFor program words b →
+    (a.file.now ≡ b.file.now) × (a.explains ≡ b.explains)
+unfolding text_in given_in
+asked_once program words a b asks asks' =
+    let given : asks.1.0 ≡ asks'.1.0 = ap given_in (sym asks.1.1 ∙ asks'.1.1) in
+    let same : first_of (codes "file") asks.1.0 ≡ first_of (codes "file") asks'.1.0 = ap (first_of (codes "file")) given in
+    let flags : one_of (codes "explain") asks.1.0 ≡ one_of (codes "explain") asks'.1.0 = ap (one_of (codes "explain")) given in (
+      ap text_in (sym asks.1.2.file ∙ same ∙ asks'.1.2.file),
+      flag_of_text _ _ (ap text_in (sym asks.1.2.explains ∙ flags ∙ asks'.1.2.explains)),
+    )
+
+-- words that name a file, or ask for an explanation, ask for nothing to be run
+module _ (program : App) (words : List Text) (options : Options) (asks : AskFor program words options) where
+  pub runs_no_file : not (bytes_eq options.file.now (codes "-")) ≡ true → AreWrong AskForRun program words
+  runs_no_file named = inr (
+    asks.0,
+    λ other runs.
+        let is : options.file.now ≡ codes "-" = (asked_once program words options other asks runs.0).0 ∙ runs.1 in
+        let bad : true ≡ false = sym named ∙ ap (λ (t : Text). not (bytes_eq t (codes "-"))) is in
+        cc,
+  )
+
+  pub runs_no_explanation : options.explains ≡ true → AreWrong AskForRun program words
+  runs_no_explanation explains = inr (
+    asks.0,
+    λ other runs.
+        let bad : true ≡ false = sym explains ∙ (asked_once program words options other asks runs.0).1 ∙ runs.2 in
+        cc,
+  )

@@ -1,0 +1,132 @@
+-- Which words ask for which options.
+use Rattle.std.specs.Prelude.{◌≡◌, ◌≢◌, ◌⊎◌, ◌≤◌, ◌<◌, ◌^◌, ℕ, Bool, false, not, if◌then◌else◌, codes}
+use Rattle.std.specs.Prelude.{List, [], Option, Some, None, Result, Ok, Err}
+use Rattle.std.specs.Net.Grammar.{IsSocketText}
+use Rattle.std.specs.Str.Parse.{IsNumeral, digits_value, without_leading_plus}
+use Rattle.clap.specs.Words.{App, HasKind, IsAmong, Row, Text, fault_of, first_of, one_of, subcommand_of}
+use Rattle.clap.specs.Words.{subcommand_rows_of}
+use Rattle.clap.specs.declared.error.Error.{Error}
+use Rattle.clap.specs.declared.error.kind.ErrorKind.{ErrorKind}
+use Rattle.clap.specs.declared.error.kind.ErrorKind.TheVariants.{DisplayHelp, DisplayVersion}
+use Rattle.clap.specs.declared.parser.matches.ArgMatches.{ArgMatches}
+use Rattle.resp_value.specs.Bounds.{AreBounds, Bounds}
+use Rattle.resp_value.specs.declared.version.Version.{Version}
+use Rattle.resp_value.specs.declared.version.Version.TheVariants.{Two, Three}
+use Rattle.resp_tool.specs.declared.options.Options.{Options}
+use Rattle.resp_tool.specs.declared.options.Task.{Task}
+use Rattle.resp_tool.specs.declared.options.Task.TheVariants.{Show, Check, Canon}
+use Rattle.resp_tool.specs.declared.serving.Serving.{Serving}
+
+-- ---- one option, by the texts that the words give the options of a task, or that stand for those not given
+
+-- it is this number, of 64 bits
+abbrev pub HasNumber : List Row → Text → ℕ → Type 0
+HasNumber given name number = (text : Text) × (one_of name given ≡ Some text) ×
+    IsNumeral 10 (without_leading_plus text) × (digits_value 10 (without_leading_plus text) ≡ number)
+    × (number < 2 ^ 64)
+
+abbrev pub flag_text : Bool → Text
+flag_text on = if on then codes "true" else codes "false"
+
+-- it is given, or isn't
+abbrev pub HasFlag : List Row → Text → Bool → Type 0
+HasFlag given name on = one_of name given ≡ Some (flag_text on)
+
+abbrev pub version_word : Version → Text
+version_word Two = codes "2"
+version_word Three = codes "3"
+
+-- `--proto` is this version
+abbrev pub HasProto : List Row → Version → Type 0
+HasProto given version = first_of (codes "proto") given ≡ Some (version_word version)
+
+-- ---- all options of a task
+
+pub record HasLimits (given : List Row) (limits : Bounds) : Type 0 where
+  pub depth : HasNumber given (codes "depth") limits.depth
+  pub length : HasNumber given (codes "length") limits.length
+  pub total : HasNumber given (codes "total") limits.total
+  pub items : HasNumber given (codes "items") limits.items
+  pub streamed : HasFlag given (codes "no-streamed") (not limits.streamed)
+  pub in_range : AreBounds limits
+
+-- of `show`, `check` and `canon`
+pub record HasOptions (given : List Row) (options : Options) : Type 0 where
+  pub version : HasProto given options.version
+  pub limits : HasLimits given options.limits
+  pub doubles : HasFlag given (codes "doubles") options.limits.doubles
+  pub piece : HasNumber given (codes "piece") options.piece
+  pub piece_in_range : (1 ≤ options.piece) × (options.piece ≤ 65536)
+  pub file : first_of (codes "file") given ≡ Some options.file.now
+  pub explains : HasFlag given (codes "explain") options.explains
+
+-- of `serve`, with the text of its address
+pub record HasServeWords (given : List Row) (address : Text) (limits : Bounds) (clients : ℕ) : Type 0 where
+  pub in_limits : HasLimits given limits
+  pub no_doubles : limits.doubles ≡ false
+  pub at_once : HasNumber given (codes "clients") clients
+  pub at_once_in_range : (1 ≤ clients) × (clients ≤ 65536)
+  pub text : first_of (codes "address") given ≡ Some address
+
+-- and with its address
+abbrev pub HasServing : List Row → Serving → Type 0
+HasServing given serving = HasServeWords given serving.address_text.now serving.limits serving.clients ×
+    IsSocketText serving.address_text.now serving.address
+
+abbrev pub task_word : Task → Text
+task_word Show = codes "show"
+task_word Check = codes "check"
+task_word Canon = codes "canon"
+
+-- this is what was entered: a task that reads a stream, with these options
+abbrev pub Enters : Option (Text × List Row) → Options → Type 0
+Enters entered options =
+    (given : List Row) × (entered ≡ Some (task_word options.task, given)) × HasOptions given options
+
+-- or `serve`
+abbrev pub EntersServe : Option (Text × List Row) → Serving → Type 0
+EntersServe entered serving =
+    (given : List Row) × (entered ≡ Some (codes "serve", given)) × HasServing given serving
+
+-- ---- all words, of which the first is the program's own name
+
+-- the program takes the words, and they ask for these options
+abbrev pub AskFor : App → List Text → Options → Type 0
+AskFor program words options = (fault_of program words ≡ []) × Enters (subcommand_of program words) options
+
+-- or to serve
+abbrev pub AskToServe : App → List Text → Serving → Type 0
+AskToServe program words serving = (fault_of program words ≡ []) × EntersServe (subcommand_of program words) serving
+
+-- or they ask for help, or for the program's version
+abbrev pub AskForHelp : App → List Text → Type 0
+AskForHelp program words =
+    IsAmong DisplayHelp (fault_of program words) ⊎ IsAmong DisplayVersion (fault_of program words)
+
+-- the program refuses them, or it takes them and they ask for nothing of a sort
+abbrev pub AreWrong : {X : Type 0} → (App → List Text → X → Type 0) → App → List Text → Type 0
+AreWrong {X} Ask program words =
+    ((kind : ErrorKind) × IsAmong kind (fault_of program words) × (kind ≢ DisplayHelp) × (kind ≢ DisplayVersion))
+    ⊎ ((fault_of program words ≡ []) × ((x : X) → Ask program words x → ⊥))
+
+-- ---- what is answered to them
+
+-- the program takes the words, and this is what they give its subcommand, or it refuses them
+abbrev pub FindsWords : App → List Text → Result ArgMatches Error → Type 0
+FindsWords program words (Ok found) =
+    (fault_of program words ≡ []) × (subcommand_rows_of found ≡ subcommand_of program words)
+FindsWords program words (Err error) = HasKind (fault_of program words) error
+
+-- options of a sort where the words ask for them, none where they ask for none, and else what the parser refuses or
+-- helps with
+abbrev pub AnswersWords : {X : Type 0} → (App → List Text → X → Type 0) → App → List Text
+    → Result (Option X) Error → Type 0
+AnswersWords Ask program words (Ok (Some x)) = Ask program words x
+AnswersWords Ask program words (Ok None) = AreWrong Ask program words
+AnswersWords Ask program words (Err error) = HasKind (fault_of program words) error
+
+-- the same with a status in place of an error: 0 where the words ask for help, and 2 where they are wrong
+abbrev pub AnswersStatus : {X : Type 0} → (App → List Text → X → Type 0) → App → List Text → Result X ℕ → Type 0
+AnswersStatus Ask program words (Ok x) = Ask program words x
+AnswersStatus Ask program words (Err status) =
+    (status ≡ 0 → AskForHelp program words) × (status ≡ 2 → AreWrong Ask program words)

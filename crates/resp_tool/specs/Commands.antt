@@ -1,0 +1,64 @@
+-- Words of the worked examples of command lines.
+use Rattle.std.specs.Prelude.{◌≡◌, ℕ, Bool, true, false, List, [], ◌∷◌, codes}
+use Rattle.clap.specs.Words.{App, Text}
+use Rattle.resp_value.specs.Bounds.{Bounds}
+use Rattle.resp_value.specs.declared.version.Version.{Version}
+use Rattle.resp_tool.specs.CommandWords.{AreWrong, AskFor, AskForHelp}
+use Rattle.resp_tool.specs.Program.{IsProgram}
+use Rattle.resp_tool.specs.declared.options.Options.{Options}
+use Rattle.resp_tool.specs.declared.options.Task.{Task}
+
+-- options that are these, whatever holds the file's name
+pub record AreOptions (task : Task) (version : Version) (limits : Bounds) (piece : ℕ) (file : Text) (explains : Bool)
+    (options : Options) : Type 0 where
+  pub of_task : options.task ≡ task
+  pub of_version : options.version ≡ version
+  pub of_limits : options.limits ≡ limits
+  pub of_piece : options.piece ≡ piece
+  pub of_file : options.file.now ≡ file
+  pub of_explains : options.explains ≡ explains
+
+-- the words ask for these options
+abbrev pub AskForThese : List Text → (Options → Type 0) → Type 0
+AskForThese words These = (program : App) → IsProgram program → (options : Options) → These options
+    → AskFor program words options
+
+-- and these are wrong
+abbrev pub AreWrongWords : List Text → Type 0
+AreWrongWords words = (program : App) → IsProgram program → AreWrong AskFor program words
+
+-- and these ask for help
+abbrev pub AreWordsForHelp : List Text → Type 0
+AreWordsForHelp words = (program : App) → IsProgram program → AskForHelp program words
+
+-- `resp show`
+abbrev pub show_alone : List Text
+show_alone = codes "resp" ∷ codes "show" ∷ []
+
+-- the limits where none is given
+abbrev pub default_limits : Bounds
+default_limits = record {
+  depth = 32;
+  length = 536870912;
+  total = 1073741824;
+  items = 1099511627776;
+  streamed = true;
+  doubles = false;
+}
+
+-- no depth over 128, no option twice, and no words without a task
+abbrev pub too_deep : List Text
+too_deep = codes "resp" ∷ codes "check" ∷ codes "--depth" ∷ codes "129" ∷ []
+
+abbrev pub depth_twice : List Text
+depth_twice = codes "resp" ∷ codes "check" ∷ codes "--depth" ∷ codes "4" ∷ codes "--depth" ∷ codes "5" ∷ []
+
+abbrev pub no_task : List Text
+no_task = codes "resp" ∷ []
+
+-- what is served is done elsewhere
+abbrev pub served : List Text
+served = codes "resp" ∷ codes "serve" ∷ codes "127.0.0.1:6380" ∷ []
+
+abbrev pub help_of_show : List Text
+help_of_show = codes "resp" ∷ codes "show" ∷ codes "--help" ∷ []

@@ -1,0 +1,116 @@
+-- The program as the parser of its words knows it: its tasks with their options, the range of each number, and what
+-- stands for an option that isn't given.
+use Rattle.std.specs.Prelude.{◌≡◌, ◌++◌, ℕ, ℤ, false, true, List, [], ◌∷◌, Some, codes}
+use Rattle.std.specs.Int.{saturate_unsigned, w64}
+use Rattle.std.specs.List.{list_any}
+use Rattle.std.specs.Ordering.{nat_cmp, ord_max}
+use Rattle.std.specs.Str.{bytes_eq}
+use Rattle.clap.specs.Simple.{on_top}
+use Rattle.clap.specs.Values.{unsigned_up_to}
+use Rattle.clap.specs.ValueTests.{accepts}
+use Rattle.clap.specs.Words.{App, Rule, Shape, Text, app_of, new_app, new_rule, reading_of, with_rule, with_subcommand}
+use Rattle.clap.specs.declared.builder.ArgAction.TheVariants.{SetTrue}
+use Rattle.clap.specs.declared.builder.command.Command.{Command}
+use Rattle.clap.specs.declared.builder.command.Command.TheViews.{out-Command}
+use Rattle.clap.specs.declared.builder.value_parser.Reading.TheVariants.{AsWritten}
+use Rattle.clap.specs.declared.builder.value_parser.ValueParser.{ValueParser}
+use Rattle.clap.specs.declared.builder.value_parser.ValueParser.TheVariants as vp
+
+-- ---- options
+
+-- `--name VALUE`: what its value has to be, and the value that stands for it where it isn't given
+abbrev pub value_option : Text → ValueParser → Text → Rule
+value_option name parser default = record (new_rule name) {
+  long = Some name;
+  value_names = 1;
+  parser = Some parser;
+  defaults = default ∷ [];
+}
+
+-- `--name N`, a number in a range
+abbrev pub number_option : Text → ℕ → ℕ → Text → Rule
+number_option name least most = value_option name (vp.Unsigned least most)
+
+-- what the parser makes of a range
+abbrev pub numbers_between : ℤ → ℤ → ValueParser
+numbers_between least most =
+    unsigned_up_to (ord_max nat_cmp 0 (saturate_unsigned w64 least)) 18446744073709551615 (Some most)
+
+-- `--name`, which is given or not
+abbrev pub flag_option : Text → Rule
+flag_option name = record (new_rule name) { long = Some name; action = Some SetTrue }
+
+-- the limits of values
+abbrev pub limit_options : List Rule
+limit_options =
+    number_option (codes "depth") 4 128 (codes "32") ∷
+    number_option (codes "length") 64 1073741824 (codes "536870912") ∷
+    number_option (codes "total") 256 1099511627776 (codes "1073741824") ∷
+    number_option (codes "items") 16 1099511627776 (codes "1099511627776") ∷
+    flag_option (codes "no-streamed") ∷ []
+
+-- the file that is read, a word without a name
+abbrev pub file_word : Rule
+file_word = record (new_rule (codes "file")) { value_names = 1; defaults = codes "-" ∷ [] }
+
+-- the options of `show`, `check` and `canon`, where this is what `--proto` takes
+abbrev pub stream_options : ValueParser → List Rule
+stream_options versions = value_option (codes "proto") versions (codes "2") ∷ (limit_options ++
+    flag_option (codes "doubles") ∷
+    number_option (codes "piece") 1 65536 (codes "4096") ∷
+    flag_option (codes "explain") ∷
+    file_word ∷ [])
+
+-- the address that is served on, a word without a name
+abbrev pub address_word : Rule
+address_word = record (new_rule (codes "address")) { value_names = 1; required = true }
+
+-- the options of `serve`
+abbrev pub serve_options : List Rule
+serve_options = limit_options ++
+    number_option (codes "clients") 1 65536 (codes "1000") ∷
+    address_word ∷ []
+
+-- ---- tasks
+
+-- a task with these options more, after those that it has
+abbrev pub with_options : App → List Rule → App
+with_options task [] = task
+with_options task (option ∷ options) = with_options (with_rule task option) options
+
+abbrev pub task_shape : Text → List Rule → Shape
+task_shape name options = (with_options (new_app name) options).top
+
+-- the program without its tasks: it wants one, and has a version
+abbrev pub bare_app : App
+bare_app = on_top (λ top. record top { has_version = true; subcommand_required = true }) (new_app (codes "resp"))
+
+-- the whole program, where this is what `--proto` takes
+abbrev pub resp_app : ValueParser → App
+resp_app versions = with_subcommand (with_subcommand (with_subcommand (with_subcommand (with_subcommand bare_app
+    (task_shape (codes "show") (stream_options versions)))
+    (task_shape (codes "check") (stream_options versions)))
+    (task_shape (codes "canon") (stream_options versions)))
+    (task_shape (codes "loop") (flag_option (codes "explain") ∷ [])))
+    (task_shape (codes "serve") serve_options)
+
+-- it takes 2 and 3, and nothing else
+pub record TakesVersions (versions : ValueParser) : Type 0 where
+  pub two_and_three : (text : Text) → accepts false versions text ≡
+      list_any (λ version. bytes_eq version text) (codes "2" ∷ codes "3" ∷ [])
+  pub as_written : reading_of versions ≡ AsWritten
+
+-- the program, whose `--proto` takes 2 and 3
+abbrev pub IsProgram : App → Type 0
+IsProgram program = (versions : ValueParser) × TakesVersions versions × (program ≡ resp_app versions)
+
+-- ---- commands in memory
+
+-- a parse reads this of the command, which has no option for other commands
+abbrev pub IsTask : Command → App → Type 0
+IsTask command task = (app_of command ≡ task) × ((out-Command command).has_globals ≡ false)
+
+-- the new command is the old one with these options more, none of which is for other commands
+abbrev pub GainsOptions : Command → List Rule → Command → Type 0
+GainsOptions old options new = (app_of new ≡ with_options (app_of old) options) ×
+    ((out-Command new).has_globals ≡ (out-Command old).has_globals)
