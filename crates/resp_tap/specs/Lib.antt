@@ -1,0 +1,5 @@
+pub mod Kinds
+pub mod Taps
+pub mod Watching
+-- What the steps of a tap promise one another, which no public clause names.
+pub mod SeenOf
