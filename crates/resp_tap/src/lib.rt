@@ -6,8 +6,10 @@
 
 pub mod kind;
 pub mod pairing;
+pub mod print;
 pub mod seen;
 pub mod tap;
+pub mod way;
 
 pub use seen::{Place, Seen, Step};
 pub use tap::Tap;
