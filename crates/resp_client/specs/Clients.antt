@@ -1,7 +1,8 @@
 -- What a client shows, and what its calls leave of it.
-use Rattle.std.specs.Prelude.{ℕ, ◌+◌, List, [], ◌∷◌, ◌++◌, length, drop}
+use Rattle.std.specs.Prelude.{◌≡◌, ℕ, ◌+◌, List, [], ◌∷◌, ◌++◌, length, drop, Option}
 use Rattle.resp_value.specs.Bounds.{Bounds}
 use Rattle.resp_value.specs.Data.{Datum}
+use Rattle.resp_value.specs.declared.version.Version.{Version}
 use Rattle.resp_value.specs.declared.version.Version.TheVariants.{Two}
 use Rattle.resp_session.specs.Reading.{Waiting, waiting_after_reply}
 use Rattle.resp_session.specs.Requests.{Request, request_text, version_asked}
@@ -33,6 +34,12 @@ new_state limits = record { limits = limits; waiting = record { version = Two; a
 abbrev pub queued : ClientState → ℕ
 queued s = s.answered + length s.waiting.asks
 
+-- the limits, what is to be sent and how many commands were queued are the same
+pub record KeepsQueued (old new : ClientState) : Type 0 where
+  pub same_limits : new.limits ≡ old.limits
+  pub same_out : new.out ≡ old.out
+  pub same_count : queued new ≡ queued old
+
 -- the number of the next reply
 abbrev pub next_number : ClientState → ℕ
 next_number s = s.answered + 1
@@ -42,6 +49,12 @@ abbrev pub with_request : Request → ClientState → ClientState
 with_request request s = record s {
   waiting = record { version = s.waiting.version; asks = s.waiting.asks ++ version_asked request ∷ [] };
   out = s.out ++ request_text request;
+}
+
+-- one command more waits, which asks so
+abbrev pub with_ask : Option Version → ClientState → ClientState
+with_ask asked s = record s {
+  waiting = record { version = s.waiting.version; asks = s.waiting.asks ++ asked ∷ [] };
 }
 
 -- after this many bytes that were sent

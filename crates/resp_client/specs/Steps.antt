@@ -1,10 +1,9 @@
 -- What the steps of a send and of a feed promise one another.
-use Rattle.std.specs.Prelude.{◌≡◌, ◌≢◌, ℕ, true, false, Option, None, List, [], ◌∷◌, ◌++◌}
+use Rattle.std.specs.Prelude.{◌≡◌, ◌≢◌, ℕ, true, false, None, List, [], ◌∷◌, ◌++◌}
 use Rattle.resp_value.specs.Data.{Datum}
 use Rattle.resp_value.specs.Values.{datum_of}
 use Rattle.resp_value.specs.declared.value.Value.TheVariants as value
 use Rattle.resp_value.specs.declared.cause.Cause.TheVariants as cause
-use Rattle.resp_value.specs.declared.version.Version.{Version}
 use Rattle.resp_encode.specs.declared.error.EncodeError.{EncodeError}
 use Rattle.resp_encode.specs.declared.error.EncodeError.TheVariants as encode
 use Rattle.resp_scan.specs.declared.event.Fault.{Fault}
@@ -24,12 +23,6 @@ use Rattle.resp_client.specs.declared.send_error.SendError.TheVariants.{TooLarge
 abbrev pub send_error : EncodeError → SendError
 send_error encode.OutOfMemory = OutOfMemory
 send_error _ = TooLarge
-
--- one command more waits, which asks so
-abbrev pub with_ask : Option Version → ClientState → ClientState
-with_ask asked s = record s {
-  waiting = record { version = s.waiting.version; asks = s.waiting.asks ++ asked ∷ [] };
-}
 
 -- the value that comes is read in its version, and it is asked for or a push
 pub record HasBegun (c : Client) (front piece : List ℕ) : Type 0 where

@@ -81,6 +81,13 @@ impl Client {
         self.asks.len() as u64
     }
 
+    /// How many of the commands that were queued have a reply.
+    pub fn answered(&self) -> u64
+        ensures { result ≡ (state_of self.now).answered }
+    {
+        self.answered
+    }
+
     /// Its version: 2 until the reply to a HELLO with a version comes and is no error, and then
     /// that one.
     pub fn version(&self) -> Version

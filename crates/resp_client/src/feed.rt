@@ -4,7 +4,7 @@ ghost use Rattle.std.specs.Prelude.{◌≡◌, ◌≢◌, ◌↔◌, ◌<◌, �
 ghost use Rattle.resp_value.specs.Values.{datum_of};
 ghost use Rattle.resp_session.specs.Reading.{IsUnasked, greater_version, is_refusal, reading_version};
 ghost use Rattle.resp_decode.specs.Decoding.{IfNoValue, IfValue};
-ghost use Rattle.resp_client.specs.Clients.{next_number, state_of, with_answer};
+ghost use Rattle.resp_client.specs.Clients.{KeepsQueued, next_number, state_of, with_answer};
 ghost use Rattle.resp_client.specs.Hearing.{HasFault, HasTaken, Hears, HearsAndShows, Refuses, RefusesOrLoses, TakesPiece, UnlessReply, WhereTaken};
 ghost use Rattle.resp_client.specs.Standing.{IsOfBytes};
 ghost use Rattle.resp_client.specs.Steps.{HasBegun, IsUnaskedFault, Knows, SameReading, TakesValue};
@@ -66,6 +66,7 @@ impl Client {
         ensures refusal { WhereTaken self.old (λ front. IfErr result
             (Refuses (state_of self.old) front piece.now)) }
         ensures only_replies_answer { UnlessReply result (state_of self.new ≡ state_of self.old) }
+        ensures same_queue { KeepsQueued (state_of self.old) (state_of self.new) }
         ensures within_piece { IfOk result (λ heard. heard.used ≤ length piece.now) }
         ensures uses_bytes { IfOk result (λ heard. 0 < length piece.now → 0 < heard.used) }
         ensures cause { IfErr result (λ fault. IsOfBytes fault.cause) }
@@ -215,6 +216,7 @@ impl Client {
     fn hear(&mut self, value: Value) -> What
         requires { ∥ HasTaken self.old [] ∥₁ }
         ensures known { Knows (state_of self.old) (state_of self.new) (datum_of value) result }
+        ensures same_queue { KeepsQueued (state_of self.old) (state_of self.new) }
         ensures same_reading { SameReading self.old self.new }
     {
         match value {
@@ -233,6 +235,7 @@ impl Client {
             state_of self.new ≡ with_answer (datum_of value.now) (state_of self.old) }
         ensures number { (state_of self.old).waiting.asks ≢ [] →
             result ≡ next_number (state_of self.old) }
+        ensures same_queue { KeepsQueued (state_of self.old) (state_of self.new) }
         ensures same_reading { SameReading self.old self.new }
     {
         if let Some(asked) = self.asks.pop_front() {

@@ -1,6 +1,6 @@
 //! Commands that are queued.
 
-ghost use Rattle.std.specs.Prelude.{◌≡◌, ◌+◌, ◌<◌, ◌^◌, length, take, OnOk, OnErr, IfOk, IfErr};
+ghost use Rattle.std.specs.Prelude.{◌≡◌, ◌⊎◌, ◌+◌, ◌<◌, ◌≤◌, ◌^◌, length, take, OnOk, OnErr, IfOk, IfErr, IsErrOf};
 ghost use Rattle.resp_value.specs.Commands.{words_of};
 ghost use Rattle.resp_session.specs.Requests.{FitsRequest, HasBytes, Hello, request_text};
 ghost use Rattle.resp_session.specs.Requests as request;
@@ -47,10 +47,9 @@ fn hello_fits(limits: &Limits, asked: Option<Version>)
 }
 
 impl Client {
-    ghost use Rattle.resp_client.specs.Clients.{queued, state_of, with_request};
+    ghost use Rattle.resp_client.specs.Clients.{queued, state_of, with_ask, with_request};
     ghost use Rattle.resp_client.specs.Hearing.{KeepsReading};
     ghost use Rattle.resp_client.specs.Sending.{AnswersRequest};
-    ghost use Rattle.resp_client.specs.Steps.{with_ask};
 
     /// Queues the text of a command, and answers the number that its reply will have.
     ///
@@ -114,6 +113,29 @@ impl Client {
         if self.out.extend_from_slice(hello_text(asked)).is_err() {
             return Err(SendError::OutOfMemory);
         }
+        self.wait_for(asked, length)
+    }
+
+    /// Waits for the reply to a command whose text goes another way, HELLO with the version that it
+    /// asks or any other that one reply answers, and answers the number that its reply will have.
+    ///
+    /// Refuses by TooMany where as many commands were queued as can be, and else when out of
+    /// memory. Then nothing is changed.
+    pub fn expect(&mut self, asked: Option<Version>) -> Result<u64, SendError>
+        ensures number { IfOk result (λ number. number ≡ queued (state_of self.old) + 1) }
+        ensures waits { OnOk result (state_of self.new ≡ with_ask asked (state_of self.old)) }
+        ensures number_left { OnOk result (queued (state_of self.old) < 2 ^ 63) }
+        ensures too_many { IsErrOf result SendError.TooMany →
+            2 ^ 63 ≤ queued (state_of self.old) }
+        ensures refusal { IfErr result (λ error.
+            (error ≡ SendError.TooMany) ⊎ (error ≡ SendError.OutOfMemory)) }
+        ensures unchanged { OnErr result (state_of self.new ≡ state_of self.old) }
+        ensures same_reading { KeepsReading self.old self.new }
+    {
+        if self.queued() == MOST_COMMANDS {
+            return Err(SendError::TooMany);
+        }
+        let length = self.out.len();
         self.wait_for(asked, length)
     }
 

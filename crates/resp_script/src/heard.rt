@@ -72,8 +72,9 @@ pub(crate) fn write_pushes<W: Sink>(
     Ok(())
 }
 
-/// Writes a client's reply of this number, below its heading.
-fn write_reply<W: Sink>(
+/// Writes a client's reply of this number, below its heading. Refuses where a write fails, or when
+/// out of memory, and then a first part of it was written.
+pub fn write_reply<W: Sink>(
     alloc: Global,
     client: u64,
     number: u64,
@@ -90,8 +91,8 @@ fn write_reply<W: Sink>(
     }
 }
 
-/// Writes a push to a client, below its heading.
-fn write_push<W: Sink>(
+/// Writes a push to a client, below its heading. Refuses as [`write_reply`] does.
+pub fn write_push<W: Sink>(
     alloc: Global,
     client: u64,
     push: &Members,
@@ -107,8 +108,8 @@ fn write_push<W: Sink>(
     }
 }
 
-/// Writes the lines of a value, two spaces deeper.
-fn write_value<W: Sink>(alloc: Global, value: &Value, writer: &mut W) -> Result<(), PlayError>
+/// Writes the lines of a value, two spaces deeper. Refuses as [`write_reply`] does.
+pub fn write_value<W: Sink>(alloc: Global, value: &Value, writer: &mut W) -> Result<(), PlayError>
     ensures { Prints (W.written writer.old) (W.written writer.new) (W.failures writer.old)
         (W.failures writer.new) result (indented (shown_text (datum_of value.now))) }
 {

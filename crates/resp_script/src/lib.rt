@@ -3,6 +3,6 @@
 #![tactic(auto)]
 
 mod growing_sink;
-mod heard;
+pub mod heard;
 pub mod play;
 pub mod script;

@@ -1,0 +1,14 @@
+use Rattle.std.proofs.Common.{◌-◌, ◌≤◌, drop, length}
+use Rattle.resp_script.proofs.Printing.{HasPrintedUpTo}
+use Rattle.resp_tap.specs.Texts.{words_text}
+use Rattle.resp_tap.proofs.print.write_words.Given as goal
+
+abbrev pub invariant-loop-index : goal.invariant-loop-index
+invariant-loop-index g l = record {
+  within : l.index ≤ length l.words;
+  printed : HasPrintedUpTo (words_text l.words) (words_text (drop l.index l.words)) (g.W.Sink.written l.initial.writer) (g.W.Sink.written l.writer)
+      (g.W.Sink.failures l.initial.writer) (g.W.Sink.failures l.writer);
+}
+
+abbrev pub decreases-loop-index : goal.decreases-loop-index
+decreases-loop-index g l = length l.words - l.index

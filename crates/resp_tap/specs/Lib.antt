@@ -1,0 +1,7 @@
+pub mod Kinds
+pub mod Taps
+pub mod Watching
+pub mod Ways
+pub mod Texts
+-- What the steps of a tap promise one another, which no public clause names.
+pub mod SeenOf

@@ -1,0 +1,99 @@
+-- What a tap knows of a connection, and what passes leaves of it.
+use Rattle.std.specs.Prelude.{ℕ, ◌+◌, Bool, true, false, List, [], ◌∷◌, ◌++◌, Option, None, Some}
+use Rattle.resp_value.specs.Bounds.{Bounds}
+use Rattle.resp_value.specs.Data.{Datum}
+use Rattle.resp_value.specs.declared.version.Version.{Version}
+use Rattle.resp_value.specs.declared.version.Version.TheVariants.{Two}
+use Rattle.resp_session.specs.Reading.{Waiting, waiting_after_reply}
+use Rattle.resp_client.specs.Clients.{state_of}
+use Rattle.resp_tap.specs.Kinds.{command_kind}
+use Rattle.resp_tap.specs.declared.kind.CommandKind.{CommandKind}
+use Rattle.resp_tap.specs.declared.kind.CommandKind.TheVariants.{Plain, Hello, Unpairing}
+use Rattle.resp_tap.specs.declared.pairing.Pairing.{Pairing}
+use Rattle.resp_tap.specs.declared.pairing.Pairing.TheVariants.{Paired, Ending, Unpaired}
+use Rattle.resp_tap.specs.declared.tap.Tap.{Tap}
+
+pub record TapState : Type 0 where
+  -- the limits within which both sides are read
+  pub limits : Bounds
+  -- how many commands have come
+  pub commands : ℕ
+  -- the version, and what each command asks that waits for its reply
+  pub waiting : Waiting
+  -- how many commands have a reply
+  pub answered : ℕ
+  -- whether replies are paired with commands
+  pub pairing : Pairing
+  -- whether what comes is read
+  pub is_read : Bool
+
+abbrev pub tap_state : Tap → TapState
+tap_state t = record {
+  limits = t.limits;
+  commands = t.commands;
+  waiting = (state_of t.replies).waiting;
+  answered = (state_of t.replies).answered;
+  pairing = t.pairing;
+  is_read = t.is_read;
+}
+
+-- nothing has come, and the version is 2
+abbrev pub new_tap : Bounds → TapState
+new_tap limits = record {
+  limits = limits;
+  commands = 0;
+  waiting = record { version = Two; asks = [] };
+  answered = 0;
+  pairing = Paired;
+  is_read = true;
+}
+
+-- the version that a command of this kind asks
+abbrev pub version_of_kind : CommandKind → Option Version
+version_of_kind (Hello version) = Some version
+version_of_kind _ = None
+
+-- what waits after a command of this kind: one that is answered by one reply, while replies are paired, waits for it
+abbrev pub asks_after : CommandKind → Pairing → List (Option Version) → List (Option Version)
+asks_after Unpairing pairing asks = asks
+asks_after kind Paired asks = asks ++ version_of_kind kind ∷ []
+asks_after kind _ asks = asks
+
+-- whether replies are paired after a command of this kind: not beyond those that wait, after one that isn't answered by
+-- one reply
+abbrev pub pairing_after : CommandKind → Pairing → Pairing
+pairing_after Unpairing Paired = Ending
+pairing_after kind pairing = pairing
+
+-- after a command of this kind
+abbrev pub with_command : CommandKind → TapState → TapState
+with_command kind s = record s {
+  commands = s.commands + 1;
+  waiting = record { version = s.waiting.version; asks = asks_after kind s.pairing s.waiting.asks };
+  pairing = pairing_after kind s.pairing;
+}
+
+-- after a reply to the first command that waits
+abbrev pub with_reply : Datum → TapState → TapState
+with_reply x s = record s {
+  waiting = waiting_after_reply s.waiting.version s.waiting.asks x;
+  answered = s.answered + 1;
+}
+
+-- after a refusal
+abbrev pub with_refusal : TapState → TapState
+with_refusal s = record s { is_read = false }
+
+-- once no command waits that was sent while replies were paired, they aren't any more
+abbrev pub settled_pairing : Pairing → List (Option Version) → Pairing
+settled_pairing Ending [] = Unpaired
+settled_pairing pairing asks = pairing
+
+-- before the first byte of a value of the server
+abbrev pub settled : TapState → TapState
+settled s = record s { pairing = settled_pairing s.pairing s.waiting.asks }
+
+-- where these bytes of a value have come: what it is read as stands from its first byte on
+abbrev pub at_front : List ℕ → TapState → TapState
+at_front [] s = settled s
+at_front (byte ∷ bytes) s = s

@@ -1,0 +1,191 @@
+-- What is seen of what either side sends, in words of texts and values.
+use Rattle.std.specs.Prelude.{◌≡◌, ◌⊎◌, ℕ, ◌+◌, ◌≤◌, ◌^◌, false, Some, List, [], ◌∷◌, ◌++◌, length, take}
+use Rattle.resp_value.specs.Bounds.{Bounds}
+use Rattle.resp_value.specs.Data.{Datum}
+use Rattle.resp_value.specs.Rules.{Rules, WithinTotal, rules_under}
+use Rattle.resp_value.specs.Spellings.{IsSpelling, IsViable}
+use Rattle.resp_value.specs.Values.{datum_of}
+use Rattle.resp_value.specs.declared.cause.Cause.{Cause}
+use Rattle.resp_value.specs.declared.cause.Cause.TheVariants as causes
+use Rattle.resp_value.specs.declared.value.Value.TheVariants as value
+use Rattle.resp_value.specs.declared.version.Version.TheVariants.{Two, Three}
+use Rattle.resp_scan.specs.Reading.{HasNoValue}
+use Rattle.resp_scan.specs.declared.event.Fault.{Fault}
+use Rattle.resp_decode.specs.Decoding as decode
+use Rattle.resp_decode.specs.Decoding.{LacksMemory, RefusesByte}
+use Rattle.resp_session.specs.Commands.{NoCommand, Nothing, array_meaning, meaning_of}
+use Rattle.resp_session.specs.Heard.{is_push, numbered_replies}
+use Rattle.resp_session.specs.Reading.{MayGoOn, ReadsAs, Waiting}
+use Rattle.resp_client.specs.Clients.{ClientState}
+use Rattle.resp_client.specs.Hearing as client
+use Rattle.resp_tap.specs.Kinds.{command_kind}
+use Rattle.resp_tap.specs.Taps.{TapState, tap_state, with_command, with_refusal, with_reply}
+use Rattle.resp_tap.specs.declared.seen.Place.{Place}
+use Rattle.resp_tap.specs.declared.seen.Place.TheVariants as place
+use Rattle.resp_tap.specs.declared.seen.Seen.{Seen}
+use Rattle.resp_tap.specs.declared.seen.Seen.TheVariants as seen
+use Rattle.resp_tap.specs.declared.pairing.Pairing.{Pairing}
+use Rattle.resp_tap.specs.declared.pairing.Pairing.TheVariants.{Paired, Ending, Unpaired}
+use Rattle.resp_tap.specs.declared.tap.Tap.{Tap}
+
+-- the rules by which the client's side is read, whatever the version
+abbrev pub request_rules : Bounds → Rules
+request_rules limits = rules_under Two limits
+
+-- the rules by which values are read that are paired with no command
+abbrev pub unpaired_rules : Bounds → Rules
+unpaired_rules limits = rules_under Three limits
+
+-- What a tap has taken of the value that the client sends: the bytes of this front. How it stands to them is opaque to
+-- callers: `new` establishes this relation and the next, and each call keeps them until a refusal.
+abbrev pub HasTakenRequest : Tap → List ℕ → Type 0
+HasTakenRequest t front = decode.HasTaken t.requests front
+
+-- the first of two facts while replies are paired, and then the second
+abbrev pub ByPairing : Pairing → Type 0 → Type 0 → Type 0
+ByPairing Paired P Q = P
+ByPairing Ending P Q = P
+ByPairing Unpaired P Q = Q
+
+-- what it has taken of the value that the server sends
+abbrev pub HasTakenValue : Tap → List ℕ → Type 0
+HasTakenValue t front = ByPairing t.pairing (client.HasTaken t.replies front) (decode.HasTaken t.values front)
+
+-- this holds of every front that was taken of what the client sends
+abbrev pub WhereRequested : Tap → (List ℕ → Type 0) → Type 0
+WhereRequested t P = (front : List ℕ) → HasTakenRequest t front → P front
+
+-- this holds of every front that was taken of what the server sends
+abbrev pub WhereAnswered : Tap → (List ℕ → Type 0) → Type 0
+WhereAnswered t P = (front : List ℕ) → HasTakenValue t front → P front
+
+-- what was taken of the client's value is the same
+abbrev pub KeepsRequest : Tap → Tap → Type 0
+KeepsRequest old new = (front : List ℕ) → HasTakenRequest old front → HasTakenRequest new front
+
+-- what was taken of the server's value is the same
+abbrev pub KeepsValue : Tap → Tap → Type 0
+KeepsValue old new = (front : List ℕ) → HasTakenValue old front → HasTakenValue new front
+
+-- the client's text is a command of these words, the next one
+pub record GivesCommand (s : TapState) (new : Tap) (written : List ℕ) (number : ℕ) (words : List (List ℕ)) : Type 0 where
+  pub value : Datum
+  pub spelled : IsSpelling (request_rules s.limits) value written
+  pub means : meaning_of value ≡ array_meaning (Some words)
+  pub numbered : number ≡ s.commands + 1
+  pub after : tap_state new ≡ with_command (command_kind words) s
+  pub takes : HasTakenRequest new []
+
+-- the client's text is an empty array or a null, which is passed over
+pub record GivesNothing (s : TapState) (new : Tap) (written : List ℕ) : Type 0 where
+  pub value : Datum
+  pub spelled : IsSpelling (request_rules s.limits) value written
+  pub means : meaning_of value ≡ Nothing
+  pub after : tap_state new ≡ s
+  pub takes : HasTakenRequest new []
+
+-- the client's text is a value that is no command
+pub record GivesNoCommand (s : TapState) (new : Tap) (written : List ℕ) (number : ℕ) : Type 0 where
+  pub value : Datum
+  pub spelled : IsSpelling (request_rules s.limits) value written
+  pub means : meaning_of value ≡ NoCommand
+  pub numbered : number ≡ s.commands + 1
+  pub after : tap_state new ≡ with_refusal s
+
+-- the piece is used up: no value of the client has ended, and one goes on so
+pub record AwaitsRequest (s : TapState) (new : Tap) (written piece : List ℕ) (used : ℕ) : Type 0 where
+  pub whole_piece : used ≡ length piece
+  pub no_value : HasNoValue written
+  pub viable : IsViable (request_rules s.limits) WithinTotal written
+  pub after : tap_state new ≡ s
+  pub takes : HasTakenRequest new written
+
+-- why a command that came whole isn't told: as many wait as may, or the numbers are used up, or there is no memory
+abbrev pub IsLeftOut : TapState → Cause → Type 0
+IsLeftOut s cause = ((cause ≡ causes.TooMany) × ((2 ^ 20 ≤ length s.waiting.asks) ⊎ (2 ^ 63 ≤ s.commands))) ⊎
+    (cause ≡ causes.OutOfMemory)
+
+-- why what the client sent is refused: by the grammar, when out of memory, or since there are too many commands
+abbrev pub RefusesOfRequest : TapState → List ℕ → List ℕ → Cause → ℕ → Type 0
+RefusesOfRequest s front piece cause at =
+    RefusesByte (request_rules s.limits) front piece (record { cause = cause; at = at }) ⊎
+    LacksMemory (request_rules s.limits) front piece (record { cause = cause; at = at }) ⊎
+    (IsLeftOut s cause × (at ≡ 0))
+
+-- what the client sent is refused as the next command
+pub record RefusesRequestAt (s : TapState) (new : Tap) (front piece : List ℕ) (cause : Cause) (at : ℕ) (where' : Place) :
+    Type 0 where
+  pub refused : RefusesOfRequest s front piece cause at
+  pub place : where' ≡ place.Command (s.commands + 1)
+  pub after : tap_state new ≡ with_refusal s
+
+-- what is seen of what the client sends
+abbrev pub SeesRequest : TapState → Tap → List ℕ → List ℕ → ℕ → Seen → Type 0
+SeesRequest s new front piece used seen.Nothing = AwaitsRequest s new (front ++ piece) piece used
+SeesRequest s new front piece used seen.Passed = GivesNothing s new (front ++ take used piece)
+SeesRequest s new front piece used (seen.Command number words) =
+    GivesCommand s new (front ++ take used piece) number words
+SeesRequest s new front piece used (seen.NotCommand number) = GivesNoCommand s new (front ++ take used piece) number
+SeesRequest s new front piece used (seen.Refused cause at where') = RefusesRequestAt s new front piece cause at where'
+SeesRequest s new front piece used _ = ⊥
+
+-- the server's text is the reply to the first command that waits, whose number it has
+pub record GivesReplyTo (s : TapState) (new : Tap) (written : List ℕ) (number : ℕ) (x : Datum) : Type 0 where
+  pub reads : ReadsAs s.limits s.waiting (x ∷ []) written (tap_state new).waiting
+  pub numbered : numbered_replies (s.answered + 1) (x ∷ []) ≡ (number, x) ∷ []
+  pub after : tap_state new ≡ with_reply x s
+  pub takes : HasTakenValue new []
+
+-- the server's text is this value, which leaves all as it was: while replies are paired it is read as a client reads it
+pub record LeavesAll (s : TapState) (new : Tap) (written : List ℕ) (x : Datum) : Type 0 where
+  pub reads : ByPairing s.pairing (ReadsAs s.limits s.waiting (x ∷ []) written s.waiting)
+      (IsSpelling (unpaired_rules s.limits) x written)
+  pub after : tap_state new ≡ s
+  pub takes : HasTakenValue new []
+
+-- the piece is used up: no value of the server has ended, and one goes on so
+pub record AwaitsValue (s : TapState) (new : Tap) (written piece : List ℕ) (used : ℕ) : Type 0 where
+  pub whole_piece : used ≡ length piece
+  pub may_go_on : ByPairing s.pairing (MayGoOn s.limits s.waiting written)
+      (HasNoValue written × IsViable (unpaired_rules s.limits) WithinTotal written)
+  pub after : tap_state new ≡ s
+  pub takes : HasTakenValue new written
+
+-- what a tap's client knows
+abbrev pub client_of : TapState → ClientState
+client_of s = record { limits = s.limits; waiting = s.waiting; answered = s.answered; out = [] }
+
+-- why what the server sent is refused: as a client refuses it while replies are paired, and then by the grammar or when
+-- out of memory
+abbrev pub RefusesOfValue : TapState → List ℕ → List ℕ → Fault → Type 0
+RefusesOfValue s front piece fault = ByPairing s.pairing (client.Refuses (client_of s) front piece fault)
+    (RefusesByte (unpaired_rules s.limits) front piece fault ⊎
+    LacksMemory (unpaired_rules s.limits) front piece fault)
+
+abbrev pub place_by : Pairing → ℕ → Place
+place_by Paired number = place.Reply number
+place_by Ending number = place.Reply number
+place_by Unpaired number = place.Value
+
+-- what a refused byte of the server belongs to
+abbrev pub place_of_value : TapState → Place
+place_of_value s = place_by s.pairing (s.answered + 1)
+
+-- what the server sent is refused
+pub record RefusesValueAt (s : TapState) (new : Tap) (front piece : List ℕ) (cause : Cause) (at : ℕ) (where' : Place) :
+    Type 0 where
+  pub refused : RefusesOfValue s front piece (record { cause = cause; at = at })
+  pub place : where' ≡ place_of_value s
+  pub after : tap_state new ≡ with_refusal s
+
+-- what is seen of what the server sends, where this is known before the value's next byte
+abbrev pub SeesValue : TapState → Tap → List ℕ → List ℕ → ℕ → Seen → Type 0
+SeesValue s new front piece used seen.Nothing = AwaitsValue s new (front ++ piece) piece used
+SeesValue s new front piece used (seen.Reply number x) =
+    ByPairing s.pairing (GivesReplyTo s new (front ++ take used piece) number (datum_of x)) ⊥
+SeesValue s new front piece used (seen.Push items) =
+    LeavesAll s new (front ++ take used piece) (datum_of (value.Push items))
+SeesValue s new front piece used (seen.Value x) = (s.pairing ≡ Unpaired) × (is_push (datum_of x) ≡ false) ×
+    LeavesAll s new (front ++ take used piece) (datum_of x)
+SeesValue s new front piece used (seen.Refused cause at where') = RefusesValueAt s new front piece cause at where'
+SeesValue s new front piece used _ = ⊥

@@ -1,0 +1,15 @@
+//! A window on connections of clients to a server: what passes is handed on unchanged, and is told.
+//!
+//! [`tap::Tap`] knows no socket: it is given what either side of a connection sends, and tells each
+//! command, reply and push.
+#![tactic(auto)]
+
+pub mod kind;
+pub mod pairing;
+pub mod print;
+pub mod seen;
+pub mod tap;
+pub mod way;
+
+pub use seen::{Place, Seen, Step};
+pub use tap::Tap;
