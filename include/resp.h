@@ -127,7 +127,11 @@ enum resp_kind {
     /* The innermost aggregate has ended. An attribute ends after the value that it annotates. */
     RESP_CLOSE = 8,
     /* The value at the top is whole. */
-    RESP_DONE = 9
+    RESP_DONE = 9,
+    /* A simple string, an error, a double or a bulk string, of the kind `form`, came with its end:
+     * `part` bytes at resp_event_whole. resp_scanner_scan alone tells it, for RESP_TEXT, RESP_PART
+     * and RESP_TEXT_END. */
+    RESP_WHOLE = 10
 };
 
 /* The kinds of text. */
@@ -214,6 +218,24 @@ uint32_t resp_scanner_init(struct resp_scanner *scanner, uint32_t version,
 uint32_t resp_scanner_step(struct resp_scanner *scanner, const uint8_t *piece, size_t length,
                            struct resp_event *event);
 
+/* What a call over a piece did. */
+struct resp_scanned {
+    /* The number of events told. */
+    size_t count;
+    /* The number of bytes taken from the front of the piece. */
+    size_t used;
+};
+
+/* Tells the events of the piece, as resp_scanner_step one after another, to the array of `room`
+ * events. Each event's `used` counts from the end of the bytes of the event before; there is no
+ * RESP_MORE. The ends of values don't stop it: it ends where the array is full, having taken no byte
+ * after those of the last event; else where the piece is used up, having taken all of it and told all
+ * that is due; or else where it refuses a byte, as resp_scanner_step. `scanned` is set either way,
+ * and after a refusal too: the events before it are told, and their bytes are `used`. The events
+ * after those told are left. */
+uint32_t resp_scanner_scan(struct resp_scanner *scanner, const uint8_t *piece, size_t length,
+                           struct resp_event *events, size_t room, struct resp_scanned *scanned);
+
 /* The end of the input. Refuses it by RESP_CAUSE_TRUNCATED inside a value, and by the cause that stands
  * after a refusal. */
 uint32_t resp_scanner_finish(struct resp_scanner *scanner);
@@ -235,6 +257,11 @@ uint64_t resp_scanner_needed(struct resp_scanner *scanner);
 /* The bytes of a RESP_PART, `event->part` of them, where `piece` is what the step was given. */
 static inline const uint8_t *resp_event_part(const struct resp_event *event, const uint8_t *piece) {
     return event->used ? piece + (event->used - event->part) : &event->digit;
+}
+
+/* The bytes of a RESP_WHOLE, `event->part` of them, where `piece` is where the event's bytes begin. */
+static inline const uint8_t *resp_event_whole(const struct resp_event *event, const uint8_t *piece) {
+    return piece + (event->used - event->part - 2);
 }
 
 /* Which command each reply answers, and in which version it is read: a client without its values.

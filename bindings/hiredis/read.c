@@ -41,18 +41,27 @@
 /* As deep as the greatest limit of depth. */
 #define MOST_OPEN 128
 
+/* What is seldom wanted is kept apart from what is read for each value. */
+#ifdef __GNUC__
+#define APART __attribute__((noinline))
+#else
+#define APART
+#endif
+
 /* More bytes than a double needs. */
 #define MOST_DOUBLE 512
 
-/* An aggregate that is open. */
+/* As many events as are asked for at once. */
+#define MOST_EVENTS 64
+
+/* The top, or an aggregate that is open. */
 struct frame {
-    /* What the functions are given as the parent of its members. */
+    /* What the functions are told of the value that comes next in it. */
     redisReadTask task;
-    /* The number of members that have ended. */
-    uint64_t members;
+    /* How much further the next value after that stands: 1 in an aggregate that has places. */
+    int step;
     /* Of an attribute, the values still to come before the one that it annotates. */
     uint64_t before;
-    bool is_attribute;
 };
 
 struct reader {
@@ -60,8 +69,17 @@ struct reader {
     redisReader base;
     struct resp_scanner scanner;
     size_t room;
-    /* How many bytes of the value were taken by earlier calls. */
-    uint64_t taken;
+    /* The events that were told and not yet read, from `pos` on, RESP_MORE after them, and where the
+     * bytes taken end. */
+    const struct resp_event *next;
+    size_t taken;
+    /* Why the byte after these is refused, or RESP_OK. */
+    uint32_t cause;
+    /* The innermost frame, and how many of the open attributes are before what they annotate. */
+    struct frame *frame;
+    size_t unread;
+    /* How many bytes of a value had been taken when the events were asked for. */
+    uint64_t before;
     /* The first byte of the line that is being read, where an earlier call took it, or 0. */
     char type;
     /* The kind of the text that is being read. */
@@ -72,10 +90,8 @@ struct reader {
     bool is_gathered;
     char *gathered;
     size_t gathered_room;
-    struct frame frames[MOST_OPEN];
-    size_t depth;
-    /* How many of the open attributes are before the values that they annotate. */
-    size_t unread;
+    struct resp_event events[MOST_EVENTS + 1];
+    struct frame frames[MOST_OPEN + 1];
 };
 
 /* Keeps the first error, and lets go of the reply that was begun. */
@@ -111,29 +127,15 @@ static bool reserve(char **start, size_t *room, size_t length) {
     return true;
 }
 
-/* The innermost open aggregate that is no attribute, or NULL. */
-static struct frame *innermost(struct reader *reader) {
-    size_t depth = reader->depth;
-    while (depth && reader->frames[depth - 1].is_attribute)
-        depth--;
-    return depth ? &reader->frames[depth - 1] : NULL;
-}
-
-/* What the functions are told of a value that begins. */
-static redisReadTask task_of(struct reader *reader, int type, long long elements) {
-    struct frame *parent = innermost(reader);
-    redisReadTask task = {
-        .type = type,
-        .elements = elements,
-        .idx = parent ? (int)parent->members : -1,
-        .parent = parent ? &parent->task : NULL,
-        .privdata = reader->base.privdata,
-    };
+/* What the functions are told of a value of this type. */
+static inline redisReadTask *task_of(struct reader *reader, int type) {
+    redisReadTask *task = &reader->frame->task;
+    task->type = type;
     return task;
 }
 
 /* Keeps the object of a value at the top. Another was given its place by its parent. */
-static bool keep(struct reader *reader, const redisReadTask *task, void *object) {
+static inline bool keep(struct reader *reader, const redisReadTask *task, void *object) {
     if (!object)
         return out_of_memory(reader);
     if (!task->parent)
@@ -144,50 +146,53 @@ static bool keep(struct reader *reader, const redisReadTask *task, void *object)
 /* The object of a kind, where there is no function for it. */
 static void *kind(const redisReadTask *task) { return (void *)(size_t)task->type; }
 
-/* A value has ended: it is a member of the aggregate around it. */
-static void end(struct reader *reader) {
-    if (!reader->depth)
-        return;
-    struct frame *frame = &reader->frames[reader->depth - 1];
-    if (!frame->is_attribute)
-        frame->members++;
-    else if (frame->before && !--frame->before)
+/* A value has ended: the next one has the next place. */
+static inline void end(struct reader *reader) {
+    struct frame *frame = reader->frame;
+    frame->task.idx += frame->step;
+}
+
+/* So has one that was not read. */
+static void end_unread(struct reader *reader) {
+    struct frame *frame = reader->frame;
+    if (frame->before && !--frame->before)
         reader->unread--;
+    end(reader);
 }
 
 static bool add_null(struct reader *reader) {
     redisReplyObjectFunctions *fn = reader->base.fn;
-    redisReadTask task = task_of(reader, REDIS_REPLY_NIL, -1);
-    return keep(reader, &task, fn && fn->createNil ? fn->createNil(&task) : kind(&task));
+    redisReadTask *task = task_of(reader, REDIS_REPLY_NIL);
+    return keep(reader, task, fn && fn->createNil ? fn->createNil(task) : kind(task));
 }
 
-static bool add_integer(struct reader *reader, long long number) {
+static inline bool add_integer(struct reader *reader, long long number) {
     redisReplyObjectFunctions *fn = reader->base.fn;
-    redisReadTask task = task_of(reader, REDIS_REPLY_INTEGER, -1);
-    return keep(reader, &task, fn && fn->createInteger ? fn->createInteger(&task, number) : kind(&task));
+    redisReadTask *task = task_of(reader, REDIS_REPLY_INTEGER);
+    return keep(reader, task, fn && fn->createInteger ? fn->createInteger(task, number) : kind(task));
 }
 
 static bool add_truth(struct reader *reader, bool truth) {
 #ifdef REDIS_REPLY_BOOL
     redisReplyObjectFunctions *fn = reader->base.fn;
-    redisReadTask task = task_of(reader, REDIS_REPLY_BOOL, -1);
-    return keep(reader, &task, fn && fn->createBool ? fn->createBool(&task, truth) : kind(&task));
+    redisReadTask *task = task_of(reader, REDIS_REPLY_BOOL);
+    return keep(reader, task, fn && fn->createBool ? fn->createBool(task, truth) : kind(task));
 #else
     return add_integer(reader, truth);
 #endif
 }
 
-static bool add_string(struct reader *reader, int type, char *start, size_t length) {
+static inline bool add_string(struct reader *reader, int type, char *start, size_t length) {
     redisReplyObjectFunctions *fn = reader->base.fn;
-    redisReadTask task = task_of(reader, type, -1);
-    return keep(reader, &task, fn && fn->createString ? fn->createString(&task, start, length) : kind(&task));
+    redisReadTask *task = task_of(reader, type);
+    return keep(reader, task, fn && fn->createString ? fn->createString(task, start, length) : kind(task));
 }
 
 /* A double is a number, infinite or not a number, and nothing else. */
-static bool add_double(struct reader *reader, char *start, size_t length) {
+static APART bool add_double(struct reader *reader, char *start, size_t length) {
 #ifdef REDIS_REPLY_DOUBLE
     redisReplyObjectFunctions *fn = reader->base.fn;
-    redisReadTask task = task_of(reader, REDIS_REPLY_DOUBLE, -1);
+    redisReadTask *task = task_of(reader, REDIS_REPLY_DOUBLE);
     char text[MOST_DOUBLE], *rest;
     if (!length || length >= sizeof text || isspace((unsigned char)*start))
         return fail(reader, REDIS_ERR_PROTOCOL, "Bad double value");
@@ -196,7 +201,7 @@ static bool add_double(struct reader *reader, char *start, size_t length) {
     double number = strtod(text, &rest);
     if (rest != text + length)
         return fail(reader, REDIS_ERR_PROTOCOL, "Bad double value");
-    return keep(reader, &task, fn && fn->createDouble ? fn->createDouble(&task, number, text, length) : kind(&task));
+    return keep(reader, task, fn && fn->createDouble ? fn->createDouble(task, number, text, length) : kind(task));
 #else
     return add_string(reader, REDIS_REPLY_STRING, start, length);
 #endif
@@ -232,29 +237,27 @@ static bool add_part(struct reader *reader, const struct resp_event *event, size
     return true;
 }
 
-static bool add_text(struct reader *reader) {
+/* A text of this kind has come, of a big number or a verbatim string with what stands before it. */
+static inline bool add_text(struct reader *reader, uint32_t form, char *start, size_t length) {
+    static const int types[] = {
+        [RESP_TEXT_SIMPLE] = REDIS_REPLY_STATUS, [RESP_TEXT_ERROR] = REDIS_REPLY_ERROR,
+        [RESP_TEXT_BULK] = REDIS_REPLY_STRING,   [RESP_TEXT_BULK_ERROR] = REDIS_REPLY_ERROR,
+        [RESP_TEXT_VERBATIM] = REPLY_VERBATIM,   [RESP_TEXT_BIG] = REPLY_BIG,
+    };
+    if (form == RESP_TEXT_DOUBLE)
+        return add_double(reader, start, length);
+    return add_string(reader, types[form], start, length);
+}
+
+/* A text that came in parts has ended. */
+static bool end_text(struct reader *reader) {
     static char none[] = "";
     if (reader->form == RESP_TEXT_BIG && !reader->length && !gather(reader, "0", 1))
         return false;
     char *start = !reader->length ? none : reader->is_gathered ? reader->gathered : reader->base.buf + reader->start;
-    switch (reader->form) {
-    case RESP_TEXT_SIMPLE:
-        return add_string(reader, REDIS_REPLY_STATUS, start, reader->length);
-    case RESP_TEXT_ERROR:
-    case RESP_TEXT_BULK_ERROR:
-        return add_string(reader, REDIS_REPLY_ERROR, start, reader->length);
-    case RESP_TEXT_DOUBLE:
-        return add_double(reader, start, reader->length);
-    case RESP_TEXT_BIG:
-        return add_string(reader, REPLY_BIG, start, reader->length);
-    case RESP_TEXT_VERBATIM: {
-        /* A string has no format. */
-        size_t front = REPLY_VERBATIM == REDIS_REPLY_STRING ? 4 : 0;
-        return add_string(reader, REPLY_VERBATIM, start + front, reader->length - front);
-    }
-    default:
-        return add_string(reader, REDIS_REPLY_STRING, start, reader->length);
-    }
+    /* (a string has no format) */
+    size_t front = reader->form == RESP_TEXT_VERBATIM && REPLY_VERBATIM == REDIS_REPLY_STRING ? 4 : 0;
+    return add_text(reader, reader->form, start + front, reader->length - front);
 }
 
 /* Whether an array may have this number of members. */
@@ -281,64 +284,90 @@ static int type_of(uint32_t form) {
     }
 }
 
-static bool open(struct reader *reader, const struct resp_event *event) {
+static APART bool open(struct reader *reader, const struct resp_event *event) {
     redisReplyObjectFunctions *fn = reader->base.fn;
     bool has_pairs = event->form == RESP_MAP || event->form == RESP_ATTRIBUTE;
     uint64_t members = has_pairs ? 2 * event->members : event->members;
-    struct frame *frame = &reader->frames[reader->depth];
-    frame->task = task_of(reader, type_of(event->form), (long long)members);
-    frame->members = 0;
-    frame->is_attribute = event->form == RESP_ATTRIBUTE;
-    frame->before = frame->is_attribute ? members : 0;
-    reader->depth++;
-    if (frame->is_attribute)
+    redisReadTask *task = task_of(reader, type_of(event->form));
+    struct frame *inner = ++reader->frame;
+    if (event->form == RESP_ATTRIBUTE) {
+        /* (what it annotates is told as what stands in its place) */
+        *inner = (struct frame){.task = *task, .before = members};
         reader->unread += members > 0;
-    if (frame->is_attribute || reader->unread)
+        return true;
+    }
+    *inner = (struct frame){.task = {.elements = -1, .parent = task, .privdata = reader->base.privdata}, .step = 1};
+    if (reader->unread)
         return true;
     if (!is_allowed(reader, members))
         return is_out_of_range(reader);
-    frame->task.obj = fn && fn->createArray ? fn->createArray(&frame->task, members) : kind(&frame->task);
-    return keep(reader, &frame->task, frame->task.obj);
+    task->elements = (long long)members;
+    task->obj = fn && fn->createArray ? fn->createArray(task, members) : kind(task);
+    return keep(reader, task, task->obj);
 }
 
-static void close(struct reader *reader) {
-    reader->depth--;
-    end(reader);
-}
-
-/* Takes an event, whose step began at `at`. The values of an attribute's pairs are told to no function. */
-static bool take(struct reader *reader, const struct resp_event *event, size_t at) {
-    bool is_read = !reader->unread, is_well = true;
+/* Takes an event that is seldom, whose bytes begin at `at`. */
+static APART bool take_seldom(struct reader *reader, const struct resp_event *event, size_t at) {
+    bool is_well = true;
     switch (event->kind) {
     case RESP_NULL:
-        is_well = !is_read || add_null(reader);
+        is_well = add_null(reader);
         end(reader);
         break;
     case RESP_BOOL:
-        is_well = !is_read || add_truth(reader, event->number);
-        end(reader);
-        break;
-    case RESP_INT:
-        is_well = !is_read || add_integer(reader, event->number);
+        is_well = add_truth(reader, event->number);
         end(reader);
         break;
     case RESP_TEXT:
         return begin_text(reader, event);
     case RESP_PART:
-        return !is_read || add_part(reader, event, at);
+        return add_part(reader, event, at);
     case RESP_TEXT_END:
-        is_well = !is_read || add_text(reader);
+        is_well = end_text(reader);
         reader->is_text = false;
         reader->length = 0;
         end(reader);
         break;
-    case RESP_OPEN:
-        return open(reader, event);
-    case RESP_CLOSE:
-        close(reader);
-        break;
     }
     return is_well;
+}
+
+/* Takes an event of an attribute's pairs, which are told to no function. */
+static APART void pass(struct reader *reader, const struct resp_event *event) {
+    switch (event->kind) {
+    case RESP_TEXT:
+        reader->is_text = true;
+        break;
+    case RESP_PART:
+        break;
+    case RESP_OPEN:
+        open(reader, event);
+        break;
+    case RESP_CLOSE:
+        reader->frame--;
+        end_unread(reader);
+        break;
+    default:
+        reader->is_text = false;
+        end_unread(reader);
+        break;
+    }
+}
+
+/* Takes another event than a whole text, an integer and the end, whose bytes begin at `at`. */
+static APART bool take(struct reader *reader, const struct resp_event *event, size_t at) {
+    if (reader->unread) {
+        pass(reader, event);
+        return true;
+    }
+    if (event->kind == RESP_OPEN)
+        return open(reader, event);
+    if (event->kind != RESP_CLOSE)
+        return take_seldom(reader, event, at);
+    reader->frame--;
+    reader->frame->task.elements = -1;
+    end(reader);
+    return true;
 }
 
 /* What is said of a byte that no reply goes on with, by the first byte of its line; NULL in a text. */
@@ -367,12 +396,16 @@ static const char *syntax_error(char type, bool is_digit) {
     }
 }
 
-/* The scanner has refused a byte of the buffer, in a line that begins at `line` or earlier. */
-static bool refuse(struct reader *reader, uint32_t cause, size_t line) {
-    uint64_t at = resp_scanner_taken(&reader->scanner);
-    uint8_t byte = (uint8_t)reader->base.buf[at - reader->taken + reader->base.pos];
-    char type = reader->is_text ? 0 : reader->type ? reader->type : reader->base.buf[line];
-    char text[sizeof reader->base.errstr];
+/* The scanner has refused a byte of the buffer, in a line that begins at `pos` or earlier. */
+static bool refuse(struct reader *reader) {
+    redisReader *base = &reader->base;
+    uint32_t cause = reader->cause;
+    uint64_t at = resp_scanner_taken(&reader->scanner), taken = reader->before;
+    for (const struct resp_event *event = reader->events; event->kind != RESP_MORE; event++)
+        taken = event->kind == RESP_DONE ? 0 : taken + event->used;
+    uint8_t byte = (uint8_t)base->buf[base->pos + (size_t)(at - taken)];
+    char type = reader->is_text ? 0 : reader->type ? reader->type : base->buf[base->pos];
+    char text[sizeof base->errstr];
     const char *known = NULL;
     if (cause == RESP_CAUSE_ITEMS)
         return is_allowed(reader, UINT64_MAX) ? out_of_memory(reader) : is_out_of_range(reader);
@@ -393,32 +426,63 @@ static bool refuse(struct reader *reader, uint32_t cause, size_t line) {
     return fail(reader, REDIS_ERR_PROTOCOL, text);
 }
 
-/* Reads on in the buffer. Whether a reply is whole; where it isn't, an error may stand. */
-static bool read_reply(struct reader *reader) {
+/* Asks for more events, where all were read. Whether there are any; where not, an error may stand. */
+static APART bool scan(struct reader *reader) {
     redisReader *base = &reader->base;
-    const uint8_t *start = (const uint8_t *)base->buf;
-    size_t at = base->pos, length = base->len;
-    for (;;) {
-        struct resp_event event;
-        uint32_t cause = resp_scanner_step(&reader->scanner, start + at, length - at, &event);
-        if (cause != RESP_OK)
-            return refuse(reader, cause, at);
-        if (event.kind == RESP_MORE) {
-            if (!reader->type && !reader->is_text && at < length)
-                reader->type = base->buf[at];
-            reader->taken += length - base->pos;
-            base->pos = length;
-            return false;
-        }
+    struct resp_scanned scanned;
+    if (reader->cause != RESP_OK)
+        return refuse(reader);
+    reader->next = reader->events;
+    reader->events[0].kind = RESP_MORE;
+    if (base->pos < reader->taken) {
+        /* (these bytes belong to no event yet) */
+        if (!reader->type && !reader->is_text)
+            reader->type = base->buf[base->pos];
+        base->pos = reader->taken;
+    }
+    if (base->pos == base->len)
+        return false;
+    reader->before = resp_scanner_taken(&reader->scanner);
+    reader->cause = resp_scanner_scan(&reader->scanner, (const uint8_t *)base->buf + base->pos, base->len - base->pos,
+                                      reader->events, MOST_EVENTS, &scanned);
+    reader->events[scanned.count].kind = RESP_MORE;
+    reader->taken = base->pos + scanned.used;
+    if (scanned.count)
         reader->type = 0;
-        if (event.kind == RESP_DONE) {
-            reader->taken = 0;
-            base->pos = at + event.used;
+    return true;
+}
+
+/* Reads on in the buffer. Whether a reply is whole; where it isn't, an error may stand. */
+static inline bool read_reply(struct reader *reader) {
+    redisReader *base = &reader->base;
+    const struct resp_event *event = reader->next;
+    size_t at = base->pos;
+    for (;;) {
+        uint32_t kind = event->kind;
+        if (kind == RESP_WHOLE && !reader->unread) {
+            char *start = base->buf + at + (event->used - event->part - 2);
+            if (!add_text(reader, event->form, start, event->part))
+                return false;
+            end(reader);
+        } else if (kind == RESP_DONE) {
+            reader->next = event + 1;
+            base->pos = at;
             return true;
-        }
-        if (!take(reader, &event, at))
+        } else if (kind == RESP_INT && !reader->unread) {
+            if (!add_integer(reader, event->number))
+                return false;
+            end(reader);
+        } else if (kind == RESP_MORE) {
+            base->pos = at;
+            if (!scan(reader))
+                return false;
+            event = reader->next;
+            at = base->pos;
+            continue;
+        } else if (!take(reader, event, at)) {
             return false;
-        at += event.used;
+        }
+        at += event++->used;
     }
 }
 
@@ -433,6 +497,9 @@ redisReader *redisReaderCreateWithFunctions(redisReplyObjectFunctions *fn) {
         free(reader);
         return NULL;
     }
+    reader->next = reader->events;
+    reader->frame = reader->frames;
+    reader->frame->task.elements = reader->frame->task.idx = -1;
     reader->base.fn = fn;
     reader->base.maxbuf = REDIS_READER_MAX_BUF;
     reader->base.ridx = -1;
@@ -462,6 +529,7 @@ static void drop_read(struct reader *reader) {
         memmove(base->buf, base->buf + read, base->len - read);
     base->len -= read;
     base->pos -= read;
+    reader->taken -= read;
     reader->start = 0;
 }
 
@@ -488,17 +556,11 @@ int redisReaderFeed(redisReader *base, const char *more, size_t length) {
 
 int redisReaderGetReply(redisReader *base, void **reply) {
     struct reader *reader = (struct reader *)base;
-    if (reply)
-        *reply = NULL;
-    if (base->err)
-        return REDIS_ERR;
-    if (base->pos == base->len)
-        return REDIS_OK;
-    bool is_whole = read_reply(reader);
-    if (base->err)
-        return REDIS_ERR;
-    if (!is_whole)
-        return REDIS_OK;
+    if (base->err || !read_reply(reader)) {
+        if (reply)
+            *reply = NULL;
+        return base->err ? REDIS_ERR : REDIS_OK;
+    }
     if (reply)
         *reply = base->reply;
     else if (base->reply && base->fn && base->fn->freeObject)

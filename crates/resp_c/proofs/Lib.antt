@@ -2,3 +2,4 @@ pub mod RoomTexts
 pub mod Refusals
 pub mod Asks
 pub mod ShownEvents
+pub mod ManyEvents

@@ -1,5 +1,6 @@
 -- What C is told, in the scanner's words.
 pub mod Told
+pub mod Scans
 pub mod Steps
 pub mod Limits
 pub mod Versions

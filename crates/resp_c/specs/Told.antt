@@ -1,5 +1,5 @@
 -- What C is told of a step.
-use Rattle.std.specs.Prelude.{◌≡◌, ℕ, ℤ, pos, Bool, true, false, [], ◌∷◌, length, Option, Some, None}
+use Rattle.std.specs.Prelude.{◌≡◌, ℕ, ℤ, pos, Bool, true, false, List, [], ◌∷◌, length, Option, Some, None}
 use Rattle.resp_scan.specs.declared.event.TextKind.{TextKind}
 use Rattle.resp_scan.specs.declared.event.TextKind.TheVariants as text
 use Rattle.resp_value.specs.declared.kind.OpenKind.{OpenKind}
@@ -56,3 +56,9 @@ Tells out (Some (event.Open kind members)) =
     (out.kind ≡ 7) × (out.form ≡ kind_form kind) × (out.members ≡ members_number members)
 Tells out (Some event.Close) = out.kind ≡ 8
 Tells out (Some event.Done) = out.kind ≡ 9
+
+-- a text told with its end
+pub record TellsWhole (out : RespEvent) (kind : TextKind) (bytes : List ℕ) : Type 0 where
+  pub kind_is : out.kind ≡ 10
+  pub form_is : out.form ≡ text_form kind
+  pub part_is : out.part ≡ length bytes

@@ -1,18 +1,20 @@
 //! Events as C sees them.
 
-ghost use Rattle.std.specs.Prelude.{◌≡◌, [], ◌∷◌, length};
-ghost use Rattle.resp_c.specs.Told.{Tells, TellsMore, kind_form, members_number, text_form, truth_number};
+ghost use Rattle.std.specs.Prelude.{◌≡◌, [], ◌∷◌, Some, length};
+ghost use Rattle.resp_c.specs.Told.{Tells, TellsMore, TellsWhole, kind_form, text_form, truth_number};
 
-use resp_scan::event::{Event, Step, TextKind};
+use resp_scan::event::{Event, TextKind};
+use resp_scan::slot::Slot;
 use resp_value::kind::OpenKind;
 
 /// What a step did.
 #[repr(C)]
 #[derive(Clone, Copy)]
 pub struct RespEvent {
-    /// What the event is: `RESP_MORE` where there is none, or `RESP_NULL` to `RESP_DONE`.
+    /// What the event is: `RESP_MORE` where there is none, or `RESP_NULL` to `RESP_WHOLE`.
     pub kind: u32,
-    /// Of a text `RESP_TEXT_SIMPLE` to `RESP_TEXT_BIG`, and of an open `RESP_ARRAY` to `RESP_PUSH`.
+    /// Of a text, a whole one too, `RESP_TEXT_SIMPLE` to `RESP_TEXT_BIG`, and of an open `RESP_ARRAY`
+    /// to `RESP_PUSH`.
     pub form: u32,
     /// An integer. 1 for true, and for a big number below zero; else 0.
     pub number: i64,
@@ -21,8 +23,8 @@ pub struct RespEvent {
     pub members: u64,
     /// The number of bytes taken from the front of the piece.
     pub used: usize,
-    /// The length of a part. Its bytes end where the bytes taken end; where none was taken, the
-    /// part is `digit`.
+    /// The length of a part, or of a whole text. A part's bytes end where the bytes taken end;
+    /// where none was taken, the part is `digit`. CR LF stand after those of a whole text.
     pub part: usize,
     /// The format of a verbatim string.
     pub format: [u8; 3],
@@ -33,62 +35,36 @@ pub struct RespEvent {
 /// The members of a streamed aggregate.
 const STREAMED: u64 = u64::MAX;
 
-/// An event of this kind, and nothing else of it.
-fn event_of(kind: u32, used: usize) -> RespEvent
-    ensures used { result.used ≡ used }
-    ensures kind { result.kind ≡ kind }
-    ensures form { result.form ≡ 0 }
+/// Tells a text that begins, but for the number of its bytes.
+#[inline(always)]
+fn tell_text(event: &mut RespEvent, kind: TextKind)
+    ensures used { event.new.used ≡ event.old.used }
+    ensures kind { event.new.kind ≡ 4 }
+    ensures form { event.new.form ≡ text_form kind }
+    ensures more { TellsMore event.new kind }
 {
-    RespEvent {
-        kind,
-        form: 0,
-        number: 0,
-        members: 0,
-        used,
-        part: 0,
-        format: [0; 3],
-        digit: 0,
-    }
-}
-
-/// A text that begins.
-fn text_event(kind: TextKind, used: usize) -> RespEvent
-    ensures used { result.used ≡ used }
-    ensures kind { result.kind ≡ 4 }
-    ensures form { result.form ≡ text_form kind }
-    ensures more { TellsMore result kind }
-{
-    let event = event_of(4, used);
+    event.kind = 4;
+    event.form = text_form(kind);
     match kind {
-        TextKind::Simple => event,
-        TextKind::Error => RespEvent { form: 1, ..event },
-        TextKind::Double => RespEvent { form: 2, ..event },
-        TextKind::Bulk => RespEvent { form: 3, ..event },
-        TextKind::BulkError => RespEvent { form: 4, ..event },
-        TextKind::Verbatim(format) => RespEvent {
-            form: 5,
-            format,
-            ..event
-        },
-        TextKind::Big { negative } => RespEvent {
-            form: 6,
-            number: truth_number(negative),
-            ..event
-        },
+        TextKind::Verbatim(format) => event.format = format,
+        TextKind::Big { negative } => event.number = truth_number(negative),
+        _ => (),
     }
 }
 
-/// An aggregate that begins.
-fn open_event(kind: OpenKind, members: Option<u64>, used: usize) -> RespEvent
-    ensures used { result.used ≡ used }
-    ensures kind { result.kind ≡ 7 }
-    ensures form { result.form ≡ kind_form kind }
-    ensures members { result.members ≡ members_number members }
+/// The form of a kind of text.
+#[inline(always)]
+fn text_form(kind: TextKind) -> u32
+    ensures { result ≡ text_form kind }
 {
-    RespEvent {
-        form: kind_form(kind),
-        members: members.unwrap_or(STREAMED),
-        ..event_of(7, used)
+    match kind {
+        TextKind::Simple => 0,
+        TextKind::Error => 1,
+        TextKind::Double => 2,
+        TextKind::Bulk => 3,
+        TextKind::BulkError => 4,
+        TextKind::Verbatim(_) => 5,
+        TextKind::Big { .. } => 6,
     }
 }
 
@@ -112,46 +88,65 @@ fn truth_number(truth: bool) -> i64
     if truth { 1 } else { 0 }
 }
 
-/// A part.
-fn part_event(bytes: &[u8], used: usize) -> RespEvent
-    ensures used { result.used ≡ used }
-    ensures kind { result.kind ≡ 5 }
-    ensures part { result.part ≡ length bytes.now }
-    ensures digit { length bytes.now ≡ 1 → bytes.now ≡ result.digit ∷ [] }
+/// Tells a part.
+#[inline(always)]
+fn tell_part(event: &mut RespEvent, bytes: &[u8])
+    ensures used { event.new.used ≡ event.old.used }
+    ensures kind { event.new.kind ≡ 5 }
+    ensures part { event.new.part ≡ length bytes.now }
+    ensures digit { length bytes.now ≡ 1 → bytes.now ≡ event.new.digit ∷ [] }
 {
-    let digit = match bytes.first() {
+    event.kind = 5;
+    event.part = bytes.len();
+    event.digit = match bytes.first() {
         Some(byte) => *byte,
         None => 0,
     };
-    RespEvent {
-        part: bytes.len(),
-        digit,
-        ..event_of(5, used)
+}
+
+/// Tells an event. What it doesn't name is left, the number of its bytes too.
+#[inline(always)]
+pub(crate) fn tell(event: &mut RespEvent, told: Event<'_>)
+    ensures used { event.new.used ≡ event.old.used }
+    ensures tells { Tells event.new (Some told.entry) }
+{
+    match told {
+        Event::Null => event.kind = 1,
+        Event::Bool(truth) => {
+            event.kind = 2;
+            event.number = truth_number(truth);
+        }
+        Event::Int(number) => {
+            event.kind = 3;
+            event.number = number;
+        }
+        Event::Text(kind) => tell_text(event, kind),
+        Event::Part(bytes) => tell_part(event, bytes),
+        Event::TextEnd => event.kind = 6,
+        Event::Open(kind, members) => {
+            event.kind = 7;
+            event.form = kind_form(kind);
+            event.members = members.unwrap_or(STREAMED);
+        }
+        Event::Close => event.kind = 8,
+        Event::Done => event.kind = 9,
     }
 }
 
-/// What a step did, as C is told it.
-pub(crate) fn told(step: Step<'_>) -> RespEvent
-    ensures used { result.used ≡ step.entry.used }
-    ensures tells { Tells result step.entry.event }
-{
-    let used = step.used;
-    match step.event {
-        None => event_of(0, used),
-        Some(Event::Null) => event_of(1, used),
-        Some(Event::Bool(truth)) => RespEvent {
-            number: truth_number(truth),
-            ..event_of(2, used)
-        },
-        Some(Event::Int(number)) => RespEvent {
-            number,
-            ..event_of(3, used)
-        },
-        Some(Event::Text(kind)) => text_event(kind, used),
-        Some(Event::Part(bytes)) => part_event(bytes, used),
-        Some(Event::TextEnd) => event_of(6, used),
-        Some(Event::Open(kind, members)) => open_event(kind, members, used),
-        Some(Event::Close) => event_of(8, used),
-        Some(Event::Done) => event_of(9, used),
+impl Slot for RespEvent {
+    ghost shows = { λ out event. Tells out (Some event) };
+
+    ghost shows_text = { TellsWhole };
+
+    #[inline(always)]
+    fn event(&mut self, event: Event<'_>) {
+        tell(self, event);
+    }
+
+    #[inline(always)]
+    fn text(&mut self, kind: TextKind, bytes: &[u8]) {
+        self.kind = 10;
+        self.form = text_form(kind);
+        self.part = bytes.len();
     }
 }

@@ -19,5 +19,6 @@ pub mod limits;
 pub mod memory;
 pub mod pairing;
 mod room;
+pub mod scan;
 pub mod scanner;
 pub mod write;

@@ -16,7 +16,7 @@ ghost use Rattle.resp_value.specs.Causes.{number_of};
 ghost use Rattle.resp_value.specs.Rules.{rules_under};
 ghost use Rattle.resp_value.specs.declared.cause.Cause.TheVariants as cause;
 
-use crate::event::{RespEvent, told};
+use crate::event::{RespEvent, tell};
 use crate::limits::{RespLimits, checked};
 use crate::memory::RespScanner;
 use resp_scan::scanner::Scanner;
@@ -100,7 +100,11 @@ pub extern "C" fn resp_scanner_step(
 {
     match scanner.scanner().step(piece) {
         Ok(step) => {
-            *event = told(step);
+            event.used = step.used;
+            match step.event {
+                None => event.kind = 0,
+                Some(told) => tell(event, told),
+            }
             0
         }
         Err(fault) => fault.cause.number(),

@@ -8,6 +8,7 @@ pub mod Hearing
 pub mod Nearer
 pub mod Turns
 pub mod WholeTexts
+pub mod SlotSteps
 pub mod Loops
 pub mod NoValue
 pub mod Steps

@@ -10,3 +10,4 @@ pub mod Kept
 pub mod Places
 pub mod Pieces
 pub mod Counted
+pub mod ShortTexts

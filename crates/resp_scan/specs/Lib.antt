@@ -2,6 +2,7 @@
 pub mod Reading
 pub mod Listening
 pub mod Parts
+pub mod Slots
 pub mod Counts
 pub mod Kinds
 pub mod Laws

@@ -15,3 +15,4 @@ pub mod Beginnings
 pub mod Standing
 pub mod Owed
 pub mod Turns
+pub mod Slots

@@ -206,7 +206,7 @@ impl Machine {
     /// The same inside a token: inside counted content without a call, since it is what is mostly
     /// cut.
     #[inline(always)]
-    fn resume_content(&mut self, rest: &[u8]) -> Taken
+    pub fn resume_content(&mut self, rest: &[u8]) -> Taken
         requires { IsSound (place_of self.old) }
         ensures { out_of result self.new ≡ out_from (place_of self.old) rest.now }
     {
@@ -290,7 +290,7 @@ impl Machine {
     /// How many bytes of a line stand before its CR LF, where these stand in this piece. The
     /// `head` bytes before it aren't counted yet.
     #[inline(always)]
-    fn whole_line(&self, piece: &[u8], head: usize) -> Option<usize>
+    pub fn whole_line(&self, piece: &[u8], head: usize) -> Option<usize>
         requires { head ≤ 2 ^ 63 }
         ensures few { IfSome result (λ run. run ≤ 2 ^ 63) }
         ensures line { IfSome result (λ run. (self.now.state ≡ State.Line) × EndsAt piece.now run ×
@@ -308,7 +308,7 @@ impl Machine {
 
     /// How many bytes of counted content stand before its CR LF, where these stand in this piece.
     #[inline(always)]
-    fn whole_content(&self, piece: &[u8]) -> Option<usize>
+    pub fn whole_content(&self, piece: &[u8]) -> Option<usize>
         ensures few { IfSome result (λ run. run ≤ 2 ^ 63) }
         ensures content { IfSome result (λ run. EndsAt piece.now run ×
             LeavesContent self.now.state self.now.count run) }
@@ -396,7 +396,7 @@ fn told(used: usize, goes_on: bool) -> Turned
 
 /// The bytes from this index on.
 #[inline]
-fn beyond(piece: &[u8], from: usize) -> &[u8]
+pub fn beyond(piece: &[u8], from: usize) -> &[u8]
     requires { from ≤ length piece.now }
     ensures { result.now ≡ drop from piece.now }
 {
@@ -405,7 +405,7 @@ fn beyond(piece: &[u8], from: usize) -> &[u8]
 
 /// This index, where CR LF stand there.
 #[inline]
-fn ends_at(piece: &[u8], run: usize) -> Option<usize>
+pub fn ends_at(piece: &[u8], run: usize) -> Option<usize>
     ensures { IfSome result (λ at. (at ≡ run) × EndsAt piece.now run) }
 {
     if run >= piece.len().saturating_sub(1) {

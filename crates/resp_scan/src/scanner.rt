@@ -1,12 +1,13 @@
 //! The scanner, which reads values from pieces of any size and gives their events.
 
 ghost use Rattle.resp_value.specs.Bounds.{AreBounds};
-ghost use Rattle.std.specs.Prelude.{◌≡◌, ◌↔◌, ◌≤◌, ◌<◌, ◌+◌, ◌++◌, ℕ, length, take, [], false, None, Some, Err, IsOk, OnOk, OnErr, IfOk, IfErr};
+ghost use Rattle.std.specs.Prelude.{◌≡◌, ◌↔◌, ◌⊎◌, ◌≤◌, ◌<◌, ◌+◌, ◌++◌, ℕ, length, take, [], false, None, Some, Ok, Err, IsOk, OnOk, OnErr, IfOk, IfErr};
 ghost use Rattle.resp_value.specs.declared.cause.Cause.TheVariants as cause;
 
 use crate::event::{Busy, Event, Fault, ScanError, Scanned, Step};
 use crate::listener::Listener;
 use crate::machine::{Head, Machine, State};
+use crate::slot::Slot;
 use arrayvec::ArrayVec;
 use resp_value::cause::Cause;
 use resp_value::kind::OpenKind;
@@ -42,6 +43,7 @@ impl Scanner {
     ghost use Rattle.resp_scan.specs.Machine.End.{end_cause};
     ghost use Rattle.resp_scan.specs.Counts.{close_count, open_count};
     ghost use Rattle.resp_scan.specs.Parts.{IsOfPiece};
+    ghost use Rattle.resp_scan.specs.Slots.{IfNotShown, IfNothingShown, IfShown, ShowsEvent, ShowsText, Steps};
     ghost use Rattle.resp_scan.specs.Kinds.{rules_of};
     ghost use Rattle.resp_scan.specs.Machine.Sound.{IsSound, needed};
     ghost use Rattle.resp_scan.specs.Reading.{BeginDue, ComesInTime, EndsValue, HasNoDone, HasNoValue, HasRead, IfDone, IfNoEvent, IfOtherEvent, IsFaulted, IsRefused, MayEnd, UsesUp, WhereRead, events_of};
@@ -135,6 +137,29 @@ impl Scanner {
             (result ≡ Err fault) × (self.new ≡ self.old) }
     {
         self.machine.step(piece)
+    }
+
+    /// Steps as [`Scanner::step`], but shows its event to the slot: a text that lies whole in the
+    /// piece, from its type byte to its end, with its bytes and its end at once. Answers how many
+    /// bytes were used for it, and none where the piece is used up.
+    ///
+    /// Refuses as [`Scanner::step`]. Where it shows nothing, the slot is left.
+    #[inline(always)]
+    pub fn step_into<S: Slot>(&mut self, piece: &[u8], slot: &mut S) -> Result<Option<usize>, Fault>
+        // The slot shows the event of a step, or a text of which the events are the next.
+        ensures shown { IfShown result (λ used.
+            ShowsEvent (S.shows slot.new) self.old self.new piece.now used ⊎
+            ShowsText (S.shows_text slot.new) self.old self.new piece.now used) }
+
+        // A step has used up the piece.
+        ensures used_up { IfNothingShown result (Steps self.old self.new piece.now
+            (Ok (record { used = length piece.now; event = None }))) }
+
+        // A step has refused a byte.
+        ensures refused { IfErr result (λ fault. Steps self.old self.new piece.now (Err fault)) }
+        ensures slot_is_left { IfNotShown result (slot.new ≡ slot.old) }
+    {
+        self.machine.step_into(piece, slot)
     }
 
     /// Tells the listener what stands in the piece, up to the end of a value: the events that

@@ -1,0 +1,144 @@
+//! Many events by one call.
+
+ghost use Rattle.std.specs.Prelude.{◌<◌, ◌≡◌, ◌≤◌, drop, length, take};
+ghost use Rattle.resp_c.specs.Scans.{IsUsedUp, Scans, ScansInMemory, used_by};
+ghost use Rattle.resp_c.specs.Steps.{IsHeld, WhereHeld};
+ghost use Rattle.resp_scan.specs.Kinds.{rules_of};
+ghost use Rattle.resp_scan.specs.Reading.{HasRead, IsFaulted, IsRefused};
+ghost use Rattle.resp_scan.specs.declared.event.Fault.{Fault};
+ghost use Rattle.resp_value.specs.Causes.{number_of};
+
+use crate::event::RespEvent;
+use crate::memory::RespScanner;
+use resp_scan::scanner::Scanner;
+
+/// What a call over a piece did.
+#[repr(C)]
+#[derive(Clone, Copy)]
+pub struct RespScanned {
+    /// The number of events that were told.
+    pub count: usize,
+    /// The number of bytes taken from the front of the piece.
+    pub used: usize,
+}
+
+/// The events told, the bytes used, and 0 or the number of the cause of a refusal.
+#[derive(Clone, Copy)]
+struct Scan {
+    count: usize,
+    used: usize,
+    cause: u32,
+}
+
+/// Tells the events of the piece, until the array is full, the piece used up or a byte refused.
+fn tell_events(scanner: &mut Scanner, piece: &[u8], events: &mut [RespEvent]) -> Scan
+    ensures full { result.cause ≡ 0 → result.count ≡ length events.old →
+        (result.used ≡ used_by (take result.count events.new)) × Scans scanner.old piece.now
+        (take result.count events.new) result.used (HasRead scanner.new) }
+    ensures used_up { result.cause ≡ 0 → result.count < length events.old →
+        (result.used ≡ length piece.now) × Scans scanner.old piece.now
+        (take result.count events.new) result.used (IsUsedUp scanner.new) }
+    ensures refused { (result.cause ≡ 0 → ⊥) → (fault : Fault) ×
+        (result.cause ≡ number_of fault.cause) × IsFaulted scanner.new fault ×
+        (result.used ≡ used_by (take result.count events.new)) × Scans scanner.old piece.now
+        (take result.count events.new) result.used (λ front given.
+        IsRefused (rules_of scanner.old) front given (drop result.used piece.now) fault) }
+    ensures within { result.used ≤ length piece.now }
+    ensures few { result.count ≤ length events.old }
+    ensures left { drop result.count events.new ≡ drop result.count events.old }
+    ensures same_rules { rules_of scanner.new ≡ rules_of scanner.old }
+    ensures fault_is_final { (fault : Fault) → IsFaulted scanner.old fault →
+        0 < length events.old → (result.cause ≡ number_of fault.cause) × (result.count ≡ 0) ×
+        (scanner.new ≡ scanner.old) }
+{
+    let mut rest = piece;
+    let mut count = 0;
+    for event in events.iter_mut() {
+        match scanner.step_into(rest, event) {
+            Ok(Some(used)) => {
+                event.used = used;
+                rest = beyond(rest, used);
+            }
+            Ok(None) => {
+                return Scan {
+                    count,
+                    used: piece.len(),
+                    cause: 0,
+                };
+            }
+            Err(fault) => {
+                return Scan {
+                    count,
+                    used: piece.len() - rest.len(),
+                    cause: fault.cause.number(),
+                };
+            }
+        }
+        count += 1;
+    }
+    Scan {
+        count,
+        used: piece.len() - rest.len(),
+        cause: 0,
+    }
+}
+
+/// The bytes from this index on.
+#[inline(always)]
+fn beyond(piece: &[u8], from: usize) -> &[u8]
+    requires { from ≤ length piece.now }
+    ensures { result.now ≡ drop from piece.now }
+{
+    &piece[from..]
+}
+
+/// Tells the events of the piece, as [`crate::scanner::resp_scanner_step`] one after another, and a
+/// text that lies whole in the piece by one event. Ends where the array is full, the piece is used
+/// up or a byte is refused, and answers 0, or the number of the cause. The events before a refusal
+/// are told. `scanned` has how many were told, and the bytes used: those of the events, or the
+/// piece's where it is used up.
+#[unsafe(no_mangle)]
+pub extern "C" fn resp_scanner_scan(
+    scanner: &mut RespScanner,
+    piece: &[u8],
+    events: &mut [RespEvent],
+    scanned: &mut RespScanned,
+) -> u32
+    requires { IsHeld scanner.old.scanner }
+
+    // The array is full: these are the events of the bytes used, values ended among them.
+    ensures full { result ≡ 0 → scanned.new.count ≡ length events.old →
+        (scanned.new.used ≡ used_by (take scanned.new.count events.new)) ×
+        ScansInMemory scanner.old.scanner scanner.new.scanner piece.now
+        (take scanned.new.count events.new) scanned.new.used (λ old new. HasRead new) }
+
+    // The piece is used up, and all events that are due were told.
+    ensures used_up { result ≡ 0 → scanned.new.count < length events.old →
+        (scanned.new.used ≡ length piece.now) ×
+        ScansInMemory scanner.old.scanner scanner.new.scanner piece.now
+        (take scanned.new.count events.new) scanned.new.used (λ old new. IsUsedUp new) }
+
+    // The refused byte is the first after which nothing can follow; the events before it are told.
+    ensures refused { (result ≡ 0 → ⊥) → (fault : Fault) × (result ≡ number_of fault.cause) ×
+        (scanned.new.used ≡ used_by (take scanned.new.count events.new)) ×
+        ScansInMemory scanner.old.scanner scanner.new.scanner piece.now
+        (take scanned.new.count events.new) scanned.new.used (λ old new front given.
+        IsFaulted new fault ×
+        IsRefused (rules_of old) front given (drop scanned.new.used piece.now) fault) }
+
+    ensures within_piece { scanned.new.used ≤ length piece.now }
+    ensures within_array { scanned.new.count ≤ length events.old }
+    ensures others_left { drop scanned.new.count events.new ≡ drop scanned.new.count events.old }
+    ensures same_rules { WhereHeld scanner.old.scanner (λ old. WhereHeld scanner.new.scanner
+        (λ new. rules_of new ≡ rules_of old)) }
+    ensures fault_is_final { WhereHeld scanner.old.scanner (λ old. (fault : Fault) →
+        IsFaulted old fault → 0 < length events.old → (result ≡ number_of fault.cause) ×
+        (scanned.new.count ≡ 0) × (scanner.new.scanner ≡ scanner.old.scanner)) }
+{
+    let told = tell_events(scanner.scanner(), piece, events);
+    *scanned = RespScanned {
+        count: told.count,
+        used: told.used,
+    };
+    told.cause
+}

@@ -1,0 +1,22 @@
+use Rattle.std.proofs.Common.{arith}
+use Rattle.resp_scan.proofs.CallClauses.Calls.{is_text}
+use Rattle.resp_scan.proofs.CallClauses.SlotSteps.{content_fills}
+use Rattle.resp_scan.proofs.Soundness.Pieces.{used_within, few_taken}
+use Rattle.resp_scan.proofs.machine.Machine.show_content.Goals as goal
+
+pub beyond-after-requires : goal.beyond-after-requires
+beyond-after-requires g c = (used_within c.args.taken c.args.self.now c.requires.whole.0 c.args.piece.now c.requires.whole.1 c.requires.whole.2).0
+
+pub show_text-requires-clause-few : goal.show_text-requires-clause-few
+show_text-requires-clause-few g c = omega (
+  arith,
+  c.in-Some.ensures.few,
+  few_taken c.args.taken c.args.self.now c.requires.whole.0 c.args.piece.now c.requires.whole.1 c.requires.whole.2,
+)
+
+pub returns-in-Some-clause-fills : goal.returns-in-Some-clause-fills
+returns-in-Some-clause-fills g c s sound out =
+    let found = rw c.beyond-after.ensures at c.in-Some.ensures.content in
+    content_fills (g.S.Slot.shows c.show_text.new.slot) (g.S.Slot.shows_text c.show_text.new.slot) s c.args.self.now c.show_text.new.self c.args.taken
+    c.in-Some.run' c.args.piece.now c.show_text.result (is_text c.args.piece.now (λ i. (c.type_inv.piece i).fits)) sound c.requires.tag out
+    found.0 found.1 c.show_text.ensures.machine c.show_text.ensures.used c.show_text.ensures.shown
