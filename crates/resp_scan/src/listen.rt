@@ -9,6 +9,7 @@ use crate::lines::line_run;
 use crate::listener::Listener;
 use crate::machine::{EventTag, Machine, State, Taken};
 use crate::step::{digit_text, run};
+use crate::step_into::Stands;
 use resp_value::cause::Cause;
 
 /// What came of one turn of the loop.
@@ -37,9 +38,9 @@ impl Machine {
     ghost use Rattle.resp_scan.specs.Kinds.{rules_of};
     ghost use Rattle.resp_scan.specs.Machine.Fields.{place_of, out_by, out_of};
     ghost use Rattle.resp_scan.specs.Machine.Room.{total_room};
-    ghost use Rattle.resp_scan.specs.Machine.Scan.{out_from};
+    ghost use Rattle.resp_scan.specs.Machine.Scan.{out_from, scan};
     ghost use Rattle.resp_scan.specs.Machine.Sound.{IsSound};
-    ghost use Rattle.resp_scan.specs.Machine.Tokens.{Dead, Place};
+    ghost use Rattle.resp_scan.specs.Machine.Tokens.{AtStart, Dead, Place, at};
     ghost use Rattle.resp_scan.specs.Listening.{Hears, HearsPiece, HearsRefusal, HearsValue, IfRefused, IfStopped, IfUsedUp, IfWhole, IsTextOf, StopsAfter, WhereHeard, fault_of, whole_text_events};
     ghost use Rattle.resp_scan.specs.Reading.{IsFaulted};
     ghost use Rattle.resp_scan.specs.declared.event.Fault.{Fault};
@@ -177,29 +178,54 @@ impl Machine {
         ensures failed { result.turn ≡ Turn.Failed →
             (place_of self.new).token ≡ Dead self.new.cause }
     {
-        let taken = self.advance(rest);
+        match self.stands() {
+            Stands::Member => self.tell_value(rest, listener),
+            Stands::Done => self.tell(rest, owed(EventTag::Done), listener),
+            Stands::Close => self.tell(rest, owed(EventTag::Close), listener),
+            Stands::Inside => {
+                let taken = self.resume_content(rest);
+                self.tell(rest, taken, listener)
+            }
+        }
+    }
+
+    /// Tells what a value's first byte comes to: a text whole where it ends in this rest.
+    #[inline(always)]
+    fn tell_value<L: Listener>(&mut self, rest: &[u8], listener: &mut L) -> Turned
+        requires sound { IsSound (at (place_of self.old) AtStart) }
+        requires from { (s : Place) × IsSound s ×
+            (out_from s rest.now ≡ scan 0 (at (place_of self.old) AtStart) rest.now) }
+        ensures is_turn { (s : Place) → IsSound s →
+            out_from s rest.now ≡ scan 0 (at (place_of self.old) AtStart) rest.now →
+            IsTurn L.Origin s (place_of self.new) (L.has_heard listener.old)
+            (L.has_heard listener.new) (L.has_stopped listener.new) rest.now result }
+        ensures failed { result.turn ≡ Turn.Failed →
+            (place_of self.new).token ≡ Dead self.new.cause }
+    {
+        if let Some(short) = self.short_text(rest) {
+            let run = short.count as usize;
+            return self.tell_whole(rest, short.head, TextKind::Bulk, run, listener);
+        }
+        let taken = self.start(rest);
+        self.tell_begun(rest, taken, listener)
+    }
+
+    /// Tells what has come of a first byte: a text whole where it ends in this rest.
+    #[inline(always)]
+    fn tell_begun<L: Listener>(&mut self, rest: &[u8], taken: Taken, listener: &mut L) -> Turned
+        requires { (s : Place) × IsSound s × (out_of taken self.old ≡ out_from s rest.now) }
+        ensures is_turn { (s : Place) → IsSound s → out_of taken self.old ≡ out_from s rest.now →
+            IsTurn L.Origin s (place_of self.new) (L.has_heard listener.old)
+            (L.has_heard listener.new) (L.has_stopped listener.new) rest.now result }
+        ensures failed { result.turn ≡ Turn.Failed →
+            (place_of self.new).token ≡ Dead self.new.cause }
+    {
         match taken.tag {
             EventTag::Simple => self.tell_line(rest, taken, TextKind::Simple, listener),
             EventTag::Error => self.tell_line(rest, taken, TextKind::Error, listener),
             EventTag::Double => self.tell_line(rest, taken, TextKind::Double, listener),
             EventTag::Bulk => self.tell_content(rest, taken, listener),
             _ => self.tell(rest, taken, listener),
-        }
-    }
-
-    /// Goes on from the token in which the rest begins.
-    #[inline(always)]
-    #[tactic(auto, using(crate::proofs::Soundness::Places::sound_start))]
-    fn advance(&mut self, rest: &[u8]) -> Taken
-        requires { IsSound (place_of self.old) }
-        ensures { out_of result self.new ≡ out_from (place_of self.old) rest.now }
-    {
-        if let State::Start = self.state {
-            return self.start(rest);
-        }
-        match self.state {
-            State::Boundary => self.after_value(rest),
-            _ => self.resume_content(rest),
         }
     }
 
@@ -374,6 +400,14 @@ impl Machine {
             EventTag::Close => told(used, listener.close()),
         }
     }
+}
+
+/// An event that is owed of bytes that were taken.
+#[inline(always)]
+fn owed(tag: EventTag) -> Taken
+    ensures { result ≡ record { used = 0; tag = tag } }
+{
+    Taken { used: 0, tag }
 }
 
 /// A turn that told the listener nothing.

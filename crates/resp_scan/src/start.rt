@@ -21,7 +21,7 @@ impl Machine {
 
     /// A value's first byte, or the `.` that closes a streamed aggregate. Refuses a double where
     /// doubles aren't allowed, and in version 2 what version 3 alone has.
-    #[inline]
+    #[inline(always)]
     #[tactic(auto, using(crate::proofs::Soundness::Starts::first_byte))]
     pub fn start(&mut self, piece: &[u8]) -> Taken
         requires { IsSound (at (place_of self.old) AtStart) }
@@ -58,6 +58,16 @@ impl Machine {
                 },
             },
         }
+    }
+
+    /// The same in a function of its own, for all but the value at the top of a step and of the
+    /// loop, so that it stands there once.
+    #[inline(never)]
+    pub fn start_apart(&mut self, piece: &[u8]) -> Taken
+        requires { IsSound (at (place_of self.old) AtStart) }
+        ensures { out_of result self.new ≡ scan 0 (at (place_of self.old) AtStart) piece.now }
+    {
+        self.start(piece)
     }
 
     /// A double begins, unless doubles aren't allowed or the version has none.

@@ -38,7 +38,7 @@ impl Machine {
                     let _ = self.frames.pop();
                     self.at_boundary(0, EventTag::Close)
                 }
-                _ => self.start(piece),
+                _ => self.start_apart(piece),
             },
         }
     }
@@ -51,7 +51,7 @@ impl Machine {
         ensures { out_of result self.new ≡ out_from (place_of self.old) piece.now }
     {
         match self.state {
-            State::Start => self.start(piece),
+            State::Start => self.start_apart(piece),
             State::Boundary => self.after_value(piece),
             State::Line => self.line(piece),
             State::LineLf => self.line_lf(piece, 0),

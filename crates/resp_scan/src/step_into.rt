@@ -51,7 +51,7 @@ impl Machine {
     /// Where the token stands. The end of a value or its parent's close is given where it is owed.
     #[inline(always)]
     #[tactic(auto, using(crate::proofs::Soundness::Places::sound_member))]
-    fn stands(&mut self) -> Stands
+    pub fn stands(&mut self) -> Stands
         requires { IsSound (place_of self.old) }
         ensures done { result ≡ Stands.Done → (p : List ℕ) →
             out_by EventTag.Done 0 self.new ≡ out_from (place_of self.old) p }
@@ -110,7 +110,7 @@ impl Machine {
 
     /// Begins a bulk string that lies whole at the front of this piece and has few bytes.
     #[inline(always)]
-    fn short_text(&mut self, piece: &[u8]) -> Option<Short>
+    pub fn short_text(&mut self, piece: &[u8]) -> Option<Short>
         requires { IsSound (at (place_of self.old) AtStart) }
         ensures begun { IfSome result (λ short.
             out_of (record { used = short.head; tag = EventTag.Bulk }) self.new ≡
@@ -285,9 +285,9 @@ fn given(used: usize, _shown: ()) -> Result<Option<usize>, Fault>
 
 /// A bulk string of few bytes: those of its head, and how many there are.
 #[derive(Clone, Copy)]
-struct Short {
-    head: usize,
-    count: u64,
+pub struct Short {
+    pub head: usize,
+    pub count: u64,
 }
 
 /// The head of a bulk string at the front of a piece, where it has one digit or two.
@@ -300,31 +300,62 @@ fn short_head(piece: &[u8]) -> Option<Short>
         Gave short.head (Text text.Bulk) (content_at short.count u) ≡
         scan 1 (at u AtBulkHead) (drop 1 piece.now)) }
 {
-    if piece.len() < 5 || piece[0] != b'$' || piece[1] < b'0' || piece[1] > b'9' {
+    if piece.len() < 5 || piece[0] != b'$' {
         return None;
     }
-    let first = u64::from(piece[1] - b'0');
-    if piece[2] == b'\r' {
-        if piece[3] != b'\n' {
-            return None;
-        }
-        return Some(Short {
-            head: 4,
-            count: first,
-        });
+    match piece[3] {
+        b'\r' => head_of_two_digits(piece),
+        b'\n' => head_of_one_digit(piece),
+        _ => None,
     }
-    if piece[2] < b'0' || piece[2] > b'9' || piece[3] != b'\r' || piece[4] != b'\n' {
+}
+
+/// The same where it has one digit.
+#[inline(always)]
+fn head_of_one_digit(piece: &[u8]) -> Option<Short>
+    requires begins { (5 ≤ length piece.now) × (get_or piece.now 0 0 ≡ 36) }
+    requires line_feed { get_or piece.now 3 0 ≡ 10 }
+    ensures within { IfSome result (λ short. (short.head ≡ 4) × (short.count < 100)) }
+    ensures head { IfSome result (λ short. (u : Place) → short.count ≤ u.bounds.length →
+        short.head + short.count + 2 ≤ total_room u →
+        Gave short.head (Text text.Bulk) (content_at short.count u) ≡
+        scan 1 (at u AtBulkHead) (drop 1 piece.now)) }
+{
+    if piece[1] < b'0' || piece[1] > b'9' || piece[2] != b'\r' {
+        return None;
+    }
+    Some(Short {
+        head: 4,
+        count: u64::from(piece[1] - b'0'),
+    })
+}
+
+/// The same where it has two digits.
+#[inline(always)]
+fn head_of_two_digits(piece: &[u8]) -> Option<Short>
+    requires begins { (5 ≤ length piece.now) × (get_or piece.now 0 0 ≡ 36) }
+    requires carriage_return { get_or piece.now 3 0 ≡ 13 }
+    ensures within { IfSome result (λ short. (short.head ≡ 5) × (short.count < 100)) }
+    ensures head { IfSome result (λ short. (u : Place) → short.count ≤ u.bounds.length →
+        short.head + short.count + 2 ≤ total_room u →
+        Gave short.head (Text text.Bulk) (content_at short.count u) ≡
+        scan 1 (at u AtBulkHead) (drop 1 piece.now)) }
+{
+    if piece[1] < b'0' || piece[1] > b'9' || piece[2] < b'0' || piece[2] > b'9' {
+        return None;
+    }
+    if piece[4] != b'\n' {
         return None;
     }
     Some(Short {
         head: 5,
-        count: first * 10 + u64::from(piece[2] - b'0'),
+        count: u64::from(piece[1] - b'0') * 10 + u64::from(piece[2] - b'0'),
     })
 }
 
 /// Where a step begins.
 #[derive(Clone, Copy)]
-enum Stands {
+pub enum Stands {
     /// A value has ended at the top.
     Done,
     /// A value has ended, the last of its aggregate.
