@@ -130,7 +130,7 @@ enum resp_kind {
     RESP_DONE = 9,
     /* A simple string, an error, a double or a bulk string, of the kind `form`, came with its end:
      * `part` bytes at resp_event_whole. resp_scanner_scan alone tells it, for RESP_TEXT, RESP_PART
-     * and RESP_TEXT_END. */
+     * and RESP_TEXT_END; where it lies whole in a piece, a text may be told by these all the same. */
     RESP_WHOLE = 10
 };
 
@@ -232,7 +232,8 @@ struct resp_scanned {
  * after those of the last event, and is then to be called again, for an empty rest too; else where
  * the piece is used up, having taken all of it and told all that is due; or else where it refuses a
  * byte, as resp_scanner_step. `scanned` is set either way, and after a refusal too: the events before
- * it are told, and their bytes are `used`. The events after those told are left. */
+ * it are told, and their bytes are `used`. The events after those told are left. All values are read
+ * in one version: a caller that may change it at the end of a value steps. */
 uint32_t resp_scanner_scan(struct resp_scanner *scanner, const uint8_t *piece, size_t length,
                            struct resp_event *events, size_t room, struct resp_scanned *scanned);
 
