@@ -130,7 +130,7 @@ enum resp_kind {
     RESP_DONE = 9,
     /* A simple string, an error, a double or a bulk string, of the kind `form`, came with its end:
      * `part` bytes at resp_event_whole. resp_scanner_scan alone tells it, for RESP_TEXT, RESP_PART
-     * and RESP_TEXT_END. */
+     * and RESP_TEXT_END; where it lies whole in a piece, a text may be told by these all the same. */
     RESP_WHOLE = 10
 };
 
@@ -229,10 +229,11 @@ struct resp_scanned {
 /* Tells the events of the piece, as resp_scanner_step one after another, to the array of `room`
  * events. Each event's `used` counts from the end of the bytes of the event before; there is no
  * RESP_MORE. The ends of values don't stop it: it ends where the array is full, having taken no byte
- * after those of the last event; else where the piece is used up, having taken all of it and told all
- * that is due; or else where it refuses a byte, as resp_scanner_step. `scanned` is set either way,
- * and after a refusal too: the events before it are told, and their bytes are `used`. The events
- * after those told are left. */
+ * after those of the last event, and is then to be called again, for an empty rest too; else where
+ * the piece is used up, having taken all of it and told all that is due; or else where it refuses a
+ * byte, as resp_scanner_step. `scanned` is set either way, and after a refusal too: the events before
+ * it are told, and their bytes are `used`. The events after those told are left. All values are read
+ * in one version: a caller that may change it at the end of a value steps. */
 uint32_t resp_scanner_scan(struct resp_scanner *scanner, const uint8_t *piece, size_t length,
                            struct resp_event *events, size_t room, struct resp_scanned *scanned);
 

@@ -1,6 +1,7 @@
 /* Tells the events of many streams, to be compared with what the crate `stream_events` tells of them
  * by the scanner itself: for each stream a sum of the numbers that tell its steps. That crate says
- * how standard input has the streams. */
+ * how standard input has the streams. With an argument it asks for as many events at once, and takes
+ * whole texts apart. */
 #include "resp.h"
 
 #include <inttypes.h>
@@ -47,20 +48,68 @@ static void add_event(const struct resp_event *event, const uint8_t *piece) {
     }
 }
 
-/* Adds the steps of a piece, and then what the scanner says of itself, or why it refuses a byte.
- * Whether it refuses none. The piece stands in memory of its own, so that a read outside it is
- * found. */
-static bool add_piece(struct resp_scanner *scanner, const uint8_t *piece, size_t length) {
+/* Adds a step, which began at this place of the piece. */
+static void add_step(const struct resp_event *event, const uint8_t *piece) {
+    add(event->used);
+    add_event(event, piece);
+}
+
+/* Adds a whole text as the steps that it stands for. */
+static void add_whole(const struct resp_event *event, const uint8_t *piece) {
+    size_t head = event->used - event->part - 2;
+    struct resp_event begins = {.kind = RESP_TEXT, .form = event->form, .used = head};
+    struct resp_event part = {.kind = RESP_PART, .part = event->part, .used = event->part};
+    struct resp_event ends = {.kind = RESP_TEXT_END, .used = 2};
+    add_step(&begins, piece);
+    if (event->part)
+        add_step(&part, resp_event_whole(event, piece));
+    add_step(&ends, piece + (event->used - 2));
+}
+
+/* Adds the steps of a piece. Why a byte is refused, or RESP_OK. */
+static uint32_t add_steps(struct resp_scanner *scanner, const uint8_t *piece, size_t length) {
     struct resp_event event;
     uint32_t cause;
-    size_t at = 0;
-    while ((cause = resp_scanner_step(scanner, piece + at, length - at, &event)) == RESP_OK) {
-        add(event.used);
-        add_event(&event, piece + at);
-        at += event.used;
+    while ((cause = resp_scanner_step(scanner, piece, length, &event)) == RESP_OK) {
+        add_step(&event, piece);
+        piece += event.used;
+        length -= event.used;
         if (event.kind == RESP_MORE)
             break;
     }
+    return cause;
+}
+
+/* The same by calls that tell as many events at once. */
+static uint32_t add_many(struct resp_scanner *scanner, const uint8_t *piece, size_t length, size_t room) {
+    for (;;) {
+        /* (in memory of their own, so that a write outside it is found) */
+        struct resp_event *events = malloc(room * sizeof *events), more = {.kind = RESP_MORE};
+        struct resp_scanned scanned;
+        if (!events)
+            exit(3);
+        uint32_t cause = resp_scanner_scan(scanner, piece, length, events, room, &scanned);
+        size_t used = 0;
+        for (size_t at = 0; at < scanned.count; at++) {
+            (events[at].kind == RESP_WHOLE ? add_whole : add_step)(&events[at], piece + used);
+            used += events[at].used;
+        }
+        free(events);
+        more.used = scanned.used - used;
+        piece += scanned.used;
+        length -= scanned.used;
+        if (cause == RESP_OK && scanned.count < room)
+            add_step(&more, piece);
+        if (cause != RESP_OK || scanned.count < room)
+            return cause;
+    }
+}
+
+/* Adds the steps of a piece, and then what the scanner says of itself, or why it refuses a byte.
+ * Whether it refuses none. The piece stands in memory of its own, so that a read outside it is
+ * found. */
+static bool add_piece(struct resp_scanner *scanner, const uint8_t *piece, size_t length, size_t room) {
+    uint32_t cause = room ? add_many(scanner, piece, length, room) : add_steps(scanner, piece, length);
     if (cause == RESP_OK) {
         add(resp_scanner_depth(scanner));
         add(resp_scanner_taken(scanner));
@@ -72,9 +121,10 @@ static bool add_piece(struct resp_scanner *scanner, const uint8_t *piece, size_t
     return cause == RESP_OK;
 }
 
-int main(void) {
+int main(int count, char **words) {
     struct resp_scanner scanner = {malloc(resp_scanner_size())};
     uint8_t head[3], lengths[255];
+    size_t room = count > 1 ? strtoul(words[1], NULL, 10) : 0;
     if (!scanner.memory)
         return 3;
     while (fread(head, 1, sizeof head, stdin) == sizeof head) {
@@ -92,7 +142,7 @@ int main(void) {
             uint8_t *piece = malloc(lengths[number] ? lengths[number] : 1);
             if (!piece || fread(piece, 1, lengths[number], stdin) != lengths[number])
                 return 3;
-            goes_on = goes_on && add_piece(&scanner, piece, lengths[number]);
+            goes_on = goes_on && add_piece(&scanner, piece, lengths[number], room);
             free(piece);
         }
         add(resp_scanner_finish(&scanner));

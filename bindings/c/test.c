@@ -1,5 +1,6 @@
 /* Rows of what the library tells of texts, each read whole, cut in two at each byte, and byte by
- * byte with an empty piece between; and what its other calls answer. */
+ * byte with an empty piece between, event by event and many at once; and what its other calls
+ * answer. */
 #include "resp.h"
 
 #include <inttypes.h>
@@ -121,6 +122,10 @@ static void say_event(struct story *story, const struct resp_event *event, const
     case RESP_TEXT_END:
         say(story, "\"");
         break;
+    case RESP_WHOLE:
+        say(story, "%c\"%.*s\"", "+-,$"[event->form], (int)event->part,
+            (const char *)resp_event_whole(event, piece));
+        break;
     case RESP_OPEN:
         say(story, "%c", "*~%|>"[event->form]);
         if (event->members == RESP_STREAMED)
@@ -137,24 +142,61 @@ static void say_event(struct story *story, const struct resp_event *event, const
     }
 }
 
-/* Says the events of a piece. Whether it isn't refused. The piece stands in memory of its own, so
- * that a read outside it is found. */
-static bool say_piece(struct story *story, struct resp_scanner *scanner, const char *text, size_t length) {
-    uint8_t *piece = malloc(length ? length : 1);
-    uint32_t cause = RESP_OK;
-    memcpy(piece, text, length);
+/* Says the events of a piece one by one. Why it is refused, or RESP_OK. */
+static uint32_t say_steps(struct story *story, struct resp_scanner *scanner, const uint8_t *piece, size_t length) {
     for (size_t at = 0;;) {
         struct resp_event event;
-        cause = resp_scanner_step(scanner, piece + at, length - at, &event);
+        uint32_t cause = resp_scanner_step(scanner, piece + at, length - at, &event);
         if (cause != RESP_OK || event.kind == RESP_MORE)
-            break;
+            return cause;
         say_event(story, &event, piece + at);
         at += event.used;
     }
+}
+
+/* The same by calls that tell as many as `room` at once. */
+static uint32_t say_many(struct story *story, struct resp_scanner *scanner, const uint8_t *piece, size_t length,
+                         size_t room) {
+    const struct resp_event left = {.kind = 99, .number = 7};
+    for (size_t at = 0;;) {
+        /* (in memory of their own, so that a write outside it is found) */
+        struct resp_event *events = malloc((room + 1) * sizeof *events);
+        struct resp_scanned scanned = {99, 99};
+        size_t from = at;
+        for (size_t number = 0; number <= room; number++)
+            events[number] = left;
+        check(resp_scanner_scan(scanner, piece + at, length - at, events, 0, &scanned) == RESP_OK && !scanned.count &&
+              !scanned.used && events[0].kind == 99, "scan", "tells an event without room");
+        uint32_t cause = resp_scanner_scan(scanner, piece + at, length - at, events, room, &scanned);
+        check(scanned.count <= room && scanned.used <= length - at, "scan", "tells too much");
+        for (size_t number = 0; number < scanned.count; number++) {
+            say_event(story, &events[number], piece + at);
+            at += events[number].used;
+        }
+        for (size_t number = scanned.count; number <= room; number++)
+            check(events[number].kind == 99 && events[number].number == 7, "scan", "writes after the events");
+        free(events);
+        bool is_used_up = cause == RESP_OK && scanned.count < room;
+        check(is_used_up ? from + scanned.used == length : from + scanned.used == at, "scan", "uses other bytes");
+        if (is_used_up || cause != RESP_OK)
+            return cause;
+    }
+}
+
+/* Says the events of a piece, by steps where `room` is 0. Whether it isn't refused. The piece stands
+ * in memory of its own, so that a read outside it is found. */
+static bool say_piece(struct story *story, struct resp_scanner *scanner, const char *text, size_t length,
+                      size_t room) {
+    uint8_t *piece = malloc(length ? length : 1);
+    memcpy(piece, text, length);
+    uint32_t cause = room ? say_many(story, scanner, piece, length, room) : say_steps(story, scanner, piece, length);
     if (cause != RESP_OK) {
         say(story, "!%" PRIu32 "@%" PRIu64, cause, resp_scanner_taken(scanner));
         struct resp_event event;
+        struct resp_scanned scanned = {99, 99};
         check(resp_scanner_step(scanner, piece, length, &event) == cause, text, "refused otherwise again");
+        check(resp_scanner_scan(scanner, piece, length, &event, 1, &scanned) == cause && !scanned.count &&
+              !scanned.used, text, "refused otherwise among many");
         check(resp_scanner_finish(scanner) == cause, text, "the end is refused otherwise");
         check(resp_scanner_set_version(scanner, 3) == RESP_CAUSE_BUSY, text, "changed after a refusal");
     }
@@ -163,7 +205,7 @@ static bool say_piece(struct story *story, struct resp_scanner *scanner, const c
 }
 
 /* Runs a row, cut before the byte `cut`; at its length and one more, byte by byte. */
-static void run(const struct row *row, size_t cut) {
+static void run(const struct row *row, size_t cut, size_t room) {
     size_t length = strlen(row->text);
     struct story story = {"", 0};
     struct resp_limits limits;
@@ -174,11 +216,12 @@ static void run(const struct row *row, size_t cut) {
     check(resp_scanner_init(&scanner, row->version, &limits) == RESP_OK, row->text, "no scanner");
     bool goes_on = true;
     if (cut <= length) {
-        goes_on = say_piece(&story, &scanner, row->text, cut) &&
-                  say_piece(&story, &scanner, row->text + cut, length - cut);
+        goes_on = say_piece(&story, &scanner, row->text, cut, room) &&
+                  say_piece(&story, &scanner, row->text + cut, length - cut, room);
     } else {
         for (size_t at = 0; goes_on && at < length; at++)
-            goes_on = say_piece(&story, &scanner, row->text + at, 1) && say_piece(&story, &scanner, "", 0);
+            goes_on = say_piece(&story, &scanner, row->text + at, 1, room) &&
+                      say_piece(&story, &scanner, "", 0, room);
     }
     if (goes_on) {
         uint32_t cause = resp_scanner_finish(&scanner);
@@ -217,6 +260,33 @@ static void calls(void) {
     check(resp_scanner_set_version(&scanner, 3) == RESP_OK, "set_version", "refused between values");
     check(resp_scanner_step(&scanner, (const uint8_t *)"_\r\n", 3, &event) == RESP_OK && event.kind == RESP_NULL,
           "version 3", "not read");
+    free(scanner.memory);
+}
+
+/* What a call tells of several values, and of a refusal after them. */
+static void many(void) {
+    struct resp_limits limits;
+    struct resp_event events[8];
+    struct resp_scanned scanned;
+    struct resp_scanner scanner = {malloc(resp_scanner_size())};
+    const uint8_t *text = (const uint8_t *)"+OK\r\n$5\r\nhello\r\n:7\r\n$12\r\nhe";
+    resp_limits_standard(&limits);
+    check(resp_scanner_init(&scanner, 2, &limits) == RESP_OK, "init", "refused");
+    check(resp_scanner_scan(&scanner, text, 27, events, 8, &scanned) == RESP_OK, "scan", "refused");
+    check(scanned.count == 8 && scanned.used == 27, "scan", "other counts");
+    check(events[0].kind == RESP_WHOLE && events[0].form == RESP_TEXT_SIMPLE && events[0].used == 5 &&
+          events[0].part == 2 && resp_event_whole(&events[0], text) == text + 1, "scan", "another simple string");
+    check(events[1].kind == RESP_DONE && events[1].used == 0, "scan", "another end");
+    check(events[2].kind == RESP_WHOLE && events[2].form == RESP_TEXT_BULK && events[2].used == 11 &&
+          events[2].part == 5 && resp_event_whole(&events[2], text + 5) == text + 9, "scan", "another bulk string");
+    check(events[4].kind == RESP_INT && events[4].number == 7 && events[4].used == 4, "scan", "another integer");
+    check(events[6].kind == RESP_TEXT && events[6].used == 5, "scan", "another beginning");
+    check(events[7].kind == RESP_PART && events[7].used == 2 && events[7].part == 2, "scan", "another part");
+    check(resp_scanner_init(&scanner, 2, &limits) == RESP_OK, "init again", "refused");
+    check(resp_scanner_scan(&scanner, (const uint8_t *)":1\r\n+a\nb", 8, events, 8, &scanned) == RESP_CAUSE_SYNTAX,
+          "scan", "no refusal");
+    check(scanned.count == 4 && scanned.used == 6 && events[3].kind == RESP_PART &&
+          resp_scanner_taken(&scanner) == 2, "scan", "other events before a refusal");
     free(scanner.memory);
 }
 
@@ -478,7 +548,9 @@ int main(void) {
     pairs();
     for (size_t row = 0; row < sizeof ROWS / sizeof *ROWS; row++)
         for (size_t cut = 0; cut <= strlen(ROWS[row].text) + 1; cut++)
-            run(&ROWS[row], cut);
+            for (size_t room = 0; room <= 5; room++)
+                run(&ROWS[row], cut, room);
+    many();
     calls();
     printf("%u passed, %u failed\n", passed, failed);
     return failed != 0;

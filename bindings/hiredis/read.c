@@ -73,8 +73,9 @@ struct reader {
      * bytes taken end. */
     const struct resp_event *next;
     size_t taken;
-    /* Why the byte after these is refused, or RESP_OK. */
+    /* Why the byte after these is refused, or RESP_OK; and whether no more events had room. */
     uint32_t cause;
+    bool is_full;
     /* The innermost frame, and how many of the open attributes are before what they annotate. */
     struct frame *frame;
     size_t unread;
@@ -440,13 +441,14 @@ static APART bool scan(struct reader *reader) {
             reader->type = base->buf[base->pos];
         base->pos = reader->taken;
     }
-    if (base->pos == base->len)
+    if (base->pos == base->len && !reader->is_full)
         return false;
     reader->before = resp_scanner_taken(&reader->scanner);
     reader->cause = resp_scanner_scan(&reader->scanner, (const uint8_t *)base->buf + base->pos, base->len - base->pos,
                                       reader->events, MOST_EVENTS, &scanned);
     reader->events[scanned.count].kind = RESP_MORE;
     reader->taken = base->pos + scanned.used;
+    reader->is_full = scanned.count == MOST_EVENTS;
     if (scanned.count)
         reader->type = 0;
     return true;

@@ -212,7 +212,70 @@ static void check(const struct row *row, size_t first, bool by_bytes) {
     held = 0;
 }
 
+/* Counts whether a reply is this one, and frees it. */
+static void expect(void *reply, const char *wanted, const char *what) {
+    if (reply && !strcmp(((struct object *)reply)->text, wanted)) {
+        passed++;
+    } else {
+        failed++;
+        printf("%s: %s and not %s\n", what, reply ? ((struct object *)reply)->text : "nothing", wanted);
+    }
+    if (reply)
+        on_free(reply);
+}
+
+/* Feeds pieces of so many bytes, asks for one reply after each, and for the others at the end, which is refused. */
+static void read_late(size_t size) {
+    static const char *const wanted[] = {"5\"OK\" ", "2*2@-1 3:7 1\"abc\" ", "1\"\" "};
+    static const char unit[] = "+OK\r\n*2\r\n:7\r\n$3\r\nabc\r\n$0\r\n\r\n";
+    enum { UNITS = 100, LENGTH = UNITS * (sizeof unit - 1) + 1 };
+    char text[LENGTH + 1] = "", error[] = "Protocol error, got \"@\" as reply type byte";
+    for (size_t at = 0; at + 1 < LENGTH; at += sizeof unit - 1)
+        memcpy(text + at, unit, sizeof unit);
+    text[LENGTH - 1] = '@';
+    redisReader *reader = redisReaderCreateWithFunctions(&functions);
+    void *reply = NULL;
+    unsigned count = 0;
+    for (size_t at = 0; at < LENGTH; at += size) {
+        redisReaderFeed(reader, text + at, size < LENGTH - at ? size : LENGTH - at);
+        if (redisReaderGetReply(reader, &reply) == REDIS_OK && reply)
+            expect(reply, wanted[count++ % 3], "a late reply");
+    }
+    while (redisReaderGetReply(reader, &reply) == REDIS_OK && reply)
+        expect(reply, wanted[count++ % 3], "a last reply");
+    bool is_right = count == 3 * UNITS && reader->err && !strcmp(reader->errstr, error) && !held;
+    passed += is_right;
+    failed += !is_right;
+    if (!is_right)
+        printf("by %zu: %u replies, %s\n", size, count, reader->errstr);
+    redisReaderFree(reader);
+}
+
+/* Reads arrays in one another, which end all at one byte, and then a reply more. */
+static void read_deep(void) {
+    redisReader *reader = redisReaderCreateWithFunctions(&functions);
+    void *reply = NULL;
+    for (int depth = 0; depth < 128; depth++)
+        redisReaderFeed(reader, "*1\r\n", 4);
+    redisReaderFeed(reader, ":7\r\n", 4);
+    bool is_right = redisReaderGetReply(reader, &reply) == REDIS_OK && reply &&
+                    !strncmp(((struct object *)reply)->text, "2*1@-1 2*1@0 2*1@0 ", 19);
+    passed += is_right;
+    failed += !is_right;
+    if (!is_right)
+        printf("128 arrays: %s\n", reply ? ((struct object *)reply)->text : "nothing");
+    if (reply)
+        on_free(reply);
+    redisReaderFeed(reader, "+OK\r\n", 5);
+    redisReaderGetReply(reader, &reply);
+    expect(reply, "5\"OK\" ", "a reply after 128 arrays");
+    redisReaderFree(reader);
+}
+
 int main(void) {
+    for (size_t size = 1; size < 200; size++)
+        read_late(size);
+    read_deep();
     for (size_t at = 0; at < sizeof ROWS / sizeof *ROWS; at++) {
         for (size_t first = 0; first <= strlen(ROWS[at].text); first++)
             check(&ROWS[at], first, false);

@@ -49,6 +49,10 @@ struct reader {
     char *encoding, *errors;
     /* Whether texts are decoded, where there is an encoding. */
     int decodes;
+    /* Whether replies are paired with the commands that were queued; which wait, and the number of the reply. */
+    bool pairs;
+    struct resp_pairing pairing;
+    uint64_t number;
 };
 
 static PyObject *ProtocolError, *ReplyError, *Push;
@@ -375,8 +379,13 @@ static PyObject *reader_feed(struct reader *reader, PyObject *args) {
 static PyObject *whole(struct reader *reader) {
     PyObject *value = reader->value, *failure = reader->failure;
     reader->value = reader->failure = NULL;
-    if (!failure)
+    if (!failure && !reader->pairs)
         return value;
+    if (!failure) {
+        PyObject *pair = reader->number ? Py_BuildValue("(KN)", (unsigned long long)reader->number, value)
+                                        : Py_BuildValue("(ON)", Py_None, value);
+        return pair;
+    }
     Py_XDECREF(value);
     PyErr_SetObject((PyObject *)Py_TYPE(failure), failure);
     Py_DECREF(failure);
@@ -390,7 +399,10 @@ static PyObject *reader_gets(struct reader *reader, PyObject *args) {
     for (;;) {
         const uint8_t *piece = reader->fed.start ? reader->fed.start + reader->taken : (const uint8_t *)"";
         struct resp_event event;
-        uint32_t cause = resp_scanner_step(&reader->scanner, piece, reader->fed.length - reader->taken, &event);
+        size_t length = reader->fed.length - reader->taken;
+        uint32_t cause = reader->pairs ? resp_pairing_step(&reader->pairing, &reader->scanner, piece, length, &event,
+                                                           &reader->number)
+                                       : resp_scanner_step(&reader->scanner, piece, length, &event);
         if (cause != RESP_OK) {
             forget(reader);
             return refuse(reader, cause);
@@ -429,6 +441,31 @@ static PyObject *reader_set_protocol(struct reader *reader, PyObject *args) {
         PyErr_SetString(PyExc_ValueError, "a protocol that is neither 2 nor 3");
         return NULL;
     }
+}
+
+static PyObject *pairing_queue(struct reader *reader, PyObject *args) {
+    unsigned int hello = 0;
+    uint64_t number;
+    if (!PyArg_ParseTuple(args, "|I:queue", &hello))
+        return NULL;
+    switch (resp_pairing_queue(&reader->pairing, hello, &number)) {
+    case RESP_OK:
+        return PyLong_FromUnsignedLongLong(number);
+    case RESP_CAUSE_HELLO_WAITS:
+        PyErr_SetString(PyExc_ValueError, "a HELLO with a protocol waits");
+        return NULL;
+    case RESP_CAUSE_TOO_MANY:
+        PyErr_SetString(PyExc_OverflowError, "the numbers of commands are used up");
+        return NULL;
+    default:
+        PyErr_SetString(PyExc_ValueError, "a protocol that is neither 2 nor 3");
+        return NULL;
+    }
+}
+
+static PyObject *pairing_protocol(struct reader *reader, PyObject *args) {
+    (void)args;
+    return PyLong_FromUnsignedLong(reader->pairing.version);
 }
 
 /* A copy of a text that may be None. Whether memory for it was found. */
@@ -491,6 +528,14 @@ static int reader_init(struct reader *reader, PyObject *args, PyObject *words) {
     Py_INCREF(not_enough_data);
     replace(&reader->not_enough_data, not_enough_data);
     return copy_text(&reader->encoding, encoding) && copy_text(&reader->errors, errors) ? 0 : -1;
+}
+
+static int pairing_init(struct reader *reader, PyObject *args, PyObject *words) {
+    if (reader_init(reader, args, words))
+        return -1;
+    reader->pairs = true;
+    resp_pairing_init(&reader->pairing);
+    return 0;
 }
 
 static void reader_dealloc(struct reader *reader) {
@@ -590,6 +635,34 @@ static PyType_Slot READER_SLOTS[] = {
 
 static PyType_Spec READER = {"resp.Reader", sizeof(struct reader), 0, Py_TPFLAGS_DEFAULT, READER_SLOTS};
 
+static PyMethodDef PAIRING_METHODS[] = {
+    {"feed", (PyCFunction)reader_feed, METH_VARARGS,
+     "feed(bytes, from=0, length=-1)\n--\n\nAdds bytes as they came, or a slice of them."},
+    {"gets", (PyCFunction)reader_gets, METH_VARARGS,
+     "gets(shouldDecode=True)\n--\n\nThe next reply with the number of its command, or None for a push: (number, reply). Else as\n"
+     "Reader.gets. Raises protocolError by the cause Unasked where no command asked for the value; it is then read once one\n"
+     "was queued."},
+    {"has_data", (PyCFunction)reader_has_data, METH_NOARGS,
+     "has_data()\n--\n\nWhether bytes wait to be read, or a reply was begun."},
+    {"queue", (PyCFunction)pairing_queue, METH_VARARGS,
+     "queue(hello=0)\n--\n\nQueues a command that is sent, or a HELLO that asks for protocol 2 or 3. The number of its reply, from\n"
+     "1 on. Raises ValueError for another protocol, and where such a HELLO waits already."},
+    {"protocol", (PyCFunction)pairing_protocol, METH_NOARGS,
+     "protocol()\n--\n\nThe protocol: 2, or what the last HELLO asked that was answered."},
+    {NULL, NULL, 0, NULL},
+};
+
+static PyType_Slot PAIRING_SLOTS[] = {
+    {Py_tp_init, pairing_init},
+    {Py_tp_dealloc, reader_dealloc},
+    {Py_tp_methods, PAIRING_METHODS},
+    {Py_tp_doc, "Pairing(..)\n--\n\nA Reader that knows which command each reply answers, and reads each in its protocol. It takes\n"
+                "the same words; the protocol is 2 until a HELLO was answered."},
+    {0, NULL},
+};
+
+static PyType_Spec PAIRING = {"resp.Pairing", sizeof(struct reader), 0, Py_TPFLAGS_DEFAULT, PAIRING_SLOTS};
+
 static PyMethodDef METHODS[] = {
     {"pack", pack, METH_VARARGS, "pack(*words)\n--\n\nThe bytes of a command: bytes as they are, other words as their text."},
     {NULL, NULL, 0, NULL},
@@ -622,6 +695,7 @@ PyMODINIT_FUNC PyInit_resp(void) {
     if (add_name(module, "RespError", error) && add_name(module, "ProtocolError", ProtocolError) &&
         add_name(module, "ReplyError", ReplyError) && add_name(module, "Push", Push) &&
         add_name(module, "Reader", PyType_FromSpec(&READER)) &&
+        add_name(module, "Pairing", PyType_FromSpec(&PAIRING)) &&
         !PyModule_AddStringConstant(module, "__version__", RESP_VERSION))
         return module;
     Py_DECREF(module);

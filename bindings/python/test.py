@@ -55,6 +55,43 @@ def reader(**words):
     return resp.Reader(notEnoughData=reader_waits, **words)
 
 
+# The protocols that commands ask for, 0 for none; what comes, the pairs of it, and the protocol after it.
+CONVERSATIONS = [
+    ((0, 0), b"+OK\r\n$-1\r\n", [(1, b"OK"), (2, None)], 2),
+    ((0, 3, 0), b"$-1\r\n%1\r\n+a\r\n_\r\n#t\r\n", [(1, None), (2, {b"a": None}), (3, True)], 3),
+    ((3, 0), b">1\r\n+a\r\n%0\r\n>1\r\n:1\r\n:2\r\n", [(None, [b"a"]), (1, {}), (None, [1]), (2, 2)], 3),
+    ((3, 0), b"-NOPROTO\r\n:7\r\n", [(1, "NOPROTO"), (2, 7)], 2),
+    ((3, 0, 0), b"|1\r\n+a\r\n+b\r\n+OK\r\n|1\r\n+a\r\n:1\r\n,1.5\r\n_\r\n", [(1, b"OK"), (2, 1.5), (3, None)], 3),
+]
+
+
+class Pairs(unittest.TestCase):
+    def test_conversations_at_every_cut(self):
+        for asked, text, wanted, protocol in CONVERSATIONS:
+            for pieces in cuts(text):
+                pairing = resp.Pairing(notEnoughData=reader_waits, replyError=str)
+                self.assertEqual([pairing.queue(hello) for hello in asked], [*range(1, len(asked) + 1)])
+                self.assertEqual(replies(pairing, pieces), wanted, (text, pieces))
+                self.assertEqual(pairing.protocol(), protocol)
+
+    def test_refusals(self):
+        pairing = resp.Pairing(notEnoughData=reader_waits)
+        pairing.feed(b"+OK\r\n_\r\n")
+        with self.assertRaises(resp.ProtocolError) as raised:
+            pairing.gets()
+        self.assertEqual(raised.exception.cause, "Unasked")
+        self.assertEqual(pairing.queue(2), 1)
+        with self.assertRaises(ValueError):
+            pairing.queue(3)
+        with self.assertRaises(ValueError):
+            pairing.queue(4)
+        self.assertEqual(pairing.gets(), (1, b"OK"))
+        self.assertEqual(pairing.queue(), 2)
+        with self.assertRaises(resp.ProtocolError) as raised:
+            pairing.gets()
+        self.assertEqual((raised.exception.cause, raised.exception.at), ("Version", 0))
+
+
 class Rows(unittest.TestCase):
     def test_rows_at_every_cut(self):
         for protocol, text, wanted in ROWS:

@@ -25,9 +25,11 @@
 //! ```
 
 mod command;
+mod pairing;
 mod raw;
 
 pub use command::{command, CommandError};
+pub use pairing::{PairError, Paired, Pairing, QueueError};
 
 use std::error::Error;
 use std::fmt;
@@ -237,12 +239,17 @@ impl Scanner {
     ///
     /// Refuses the first byte after which nothing can follow. Every later step answers the same.
     pub fn step<'a>(&mut self, piece: &'a [u8]) -> Result<Step<'a>, Fault> {
+        let event = self.raw_step(piece)?;
+        Ok(Step { used: event.used, event: event.told(piece) })
+    }
+
+    fn raw_step(&mut self, piece: &[u8]) -> Result<raw::Event, Fault> {
         let mut event = raw::Event::default();
         // SAFETY: `new` has initialised the scanner, and the piece has this length.
         let cause =
             unsafe { raw::resp_scanner_step(&mut self.raw(), piece.as_ptr(), piece.len(), &mut event) };
         match cause {
-            raw::OK => Ok(Step { used: event.used, event: event.told(piece) }),
+            raw::OK => Ok(event),
             cause => Err(self.fault(cause)),
         }
     }

@@ -7,6 +7,7 @@ pub const OK: u32 = 0;
 pub const LENGTH: u32 = 7;
 pub const TOTAL: u32 = 8;
 pub const ITEMS: u32 = 13;
+pub const HELLO_WAITS: u32 = 67;
 
 /// The number of an array among the kinds of aggregate.
 pub const ARRAY: u32 = 0;
@@ -40,6 +41,19 @@ pub struct Event {
     pub digit: u8,
 }
 
+#[repr(C)]
+#[derive(Default)]
+pub struct Pairing {
+    pub version: u32,
+    pub hello: u32,
+    pub before: u64,
+    pub beyond: u64,
+    pub answered: u64,
+    pub nested: u64,
+    pub refuses: u32,
+    pub first: u32,
+}
+
 extern "C" {
     pub fn resp_limits_standard(limits: *mut Limits);
     pub fn resp_scanner_size() -> usize;
@@ -51,6 +65,10 @@ extern "C" {
     pub fn resp_scanner_depth(scanner: *mut Scanner) -> usize;
     pub fn resp_scanner_taken(scanner: *mut Scanner) -> u64;
     pub fn resp_scanner_needed(scanner: *mut Scanner) -> u64;
+    pub fn resp_pairing_init(pairing: *mut Pairing);
+    pub fn resp_pairing_queue(pairing: *mut Pairing, hello: u32, number: *mut u64) -> u32;
+    pub fn resp_pairing_first(pairing: *mut Pairing, byte: u8, version: *mut u32) -> u32;
+    pub fn resp_pairing_take(pairing: *mut Pairing, event: *const Event, number: *mut u64);
     pub fn resp_command_size(limits: *const Limits, lengths: *const usize, count: usize, size: *mut usize) -> u32;
     pub fn resp_write_head(room: *mut u8, length: usize, kind: u32, members: u64, size: *mut usize) -> u32;
     pub fn resp_write_bulk(

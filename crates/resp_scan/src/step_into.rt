@@ -19,7 +19,7 @@ impl Machine {
     ghost use Rattle.resp_scan.specs.Machine.Fields.{place_of, out_by, out_of};
     ghost use Rattle.resp_scan.specs.Machine.Scan.{out_from};
     ghost use Rattle.resp_scan.specs.Machine.Sound.{IsSound};
-    ghost use Rattle.resp_scan.specs.Machine.Slots.{Fills};
+    ghost use Rattle.resp_scan.specs.Machine.Slots.{FillsSlot};
     ghost use Rattle.resp_scan.specs.Slots.{IfNotShown};
     ghost use Rattle.resp_scan.specs.Machine.Tokens.{AtStart};
 
@@ -27,7 +27,7 @@ impl Machine {
     #[inline(always)]
     pub fn step_into<S: Slot>(&mut self, piece: &[u8], slot: &mut S) -> Result<Option<usize>, Fault>
         requires { IsSound (place_of self.old) }
-        ensures fills { Fills (S.shows slot.new) (S.shows_text slot.new) (place_of self.old)
+        ensures fills { FillsSlot (S.shows slot.new) (S.shows_text slot.new) (place_of self.old)
             self.new piece.now result }
         ensures left { IfNotShown result (slot.new ≡ slot.old) }
     {
@@ -93,7 +93,7 @@ impl Machine {
             (out_from s piece.now ≡ scan 0 (at (place_of self.old) AtStart) piece.now) }
         ensures fills { (s : Place) → IsSound s →
             out_from s piece.now ≡ scan 0 (at (place_of self.old) AtStart) piece.now →
-            Fills (S.shows slot.new) (S.shows_text slot.new) s self.new piece.now result }
+            FillsSlot (S.shows slot.new) (S.shows_text slot.new) s self.new piece.now result }
         ensures left { IfNotShown result (slot.new ≡ slot.old) }
     {
         match self.short_text(piece) {
@@ -144,7 +144,7 @@ impl Machine {
     ) -> Result<Option<usize>, Fault>
         requires { (s : Place) × IsSound s × (out_of taken self.old ≡ out_from s piece.now) }
         ensures fills { (s : Place) → IsSound s → out_of taken self.old ≡ out_from s piece.now →
-            Fills (S.shows slot.new) (S.shows_text slot.new) s self.new piece.now result }
+            FillsSlot (S.shows slot.new) (S.shows_text slot.new) s self.new piece.now result }
         ensures left { IfNotShown result (slot.new ≡ slot.old) }
     {
         match line_kind(taken.tag) {
@@ -168,7 +168,7 @@ impl Machine {
         requires whole { (s : Place) × IsSound s × (out_of taken self.old ≡ out_from s piece.now) }
         requires tag { IsLineTag taken.tag kind }
         ensures fills { (s : Place) → IsSound s → out_of taken self.old ≡ out_from s piece.now →
-            Fills (S.shows slot.new) (S.shows_text slot.new) s self.new piece.now result }
+            FillsSlot (S.shows slot.new) (S.shows_text slot.new) s self.new piece.now result }
         ensures left { IfNotShown result (slot.new ≡ slot.old) }
     {
         let after = beyond(piece, taken.used);
@@ -189,7 +189,7 @@ impl Machine {
         requires whole { (s : Place) × IsSound s × (out_of taken self.old ≡ out_from s piece.now) }
         requires tag { taken.tag ≡ EventTag.Bulk }
         ensures fills { (s : Place) → IsSound s → out_of taken self.old ≡ out_from s piece.now →
-            Fills (S.shows slot.new) (S.shows_text slot.new) s self.new piece.now result }
+            FillsSlot (S.shows slot.new) (S.shows_text slot.new) s self.new piece.now result }
         ensures left { IfNotShown result (slot.new ≡ slot.old) }
     {
         let after = beyond(piece, taken.used);
@@ -233,7 +233,7 @@ impl Machine {
     ) -> Result<Option<usize>, Fault>
         requires { (s : Place) × IsSound s × (out_of taken self.old ≡ out_from s piece.now) }
         ensures fills { (s : Place) → IsSound s → out_of taken self.old ≡ out_from s piece.now →
-            Fills (S.shows slot.new) (S.shows_text slot.new) s self.new piece.now result }
+            FillsSlot (S.shows slot.new) (S.shows_text slot.new) s self.new piece.now result }
         ensures left { IfNotShown result (slot.new ≡ slot.old) }
     {
         let used = taken.used;

@@ -25,7 +25,7 @@ use Rattle.resp_scan.specs.Machine.Runs.{plain_run}
 use Rattle.resp_scan.specs.Machine.Scan.{Bad, Gave, out_from}
 use Rattle.resp_scan.specs.Machine.Sound.{IsSound}
 use Rattle.resp_scan.specs.Machine.StepOutcomes.{after_bytes, after_step, out_of_event, out_of_part}
-use Rattle.resp_scan.specs.Machine.Slots.{Answers, Fills, TellsText}
+use Rattle.resp_scan.specs.Machine.Slots.{StepAnswers, FillsSlot, TellsText}
 use Rattle.resp_scan.specs.Machine.Turns.{EndsAt, IsLineTag, IsTurn, LeavesContent}
 use Rattle.resp_scan.specs.Parts.{IsPartOf}
 use Rattle.resp_scan.specs.Slots.{IfNothingShown, IfShown, ShowsEvent, ShowsText, Steps, StepsOverText}
@@ -118,7 +118,7 @@ pub line_fills : (E : Event → Type 0) (T : TextKind → List ℕ → Type 0) (
     EndsAt (drop taken.used p) run →
     run ≡ plain_run (take (min (min m.room (total_room (place_of m) - (taken.used + 2))) (length (drop taken.used p))) (drop taken.used p)) →
     m' ≡ record m { taken = m.taken + (taken.used + run + 2); state = state.Boundary } → used ≡ taken.used + run + 2 →
-    T k (take run (drop taken.used p)) → Fills E T s m' p (Ok (Some used))
+    T k (take run (drop taken.used p)) → FillsSlot E T s m' p (Ok (Some used))
 line_fills E T s m m' taken run k p used text sound line out is_line ends run_is machine size shows = inr (record {
   kind = k;
   bytes = take run (drop taken.used p);
@@ -131,7 +131,7 @@ pub content_fills : (E : Event → Type 0) (T : TextKind → List ℕ → Type 0
     (used : ℕ) → IsText p → IsSound s → taken.tag ≡ tag.Bulk → out_of taken m ≡ out_from s p → EndsAt (drop taken.used p) run →
     LeavesContent m.state m.count run →
     m' ≡ record m { taken = m.taken + (taken.used + run + 2); state = state.Boundary } → used ≡ taken.used + run + 2 →
-    T kind.Bulk (take run (drop taken.used p)) → Fills E T s m' p (Ok (Some used))
+    T kind.Bulk (take run (drop taken.used p)) → FillsSlot E T s m' p (Ok (Some used))
 content_fills E T s m m' taken run p used text sound bulk out ends left machine size shows = inr (record {
   kind = kind.Bulk;
   bytes = take run (drop taken.used p);
@@ -159,7 +159,7 @@ not_bad n (Some (event.Open k m)) t e = absurd (cc)
 not_bad n (Some event.Close) t e = absurd (cc)
 not_bad n (Some event.Done) t e = absurd (cc)
 
-fault_again : (result : Result Step Fault) (s : Place) (m : Machine) (p : List ℕ) (fault : Fault) → Answers s m p result → IsFaulted s fault →
+fault_again : (result : Result Step Fault) (s : Place) (m : Machine) (p : List ℕ) (fault : Fault) → StepAnswers s m p result → IsFaulted s fault →
     (result ≡ Err fault) × (place_of m ≡ s)
 fault_again (Ok step) s m p fault h f =
     absurd (not_bad step.used step.event (place_of m) (h.heard ∙ ap after_step (from_dead s p fault f)))
@@ -172,7 +172,7 @@ fault_again (Err other) s m p fault h f =
     (ap (λ x. Err (record { cause = x; at = other.at })) cause ∙ ap (λ n. Err (record { cause = fault.cause; at = n })) at, there)
 
 -- An answer of the machine is a step.
-steps_are : (result : Result Step Fault) (s : Place) (m : Machine) (p : List ℕ) → IsText p → IsSound s → Answers s m p result →
+steps_are : (result : Result Step Fault) (s : Place) (m : Machine) (p : List ℕ) → IsText p → IsSound s → StepAnswers s m p result →
     Steps s (place_of m) p result
 steps_are result s m p text sound h =
     let stands = fault_stands s.taken result s (place_of m) p sound h.heard h.counted in
@@ -191,7 +191,7 @@ steps_are result s m p text sound h =
       fault_is_final = λ fault f. fault_again result s m p fault h f;
     }
 
-sound_step : (result : Result Step Fault) (s : Place) (m : Machine) (p : List ℕ) → IsSound s → Answers s m p result → IsSound (place_of m)
+sound_step : (result : Result Step Fault) (s : Place) (m : Machine) (p : List ℕ) → IsSound s → StepAnswers s m p result → IsSound (place_of m)
 sound_step result s m p sound h =
     sound_heard s.taken result (place_of m) (subst IsCounted (sym h.heard) (counted_out s (out_from s p) (is_advanced s p sound)))
 
@@ -208,7 +208,7 @@ steps_over_text s m p used k bytes told = record {
 
 -- The place after a step into a slot is sound.
 pub sound_after : (E : Event → Type 0) (T : TextKind → List ℕ → Type 0) (result : Result (Option ℕ) Fault) (s : Place) (m : Machine) (p : List ℕ) →
-    IsSound s → Fills E T s m p result → IsSound (place_of m)
+    IsSound s → FillsSlot E T s m p result → IsSound (place_of m)
 sound_after E T (Ok (Some used)) s m p sound (inl h) = sound_step _ s m p sound h.answers
 sound_after E T (Ok (Some used)) s m p sound (inr h) = h.tells.sound
 sound_after E T (Ok None) s m p sound h = sound_step _ s m p sound h
@@ -216,7 +216,7 @@ sound_after E T (Err fault) s m p sound h = sound_step _ s m p sound h
 
 -- what is shown
 pub is_shown : (E : Event → Type 0) (T : TextKind → List ℕ → Type 0) (result : Result (Option ℕ) Fault) (s : Place) (m : Machine) (p : List ℕ) →
-    IsText p → IsSound s → Fills E T s m p result →
+    IsText p → IsSound s → FillsSlot E T s m p result →
     IfShown result (λ used. ShowsEvent E s (place_of m) p used ⊎ ShowsText T s (place_of m) p used)
 is_shown E T (Ok (Some used)) s m p text sound (inl h) =
     inl (record { event = h.event; shows = h.shows; steps = steps_are _ s m p text sound h.answers })
@@ -227,7 +227,7 @@ is_shown E T (Err fault) s m p text sound h = tt
 
 -- that nothing is
 pub is_used_up : (E : Event → Type 0) (T : TextKind → List ℕ → Type 0) (result : Result (Option ℕ) Fault) (s : Place) (m : Machine) (p : List ℕ) →
-    IsText p → IsSound s → Fills E T s m p result →
+    IsText p → IsSound s → FillsSlot E T s m p result →
     IfNothingShown result (Steps s (place_of m) p (Ok (record { used = length p; event = None })))
 is_used_up E T (Ok (Some used)) s m p text sound h = tt
 is_used_up E T (Ok None) s m p text sound h = steps_are _ s m p text sound h
@@ -235,7 +235,7 @@ is_used_up E T (Err fault) s m p text sound h = tt
 
 -- a refusal
 pub is_refused : (E : Event → Type 0) (T : TextKind → List ℕ → Type 0) (result : Result (Option ℕ) Fault) (s : Place) (m : Machine) (p : List ℕ) →
-    IsText p → IsSound s → Fills E T s m p result → IfErr result (λ fault. Steps s (place_of m) p (Err fault))
+    IsText p → IsSound s → FillsSlot E T s m p result → IfErr result (λ fault. Steps s (place_of m) p (Err fault))
 is_refused E T (Ok x) s m p text sound h = tt
 is_refused E T (Err fault) s m p text sound h = steps_are _ s m p text sound h
 
@@ -245,9 +245,9 @@ is_refused E T (Err fault) s m p text sound h = steps_are _ s m p text sound h
 pub event_fills : (E : Event → Type 0) (T : TextKind → List ℕ → Type 0) (taken : Taken) (m : Machine) (s : Place) (p : List ℕ) (w : EventTag) (x : Event)
     (result : Result (Option ℕ) Fault) → result ≡ Ok (Some taken.used) → E x → IsSound s → out_of taken m ≡ out_from s p → taken.tag ≡ w →
     out_of_event taken.used (Some x) (after_bytes taken.used (place_of m)) ≡ after_step (out_by w taken.used m) → IsPartOf p taken.used (Some x) →
-    Fills E T s (record m { taken = m.taken + taken.used }) p result
+    FillsSlot E T s (record m { taken = m.taken + taken.used }) p result
 event_fills E T taken m s p w x result is shows sound out by_tag heard lent =
-    subst (Fills E T s (record m { taken = m.taken + taken.used }) p) (sym is) (inl (record {
+    subst (FillsSlot E T s (record m { taken = m.taken + taken.used }) p) (sym is) (inl (record {
       event = x;
       shows = shows;
       answers = record {
@@ -260,10 +260,10 @@ event_fills E T taken m s p w x result is shows sound out by_tag heard lent =
 
 -- the end of the piece
 pub more_fills : (taken : Taken) (m : Machine) (s : Place) (p : List ℕ) → IsSound s → out_of taken m ≡ out_from s p → taken.tag ≡ tag.More →
-    Answers s (record m { taken = m.taken + taken.used }) p (Ok (record { used = length p; event = None }))
+    StepAnswers s (record m { taken = m.taken + taken.used }) p (Ok (record { used = length p; event = None }))
 more_fills taken m s p sound out by_tag =
     let all : taken.used ≡ length p = subst (λ w. Takes (length p) (out_by w taken.used m)) by_tag (said_kept taken m s p sound out).1 in
-    subst (λ n. Answers s (record m { taken = m.taken + taken.used }) p (Ok (record { used = n; event = None }))) all (record {
+    subst (λ n. StepAnswers s (record m { taken = m.taken + taken.used }) p (Ok (record { used = n; event = None }))) all (record {
       heard = told taken m s p tag.More None out by_tag refl;
       within = (used_within taken m s p sound out).0;
       lent = tt;
@@ -272,7 +272,7 @@ more_fills taken m s p sound out by_tag =
 
 -- a refusal
 pub failed_fills : (taken : Taken) (m : Machine) (s : Place) (p : List ℕ) → IsSound s → out_of taken m ≡ out_from s p → taken.tag ≡ tag.Failed →
-    Answers s (record m { taken = m.taken + taken.used }) p (Err (record { cause = m.cause; at = m.taken + taken.used }))
+    StepAnswers s (record m { taken = m.taken + taken.used }) p (Err (record { cause = m.cause; at = m.taken + taken.used }))
 failed_fills taken m s p sound out by_tag =
     let f = failed_is taken m s p sound out by_tag in
     let size : (m.taken + taken.used) - s.taken ≡ taken.used = omega (arith, f.1) in

@@ -17,7 +17,7 @@ use Rattle.resp_scan.specs.Reading.{Events, HasRead, IsFaulted}
 use Rattle.resp_scan.specs.Slots.{IsTextOfPiece, TextComesInTime}
 
 -- the answer of a step, and the machine after it
-pub record Answers (s : Place) (m : Machine) (piece : List ℕ) (result : Result Step Fault) : Type 0 where
+pub record StepAnswers (s : Place) (m : Machine) (piece : List ℕ) (result : Result Step Fault) : Type 0 where
   pub heard : out_of_step s.taken result (place_of m) ≡ after_step (out_from s piece)
   pub within : IfOk result (λ step. step.used ≤ length piece)
   pub lent : IfOk result (λ step. IsOfPiece piece step)
@@ -37,7 +37,7 @@ pub record TellsText (s t : Place) (piece : List ℕ) (used : ℕ) (kind : TextK
 pub record FillsEvent (Shows : Event → Type 0) (s : Place) (m : Machine) (piece : List ℕ) (used : ℕ) : Type 0 where
   pub event : Event
   pub shows : Shows event
-  pub answers : Answers s m piece (Ok (record { used = used; event = Some event }))
+  pub answers : StepAnswers s m piece (Ok (record { used = used; event = Some event }))
 
 -- a text told whole is shown
 pub record FillsText (Shows : TextKind → List ℕ → Type 0) (s : Place) (m : Machine) (piece : List ℕ) (used : ℕ) :
@@ -48,8 +48,10 @@ pub record FillsText (Shows : TextKind → List ℕ → Type 0) (s : Place) (m :
   pub tells : TellsText s (place_of m) piece used kind bytes
 
 -- what a step into a slot comes to
-abbrev pub Fills : (Event → Type 0) → (TextKind → List ℕ → Type 0) → Place → Machine → List ℕ →
+abbrev pub FillsSlot : (Event → Type 0) → (TextKind → List ℕ → Type 0) → Place → Machine → List ℕ →
     Result (Option ℕ) Fault → Type 0
-Fills Shows ShowsText s m piece (Ok (Some used)) = FillsEvent Shows s m piece used ⊎ FillsText ShowsText s m piece used
-Fills Shows ShowsText s m piece (Ok None) = Answers s m piece (Ok (record { used = length piece; event = None }))
-Fills Shows ShowsText s m piece (Err fault) = Answers s m piece (Err fault)
+FillsSlot Shows ShowsText s m piece (Ok (Some used)) =
+    FillsEvent Shows s m piece used ⊎ FillsText ShowsText s m piece used
+FillsSlot Shows ShowsText s m piece (Ok None) =
+    StepAnswers s m piece (Ok (record { used = length piece; event = None }))
+FillsSlot Shows ShowsText s m piece (Err fault) = StepAnswers s m piece (Err fault)

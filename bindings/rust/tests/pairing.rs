@@ -1,0 +1,73 @@
+//! Conversations over HELLO, at every cut.
+
+use resp::{Cause, Event, Fault, Limits, PairError, Pairing, QueueError, Version};
+use std::fmt::Write;
+
+/// The ends of the values in pieces, each as `number.` or `push.`, nulls as `_`, and a refusal.
+fn said(pairing: &mut Pairing, pieces: &[&[u8]]) -> String {
+    let mut said = String::new();
+    for piece in pieces {
+        let mut rest = *piece;
+        loop {
+            match pairing.step(rest) {
+                Ok(step) => {
+                    rest = &rest[step.used..];
+                    match step.event {
+                        Some((Some(number), Event::Done)) => write!(said, "{number}.").expect("a string"),
+                        Some((None, Event::Done)) => said.push_str("push."),
+                        Some((_, Event::Null)) => said.push('_'),
+                        Some(_) => (),
+                        None => break,
+                    }
+                }
+                Err(error) => {
+                    write!(said, "!{error}").expect("a string");
+                    return said;
+                }
+            }
+        }
+    }
+    said
+}
+
+/// Runs a conversation whole, cut in two at each byte, and byte by byte. A command is 0, or the version that HELLO asks.
+fn check(commands: &[u32], text: &[u8], wanted: &str, version: Version) {
+    let mut cuts: Vec<Vec<&[u8]>> = (0..=text.len()).map(|at| vec![&text[..at], &text[at..]]).collect();
+    cuts.push(text.chunks(1).collect());
+    for pieces in cuts {
+        let mut pairing = Pairing::new(&Limits::default()).expect("limits");
+        for (at, hello) in commands.iter().enumerate() {
+            let number = match hello {
+                0 => pairing.queue(),
+                2 => pairing.hello(Version::Two),
+                _ => pairing.hello(Version::Three),
+            };
+            assert_eq!(number, Ok(at as u64 + 1));
+        }
+        assert_eq!(said(&mut pairing, &pieces), wanted, "{pieces:?}");
+        assert_eq!(pairing.version(), version);
+    }
+}
+
+#[test]
+fn conversations() {
+    check(&[0, 0], b"+OK\r\n$-1\r\n", "1._2.", Version::Two);
+    check(&[0, 3, 0], b"$-1\r\n%1\r\n+a\r\n_\r\n_\r\n", "_1._2._3.", Version::Three);
+    check(&[3], b">1\r\n+a\r\n-ERR no\r\n>0\r\n", "push.1.!Version at byte 0 of the value", Version::Two);
+    check(&[3, 0], b"-NOPROTO\r\n_\r\n", "1.!Version at byte 0 of the value", Version::Two);
+    check(&[3, 0], b"%0\r\n|1\r\n+a\r\n+b\r\n#t\r\n", "1.2.", Version::Three);
+    check(&[0], b"+OK\r\n+OK\r\n", "1.!no command asked for this value", Version::Two);
+}
+
+#[test]
+fn refusals() {
+    let mut pairing = Pairing::new(&Limits::default()).expect("limits");
+    assert_eq!(pairing.step(b"+OK\r\n"), Err(PairError::Unasked));
+    assert_eq!(pairing.hello(Version::Three), Ok(1));
+    assert_eq!(pairing.hello(Version::Two), Err(QueueError::HelloWaits));
+    assert_eq!(pairing.queue(), Ok(2));
+    assert_eq!(said(&mut pairing, &[b"+OK\r\n"]), "1.");
+    assert_eq!(pairing.hello(Version::Two), Ok(3));
+    assert_eq!(pairing.step(b"x"), Err(PairError::Fault(Fault { cause: Cause::Syntax, at: 0 })));
+    assert_eq!(pairing.finish(), Err(Fault { cause: Cause::Syntax, at: 0 }));
+}
