@@ -102,7 +102,7 @@ declines r x front piece so_far used before after nothing spelling unfit appende
 }
 
 -- a first part of a text that was to be written
-part_of_value : (r : Rules) (x : Datum) (front piece so_far : List ℕ) (used : ℕ) (before after : Option (List ℕ)) → so_far ≡ [] →
+pub part_of_value : (r : Rules) (x : Datum) (front piece so_far : List ℕ) (used : ℕ) (before after : Option (List ℕ)) → so_far ≡ [] →
     IsSpelling r x (front ++ take used piece) → AppendsPart before after (canonical_text r.version x) →
     tool.WritesPart r (canonical_text r.version) LeavesNothing (front ++ piece) so_far before after
 part_of_value r x front piece so_far used before after nothing spelling written = record {

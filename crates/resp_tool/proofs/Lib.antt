@@ -16,3 +16,5 @@ pub mod CauseTexts
 pub mod AskingLemmas
 pub mod CommandLemmas
 pub mod CommandExamples
+pub mod CanonicalFrontLemmas
+pub mod FrontsTaken

@@ -18,3 +18,4 @@ pub mod Explained
 pub mod Program
 pub mod CommandWords
 pub mod Commands
+pub mod CanonicalFronts

@@ -1,18 +1,19 @@
 //! `canon`: each value of a stream again, in its one canonical spelling.
 
-ghost use Rattle.std.specs.Prelude.{◌≡◌, ◌+◌, ◌≤◌, ℕ, List, [], Some, IfErr, IfOk, IfSome, IsErrOf, OnOk};
+ghost use Rattle.std.specs.Prelude.{◌≡◌, ◌+◌, ◌≤◌, ℕ, true, List, [], length, Some, IfErr, IfOk, IfSome, IsErrOf, OnOk};
 ghost use Rattle.resp_encode.specs.Refusals.{IfWrite, IsFirstRefusal};
 ghost use Rattle.resp_encode.specs.declared.error.EncodeError.{EncodeError};
 ghost use Rattle.resp_tool.specs.Canons.{stop_at, stop_of};
 ghost use Rattle.resp_tool.specs.Counts.{LeavesNothing};
 ghost use Rattle.resp_tool.specs.Live.{EachRead, IsLive};
 ghost use Rattle.resp_tool.specs.Streams.{AreRead, AtEnd, Renders, failed_to_read, failed_to_write};
-ghost use Rattle.resp_tool.specs.Written.{BreaksText, WritesWhole};
+ghost use Rattle.resp_tool.specs.Written.{BreaksText, WritesText, WritesWhole};
 ghost use Rattle.resp_value.specs.Canonical.{canonical_text, Fits};
 ghost use Rattle.resp_value.specs.Devices.{count_after, failures_after};
 ghost use Rattle.resp_value.specs.Rules.{rules_under};
 ghost use Rattle.resp_value.specs.Values.{datum_of};
 
+use crate::canonical_front::canonical_front;
 use crate::live::{LiveSink, LiveSource};
 use crate::rendering::{Rendering, Stop, Taken};
 use crate::stream::{MOST_READS, render_stream};
@@ -24,6 +25,7 @@ use resp_encode::{EncodeError, EncodeToError, encode};
 use resp_scan::event::Fault;
 use resp_value::cause::Cause;
 use resp_value::device::{DeviceFault, Sink};
+use resp_value::laws;
 use resp_value::limits::Limits;
 use resp_value::value::Value;
 use resp_value::version::Version;
@@ -66,6 +68,13 @@ impl Rendering for Canonical<'_> {
     ghost writes = { Unit {0} };
 
     fn take<W: Sink>(&mut self, piece: &[u8], writer: &mut W) -> Result<Taken, Stop> {
+        laws::canonical_text_spells_what_fits();
+        // Most values without members are written as they came.
+        if self.decoder.taken() == 0 {
+            if let Some(size) = canonical_front(piece, self.limits) {
+                return write_front(&piece[..size], writer);
+            }
+        }
         let fed = match self.decoder.feed(piece) {
             Ok(fed) => fed,
             Err(fault) => return Err(stop_at(fault)),
@@ -99,6 +108,24 @@ impl Rendering for Canonical<'_> {
             Ok(()) => Ok(()),
             Err(fault) => Err(stop_at(fault)),
         }
+    }
+}
+
+/// Writes the text of a whole value as it came.
+#[inline(always)]
+fn write_front<W: Sink>(text: &[u8], writer: &mut W) -> Result<Taken, Stop>
+    ensures writes { WritesText (W.written writer.old) (W.written writer.new)
+        (W.failures writer.old) (W.failures writer.new) result text.now }
+    ensures whole { IfOk result (λ taken.
+        taken ≡ record { used = length text.now; is_whole = true }) }
+    ensures stops { IfErr result (λ stop. stop ≡ Stop.Write) }
+{
+    match write_text(writer, text) {
+        Ok(()) => Ok(Taken {
+            used: text.len(),
+            is_whole: true,
+        }),
+        Err(_) => Err(Stop::Write),
     }
 }
 

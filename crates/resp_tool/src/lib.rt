@@ -5,6 +5,7 @@
 #![tactic(auto)]
 
 pub mod canon;
+mod canonical_front;
 pub mod check;
 pub mod command_line;
 pub mod explain;
