@@ -19,6 +19,7 @@ mod short_line;
 pub mod show;
 mod starts;
 mod stream;
+pub mod tapping;
 pub mod text;
 pub mod tool_error;
 pub mod watched;

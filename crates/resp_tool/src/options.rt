@@ -3,6 +3,7 @@
 ghost use Rattle.std.specs.Prelude.{◌≤◌, IfOk, IfSome};
 
 use crate::serving::with_serve_options;
+use crate::tapping::with_tap_options;
 use clap::{Arg, ArgAction, ArgMatches, Command};
 use resp_value::limits::Limits;
 use resp_value::version::Version;
@@ -114,8 +115,8 @@ pub struct Options<'a> {
     pub explains: bool,
 }
 
-/// Reads the words, the program's name first among them. None where they begin with `loop` or
-/// `serve`, which are done elsewhere, or where a number is outside its range, which the parser of
+/// Reads the words, the program's name first among them. None where they begin with `loop`, `serve`
+/// or `tap`, which are done elsewhere, or where a number is outside its range, which the parser of
 /// the words refuses before.
 pub fn parse<'a, S: AsStr>(
     alloc: Global,
@@ -128,7 +129,7 @@ pub fn parse<'a, S: AsStr>(
     Ok(match matches.subcommand() {
         Some(("check", options)) => options_of(Task::Check, options),
         Some(("canon", options)) => options_of(Task::Canon, options),
-        Some(("loop" | "serve", _)) => None,
+        Some(("loop" | "serve" | "tap", _)) => None,
         Some((_, options)) => options_of(Task::Show, options),
         None => None,
     })
@@ -159,6 +160,9 @@ fn program<'a>(alloc: Global) -> Result<Command<'a>, clap::Error> {
     let serve = Command::new(alloc, "serve").about(
         "Serves PING, ECHO, GET, SET, DEL and HELLO to many clients at once",
     );
+    let tap = Command::new(alloc, "tap").about(
+        "Stands between clients and a server, and prints what they send",
+    );
     Ok(
         Command::new(alloc, "resp")
             .bin_name("resp")?
@@ -169,7 +173,8 @@ fn program<'a>(alloc: Global) -> Result<Command<'a>, clap::Error> {
             .subcommand(with_options(alloc, check)?)?
             .subcommand(with_options(alloc, canon)?)?
             .subcommand(played.arg(explain(alloc, "Says why a line of the script is bad"))?)?
-            .subcommand(with_serve_options(alloc, serve)?)?,
+            .subcommand(with_serve_options(alloc, serve)?)?
+            .subcommand(with_tap_options(alloc, tap)?)?,
     )
 }
 

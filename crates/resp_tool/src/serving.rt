@@ -14,12 +14,12 @@ use std::convert::AsStr;
 use std::net::SocketAddr;
 
 /// What the help says of the statuses.
-const STATUSES: &str = "Statuses:
+pub(crate) const STATUSES: &str = "Statuses:
   2  The words of the command line are wrong
   3  The address can't be opened, or memory is out";
 
 /// `--clients`: the most clients at once.
-const CLIENTS: NumberOption = NumberOption {
+pub(crate) const CLIENTS: NumberOption = NumberOption {
     name: "clients",
     help: "The most clients at once, from 1 to 65536",
     least: 1,
@@ -102,7 +102,7 @@ pub fn read_serving<'a, S: AsStr, W: Sink, F: Sink>(
             clients: found.clients,
         }),
         Err(_) => {
-            let _ = write_bad_address(found.address, faults);
+            let _ = write_bad_address(found.address, "ADDRESS", faults);
             Err(BAD_ARGUMENTS)
         }
     }
@@ -124,13 +124,19 @@ fn words_of<'a>(matches: &ArgMatches<'a>) -> Option<Words<'a>>
     })
 }
 
-/// Says what is wrong with an address.
-fn write_bad_address<F: Sink>(address: &str, faults: &mut F) -> Result<(), WriteFault> {
+/// Says what is wrong with an address, which the word of this name is to be.
+pub(crate) fn write_bad_address<F: Sink>(
+    address: &str,
+    name: &str,
+    faults: &mut F,
+) -> Result<(), WriteFault> {
     write_text(faults, b"error: invalid value '")?;
     write_text(faults, address.as_bytes())?;
+    write_text(faults, b"' for '<")?;
+    write_text(faults, name.as_bytes())?;
     write_text(
         faults,
-        b"' for '<ADDRESS>': an IP address and a port are wanted, as 127.0.0.1:6380\n\n",
+        b">': an IP address and a port are wanted, as 127.0.0.1:6380\n\n",
     )?;
     write_text(faults, b"For more information, try '--help'.\n")
 }
