@@ -71,11 +71,11 @@ waits_for('client 7 reply 4\n  null\nclient 7 reply 5\n  double "1.5" 3\nclient 
 
 # After SUBSCRIBE values are paired with no command.
 talk(tap, command("PING") + command("SUBSCRIBE", "channel"), b":1\r\n")
-waits_for('client 8 reply 1\n  simple "PONG" 4\nclient 8 value\n  array\n    bulk "subscribe" 9\n    bulk "channel" 7\n')
+waits_for('client 8 reply 1\n  simple "PONG" 4\nclient 8 value\n  array\n    bulk "subscribe" 9\n')
 
 # An inline command is handed on, and the connection isn't read from there on.
 assert talk(tap, b"PING\r\n", b"\r\n") == b"+PONG\r\n"
-waits_for("client 9 refused Syntax at byte 0 of command 1\nclient 9 gone\n")
+waits_for("client 9 refused Syntax at byte 0 of command 1\n")
 
 # A reply of 16 MiB, over many pieces, is handed on unchanged.
 cli(server, "SETRANGE", "large", str((1 << 24) - 1), "x")
