@@ -1,5 +1,5 @@
 //! The program `resp`: shows, checks and rewrites streams of the Redis wire protocol, plays scripts
-//! of clients of one server, and serves clients.
+//! of clients of one server, serves clients, and prints what passes between clients and a server.
 #![tactic(auto)]
 
 mod input;
@@ -11,12 +11,13 @@ use input::read_input;
 use output::Output;
 use resp_script::play::{play, write_no_connection};
 use resp_script::script::read_script;
-use resp_serve::Server;
+use resp_serve::{Server, Window};
 use resp_tool::command_line::{perform, read_words, refuse_file, refuse_words, run_options, stop};
 use resp_tool::explain::explain;
 use resp_tool::live::{Gathering, LiveSink};
 use resp_tool::options::{Options, STANDARD_INPUT};
 use resp_tool::serving::read_serving;
+use resp_tool::tapping::read_tapping;
 use resp_tool::text::write_text;
 use resp_tool::tool_error::ToolError;
 use resp_tool::watched::Watched;
@@ -27,7 +28,7 @@ use std::alloc::{AllocError, Global};
 use std::cell::Cell;
 use std::fs::File;
 use std::hash::RandomState;
-use std::io::{Read, Write};
+use std::io::{ErrorKind, Read, Write};
 use std::net::{Net, TcpListener, TcpStream};
 use std::process::ExitCode;
 use std::{env, io};
@@ -99,8 +100,11 @@ fn run_words<W: LiveSink, F: Sink>(
             faults,
         );
     }
-    if is_serve(words) {
+    if begins_with(words, "serve") {
         return run_serve(rt, words, writer, faults);
+    }
+    if begins_with(words, "tap") {
+        return run_tap(rt, words, writer, faults);
     }
     run_task(rt, words, writer, faults)
 }
@@ -117,10 +121,10 @@ fn loop_explains(words: &[String]) -> Option<bool> {
     }
 }
 
-/// Whether the first of the words after the program's name is `serve`.
-fn is_serve(words: &[String]) -> bool {
+/// Whether the first of the words after the program's name is this one.
+fn begins_with(words: &[String], name: &str) -> bool {
     match words {
-        [_, word, ..] => word.as_str() == "serve",
+        [_, word, ..] => word.as_str() == name,
         _ => false,
     }
 }
@@ -208,6 +212,48 @@ fn run_serve<W: LiveSink, F: Sink>(
     match server.run() {
         Ok(()) => Ok(0),
         Err(error) => refuse_address(alloc, serving.address_text, &error, faults),
+    }
+}
+
+/// Stands between clients and a server where the words say, and answers the status where it can't be
+/// gone on with that.
+fn run_tap<W: LiveSink, F: Sink>(
+    rt: &HostRuntime,
+    words: &[String],
+    writer: &mut W,
+    faults: &mut F,
+) -> Result<u8, AllocError> {
+    let alloc = rt.alloc();
+    let tapping = match read_tapping(alloc, words, writer, faults) {
+        Ok(tapping) => tapping,
+        Err(status) => return Ok(status),
+    };
+    let listened = Window::listen(
+        rt,
+        alloc,
+        tapping.address,
+        tapping.server,
+        tapping.limits,
+        tapping.clients,
+    );
+    let mut window = match listened {
+        Ok(window) => window,
+        Err(error) => return refuse_address(alloc, tapping.address_text, &error, faults),
+    };
+    let address = match window.address() {
+        Ok(address) => address,
+        Err(error) => return refuse_address(alloc, tapping.address_text, &error, faults),
+    };
+    let line = format!(in alloc; "listening on {address}\n")?;
+    if write_text(writer, line.as_str().as_bytes()).is_err() {
+        return Ok(stop(&ToolError::Write, faults));
+    }
+    match window.run(rt, writer) {
+        Ok(()) => Ok(0),
+        Err(error) if error.kind() == ErrorKind::WriteZero => {
+            Ok(stop(&ToolError::Write, faults))
+        }
+        Err(error) => refuse_address(alloc, tapping.address_text, &error, faults),
     }
 }
 

@@ -3,10 +3,17 @@
 //!
 //! A connection that is ready is served by [`resp_wire::serve::serve`], whose contract says what is
 //! read, what is answered and what still waits where the socket takes no more.
+//!
+//! A [`Window`] stands between clients and another server: it hands on what either side sends, by
+//! [`resp_tap::way::Way::visit`], and prints what [`resp_tap::Tap`] sees of it.
 #![tactic(auto)]
 
 mod connection;
 mod non_blocking;
 mod server;
+mod tapped;
+mod terminal;
+mod window;
 
 pub use server::Server;
+pub use window::Window;

@@ -51,6 +51,7 @@ impl<R: Read> Read for Input<R> {
 pub(crate) struct Output<W> {
     inner: W,
     is_full: bool,
+    has_failed: bool,
 }
 
 impl<W> Output<W> {
@@ -59,7 +60,13 @@ impl<W> Output<W> {
         Output {
             inner,
             is_full: false,
+            has_failed: false,
         }
+    }
+
+    /// Whether the last write failed for another reason, or took no byte.
+    pub(crate) fn has_failed(&self) -> bool {
+        self.has_failed
     }
 
     /// Whether the last write failed because it would have waited.
@@ -74,6 +81,10 @@ impl<W: Write> Write for Output<W> {
         self.is_full = match &count {
             Ok(_) => false,
             Err(error) => error.kind() == ErrorKind::WouldBlock,
+        };
+        self.has_failed = match &count {
+            Ok(count) => *count == 0,
+            Err(_) => !self.is_full,
         };
         count
     }

@@ -17,20 +17,20 @@ use std::{io, mem};
 const LISTENER: usize = 0;
 
 /// How many events one wait tells at most.
-const EVENTS: usize = 1_024;
+pub(crate) const EVENTS: usize = 1_024;
 
 /// How many connections are accepted before those that are ready have their turn.
-const ACCEPTED: usize = 256;
+pub(crate) const ACCEPTED: usize = 256;
 
 /// How long it is until connections are accepted again after a failure, in milliseconds.
-const PAUSE: u64 = 100;
+pub(crate) const PAUSE: u64 = 100;
 
 /// What a connection over the most is answered.
-const TOO_MANY: &[u8] = b"-ERR max number of clients reached\r\n";
+pub(crate) const TOO_MANY: &[u8] = b"-ERR max number of clients reached\r\n";
 
 /// Whether connections wait to be accepted.
 #[derive(Clone, Copy, Debug, PartialEq, Eq)]
-enum Backlog {
+pub(crate) enum Backlog {
     /// None, as far as is known.
     Empty,
     /// There may be some.

@@ -1,5 +1,5 @@
 -- What holds while replies are paired, and after that.
-use Rattle.std.proofs.Common.{◌≡◌, ◌≢◌, ℕ, true, false, List, [], ◌∷◌, length, Option, refl, sym, subst, ◌∙◌}
+use Rattle.std.proofs.Common.{◌≡◌, ◌≢◌, List, [], ◌∷◌, length, Option, refl}
 use Rattle.resp_value.specs.declared.version.Version.{Version}
 use Rattle.resp_tap.specs.Taps.{settled_pairing}
 use Rattle.resp_tap.specs.Watching.{ByPairing}

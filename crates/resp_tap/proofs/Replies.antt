@@ -1,17 +1,15 @@
 -- What is seen of the server's values while replies are paired.
-use Rattle.std.proofs.Common.{◌≡◌, ◌≢◌, ℕ, ◌+◌, List, [], ◌∷◌, ◌++◌, take, refl, sym, ap, subst, ◌∙◌}
-use Rattle.resp_value.specs.Bounds.{Bounds}
-use Rattle.resp_value.specs.Data.{Datum}
+use Rattle.std.proofs.Common.{◌≡◌, ◌≢◌, ℕ, List, [], ◌∷◌, ◌++◌, take, refl, sym, subst, ◌∙◌}
 use Rattle.resp_value.specs.Values.{datum_of}
 use Rattle.resp_value.specs.declared.value.Value.TheVariants as value
 use Rattle.resp_scan.specs.declared.event.Fault.{Fault}
-use Rattle.resp_session.specs.Reading.{MayGoOn, ReadsAs, Waiting}
+use Rattle.resp_session.specs.Reading.{MayGoOn, ReadsAs}
 use Rattle.resp_client.specs.Clients.{ClientState, state_of, with_answer}
 use Rattle.resp_client.specs.Hearing.{HasTaken, Hears, Refuses, UnlessReplied}
 use Rattle.resp_client.specs.declared.heard.What.{What}
 use Rattle.resp_client.specs.declared.heard.What.TheVariants.{Reply, Push, Shown, More}
 use Rattle.resp_tap.specs.SeenOf.{heard_as}
-use Rattle.resp_tap.specs.Taps.{TapState, tap_state, with_refusal, with_reply}
+use Rattle.resp_tap.specs.Taps.{tap_state}
 use Rattle.resp_tap.specs.Watching.{HasTakenValue, RefusesOfValue, SeesValue, place_by}
 use Rattle.resp_tap.specs.declared.pairing.Pairing.{Pairing}
 use Rattle.resp_tap.specs.declared.pairing.Pairing.TheVariants.{Paired, Ending, Unpaired}

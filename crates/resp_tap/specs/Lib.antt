@@ -3,5 +3,7 @@ pub mod Taps
 pub mod Watching
 pub mod Ways
 pub mod Texts
+pub mod Screens
+pub mod Watches
 -- What the steps of a tap promise one another, which no public clause names.
 pub mod SeenOf

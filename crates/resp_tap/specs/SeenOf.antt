@@ -1,5 +1,5 @@
 -- How what was heard is seen.
-use Rattle.std.specs.Prelude.{◌≡◌, ℕ, false}
+use Rattle.std.specs.Prelude.{◌≡◌, false}
 use Rattle.resp_value.specs.Data.{Datum}
 use Rattle.resp_value.specs.Values.{datum_of}
 use Rattle.resp_value.specs.declared.value.Value.TheVariants as value

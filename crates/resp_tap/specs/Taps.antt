@@ -6,9 +6,8 @@ use Rattle.resp_value.specs.declared.version.Version.{Version}
 use Rattle.resp_value.specs.declared.version.Version.TheVariants.{Two}
 use Rattle.resp_session.specs.Reading.{Waiting, waiting_after_reply}
 use Rattle.resp_client.specs.Clients.{state_of}
-use Rattle.resp_tap.specs.Kinds.{command_kind}
 use Rattle.resp_tap.specs.declared.kind.CommandKind.{CommandKind}
-use Rattle.resp_tap.specs.declared.kind.CommandKind.TheVariants.{Plain, Hello, Unpairing}
+use Rattle.resp_tap.specs.declared.kind.CommandKind.TheVariants.{Hello, Unpairing}
 use Rattle.resp_tap.specs.declared.pairing.Pairing.{Pairing}
 use Rattle.resp_tap.specs.declared.pairing.Pairing.TheVariants.{Paired, Ending, Unpaired}
 use Rattle.resp_tap.specs.declared.tap.Tap.{Tap}

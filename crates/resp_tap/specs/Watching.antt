@@ -15,7 +15,7 @@ use Rattle.resp_decode.specs.Decoding as decode
 use Rattle.resp_decode.specs.Decoding.{LacksMemory, RefusesByte}
 use Rattle.resp_session.specs.Commands.{NoCommand, Nothing, array_meaning, meaning_of}
 use Rattle.resp_session.specs.Heard.{is_push, numbered_replies}
-use Rattle.resp_session.specs.Reading.{MayGoOn, ReadsAs, Waiting}
+use Rattle.resp_session.specs.Reading.{MayGoOn, ReadsAs}
 use Rattle.resp_client.specs.Clients.{ClientState}
 use Rattle.resp_client.specs.Hearing as client
 use Rattle.resp_tap.specs.Kinds.{command_kind}

@@ -36,3 +36,9 @@ pub record HandsOn (left left' out out' : Option (List ℕ)) (waiting waiting' c
   pub gone : List ℕ
   pub written : Appends out out' gone
   pub whole : waiting ++ came ≡ gone ++ waiting'
+
+-- visits one after another hand on what one visit would of all that came
+abbrev pub VisitsAddUp : Type 0
+VisitsAddUp = (left left' left'' out out' out'' : Option (List ℕ)) (waiting waiting' waiting'' came more : List ℕ) →
+    HandsOn left left' out out' waiting waiting' came → HandsOn left' left'' out' out'' waiting' waiting'' more →
+    HandsOn left left'' out out'' waiting waiting'' (came ++ more)

@@ -5,10 +5,13 @@
 #![tactic(auto)]
 
 pub mod kind;
+pub mod laws;
 pub mod pairing;
 pub mod print;
+pub mod screen;
 pub mod seen;
 pub mod tap;
+pub mod watch;
 pub mod way;
 
 pub use seen::{Place, Seen, Step};

@@ -23,15 +23,23 @@ pub enum Seen {
     /// An empty array or a null of the client, which a server passes over.
     Passed,
     /// A command.
-    Command { number: u64, words: Words },
+    Command {
+        number: u64,
+        words: Words,
+    },
     /// The reply to a command.
-    Reply { number: u64, value: Value },
+    Reply {
+        number: u64,
+        value: Value,
+    },
     /// The members of a push, which answers no command.
     Push(Members),
     /// A value of the server after a command that isn't answered by one reply.
     Value(Value),
     /// A value of the client that is no command. Nothing more is read of the connection.
-    NotCommand { number: u64 },
+    NotCommand {
+        number: u64,
+    },
     /// A byte that may not stand there, or no memory for what came. Nothing more is read of the
     /// connection.
     Refused {

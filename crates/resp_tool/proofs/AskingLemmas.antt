@@ -156,13 +156,16 @@ pub asked_for_nothing : {X : Type 0} (Ask : App → List Text → X → Type 0) 
     AnswersStatus Ask program words (Err 2)
 asked_for_nothing Ask program words wrong = (λ two. absurd (omega arith), λ two. wrong)
 
--- and of other words than those for `serve`
-pub asked_for_other : (program : App) (words : List Text) (found : Result ArgMatches Error) (m : ArgMatches) → FindsWords program words found →
-    found ≡ Ok m → ((serving : Serving) → EntersServe (subcommand_rows_of m) serving → ⊥) → AnswersStatus AskToServe program words (Err 2)
-asked_for_other program words found m finds is none = asked_for_nothing AskToServe program words (inr (
-  (rw is at finds).0,
-  λ serving asks. none serving (entered_if_asks EntersServe program words found m finds is serving asks),
-))
+-- and of words that enter something else
+pub asked_for_other : {X : Type 0} (Enter : Option (Text × List Row) → X → Type 0) (program : App) (words : List Text)
+    (found : Result ArgMatches Error) (m : ArgMatches) → FindsWords program words found → found ≡ Ok m →
+    ((x : X) → Enter (subcommand_rows_of m) x → ⊥) →
+    AnswersStatus (λ p ws x. (fault_of p ws ≡ []) × Enter (subcommand_of p ws) x) program words (Err 2)
+asked_for_other Enter program words found m finds is none =
+    asked_for_nothing (λ p ws x. (fault_of p ws ≡ []) × Enter (subcommand_of p ws) x) program words (inr (
+      (rw is at finds).0,
+      λ x asks. none x (entered_if_asks Enter program words found m finds is x asks),
+    ))
 
 two_or_three : (n : ℕ) → 2 ≤ n → n ≤ 3 → (n ≡ 2) ⊎ (n ≡ 3)
 two_or_three zero low high = absurd (omega arith)

@@ -1,5 +1,5 @@
 -- Which words ask for which options.
-use Rattle.std.specs.Prelude.{◌≡◌, ◌≢◌, ◌⊎◌, ◌≤◌, ◌<◌, ◌^◌, ℕ, Bool, false, not, if◌then◌else◌, codes}
+use Rattle.std.specs.Prelude.{◌≡◌, ◌≢◌, ◌⊎◌, ◌≤◌, ◌<◌, ◌^◌, ℕ, Bool, false, true, not, if◌then◌else◌, codes}
 use Rattle.std.specs.Prelude.{List, [], Option, Some, None, Result, Ok, Err}
 use Rattle.std.specs.Net.Grammar.{IsSocketText}
 use Rattle.std.specs.Str.Parse.{IsNumeral, digits_value, without_leading_plus}
@@ -16,6 +16,7 @@ use Rattle.resp_tool.specs.declared.options.Options.{Options}
 use Rattle.resp_tool.specs.declared.options.Task.{Task}
 use Rattle.resp_tool.specs.declared.options.Task.TheVariants.{Show, Check, Canon}
 use Rattle.resp_tool.specs.declared.serving.Serving.{Serving}
+use Rattle.resp_tool.specs.declared.tapping.Tapping.{Tapping}
 
 -- ---- one option, by the texts that the words give the options of a task, or that stand for those not given
 
@@ -73,6 +74,22 @@ abbrev pub HasServing : List Row → Serving → Type 0
 HasServing given serving = HasServeWords given serving.address_text.now serving.limits serving.clients ×
     IsSocketText serving.address_text.now serving.address
 
+-- of `tap`, with the texts of its addresses
+pub record HasTapWords (given : List Row) (address server : Text) (limits : Bounds) (clients : ℕ) : Type 0 where
+  pub in_limits : HasLimits given limits
+  pub with_doubles : limits.doubles ≡ true
+  pub at_once : HasNumber given (codes "clients") clients
+  pub at_once_in_range : (1 ≤ clients) × (clients ≤ 65536)
+  pub listen_text : first_of (codes "listen") given ≡ Some address
+  pub server_text : first_of (codes "server") given ≡ Some server
+
+-- and with its addresses
+pub record HasTapping (given : List Row) (tapping : Tapping) : Type 0 where
+  pub server_text : Text
+  pub words : HasTapWords given tapping.address_text.now server_text tapping.limits tapping.clients
+  pub listen : IsSocketText tapping.address_text.now tapping.address
+  pub server : IsSocketText server_text tapping.server
+
 abbrev pub task_word : Task → Text
 task_word Show = codes "show"
 task_word Check = codes "check"
@@ -88,6 +105,11 @@ abbrev pub EntersServe : Option (Text × List Row) → Serving → Type 0
 EntersServe entered serving =
     (given : List Row) × (entered ≡ Some (codes "serve", given)) × HasServing given serving
 
+-- or `tap`
+abbrev pub EntersTap : Option (Text × List Row) → Tapping → Type 0
+EntersTap entered tapping =
+    (given : List Row) × (entered ≡ Some (codes "tap", given)) × HasTapping given tapping
+
 -- ---- all words, of which the first is the program's own name
 
 -- the program takes the words, and they ask for these options
@@ -97,6 +119,10 @@ AskFor program words options = (fault_of program words ≡ []) × Enters (subcom
 -- or to serve
 abbrev pub AskToServe : App → List Text → Serving → Type 0
 AskToServe program words serving = (fault_of program words ≡ []) × EntersServe (subcommand_of program words) serving
+
+-- or to tap
+abbrev pub AskToTap : App → List Text → Tapping → Type 0
+AskToTap program words tapping = (fault_of program words ≡ []) × EntersTap (subcommand_of program words) tapping
 
 -- or they ask for help, or for the program's version
 abbrev pub AskForHelp : App → List Text → Type 0

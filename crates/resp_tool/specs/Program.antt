@@ -61,15 +61,21 @@ stream_options versions = value_option (codes "proto") versions (codes "2") ∷ 
     flag_option (codes "explain") ∷
     file_word ∷ [])
 
--- the address that is served on, a word without a name
-abbrev pub address_word : Rule
-address_word = record (new_rule (codes "address")) { value_names = 1; required = true }
+-- an address, a word without a name that has to be given
+abbrev pub address_word : Text → Rule
+address_word name = record (new_rule name) { value_names = 1; required = true }
+
+-- the options of `serve` and `tap`, before their addresses
+abbrev pub listening_options : List Rule → List Rule
+listening_options addresses = limit_options ++ number_option (codes "clients") 1 65536 (codes "1000") ∷ addresses
 
 -- the options of `serve`
 abbrev pub serve_options : List Rule
-serve_options = limit_options ++
-    number_option (codes "clients") 1 65536 (codes "1000") ∷
-    address_word ∷ []
+serve_options = listening_options (address_word (codes "address") ∷ [])
+
+-- the options of `tap`
+abbrev pub tap_options : List Rule
+tap_options = listening_options (address_word (codes "listen") ∷ address_word (codes "server") ∷ [])
 
 -- ---- tasks
 
@@ -87,12 +93,14 @@ bare_app = on_top (λ top. record top { has_version = true; subcommand_required 
 
 -- the whole program, where this is what `--proto` takes
 abbrev pub resp_app : ValueParser → App
-resp_app versions = with_subcommand (with_subcommand (with_subcommand (with_subcommand (with_subcommand bare_app
+resp_app versions = with_subcommand (with_subcommand (with_subcommand (with_subcommand (with_subcommand
+    (with_subcommand bare_app
     (task_shape (codes "show") (stream_options versions)))
     (task_shape (codes "check") (stream_options versions)))
     (task_shape (codes "canon") (stream_options versions)))
     (task_shape (codes "loop") (flag_option (codes "explain") ∷ [])))
-    (task_shape (codes "serve") serve_options)
+    (task_shape (codes "serve") serve_options))
+    (task_shape (codes "tap") tap_options)
 
 -- it takes 2 and 3, and nothing else
 pub record TakesVersions (versions : ValueParser) : Type 0 where

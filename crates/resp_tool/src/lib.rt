@@ -21,6 +21,7 @@ mod short_line;
 pub mod show;
 mod starts;
 mod stream;
+pub mod tapping;
 pub mod text;
 pub mod tool_error;
 pub mod watched;

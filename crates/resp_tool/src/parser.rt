@@ -4,7 +4,7 @@ ghost use Rattle.std.specs.Prelude.{◌≡◌, false, [], ◌∷◌, IfErr, IfOk
 ghost use Rattle.clap.specs.Words.{App, app_of, kind_of, new_app, rule_of};
 ghost use Rattle.clap.specs.declared.builder.value_parser.ValueParser.TheVariants as vp;
 ghost use Rattle.resp_tool.specs.CommandWords.{FindsWords};
-ghost use Rattle.resp_tool.specs.Program.{GainsOptions, IsProgram, IsTask, address_word, bare_app, file_word, flag_option, limit_options, numbers_between, resp_app, serve_options, stream_options, value_option, with_options};
+ghost use Rattle.resp_tool.specs.Program.{GainsOptions, IsProgram, IsTask, address_word, bare_app, file_word, flag_option, limit_options, numbers_between, resp_app, serve_options, stream_options, tap_options, value_option, with_options};
 
 use crate::options::STANDARD_INPUT;
 use clap::error::ErrorKind;
@@ -25,8 +25,8 @@ const STREAM_STATUSES: &str = "Statuses:
   2  The words of the command line are wrong
   3  A file can't be opened, the input can't be read, the output can't be written, or memory is out";
 
-/// What the help of `serve` says of its statuses.
-const SERVE_STATUSES: &str = "Statuses:
+/// What the help of `serve` and of `tap` says of their statuses.
+const LISTENING_STATUSES: &str = "Statuses:
   2  The words of the command line are wrong
   3  The address can't be opened, or memory is out";
 
@@ -147,7 +147,8 @@ fn program<'a>(alloc: Global, versions: &'a [&'a str]) -> Result<Command<'a>, cl
             .subcommand(stream_task(alloc, "check", check, versions)?)?
             .subcommand(stream_task(alloc, "canon", canon, versions)?)?
             .subcommand(loop_task(alloc)?)?
-            .subcommand(serve_task(alloc)?)?,
+            .subcommand(serve_task(alloc)?)?
+            .subcommand(tap_task(alloc)?)?,
     )
 }
 
@@ -220,19 +221,66 @@ fn with_serve_options<'a>(alloc: Global, command: Command<'a>) -> Result<Command
     Ok(
         with_limits(alloc, command)?
             .arg(CLIENTS.option(alloc))?
-            .arg(address(alloc))?
-            .after_help(SERVE_STATUSES),
+            .arg(address(
+                alloc,
+                "address",
+                "ADDRESS",
+                "The address to listen on, as 127.0.0.1:6380",
+            ))?
+            .after_help(LISTENING_STATUSES),
     )
 }
 
-/// The address to serve on.
-fn address<'a>(alloc: Global) -> Arg<'a>
-    ensures rule { rule_of result ≡ address_word }
+/// The subcommand `tap`.
+fn tap_task<'a>(alloc: Global) -> Result<Command<'a>, clap::Error>
+    ensures reads { IfOk result (λ command. IsTask command
+        (with_options (new_app (codes "tap")) tap_options)) }
+    ensures memory { IfErr result (λ error. kind_of error ≡ ErrorKind.OutOfMemory) }
+{
+    let about = "Stands between clients and a server, and prints what they send";
+    let tap = bare_task(alloc, "tap", about);
+    with_tap_options(alloc, tap)
+}
+
+/// A subcommand with the options of `tap`.
+fn with_tap_options<'a>(alloc: Global, command: Command<'a>) -> Result<Command<'a>, clap::Error>
+    ensures gains { IfOk result (GainsOptions command.entry tap_options) }
+    ensures memory { IfErr result (λ error. kind_of error ≡ ErrorKind.OutOfMemory) }
+{
+    let listen = address(
+        alloc,
+        "listen",
+        "LISTEN",
+        "The address to listen on, as 127.0.0.1:6380",
+    );
+    let server = address(
+        alloc,
+        "server",
+        "SERVER",
+        "The address of the server, as 127.0.0.1:6379",
+    );
+    Ok(
+        with_limits(alloc, command)?
+            .arg(CLIENTS.option(alloc))?
+            .arg(listen)?
+            .arg(server)?
+            .after_help(LISTENING_STATUSES),
+    )
+}
+
+/// An address, which has to be given.
+fn address<'a>(
+    alloc: Global,
+    name: &'a str,
+    value_name: &'static str,
+    help: &'static str,
+) -> Arg<'a>
+    ensures rule { rule_of result ≡ address_word name.entry.now }
     ensures here { result.global ≡ false }
 {
-    Arg::new(alloc, "address")
-        .value_name("ADDRESS")
-        .help("The address to listen on, as 127.0.0.1:6380")
+    Arg::new(alloc, name)
+        .value_name(value_name)
+        .help(help)
         .required(true)
 }
 

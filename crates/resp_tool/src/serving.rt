@@ -77,7 +77,7 @@ pub fn read_serving<'a, S: AsStr, W: Sink, F: Sink>(
             Err(BAD_ARGUMENTS)
         }
         Err(NoServing::BadAddress(address)) => {
-            let _ = write_bad_address(address, faults);
+            let _ = write_bad_address(address, "ADDRESS", faults);
             Err(BAD_ARGUMENTS)
         }
     }
@@ -134,13 +134,19 @@ fn words_of<'a>(matches: &ArgMatches<'a>) -> Option<Words<'a>>
     })
 }
 
-/// Says what is wrong with an address.
-fn write_bad_address<F: Sink>(address: &str, faults: &mut F) -> Result<(), WriteFault> {
+/// Says what is wrong with an address, which the word of this name is to be.
+pub(crate) fn write_bad_address<F: Sink>(
+    address: &str,
+    name: &str,
+    faults: &mut F,
+) -> Result<(), WriteFault> {
     write_text(faults, b"error: invalid value '")?;
     write_text(faults, address.as_bytes())?;
+    write_text(faults, b"' for '<")?;
+    write_text(faults, name.as_bytes())?;
     write_text(
         faults,
-        b"' for '<ADDRESS>': an IP address and a port are wanted, as 127.0.0.1:6380\n\n",
+        b">': an IP address and a port are wanted, as 127.0.0.1:6380\n\n",
     )?;
     write_text(faults, b"For more information, try '--help'.\n")
 }

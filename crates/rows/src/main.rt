@@ -1,5 +1,6 @@
-//! Reads conversations as rows from the files `scan`, `decode`, `client`, `server` and `wire`, runs
-//! each at every cut of what is heard, and prints where what was said is not what is wanted.
+//! Reads conversations as rows from the files `scan`, `decode`, `client`, `server`, `wire`
+//! and `tap`, runs each at every cut of what is heard, and prints where what was said is not what is
+//! wanted.
 //!
 //! Conversations are separated by empty lines. The first line of one is its title, `# what it
 //! shows`; further lines with `#` are comments. A row is the name of a call and, after a space,
@@ -20,6 +21,7 @@ mod scan;
 mod server;
 mod spelling;
 mod subject;
+mod tap;
 mod text;
 mod wire;
 
@@ -29,6 +31,7 @@ use decode::Reader;
 use player::play;
 use scan::Scanners;
 use server::Serving;
+use tap::Tapping;
 use wire::Talk;
 
 fn main(rt: HostRuntime) -> Result<()> {
@@ -36,5 +39,6 @@ fn main(rt: HostRuntime) -> Result<()> {
     play::<Reader>(&rt, "decode")?;
     play::<Talker>(&rt, "client")?;
     play::<Serving>(&rt, "server")?;
-    play::<Talk>(&rt, "wire")
+    play::<Talk>(&rt, "wire")?;
+    play::<Tapping>(&rt, "tap")
 }

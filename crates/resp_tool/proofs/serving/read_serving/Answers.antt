@@ -15,12 +15,12 @@ returns-in-Ok-asked_serving-clause-asked g c =
 pub returns-in-Err-OtherWords-clause-asked : goal.returns-in-Err-OtherWords-clause-asked
 returns-in-Err-OtherWords-clause-asked g c =
     let finds = c.matches_of.ensures.finds in
-    (finds.0, finds.1, asked_for_other finds.0 (map g.S.AsStr.text c.args.words.now) _ _ finds.2 c.in-Ok.is c.in-Err-OtherWords.ensures.err)
+    (finds.0, finds.1, asked_for_other EntersServe finds.0 (map g.S.AsStr.text c.args.words.now) _ _ finds.2 c.in-Ok.is c.in-Err-OtherWords.ensures.err)
 
 pub returns-clause-asked : goal.returns-clause-asked
 returns-clause-asked g c =
     let finds = c.matches_of.ensures.finds in
-    (finds.0, finds.1, asked_for_other finds.0 (map g.S.AsStr.text c.args.words.now) _ _ finds.2 c.in-Ok.is c.in-Err-BadAddress.ensures.err)
+    (finds.0, finds.1, asked_for_other EntersServe finds.0 (map g.S.AsStr.text c.args.words.now) _ _ finds.2 c.in-Ok.is c.in-Err-BadAddress.ensures.err)
 
 pub returns-in-Err-clause-asked : goal.returns-in-Err-clause-asked
 returns-in-Err-clause-asked g c =

@@ -1,9 +1,7 @@
-use Rattle.std.proofs.Common.{rules, arith, ◌≡◌, ℕ, ◌+◌, ap, sym, refl, subst, ◌∙◌}
-use Rattle.resp_client.specs.Clients.{ClientState, state_of}
-use Rattle.resp_client.specs.Hearing.{HasTaken, Refuses}
-use Rattle.resp_tap.specs.SeenOf.{heard_as}
+use Rattle.std.proofs.Common.{rules, ◌≡◌, ◌+◌, ap, sym, refl, subst, ◌∙◌}
+use Rattle.resp_client.specs.Clients.{ClientState}
 use Rattle.resp_tap.specs.Taps.{TapState, tap_state, with_refusal}
-use Rattle.resp_tap.specs.Watching.{SeesValue, place_by}
+use Rattle.resp_tap.specs.Watching.{SeesValue}
 use Rattle.resp_tap.specs.declared.seen.Place.TheVariants as place
 use Rattle.resp_tap.specs.declared.seen.Step.{Step}
 use Rattle.resp_tap.proofs.Pairings.{while_paired}

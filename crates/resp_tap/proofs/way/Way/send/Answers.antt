@@ -1,6 +1,6 @@
-use Rattle.std.proofs.Common.{rules, ◌≡◌, ◌+◌, ◌++◌, take, drop, ap, sym, subst, ◌∙◌}
+use Rattle.std.proofs.Common.{rules, ◌≡◌, ◌++◌, take, drop, ap, sym, ◌∙◌}
 use Rattle.std.proofs.lemmas.List.{drop-drop, take-append-drop}
-use Rattle.resp_tap.specs.Ways.{Sends, WayState}
+use Rattle.resp_tap.specs.Ways.{WayState}
 use Rattle.resp_tap.proofs.way.Way.send.Goals as goal
 
 pub returns-clause-sent : goal.returns-clause-sent

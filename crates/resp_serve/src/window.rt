@@ -1,0 +1,258 @@
+//! The window: its listener, its connections, and the loop that hands on what they send.
+
+use crate::connection::{Next, refuse};
+use crate::server::{ACCEPTED, Backlog, EVENTS, PAUSE, TOO_MANY};
+use crate::tapped::Tapped;
+use crate::terminal::Terminal;
+use mio::net::{TcpListener, TcpStream};
+use mio::{Events, Interest, Poll, Token};
+use resp_tap::screen::Screen;
+use resp_tool::live::LiveSink;
+use resp_tool::text::write_number;
+use resp_value::limits::Limits;
+use slab::Slab;
+use std::alloc::Global;
+use std::io::ErrorKind;
+use std::net::{Net, SocketAddr};
+use std::time::Duration;
+use std::{io, mem};
+
+/// The token of the listener. Those of the connection in a place are twice the place and 1 or 2.
+const LISTENER: usize = 0;
+
+/// How many bytes of text are held at most until they are shown.
+const SCREEN: usize = 1_048_576;
+
+/// How many bytes are shown by one write.
+const SHOWN: usize = 4_096;
+
+/// How many writes are made before connections have their turn.
+const WRITES: usize = 64;
+
+/// How long it is until text that waits is tried to be shown again, in milliseconds.
+const PATIENCE: u64 = 5;
+
+/// Stands between clients and a server: each client that connects has a connection to the server of
+/// its own, and what either side sends is handed on unchanged. What is seen of it is printed.
+///
+/// Of a side nothing is read while what it sent waits to be handed on. A connection that has much to
+/// do is visited in turn with the others. Text is shown as far as standard output takes it at once,
+/// and what doesn't fit into 1,048,576 bytes is left out and counted.
+#[derive(Drop)]
+pub struct Window {
+    alloc: Global,
+    poll: Poll,
+    listener: TcpListener,
+    backlog: Backlog,
+    server: SocketAddr,
+    limits: Limits,
+    connections: Slab<Tapped>,
+    /// The most connections.
+    most: usize,
+    /// How many connections there were.
+    count: u64,
+    /// The places of those that are visited again without waiting for their sockets.
+    queue: Vec<usize>,
+    screen: Screen,
+    terminal: Terminal,
+}
+
+impl Window {
+    /// Listens on an address for `most` clients at once of the server at another, whose connections
+    /// are read within these limits.
+    pub fn listen(
+        net: &impl Net,
+        alloc: Global,
+        address: SocketAddr,
+        server: SocketAddr,
+        limits: Limits,
+        most: usize,
+    ) -> io::Result<Self> {
+        let poll = Poll::new(net)?;
+        let mut listener = TcpListener::bind(net, address)?;
+        poll.registry()
+            .register(&mut listener, Token(LISTENER), Interest::READABLE)?;
+        Ok(Window {
+            alloc,
+            poll,
+            listener,
+            backlog: Backlog::Empty,
+            server,
+            limits,
+            connections: Slab::new(alloc),
+            most,
+            count: 0,
+            queue: Vec::new(alloc),
+            screen: Screen::new(alloc, SCREEN),
+            terminal: Terminal::new(net, alloc)?,
+        })
+    }
+
+    /// The address that it listens on.
+    pub fn address(&self) -> io::Result<SocketAddr> {
+        self.listener.local_addr()
+    }
+
+    /// Hands on what all that connect and their server send, and shows what is seen, until a wait
+    /// or a write of what is shown fails.
+    pub fn run<W: LiveSink>(&mut self, net: &impl Net, out: &mut W) -> io::Result<()> {
+        let Ok(mut events) = Events::with_capacity(self.alloc, EVENTS) else {
+            return Err(ErrorKind::OutOfMemory.into());
+        };
+        if out.flush().is_err() {
+            return Err(ErrorKind::WriteZero.into());
+        }
+        for _ in 0..u64::MAX {
+            self.turn(net, &mut events)?;
+            self.show(out)?;
+        }
+        Ok(())
+    }
+
+    /// Waits until something is ready, and visits it.
+    fn turn(&mut self, net: &impl Net, events: &mut Events) -> io::Result<()> {
+        let timeout = self.timeout();
+        self.poll.poll(events, timeout)?;
+        let queue = mem::replace(&mut self.queue, Vec::new(self.alloc));
+        for event in events.iter() {
+            match event.token() {
+                Token(LISTENER) => self.backlog = Backlog::Waiting,
+                Token(token) => self.visit_ready((token - 1) / 2, event.is_read_closed()),
+            }
+        }
+        for place in queue {
+            self.visit_queued(place);
+        }
+        if self.backlog != Backlog::Empty {
+            self.accept_some(net);
+        }
+        Ok(())
+    }
+
+    /// How long is waited at most.
+    fn timeout(&self) -> Option<Duration> {
+        if !self.queue.is_empty() || self.backlog == Backlog::Waiting {
+            return Some(Duration::from_millis(0));
+        }
+        if !self.screen.text().is_empty() || self.screen.unshown() > 0 {
+            return Some(Duration::from_millis(PATIENCE));
+        }
+        match self.backlog {
+            Backlog::Failing => Some(Duration::from_millis(PAUSE)),
+            _ => None,
+        }
+    }
+
+    /// Shows what is held, as far as standard output takes it at once.
+    fn show<W: LiveSink>(&mut self, out: &mut W) -> io::Result<()> {
+        for _ in 0..WRITES {
+            self.screen.say_what_is_left_out();
+            let text = self.screen.text();
+            if text.is_empty() || !self.terminal.is_ready() {
+                return Ok(());
+            }
+            let part = &text[..SHOWN.min(text.len())];
+            match out.write(part) {
+                Ok(0) | Err(_) => return Err(ErrorKind::WriteZero.into()),
+                Ok(count) => self.screen.shown(count),
+            }
+            if out.flush().is_err() {
+                return Err(ErrorKind::WriteZero.into());
+            }
+        }
+        Ok(())
+    }
+
+    /// Accepts connections that wait.
+    fn accept_some(&mut self, net: &impl Net) {
+        for _ in 0..ACCEPTED {
+            match self.listener.accept() {
+                Ok((stream, _)) => self.admit(net, stream),
+                Err(error) => {
+                    self.backlog = match error.kind() {
+                        ErrorKind::WouldBlock => Backlog::Empty,
+                        _ => Backlog::Failing,
+                    };
+                    return;
+                }
+            }
+        }
+        self.backlog = Backlog::Waiting;
+    }
+
+    /// Takes a connection, or refuses it where there are as many as may be.
+    fn admit(&mut self, net: &impl Net, client: TcpStream) {
+        if self.connections.len() >= self.most {
+            refuse(&client, TOO_MANY);
+            return;
+        }
+        self.count = self.count.saturating_add(1);
+        let number = self.count;
+        // Without memory for it, or without a socket that works, it is closed.
+        if self.place(net, client, number).is_err() {
+            let _ = write_number(&mut self.screen, b"client ", number, b" not connected\n");
+        }
+    }
+
+    /// Gives a connection and one to the server a place.
+    fn place(&mut self, net: &impl Net, client: TcpStream, number: u64) -> io::Result<()> {
+        let mut client = client;
+        let mut server = TcpStream::connect(net, self.server)?;
+        client.set_nodelay(true)?;
+        server.set_nodelay(true)?;
+        let first = self.connections.vacant_key().saturating_mul(2);
+        let both = Interest::READABLE | Interest::WRITABLE;
+        let registry = self.poll.registry();
+        registry.register(&mut client, Token(first.saturating_add(1)), both)?;
+        registry.register(&mut server, Token(first.saturating_add(2)), both)?;
+        let Ok(tapped) = Tapped::new(self.alloc, client, server, &self.limits, number) else {
+            return Err(ErrorKind::OutOfMemory.into());
+        };
+        match self.connections.insert(tapped) {
+            Ok(_) => Ok(()),
+            Err(_) => Err(ErrorKind::OutOfMemory.into()),
+        }
+    }
+
+    /// Visits the connection in a place, of which a socket is ready. One that is queued has its turn
+    /// there.
+    fn visit_ready(&mut self, place: usize, is_at_end: bool) {
+        if let Some(tapped) = self.connections.get(place) {
+            if !tapped.is_queued {
+                self.visit(place, is_at_end);
+            }
+        }
+    }
+
+    /// Visits the connection in a place, which was queued.
+    fn visit_queued(&mut self, place: usize) {
+        if let Some(tapped) = self.connections.get_mut(place) {
+            tapped.is_queued = false;
+            // The event that would have told of the end may have passed.
+            self.visit(place, true);
+        }
+    }
+
+    /// Visits the connection in a place, if one is there.
+    fn visit(&mut self, place: usize, is_at_end: bool) {
+        let Some(tapped) = self.connections.get_mut(place) else {
+            return;
+        };
+        match tapped.hand_on(is_at_end, &mut self.screen) {
+            Next::Wait => {}
+            Next::Again if self.queue.push(place).is_ok() => tapped.is_queued = true,
+            Next::Again | Next::Close => self.close(place),
+        }
+    }
+
+    /// Closes the connection in a place. The place is used again.
+    fn close(&mut self, place: usize) {
+        if let Some(tapped) = self.connections.try_remove(place) {
+            let _ = write_number(&mut self.screen, b"client ", tapped.number, b" gone\n");
+        }
+        // Where no connection could be accepted, one may be now.
+        if self.backlog == Backlog::Failing {
+            self.backlog = Backlog::Waiting;
+        }
+    }
+}

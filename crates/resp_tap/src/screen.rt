@@ -1,0 +1,168 @@
+//! What is printed, held until the terminal takes it.
+
+ghost use Rattle.std.specs.Prelude.{◌≡◌, ◌≤◌, length, None, IfOk};
+ghost use Rattle.resp_value.specs.Devices.{Writes, count_after, failures_after, write_fails};
+
+use bytes::BytesMut;
+use resp_tool::text::write_number;
+use resp_value::device::{DeviceFault, MemorySink, Sink};
+use std::alloc::Global;
+use std::marker::Model;
+
+/// How much room there has to be before it is said how many bytes weren't shown.
+const ROOM: usize = 64;
+
+/// Holds what is printed, up to a number of bytes, until it is shown. What comes while it is full
+/// is left out and counted; once there is room it is said how many bytes weren't shown.
+///
+/// A write to it always goes well: nothing that is printed keeps back what is handed on.
+#[derive(Drop)]
+pub struct Screen {
+    alloc: Global,
+    text: BytesMut,
+    most: usize,
+    unshown: u64,
+    calls: u64,
+    failures: u64,
+}
+
+impl Model for Screen {
+    ghost use Rattle.resp_tap.specs.Screens.{ScreenState};
+
+    ghost Value = { ScreenState };
+
+    ghost view = { λ s. record {
+      held = s.text.items;
+      most = s.most;
+      unshown = s.unshown;
+      calls = s.calls;
+      failures = s.failures;
+    } };
+}
+
+impl Screen {
+    ghost use Rattle.std.specs.Prelude.{◌⊎◌, drop, IfSome};
+    ghost use Rattle.resp_tap.specs.Screens.{IsLead, IsLeftOutLine, KeepsOrCounts, SaysWhatIsLeftOut, new_screen};
+
+    /// An empty screen for `most` bytes at once. Takes no memory.
+    pub fn new(alloc: Global, most: usize) -> Screen
+        ensures { result ≡ new_screen most }
+    {
+        Screen {
+            alloc,
+            text: BytesMut::new(alloc),
+            most,
+            unshown: 0,
+            calls: 0,
+            failures: 0,
+        }
+    }
+
+    /// What is held.
+    pub fn text(&self) -> &[u8]
+        ensures { result.now ≡ self.now.held }
+    {
+        self.text.as_slice()
+    }
+
+    /// How many bytes were left out since the last time that this was said.
+    pub fn unshown(&self) -> u64
+        ensures { result ≡ self.now.unshown }
+    {
+        self.unshown
+    }
+
+    /// Drops `count` bytes, no more than are held, from the front: those that were shown.
+    pub fn shown(&mut self, count: usize)
+        requires { count ≤ length self.old.held }
+        ensures { self.new ≡ record self.old { held = drop count self.old.held } }
+    {
+        self.text.advance(count);
+    }
+
+    /// Keeps a text, or as much of it as there is room for, and counts the rest. After a byte that
+    /// was left out nothing is kept until that is said.
+    fn keep(&mut self, text: &[u8])
+        ensures kept { KeepsOrCounts self.old self.new text.now }
+        ensures same_calls { self.new.calls ≡ self.old.calls }
+        ensures same_failures { self.new.failures ≡ self.old.failures }
+    {
+        let room = if self.unshown == 0 {
+            self.most.saturating_sub(self.text.len())
+        } else {
+            0
+        };
+        let part = &text[..room.min(text.len())];
+        let kept = match self.text.extend_from_slice(part) {
+            Ok(()) => part.len(),
+            Err(_) => 0,
+        };
+        self.unshown = self.unshown.saturating_add((text.len() - kept) as u64);
+    }
+
+    /// Says how many bytes were left out, on a line of its own, where some were and there is room
+    /// for that again. It is called between two texts.
+    pub fn say_what_is_left_out(&mut self)
+        ensures { (self.new ≡ self.old) ⊎ SaysWhatIsLeftOut self.old self.new }
+    {
+        let room = self.most.saturating_sub(self.text.len());
+        if self.unshown == 0 || room < ROOM {
+            return;
+        }
+        if let Some(line) = self.left_out_line() {
+            self.unshown = 0;
+            self.keep(line.bytes());
+        }
+    }
+
+    /// What ends a line that was cut.
+    fn lead(&self) -> &'static [u8]
+        ensures { IsLead result.now }
+    {
+        match self.text.as_slice().last() {
+            Some(b'\n') | None => b"",
+            Some(_) => b"\n",
+        }
+    }
+
+    /// The line that says how many bytes were left out, after an LF where a line was cut; none when
+    /// out of memory.
+    fn left_out_line(&self) -> Option<MemorySink>
+        ensures { IfSome result (λ line. IsLeftOutLine self.now.unshown line.held) }
+    {
+        let Ok(mut line) = MemorySink::new(self.alloc, ROOM, ROOM) else {
+            return None;
+        };
+        match write_number(&mut line, self.lead(), self.unshown, b" bytes not shown\n") {
+            Ok(()) => Some(line),
+            Err(_) => None,
+        }
+    }
+}
+
+impl Sink for Screen {
+    ghost use Rattle.resp_tap.specs.Screens.{KeepsOrCounts};
+
+    ghost written = { λ _. None };
+
+    ghost calls = { λ s. s.calls };
+
+    ghost failures = { λ s. s.failures };
+
+    fn write(&mut self, from: &[u8]) -> Result<usize, DeviceFault>
+        ensures within { IfOk result (λ n. n ≤ length from.now) }
+        ensures bytes { Writes None None from.now result }
+        ensures calls { self.new.calls ≡ count_after 1 self.old.calls }
+        ensures failures { self.new.failures ≡
+            failures_after (write_fails result) self.old.failures }
+        ensures all { IfOk result (λ n. n ≡ length from.now) }
+        ensures kept { KeepsOrCounts self.old self.new from.now }
+    {
+        self.calls = self.calls.saturating_add(1);
+        if from.is_empty() {
+            self.failures = self.failures.saturating_add(1);
+        }
+        self.keep(from);
+        Ok(from.len())
+    }
+}
