@@ -11,7 +11,6 @@ use crate::server::{Kind, command as text_of, new_hub};
 use crate::{has, nanos};
 use anyhow::Result;
 use bytes::BytesMut;
-use futures::stream::ReadyChunks;
 use futures::{FutureExt, StreamExt};
 use resp_client::client::Client;
 use resp_codec::{CommandCodec, RespCodec};
@@ -36,11 +35,6 @@ const ITEMS: usize = 100;
 /// A reply, a bulk string of 16 bytes.
 const REPLY: &[u8] = b"$16\r\nxxxxxxxxxxxxxxxx\r\n";
 
-/// Appends what is written for a number of items to a buffer, which is emptied once it is full.
-trait Answers {
-    fn answer(&mut self, alloc: Global, count: usize, out: &mut BytesMut) -> Result<()>;
-}
-
 /// `count` times this text.
 fn repeated(alloc: Global, text: &[u8], count: usize) -> Result<Vec<u8>> {
     let mut all = Vec::new(alloc);
@@ -57,64 +51,77 @@ fn get(alloc: Global) -> Result<Value, AllocError> {
     Ok(Value::Array(Members::new(vec![in alloc; name, key]?)))
 }
 
-/// A server that answers null.
-#[derive(Drop)]
-struct Nulls {
-    codec: CommandCodec,
-}
-
-impl Answers for Nulls {
-    fn answer(&mut self, _alloc: Global, count: usize, out: &mut BytesMut) -> Result<()> {
-        for _ in 0..count {
-            self.codec.encode(Value::Null, out)?;
-        }
-        Ok(())
-    }
-}
-
-/// A client that sends GETs.
-#[derive(Drop)]
-struct Gets {
-    codec: RespCodec,
-}
-
-impl Answers for Gets {
-    fn answer(&mut self, alloc: Global, count: usize, out: &mut BytesMut) -> Result<()> {
-        for _ in 0..count {
-            self.codec.encode(get(alloc)?, out)?;
-        }
-        Ok(())
-    }
-}
-
-/// Takes all items that a framed stream reads of a text, and answers each. How many there were, and
-/// how many bytes were written.
-fn converse<D: Decoder + Drop, A: Answers>(
-    rt: &HostRuntime,
-    mut items: ReadyChunks<FramedRead<&[u8], D>, Result<D::Item, D::Error>>,
-    answers: &mut A,
-) -> Result<(usize, usize)>
-where
-    D::Item: Drop,
-    D::Error: Drop,
-{
-    let mut out = BytesMut::new(rt.alloc());
-    let mut count: usize = 0;
-    let mut written: usize = 0;
+/// Reads all commands of a text by a framed stream, and encodes null for each. How many there were,
+/// and how many bytes were written.
+fn answer_all(rt: &HostRuntime, text: &[u8]) -> Result<(usize, usize)> {
+    let alloc = rt.alloc();
+    let codec = CommandCodec::new(alloc, &Limits::standard());
+    let commands = FramedRead::with_capacity(alloc, text, codec, PIECE)?;
+    let mut commands = commands.ready_chunks(alloc, ITEMS);
+    let mut replies = Written::new(alloc);
+    let mut codec = CommandCodec::new(alloc, &Limits::standard());
     for _ in 0..u64::MAX {
-        match items.next().now_or_never(rt)? {
+        match commands.next().now_or_never(rt)? {
             Some(Some(chunk)) => {
-                let items = chunk?.len();
-                count = count.saturating_add(items);
-                answers.answer(rt.alloc(), items, &mut out)?;
+                for _ in chunk? {
+                    codec.encode(Value::Null, &mut replies.out)?;
+                    replies.add();
+                }
             }
             Some(None) => break,
             None => {}
         }
-        written = written.saturating_add(out.len());
-        out.clear();
     }
-    Ok((count, written))
+    Ok((replies.items, replies.bytes))
+}
+
+/// Reads all replies of a text by a framed stream, and encodes a GET for each. How many there were,
+/// and how many bytes were written.
+fn hear_all(rt: &HostRuntime, text: &[u8]) -> Result<(usize, usize)> {
+    let alloc = rt.alloc();
+    let codec = RespCodec::new(alloc, Version::Two, &Limits::standard());
+    let replies = FramedRead::with_capacity(alloc, text, codec, PIECE)?;
+    let mut replies = replies.ready_chunks(alloc, ITEMS);
+    let mut commands = Written::new(alloc);
+    let mut codec = RespCodec::new(alloc, Version::Two, &Limits::standard());
+    for _ in 0..u64::MAX {
+        match replies.next().now_or_never(rt)? {
+            Some(Some(chunk)) => {
+                for _ in chunk? {
+                    codec.encode(get(alloc)?, &mut commands.out)?;
+                    commands.add();
+                }
+            }
+            Some(None) => break,
+            None => {}
+        }
+    }
+    Ok((commands.items, commands.bytes))
+}
+
+/// What was encoded: a buffer that is emptied after each item, and what is counted.
+#[derive(Drop)]
+struct Written {
+    out: BytesMut,
+    items: usize,
+    bytes: usize,
+}
+
+impl Written {
+    fn new(alloc: Global) -> Written {
+        Written {
+            out: BytesMut::new(alloc),
+            items: 0,
+            bytes: 0,
+        }
+    }
+
+    /// Counts an item, whose frame is in the buffer.
+    fn add(&mut self) {
+        self.items = self.items.saturating_add(1);
+        self.bytes = self.bytes.saturating_add(self.out.len());
+        self.out.clear();
+    }
 }
 
 /// A line of what was counted, with the nanoseconds of one where it is timed.
@@ -139,13 +146,8 @@ fn bench_servers(rt: &HostRuntime, timed: bool, count: usize) -> Result<()> {
     let alloc = rt.alloc();
     let one = text_of(alloc, Kind::Get, 1)?;
     let text = repeated(alloc, one.as_bytes(), count)?;
-    let mut nulls = Nulls {
-        codec: CommandCodec::new(alloc, &Limits::standard()),
-    };
     let start = nanos(rt)?;
-    let codec = CommandCodec::new(alloc, &Limits::standard());
-    let read = FramedRead::with_capacity(alloc, text.as_slice(), codec, PIECE)?;
-    let counted = converse(rt, read.ready_chunks(alloc, ITEMS), &mut nulls)?;
+    let counted = answer_all(rt, text.as_slice())?;
     let taken = nanos(rt)?.saturating_sub(start);
     print_line(rt, timed, "commands by a framed stream", counted, taken)?;
     let mut hub = new_hub(alloc);
@@ -203,15 +205,9 @@ fn ask_all(
 /// A client's end: a framed stream of replies, and `ask`.
 fn bench_clients(rt: &HostRuntime, timed: bool, count: usize) -> Result<()> {
     let alloc = rt.alloc();
-    let limits = Limits::standard();
     let text = repeated(alloc, REPLY, count)?;
-    let mut gets = Gets {
-        codec: RespCodec::new(alloc, Version::Two, &limits),
-    };
     let start = nanos(rt)?;
-    let codec = RespCodec::new(alloc, Version::Two, &limits);
-    let read = FramedRead::with_capacity(alloc, text.as_slice(), codec, PIECE)?;
-    let counted = converse(rt, read.ready_chunks(alloc, ITEMS), &mut gets)?;
+    let counted = hear_all(rt, text.as_slice())?;
     let taken = nanos(rt)?.saturating_sub(start);
     print_line(rt, timed, "replies by a framed stream", counted, taken)?;
     let requests = pipeline(alloc)?;
