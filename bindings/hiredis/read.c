@@ -558,6 +558,7 @@ int redisReaderFeed(redisReader *base, const char *more, size_t length) {
 
 int redisReaderGetReply(redisReader *base, void **reply) {
     struct reader *reader = (struct reader *)base;
+    reader->frames->task.privdata = base->privdata;
     if (base->err || !read_reply(reader)) {
         if (reply)
             *reply = NULL;
