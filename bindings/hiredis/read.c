@@ -355,20 +355,13 @@ static APART void pass(struct reader *reader, const struct resp_event *event) {
     }
 }
 
-/* Takes another event than a whole text, an integer and the end, whose bytes begin at `at`. */
+/* Takes another event than a whole text, an integer, a close and the end, whose bytes begin at `at`. */
 static APART bool take(struct reader *reader, const struct resp_event *event, size_t at) {
     if (reader->unread) {
         pass(reader, event);
         return true;
     }
-    if (event->kind == RESP_OPEN)
-        return open(reader, event);
-    if (event->kind != RESP_CLOSE)
-        return take_seldom(reader, event, at);
-    reader->frame--;
-    reader->frame->task.elements = -1;
-    end(reader);
-    return true;
+    return event->kind == RESP_OPEN ? open(reader, event) : take_seldom(reader, event, at);
 }
 
 /* What is said of a byte that no reply goes on with, by the first byte of its line; NULL in a text. */
@@ -474,6 +467,10 @@ static inline bool read_reply(struct reader *reader) {
             if (!add_integer(reader, event->number))
                 return false;
             end(reader);
+        } else if (kind == RESP_CLOSE && !reader->unread) {
+            reader->frame--;
+            reader->frame->task.elements = -1;
+            end(reader);
         } else if (kind == RESP_MORE) {
             base->pos = at;
             if (!scan(reader))
@@ -558,6 +555,7 @@ int redisReaderFeed(redisReader *base, const char *more, size_t length) {
 
 int redisReaderGetReply(redisReader *base, void **reply) {
     struct reader *reader = (struct reader *)base;
+    reader->frames->task.privdata = base->privdata;
     if (base->err || !read_reply(reader)) {
         if (reply)
             *reply = NULL;

@@ -22,6 +22,10 @@ static int held;
 static void *made(const redisReadTask *task, const char *text) {
     struct object *object = calloc(1, sizeof *object), *parent = task->parent ? task->parent->obj : NULL;
     held += !task->parent;
+    if (task->privdata != &held) {
+        failed++;
+        printf("%s: other private data\n", text);
+    }
     snprintf(object->text, sizeof object->text, "%s ", text);
     if (!parent)
         return object;
@@ -89,6 +93,12 @@ static redisReplyObjectFunctions functions = {
     .createBool = on_bool,
 #endif
 };
+
+static redisReader *new_reader(void) {
+    redisReader *reader = redisReaderCreateWithFunctions(&functions);
+    reader->privdata = &held;
+    return reader;
+}
 
 /* A text, and its replies: each begins with the number of its type, and `.` stands after each at the top. `!` and the
  * error's text stand for a refusal. */
@@ -190,7 +200,7 @@ static void hear(redisReader *reader, char *said, size_t room) {
 static void check(const struct row *row, size_t first, bool by_bytes) {
     size_t length = strlen(row->text);
     char said[500] = "";
-    redisReader *reader = redisReaderCreateWithFunctions(&functions);
+    redisReader *reader = new_reader();
     if (by_bytes) {
         for (size_t at = 0; at < length; at++) {
             redisReaderFeed(reader, row->text + at, 1);
@@ -233,7 +243,7 @@ static void read_late(size_t size) {
     for (size_t at = 0; at + 1 < LENGTH; at += sizeof unit - 1)
         memcpy(text + at, unit, sizeof unit);
     text[LENGTH - 1] = '@';
-    redisReader *reader = redisReaderCreateWithFunctions(&functions);
+    redisReader *reader = new_reader();
     void *reply = NULL;
     unsigned count = 0;
     for (size_t at = 0; at < LENGTH; at += size) {
@@ -253,7 +263,7 @@ static void read_late(size_t size) {
 
 /* Reads arrays in one another, which end all at one byte, and then a reply more. */
 static void read_deep(void) {
-    redisReader *reader = redisReaderCreateWithFunctions(&functions);
+    redisReader *reader = new_reader();
     void *reply = NULL;
     for (int depth = 0; depth < 128; depth++)
         redisReaderFeed(reader, "*1\r\n", 4);
