@@ -14,7 +14,7 @@ use Rattle.resp_value.specs.Rules.{rules_under}
 use Rattle.resp_value.specs.declared.version.Version.{Version}
 use Rattle.resp_value.specs.declared.version.Version.TheVariants.{Two, Three}
 use Rattle.resp_value.proofs.FirstBytes.{all_front}
-use Rattle.resp_tool.specs.CanonicalFronts.{BeginsWithLine, IsBulkWithin, IsCanonicalWithin, IsInteger, IsLineWithin, StandsAfter}
+use Rattle.resp_tool.specs.CanonicalFronts.{BeginsWithLine, IsBulkWithin, IsCanonicalWithin, IsInteger, IsLineWithin, FollowsByte}
 
 -- ---- lines
 
@@ -159,7 +159,7 @@ fits_scalar limits version s plain types short total = record {
 within_total : (limits : Bounds) (canonical text : List ℕ) → canonical ≡ text → length text ≤ limits.total → length canonical ≤ limits.total
 within_total limits canonical text is fits = rw is fits
 
-pub canonical_after : (limits : Bounds) (kind : ℕ) (text : List ℕ) → StandsAfter limits kind text → length text + 1 ≤ limits.total →
+pub canonical_after : (limits : Bounds) (kind : ℕ) (text : List ℕ) → FollowsByte limits kind text → length text + 1 ≤ limits.total →
     IsCanonicalWithin limits (kind ∷ text)
 canonical_after limits kind text (inl (inl plus, line)) total = λ version.
     let is : 43 ∷ (line.line ++ crlf []) ≡ kind ∷ text = ap (λ l. 43 ∷ l) (sym line.whole) ∙ ap (λ k. k ∷ text) (sym plus) in (
@@ -200,7 +200,7 @@ canonical_after limits kind text (inr (inr (dollar, bulk))) total = λ version.
 
 -- a value at the front of a piece
 pub canonical_piece : (limits : Bounds) (piece text : List ℕ) (kind size : ℕ) → piece ≡ kind ∷ text → size ≤ length text → size < limits.total →
-    StandsAfter limits kind (take size text) → IsCanonicalWithin limits (take (size + 1) piece)
+    FollowsByte limits kind (take size text) → IsCanonicalWithin limits (take (size + 1) piece)
 canonical_piece limits piece text kind size split long total stands =
     let many : length (take size text) ≡ size = length-take-le size text long in
     let next : size + 1 ≡ suc size = omega arith in

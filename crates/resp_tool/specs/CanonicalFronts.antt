@@ -52,8 +52,8 @@ pub record IsBulkWithin (limits : Bounds) (text : List ℕ) : Type 0 where
   pub whole : text ≡ decimal (length content) ++ crlf (content ++ crlf [])
 
 -- the text stands after this type byte, of a value without members
-abbrev pub StandsAfter : Bounds → ℕ → List ℕ → Type 0
-StandsAfter limits kind text =
+abbrev pub FollowsByte : Bounds → ℕ → List ℕ → Type 0
+FollowsByte limits kind text =
     (((kind ≡ byte "+") ⊎ (kind ≡ byte "-")) × IsLineWithin limits text)
     ⊎ ((kind ≡ byte ":") × IsIntegerText text)
     ⊎ ((kind ≡ byte "$") × IsBulkWithin limits text)
