@@ -12,7 +12,6 @@ use Rattle.clap.proofs.OnLiterals.{clap_on_literals}
 use Rattle.clap.proofs.WalkLemmas.{one_text-rows}
 use Rattle.resp_tool.specs.CommandWords.{AnswersStatus, AnswersWords, AreWrong, AskFor, AskToServe, Enters, EntersServe, FindsWords, HasFlag, HasNumber, flag_text}
 use Rattle.resp_tool.specs.Runs.{AskForRun, DoesWords, IsWordStatus}
-use Rattle.std.proofs.lemmas.Slice.Eq.{bytes_eq-Decides}
 use Rattle.std.specs.Str.{bytes_eq}
 use Rattle.std.specs.Prelude.{not, unwrap_or}
 use Rattle.std.specs.Option.{option_map_or}
@@ -198,13 +197,6 @@ text_in o = unwrap_or o []
 
 given_in : Option (Text × List Row) → List Row
 given_in o = option_map_or (λ p. p.1) o []
-
-pub is_standard_input : (name : Text) → not (bytes_eq name (codes "-")) ≡ false → name ≡ codes "-"
-is_standard_input name e = go (bytes_eq name (codes "-")) refl e
-  where
-    go : (b : Bool) → bytes_eq name (codes "-") ≡ b → not b ≡ false → name ≡ codes "-"
-    go true is e = (bytes_eq-Decides name (codes "-")).0 is
-    go false is e = cc
 
 -- words ask for one file, and either for explanations or for none
 pub asked_once : (program : App) (words : List Text) (a b : Options) → AskFor program words a → AskFor program words b →

@@ -1,29 +1,20 @@
 -- Values without members at the front of a piece.
-use Rattle.std.proofs.Common.{◌≡◌, ◌≢◌, ◌⊎◌, inl, inr, ◌∙◌, ◌+◌, ◌-◌, ◌^◌, ◌<◌, ◌≤◌, ℕ, ℤ, Bool, true, false, not, zero, suc, List, [], ◌∷◌, ◌++◌, length, take, drop, get_or, Option, Some, None, is_some, refl, sym, ap, subst, arith, append_assoc, append-nil, length-append, length-take-le, take_at, drop_at, take-append-drop, drop-cons}
+use Rattle.std.proofs.Common.{◌≡◌, inl, inr, ◌∙◌, ◌+◌, ◌^◌, ◌<◌, ◌≤◌, ℕ, ℤ, true, false, zero, suc, List, [], ◌∷◌, ◌++◌, length, take, drop, get_or, Option, Some, None, is_some, refl, sym, ap, subst, arith, append_assoc, length-append, length-take-le, take_at, drop_at, take-append-drop, drop-cons}
 use Rattle.std.specs.Prelude.{pos, negsuc}
-use Rattle.std.specs.Str.{bytes_eq}
 use Rattle.std.proofs.lemmas.Bool.{eq-eqb, eqb-true}
 use Rattle.std.proofs.lemmas.List.{get_or-take}
 use Rattle.std.proofs.lemmas.Int.{ints}
-use Rattle.std.proofs.lemmas.Slice.Eq.{bytes_eq-Decides}
 use Rattle.memchr.specs.Find.{IsFirstByte, is_byte}
 use Rattle.resp_value.specs.Bounds.{Bounds}
 use Rattle.resp_value.specs.Bytes.{IsByte, IsLine, IsText, crlf}
 use Rattle.resp_value.specs.Canonical.{Fits, HasTypes, IsScalarButDouble, canonical_text}
-use Rattle.resp_value.specs.Data.{Datum, Scalar, Simple, Error, Int, Bulk, longest, scalar}
+use Rattle.resp_value.specs.Data.{Scalar, Simple, Error, Int, Bulk, longest, scalar}
 use Rattle.resp_value.specs.Numbers.{decimal}
 use Rattle.resp_value.specs.Rules.{rules_under}
 use Rattle.resp_value.specs.declared.version.Version.{Version}
 use Rattle.resp_value.specs.declared.version.Version.TheVariants.{Two, Three}
 use Rattle.resp_value.proofs.FirstBytes.{all_front}
-use Rattle.resp_tool.specs.CanonicalFronts.{BeginsWithLine, IsBulkWithin, IsCanonicalWithin, IsInteger, IsIntegerText, IsLineWithin, StandsAfter}
-
-pub same_bytes : (a b : List ℕ) → not (bytes_eq a b) ≡ false → a ≡ b
-same_bytes a b e = go (bytes_eq a b) refl e
-  where
-    go : (t : Bool) → bytes_eq a b ≡ t → not t ≡ false → a ≡ b
-    go true is e = (bytes_eq-Decides a b).0 is
-    go false is e = cc
+use Rattle.resp_tool.specs.CanonicalFronts.{BeginsWithLine, IsBulkWithin, IsCanonicalWithin, IsInteger, IsLineWithin, FollowsByte}
 
 -- ---- lines
 
@@ -168,7 +159,7 @@ fits_scalar limits version s plain types short total = record {
 within_total : (limits : Bounds) (canonical text : List ℕ) → canonical ≡ text → length text ≤ limits.total → length canonical ≤ limits.total
 within_total limits canonical text is fits = rw is fits
 
-pub canonical_after : (limits : Bounds) (kind : ℕ) (text : List ℕ) → StandsAfter limits kind text → length text + 1 ≤ limits.total →
+pub canonical_after : (limits : Bounds) (kind : ℕ) (text : List ℕ) → FollowsByte limits kind text → length text + 1 ≤ limits.total →
     IsCanonicalWithin limits (kind ∷ text)
 canonical_after limits kind text (inl (inl plus, line)) total = λ version.
     let is : 43 ∷ (line.line ++ crlf []) ≡ kind ∷ text = ap (λ l. 43 ∷ l) (sym line.whole) ∙ ap (λ k. k ∷ text) (sym plus) in (
@@ -209,7 +200,7 @@ canonical_after limits kind text (inr (inr (dollar, bulk))) total = λ version.
 
 -- a value at the front of a piece
 pub canonical_piece : (limits : Bounds) (piece text : List ℕ) (kind size : ℕ) → piece ≡ kind ∷ text → size ≤ length text → size < limits.total →
-    StandsAfter limits kind (take size text) → IsCanonicalWithin limits (take (size + 1) piece)
+    FollowsByte limits kind (take size text) → IsCanonicalWithin limits (take (size + 1) piece)
 canonical_piece limits piece text kind size split long total stands =
     let many : length (take size text) ≡ size = length-take-le size text long in
     let next : size + 1 ≡ suc size = omega arith in

@@ -1,5 +1,5 @@
 -- Values that `canon` writes as they came.
-use Rattle.std.proofs.Common.{◌≡◌, ◌∙◌, ◌≤◌, ◌<◌, ℕ, true, List, [], ◌∷◌, ◌++◌, length, take, Option, Result, Ok, Err, IfOk, IfErr, refl, sym, ap, subst, arith, append-nil, length-take-le}
+use Rattle.std.proofs.Common.{◌≡◌, ◌∙◌, ◌≤◌, ◌<◌, ℕ, true, List, [], ◌∷◌, ◌++◌, length, take, Option, Result, Ok, Err, IfOk, IfErr, refl, sym, ap, subst, arith, length-take-le}
 use Rattle.resp_value.specs.Bounds.{Bounds}
 use Rattle.resp_value.specs.Canonical.{canonical_text, Fits}
 use Rattle.resp_value.specs.Laws.{CanonicalTextSpellsWhatFits}

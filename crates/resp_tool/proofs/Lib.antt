@@ -18,3 +18,4 @@ pub mod CommandLemmas
 pub mod CommandExamples
 pub mod CanonicalFrontLemmas
 pub mod FrontsTaken
+pub mod SameBytes

@@ -1,5 +1,5 @@
 -- Bytes that are the canonical text of a value without members.
-use Rattle.std.specs.Prelude.{◌≡◌, ◌⊎◌, ◌≤◌, ◌<ℤ◌, ◌≤ℤ◌, ◌^◌, ℕ, ℤ, pos, List, [], ◌∷◌, ◌++◌, length}
+use Rattle.std.specs.Prelude.{◌≡◌, ◌⊎◌, ◌≤◌, ◌<ℤ◌, ◌≤ℤ◌, ◌^◌, ℕ, ℤ, pos, List, [], ◌++◌, length}
 use Rattle.std.proofs.Common.{neg_ℤ}
 use Rattle.std.specs.Str.{byte}
 use Rattle.resp_value.specs.Bounds.{Bounds}
@@ -52,8 +52,8 @@ pub record IsBulkWithin (limits : Bounds) (text : List ℕ) : Type 0 where
   pub whole : text ≡ decimal (length content) ++ crlf (content ++ crlf [])
 
 -- the text stands after this type byte, of a value without members
-abbrev pub StandsAfter : Bounds → ℕ → List ℕ → Type 0
-StandsAfter limits kind text =
+abbrev pub FollowsByte : Bounds → ℕ → List ℕ → Type 0
+FollowsByte limits kind text =
     (((kind ≡ byte "+") ⊎ (kind ≡ byte "-")) × IsLineWithin limits text)
     ⊎ ((kind ≡ byte ":") × IsIntegerText text)
     ⊎ ((kind ≡ byte "$") × IsBulkWithin limits text)

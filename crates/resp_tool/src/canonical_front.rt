@@ -2,7 +2,7 @@
 //! text is known without a decoder and without an encoder.
 
 ghost use Rattle.std.specs.Prelude.{◌≡◌, ◌∷◌, ◌+◌, ◌≤◌, true, length, take, IfSome};
-ghost use Rattle.resp_tool.specs.CanonicalFronts.{BeginsWithLine, IsBulkWithin, IsCanonicalWithin, IsInteger, IsIntegerText, IsLineWithin, StandsAfter};
+ghost use Rattle.resp_tool.specs.CanonicalFronts.{BeginsWithLine, IsBulkWithin, IsCanonicalWithin, IsInteger, IsIntegerText, IsLineWithin, FollowsByte};
 ghost use Rattle.resp_value.specs.Numbers.{decimal};
 
 use itoa::Buffer;
@@ -29,7 +29,7 @@ pub(crate) fn canonical_front(piece: &[u8], limits: &Limits) -> Option<usize>
 #[inline(always)]
 fn value_size(kind: u8, text: &[u8], limits: &Limits) -> Option<usize>
     ensures within { IfSome result (λ size. size ≤ length text.now) }
-    ensures value { IfSome result (λ size. StandsAfter limits.now kind (take size text.now)) }
+    ensures value { IfSome result (λ size. FollowsByte limits.now kind (take size text.now)) }
 {
     match kind {
         b'+' | b'-' => line_size(text, limits),

@@ -1,4 +1,4 @@
-use Rattle.std.proofs.Common.{◌∙◌, ◌+◌, arith, rules, ap, drop, get_or, length, sym}
+use Rattle.std.proofs.Common.{◌∙◌, ◌+◌, rules, ap, get_or, length, sym}
 use Rattle.std.proofs.lemmas.List.{take_rest}
 use Rattle.resp_scan.proofs.CallClauses.Calls.{is_text}
 use Rattle.resp_tool.proofs.CanonicalFrontLemmas.{bulk_within}

@@ -1,6 +1,6 @@
 use Rattle.std.proofs.Common.{◌<◌, ◌^◌, ◌∙◌, sym, rules}
 use Rattle.resp_encode.proofs.Decimals.{decimal-std}
-use Rattle.resp_tool.proofs.CanonicalFrontLemmas.{same_bytes}
+use Rattle.resp_tool.proofs.SameBytes.{same_bytes}
 use Rattle.resp_tool.proofs.canonical_front.number_in.Goals as goal
 
 pub returns : goal.returns

@@ -1,5 +1,6 @@
 use Rattle.std.proofs.Common.{◌∙◌, inl, inr, map, refl, sym}
-use Rattle.resp_tool.proofs.AskingLemmas.{does_nothing, runs_no_explanation, runs_no_file, is_standard_input}
+use Rattle.resp_tool.proofs.AskingLemmas.{does_nothing, runs_no_explanation, runs_no_file}
+use Rattle.resp_tool.proofs.SameBytes.{same_bytes}
 use Rattle.resp_tool.proofs.command_line.command.Goals as goal
 
 pub returns-in-Err-clause-does : goal.returns-in-Err-clause-does
@@ -40,7 +41,7 @@ returns-clause-does g c =
       asked.1,
       inr (inr (inr (
         c.in-Ok.options,
-        (asked.2, is_standard_input _ (sym c.ne.ensures ∙ c.if-ne.false), c.if-options.false),
+        (asked.2, same_bytes _ _ (sym c.ne.ensures ∙ c.if-ne.false), c.if-options.false),
         run,
       ))),
     )
