@@ -215,8 +215,8 @@ fn run_serve<W: LiveSink, F: Sink>(
     }
 }
 
-/// Stands between clients and a server where the words say, and answers the status where it can't be
-/// gone on with that.
+/// Stands between clients and a server where the words say, and answers the status where it can't
+/// be gone on with that.
 fn run_tap<W: LiveSink, F: Sink>(
     rt: &HostRuntime,
     words: &[String],

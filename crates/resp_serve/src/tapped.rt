@@ -72,9 +72,10 @@ impl Lane {
         let mut writer = Device::new(Output::new(to));
         let (count, visited) = self.way.visit(&mut reader, &mut writer);
         see.piece(&self.way.piece()[..count]);
+        let would_wait = reader.into_inner().would_wait();
         match visited {
+            Visited::Onward | Visited::NotRead if would_wait => Lately::Waits,
             Visited::Onward => Lately::MayGoOn,
-            Visited::NotRead if reader.into_inner().would_wait() => Lately::Waits,
             Visited::NotRead => Lately::Failed,
             Visited::NotWritten => after_write(&writer.into_inner()),
             Visited::Ended => {

@@ -3,11 +3,17 @@
 use mio::unix::SourceFd;
 use mio::{Events, Interest, Poll, Token};
 use std::alloc::Global;
+use std::io;
 use std::io::ErrorKind;
 use std::net::Net;
 use std::os::fd::RawFd;
 use std::time::Duration;
-use std::io;
+
+/// How many bytes a pipe takes at once that is ready.
+const FEW: usize = 4_096;
+
+/// How many are written to a file at once.
+const MANY: usize = 65_536;
 
 /// The descriptor of standard output.
 const STANDARD_OUTPUT: RawFd = 1;
@@ -39,7 +45,12 @@ impl Terminal {
         })
     }
 
-    /// Whether it takes up to 4,096 bytes now.
+    /// How many bytes one write is to have at most: those that it takes at once where it is ready.
+    pub(crate) fn most(&self) -> usize {
+        if self.may_wait { FEW } else { MANY }
+    }
+
+    /// Whether it takes a write now.
     pub(crate) fn is_ready(&mut self) -> bool {
         if !self.may_wait {
             return true;

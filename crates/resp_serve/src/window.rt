@@ -23,9 +23,6 @@ const LISTENER: usize = 0;
 /// How many bytes of text are held at most until they are shown.
 const SCREEN: usize = 1_048_576;
 
-/// How many bytes are shown by one write.
-const SHOWN: usize = 4_096;
-
 /// How many writes are made before connections have their turn.
 const WRITES: usize = 64;
 
@@ -35,9 +32,9 @@ const PATIENCE: u64 = 5;
 /// Stands between clients and a server: each client that connects has a connection to the server of
 /// its own, and what either side sends is handed on unchanged. What is seen of it is printed.
 ///
-/// Of a side nothing is read while what it sent waits to be handed on. A connection that has much to
-/// do is visited in turn with the others. Text is shown as far as standard output takes it at once,
-/// and what doesn't fit into 1,048,576 bytes is left out and counted.
+/// Of a side nothing is read while what it sent waits to be handed on. A connection that has much
+/// to do is visited in turn with the others. Text is shown as far as standard output takes it at
+/// once, and what doesn't fit into 1,048,576 bytes is left out and counted.
 #[derive(Drop)]
 pub struct Window {
     alloc: Global,
@@ -151,7 +148,7 @@ impl Window {
             if text.is_empty() || !self.terminal.is_ready() {
                 return Ok(());
             }
-            let part = &text[..SHOWN.min(text.len())];
+            let part = &text[..self.terminal.most().min(text.len())];
             match out.write(part) {
                 Ok(0) | Err(_) => return Err(ErrorKind::WriteZero.into()),
                 Ok(count) => self.screen.shown(count),
@@ -214,8 +211,8 @@ impl Window {
         }
     }
 
-    /// Visits the connection in a place, of which a socket is ready. One that is queued has its turn
-    /// there.
+    /// Visits the connection in a place, of which a socket is ready. One that is queued has its
+    /// turn there.
     fn visit_ready(&mut self, place: usize, is_at_end: bool) {
         if let Some(tapped) = self.connections.get(place) {
             if !tapped.is_queued {

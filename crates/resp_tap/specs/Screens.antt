@@ -17,8 +17,8 @@ pub record ScreenState : Type 0 where
 abbrev pub new_screen : ℕ → ScreenState
 new_screen most = record { held = []; most = most; unshown = 0; calls = 0; failures = 0 }
 
--- The first bytes of a text are held, and the others are counted: none is lost unsaid. Nothing is kept after a byte that
--- was left out, and no more is held than may be.
+-- The first bytes of a text are held, and the others are counted: none is lost unsaid. Nothing is kept after a byte
+-- that was left out, and no more is held than may be.
 pub record KeepsOrCounts (old new : ScreenState) (text : List ℕ) : Type 0 where
   pub kept : ℕ
   pub within : kept ≤ length text

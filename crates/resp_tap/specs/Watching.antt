@@ -68,7 +68,8 @@ abbrev pub KeepsValue : Tap → Tap → Type 0
 KeepsValue old new = (front : List ℕ) → HasTakenValue old front → HasTakenValue new front
 
 -- the client's text is a command of these words, the next one
-pub record GivesCommand (s : TapState) (new : Tap) (written : List ℕ) (number : ℕ) (words : List (List ℕ)) : Type 0 where
+pub record GivesCommand (s : TapState) (new : Tap) (written : List ℕ) (number : ℕ) (words : List (List ℕ)) :
+    Type 0 where
   pub value : Datum
   pub spelled : IsSpelling (request_rules s.limits) value written
   pub means : meaning_of value ≡ array_meaning (Some words)
@@ -113,8 +114,8 @@ RefusesOfRequest s front piece cause at =
     (IsLeftOut s cause × (at ≡ 0))
 
 -- what the client sent is refused as the next command
-pub record RefusesRequestAt (s : TapState) (new : Tap) (front piece : List ℕ) (cause : Cause) (at : ℕ) (where' : Place) :
-    Type 0 where
+pub record RefusesRequestAt (s : TapState) (new : Tap) (front piece : List ℕ) (cause : Cause) (at : ℕ)
+    (where' : Place) : Type 0 where
   pub refused : RefusesOfRequest s front piece cause at
   pub place : where' ≡ place.Command (s.commands + 1)
   pub after : tap_state new ≡ with_refusal s

@@ -4,7 +4,11 @@ use Rattle.resp_tool.proofs.WrittenLemmas.{writes_next, writes_part}
 use Rattle.resp_tap.proofs.print.write_byte.Goals as goal
 
 pub returns-in_err-write_number : goal.returns-in_err-write_number
-returns-in_err-write_number g c = writes_part c.from_residual.result _ _ _ _ (codes " at byte " ++ decimal c.args.at ++ codes " of ") (place_text c.args.place) c.from_residual.ensures.0 c.in_err-write_number.ensures
+returns-in_err-write_number g c =
+    writes_part c.from_residual.result _ _ _ _ (codes " at byte " ++ decimal c.args.at ++ codes " of ") (place_text c.args.place)
+    c.from_residual.ensures.0 c.in_err-write_number.ensures
 
 pub returns : goal.returns
-returns g c = writes_next c.write_place.result _ _ _ _ _ _ (codes " at byte " ++ decimal c.args.at ++ codes " of ") (place_text c.args.place) c.in_ok-write_number.ensures c.write_place.ensures
+returns g c =
+    writes_next c.write_place.result _ _ _ _ _ _ (codes " at byte " ++ decimal c.args.at ++ codes " of ") (place_text c.args.place)
+    c.in_ok-write_number.ensures c.write_place.ensures

@@ -4,7 +4,9 @@ use Rattle.resp_tool.proofs.WrittenLemmas.{writes_next, writes_part}
 use Rattle.resp_tap.proofs.print.write_word.Goals as goal
 
 pub returns-in_err-write_text : goal.returns-in_err-write_text
-returns-in_err-write_text g c = writes_part c.from_residual.result _ _ _ _ (codes " \"") (quoted_text c.args.word.now ++ codes "\"") c.from_residual.ensures.0 c.in_err-write_text.ensures
+returns-in_err-write_text g c =
+    writes_part c.from_residual.result _ _ _ _ (codes " \"") (quoted_text c.args.word.now ++ codes "\"")
+    c.from_residual.ensures.0 c.in_err-write_text.ensures
 
 pub returns-in_err-write_quoted : goal.returns-in_err-write_quoted
 returns-in_err-write_quoted g c =

@@ -4,7 +4,9 @@ use Rattle.resp_tool.proofs.WrittenLemmas.{writes_next, writes_part}
 use Rattle.resp_tap.proofs.print.write_words_line.Goals as goal
 
 pub returns-in_err-write_text : goal.returns-in_err-write_text
-returns-in_err-write_text g c = writes_part c.from_residual.result _ _ _ _ (codes " ") (words_text c.args.words.now ++ codes "\n") c.from_residual.ensures.0 c.in_err-write_text.ensures
+returns-in_err-write_text g c =
+    writes_part c.from_residual.result _ _ _ _ (codes " ") (words_text c.args.words.now ++ codes "\n")
+    c.from_residual.ensures.0 c.in_err-write_text.ensures
 
 pub returns-in_err-write_words : goal.returns-in_err-write_words
 returns-in_err-write_words g c =
