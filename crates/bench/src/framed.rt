@@ -1,7 +1,7 @@
 //! How long framed streams take for GETs and their replies, beside `serve` and `ask` over memory.
 //!
 //! A text of commands is read by a framed stream and each is answered null into a buffer, and
-//! `serve` answers the same text from an empty hub. A text of replies is read by a framed stream and
+//! `serve` answers the same text from an empty hub. Replies are read by a framed stream and
 //! their commands are encoded into a buffer, and `ask` sends the same commands in pipelines and
 //! hears the replies. Then a bulk string comes in pieces of one byte. What was counted is printed,
 //! the same on every run. With the argument `times` there are a million commands, and nanoseconds
@@ -173,7 +173,7 @@ fn pipeline(alloc: Global) -> Result<Vec<Request>> {
     Ok(requests)
 }
 
-/// Asks so many pipelines, and answers how many replies were heard and how many bytes were written.
+/// Asks `pipelines` times, and answers how many replies were heard and how many bytes were written.
 fn ask_all(
     rt: &HostRuntime,
     requests: &[Request],

@@ -1,9 +1,8 @@
-//! How long the encoder, the scanner, the decoder, the client, the server and the codecs take, to be
-//! compared with others.
+//! How long the encoder, the scanner, the decoder, the client, the server and the codecs take, to
+//! be compared with others.
 //!
-//! The arguments name a part, `encode`, `scan`, `client`, `server`, `framed`, `worlds` or `grow`, and
-//! what it is to do.
-//! With no argument each part counts what it does with short texts, the same on every run.
+//! The arguments name a part, `encode`, `scan`, `client`, `server`, `framed`, `worlds` or `grow`,
+//! and what it is to do. With no argument each part counts what it does with short texts, the same on every run.
 #![tactic(auto)]
 
 mod client;

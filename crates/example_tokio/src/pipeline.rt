@@ -70,8 +70,8 @@ fn serve(rt: &HostRuntime, limits: &Limits, input: &[u8]) -> Result<Vec<u8>> {
     Ok(sink.into_parts().io)
 }
 
-/// Prints the replies that the client reads. After the one to HELLO it reads version 3, which spells
-/// all that this server answers in version 2 as well.
+/// Prints the replies that the client reads. It reads version 3, in which a server may spell all
+/// that this one answers in version 2 as well.
 fn print_replies(rt: &HostRuntime, limits: &Limits, input: &[u8]) -> Result<()> {
     let alloc = rt.alloc();
     println!(rt; "{}", input.escape_ascii())?;

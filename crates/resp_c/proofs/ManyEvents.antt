@@ -135,7 +135,7 @@ stand-snoc piece (x ∷ xs) out told more (first, rest, is, stand, parts) one = 
 bytes_on : (front piece : List ℕ) (used n : ℕ) → (front ++ take used piece) ++ take n (drop used piece) ≡ front ++ take (used + n) piece
 bytes_on front piece used n = append_assoc front (take used piece) (take n (drop used piece)) ∙ ap (λ z. front ++ z) (taken_on used n piece)
 
--- a turn that showed an event, or a text with its end, used so many bytes and told more events
+-- a turn that showed an event, or a text with its end, used these bytes and told more events
 record Turns (s t : Place) (rest : List ℕ) (out : RespEvent) : Type 0 where
   more : Events
   one : StandsForOne rest out more

@@ -72,7 +72,7 @@ abbrev pub TheEventsShowARefusal : Type 0
 TheEventsShowARefusal = (tree : Tree) → IsTree tree →
     after_events new_look (without_places (events 0 tree)) ≡ record { nested = 0; refuses = is_refusal (value tree) }
 
--- so many commands that ask for no version
+-- this number of commands that ask for no version
 abbrev pub nones : ℕ → List (Option Version)
 nones zero = []
 nones (suc n) = None ∷ nones n
@@ -82,7 +82,7 @@ abbrev pub ask_of : ℕ → Option Version
 ask_of zero = None
 ask_of (suc n) = Some (version_of (suc n))
 
--- the HELLO of this version and so many commands after it, or nothing where it is 0
+-- the HELLO of this version and this number of commands after it, or nothing where it is 0
 abbrev pub hello_asks : ℕ → ℕ → List (Option Version)
 hello_asks zero beyond = []
 hello_asks (suc n) beyond = Some (version_of (suc n)) ∷ nones beyond

@@ -86,7 +86,7 @@ pub record IsUsedUp (s : Place) (front : List ℕ) (given : Events) : Type 0 whe
   pub all_due : AreDue front given
   pub reads : HasRead s front given
 
--- A scanner that was this one has taken so many bytes of the piece, and these events were told of them.
+-- A scanner that was this one has taken this number of bytes of the piece, and these events were told of them.
 pub record Scans (old : Place) (piece : List ℕ) (outs : List RespEvent) (used : ℕ) (Ends : List ℕ → Events → Type 0) :
     Type 0 where
   pub told : Events

@@ -31,7 +31,7 @@ abbrev pub HasFault : CommandCodec → Fault → Type 0
 HasFault c fault = decoding.HasFault c.decoder fault
 
 -- it reads on as the other does, whatever that has taken
-pub record KeepsReading (old new : CommandCodec) : Type 0 where
+pub record ReadsLike (old new : CommandCodec) : Type 0 where
   pub taken : (front : List ℕ) → HasTaken old front → HasTaken new front
   pub fault : (fault : Fault) → HasFault old fault → HasFault new fault
   pub rules : reads_by new ≡ reads_by old

@@ -5,7 +5,7 @@ ghost use Rattle.resp_value.specs.Rules.{rules_under};
 ghost use Rattle.resp_value.specs.declared.version.Version.TheVariants.{Two};
 ghost use Rattle.resp_decode.specs.Decoding as decoding;
 ghost use Rattle.tokio_util.specs.Codec.Next.{Decodes};
-ghost use Rattle.resp_codec.specs.Commands.{HasTaken, KeepsReading, reads_by, writes_by, gives_commands, encodes_replies, refuses_replies};
+ghost use Rattle.resp_codec.specs.Commands.{HasTaken, ReadsLike, reads_by, writes_by, gives_commands, encodes_replies, refuses_replies};
 ghost use Rattle.resp_codec.specs.CommandsLaws.{commands_stable, commands_partial, commands_end};
 
 use crate::error::CodecError;
@@ -45,7 +45,7 @@ impl CommandCodec {
     /// Writes this version from the next reply on, as after a HELLO that asked for it.
     pub fn set_version(&mut self, version: Version)
         ensures writes { writes_by self.new ≡ rules_under version (writes_by self.old).limits }
-        ensures reads_as_before { KeepsReading self.old self.new }
+        ensures reads_as_before { ReadsLike self.old self.new }
     {
         self.version = version;
     }

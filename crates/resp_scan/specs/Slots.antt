@@ -44,13 +44,13 @@ pub record StepsOverText (old new : Place) (piece : List ℕ) (used : ℕ) (kind
   pub same_rules : rules_of new ≡ rules_of old
   pub no_fault : (fault : Fault) → IsFaulted old fault → ⊥
 
--- an event is shown, and was given for so many bytes
+-- an event is shown, for which this number of bytes was used
 pub record ShowsEvent (Shows : Event → Type 0) (old new : Place) (piece : List ℕ) (used : ℕ) : Type 0 where
   pub event : Event
   pub shows : Shows event
   pub steps : Steps old new piece (Ok (record { used = used; event = Some event }))
 
--- a text is shown with its end, and was given for so many bytes
+-- a text is shown with its end, for which this number of bytes was used
 pub record ShowsText (Shows : TextKind → List ℕ → Type 0) (old new : Place) (piece : List ℕ) (used : ℕ) : Type 0 where
   pub kind : TextKind
   pub bytes : List ℕ

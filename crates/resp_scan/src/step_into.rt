@@ -275,7 +275,7 @@ impl Machine {
     }
 }
 
-/// The answer after an event was shown for which so many bytes were used.
+/// The answer after an event was shown, for which `used` bytes were used.
 #[inline(always)]
 fn given(used: usize, _shown: ()) -> Result<Option<usize>, Fault>
     ensures { result ≡ Ok (Some used) }

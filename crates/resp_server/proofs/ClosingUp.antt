@@ -16,7 +16,7 @@ use Rattle.resp_server.proofs.StorePlaces.{slots_of, slot_of, slot_is, same_slot
 -- The rows of the first places, and of those from a place on: what lies between is stale.
 pub record IsClosingUp (rows : Rows) (places : List (Option ℕ)) (filled place : ℕ) (entries : Store) : Type 0 where
   pub distinct : IsDistinct same_bytes (keys_of rows)
-  pub behind : filled ≤ place
+  pub not_past : filled ≤ place
   pub there : (i : ℕ) (row : Bytes × Row) → slice_get rows i ≡ Some row →
       (slice_get places row.1.place ≡ Some (Some i)) × ((row.1.place < filled) ⊎ (place ≤ row.1.place))
   pub alone : (s i : ℕ) → (s < filled) ⊎ (place ≤ s) → slice_get places s ≡ Some (Some i) →
@@ -26,7 +26,7 @@ pub record IsClosingUp (rows : Rows) (places : List (Option ℕ)) (filled place 
 pub begins : (rows : Rows) (places : List (Option ℕ)) → AreInPlace rows places → IsClosingUp rows places 0 0 (entries_in rows places)
 begins rows places h = record {
   distinct = h.distinct;
-  behind = omega arith;
+  not_past = omega arith;
   there = λ i row at. (h.there i row at, inr (omega arith));
   alone = λ s i region at. h.alone s i at;
   shows = refl;
@@ -91,7 +91,7 @@ pub passes_empty : (rows : Rows) (places : List (Option ℕ)) (filled place : �
     slice_get places place ≡ Some None → IsClosingUp rows places filled (place + 1) entries
 passes_empty rows places filled place entries h empty = record {
   distinct = h.distinct;
-  behind = let b = h.behind in omega (arith, b);
+  not_past = let b = h.not_past in omega (arith, b);
   there = λ i row at.
       let (found, region) = h.there i row at in
       let apart : row.1.place ≡ place → ⊥ = λ same.
@@ -147,7 +147,7 @@ module _ (rows : Rows) (places : List (Option ℕ)) (filled place : ℕ) (entrie
 
   some_there : slice_get places filled ≡ Some (get_or places filled None)
   some_there =
-      let b = h.behind in let within = slice_get_within places place (Some i) at in slice_get-get_or places filled None (omega (arith, b, within))
+      let b = h.not_past in let within = slice_get_within places place (Some i) at in slice_get-get_or places filled None (omega (arith, b, within))
 
   old_place : old.place ≡ place
   old_place =
@@ -168,7 +168,7 @@ module _ (rows : Rows) (places : List (Option ℕ)) (filled place : ℕ) (entrie
 
   slot_stays : (s : ℕ) → (s < filled) ⊎ (place + 1 ≤ s) → slice_get (slots_of rows' places') s ≡ slice_get (slots_of rows places) s
   slot_stays s region =
-      let b = h.behind in
+      let b = h.not_past in
       let apart : s ≡ filled → ⊥ = λ same. elim region [
         | inl near ↦ omega (arith, near, same)
         | inr far ↦ omega (arith, far, same, b)
@@ -187,7 +187,7 @@ module _ (rows : Rows) (places : List (Option ℕ)) (filled place : ℕ) (entrie
   pub goes_down : IsClosingUp rows' places' (filled + 1) (place + 1) entries
   goes_down = record {
     distinct = subst (IsDistinct same_bytes) (sym (keys_stay rows i new)) h.distinct;
-    behind = let b = h.behind in omega (arith, b);
+    not_past = let b = h.not_past in omega (arith, b);
     there = λ j row found. elim (cases_eq j i) [
       | inl same ↦
           let e : Some row ≡ Some (key, new) = sym found ∙ ap (slice_get rows') same ∙ value_same rows i key old new row_at in
@@ -199,7 +199,7 @@ module _ (rows : Rows) (places : List (Option ℕ)) (filled place : ℕ) (entrie
           let (its, region) = h.there j row was in
           let apart : row.1.place ≡ place → ⊥ = λ same.
           (let e : Some (Some j) ≡ Some (Some i) = sym its ∙ ap (slice_get places) same ∙ at in let is : j ≡ i = cc in other is) in
-          let b = h.behind in
+          let b = h.not_past in
           elim region [
             | inl near ↦ (get_set_other places filled row.1.place (Some i) (λ same. omega (arith, near, same)) ∙ its, inl (omega (arith, near)))
             | inr far ↦ (
@@ -215,7 +215,7 @@ module _ (rows : Rows) (places : List (Option ℕ)) (filled place : ℕ) (entrie
           ((key, new), ap (slice_get rows') (sym same) ∙ value_same rows i key old new row_at, now ∙ sym here)
       | inr apart ↦
           let was = sym (get_set_other places filled s (Some i) apart) ∙ found in
-          let b = h.behind in
+          let b = h.not_past in
           let before : (s < filled) ⊎ (place + 1 ≤ s) = elim region [
             | inl near ↦ inl (omega (arith, near, apart))
             | inr far ↦ inr far
@@ -231,7 +231,7 @@ module _ (rows : Rows) (places : List (Option ℕ)) (filled place : ℕ) (entrie
           (row, value_other rows i j new (other_row s j row its placed elsewhere) ∙ its, placed)
     ];
     shows =
-        let b = h.behind in
+        let b = h.not_past in
         let e : List ℕ × List ℕ = (key.items, old.value) in
         let slots = slots_of rows places in
         let slots' = slots_of rows' places' in
