@@ -2,7 +2,8 @@
 //! be compared with others.
 //!
 //! The arguments name a part, `encode`, `scan`, `client`, `server`, `framed`, `worlds` or `grow`,
-//! and what it is to do. With no argument each part counts what it does with short texts, the same on every run.
+//! and what it is to do. With no argument each part counts what it does with short texts, the same
+//! on every run.
 #![tactic(auto)]
 
 mod client;
