@@ -84,11 +84,10 @@ pub record HasTapWords (given : List Row) (address server : Text) (limits : Boun
   pub server_text : first_of (codes "server") given ≡ Some server
 
 -- and with its addresses
-pub record HasTapping (given : List Row) (tapping : Tapping) : Type 0 where
-  pub server_text : Text
-  pub words : HasTapWords given tapping.address_text.now server_text tapping.limits tapping.clients
-  pub listen : IsSocketText tapping.address_text.now tapping.address
-  pub server : IsSocketText server_text tapping.server
+abbrev pub HasTapping : List Row → Tapping → Type 0
+HasTapping given tapping = (server_text : Text) ×
+    HasTapWords given tapping.address_text.now server_text tapping.limits tapping.clients ×
+    IsSocketText tapping.address_text.now tapping.address × IsSocketText server_text tapping.server
 
 abbrev pub task_word : Task → Text
 task_word Show = codes "show"
