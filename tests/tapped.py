@@ -94,5 +94,4 @@ def rate(port):
 alone = max(rate(server) for _ in range(3))
 through = max(rate(tap) for _ in range(3))
 assert 3 * through >= alone, f"{through} commands a second through the tap, and {alone} without it"
-assert "not shown" not in printed(), "a file takes all that is printed"
 print(f"{through:.0f} commands a second through the tap, and {alone:.0f} without it")

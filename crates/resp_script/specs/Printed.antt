@@ -2,7 +2,8 @@
 use Rattle.std.specs.Prelude.{◌≡◌, ℕ, ◌+◌, Bool, true, false, List, [], ◌∷◌, ◌++◌, length, drop, min, Option, Some, Result, Ok, Err, codes, decimal}
 use Rattle.std.specs.List.{flat_map}
 use Rattle.resp_value.specs.Causes.{name_of}
-use Rattle.resp_value.specs.Data.{Datum}
+use Rattle.resp_value.specs.Data.{Datum, scalar}
+use Rattle.resp_value.specs.Data as d
 use Rattle.resp_value.specs.Devices.{Appends, count_after, last_count}
 use Rattle.resp_value.specs.declared.cause.Cause.{Cause}
 use Rattle.resp_session.specs.Connections.{Connection, shown_pushes, shown_replies}
@@ -13,6 +14,14 @@ use Rattle.resp_tool.specs.Written.{AppendsPart}
 use Rattle.resp_script.specs.Scripts.{lines_of}
 use Rattle.resp_script.specs.declared.play.PlayError.{PlayError}
 use Rattle.resp_script.specs.declared.play.PlayError.TheVariants.{Stopped, Write, Memory}
+
+-- whether a value has a short way to its line
+abbrev pub is_short : Datum → Bool
+is_short (scalar d.Null) = true
+is_short (scalar (d.Int i)) = true
+is_short (scalar (d.Simple s)) = true
+is_short (scalar (d.Bulk s)) = true
+is_short _ = false
 
 -- a line two spaces deeper
 abbrev pub indented_line : List ℕ → List ℕ

@@ -1,8 +1,8 @@
 //! What a client has heard, as lines of text.
 
-ghost use Rattle.std.specs.Prelude.{◌≡◌, ◌+◌, ◌<◌, ◌^◌, ◌++◌, ℕ, List, [], ◌∷◌, codes, decimal, drop, length, map, IfErr, IfOk, IfSome};
-ghost use Rattle.resp_script.specs.Printed.{Prints, indented, push_heading, push_texts, reply_heading, reply_texts};
-ghost use Rattle.resp_tool.specs.Shown.{shown_text};
+ghost use Rattle.std.specs.Prelude.{◌≡◌, ◌+◌, ◌<◌, ◌^◌, ◌++◌, true, ℕ, List, [], ◌∷◌, codes, decimal, drop, length, map, IfErr, IfOk, IfSome};
+ghost use Rattle.resp_script.specs.Printed.{Prints, indented, is_short, push_heading, push_texts, reply_heading, reply_texts};
+ghost use Rattle.resp_tool.specs.Shown.{quoted_text, shown_text};
 ghost use Rattle.resp_tool.specs.Written.{WritesText};
 ghost use Rattle.resp_value.specs.Data.{Datum};
 ghost use Rattle.resp_value.specs.Rules.{rules_under};
@@ -17,7 +17,7 @@ use crate::script::first_line;
 use bytes::BytesMut;
 use resp_encode::{encode, encode_push};
 use resp_tool::show::show;
-use resp_tool::text::{write_number, write_text};
+use resp_tool::text::{write_number, write_quoted, write_text};
 use resp_value::device::{MemorySource, Sink, WriteFault};
 use resp_value::laws;
 use resp_value::limits::{BadLimits, Limits};
@@ -113,12 +113,69 @@ pub fn write_value<W: Sink>(alloc: Global, value: &Value, writer: &mut W) -> Res
     ensures { Prints (W.written writer.old) (W.written writer.new) (W.failures writer.old)
         (W.failures writer.new) result (indented (shown_text (datum_of value.now))) }
 {
+    if let Some(line) = short_line(alloc, value) {
+        return match write_indented(line.bytes(), writer) {
+            Ok(()) => Ok(()),
+            Err(_) => Err(PlayError::Write),
+        };
+    }
     let limits = most_limits()?;
     let mut text = BytesMut::new(alloc);
     match encode(Version::Three, &limits, value, &mut text) {
         Ok(()) => write_lines(alloc, &limits, text.as_slice(), writer),
         Err(_) => Err(PlayError::Memory),
     }
+}
+
+/// The line of a value that has a short way to it: null, an integer, a simple or a bulk string.
+/// None of another, and when out of memory.
+fn short_line(alloc: Global, value: &Value) -> Option<GrowingSink>
+    ensures { IfSome result (λ line. line.held ≡ shown_text (datum_of value.now)) }
+{
+    if !is_short(value) {
+        return None;
+    }
+    let mut line = GrowingSink::new(alloc);
+    match write_short(value, &mut line) {
+        Ok(()) => Some(line),
+        Err(_) => None,
+    }
+}
+
+/// Whether a value has a short way to its line.
+fn is_short(value: &Value) -> bool
+    ensures { result ≡ is_short (datum_of value.now) }
+{
+    matches!(
+        value,
+        Value::Null | Value::Int(_) | Value::Simple(_) | Value::Bulk(_)
+    )
+}
+
+/// Writes the line of such a value.
+fn write_short<W: Sink>(value: &Value, writer: &mut W) -> Result<(), WriteFault>
+    ensures { is_short (datum_of value.now) ≡ true →
+        WritesText (W.written writer.old) (W.written writer.new) (W.failures writer.old)
+        (W.failures writer.new) result (shown_text (datum_of value.now)) }
+{
+    match value {
+        Value::Null => write_text(writer, b"null\n"),
+        Value::Int(number) => write_number(writer, b"int ", *number, b"\n"),
+        Value::Simple(line) => write_string(b"simple \"", line.text(), writer),
+        Value::Bulk(content) => write_string(b"bulk \"", content.list(), writer),
+        _ => Ok(()),
+    }
+}
+
+/// Writes a word and a quote, a text in quotes, and the number of its bytes.
+fn write_string<W: Sink>(word: &[u8], text: &[u8], writer: &mut W) -> Result<(), WriteFault>
+    ensures { WritesText (W.written writer.old) (W.written writer.new) (W.failures writer.old)
+        (W.failures writer.new) result (word.now ++ (quoted_text text.now ++
+        (codes "\" " ++ decimal (length text.now) ++ codes "\n"))) }
+{
+    write_text(writer, word)?;
+    write_quoted(writer, text)?;
+    write_number(writer, b"\" ", text.len() as u64, b"\n")
 }
 
 /// Writes the lines of a push of these items, two spaces deeper.
