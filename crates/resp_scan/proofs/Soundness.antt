@@ -11,3 +11,4 @@ pub mod Places
 pub mod Pieces
 pub mod Counted
 pub mod ShortTexts
+pub mod ShortInts

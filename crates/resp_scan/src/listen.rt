@@ -206,6 +206,12 @@ impl Machine {
             let run = short.count as usize;
             return self.tell_whole(rest, short.head, TextKind::Bulk, run, listener);
         }
+        if let Some(run) = self.short_line(rest) {
+            return self.tell_whole(rest, 1, TextKind::Simple, run, listener);
+        }
+        if let Some(taken) = self.short_int(rest) {
+            return self.tell(rest, taken, listener);
+        }
         let taken = self.start(rest);
         self.tell_begun(rest, taken, listener)
     }

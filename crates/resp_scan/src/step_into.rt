@@ -1,16 +1,13 @@
 //! One step that shows its event to a slot, and a text with its end where both lie in the piece.
 
-ghost use Rattle.std.specs.Prelude.{IfNone, IfSome, Ok, Some, get_or, List, ℕ, ◌+◌, ◌<◌, ◌^◌, ◌≡◌, ◌≤◌, drop, length, take};
-ghost use Rattle.resp_scan.specs.Machine.Heads.{content_at};
-ghost use Rattle.resp_scan.specs.Machine.Room.{total_room};
-ghost use Rattle.resp_scan.specs.Machine.Scan.{Gave, scan};
-ghost use Rattle.resp_scan.specs.Machine.Tokens.{AtBulkHead, Place, Text, at};
-ghost use Rattle.resp_scan.specs.Machine.Turns.{EndsAt, IsLineTag, LeavesContent};
-ghost use Rattle.resp_scan.specs.declared.event.TextKind.TheVariants as text;
+ghost use Rattle.std.specs.Prelude.{IfSome, Ok, Some, List, ℕ, ◌+◌, ◌<◌, ◌^◌, ◌≡◌, ◌≤◌, drop, length, take};
+ghost use Rattle.resp_scan.specs.Machine.Scan.{scan};
+ghost use Rattle.resp_scan.specs.Machine.Tokens.{Place, at};
+ghost use Rattle.resp_scan.specs.Machine.Turns.{IsLineTag};
 
 use crate::event::{Event, Fault, TextKind};
 use crate::frame::Shape;
-use crate::listen::{beyond, ends_at};
+use crate::listen::beyond;
 use crate::machine::{EventTag, Machine, State, Taken};
 use crate::slot::Slot;
 use crate::step::{digit_text, run};
@@ -96,42 +93,18 @@ impl Machine {
             FillsSlot (S.shows slot.new) (S.shows_text slot.new) s self.new piece.now result }
         ensures left { IfNotShown result (slot.new ≡ slot.old) }
     {
-        match self.short_text(piece) {
-            Some(short) => {
-                let run = short.count as usize;
-                Ok(Some(self.show_text(piece, short.head, TextKind::Bulk, run, slot)))
-            }
-            None => {
-                let taken = self.start(piece);
-                self.show(piece, taken, slot)
-            }
+        if let Some(short) = self.short_text(piece) {
+            let run = short.count as usize;
+            return Ok(Some(self.show_text(piece, short.head, TextKind::Bulk, run, slot)));
         }
-    }
-
-    /// Begins a bulk string that lies whole at the front of this piece and has few bytes.
-    #[inline(always)]
-    pub fn short_text(&mut self, piece: &[u8]) -> Option<Short>
-        requires { IsSound (at (place_of self.old) AtStart) }
-        ensures begun { IfSome result (λ short.
-            out_of (record { used = short.head; tag = EventTag.Bulk }) self.new ≡
-            scan 0 (at (place_of self.old) AtStart) piece.now) }
-        ensures ends { IfSome result (λ short. (short.count < 2 ^ 10) × (short.head < 2 ^ 10) ×
-            (short.head ≤ length piece.now) × EndsAt (drop short.head piece.now) short.count ×
-            LeavesContent self.new.state self.new.count short.count) }
-        ensures unchanged { IfNone result (self.new ≡ self.old) }
-    {
-        let short = short_head(piece)?;
-        ends_at(beyond(piece, short.head), short.count as usize)?;
-        if short.count > self.limits.length() {
-            return None;
+        if let Some(run) = self.short_line(piece) {
+            return Ok(Some(self.show_text(piece, 1, TextKind::Simple, run, slot)));
         }
-        match self.begin(short.head as u64 + short.count + 1) {
-            Some(_) => None,
-            None => {
-                let _ = self.content_begins(short.head, short.count, EventTag::Bulk);
-                Some(short)
-            }
+        if let Some(taken) = self.short_int(piece) {
+            return self.show_event(piece, taken, slot);
         }
+        let taken = self.start(piece);
+        self.show(piece, taken, slot)
     }
 
     /// What has come of a first byte: a text whole where it ends in this piece.
@@ -281,76 +254,6 @@ fn given(used: usize, _shown: ()) -> Result<Option<usize>, Fault>
     ensures { result ≡ Ok (Some used) }
 {
     Ok(Some(used))
-}
-
-/// A bulk string of few bytes: those of its head, and how many there are.
-#[derive(Clone, Copy)]
-pub struct Short {
-    pub head: usize,
-    pub count: u64,
-}
-
-/// The head of a bulk string at the front of a piece, where it has one digit or two.
-#[inline(always)]
-fn short_head(piece: &[u8]) -> Option<Short>
-    ensures within { IfSome result (λ short. (short.head ≤ length piece.now) × (4 ≤ short.head) ×
-        (short.head ≤ 5) × (short.count < 100) × (get_or piece.now 0 0 ≡ 36)) }
-    ensures head { IfSome result (λ short. (u : Place) → short.count ≤ u.bounds.length →
-        short.head + short.count + 2 ≤ total_room u →
-        Gave short.head (Text text.Bulk) (content_at short.count u) ≡
-        scan 1 (at u AtBulkHead) (drop 1 piece.now)) }
-{
-    if piece.len() < 5 || piece[0] != b'$' {
-        return None;
-    }
-    match piece[3] {
-        b'\r' => head_of_two_digits(piece),
-        b'\n' => head_of_one_digit(piece),
-        _ => None,
-    }
-}
-
-/// The same where it has one digit.
-#[inline(always)]
-fn head_of_one_digit(piece: &[u8]) -> Option<Short>
-    requires begins { (5 ≤ length piece.now) × (get_or piece.now 0 0 ≡ 36) }
-    requires line_feed { get_or piece.now 3 0 ≡ 10 }
-    ensures within { IfSome result (λ short. (short.head ≡ 4) × (short.count < 100)) }
-    ensures head { IfSome result (λ short. (u : Place) → short.count ≤ u.bounds.length →
-        short.head + short.count + 2 ≤ total_room u →
-        Gave short.head (Text text.Bulk) (content_at short.count u) ≡
-        scan 1 (at u AtBulkHead) (drop 1 piece.now)) }
-{
-    if piece[1] < b'0' || piece[1] > b'9' || piece[2] != b'\r' {
-        return None;
-    }
-    Some(Short {
-        head: 4,
-        count: u64::from(piece[1] - b'0'),
-    })
-}
-
-/// The same where it has two digits.
-#[inline(always)]
-fn head_of_two_digits(piece: &[u8]) -> Option<Short>
-    requires begins { (5 ≤ length piece.now) × (get_or piece.now 0 0 ≡ 36) }
-    requires carriage_return { get_or piece.now 3 0 ≡ 13 }
-    ensures within { IfSome result (λ short. (short.head ≡ 5) × (short.count < 100)) }
-    ensures head { IfSome result (λ short. (u : Place) → short.count ≤ u.bounds.length →
-        short.head + short.count + 2 ≤ total_room u →
-        Gave short.head (Text text.Bulk) (content_at short.count u) ≡
-        scan 1 (at u AtBulkHead) (drop 1 piece.now)) }
-{
-    if piece[1] < b'0' || piece[1] > b'9' || piece[2] < b'0' || piece[2] > b'9' {
-        return None;
-    }
-    if piece[4] != b'\n' {
-        return None;
-    }
-    Some(Short {
-        head: 5,
-        count: u64::from(piece[1] - b'0') * 10 + u64::from(piece[2] - b'0'),
-    })
 }
 
 /// Where a step begins.

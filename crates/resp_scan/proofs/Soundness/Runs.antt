@@ -16,6 +16,13 @@ pub plain_run_le : (p : List ℕ) → plain_run p ≤ length p
 plain_run_le [] = omega arith
 plain_run_le (b ∷ bs) = grind (arith, nat_tests, plain_run_le bs)
 
+-- a run that ends within the first m bytes is that of these bytes
+pub plain_run_take : (m : ℕ) (p : List ℕ) → plain_run p ≤ m → plain_run (take m p) ≡ plain_run p
+plain_run_take zero [] few = refl
+plain_run_take zero (b ∷ bs) few = grind (arith, nat_tests)
+plain_run_take (suc m) [] few = refl
+plain_run_take (suc m) (b ∷ bs) few = grind (arith, nat_tests, plain_run_take m bs)
+
 -- a run of digits is no longer than the piece
 pub digit_run_le : (p : List ℕ) → digit_run p ≤ length p
 digit_run_le [] = omega arith

@@ -44,6 +44,20 @@ some_byte : (p : List ℕ) → get_or p 0 0 ≡ 36 → 0 < length p
 some_byte [] e = absurd (omega (arith, e))
 some_byte (b ∷ bs) e = omega arith
 
+-- a member that begins leaves the limits as they are
+pub bounds_stay : (s u : Place) → at u AtStart ≡ after_begin (at s AtStart) → u.bounds ≡ s.bounds
+bounds_stay s u begun = ap (λ v. v.bounds) begun ∙ same_bounds (at s AtStart) (at s AtStart).frames
+
+-- where a member begins that needs this many bytes more, total has room for them
+pub begun_room : (s u : Place) (needed : ℕ) → None ≡ begin_cause (at s AtStart) needed → at u AtStart ≡ after_begin (at s AtStart) →
+    1 + needed ≤ total_room u
+begun_room s u needed none begun =
+    let begins = at s AtStart in
+    let other = no_items begins.frames begins.bounds.items (over_total (after_begin begins) 1 needed) none in
+    let room = over_fits (after_begin begins) 1 needed other.0 in
+    let rooms : total_room u ≡ total_room (after_begin begins) = ap total_room begun in
+    omega (arith, room, rooms)
+
 -- A bulk string begins for which total has room, with a head that may be read where it has.
 pub short_begun : (s u : Place) (head count : ℕ) (p : List ℕ) → get_or p 0 0 ≡ 36 → 4 ≤ head → count ≤ s.bounds.length →
     None ≡ begin_cause (at s AtStart) (head + count + 1) → at u AtStart ≡ after_begin (at s AtStart) →
