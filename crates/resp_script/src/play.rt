@@ -271,7 +271,8 @@ impl Before {
     fn new<L: Link, S: BuildHasher + Drop>(client: usize, world: &World<L, S>) -> Self
         ensures client { result.client ≡ client }
         ensures heard { (limits : Bounds) (w : session.World) →
-            Shows L.is_honest world.now limits w → AreShownOn result.replies result.pushes (connection_at w.connections client) }
+            Shows L.is_honest world.now limits w →
+            AreShownOn result.replies result.pushes (connection_at w.connections client) }
     {
         if client == 0 || client > world.clients() {
             return Before {

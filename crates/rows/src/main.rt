@@ -1,6 +1,6 @@
 //! Reads conversations as rows from the files `scan`, `decode`, `client`, `server`, `wire`
-//! and `tap`, runs each at every cut of what is heard, and prints where what was said is not what is
-//! wanted.
+//! and `tap`, runs each at every cut of what is heard, and prints where what was said is not what
+//! is wanted.
 //!
 //! Conversations are separated by empty lines. The first line of one is its title, `# what it
 //! shows`; further lines with `#` are comments. A row is the name of a call and, after a space,
