@@ -272,36 +272,23 @@ static bool is_allowed(struct reader *reader, uint64_t members) {
 #endif
 }
 
-static int type_of(uint32_t form) {
-    switch (form) {
-    case RESP_MAP:
-        return REPLY_MAP;
-    case RESP_SET:
-        return REPLY_SET;
-    case RESP_PUSH:
-        return REPLY_PUSH;
-    default:
-        return REDIS_REPLY_ARRAY;
-    }
+/* The frame of an aggregate whose values have places. */
+static inline void begin_places(struct reader *reader, redisReadTask *task) {
+    struct frame *inner = ++reader->frame;
+    *inner = (struct frame){.task = {.elements = -1, .parent = task, .privdata = reader->base.privdata}, .step = 1};
 }
 
-static APART bool open(struct reader *reader, const struct resp_event *event) {
+/* An aggregate other than an attribute opens. */
+static inline bool open(struct reader *reader, const struct resp_event *event) {
+    static const int types[] = {
+        [RESP_ARRAY] = REDIS_REPLY_ARRAY, [RESP_SET] = REPLY_SET, [RESP_MAP] = REPLY_MAP, [RESP_PUSH] = REPLY_PUSH,
+    };
     redisReplyObjectFunctions *fn = reader->base.fn;
-    bool has_pairs = event->form == RESP_MAP || event->form == RESP_ATTRIBUTE;
-    uint64_t members = has_pairs ? 2 * event->members : event->members;
-    redisReadTask *task = task_of(reader, type_of(event->form));
-    struct frame *inner = ++reader->frame;
-    if (event->form == RESP_ATTRIBUTE) {
-        /* (what it annotates is told as what stands in its place) */
-        *inner = (struct frame){.task = *task, .before = members};
-        reader->unread += members > 0;
-        return true;
-    }
-    *inner = (struct frame){.task = {.elements = -1, .parent = task, .privdata = reader->base.privdata}, .step = 1};
-    if (reader->unread)
-        return true;
+    uint64_t members = event->form == RESP_MAP ? 2 * event->members : event->members;
+    redisReadTask *task = task_of(reader, types[event->form]);
     if (!is_allowed(reader, members))
         return is_out_of_range(reader);
+    begin_places(reader, task);
     task->elements = (long long)members;
     task->obj = fn && fn->createArray ? fn->createArray(task, members) : kind(task);
     return keep(reader, task, task->obj);
@@ -333,8 +320,15 @@ static APART bool take_seldom(struct reader *reader, const struct resp_event *ev
     return is_well;
 }
 
+/* The frame of an attribute. What it annotates is told as what stands in its place. */
+static void begin_attribute(struct reader *reader, const struct resp_event *event) {
+    redisReadTask task = reader->frame->task;
+    *++reader->frame = (struct frame){.task = task, .before = 2 * event->members};
+    reader->unread += event->members > 0;
+}
+
 /* Takes an event of an attribute's pairs, which are told to no function. */
-static APART void pass(struct reader *reader, const struct resp_event *event) {
+static void pass(struct reader *reader, const struct resp_event *event) {
     switch (event->kind) {
     case RESP_TEXT:
         reader->is_text = true;
@@ -342,7 +336,10 @@ static APART void pass(struct reader *reader, const struct resp_event *event) {
     case RESP_PART:
         break;
     case RESP_OPEN:
-        open(reader, event);
+        if (event->form == RESP_ATTRIBUTE)
+            begin_attribute(reader, event);
+        else
+            begin_places(reader, &reader->frame->task);
         break;
     case RESP_CLOSE:
         reader->frame--;
@@ -355,13 +352,20 @@ static APART void pass(struct reader *reader, const struct resp_event *event) {
     }
 }
 
-/* Takes another event than a whole text, an integer, a close and the end, whose bytes begin at `at`. */
-static APART bool take(struct reader *reader, const struct resp_event *event, size_t at) {
-    if (reader->unread) {
+/* Takes the events before the values that attributes annotate, from `pos` on. The event that comes next. */
+static APART const struct resp_event *pass_all(struct reader *reader, const struct resp_event *event) {
+    while (reader->unread && event->kind != RESP_MORE) {
         pass(reader, event);
-        return true;
+        reader->base.pos += event++->used;
     }
-    return event->kind == RESP_OPEN ? open(reader, event) : take_seldom(reader, event, at);
+    return event;
+}
+
+/* An attribute opens at `pos`. The event that comes next once its pairs were passed, or RESP_MORE. */
+static APART const struct resp_event *open_attribute(struct reader *reader, const struct resp_event *event) {
+    begin_attribute(reader, event);
+    reader->base.pos += event->used;
+    return pass_all(reader, event + 1);
 }
 
 /* What is said of a byte that no reply goes on with, by the first byte of its line; NULL in a text. */
@@ -420,12 +424,14 @@ static bool refuse(struct reader *reader) {
     return fail(reader, REDIS_ERR_PROTOCOL, text);
 }
 
-/* Asks for more events, where all were read. Whether there are any; where not, an error may stand. */
-static APART bool scan(struct reader *reader) {
+/* Asks for more events, where all were read. The event that comes next, or NULL; an error may stand then. */
+static APART const struct resp_event *scan(struct reader *reader) {
     redisReader *base = &reader->base;
     struct resp_scanned scanned;
-    if (reader->cause != RESP_OK)
-        return refuse(reader);
+    if (reader->cause != RESP_OK) {
+        refuse(reader);
+        return NULL;
+    }
     reader->next = reader->events;
     reader->events[0].kind = RESP_MORE;
     if (base->pos < reader->taken) {
@@ -435,7 +441,7 @@ static APART bool scan(struct reader *reader) {
         base->pos = reader->taken;
     }
     if (base->pos == base->len && !reader->is_full)
-        return false;
+        return NULL;
     reader->before = resp_scanner_taken(&reader->scanner);
     reader->cause = resp_scanner_scan(&reader->scanner, (const uint8_t *)base->buf + base->pos, base->len - base->pos,
                                       reader->events, MOST_EVENTS, &scanned);
@@ -444,7 +450,7 @@ static APART bool scan(struct reader *reader) {
     reader->is_full = scanned.count == MOST_EVENTS;
     if (scanned.count)
         reader->type = 0;
-    return true;
+    return reader->unread ? pass_all(reader, reader->events) : reader->events;
 }
 
 /* Reads on in the buffer. Whether a reply is whole; where it isn't, an error may stand. */
@@ -454,7 +460,7 @@ static inline bool read_reply(struct reader *reader) {
     size_t at = base->pos;
     for (;;) {
         uint32_t kind = event->kind;
-        if (kind == RESP_WHOLE && !reader->unread) {
+        if (kind == RESP_WHOLE) {
             char *start = base->buf + at + (event->used - event->part - 2);
             if (!add_text(reader, event->form, start, event->part))
                 return false;
@@ -463,22 +469,25 @@ static inline bool read_reply(struct reader *reader) {
             reader->next = event + 1;
             base->pos = at;
             return true;
-        } else if (kind == RESP_INT && !reader->unread) {
+        } else if (kind == RESP_INT) {
             if (!add_integer(reader, event->number))
                 return false;
             end(reader);
-        } else if (kind == RESP_CLOSE && !reader->unread) {
+        } else if (kind == RESP_CLOSE) {
             reader->frame--;
             reader->frame->task.elements = -1;
             end(reader);
-        } else if (kind == RESP_MORE) {
-            base->pos = at;
-            if (!scan(reader))
+        } else if (kind == RESP_OPEN && event->form != RESP_ATTRIBUTE) {
+            if (!open(reader, event))
                 return false;
-            event = reader->next;
+        } else if (kind == RESP_MORE || kind == RESP_OPEN) {
+            base->pos = at;
+            event = kind == RESP_MORE ? scan(reader) : open_attribute(reader, event);
+            if (!event)
+                return false;
             at = base->pos;
             continue;
-        } else if (!take(reader, event, at)) {
+        } else if (!take_seldom(reader, event, at)) {
             return false;
         }
         at += event++->used;
