@@ -54,6 +54,9 @@
 /* As many events as are asked for at once. */
 #define MOST_EVENTS 64
 
+/* So many bytes that a head names are believed to come. */
+#define MOST_BELIEVED 65536
+
 /* The top, or an aggregate that is open. */
 struct frame {
     /* What the functions are told of the value that comes next in it. */
@@ -453,6 +456,15 @@ static APART const struct resp_event *scan(struct reader *reader) {
     return reader->unread ? pass_all(reader, reader->events) : reader->events;
 }
 
+/* Whether all events and all bytes were read. */
+static inline bool is_read(struct reader *reader) {
+    if (reader->base.pos < reader->base.len || reader->is_full)
+        return false;
+    reader->next = reader->events;
+    reader->events[0].kind = RESP_MORE;
+    return true;
+}
+
 /* Reads on in the buffer. Whether a reply is whole; where it isn't, an error may stand. */
 static inline bool read_reply(struct reader *reader) {
     redisReader *base = &reader->base;
@@ -482,7 +494,7 @@ static inline bool read_reply(struct reader *reader) {
                 return false;
         } else if (kind == RESP_MORE || kind == RESP_OPEN) {
             base->pos = at;
-            event = kind == RESP_MORE ? scan(reader) : open_attribute(reader, event);
+            event = kind == RESP_OPEN ? open_attribute(reader, event) : is_read(reader) ? NULL : scan(reader);
             if (!event)
                 return false;
             at = base->pos;
@@ -541,6 +553,18 @@ static void drop_read(struct reader *reader) {
     reader->start = 0;
 }
 
+/* Gives room for a piece, and where there is too little for much of a text that is being read, so that it isn't moved
+ * again and again. */
+static bool reserve_piece(struct reader *reader, size_t length) {
+    redisReader *base = &reader->base;
+    if (base->len + length > reader->room && reader->is_text) {
+        uint64_t needed = resp_scanner_needed(&reader->scanner);
+        size_t believed = needed < MOST_BELIEVED ? (size_t)needed : MOST_BELIEVED;
+        length = length < believed ? believed : length;
+    }
+    return reserve(&base->buf, &reader->room, base->len + length);
+}
+
 int redisReaderFeed(redisReader *base, const char *more, size_t length) {
     struct reader *reader = (struct reader *)base;
     if (base->err)
@@ -553,7 +577,7 @@ int redisReaderFeed(redisReader *base, const char *more, size_t length) {
         base->buf = NULL;
         reader->room = 0;
     }
-    if (!reserve(&base->buf, &reader->room, base->len + length)) {
+    if (!reserve_piece(reader, length)) {
         out_of_memory(reader);
         return REDIS_ERR;
     }
