@@ -233,7 +233,9 @@ struct resp_scanned {
  * the piece is used up, having taken all of it and told all that is due; or else where it refuses a
  * byte, as resp_scanner_step. `scanned` is set either way, and after a refusal too: the events before
  * it are told, and their bytes are `used`. The events after those told are left. All values are read
- * in one version: a caller that may change it at the end of a value steps. */
+ * in one version: a caller that may change it at the end of a value steps; or, where it does, drops
+ * the events after that value, a refusal too, begins the scanner anew by resp_scanner_init in the
+ * other version, and gives it the bytes after the value again. */
 uint32_t resp_scanner_scan(struct resp_scanner *scanner, const uint8_t *piece, size_t length,
                            struct resp_event *events, size_t room, struct resp_scanned *scanned);
 
@@ -299,7 +301,8 @@ uint32_t resp_pairing_first(struct resp_pairing *pairing, uint8_t byte, uint32_t
 
 /* An event of that value, in order: sets `*number` to that of the reply to which it belongs, or to 0
  * for a push. At RESP_DONE a reply answers the first command that waits, and the version is the one
- * that a HELLO asked for, unless its reply is an error, attributes before it aside. */
+ * that a HELLO asked for, unless its reply is an error, attributes before it aside. A RESP_WHOLE
+ * says what the events say for which it stands. */
 void resp_pairing_take(struct resp_pairing *pairing, const struct resp_event *event, uint64_t *number);
 
 /* Steps as resp_scanner_step, and pairs. The scanner was begun in any version between two values,

@@ -521,6 +521,23 @@ static void pair(const struct paired *row, size_t cut) {
     free(scanner.memory);
 }
 
+/* A text that was told with its end answers HELLO: whether the version moves. */
+static void pair_whole(uint32_t form, uint32_t wanted) {
+    struct resp_pairing pairing;
+    struct resp_event whole = {0}, done = {0};
+    uint64_t number = 99;
+    uint32_t version = 99;
+    resp_pairing_init(&pairing);
+    resp_pairing_queue(&pairing, 3, &number);
+    resp_pairing_first(&pairing, '+', &version);
+    whole.kind = RESP_WHOLE;
+    whole.form = form;
+    done.kind = RESP_DONE;
+    resp_pairing_take(&pairing, &whole, &number);
+    resp_pairing_take(&pairing, &done, &number);
+    check(number == 1 && pairing.version == wanted, "pairing", "a whole text is taken otherwise");
+}
+
 static void pairs(void) {
     struct resp_pairing pairing, before;
     uint64_t number = 99;
@@ -539,6 +556,9 @@ static void pairs(void) {
     resp_pairing_init(&pairing);
     check(resp_pairing_first(&pairing, '+', &version) == RESP_CAUSE_UNASKED && version == 3, "first", "asked");
     check(resp_pairing_first(&pairing, '>', &version) == RESP_OK && version == 2, "first", "no push");
+    for (uint32_t form = RESP_TEXT_SIMPLE; form <= RESP_TEXT_BULK; form++)
+        pair_whole(form, form == RESP_TEXT_ERROR ? 2 : 3);
+    resp_pairing_init(&pairing);
     pairing.answered = UINT64_C(1) << 63;
     check(resp_pairing_queue(&pairing, 0, &number) == RESP_CAUSE_TOO_MANY && number == 2, "queue", "too many");
 }

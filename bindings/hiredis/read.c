@@ -54,6 +54,9 @@
 /* As many events as are asked for at once. */
 #define MOST_EVENTS 64
 
+/* So many bytes that a head names are believed to come. */
+#define MOST_BELIEVED 65536
+
 /* The top, or an aggregate that is open. */
 struct frame {
     /* What the functions are told of the value that comes next in it. */
@@ -272,36 +275,23 @@ static bool is_allowed(struct reader *reader, uint64_t members) {
 #endif
 }
 
-static int type_of(uint32_t form) {
-    switch (form) {
-    case RESP_MAP:
-        return REPLY_MAP;
-    case RESP_SET:
-        return REPLY_SET;
-    case RESP_PUSH:
-        return REPLY_PUSH;
-    default:
-        return REDIS_REPLY_ARRAY;
-    }
+/* The frame of an aggregate whose values have places. */
+static inline void begin_places(struct reader *reader, redisReadTask *task) {
+    struct frame *inner = ++reader->frame;
+    *inner = (struct frame){.task = {.elements = -1, .parent = task, .privdata = reader->base.privdata}, .step = 1};
 }
 
-static APART bool open(struct reader *reader, const struct resp_event *event) {
+/* An aggregate other than an attribute opens. */
+static inline bool open(struct reader *reader, const struct resp_event *event) {
+    static const int types[] = {
+        [RESP_ARRAY] = REDIS_REPLY_ARRAY, [RESP_SET] = REPLY_SET, [RESP_MAP] = REPLY_MAP, [RESP_PUSH] = REPLY_PUSH,
+    };
     redisReplyObjectFunctions *fn = reader->base.fn;
-    bool has_pairs = event->form == RESP_MAP || event->form == RESP_ATTRIBUTE;
-    uint64_t members = has_pairs ? 2 * event->members : event->members;
-    redisReadTask *task = task_of(reader, type_of(event->form));
-    struct frame *inner = ++reader->frame;
-    if (event->form == RESP_ATTRIBUTE) {
-        /* (what it annotates is told as what stands in its place) */
-        *inner = (struct frame){.task = *task, .before = members};
-        reader->unread += members > 0;
-        return true;
-    }
-    *inner = (struct frame){.task = {.elements = -1, .parent = task, .privdata = reader->base.privdata}, .step = 1};
-    if (reader->unread)
-        return true;
+    uint64_t members = event->form == RESP_MAP ? 2 * event->members : event->members;
+    redisReadTask *task = task_of(reader, types[event->form]);
     if (!is_allowed(reader, members))
         return is_out_of_range(reader);
+    begin_places(reader, task);
     task->elements = (long long)members;
     task->obj = fn && fn->createArray ? fn->createArray(task, members) : kind(task);
     return keep(reader, task, task->obj);
@@ -333,8 +323,15 @@ static APART bool take_seldom(struct reader *reader, const struct resp_event *ev
     return is_well;
 }
 
+/* The frame of an attribute. What it annotates is told as what stands in its place. */
+static void begin_attribute(struct reader *reader, const struct resp_event *event) {
+    redisReadTask task = reader->frame->task;
+    *++reader->frame = (struct frame){.task = task, .before = 2 * event->members};
+    reader->unread += event->members > 0;
+}
+
 /* Takes an event of an attribute's pairs, which are told to no function. */
-static APART void pass(struct reader *reader, const struct resp_event *event) {
+static void pass(struct reader *reader, const struct resp_event *event) {
     switch (event->kind) {
     case RESP_TEXT:
         reader->is_text = true;
@@ -342,7 +339,10 @@ static APART void pass(struct reader *reader, const struct resp_event *event) {
     case RESP_PART:
         break;
     case RESP_OPEN:
-        open(reader, event);
+        if (event->form == RESP_ATTRIBUTE)
+            begin_attribute(reader, event);
+        else
+            begin_places(reader, &reader->frame->task);
         break;
     case RESP_CLOSE:
         reader->frame--;
@@ -355,13 +355,20 @@ static APART void pass(struct reader *reader, const struct resp_event *event) {
     }
 }
 
-/* Takes another event than a whole text, an integer, a close and the end, whose bytes begin at `at`. */
-static APART bool take(struct reader *reader, const struct resp_event *event, size_t at) {
-    if (reader->unread) {
+/* Takes the events before the values that attributes annotate, from `pos` on. The event that comes next. */
+static APART const struct resp_event *pass_all(struct reader *reader, const struct resp_event *event) {
+    while (reader->unread && event->kind != RESP_MORE) {
         pass(reader, event);
-        return true;
+        reader->base.pos += event++->used;
     }
-    return event->kind == RESP_OPEN ? open(reader, event) : take_seldom(reader, event, at);
+    return event;
+}
+
+/* An attribute opens at `pos`. The event that comes next once its pairs were passed, or RESP_MORE. */
+static APART const struct resp_event *open_attribute(struct reader *reader, const struct resp_event *event) {
+    begin_attribute(reader, event);
+    reader->base.pos += event->used;
+    return pass_all(reader, event + 1);
 }
 
 /* What is said of a byte that no reply goes on with, by the first byte of its line; NULL in a text. */
@@ -420,12 +427,14 @@ static bool refuse(struct reader *reader) {
     return fail(reader, REDIS_ERR_PROTOCOL, text);
 }
 
-/* Asks for more events, where all were read. Whether there are any; where not, an error may stand. */
-static APART bool scan(struct reader *reader) {
+/* Asks for more events, where all were read. The event that comes next, or NULL; an error may stand then. */
+static APART const struct resp_event *scan(struct reader *reader) {
     redisReader *base = &reader->base;
     struct resp_scanned scanned;
-    if (reader->cause != RESP_OK)
-        return refuse(reader);
+    if (reader->cause != RESP_OK) {
+        refuse(reader);
+        return NULL;
+    }
     reader->next = reader->events;
     reader->events[0].kind = RESP_MORE;
     if (base->pos < reader->taken) {
@@ -435,7 +444,7 @@ static APART bool scan(struct reader *reader) {
         base->pos = reader->taken;
     }
     if (base->pos == base->len && !reader->is_full)
-        return false;
+        return NULL;
     reader->before = resp_scanner_taken(&reader->scanner);
     reader->cause = resp_scanner_scan(&reader->scanner, (const uint8_t *)base->buf + base->pos, base->len - base->pos,
                                       reader->events, MOST_EVENTS, &scanned);
@@ -444,6 +453,15 @@ static APART bool scan(struct reader *reader) {
     reader->is_full = scanned.count == MOST_EVENTS;
     if (scanned.count)
         reader->type = 0;
+    return reader->unread ? pass_all(reader, reader->events) : reader->events;
+}
+
+/* Whether all events and all bytes were read. */
+static inline bool is_read(struct reader *reader) {
+    if (reader->base.pos < reader->base.len || reader->is_full)
+        return false;
+    reader->next = reader->events;
+    reader->events[0].kind = RESP_MORE;
     return true;
 }
 
@@ -454,7 +472,7 @@ static inline bool read_reply(struct reader *reader) {
     size_t at = base->pos;
     for (;;) {
         uint32_t kind = event->kind;
-        if (kind == RESP_WHOLE && !reader->unread) {
+        if (kind == RESP_WHOLE) {
             char *start = base->buf + at + (event->used - event->part - 2);
             if (!add_text(reader, event->form, start, event->part))
                 return false;
@@ -463,22 +481,25 @@ static inline bool read_reply(struct reader *reader) {
             reader->next = event + 1;
             base->pos = at;
             return true;
-        } else if (kind == RESP_INT && !reader->unread) {
+        } else if (kind == RESP_INT) {
             if (!add_integer(reader, event->number))
                 return false;
             end(reader);
-        } else if (kind == RESP_CLOSE && !reader->unread) {
+        } else if (kind == RESP_CLOSE) {
             reader->frame--;
             reader->frame->task.elements = -1;
             end(reader);
-        } else if (kind == RESP_MORE) {
-            base->pos = at;
-            if (!scan(reader))
+        } else if (kind == RESP_OPEN && event->form != RESP_ATTRIBUTE) {
+            if (!open(reader, event))
                 return false;
-            event = reader->next;
+        } else if (kind == RESP_MORE || kind == RESP_OPEN) {
+            base->pos = at;
+            event = kind == RESP_OPEN ? open_attribute(reader, event) : is_read(reader) ? NULL : scan(reader);
+            if (!event)
+                return false;
             at = base->pos;
             continue;
-        } else if (!take(reader, event, at)) {
+        } else if (!take_seldom(reader, event, at)) {
             return false;
         }
         at += event++->used;
@@ -532,6 +553,18 @@ static void drop_read(struct reader *reader) {
     reader->start = 0;
 }
 
+/* Gives room for a piece, and where there is too little for much of a text that is being read, so that it isn't moved
+ * again and again. */
+static bool reserve_piece(struct reader *reader, size_t length) {
+    redisReader *base = &reader->base;
+    if (base->len + length > reader->room && reader->is_text) {
+        uint64_t needed = resp_scanner_needed(&reader->scanner);
+        size_t believed = needed < MOST_BELIEVED ? (size_t)needed : MOST_BELIEVED;
+        length = length < believed ? believed : length;
+    }
+    return reserve(&base->buf, &reader->room, base->len + length);
+}
+
 int redisReaderFeed(redisReader *base, const char *more, size_t length) {
     struct reader *reader = (struct reader *)base;
     if (base->err)
@@ -544,7 +577,7 @@ int redisReaderFeed(redisReader *base, const char *more, size_t length) {
         base->buf = NULL;
         reader->room = 0;
     }
-    if (!reserve(&base->buf, &reader->room, base->len + length)) {
+    if (!reserve_piece(reader, length)) {
         out_of_memory(reader);
         return REDIS_ERR;
     }

@@ -3,340 +3,45 @@
 #define Py_LIMITED_API 0x030b0000
 #include <Python.h>
 
+#include "bytes.h"
 #include "resp.h"
+#include "values.h"
 
-#include <string.h>
-
-/* As deep as the greatest limit of depth. */
-#define MOST_OPEN 128
-
-/* An aggregate that is open. */
-struct open {
-    uint32_t form;
-    /* Its members; of an attribute the values still to come before the one that it annotates. */
-    uint64_t members;
-    /* A list, or a dict for a map. Of an attribute the annotated value, or NULL before it. */
-    PyObject *values;
-    /* The key whose value comes next, or NULL. */
-    PyObject *key;
-};
-
-/* Bytes that grow. */
-struct bytes {
-    uint8_t *start;
-    size_t length, room;
-};
+/* As many events as are asked for at once. */
+#define MOST_EVENTS 64
 
 struct reader {
     PyObject_HEAD
+    /* `length` bytes were fed, of which `pos` were read. They lie in `lent`, or in `kept` where that is NULL. */
+    const uint8_t *fed;
+    size_t length, pos;
+    PyObject *lent;
+    struct bytes kept;
+    /* The events that were told and not yet read, from `pos` on, RESP_MORE after them; and where they were scanned to. */
+    const struct resp_event *next;
+    size_t scanned;
+    /* Why the byte after that is refused, or RESP_OK; and whether no more events had room. */
+    uint32_t cause;
+    bool is_full;
+    /* Whether a reply was begun, and whether a call is reading. */
+    bool is_begun, is_reading;
+    /* The version in which was scanned, and the limits. */
+    uint32_t version;
+    struct resp_limits limits;
     struct resp_scanner scanner;
-    /* What was fed, of which `taken` bytes were read. */
-    struct bytes fed;
-    size_t taken;
-    struct open open[MOST_OPEN];
-    size_t depth;
-    /* The text that is being read: its kind, whether it is a big number below zero, and its bytes. They lie at `part`
-     * of what was fed where that isn't NULL, and else in `text`. */
-    uint32_t form;
-    bool is_negative;
-    const uint8_t *part;
-    struct bytes text;
-    /* The value at the top, once it is whole. */
-    PyObject *value;
-    /* Why a value can't be made. It is raised once the value was read, so that the next can be. */
-    PyObject *failure;
-    PyObject *protocol_error, *reply_error, *not_enough_data;
-    char *encoding, *errors;
-    /* Whether texts are decoded, where there is an encoding. */
-    int decodes;
+    struct values values;
+    PyObject *protocol_error, *not_enough_data;
     /* Whether replies are paired with the commands that were queued; which wait, and the number of the reply. */
     bool pairs;
     struct resp_pairing pairing;
     uint64_t number;
+    struct resp_event events[MOST_EVENTS + 1];
 };
 
-static PyObject *ProtocolError, *ReplyError, *Push;
-
-/* Gives room for `length` bytes more. */
-static bool reserve(struct bytes *bytes, size_t length) {
-    if (length > bytes->room - bytes->length) {
-        size_t room = bytes->length + length;
-        room = room < 512 ? 512 : room + room / 2;
-        uint8_t *start = PyMem_Realloc(bytes->start, room);
-        if (!start) {
-            PyErr_NoMemory();
-            return false;
-        }
-        bytes->start = start;
-        bytes->room = room;
-    }
-    return true;
-}
-
-static bool append(struct bytes *bytes, const uint8_t *more, size_t length) {
-    if (!reserve(bytes, length))
-        return false;
-    if (length)
-        memcpy(bytes->start + bytes->length, more, length);
-    bytes->length += length;
-    return true;
-}
-
-/* Puts a value, which it takes, in the place of another. */
-static void replace(PyObject **place, PyObject *value) {
-    PyObject *before = *place;
-    *place = value;
-    Py_XDECREF(before);
-}
-
-/* The exception that is set, as an object. */
-static PyObject *take_exception(void) {
-    PyObject *type, *value, *traceback;
-    PyErr_Fetch(&type, &value, &traceback);
-    PyErr_NormalizeException(&type, &value, &traceback);
-    Py_XDECREF(type);
-    Py_XDECREF(traceback);
-    return value;
-}
-
-/* None in place of a value that couldn't be made, of which the first exception is kept. */
-static PyObject *failed(struct reader *reader) {
-    PyObject *exception = take_exception();
-    if (!reader->failure)
-        reader->failure = exception;
-    else
-        Py_XDECREF(exception);
-    Py_INCREF(Py_None);
-    return Py_None;
-}
-
-static PyObject *hashable(PyObject *value);
-
-/* A tuple of what can be hashed in a sequence. */
-static PyObject *hashable_tuple(PyObject *values) {
-    PyObject *tuple = PySequence_Tuple(values);
-    if (!tuple)
-        return NULL;
-    Py_ssize_t length = PyTuple_Size(tuple);
-    PyObject *made = PyTuple_New(length);
-    for (Py_ssize_t at = 0; made && at < length; at++) {
-        PyObject *value = hashable(PyTuple_GetItem(tuple, at));
-        if (!value || PyTuple_SetItem(made, at, value))
-            Py_CLEAR(made);
-    }
-    Py_DECREF(tuple);
-    return made;
-}
-
-/* The same value as a key: lists are tuples, sets are frozen, and a dict is the tuple of its pairs. */
-static PyObject *hashable(PyObject *value) {
-    if (PyList_Check(value))
-        return hashable_tuple(value);
-    if (PyDict_Check(value)) {
-        PyObject *pairs = PyDict_Items(value);
-        PyObject *made = pairs ? hashable_tuple(pairs) : NULL;
-        Py_XDECREF(pairs);
-        return made;
-    }
-    if (PyTuple_Check(value))
-        return hashable_tuple(value);
-    if (PySet_Check(value))
-        return PyFrozenSet_New(value);
-    Py_INCREF(value);
-    return value;
-}
-
-static PyObject *text_value(struct reader *reader) {
-    const char *start = (const char *)(reader->part ? reader->part : reader->text.start);
-    Py_ssize_t length = (Py_ssize_t)reader->text.length;
-    PyObject *made, *value;
-    if (!length)
-        start = "";
-    switch (reader->form) {
-    case RESP_TEXT_ERROR:
-    case RESP_TEXT_BULK_ERROR:
-        made = PyUnicode_DecodeUTF8(start, length, "replace");
-        value = made ? PyObject_CallFunctionObjArgs(reader->reply_error, made, NULL) : NULL;
-        Py_XDECREF(made);
-        return value;
-    case RESP_TEXT_DOUBLE:
-        made = PyUnicode_DecodeUTF8(start, length, "strict");
-        value = made ? PyFloat_FromString(made) : NULL;
-        Py_XDECREF(made);
-        return value;
-    case RESP_TEXT_BIG:
-        made = length ? PyUnicode_FromStringAndSize(start, length) : PyUnicode_FromString("0");
-        value = made ? PyObject_CallFunctionObjArgs((PyObject *)&PyLong_Type, made, NULL) : NULL;
-        if (value && reader->is_negative)
-            replace(&value, PyNumber_Negative(value));
-        Py_XDECREF(made);
-        return value;
-    default:
-        if (reader->encoding && reader->decodes)
-            return PyUnicode_Decode(start, length, reader->encoding, reader->errors);
-        return PyBytes_FromStringAndSize(start, length);
-    }
-}
-
-/* A list that is a push has a type of its own. */
-static PyObject *new_values(uint32_t form) {
-    switch (form) {
-    case RESP_MAP:
-    case RESP_ATTRIBUTE:
-        return PyDict_New();
-    case RESP_PUSH:
-        return PyObject_CallFunctionObjArgs(Push, NULL);
-    default:
-        return PyList_New(0);
-    }
-}
-
-/* Sets a key, which is made hashable where it isn't. */
-static int set_item(PyObject *values, PyObject *key, PyObject *value) {
-    PyObject *made = hashable(key);
-    int answer = made ? PyDict_SetItem(values, made, value) : -1;
-    Py_XDECREF(made);
-    return answer;
-}
-
-/* Adds a whole value, which it takes, to the innermost open aggregate, or leaves it at the top. */
-static void add(struct reader *reader, PyObject *value) {
-    if (!value)
-        value = failed(reader);
-    if (!reader->depth) {
-        replace(&reader->value, value);
-        return;
-    }
-    struct open *open = &reader->open[reader->depth - 1];
-    if (open->form == RESP_ATTRIBUTE) {
-        /* Attributes are read over. Only the value that one annotates is kept. */
-        if (open->members > 0) {
-            open->members--;
-            Py_DECREF(value);
-        } else {
-            replace(&open->values, value);
-        }
-    } else if (open->form != RESP_MAP) {
-        if (PyList_Append(open->values, value))
-            Py_DECREF(failed(reader));
-        Py_DECREF(value);
-    } else if (!open->key) {
-        open->key = value;
-    } else {
-        if (set_item(open->values, open->key, value))
-            Py_DECREF(failed(reader));
-        Py_CLEAR(open->key);
-        Py_DECREF(value);
-    }
-}
-
-static void begin(struct reader *reader, const struct resp_event *event) {
-    struct open *open = &reader->open[reader->depth++];
-    open->form = event->form;
-    open->members = event->form == RESP_ATTRIBUTE ? 2 * event->members : event->members;
-    open->key = NULL;
-    open->values = event->form == RESP_ATTRIBUTE ? NULL : new_values(event->form);
-    if (!open->values && event->form != RESP_ATTRIBUTE) {
-        /* Nothing can be added to None, and the failure is raised in the end. */
-        open->values = failed(reader);
-    }
-}
-
-/* A set of the values of a list. */
-static PyObject *set_of(PyObject *values) {
-    PyObject *set = PySet_New(NULL);
-    Py_ssize_t length = PyList_Size(values);
-    for (Py_ssize_t at = 0; set && at < length; at++) {
-        PyObject *value = hashable(PyList_GetItem(values, at));
-        if (!value || PySet_Add(set, value))
-            Py_CLEAR(set);
-        Py_XDECREF(value);
-    }
-    return set;
-}
-
-static void end(struct reader *reader) {
-    struct open *open = &reader->open[--reader->depth];
-    PyObject *value = open->values;
-    open->values = NULL;
-    if (open->form == RESP_SET && value && PyList_Check(value)) {
-        PyObject *set = set_of(value);
-        Py_DECREF(value);
-        value = set;
-    }
-    add(reader, value);
-}
-
-/* Forgets the value that was begun. */
-static void forget(struct reader *reader) {
-    while (reader->depth) {
-        struct open *open = &reader->open[--reader->depth];
-        Py_CLEAR(open->values);
-        Py_CLEAR(open->key);
-    }
-    Py_CLEAR(reader->value);
-    Py_CLEAR(reader->failure);
-}
-
-/* Copies a text that lies in what was fed, since that goes. Whether memory for it was found. */
-static bool copy_part(struct reader *reader) {
-    const uint8_t *part = reader->part;
-    size_t length = reader->text.length;
-    if (!part)
-        return true;
-    reader->part = NULL;
-    reader->text.length = 0;
-    return append(&reader->text, part, length);
-}
-
-/* Adds a part to the text. The first is not copied, where it lies in what was fed. */
-static bool add_part(struct reader *reader, const struct resp_event *event, const uint8_t *piece) {
-    if (!reader->text.length && event->used) {
-        reader->part = resp_event_part(event, piece);
-        reader->text.length = event->part;
-        return true;
-    }
-    return copy_part(reader) && append(&reader->text, resp_event_part(event, piece), event->part);
-}
-
-/* Takes an event. Whether memory for it was found. */
-static bool take(struct reader *reader, const struct resp_event *event, const uint8_t *piece) {
-    switch (event->kind) {
-    case RESP_NULL:
-        Py_INCREF(Py_None);
-        add(reader, Py_None);
-        break;
-    case RESP_BOOL:
-        add(reader, PyBool_FromLong((long)event->number));
-        break;
-    case RESP_INT:
-        add(reader, PyLong_FromLongLong(event->number));
-        break;
-    case RESP_TEXT:
-        reader->text.length = 0;
-        reader->part = NULL;
-        reader->form = event->form;
-        reader->is_negative = event->number;
-        break;
-    case RESP_PART:
-        return add_part(reader, event, piece);
-    case RESP_TEXT_END:
-        add(reader, text_value(reader));
-        reader->part = NULL;
-        break;
-    case RESP_OPEN:
-        begin(reader, event);
-        break;
-    case RESP_CLOSE:
-        end(reader);
-        break;
-    }
-    return true;
-}
+static PyObject *ProtocolError, *ReplyError;
 
 /* Raises the protocol's error, with the cause and the byte of the value as attributes. */
-static PyObject *refuse(struct reader *reader, uint32_t cause) {
-    uint64_t at = resp_scanner_taken(&reader->scanner);
+static PyObject *refuse(struct reader *reader, uint32_t cause, uint64_t at) {
     const char *name = resp_cause_name(cause);
     PyObject *error = PyObject_CallFunction(reader->protocol_error, "N",
         PyUnicode_FromFormat("%s at byte %llu of the value", name, (unsigned long long)at));
@@ -352,101 +57,243 @@ static PyObject *refuse(struct reader *reader, uint32_t cause) {
     return NULL;
 }
 
-static PyObject *reader_feed(struct reader *reader, PyObject *args) {
+/* Nothing was scanned beyond what was read. */
+static void begin_scanning(struct reader *reader, uint32_t version) {
+    reader->version = version;
+    reader->events[0].kind = RESP_MORE;
+    reader->next = reader->events;
+    reader->scanned = reader->pos;
+    reader->cause = RESP_OK;
+    reader->is_full = false;
+}
+
+/* Scans what comes after a reply in another version, for which what was scanned of it says nothing. */
+static APART void scan_again(struct reader *reader, uint32_t version) {
+    resp_scanner_init(&reader->scanner, version, &reader->limits);
+    begin_scanning(reader, version);
+}
+
+/* Asks for more events, where all were read. Whether there may be any. */
+static APART bool scan(struct reader *reader) {
+    struct resp_scanned scanned;
+    reader->next = reader->events;
+    reader->events[0].kind = RESP_MORE;
+    /* (the bytes after the last event belong to no event yet) */
+    reader->pos = reader->scanned;
+    if (reader->cause != RESP_OK || (reader->pos == reader->length && !reader->is_full))
+        return false;
+    reader->cause = resp_scanner_scan(&reader->scanner, reader->fed + reader->pos, reader->length - reader->pos,
+                                      reader->events, MOST_EVENTS, &scanned);
+    reader->events[scanned.count].kind = RESP_MORE;
+    reader->scanned = reader->pos + scanned.used;
+    reader->is_full = scanned.count == MOST_EVENTS;
+    return true;
+}
+
+/* Lets go of what was fed, all of which was read. */
+static void drop_fed(struct reader *reader) {
+    Py_CLEAR(reader->lent);
+    empty(&reader->kept);
+    reader->fed = (const uint8_t *)"";
+    reader->length = reader->pos = reader->scanned = 0;
+}
+
+/* Moves what wasn't read to the front of memory of ours, which has room. */
+static void move_rest(struct reader *reader) {
+    size_t rest = reader->length - reader->pos;
+    memmove(reader->kept.start, reader->fed + reader->pos, rest);
+    reader->fed = reader->kept.start;
+    reader->kept.length = reader->length = rest;
+    reader->scanned -= reader->pos;
+    reader->pos = 0;
+    Py_CLEAR(reader->lent);
+}
+
+/* Copies bytes into memory of ours, after those that weren't read. */
+static bool keep(struct reader *reader, const uint8_t *more, size_t length) {
+    size_t rest = reader->length - reader->pos;
+    if (reader->lent && !reserve(&reader->kept, rest + length))
+        return false;
+    /* (the rest is moved where it is less than what was read) */
+    if (reader->lent || reader->pos > rest)
+        move_rest(reader);
+    if (!append(&reader->kept, more, length))
+        return false;
+    reader->fed = reader->kept.start;
+    reader->length = reader->kept.length;
+    return true;
+}
+
+/* Whether a call may use the reader: not before it was begun, and not while one that reads calls back. It is asked once
+ * the arguments, which may call too, were looked at. */
+static bool is_ready(struct reader *reader) {
+    if (reader->not_enough_data && !reader->is_reading)
+        return true;
+    PyErr_SetString(PyExc_RuntimeError, reader->is_reading ? "the reader is in use" : "the reader wasn't begun");
+    return false;
+}
+
+/* The slice of so many bytes that the arguments after the first name. */
+static bool slice_of(PyObject *const *args, Py_ssize_t count, Py_ssize_t size, Py_ssize_t *from, Py_ssize_t *length) {
+    *from = 0;
+    *length = -1;
+    if (count > 1 && (*from = PyNumber_AsSsize_t(args[1], PyExc_OverflowError)) == -1 && PyErr_Occurred())
+        return false;
+    if (count > 2 && (*length = PyNumber_AsSsize_t(args[2], PyExc_OverflowError)) == -1 && PyErr_Occurred())
+        return false;
+    if (*length < 0)
+        *length = size - *from;
+    if (*from >= 0 && *length >= 0 && *from <= size && *length <= size - *from)
+        return true;
+    PyErr_SetString(PyExc_ValueError, "the slice lies outside the buffer");
+    return false;
+}
+
+/* Feeds an object of the type bytes. It can't change, so nothing is copied where all before was read. */
+static bool feed_bytes(struct reader *reader, PyObject *const *args, Py_ssize_t count) {
+    Py_ssize_t from, length;
+    if (!slice_of(args, count, PyBytes_Size(args[0]), &from, &length) || !is_ready(reader))
+        return false;
+    const uint8_t *start = (const uint8_t *)PyBytes_AsString(args[0]) + from;
+    if (reader->pos != reader->length)
+        return keep(reader, start, (size_t)length);
+    drop_fed(reader);
+    Py_INCREF(args[0]);
+    reader->lent = args[0];
+    reader->fed = start;
+    reader->length = (size_t)length;
+    return true;
+}
+
+static bool feed_buffer(struct reader *reader, PyObject *const *args, Py_ssize_t count) {
     Py_buffer piece;
-    Py_ssize_t from = 0, length = -1;
-    if (!PyArg_ParseTuple(args, "y*|nn:feed", &piece, &from, &length))
-        return NULL;
-    if (length < 0)
-        length = piece.len - from;
-    bool is_within = from >= 0 && length >= 0 && from <= piece.len && length <= piece.len - from;
-    if (!is_within)
-        PyErr_SetString(PyExc_ValueError, "the slice lies outside the buffer");
-    /* What was read needs no room any more. */
-    if (is_within && reader->taken) {
-        reader->fed.length -= reader->taken;
-        memmove(reader->fed.start, reader->fed.start + reader->taken, reader->fed.length);
-        reader->taken = 0;
-    }
-    bool is_fed = is_within && append(&reader->fed, (const uint8_t *)piece.buf + from, (size_t)length);
+    Py_ssize_t from, length;
+    if (PyObject_GetBuffer(args[0], &piece, PyBUF_SIMPLE))
+        return false;
+    bool is_fed = slice_of(args, count, piece.len, &from, &length) && is_ready(reader) &&
+                  keep(reader, (const uint8_t *)piece.buf + from, (size_t)length);
     PyBuffer_Release(&piece);
-    if (!is_fed)
+    return is_fed;
+}
+
+static PyObject *reader_feed(struct reader *reader, PyObject *const *args, Py_ssize_t count) {
+    if (count < 1 || count > 3) {
+        PyErr_SetString(PyExc_TypeError, "feed takes bytes, and where a slice of them begins, and its length");
+        return NULL;
+    }
+    bool is_bytes = Py_TYPE(args[0]) == &PyBytes_Type;
+    if (!(is_bytes ? feed_bytes(reader, args, count) : feed_buffer(reader, args, count)))
         return NULL;
     Py_RETURN_NONE;
 }
 
-/* The value that has ended, or the exception that it couldn't be made by. */
-static PyObject *whole(struct reader *reader) {
-    PyObject *value = reader->value, *failure = reader->failure;
-    reader->value = reader->failure = NULL;
-    if (!failure && !reader->pairs)
-        return value;
-    if (!failure) {
-        PyObject *pair = reader->number ? Py_BuildValue("(KN)", (unsigned long long)reader->number, value)
-                                        : Py_BuildValue("(ON)", Py_None, value);
-        return pair;
+/* No event is there: what was fed is read, or a byte is refused, for good. */
+static APART PyObject *stop(struct reader *reader) {
+    if (reader->cause != RESP_OK) {
+        forget(&reader->values);
+        return refuse(reader, reader->cause, resp_scanner_taken(&reader->scanner));
     }
-    Py_XDECREF(value);
-    PyErr_SetObject((PyObject *)Py_TYPE(failure), failure);
-    Py_DECREF(failure);
-    return NULL;
+    drop_fed(reader);
+    Py_INCREF(reader->not_enough_data);
+    return reader->not_enough_data;
 }
 
-static PyObject *reader_gets(struct reader *reader, PyObject *args) {
-    reader->decodes = 1;
-    if (!PyArg_ParseTuple(args, "|p:gets", &reader->decodes))
-        return NULL;
+/* The first byte of a value that is paired. Whether a command asked for the value, or it is a push. */
+static bool begin_paired(struct reader *reader) {
+    uint32_t version = 0, cause = resp_pairing_first(&reader->pairing, reader->fed[reader->pos], &version);
+    if (cause != RESP_OK) {
+        refuse(reader, cause, 0);
+        return false;
+    }
+    if (version != reader->version)
+        scan_again(reader, version);
+    return true;
+}
+
+/* Reads on in the reply that was begun, of which the pairing is told where there is one. */
+static inline PyObject *read_on(struct reader *reader, bool pairs) {
+    const struct resp_event *event = reader->next;
+    const uint8_t *at = reader->fed + reader->pos;
     for (;;) {
-        const uint8_t *piece = reader->fed.start ? reader->fed.start + reader->taken : (const uint8_t *)"";
-        struct resp_event event;
-        size_t length = reader->fed.length - reader->taken;
-        uint32_t cause = reader->pairs ? resp_pairing_step(&reader->pairing, &reader->scanner, piece, length, &event,
-                                                           &reader->number)
-                                       : resp_scanner_step(&reader->scanner, piece, length, &event);
-        if (cause != RESP_OK) {
-            forget(reader);
-            return refuse(reader, cause);
-        }
-        bool has_memory = take(reader, &event, piece);
-        reader->taken += event.used;
-        if (!has_memory)
-            Py_DECREF(failed(reader));
-        if (event.kind == RESP_DONE)
-            return whole(reader);
-        if (event.kind == RESP_MORE) {
-            if (!copy_part(reader))
-                Py_DECREF(failed(reader));
-            Py_INCREF(reader->not_enough_data);
-            return reader->not_enough_data;
+        if (pairs && event->kind != RESP_MORE)
+            resp_pairing_take(&reader->pairing, event, &reader->number);
+        if (take(&reader->values, event, at)) {
+            at += event++->used;
+        } else if (event->kind == RESP_DONE) {
+            reader->next = event + 1;
+            reader->pos = (size_t)(at - reader->fed) + event->used;
+            reader->is_begun = false;
+            return whole(&reader->values);
+        } else if (scan(reader)) {
+            event = reader->next;
+            at = reader->fed + reader->pos;
+        } else {
+            return stop(reader);
         }
     }
+}
+
+/* The next reply. */
+static inline PyObject *read_reply(struct reader *reader) {
+    if (!reader->is_begun && reader->pos == reader->length)
+        return stop(reader);
+    reader->is_begun = true;
+    return read_on(reader, false);
+}
+
+/* The next reply with the number of its command, or None for a push. */
+static APART PyObject *read_paired(struct reader *reader) {
+    if (!reader->is_begun && reader->pos == reader->length)
+        return stop(reader);
+    if (!reader->is_begun && !begin_paired(reader))
+        return NULL;
+    reader->is_begun = true;
+    PyObject *value = read_on(reader, true);
+    if (!value || reader->is_begun)
+        return value;
+    return reader->number ? Py_BuildValue("(KN)", (unsigned long long)reader->number, value)
+                          : Py_BuildValue("(ON)", Py_None, value);
+}
+
+static PyObject *reader_gets(struct reader *reader, PyObject *const *args, Py_ssize_t count) {
+    int decodes = count == 1 ? PyObject_IsTrue(args[0]) : 1;
+    if (count > 1)
+        PyErr_SetString(PyExc_TypeError, "gets takes no more than whether strings are decoded");
+    if (count > 1 || decodes < 0 || !is_ready(reader))
+        return NULL;
+    reader->values.reads_now = decodes ? reader->values.reads : AS_BYTES;
+    reader->is_reading = true;
+    PyObject *reply = reader->pairs ? read_paired(reader) : read_reply(reader);
+    reader->is_reading = false;
+    return reply;
 }
 
 static PyObject *reader_has_data(struct reader *reader, PyObject *args) {
     (void)args;
-    return PyBool_FromLong(reader->taken < reader->fed.length || resp_scanner_taken(&reader->scanner) > 0);
+    return PyBool_FromLong(reader->pos < reader->length || reader->is_begun);
 }
 
 static PyObject *reader_set_protocol(struct reader *reader, PyObject *args) {
     unsigned int version;
-    if (!PyArg_ParseTuple(args, "I:set_protocol", &version))
+    if (!PyArg_ParseTuple(args, "I:set_protocol", &version) || !is_ready(reader))
         return NULL;
-    switch (resp_scanner_set_version(&reader->scanner, version)) {
-    case RESP_OK:
-        Py_RETURN_NONE;
-    case RESP_CAUSE_BUSY:
-        PyErr_SetString(PyExc_ValueError, "a value was begun");
-        return NULL;
-    default:
+    if (version != 2 && version != 3) {
         PyErr_SetString(PyExc_ValueError, "a protocol that is neither 2 nor 3");
         return NULL;
     }
+    if (reader->is_begun) {
+        PyErr_SetString(PyExc_ValueError, "a value was begun");
+        return NULL;
+    }
+    if (version != reader->version)
+        scan_again(reader, version);
+    Py_RETURN_NONE;
 }
 
 static PyObject *pairing_queue(struct reader *reader, PyObject *args) {
     unsigned int hello = 0;
     uint64_t number;
-    if (!PyArg_ParseTuple(args, "|I:queue", &hello))
+    if (!PyArg_ParseTuple(args, "|I:queue", &hello) || !is_ready(reader))
         return NULL;
     switch (resp_pairing_queue(&reader->pairing, hello, &number)) {
     case RESP_OK:
@@ -468,66 +315,108 @@ static PyObject *pairing_protocol(struct reader *reader, PyObject *args) {
     return PyLong_FromUnsignedLong(reader->pairing.version);
 }
 
-/* A copy of a text that may be None. Whether memory for it was found. */
-static bool copy_text(char **to, const char *text) {
-    PyMem_Free(*to);
-    *to = NULL;
-    if (!text)
+/* What a reader is begun with. */
+struct words {
+    PyObject *protocol_error, *reply_error, *not_enough_data;
+    const char *encoding, *errors;
+    unsigned int version;
+    struct resp_limits limits;
+};
+
+static bool read_words(struct words *to, PyObject *args, PyObject *words) {
+    static char *names[] = {"protocolError", "replyError", "encoding", "errors", "notEnoughData", "protocol",
+                            "depth", "length", "total", "items", "streamed", "doubles", NULL};
+    struct resp_limits limits;
+    resp_limits_standard(&limits);
+    unsigned long long depth = limits.depth, length = limits.length, total = limits.total, items = limits.items;
+    int streamed = limits.streamed, doubles = 1;
+    *to = (struct words){ProtocolError, ReplyError, Py_False, NULL, "strict", 2, limits};
+    if (!PyArg_ParseTupleAndKeywords(args, words, "|OOzzOIKKKKpp:Reader", names, &to->protocol_error, &to->reply_error,
+                                     &to->encoding, &to->errors, &to->not_enough_data, &to->version, &depth, &length,
+                                     &total, &items, &streamed, &doubles))
+        return false;
+    to->limits = (struct resp_limits){depth, length, total, items, streamed, doubles};
+    if (PyCallable_Check(to->protocol_error) && PyCallable_Check(to->reply_error))
         return true;
-    size_t size = strlen(text) + 1;
-    *to = PyMem_Malloc(size);
+    PyErr_SetString(PyExc_TypeError, "an error that can't be called");
+    return false;
+}
+
+/* Copies a text that may be NULL. Whether memory for it was found. */
+static bool copy_text(char **to, const char *text) {
+    size_t size = text ? strlen(text) + 1 : 0;
+    *to = text ? PyMem_Malloc(size) : NULL;
     if (*to)
         memcpy(*to, text, size);
-    else
+    else if (text)
         PyErr_NoMemory();
-    return *to;
+    return *to || !text;
+}
+
+/* How strings of this encoding are read. UTF-8 needs no look at the encoding each time. */
+static enum reading reading_of(const char *encoding) {
+    static const char *const names[] = {"utf-8", "utf8", "UTF-8", "UTF8"};
+    for (size_t at = 0; encoding && at < sizeof names / sizeof *names; at++)
+        if (!strcmp(encoding, names[at]))
+            return AS_UTF8;
+    return encoding ? AS_ENCODED : AS_BYTES;
+}
+
+/* Begins the scanner. A refusal leaves it as it was. */
+static bool begin_scanner(struct reader *reader, unsigned int version, const struct resp_limits *limits) {
+    if (!reader->scanner.memory && !(reader->scanner.memory = PyMem_Malloc(resp_scanner_size()))) {
+        PyErr_NoMemory();
+        return false;
+    }
+    switch (resp_scanner_init(&reader->scanner, version, limits)) {
+    case RESP_OK:
+        return true;
+    case RESP_CAUSE_BAD_LIMITS:
+        PyErr_SetString(PyExc_ValueError, "a limit is outside its range");
+        return false;
+    default:
+        PyErr_SetString(PyExc_ValueError, "a protocol that is neither 2 nor 3");
+        return false;
+    }
+}
+
+/* Begins with nothing fed and nothing read. */
+static void begin(struct reader *reader, const struct words *given) {
+    /* (what is let go of may call) */
+    reader->is_reading = true;
+    reader->limits = given->limits;
+    reader->is_begun = false;
+    drop_fed(reader);
+    begin_scanning(reader, given->version);
+    forget(&reader->values);
+    Py_INCREF(given->protocol_error);
+    replace(&reader->protocol_error, given->protocol_error);
+    Py_INCREF(given->reply_error);
+    replace(&reader->values.reply_error, given->reply_error);
+    Py_INCREF(given->not_enough_data);
+    replace(&reader->not_enough_data, given->not_enough_data);
+    reader->is_reading = false;
 }
 
 static int reader_init(struct reader *reader, PyObject *args, PyObject *words) {
-    static char *names[] = {"protocolError", "replyError", "encoding", "errors", "notEnoughData", "protocol",
-                            "depth", "length", "total", "items", "streamed", "doubles", NULL};
-    PyObject *protocol_error = ProtocolError, *reply_error = ReplyError, *not_enough_data = Py_False;
-    const char *encoding = NULL, *errors = "strict";
-    unsigned int protocol = 2;
-    unsigned long long depth, length, total, items;
-    int streamed, doubles = 1;
-    struct resp_limits limits;
-    resp_limits_standard(&limits);
-    depth = limits.depth, length = limits.length, total = limits.total, items = limits.items;
-    streamed = limits.streamed;
-    if (!PyArg_ParseTupleAndKeywords(args, words, "|OOzzOIKKKKpp:Reader", names, &protocol_error, &reply_error, &encoding,
-                                     &errors, &not_enough_data, &protocol, &depth, &length, &total, &items, &streamed,
-                                     &doubles))
+    struct words given;
+    struct values *values = &reader->values;
+    char *encoding = NULL, *errors = NULL;
+    if (!read_words(&given, args, words) || (reader->not_enough_data && !is_ready(reader)))
         return -1;
-    if (!PyCallable_Check(protocol_error) || !PyCallable_Check(reply_error)) {
-        PyErr_SetString(PyExc_TypeError, "an error that can't be called");
+    if (!copy_text(&encoding, given.encoding) || !copy_text(&errors, given.errors) ||
+        !begin_scanner(reader, given.version, &given.limits)) {
+        PyMem_Free(encoding);
+        PyMem_Free(errors);
         return -1;
     }
-    limits.depth = depth, limits.length = length, limits.total = total, limits.items = items;
-    limits.streamed = streamed, limits.doubles = doubles;
-    if (!reader->scanner.memory && !(reader->scanner.memory = PyMem_Malloc(resp_scanner_size()))) {
-        PyErr_NoMemory();
-        return -1;
-    }
-    switch (resp_scanner_init(&reader->scanner, protocol, &limits)) {
-    case RESP_OK:
-        break;
-    case RESP_CAUSE_BAD_LIMITS:
-        PyErr_SetString(PyExc_ValueError, "a limit is outside its range");
-        return -1;
-    default:
-        PyErr_SetString(PyExc_ValueError, "a protocol that is neither 2 nor 3");
-        return -1;
-    }
-    forget(reader);
-    reader->fed.length = reader->taken = 0;
-    Py_INCREF(protocol_error);
-    replace(&reader->protocol_error, protocol_error);
-    Py_INCREF(reply_error);
-    replace(&reader->reply_error, reply_error);
-    Py_INCREF(not_enough_data);
-    replace(&reader->not_enough_data, not_enough_data);
-    return copy_text(&reader->encoding, encoding) && copy_text(&reader->errors, errors) ? 0 : -1;
+    PyMem_Free(values->encoding);
+    PyMem_Free(values->errors);
+    values->encoding = encoding;
+    values->errors = errors;
+    values->reads = reading_of(encoding);
+    begin(reader, &given);
+    return 0;
 }
 
 static int pairing_init(struct reader *reader, PyObject *args, PyObject *words) {
@@ -538,17 +427,40 @@ static int pairing_init(struct reader *reader, PyObject *args, PyObject *words) 
     return 0;
 }
 
+/* These two show the collector of cycles what a reader holds, and let go of that. */
+
+static int reader_traverse(struct reader *reader, visitproc visit, void *arg) {
+    Py_VISIT(Py_TYPE((PyObject *)reader));
+    Py_VISIT(reader->protocol_error);
+    Py_VISIT(reader->values.reply_error);
+    Py_VISIT(reader->not_enough_data);
+    Py_VISIT(reader->values.failure);
+    for (size_t at = 0; at < reader->values.count; at++)
+        Py_VISIT(reader->values.start[at]);
+    return 0;
+}
+
+static int reader_clear(struct reader *reader) {
+    /* (without this no call may use the reader) */
+    Py_CLEAR(reader->not_enough_data);
+    forget(&reader->values);
+    Py_CLEAR(reader->lent);
+    Py_CLEAR(reader->protocol_error);
+    Py_CLEAR(reader->values.reply_error);
+    return 0;
+}
+
 static void reader_dealloc(struct reader *reader) {
     PyTypeObject *type = Py_TYPE((PyObject *)reader);
-    forget(reader);
-    Py_XDECREF(reader->protocol_error);
-    Py_XDECREF(reader->reply_error);
-    Py_XDECREF(reader->not_enough_data);
-    PyMem_Free(reader->encoding);
-    PyMem_Free(reader->errors);
-    PyMem_Free(reader->fed.start);
-    PyMem_Free(reader->text.start);
+    struct values *values = &reader->values;
+    PyObject_GC_UnTrack(reader);
+    reader_clear(reader);
+    PyMem_Free(reader->kept.start);
     PyMem_Free(reader->scanner.memory);
+    PyMem_Free(values->start);
+    PyMem_Free(values->text.start);
+    PyMem_Free(values->encoding);
+    PyMem_Free(values->errors);
     ((freefunc)PyType_GetSlot(type, Py_tp_free))(reader);
     Py_DECREF(type);
 }
@@ -611,9 +523,9 @@ static PyObject *pack(PyObject *module, PyObject *words) {
 }
 
 static PyMethodDef READER_METHODS[] = {
-    {"feed", (PyCFunction)reader_feed, METH_VARARGS,
+    {"feed", (PyCFunction)reader_feed, METH_FASTCALL,
      "feed(bytes, from=0, length=-1)\n--\n\nAdds bytes as they came, or a slice of them."},
-    {"gets", (PyCFunction)reader_gets, METH_VARARGS,
+    {"gets", (PyCFunction)reader_gets, METH_FASTCALL,
      "gets(shouldDecode=True)\n--\n\nThe next reply, or notEnoughData where it isn't whole. Raises protocolError at the first byte after\n"
      "which nothing can follow, with the attributes cause and at, and for good."},
     {"has_data", (PyCFunction)reader_has_data, METH_NOARGS,
@@ -626,6 +538,8 @@ static PyMethodDef READER_METHODS[] = {
 static PyType_Slot READER_SLOTS[] = {
     {Py_tp_init, reader_init},
     {Py_tp_dealloc, reader_dealloc},
+    {Py_tp_traverse, reader_traverse},
+    {Py_tp_clear, reader_clear},
     {Py_tp_methods, READER_METHODS},
     {Py_tp_doc, "Reader(protocolError, replyError, encoding=None, errors='strict', notEnoughData=False, protocol=2, depth=32,\n"
                 "       length=536870912, total=1073741824, items=1099511627776, streamed=True, doubles=True)\n--\n\n"
@@ -633,12 +547,12 @@ static PyType_Slot READER_SLOTS[] = {
     {0, NULL},
 };
 
-static PyType_Spec READER = {"resp.Reader", sizeof(struct reader), 0, Py_TPFLAGS_DEFAULT, READER_SLOTS};
+static PyType_Spec READER = {"resp.Reader", sizeof(struct reader), 0, Py_TPFLAGS_DEFAULT | Py_TPFLAGS_HAVE_GC, READER_SLOTS};
 
 static PyMethodDef PAIRING_METHODS[] = {
-    {"feed", (PyCFunction)reader_feed, METH_VARARGS,
+    {"feed", (PyCFunction)reader_feed, METH_FASTCALL,
      "feed(bytes, from=0, length=-1)\n--\n\nAdds bytes as they came, or a slice of them."},
-    {"gets", (PyCFunction)reader_gets, METH_VARARGS,
+    {"gets", (PyCFunction)reader_gets, METH_FASTCALL,
      "gets(shouldDecode=True)\n--\n\nThe next reply with the number of its command, or None for a push: (number, reply). Else as\n"
      "Reader.gets. Raises protocolError by the cause Unasked where no command asked for the value; it is then read once one\n"
      "was queued."},
@@ -655,13 +569,15 @@ static PyMethodDef PAIRING_METHODS[] = {
 static PyType_Slot PAIRING_SLOTS[] = {
     {Py_tp_init, pairing_init},
     {Py_tp_dealloc, reader_dealloc},
+    {Py_tp_traverse, reader_traverse},
+    {Py_tp_clear, reader_clear},
     {Py_tp_methods, PAIRING_METHODS},
     {Py_tp_doc, "Pairing(..)\n--\n\nA Reader that knows which command each reply answers, and reads each in its protocol. It takes\n"
                 "the same words; the protocol is 2 until a HELLO was answered."},
     {0, NULL},
 };
 
-static PyType_Spec PAIRING = {"resp.Pairing", sizeof(struct reader), 0, Py_TPFLAGS_DEFAULT, PAIRING_SLOTS};
+static PyType_Spec PAIRING = {"resp.Pairing", sizeof(struct reader), 0, Py_TPFLAGS_DEFAULT | Py_TPFLAGS_HAVE_GC, PAIRING_SLOTS};
 
 static PyMethodDef METHODS[] = {
     {"pack", pack, METH_VARARGS, "pack(*words)\n--\n\nThe bytes of a command: bytes as they are, other words as their text."},
@@ -692,7 +608,7 @@ PyMODINIT_FUNC PyInit_resp(void) {
     ReplyError = PyErr_NewException("resp.ReplyError", error, NULL);
     Push = PyObject_CallFunction((PyObject *)&PyType_Type, "s(O){ss}", "Push", (PyObject *)&PyList_Type, "__doc__",
                                  "The members of a push.");
-    if (add_name(module, "RespError", error) && add_name(module, "ProtocolError", ProtocolError) &&
+    if (make_usual() && add_name(module, "RespError", error) && add_name(module, "ProtocolError", ProtocolError) &&
         add_name(module, "ReplyError", ReplyError) && add_name(module, "Push", Push) &&
         add_name(module, "Reader", PyType_FromSpec(&READER)) &&
         add_name(module, "Pairing", PyType_FromSpec(&PAIRING)) &&

@@ -14,6 +14,7 @@ setup(
         Extension(
             "resp",
             sources=["resp.c"],
+            depends=["bytes.h", "values.h"],
             include_dirs=[os.path.join(PREFIX, "include")],
             extra_objects=[os.path.join(PREFIX, "lib", "libresp.a")],
             py_limited_api=True,

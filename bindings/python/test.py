@@ -1,8 +1,26 @@
 """Rows of what the module resp makes of texts, each at every cut, and of its other calls."""
+import contextlib
+import gc
 import math
+import random
+import sys
+import tracemalloc
 import unittest
+import weakref
 
 import resp
+
+try:
+    import _testcapi
+except ImportError:
+    _testcapi = None
+
+
+
+def nested(value, depth):
+    """The value inside so many lists."""
+    return [nested(value, depth - 1)] if depth else value
+
 
 # The protocol, a text, and what its replies are.
 ROWS = [
@@ -28,6 +46,12 @@ ROWS = [
     (3, b"|1\r\n+a\r\n*1\r\n:1\r\n+v\r\n:2\r\n", [b"v", 2]),
     (3, b"*2\r\n|2\r\n+a\r\n:1\r\n+b\r\n:2\r\n+v\r\n:3\r\n", [[b"v", 3]]),
     (3, b">2\r\n+m\r\n+n\r\n", [[b"m", b"n"]]),
+    (3, b">0\r\n%0\r\n~0\r\n|0\r\n*0\r\n", [[], {}, set(), []]),
+    (3, b"%2\r\n~1\r\n:1\r\n:2\r\n,0.5\r\n_\r\n", [{frozenset([1]): 2, 0.5: None}]),
+    (3, b"|1\r\n+a\r\n+b\r\n*2\r\n|1\r\n*1\r\n+c\r\n:1\r\n:2\r\n$2\r\nOK\r\n", [[2, b"OK"]]),
+    (2, b"*70\r\n" + b":1\r\n" * 70 + b"+b\r\n", [[1] * 70, b"b"]),
+    (2, b"*20\r\n" + b"*2\r\n$1\r\na\r\n:1\r\n" * 20, [[[b"a", 1]] * 20]),
+    (2, b"*1\r\n" * 32 + b"+a\r\n+b\r\n", [nested(b"a", 32), b"b"]),
 ]
 
 
@@ -55,6 +79,21 @@ def reader(**words):
     return resp.Reader(notEnoughData=reader_waits, **words)
 
 
+def mixed(chance, count):
+    """A text of so many values of RESP3, and the values."""
+    kinds = [(b"+OK\r\n", b"OK"), (b":%d\r\n", None), (b"$16\r\n" + b"x" * 16 + b"\r\n", b"x" * 16), (b"_\r\n", None),
+             (b"*3\r\n:1\r\n+a\r\n$2\r\nOK\r\n", [1, b"a", b"OK"]), (b"%1\r\n+k\r\n*0\r\n", {b"k": []}),
+             (b"$300\r\n" + b"y" * 300 + b"\r\n", b"y" * 300), (b"=5\r\ntxt:z\r\n", b"z"), (b"(-1\r\n", -1)]
+    texts, values = [], []
+    for number in range(count):
+        text, value = chance.choice(kinds)
+        if b"%d" in text:
+            text, value = text % number, number
+        texts.append(text)
+        values.append(value)
+    return b"".join(texts), values
+
+
 # The protocols that commands ask for, 0 for none; what comes, the pairs of it, and the protocol after it.
 CONVERSATIONS = [
     ((0, 0), b"+OK\r\n$-1\r\n", [(1, b"OK"), (2, None)], 2),
@@ -62,7 +101,14 @@ CONVERSATIONS = [
     ((3, 0), b">1\r\n+a\r\n%0\r\n>1\r\n:1\r\n:2\r\n", [(None, [b"a"]), (1, {}), (None, [1]), (2, 2)], 3),
     ((3, 0), b"-NOPROTO\r\n:7\r\n", [(1, "NOPROTO"), (2, 7)], 2),
     ((3, 0, 0), b"|1\r\n+a\r\n+b\r\n+OK\r\n|1\r\n+a\r\n:1\r\n,1.5\r\n_\r\n", [(1, b"OK"), (2, 1.5), (3, None)], 3),
+    ((0, 0, 3, 0, 0), b"+a\r\n*1\r\n$1\r\nb\r\n%1\r\n+c\r\n:1\r\n#f\r\n$?\r\n;1\r\nd\r\n;0\r\n",
+     [(1, b"a"), (2, [b"b"]), (3, {b"c": 1}), (4, False), (5, b"d")], 3),
+    ((0, 3, 0), b"-ERR a\r\n!1\r\nE\r\n$1\r\nb\r\n", [(1, "ERR a"), (2, "E"), (3, b"b")], 2),
+    ((3,) + (0,) * 40, b"%0\r\n" + b"_\r\n#t\r\n>1\r\n:1\r\n" * 20,
+     [(1, {})] + [pair for it in range(20) for pair in [(2 * it + 2, None), (2 * it + 3, True), (None, [1])]], 3),
+    ((0,) * 70 + (3, 0), b":1\r\n" * 70 + b"%0\r\n_\r\n", [(it + 1, 1) for it in range(70)] + [(71, {}), (72, None)], 3),
 ]
+
 
 
 class Pairs(unittest.TestCase):
@@ -90,6 +136,41 @@ class Pairs(unittest.TestCase):
         with self.assertRaises(resp.ProtocolError) as raised:
             pairing.gets()
         self.assertEqual((raised.exception.cause, raised.exception.at), ("Version", 0))
+
+
+    def test_the_protocol_goes_back(self):
+        text = b"%0\r\n_\r\n*0\r\n:1\r\n*1\r\n_\r\n"
+        for pieces in cuts(text):
+            pairing = resp.Pairing(notEnoughData=reader_waits)
+            pairing.queue(3), pairing.queue()
+            given = []
+            for piece in pieces:
+                pairing.feed(piece)
+                try:
+                    while (pair := pairing.gets()) is not reader_waits:
+                        given.append(pair)
+                        if len(given) == 2:
+                            pairing.queue(2), pairing.queue(), pairing.queue()
+                except resp.ProtocolError as error:
+                    given.append((error.cause, error.at))
+                    break
+            self.assertEqual(given, [(1, {}), (2, None), (3, []), (4, 1), ("Version", 4)], pieces)
+
+    def test_unasked_amid_a_buffer(self):
+        for pieces in cuts(b"%0\r\n+b\r\n>1\r\n:1\r\n+c\r\n"):
+            pairing = resp.Pairing(notEnoughData=reader_waits)
+            pairing.queue(3)
+            given = []
+            for piece in pieces:
+                pairing.feed(piece)
+                for _ in range(9):
+                    try:
+                        given.append(pairing.gets())
+                    except resp.ProtocolError as error:
+                        self.assertEqual((error.cause, error.at), ("Unasked", 0))
+                        pairing.queue()
+            given = [it for it in given if it is not reader_waits]
+            self.assertEqual(given, [(1, {}), (2, b"b"), (None, [1]), (3, b"c")], pieces)
 
 
 class Rows(unittest.TestCase):
@@ -122,6 +203,198 @@ class Rows(unittest.TestCase):
                 self.assertEqual(str(raised.exception), f"{cause} at byte {at} of the value")
                 with self.assertRaises(resp.ProtocolError):
                     read.gets()
+
+    def test_a_fault_comes_after_the_replies_before_it(self):
+        for count in (1, 2, 62, 63, 64, 65, 200):
+            read = reader()
+            read.feed(b":5\r\n" * count + b"*2\r\n+a\r\n:x")
+            self.assertEqual([read.gets() for _ in range(count)], [5] * count)
+            for _ in range(2):
+                with self.assertRaises(resp.ProtocolError) as raised:
+                    read.gets()
+                self.assertEqual((raised.exception.cause, raised.exception.at), ("Syntax", 9))
+            with self.assertRaises(ValueError):
+                read.set_protocol(3)
+
+    def test_the_protocol_changes_between_two_replies_of_a_buffer(self):
+        # After how many replies which protocol is set, what comes, and the replies with the refusal that ends them.
+        for changes, text, wanted in [
+            ({2: 3}, b"$-1\r\n+a\r\n_\r\n#t\r\n", [None, b"a", None, True]),
+            ({1: 3}, b"+a\r\n*2\r\n:1\r\n_\r\n+b\r\n", [b"a", [1, None], b"b"]),
+            ({1: 3, 2: 2}, b"+a\r\n_\r\n+b\r\n_\r\n", [b"a", None, b"b", ("Version", 0)]),
+            ({1: 3, 3: 2}, b"+a\r\n_\r\n%0\r\n*1\r\n:1\r\n*1\r\n_", [b"a", None, {}, [1], ("Version", 4)]),
+            ({0: 3, 1: 2, 2: 3}, b"#f\r\n+a\r\n%1\r\n:1\r\n:2\r\n", [False, b"a", {1: 2}]),
+            ({70: 3}, b":1\r\n" * 70 + b"_\r\n", [1] * 70 + [None]),
+        ]:
+            for pieces in cuts(text):
+                read, given = reader(), []
+                try:
+                    for piece in pieces:
+                        read.feed(piece)
+                        reply = None
+                        while reply is not reader_waits:
+                            with contextlib.suppress(ValueError):
+                                # (it was set before where a reply was begun)
+                                read.set_protocol(changes.get(len(given), 4))
+                            reply = read.gets()
+                            given += [reply] * (reply is not reader_waits)
+                except resp.ProtocolError as error:
+                    given.append((error.cause, error.at))
+                self.assertEqual(given, wanted, (text, pieces))
+
+    def test_the_protocol_changes_at_each_reply(self):
+        read = reader()
+        read.feed(b"*1\r\n$-1\r\n*1\r\n_\r\n" * 100)
+        for _ in range(100):
+            read.set_protocol(2)
+            self.assertEqual(read.gets(), [None])
+            read.set_protocol(3)
+            self.assertEqual(read.gets(), [None])
+
+    def test_feeds_and_gets_in_any_order(self):
+        chance = random.Random(33)
+        for _ in range(300):
+            text, wanted = mixed(chance, chance.randrange(1, 300))
+            read, given, at = reader(protocol=3), [], 0
+            while at < len(text):
+                size = chance.choice((1, 7, 100, 5000))
+                piece = text[at : at + size]
+                how = chance.randrange(4)
+                if how == 0:
+                    read.feed(bytearray(piece))
+                elif how == 1:
+                    read.feed(text, at, len(piece))
+                elif how == 2:
+                    read.feed(memoryview(text), at, len(piece))
+                else:
+                    read.feed(piece)
+                at += size
+                for _ in range(chance.choice((0, 1, 1000))):
+                    reply = read.gets()
+                    if reply is reader_waits:
+                        break
+                    given.append(reply)
+            given += replies(read, [b""])
+            self.assertEqual(given, wanted)
+            self.assertFalse(read.has_data())
+
+    def test_bytes_that_change_were_copied(self):
+        piece = bytearray(b"+ab\r\n+c")
+        read = reader()
+        read.feed(piece)
+        piece[:] = b"-------"
+        self.assertEqual(read.gets(), b"ab")
+        read.feed(b"d\r\n")
+        self.assertEqual(read.gets(), b"cd")
+
+    def test_nothing_is_held_that_was_read(self):
+        read = reader()
+        piece = b"$3\r\nabc\r\n" * 100
+        before = sys.getrefcount(piece)
+        self.assertEqual(replies(read, [piece]), [b"abc"] * 100)
+        self.assertEqual(sys.getrefcount(piece), before)
+        read.feed(piece)
+        read.gets()
+        del read
+        self.assertEqual(sys.getrefcount(piece), before)
+
+    def test_a_cycle_is_collected(self):
+        class Parser:
+            def __init__(self):
+                self.reader = resp.Reader(replyError=self.error)
+
+            def error(self, text):
+                return self
+
+        parser = Parser()
+        parser.reader.feed(b"*2\r\n-a\r\n+b")
+        self.assertIs(parser.reader.gets(), False)
+        held = weakref.ref(parser)
+        del parser
+        gc.collect()
+        self.assertIsNone(held())
+
+    def test_a_head_is_not_believed(self):
+        tracemalloc.start()
+        try:
+            read = reader()
+            for text in (b"*100000000\r\n:1\r\n", b"*10000000\r\n$536870912\r\nabc"):
+                read.feed(text)
+                self.assertIs(read.gets(), reader_waits)
+            self.assertLess(tracemalloc.get_traced_memory()[1], 1_000_000)
+        finally:
+            tracemalloc.stop()
+
+    def test_a_reader_in_use_refuses_calls(self):
+        calls = lambda: read.gets(), lambda: read.feed(b"+c\r\n"), lambda: read.set_protocol(3), lambda: read.__init__()
+        for call in calls:
+            read = resp.Reader(replyError=lambda text: call())
+            read.feed(b"+a\r\n-b\r\n+c\r\n")
+            self.assertEqual(read.gets(), b"a")
+            with self.assertRaises(RuntimeError):
+                read.gets()
+            self.assertEqual(read.gets(), b"c")
+        for kind in (resp.Reader, resp.Pairing):
+            read = kind.__new__(kind)
+            for call in (lambda: read.gets(), lambda: read.feed(b"+c\r\n")):
+                with self.assertRaises(RuntimeError):
+                    call()
+
+    def test_a_reader_begins_anew(self):
+        read = reader(encoding="utf-8")
+        read.feed(b"*3\r\n+a\r\n+b")
+        self.assertIs(read.gets(), reader_waits)
+        with self.assertRaises(ValueError):
+            read.__init__(depth=3)
+        read.feed(b"\r\n+c\r\n")
+        self.assertEqual(read.gets(), ["a", "b", "c"])
+        read.feed(b"*3\r\n+a\r\n+b")
+        read.__init__(protocol=3)
+        read.feed(b"_\r\n+c\r\n")
+        self.assertEqual([read.gets(), read.gets(), read.gets()], [None, b"c", False])
+
+    @unittest.skipUnless(_testcapi, "this Python can't refuse memory")
+    def test_each_piece_of_memory_refused(self):
+        text, wanted = mixed(random.Random(7), 80)
+        text += b"$9000\r\n" + b"z" * 9000 + b"\r\n*1000\r\n" + b":1000\r\n" * 1000 + b"+end\r\n"
+        wanted += [b"z" * 9000, [1000] * 1000, b"end"]
+        pieces = [bytearray(text[at : at + 2000]) for at in range(0, len(text), 2000)]
+        gc.disable()
+        self.addCleanup(gc.enable)
+        number, losses, was_refused = 0, 0, True
+        while was_refused:
+            given, was_refused = self.given_without(number, pieces, len(wanted))
+            lost = [at for at, reply in enumerate(given) if reply is MemoryError]
+            self.assertLessEqual(len(lost), was_refused)
+            self.assertEqual([given[at] for at in range(len(given)) if at not in lost],
+                             [wanted[at] for at in range(len(given)) if at not in lost])
+            number, losses = number + 1, losses + len(lost)
+        self.assertGreater(losses, 50)
+
+    def given_without(self, number, pieces, count):
+        """What a reader gives while the piece of memory of this number is refused, with MemoryError where that loses a
+        reply, and whether any was. A feed that is refused is made again."""
+        read, given = reader(protocol=3), [None] * count
+        feeds, replies, was_fed, was_refused = 0, 0, False, False
+        _testcapi.set_nomemory(number, number + 1)
+        while feeds < len(pieces):
+            try:
+                if not was_fed:
+                    read.feed(pieces[feeds])
+                    was_fed = True
+                reply = read.gets()
+            except MemoryError:
+                was_refused = True
+                if not was_fed:
+                    continue
+                reply = MemoryError
+            if reply is reader_waits:
+                feeds, was_fed = feeds + 1, False
+            else:
+                given[replies] = reply
+                replies += 1
+        _testcapi.remove_mem_hooks()
+        return given, was_refused
 
     def test_limits(self):
         for words in [{"depth": 3}, {"length": 0}, {"total": 255}, {"items": 15}, {"protocol": 4}]:

@@ -9,15 +9,9 @@
 //! use resp::{Event, Limits, Scanner, Version};
 //!
 //! let mut scanner = Scanner::new(Version::Three, &Limits::default())?;
-//! let mut rest: &[u8] = b"*2\r\n+OK\r\n:7\r\n";
 //! let mut events = Vec::new();
-//! loop {
-//!     let step = scanner.step(rest)?;
-//!     rest = &rest[step.used..];
-//!     match step.event {
-//!         Some(event) => events.push(event),
-//!         None => break,
-//!     }
+//! for event in scanner.scan(b"*2\r\n+OK\r\n:7\r\n") {
+//!     events.push(event?);
 //! }
 //! assert_eq!(events[3], Event::TextEnd);
 //! assert_eq!(events[4], Event::Int(7));
@@ -27,9 +21,11 @@
 mod command;
 mod pairing;
 mod raw;
+mod scan;
 
 pub use command::{command, CommandError};
 pub use pairing::{PairError, Paired, Pairing, QueueError};
+pub use scan::Scan;
 
 use std::error::Error;
 use std::fmt;
@@ -211,7 +207,12 @@ pub struct Step<'a> {
 /// Reads values one after another, in pieces of any size. It takes memory once, where it is made.
 pub struct Scanner {
     memory: Box<[u64]>,
+    /// Room for the events that a call tells.
+    events: Box<[raw::Event]>,
 }
+
+/// As many events as are asked for by one call.
+const MOST_EVENTS: usize = 64;
 
 impl Scanner {
     /// A scanner of this version within these limits, between two values. Refuses limits of which
@@ -220,7 +221,10 @@ impl Scanner {
         // SAFETY: these two take nothing.
         let (size, align) = unsafe { (raw::resp_scanner_size(), raw::resp_scanner_align()) };
         assert!(align <= std::mem::align_of::<u64>());
-        let mut scanner = Scanner { memory: vec![0; size.div_ceil(8)].into_boxed_slice() };
+        let mut scanner = Scanner {
+            memory: vec![0; size / 8 + 1].into_boxed_slice(),
+            events: vec![raw::Event::default(); MOST_EVENTS].into_boxed_slice(),
+        };
         let limits = raw::Limits::from(limits);
         // SAFETY: the memory has the size and the alignment, and stays where it is.
         match unsafe { raw::resp_scanner_init(&mut scanner.raw(), version as u32, &limits) } {
@@ -231,6 +235,48 @@ impl Scanner {
 
     fn raw(&mut self) -> raw::Scanner {
         raw::Scanner { memory: self.memory.as_mut_ptr().cast() }
+    }
+
+    /// Takes the whole piece, and gives its events, one after another: those that steps give, until
+    /// these answer that there is none. It is faster than steps.
+    ///
+    /// Gives last, in place of an event, the fault of the first byte after which nothing can follow.
+    /// Every later call gives that fault alone.
+    ///
+    /// All values of the piece are read in one version. Who may change it after a value takes steps.
+    ///
+    /// ```
+    /// use resp::{Event, Limits, Scanner, Text, Version};
+    ///
+    /// let mut scanner = Scanner::new(Version::Two, &Limits::default())?;
+    /// let mut words = Vec::new();
+    /// for piece in [&b"+OK\r\n$5\r\nhel"[..], b"lo\r\n"] {
+    ///     for event in scanner.scan(piece) {
+    ///         match event? {
+    ///             Event::Text(_) => words.push(Vec::new()),
+    ///             Event::Part(part) => words.last_mut().unwrap().extend_from_slice(part),
+    ///             _ => (),
+    ///         }
+    ///     }
+    /// }
+    /// assert_eq!(words, [&b"OK"[..], b"hello"]);
+    /// # Ok::<(), Box<dyn std::error::Error>>(())
+    /// ```
+    pub fn scan<'s, 'a>(&'s mut self, piece: &'a [u8]) -> Scan<'s, 'a> {
+        Scan::new(self, piece)
+    }
+
+    /// Tells events of the piece to the room for them: how many, how many bytes were taken, and why
+    /// the byte after these is refused, or `raw::OK`.
+    fn raw_scan(&mut self, piece: &[u8]) -> (raw::Scanned, u32) {
+        let mut scanned = raw::Scanned::default();
+        let (mut scanner, room) = (self.raw(), self.events.len());
+        // SAFETY: `new` has initialised the scanner, and the piece and the room have these lengths.
+        let cause = unsafe {
+            let events = self.events.as_mut_ptr();
+            raw::resp_scanner_scan(&mut scanner, piece.as_ptr(), piece.len(), events, room, &mut scanned)
+        };
+        (scanned, cause)
     }
 
     /// Takes bytes of the piece until an event is there or the piece ends. An event may be owed at

@@ -29,7 +29,7 @@ pub struct Limits {
 }
 
 #[repr(C)]
-#[derive(Default)]
+#[derive(Clone, Default)]
 pub struct Event {
     pub kind: u32,
     pub form: u32,
@@ -39,6 +39,13 @@ pub struct Event {
     pub part: usize,
     pub format: [u8; 3],
     pub digit: u8,
+}
+
+#[repr(C)]
+#[derive(Default)]
+pub struct Scanned {
+    pub count: usize,
+    pub used: usize,
 }
 
 #[repr(C)]
@@ -60,6 +67,14 @@ extern "C" {
     pub fn resp_scanner_align() -> usize;
     pub fn resp_scanner_init(scanner: *mut Scanner, version: u32, limits: *const Limits) -> u32;
     pub fn resp_scanner_step(scanner: *mut Scanner, piece: *const u8, length: usize, event: *mut Event) -> u32;
+    pub fn resp_scanner_scan(
+        scanner: *mut Scanner,
+        piece: *const u8,
+        length: usize,
+        events: *mut Event,
+        room: usize,
+        scanned: *mut Scanned,
+    ) -> u32;
     pub fn resp_scanner_finish(scanner: *mut Scanner) -> u32;
     pub fn resp_scanner_set_version(scanner: *mut Scanner, version: u32) -> u32;
     pub fn resp_scanner_depth(scanner: *mut Scanner) -> usize;
@@ -90,15 +105,24 @@ impl From<&Given> for Limits {
 /// The digit of a part at no byte.
 static DIGITS: [u8; 10] = *b"0123456789";
 
+/// The number of a whole text among the kinds of event.
+const WHOLE: u32 = 10;
+
 impl Event {
-    /// The event, whose part lends the piece.
+    /// The bytes of a whole text, which lie in the piece before CR LF; none of another event.
+    pub fn whole<'a>(&self, piece: &'a [u8]) -> Option<&'a [u8]> {
+        let end = (self.kind == WHOLE).then(|| self.used - 2)?;
+        Some(&piece[end - self.part..end])
+    }
+
+    /// The event, whose part lends the piece. Of a whole text the beginning.
     pub fn told<'a>(&self, piece: &'a [u8]) -> Option<Told<'a>> {
         Some(match self.kind {
             0 => return None,
             1 => Told::Null,
             2 => Told::Bool(self.number != 0),
             3 => Told::Int(self.number),
-            4 => Told::Text(self.text()),
+            4 | WHOLE => Told::Text(self.text()),
             5 if self.used == 0 => {
                 let digit = usize::from(self.digit - b'0');
                 Told::Part(&DIGITS[digit..=digit])

@@ -14,8 +14,10 @@ fn said(version: Version, limits: &Limits, pieces: &[&[u8]]) -> String {
             match scanner.step(rest) {
                 Ok(step) => {
                     rest = &rest[step.used..];
-                    let Some(event) = step.event else { break };
-                    say(&mut said, event);
+                    match step.event {
+                        Some(event) => say(&mut said, event),
+                        None => break,
+                    }
                 }
                 Err(fault) => {
                     assert_eq!(scanner.step(b"+"), Err(fault));
@@ -24,6 +26,32 @@ fn said(version: Version, limits: &Limits, pieces: &[&[u8]]) -> String {
                     return said;
                 }
             }
+        }
+    }
+    if let Err(fault) = scanner.finish() {
+        write!(said, "!{fault}").expect("a string");
+    }
+    said
+}
+
+/// The same by a scan of each piece.
+fn said_by_scans(version: Version, limits: &Limits, pieces: &[&[u8]]) -> String {
+    let mut scanner = Scanner::new(version, limits).expect("limits");
+    let mut said = String::new();
+    for piece in pieces {
+        let mut fault = None;
+        for event in scanner.scan(piece) {
+            assert_eq!(fault, None, "an event after a fault");
+            match event {
+                Ok(event) => say(&mut said, event),
+                Err(it) => fault = Some(it),
+            }
+        }
+        if let Some(fault) = fault {
+            assert_eq!(scanner.scan(b"+").collect::<Vec<_>>(), [Err(fault)]);
+            assert_eq!(scanner.finish(), Err(fault));
+            write!(said, "!{fault}").expect("a string");
+            return said;
         }
     }
     if let Err(fault) = scanner.finish() {
@@ -66,10 +94,13 @@ fn say(said: &mut String, event: Event<'_>) {
 
 fn check(version: Version, limits: &Limits, text: &[u8], wanted: &str) {
     for cut in 0..=text.len() {
-        assert_eq!(said(version, limits, &[&text[..cut], &text[cut..]]), wanted, "cut at {cut}");
+        let pieces = [&text[..cut], &text[cut..]];
+        assert_eq!(said(version, limits, &pieces), wanted, "cut at {cut}");
+        assert_eq!(said_by_scans(version, limits, &pieces), wanted, "scanned, cut at {cut}");
     }
     let bytes: Vec<&[u8]> = text.chunks(1).flat_map(|byte| [byte, b""]).collect();
     assert_eq!(said(version, limits, &bytes), wanted, "byte by byte");
+    assert_eq!(said_by_scans(version, limits, &bytes), wanted, "scanned, byte by byte");
 }
 
 #[test]
@@ -111,6 +142,35 @@ fn version_three() {
     let limits = Limits { streamed: false, ..Limits::default() };
     check(Version::Three, &limits, b",1.5\r\n", "!Double at byte 0 of the value");
     check(Version::Three, &limits, b"*?\r\n", "!Streamed at byte 1 of the value");
+}
+
+#[test]
+fn many_events() {
+    let limits = Limits { depth: 128, ..Limits::default() };
+    for members in 55..75 {
+        let text = format!("*{members}\r\n{}+OK\r\n", ":7\r\n".repeat(members));
+        let wanted = format!("*{members}{}].+\"OK\".", ":7".repeat(members));
+        check(Version::Two, &limits, text.as_bytes(), &wanted);
+    }
+    for depth in [63, 64, 65, 128] {
+        let text = format!("{}$2\r\nab\r\n!", "*1\r\n".repeat(depth));
+        let wanted = format!("{}$\"ab\"{}.!Version at byte 0 of the value", "*1".repeat(depth), "]".repeat(depth));
+        check(Version::Two, &limits, text.as_bytes(), &wanted);
+    }
+}
+
+#[test]
+fn a_scan_that_is_dropped_has_taken_the_piece() {
+    let mut scanner = Scanner::new(Version::Two, &Limits::default()).expect("limits");
+    let text = format!("{}*1\r\n", "+a\r\n".repeat(1000));
+    for asked in [0, 1, 3, 100, 3999] {
+        assert_eq!(scanner.scan(text.as_bytes()).take(asked).count(), asked);
+        assert_eq!((scanner.depth(), scanner.taken()), (1, 4));
+        let events: Result<Vec<Event>, Fault> = scanner.scan(b":1\r\n").collect();
+        assert_eq!(events, Ok(vec![Event::Int(1), Event::Close, Event::Done]));
+    }
+    scanner.scan(b"+a\r\n:x+").next();
+    assert_eq!(scanner.finish(), Err(Fault { cause: Cause::Syntax, at: 1 }));
 }
 
 #[test]

@@ -1,17 +1,19 @@
 -- What C is told of an event shows what the event shows.
-use Rattle.std.proofs.Common.{◌≡◌, ℕ, zero, suc, ◌+◌, ◌-◌, Bool, true, false, cond, eqb, List, [], ◌∷◌, Some, inl, inr, refl, sym, ap, ◌∙◌, arith}
+use Rattle.std.proofs.Common.{◌≡◌, ℕ, zero, suc, ◌+◌, ◌-◌, Bool, true, false, cond, eqb, List, [], ◌∷◌, ◌++◌, Some, inl, inr, refl, sym, ap, ◌∙◌, arith}
 use Rattle.std.proofs.lemmas.Bool.Decides.{eqb_tells}
 use Rattle.resp_value.specs.Kinds.{kind_of}
 use Rattle.resp_value.specs.declared.kind.OpenKind.{OpenKind}
 use Rattle.resp_value.specs.declared.kind.OpenKind.TheVariants as kind
+use Rattle.resp_fronts.specs.Events as e
 use Rattle.resp_scan.specs.Kinds.{content_events, text_kind_of}
+use Rattle.resp_scan.specs.Listening.{whole_text_events}
 use Rattle.resp_scan.specs.Reading.{events_of}
 use Rattle.resp_scan.specs.declared.event.Event.{Event}
 use Rattle.resp_scan.specs.declared.event.Event.TheVariants as event
 use Rattle.resp_scan.specs.declared.event.TextKind.{TextKind}
 use Rattle.resp_scan.specs.declared.event.TextKind.TheVariants as text
-use Rattle.resp_c.specs.Pairs.{ValueLook, after_events, closed, is_error_kind, nested_by, opened, refuses_at_open, refuses_by, where_seen}
-use Rattle.resp_c.specs.Told.{Tells, kind_form, text_form}
+use Rattle.resp_c.specs.Pairs.{ValueLook, after_events, closed, is_error_kind, nested_by, opened, refuses_at_open, refuses_by, seen, where_seen}
+use Rattle.resp_c.specs.Told.{Tells, TellsWhole, kind_form, text_form}
 use Rattle.resp_c.specs.declared.event.RespEvent.{RespEvent}
 
 -- what numbers show of an event
@@ -98,3 +100,16 @@ shown_by look out event.Close tells = ap (λ k. shown look k out.form) tells ∙
     look_eq _ _ _ _ (nested_at_close look.nested) (same look.nested look.refuses)
 shown_by look out event.Done tells = ap (λ k. shown look k out.form) tells ∙
     look_eq _ _ _ _ refl (same look.nested look.refuses)
+
+text_shows : (look : ValueLook) (bytes : List ℕ) → after_events look (content_events bytes ++ e.TextEnd ∷ []) ≡ look
+text_shows look [] = refl
+text_shows look (byte ∷ bytes) = text_shows look bytes
+
+-- a text told with its end
+pub whole_shown_by : (look : ValueLook) (out : RespEvent) (kind : TextKind) (bytes : List ℕ) → TellsWhole out kind bytes →
+    shown look out.kind out.form ≡ after_events look (whole_text_events kind bytes)
+whole_shown_by look out kind bytes tells =
+    let now = is_error_kind (text_kind_of kind) in
+    ap (λ k. shown look k out.form) tells.kind_is ∙ ap (λ f. shown look 10 f) tells.form_is ∙
+    look_eq _ _ _ _ refl (ap (λ t. cond (eqb look.nested 0) t look.refuses) (error_form kind) ∙ at_seen look.nested look.refuses now) ∙
+    sym (text_shows (seen look now) bytes)

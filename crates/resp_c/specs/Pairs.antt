@@ -120,5 +120,6 @@ abbrev pub refuses_by : ℕ → Bool → ℕ → ℕ → Bool
 refuses_by nested before kind form = cond (eqb nested 0)
     (cond (eqb kind 7) (cond (eqb form 3) before false)
     (cond (eqb kind 4) (cond (eqb form 1) true (eqb form 4))
-    (cond (eqb kind 1) false (cond (eqb kind 2) false (cond (eqb kind 3) false before)))))
+    (cond (eqb kind 10) (cond (eqb form 1) true (eqb form 4))
+    (cond (eqb kind 1) false (cond (eqb kind 2) false (cond (eqb kind 3) false before))))))
     before

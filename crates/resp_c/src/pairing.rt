@@ -7,10 +7,12 @@ ghost use Rattle.std.specs.Prelude.{◌≡◌, ◌↔◌, ◌⊎◌, ℕ, ◌+�
 ghost use Rattle.resp_value.specs.Data.{Datum};
 ghost use Rattle.resp_value.specs.declared.version.Version.TheVariants.{Two};
 ghost use Rattle.resp_scan.specs.Reading.{events_of};
+ghost use Rattle.resp_scan.specs.Listening.{whole_text_events};
 ghost use Rattle.resp_scan.specs.declared.event.Event.{Event};
+ghost use Rattle.resp_scan.specs.declared.event.TextKind.{TextKind};
 ghost use Rattle.resp_session.specs.Heard.{is_push};
 ghost use Rattle.resp_session.specs.Reading.{IsUnasked, is_refusal, reading_version, waiting_after};
-ghost use Rattle.resp_c.specs.Told.{Tells};
+ghost use Rattle.resp_c.specs.Told.{Tells, TellsWhole};
 ghost use Rattle.resp_c.specs.Versions.{version_of};
 ghost use Rattle.resp_c.specs.Pairs.{IsAsk, after_events, ask_of, count_of_reply, hello_asks, look_of, nested_by, new_look, number_of_reply, refuses_by, waiting_of, with_ask_queued};
 
@@ -180,7 +182,7 @@ fn refuses_after(nested: u64, refuses: u32, event: &RespEvent) -> u32
     }
     match event.kind {
         7 => { if event.form == 3 { refuses } else { 0 } }
-        4 => {
+        4 | 10 => {
             if event.form == 1 || event.form == 4 {
                 1
             } else {
@@ -224,6 +226,9 @@ pub extern "C" fn resp_pairing_take(pairing: &mut RespPairing, event: &RespEvent
         number.new ≡ number_of_reply pairing.old }
     ensures shown { pairing.old.nested < 2 ^ 63 → (told : Event) → Tells event.now (Some told) →
         look_of pairing.new ≡ after_events (look_of pairing.old) (events_of told) }
+    ensures shown_whole { pairing.old.nested < 2 ^ 63 → (kind : TextKind) → (bytes : List ℕ) →
+        TellsWhole event.now kind bytes →
+        look_of pairing.new ≡ after_events (look_of pairing.old) (whole_text_events kind bytes) }
     ensures answered { event.now.kind ≡ 9 → (x : Datum) → is_push x ≡ eqb pairing.old.first 62 →
         is_refusal x ≡ (look_of pairing.old).refuses →
         waiting_of pairing.new ≡ waiting_after (waiting_of pairing.old) x }

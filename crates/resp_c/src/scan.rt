@@ -59,28 +59,23 @@ fn tell_events(scanner: &mut Scanner, piece: &[u8], events: &mut [RespEvent]) ->
                 event.used = used;
                 rest = beyond(rest, used);
             }
-            Ok(None) => {
-                return Scan {
-                    count,
-                    used: piece.len(),
-                    cause: 0,
-                };
-            }
+            Ok(None) => return told(count, piece.len(), 0),
             Err(fault) => {
-                return Scan {
-                    count,
-                    used: piece.len() - rest.len(),
-                    cause: fault.cause.number(),
-                };
+                let cause = fault.cause.number();
+                return told(count, piece.len() - rest.len(), cause);
             }
         }
         count += 1;
     }
-    Scan {
-        count,
-        used: piece.len() - rest.len(),
-        cause: 0,
-    }
+    told(count, piece.len() - rest.len(), 0)
+}
+
+/// So many events were told, of so many bytes.
+#[inline(always)]
+fn told(count: usize, used: usize, cause: u32) -> Scan
+    ensures { result ≡ record { count = count; used = used; cause = cause } }
+{
+    Scan { count, used, cause }
 }
 
 /// The bytes from this index on.

@@ -1,5 +1,6 @@
-use Rattle.std.proofs.Common.{ap, refl, ◌∙◌, arith}
+use Rattle.std.proofs.Common.{ap, sym, ◌∙◌, arith}
 use Rattle.resp_value.specs.Causes.{number_of}
+use Rattle.resp_c.specs.declared.scan.Scan.{Scan}
 use Rattle.resp_c.proofs.ManyEvents.{final_so_far, refused_so_far, shown_so_far, shown_within, used_up_so_far}
 use Rattle.resp_c.proofs.scan.tell_events.Goals as goal
 
@@ -15,21 +16,27 @@ loop-event-preserved c =
 
 pub returns-in-Ok-None-clause-used_up : goal.returns-in-Ok-None-clause-used_up
 returns-in-Ok-None-clause-used_up c none few =
-    let steps = rw c.in-Ok-None.field-0-is at c.in-Ok-None.ensures.used_up in (
-      refl,
-      used_up_so_far c.args.scanner.now c.loop-event.scanner c.step_into.new.self c.args.piece.now c.loop-event.rest.now c.args.events.now
-          c.loop-event.events c.loop-event.event-index c.loop-event.count c.step_into.new.slot c.loop-event.invariant steps,
-    )
+    let steps = rw c.in-Ok-None.field-0-is at c.in-Ok-None.ensures.used_up in
+    let scans = used_up_so_far c.args.scanner.now c.loop-event.scanner c.step_into.new.self c.args.piece.now c.loop-event.rest.now c.args.events.now
+    c.loop-event.events c.loop-event.event-index c.loop-event.count c.step_into.new.slot c.loop-event.invariant steps in
+    let used = ap (λ (s : Scan). s.used) c.told.ensures in
+    let count = ap (λ (s : Scan). s.count) c.told.ensures in
+    (used, rw (sym used) at (rw (sym count) at scans))
 
 pub returns-in-Err-clause-refused : goal.returns-in-Err-clause-refused
 returns-in-Err-clause-refused c some =
     let steps = c.in-Err.ensures.refused in
     let told = refused_so_far c.args.scanner.now c.loop-event.scanner c.step_into.new.self c.args.piece.now c.loop-event.rest.now c.args.events.now
     c.loop-event.events c.loop-event.event-index c.loop-event.count c.step_into.new.slot c.in-Err.fault c.loop-event.invariant steps in
-    (c.in-Err.fault, c.number.ensures, steps.fault_is_kept, told.0, told.1)
+    let used = ap (λ (s : Scan). s.used) c.told-in-Err.ensures in
+    let count = ap (λ (s : Scan). s.count) c.told-in-Err.ensures in
+    let cause = ap (λ (s : Scan). s.cause) c.told-in-Err.ensures ∙ c.number-cause.ensures in
+    (c.in-Err.fault, cause, steps.fault_is_kept, rw (sym used) at (rw (sym count) at told.0), rw (sym used) at (rw (sym count) at told.1))
 
 pub returns-in-Err-clause-fault_is_final : goal.returns-in-Err-clause-fault_is_final
 returns-in-Err-clause-fault_is_final c fault f some =
     let told = final_so_far c.args.scanner.now c.loop-event.scanner c.step_into.new.self c.args.piece.now c.loop-event.rest.now c.args.events.now
     c.loop-event.events c.loop-event.event-index c.loop-event.count fault c.in-Err.fault c.loop-event.invariant c.in-Err.ensures.refused f in
-    (c.number.ensures ∙ ap (λ x. number_of x.cause) told.0, told.1, told.2)
+    let count = ap (λ (s : Scan). s.count) c.told-in-Err.ensures in
+    let cause = ap (λ (s : Scan). s.cause) c.told-in-Err.ensures ∙ c.number-cause.ensures in
+    (cause ∙ ap (λ x. number_of x.cause) told.0, count ∙ told.1, told.2)

@@ -1,0 +1,54 @@
+/* Bytes that grow. */
+#ifndef BYTES_H
+#define BYTES_H
+
+#include <Python.h>
+
+#include <stdbool.h>
+#include <stdint.h>
+#include <string.h>
+
+/* The room that is kept for the next bytes. */
+#define MOST_KEPT 65536
+
+struct bytes {
+    uint8_t *start;
+    size_t length, room;
+};
+
+/* Gives room for `length` bytes more. Where there is no memory, nothing changes. */
+static bool reserve(struct bytes *bytes, size_t length) {
+    if (length > bytes->room - bytes->length) {
+        size_t room = bytes->length + length;
+        room = room < 512 ? 512 : room + room / 2;
+        uint8_t *start = PyMem_Realloc(bytes->start, room);
+        if (!start) {
+            PyErr_NoMemory();
+            return false;
+        }
+        bytes->start = start;
+        bytes->room = room;
+    }
+    return true;
+}
+
+static bool append(struct bytes *bytes, const uint8_t *more, size_t length) {
+    if (!reserve(bytes, length))
+        return false;
+    if (length)
+        memcpy(bytes->start + bytes->length, more, length);
+    bytes->length += length;
+    return true;
+}
+
+/* Forgets the bytes, and gives much room back. */
+static void empty(struct bytes *bytes) {
+    bytes->length = 0;
+    if (bytes->room > MOST_KEPT) {
+        PyMem_Free(bytes->start);
+        bytes->start = NULL;
+        bytes->room = 0;
+    }
+}
+
+#endif

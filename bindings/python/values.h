@@ -1,0 +1,382 @@
+/* Python's values, as events tell them. */
+#ifndef VALUES_H
+#define VALUES_H
+
+#include <Python.h>
+
+#include "bytes.h"
+#include "resp.h"
+
+/* As deep as the greatest limit of depth. */
+#define MOST_OPEN 128
+
+/* The values whose room is kept for the next reply. */
+#define MOST_VALUES 4096
+
+/* What is seldom wanted is kept apart from what is read for each value. */
+#ifdef __GNUC__
+#define APART __attribute__((noinline))
+#else
+#define APART
+#endif
+
+/* An aggregate that is open: its kind, and where its members begin among the values. */
+struct open {
+    uint32_t form;
+    size_t first;
+};
+
+/* How strings are read. */
+enum reading { AS_BYTES, AS_UTF8, AS_ENCODED };
+
+struct values {
+    /* What is whole: the members of the open aggregates, one after another, or the value at the top. */
+    PyObject **start;
+    size_t count, room;
+    struct open open[MOST_OPEN];
+    size_t depth;
+    /* The text that comes in parts: its kind, whether it is a big number below zero, and its bytes. */
+    uint32_t form;
+    bool is_negative;
+    struct bytes text;
+    /* Why a value can't be made. It is raised once the value was read, so that the next can be. */
+    PyObject *failure;
+    /* What makes errors of their texts; how strings are read by the encoding, and how by this call. */
+    PyObject *reply_error;
+    char *encoding, *errors;
+    enum reading reads, reads_now;
+};
+
+static PyObject *Push;
+
+/* What redis-server answers most: `OK` as bytes, and the least integers. */
+#define MOST_SMALL 256
+static PyObject *OK, *Small[MOST_SMALL];
+
+/* Makes these. Whether memory for them was found. */
+static bool make_usual(void) {
+    OK = PyBytes_FromString("OK");
+    for (long at = 0; at < MOST_SMALL; at++)
+        if (!(Small[at] = PyLong_FromLong(at)))
+            return false;
+    return OK;
+}
+
+/* Puts a value, which it takes, in the place of another. */
+static void replace(PyObject **place, PyObject *value) {
+    PyObject *before = *place;
+    *place = value;
+    Py_XDECREF(before);
+}
+
+/* The exception that is set, as an object. */
+static PyObject *take_exception(void) {
+    PyObject *type, *value, *traceback;
+    PyErr_Fetch(&type, &value, &traceback);
+    PyErr_NormalizeException(&type, &value, &traceback);
+    Py_XDECREF(type);
+    Py_XDECREF(traceback);
+    return value;
+}
+
+/* Keeps the exception that is set, if it is the first of this reply. */
+static APART void fail(struct values *values) {
+    PyObject *exception = take_exception();
+    if (!values->failure)
+        values->failure = exception;
+    else
+        Py_XDECREF(exception);
+}
+
+static inline PyObject *hashable(PyObject *value);
+
+/* A tuple of what can be hashed in a sequence. */
+static PyObject *hashable_tuple(PyObject *members) {
+    PyObject *tuple = PySequence_Tuple(members);
+    if (!tuple)
+        return NULL;
+    Py_ssize_t length = PyTuple_Size(tuple);
+    PyObject *made = PyTuple_New(length);
+    for (Py_ssize_t at = 0; made && at < length; at++) {
+        PyObject *value = hashable(PyTuple_GetItem(tuple, at));
+        if (!value || PyTuple_SetItem(made, at, value))
+            Py_CLEAR(made);
+    }
+    Py_DECREF(tuple);
+    return made;
+}
+
+/* The same value as a key: lists are tuples, sets are frozen, and a dict is the tuple of its pairs. */
+static APART PyObject *hashable_copy(PyObject *value) {
+    if (PyList_Check(value) || PyTuple_Check(value))
+        return hashable_tuple(value);
+    if (PyDict_Check(value)) {
+        PyObject *pairs = PyDict_Items(value);
+        PyObject *made = pairs ? hashable_tuple(pairs) : NULL;
+        Py_XDECREF(pairs);
+        return made;
+    }
+    if (PySet_Check(value))
+        return PyFrozenSet_New(value);
+    Py_INCREF(value);
+    return value;
+}
+
+/* (most keys are strings or integers) */
+static inline PyObject *hashable(PyObject *value) {
+    PyTypeObject *type = Py_TYPE(value);
+    if (type != &PyBytes_Type && type != &PyUnicode_Type && type != &PyLong_Type)
+        return hashable_copy(value);
+    Py_INCREF(value);
+    return value;
+}
+
+static inline PyObject *integer_of(int64_t number) {
+    if ((uint64_t)number >= MOST_SMALL)
+        return PyLong_FromLongLong(number);
+    Py_INCREF(Small[number]);
+    return Small[number];
+}
+
+/* The calls that follow make the value of a text. */
+
+static PyObject *error_of(struct values *values, const char *start, Py_ssize_t length) {
+    PyObject *text = PyUnicode_DecodeUTF8(start, length, "replace");
+    PyObject *value = text ? PyObject_CallFunctionObjArgs(values->reply_error, text, NULL) : NULL;
+    Py_XDECREF(text);
+    return value;
+}
+
+static PyObject *double_of(const char *start, Py_ssize_t length) {
+    PyObject *text = PyUnicode_DecodeUTF8(start, length, "strict");
+    PyObject *value = text ? PyFloat_FromString(text) : NULL;
+    Py_XDECREF(text);
+    return value;
+}
+
+static PyObject *big_of(const char *start, Py_ssize_t length, bool is_negative) {
+    PyObject *digits = length ? PyUnicode_FromStringAndSize(start, length) : PyUnicode_FromString("0");
+    PyObject *value = digits ? PyObject_CallFunctionObjArgs((PyObject *)&PyLong_Type, digits, NULL) : NULL;
+    if (value && is_negative)
+        replace(&value, PyNumber_Negative(value));
+    Py_XDECREF(digits);
+    return value;
+}
+
+/* A text that is no string. */
+static APART PyObject *other_of(struct values *values, uint32_t form, const char *start, Py_ssize_t length) {
+    switch (form) {
+    case RESP_TEXT_DOUBLE:
+        return double_of(start, length);
+    case RESP_TEXT_BIG:
+        return big_of(start, length, values->is_negative);
+    default:
+        return error_of(values, start, length);
+    }
+}
+
+static APART PyObject *decoded(struct values *values, const char *start, Py_ssize_t length) {
+    return values->reads_now == AS_UTF8 ? PyUnicode_DecodeUTF8(start, length, values->errors)
+                                        : PyUnicode_Decode(start, length, values->encoding, values->errors);
+}
+
+static inline PyObject *text_of(struct values *values, uint32_t form, const uint8_t *bytes, size_t size) {
+    const char *start = (const char *)bytes;
+    Py_ssize_t length = (Py_ssize_t)size;
+    if (form != RESP_TEXT_BULK && form != RESP_TEXT_SIMPLE && form != RESP_TEXT_VERBATIM)
+        return other_of(values, form, start, length);
+    if (values->reads_now != AS_BYTES)
+        return decoded(values, start, length);
+    if (length == 2 && start[0] == 'O' && start[1] == 'K') {
+        Py_INCREF(OK);
+        return OK;
+    }
+    return PyBytes_FromStringAndSize(start, length);
+}
+
+/* The calls that follow make an aggregate of its members, which they take. */
+
+static void let_go(PyObject **members, size_t count) {
+    for (size_t at = 0; at < count; at++)
+        Py_DECREF(members[at]);
+}
+
+static PyObject *list_of(PyObject **members, size_t count) {
+    PyObject *list = PyList_New((Py_ssize_t)count);
+    if (!list) {
+        let_go(members, count);
+        return NULL;
+    }
+    for (size_t at = 0; at < count; at++)
+        PyList_SetItem(list, (Py_ssize_t)at, members[at]);
+    return list;
+}
+
+/* A list that is a push has a type of its own. */
+static PyObject *push_of(PyObject **members, size_t count) {
+    PyObject *list = list_of(members, count);
+    PyObject *push = list ? PyObject_CallFunctionObjArgs(Push, list, NULL) : NULL;
+    Py_XDECREF(list);
+    return push;
+}
+
+static PyObject *set_of(PyObject **members, size_t count) {
+    PyObject *set = PySet_New(NULL);
+    for (size_t at = 0; set && at < count; at++) {
+        PyObject *member = hashable(members[at]);
+        if (!member || PySet_Add(set, member))
+            Py_CLEAR(set);
+        Py_XDECREF(member);
+    }
+    let_go(members, count);
+    return set;
+}
+
+static PyObject *dict_of(PyObject **members, size_t count) {
+    PyObject *dict = PyDict_New();
+    for (size_t at = 0; dict && at + 1 < count; at += 2) {
+        PyObject *key = hashable(members[at]);
+        if (!key || PyDict_SetItem(dict, key, members[at + 1]))
+            Py_CLEAR(dict);
+        Py_XDECREF(key);
+    }
+    let_go(members, count);
+    return dict;
+}
+
+/* Attributes are read over: the value that one annotates stands last. */
+static PyObject *annotated(PyObject **members, size_t count) {
+    PyObject *value = count ? members[count - 1] : Py_None;
+    Py_INCREF(value);
+    let_go(members, count);
+    return value;
+}
+
+static PyObject *aggregate_of(uint32_t form, PyObject **members, size_t count) {
+    switch (form) {
+    case RESP_MAP:
+        return dict_of(members, count);
+    case RESP_SET:
+        return set_of(members, count);
+    case RESP_PUSH:
+        return push_of(members, count);
+    case RESP_ATTRIBUTE:
+        return annotated(members, count);
+    default:
+        return list_of(members, count);
+    }
+}
+
+/* Gives room for more values. */
+static APART bool reserve_values(struct values *values) {
+    size_t room = values->room ? 2 * values->room : 64;
+    PyObject **start = PyMem_Realloc(values->start, room * sizeof *start);
+    if (!start) {
+        PyErr_NoMemory();
+        return false;
+    }
+    values->start = start;
+    values->room = room;
+    return true;
+}
+
+/* Adds a value that is whole, which it takes, or None where it couldn't be made. */
+static inline void add(struct values *values, PyObject *value) {
+    if (!value) {
+        fail(values);
+        Py_INCREF(Py_None);
+        value = Py_None;
+    }
+    if (values->count == values->room && !reserve_values(values)) {
+        fail(values);
+        Py_DECREF(value);
+        return;
+    }
+    values->start[values->count++] = value;
+}
+
+/* The innermost aggregate has all its members. Its head isn't believed how many these are. */
+static APART void end(struct values *values) {
+    struct open *open = &values->open[--values->depth];
+    PyObject **members = values->start + open->first;
+    size_t count = values->count - open->first;
+    /* (from now on the collector of cycles sees the members where they come to lie) */
+    values->count = open->first;
+    add(values, aggregate_of(open->form, members, count));
+}
+
+/* Takes an event that is seldom, whose bytes begin at `at`. */
+static APART void take_seldom(struct values *values, const struct resp_event *event, const uint8_t *at) {
+    switch (event->kind) {
+    case RESP_NULL:
+        Py_INCREF(Py_None);
+        add(values, Py_None);
+        break;
+    case RESP_BOOL:
+        add(values, PyBool_FromLong((long)event->number));
+        break;
+    case RESP_TEXT:
+        values->form = event->form;
+        values->is_negative = event->number;
+        values->text.length = 0;
+        break;
+    case RESP_PART:
+        if (!append(&values->text, resp_event_part(event, at), event->part))
+            fail(values);
+        break;
+    case RESP_TEXT_END:
+        add(values, text_of(values, values->form, values->text.length ? values->text.start : (const uint8_t *)"",
+                            values->text.length));
+        empty(&values->text);
+        break;
+    }
+}
+
+/* Takes an event, whose bytes begin at `at`; but not RESP_DONE and RESP_MORE, of which it answers false. */
+static inline bool take(struct values *values, const struct resp_event *event, const uint8_t *at) {
+    if (event->kind == RESP_WHOLE)
+        add(values, text_of(values, event->form, resp_event_whole(event, at), event->part));
+    else if (event->kind == RESP_INT)
+        add(values, integer_of(event->number));
+    else if (event->kind == RESP_DONE || event->kind == RESP_MORE)
+        return false;
+    else if (event->kind == RESP_OPEN)
+        values->open[values->depth++] = (struct open){event->form, values->count};
+    else if (event->kind == RESP_CLOSE)
+        end(values);
+    else
+        take_seldom(values, event, at);
+    return true;
+}
+
+/* Lets go of what was taken, and gives much room back. */
+static void forget(struct values *values) {
+    while (values->count)
+        Py_DECREF(values->start[--values->count]);
+    values->depth = 0;
+    Py_CLEAR(values->failure);
+    if (values->room > MOST_VALUES) {
+        PyMem_Free(values->start);
+        values->start = NULL;
+        values->room = 0;
+    }
+}
+
+/* The value that has ended, or the exception that it couldn't be made by. */
+static inline PyObject *whole(struct values *values) {
+    if (values->failure) {
+        PyObject *failure = values->failure;
+        values->failure = NULL;
+        forget(values);
+        PyErr_SetObject((PyObject *)Py_TYPE(failure), failure);
+        Py_DECREF(failure);
+        return NULL;
+    }
+    PyObject *value = values->start[0];
+    values->count = 0;
+    if (values->room > MOST_VALUES)
+        forget(values);
+    return value;
+}
+
+#endif
