@@ -9,7 +9,7 @@ use Rattle.resp_value.specs.Values.{extended}
 use Rattle.resp_value.specs.declared.version.Version.{Version}
 use Rattle.resp_value.specs.declared.version.Version.TheVariants.{Two}
 use Rattle.resp_value.specs.Words.{word_datum, texts_of}
-use Rattle.resp_encode.proofs.Extended.{data_of_list-push, length-texts-extended}
+use Rattle.resp_encode.proofs.Extended.{data_of_list-push, length-texts-extended, texts-extended}
 
 -- one more member
 pub data-take_more : {A : Type 0} (f : A → Datum) (xs : List A) (i : ℕ) (d : A) → i < length xs →
@@ -107,6 +107,14 @@ word_take_more words i d {text = text} h e =
     ∙ ap (λ x. extended (data_of_list (map (λ word. word_datum word.items) (take i words))) (word_datum x)) (sym e)
     ∙ ap (λ ws. extended (data_of_list ws) (word_datum text)) (sym (map-map (take i words)) ∙
     ap (map word_datum) (sym (take-map (λ word. word.items) i words)))
+
+-- and its text
+pub word_text_more : (words : List (Vec ℕ Global)) (i : ℕ) (d : Vec ℕ Global) {text : List ℕ} → i < length words →
+    text ≡ (get_or words i d).items →
+    texts (canonical_trees Two (data_of_list (map word_datum (take (i + 1) (texts_of words))))) ≡
+    texts (canonical_trees Two (data_of_list (map word_datum (take i (texts_of words))))) ++ canonical_text Two (word_datum text)
+word_text_more words i d {text = text} h e = ap (λ xs. texts (canonical_trees Two xs)) (word_take_more words i d h e)
+    ∙ texts-extended Two (data_of_list (map word_datum (take i (texts_of words)))) (word_datum text)
 
 -- after the words up to a place there is room for one more
 pub word_room : (words : List (Vec ℕ Global)) (i : ℕ) (d : Vec ℕ Global) {text : List ℕ} → i < length words →

@@ -9,20 +9,9 @@ use Rattle.resp_value.specs.declared.value.Value.{Value}
 use Rattle.resp_encode.specs.Walks.Measures.{Describes, DescribesEach}
 use Rattle.resp_encode.proofs.Counts.{count-map, count-in_turn, count-annotated}
 use Rattle.resp_encode.proofs.Extended.{data_of_list-push, values_with}
+use Rattle.resp_encode.proofs.Parts.{map_data, attr_data}
 use Rattle.resp_encode.proofs.SoFar.{data-take_more, pairs-take_more}
 use Rattle.resp_encode.proofs.measure_value.+measure.Goals as goal
-
--- the data of a map and of an attribute, at equal parts
-map_data : {ps qs : List (Value × Value)} → ps ≡ qs → aggregate d.Map (data_of_list (in_turn (map pair_data ps))) ≡
-    aggregate d.Map (data_of_list (in_turn (map pair_data qs)))
-map_data same = ap (λ ps. aggregate d.Map (data_of_list (in_turn (map pair_data ps)))) same
-
-attr_data : {ps qs : List (Value × Value)} {x y : Value} → ps ≡ qs → x ≡ y →
-    aggregate d.Attr (data_of_list (in_turn (map pair_data ps) ++ datum_of x ∷ [])) ≡
-    aggregate d.Attr (data_of_list (in_turn (map pair_data qs) ++ datum_of y ∷ []))
-attr_data {qs = qs} {x = x} same under = ap (λ ps. aggregate d.Attr
-    (data_of_list (in_turn (map pair_data ps) ++ datum_of x ∷ []))) same ∙
-    ap (λ z. aggregate d.Attr (data_of_list (in_turn (map pair_data qs) ++ datum_of z ∷ []))) under
 
 pub measure_value-returns-in-Bool-clause-found : goal.measure_value-returns-in-Bool-clause-found
 measure_value-returns-in-Bool-clause-found t c = subst (λ x. Describes c.args.version x c.measure_bool.result)
