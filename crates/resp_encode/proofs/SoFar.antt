@@ -37,6 +37,12 @@ pairs-take_more f xs i d h =
     ∙ data_of_list-push (front ++ pair.0 ∷ []) pair.1
     ∙ ap (λ xs. extended xs pair.1) (data_of_list-push front pair.0)
 
+-- where this is the pair that comes next
+pub pairs-taken : {A : Type 0} (f : A → Datum × Datum) (xs : List A) (i : ℕ) (d : A) → i < length xs → d ≡ get_or xs i d →
+    data_of_list (in_turn (map f (take (i + 1) xs))) ≡ extended (extended (data_of_list (in_turn (map f (take i xs)))) (f d).0) (f d).1
+pairs-taken f xs i d h is = pairs-take_more f xs i d h ∙
+    ap (λ pair. extended (extended (data_of_list (in_turn (map f (take i xs)))) (f pair).0) (f pair).1) (sym is)
+
 texts-append : (version : Version) (xs ys : List Datum) → texts (canonical_trees version (data_of_list (xs ++ ys))) ≡
     texts (canonical_trees version (data_of_list xs)) ++ texts (canonical_trees version (data_of_list ys))
 texts-append version [] ys = refl

@@ -7,7 +7,7 @@ use Rattle.resp_value.specs.Canonical.{canonical_text, canonical_trees}
 use Rattle.resp_value.specs.Values.{datum_of, pair_data, extended}
 use Rattle.resp_encode.specs.Walks.Writings.{Fills}
 use Rattle.resp_encode.proofs.Extended.{texts-extended}
-use Rattle.resp_encode.proofs.SoFar.{data-take_more, pairs-take_more, text_room, pair_room}
+use Rattle.resp_encode.proofs.SoFar.{data-take_more, pairs-taken, text_room, pair_room}
 use Rattle.resp_encode.proofs.Texts.{Writes-none, Writes-append, head_split, length-head}
 use Rattle.resp_encode.proofs.ValueTexts.{length_of_group, length_of-Map, length_of-Attr, pair_texts, group_written, text_of-Map, text_of-Attr}
 use Rattle.resp_encode.proofs.text.+write.Goals as goal
@@ -17,8 +17,7 @@ write_members-loop-member-init t c = Writes-none c.args.out.now
 
 pub write_members-write_value-requires : goal.write_members-write_value-requires
 write_members-write_value-requires t c =
-    let i = c.loop-member.member-index in
-    let room = text_room c.args.version datum_of c.args.members.now i c.member-item.result c.loop-member-test.true in
+    let room = text_room c.args.version datum_of c.args.members.now c.loop-member.member-index c.member-item.result c.loop-member-test.true in
     let item = ap (λ x. length (canonical_text c.args.version (datum_of x))) c.member-item.is in (
       omega (arith, room, item, c.loop-member.invariant.spare, c.requires),
       omega (arith, room, item, c.loop-member.invariant.spare, c.requires),
@@ -46,8 +45,7 @@ write_pairs-loop-pair-init t c = Writes-none c.args.out.now
 
 pub write_pairs-write_value-requires : goal.write_pairs-write_value-requires
 write_pairs-write_value-requires t c =
-    let i = c.loop-pair.pair-index in
-    let room = pair_room c.args.version pair_data c.args.pairs.now i c.pair-item.result c.loop-pair-test.true in
+    let room = pair_room c.args.version pair_data c.args.pairs.now c.loop-pair.pair-index c.pair-item.result c.loop-pair-test.true in
     let item = ap (λ x. length (canonical_text c.args.version (datum_of x.0))) c.pair-item.is in (
       omega (arith, room, item, c.loop-pair.invariant.spare, c.requires),
       omega (arith, room, item, c.loop-pair.invariant.spare, c.requires),
@@ -65,11 +63,9 @@ write_pairs-write_value-requires-in-loop-pair t c =
 
 pub write_pairs-loop-pair-preserved : goal.write_pairs-loop-pair-preserved
 write_pairs-loop-pair-preserved t c =
-    let i = c.loop-pair.pair-index in
-    let front = data_of_list (in_turn (map pair_data (take i c.args.pairs.now))) in
+    let front = data_of_list (in_turn (map pair_data (take c.loop-pair.pair-index c.args.pairs.now))) in
     let pair = pair_data c.pair-item.result in
-    let one_more = pairs-take_more pair_data c.args.pairs.now i c.pair-item.result c.loop-pair-test.true ∙
-    ap (λ x. extended (extended front (pair_data x).0) (pair_data x).1) (sym c.pair-item.is) in
+    let one_more = pairs-taken pair_data c.args.pairs.now c.loop-pair.pair-index c.pair-item.result c.loop-pair-test.true c.pair-item.is in
     subst (Fills c.args.out.now c.write_value-in-loop-pair.new.out)
     (sym (ap (λ xs. texts (canonical_trees c.args.version xs)) one_more
     ∙ texts-extended c.args.version (extended front pair.0) pair.1
