@@ -8,7 +8,7 @@
 //! are printed too.
 
 use crate::server::{Kind, command as text_of, new_hub};
-use crate::{has, nanos};
+use crate::{end_line, has, nanos};
 use anyhow::Result;
 use bytes::BytesMut;
 use futures::{FutureExt, StreamExt};
@@ -243,11 +243,7 @@ fn bench_bytes(rt: &HostRuntime, timed: bool, length: usize) -> Result<()> {
     let values = by_single_bytes(alloc, text.as_slice())?;
     let taken = nanos(rt)?.saturating_sub(start);
     print!(rt; "a bulk string of {length} by single bytes: {values} value;")?;
-    if timed {
-        print!(rt; " {} ns a byte", taken / (length.max(1) as u128))?;
-    }
-    println!(rt; "")?;
-    Ok(())
+    end_line(rt, timed, taken, length as u128, "a byte")
 }
 
 /// Runs it as the words ask.

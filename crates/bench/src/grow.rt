@@ -8,7 +8,7 @@
 //! says what an idle session takes.
 
 use crate::server::{BenchHub, Kind, command, new_hub, send};
-use crate::{has, nanos};
+use crate::{end_line, has, nanos};
 use anyhow::Result;
 use std::alloc::Global;
 
@@ -92,11 +92,7 @@ fn print(rt: &HostRuntime, closes: bool, count: u64, timed: bool) -> Result<()> 
     } else {
         print!(rt; "{half} of {count} keys deleted;")?;
     }
-    if timed {
-        print!(rt; " {} ns each", least / u128::from(half.max(1)))?;
-    }
-    println!(rt; "")?;
-    Ok(())
+    end_line(rt, timed, least, u128::from(half), "each")
 }
 
 /// Leaves sessions open until the hub is dropped.

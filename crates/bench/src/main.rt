@@ -29,6 +29,15 @@ fn nanos(rt: &HostRuntime) -> Result<u128> {
     Ok(rt.thread_cpu_time()?.as_nanos())
 }
 
+/// Ends a line, and says before how many nanoseconds each of `count` took, where that is timed.
+fn end_line(rt: &HostRuntime, timed: bool, nanos: u128, count: u128, each: &str) -> Result<()> {
+    if timed {
+        print!(rt; " {} ns {each}", nanos / count.max(1))?;
+    }
+    println!(rt; "")?;
+    Ok(())
+}
+
 /// Runs the parts that the words name, or each where they name none.
 fn bench(rt: &HostRuntime, words: &[String]) -> Result<()> {
     let names = [

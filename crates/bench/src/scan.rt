@@ -40,6 +40,15 @@ struct Task {
     timed: bool,
 }
 
+/// A text that is read by a call in pieces of a size, so often.
+#[derive(Clone, Copy)]
+struct Reading<'a> {
+    call: Call,
+    text: &'a [u8],
+    size: usize,
+    rounds: usize,
+}
+
 /// It is read in pieces of several sizes by each call, and counted.
 const COUNT: Task = Task {
     calls: &[Call::Step, Call::Scan, Call::Decode],
@@ -75,8 +84,9 @@ impl Readers {
         }
     }
 
-    fn read(&mut self, call: Call, text: &[u8], size: usize, tally: &mut Tally) -> Result<()> {
-        match call {
+    fn read(&mut self, reading: &Reading<'_>, tally: &mut Tally) -> Result<()> {
+        let (text, size) = (reading.text, reading.size);
+        match reading.call {
             Call::Step => step_text(&mut self.scanner, text, size, tally)?,
             Call::Scan => scan_text(&mut self.scanner, text, size, tally)?,
             Call::Decode => decode_text(&mut self.decoder, text, size, tally)?,
@@ -84,19 +94,16 @@ impl Readers {
         Ok(())
     }
 
-    /// Reads a text so often, and answers how many nanoseconds that took.
+    /// Reads a text as often as asked, and answers how many nanoseconds that took.
     fn read_rounds(
         &mut self,
         rt: &HostRuntime,
-        call: Call,
-        task: &Task,
-        text: &[u8],
-        size: usize,
+        reading: &Reading<'_>,
         tally: &mut Tally,
     ) -> Result<u128> {
         let start = nanos(rt)?;
-        for _ in 0..task.rounds {
-            self.read(call, text, size, tally)?;
+        for _ in 0..reading.rounds {
+            self.read(reading, tally)?;
         }
         let end = nanos(rt)?;
         self.finish()?;
@@ -112,18 +119,11 @@ impl Readers {
 
 /// Prints a line of what is counted of a text, and with it the events or microseconds of this
 /// thread's processor time.
-fn print_read(
-    rt: &HostRuntime,
-    task: &Task,
-    call: Call,
-    name: &str,
-    text: &[u8],
-    size: usize,
-) -> Result<()> {
+fn print_read(rt: &HostRuntime, name: &str, timed: bool, reading: &Reading<'_>) -> Result<()> {
     let mut tally = Tally::new();
-    let nanos = read_anew(rt, call, task, text, size, &mut tally)?;
-    print_counts(rt, name, size, &tally)?;
-    if task.timed {
+    let nanos = read_anew(rt, reading, &mut tally)?;
+    print_counts(rt, name, reading.size, &tally)?;
+    if timed {
         println!(rt; "{} us", nanos / 1_000)?;
     } else {
         println!(rt; "{} events", tally.events())?;
@@ -132,16 +132,9 @@ fn print_read(
 }
 
 /// Reads a text by new readers, and answers how many nanoseconds that took.
-fn read_anew(
-    rt: &HostRuntime,
-    call: Call,
-    task: &Task,
-    text: &[u8],
-    size: usize,
-    tally: &mut Tally,
-) -> Result<u128> {
+fn read_anew(rt: &HostRuntime, reading: &Reading<'_>, tally: &mut Tally) -> Result<u128> {
     let mut readers = Readers::new(rt.alloc());
-    readers.read_rounds(rt, call, task, text, size, tally)
+    readers.read_rounds(rt, reading, tally)
 }
 
 /// Prints what both readers count of a text.
@@ -159,7 +152,13 @@ fn run(rt: &HostRuntime, task: &Task, text: &Text) -> Result<()> {
     let bytes = text.repeated(rt.alloc(), task.least)?;
     for size in task.sizes {
         for call in task.calls {
-            print_read(rt, task, *call, text.name, bytes.as_slice(), *size)?;
+            let reading = Reading {
+                call: *call,
+                text: bytes.as_slice(),
+                size: *size,
+                rounds: task.rounds,
+            };
+            print_read(rt, text.name, task.timed, &reading)?;
         }
     }
     Ok(())

@@ -4,7 +4,7 @@
 //! argument there are a hundred clients, and what came of them is printed, the same on every run.
 //! With `times` there are a thousand and 16,000, and nanoseconds of one command are printed too.
 
-use crate::{has, nanos};
+use crate::{end_line, has, nanos};
 use anyhow::Result;
 use resp_value::command::Command;
 use resp_value::limits::Limits;
@@ -47,11 +47,7 @@ fn run(rt: &HostRuntime, clients: usize, timed: bool) -> Result<()> {
     let nanos = converse_all(rt, &mut world, clients)?;
     let commands = world.order().len();
     print!(rt; "a world of {clients} clients: {commands} commands;")?;
-    if timed {
-        print!(rt; " {} ns each", nanos / (commands.max(1) as u128))?;
-    }
-    println!(rt; "")?;
-    Ok(())
+    end_line(rt, timed, nanos, commands as u128, "each")
 }
 
 /// Runs it as the words ask.

@@ -157,6 +157,10 @@ big_comes negative (c ∷ s) from end to b last weight xs h light size some room
     text_comes (e.Big negative) (end - 2 - length s) (end - 2 - length s) 1 (c ∷ s) end to b last weight xs (omega arith) (omega arith) (omega arith)
     (omega arith) (omega arith) (omega arith) room whole may k
 
+-- how long the text of a counted string is
+string_length : (byte : ℕ) (digits s : List ℕ) → length (byte ∷ (digits ++ crlf (s ++ crlf []))) ≡ length digits + length s + 5
+string_length byte digits s = omega (arith, length-append (byte ∷ digits) (crlf (s ++ crlf [])), length-append s (crlf []))
+
 -- the events of a leaf
 pub leaf_comes : (from : ℕ) (l : Leaf) (b : Construction) (last weight : ℕ) (xs : List Timed) → IsLeaf l → MayBegin b → last ≤ from →
     weight ≤ from → GoOn (from + length (leaf_text l)) xs (with_value (scalar (leaf_value l)) b) → Come last weight (leaf_events from l ++ xs) b
@@ -196,14 +200,12 @@ leaf_comes from (truth true) b last weight xs is may h light k =
 leaf_comes from (truth false) b last weight xs is may h light k =
     (omega arith, omega arith, may, k (last_of from (leaf_text (truth false))) (weight + 3) (omega arith) (omega arith))
 leaf_comes from (string t.Bulk digits s) b last weight xs is may h light k =
-    let n : length (leaf_text (string t.Bulk digits s)) ≡ length digits + length s + 5 =
-    omega (arith, length-append (36 ∷ digits) (crlf (s ++ crlf [])), length-append s (crlf [])) in
+    let n : length (leaf_text (string t.Bulk digits s)) ≡ length digits + length s + 5 = string_length 36 digits s in
     text_comes e.Bulk (from + length digits + 2) (from + length digits + 3) 1 s (last_of from (leaf_text (string t.Bulk digits s)))
     (from + length (leaf_text (string t.Bulk digits s))) b last weight xs (omega arith) (omega arith) (omega arith) (omega arith) (omega arith)
     (omega arith) (omega arith) tt may k
 leaf_comes from (string t.BulkError digits s) b last weight xs is may h light k =
-    let n : length (leaf_text (string t.BulkError digits s)) ≡ length digits + length s + 5 =
-    omega (arith, length-append (33 ∷ digits) (crlf (s ++ crlf [])), length-append s (crlf [])) in
+    let n : length (leaf_text (string t.BulkError digits s)) ≡ length digits + length s + 5 = string_length 33 digits s in
     text_comes e.BulkError (from + length digits + 2) (from + length digits + 3) 1 s (last_of from (leaf_text (string t.BulkError digits s)))
     (from + length (leaf_text (string t.BulkError digits s))) b last weight xs (omega arith) (omega arith) (omega arith) (omega arith) (omega arith)
     (omega arith) (omega arith) tt may k

@@ -9,7 +9,7 @@ use Rattle.std.proofs.Math.Seq.{take-append-add, take-nil}
 use Rattle.resp_value.specs.Trees.{Tree, Spells, leaf, null, PlainNull, text}
 use Rattle.resp_value.specs.TreeValues.{value}
 use Rattle.resp_value.specs.Rules.{Rules, WithinTotal}
-use Rattle.resp_value.specs.Spellings.{IsSpelling, IsViable}
+use Rattle.resp_value.specs.Spellings.{FaultOf, IsSpelling, IsViable}
 use Rattle.resp_value.specs.Values.{datum_of}
 use Rattle.resp_value.specs.declared.value.Value.{Value}
 use Rattle.resp_value.proofs.SpellingLaws.{text_not_empty}
@@ -34,7 +34,7 @@ use Rattle.resp_decode.proofs.Counted.{events_weigh}
 use Rattle.resp_decode.proofs.Values.{are_brief, are_good, brief_first, value_is_built}
 
 -- nothing is due of no byte
-due_at_start : (xs : List Timed) → events_due 0 xs ≡ []
+pub due_at_start : (xs : List Timed) → events_due 0 xs ≡ []
 due_at_start [] = refl
 due_at_start (x ∷ xs) = case (ltb x.at 0) refl (due_at_start xs)
   where
@@ -50,7 +50,7 @@ pub no_value_at_start : HasNoValue []
 no_value_at_start n tree spells = text_not_empty tree (spells.spelled ∙ take-nil n)
 
 -- what was given of no byte is nothing
-given_at_start : (given : Events) → AreDue [] given → given ≡ []
+pub given_at_start : (given : Events) → AreDue [] given → given ≡ []
 given_at_start given due =
     let whole : Tree = leaf (null PlainNull) in
     sym (due (text whole) whole (record { is_tree = tt; spelled = refl })) ∙ due_at_start (all_events whole)
@@ -203,23 +203,18 @@ brief_given r (byte ∷ written) zero es brief v begin =
 brief_given r (byte ∷ written) (suc n) es brief v begin = are_brief r byte (take n written) es brief v begin
 
 -- the byte that a scanner refuses is the first after which nothing can follow
-refused_byte : (r : Rules) (front piece : List ℕ) (fault : Fault) (given : Events) → IsRefused r front given piece fault → RefusesByte r front piece fault
-refused_byte r front piece fault given w =
+pub fault_of_refused : (r : Rules) (front piece : List ℕ) (fault : Fault) (given : Events) → (w : IsRefused r front given piece fault) →
+    FaultOf r (front ++ piece) w.refused.rule fault.at
+fault_of_refused r front piece fault given w =
     let text = front ++ piece in
     let n = fault.at in
     record {
-      rule = w.refused.rule;
-      names = w.refused.names;
-      fault_of = record {
-        front = take (n + 1) text;
-        beyond = drop (n + 1) text;
-        whole = sym (take-append-drop (n + 1) text);
-        place = sym (length-take-le (n + 1) text (omega (arith, w.before_end)));
-        cause = w.refused.cause;
-        first = viable_before;
-      };
-      in_piece = w.in_piece;
-      no_value = w.no_value;
+      front = take (n + 1) text;
+      beyond = drop (n + 1) text;
+      whole = sym (take-append-drop (n + 1) text);
+      place = sym (length-take-le (n + 1) text (omega (arith, w.before_end)));
+      cause = w.refused.cause;
+      first = viable_before;
     }
   where
     viable_before : (before : List ℕ) (byte : ℕ) (after : List ℕ) → take (fault.at + 1) (front ++ piece) ≡ before ++ byte ∷ after →
@@ -239,6 +234,15 @@ refused_byte r front piece fault given w =
         ) in
         let split : take n text ≡ before ++ take m beyond = ap (λ k. take k text) at ∙ ap (take (length before + m)) whole ∙ take-append-add before beyond m in
         fronts_of_viable_texts_are_viable r WithinTotal before (take m beyond) (subst (IsViable r WithinTotal) split w.viable)
+
+refused_byte : (r : Rules) (front piece : List ℕ) (fault : Fault) (given : Events) → IsRefused r front given piece fault → RefusesByte r front piece fault
+refused_byte r front piece fault given w = record {
+  rule = w.refused.rule;
+  names = w.refused.names;
+  fault_of = fault_of_refused r front piece fault given w;
+  in_piece = w.in_piece;
+  no_value = w.no_value;
+}
 
 -- a call that was refused met a byte after which nothing can follow, or found no memory
 pub refuses_or_lacks : (r : Rules) (HasHeard' : Events → Type 0) (front piece : List ℕ) (s : ScanError) →

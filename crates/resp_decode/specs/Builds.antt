@@ -28,7 +28,7 @@ pub record Construction : Type 0 where
 abbrev pub nothing : Construction
 nothing = record { groups = []; text = None; whole = None }
 
--- the value of a whole text
+-- what a whole text says
 abbrev pub scalar_of : TextKind → List ℕ → Scalar
 scalar_of e.Simple s = d.Simple s
 scalar_of e.Error s = d.Error s
@@ -37,6 +37,10 @@ scalar_of e.Bulk s = d.Bulk s
 scalar_of e.BulkError s = d.BulkError s
 scalar_of (e.Verbatim format) s = d.Verbatim format s
 scalar_of (e.Big negative) s = d.Big negative (zero_if_none s)
+
+-- and the value that it is
+abbrev pub text_value : TextKind → List ℕ → Datum
+text_value kind s = scalar (scalar_of kind s)
 
 -- a finished value is a member of the innermost aggregate, or the whole value
 abbrev pub with_value_in : List Group → Datum → Construction → Construction
@@ -49,7 +53,7 @@ with_value x b = with_value_in b.groups x b
 -- the text being read ends
 abbrev pub with_text_ended : Option Text → Construction → Construction
 with_text_ended None b = b
-with_text_ended (Some t) b = with_value (scalar (scalar_of t.kind t.content)) (record b { text = None })
+with_text_ended (Some t) b = with_value (text_value t.kind t.content) (record b { text = None })
 
 -- one byte more of it
 abbrev pub with_byte : Option Text → ℕ → Option Text

@@ -41,13 +41,8 @@ weight_of_groups (g ∷ gs) = weight_of_all g.members + 3 + weight_of_groups gs
 
 -- the bytes that a text's format has
 abbrev pub format_weight : TextKind → ℕ
-format_weight e.Simple = 0
-format_weight e.Error = 0
-format_weight e.Double = 0
-format_weight e.Bulk = 0
-format_weight e.BulkError = 0
 format_weight (e.Verbatim format) = length format
-format_weight (e.Big negative) = 0
+format_weight _ = 0
 
 -- the weight of the text that is being read
 abbrev pub weight_of_text : Option Text → ℕ

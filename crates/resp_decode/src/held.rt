@@ -5,20 +5,15 @@ ghost use Rattle.std.specs.Prelude.{◌≡◌, ◌≤◌, ◌+◌, ◌-◌, ◌^
 ghost use Rattle.resp_fronts.specs.Events as e;
 ghost use Rattle.resp_scan.specs.Kinds.{content_events, text_kind_of};
 ghost use Rattle.resp_scan.specs.Listening.{IsTextOf, whole_text_events};
-ghost use Rattle.resp_decode.specs.Weights.{format_weight};
-ghost use Rattle.resp_decode.specs.Builds.{scalar_of};
 ghost use Rattle.resp_decode.specs.Fits.{IsContentAlone};
-ghost use Rattle.resp_value.specs.Data.{scalar};
 ghost use Rattle.resp_value.specs.Kinds.{kind_of};
 ghost use Rattle.resp_value.specs.Values.{datum_of};
 
 use crate::group::Group;
-use crate::text::Text;
+use crate::text::{Text, content_value, format_weight};
 use resp_scan::event::TextKind;
 use resp_scan::listener::Listener;
-use resp_value::content::Content;
 use resp_value::kind::OpenKind;
-use resp_value::line::Line;
 use resp_value::value::Value;
 use std::alloc::{AllocError, Global};
 
@@ -278,22 +273,6 @@ impl Listener for Held {
     }
 }
 
-/// The value of a whole text that is its content alone. A line isn't searched again.
-#[inline(always)]
-fn content_value(kind: TextKind, bytes: Vec<u8>) -> Value
-    requires content_alone { IsContentAlone (text_kind_of kind) }
-    requires is_text { IsTextOf kind bytes.items }
-    ensures { datum_of result ≡ scalar (scalar_of (text_kind_of kind) bytes.items) }
-{
-    match kind {
-        TextKind::Simple => Value::Simple(Line::of_plain(bytes)),
-        TextKind::Error => Value::Error(Line::of_plain(bytes)),
-        TextKind::Double => Value::Double(Line::of_plain(bytes)),
-        TextKind::BulkError => Value::BulkError(Content::new(bytes)),
-        _ => Value::Bulk(Content::new(bytes)),
-    }
-}
-
 /// How many members or pairs are reserved: a number in a head is never believed beyond a few.
 #[inline]
 fn reserved(count: Option<u64>) -> usize
@@ -302,16 +281,5 @@ fn reserved(count: Option<u64>) -> usize
     match count {
         Some(number) => number.min(MOST_RESERVED) as usize,
         None => 0,
-    }
-}
-
-/// The number of bytes in a text's format.
-#[inline]
-fn format_weight(kind: TextKind) -> u64
-    ensures { result ≡ format_weight (text_kind_of kind) }
-{
-    match kind {
-        TextKind::Verbatim(_) => 3,
-        _ => 0,
     }
 }

@@ -1,10 +1,13 @@
 //! A text that is being read.
 
 ghost use Rattle.std.specs.Prelude.{◌≡◌, [], ◌++◌, OnOk, IfOk, IfSome};
-ghost use Rattle.resp_value.specs.Data.{scalar};
 ghost use Rattle.resp_value.specs.Numbers.{zero_if_none};
 ghost use Rattle.resp_value.specs.Values.{datum_of};
 ghost use Rattle.resp_scan.specs.Kinds.{text_kind_of};
+ghost use Rattle.resp_scan.specs.Listening.{IsTextOf};
+ghost use Rattle.resp_decode.specs.Builds.{text_value};
+ghost use Rattle.resp_decode.specs.Fits.{IsContentAlone, end_weight};
+ghost use Rattle.resp_decode.specs.Weights.{format_weight};
 
 use resp_scan::event::TextKind;
 use resp_value::content::Content;
@@ -24,8 +27,6 @@ pub(crate) struct Text {
 }
 
 impl Text {
-    ghost use Rattle.resp_decode.specs.Builds.{scalar_of};
-    ghost use Rattle.resp_decode.specs.Fits.{end_weight};
     ghost use Rattle.resp_decode.specs.Holding.{text_held};
 
     /// A text without content. Takes no memory.
@@ -77,8 +78,8 @@ impl Text {
     /// this kind of text, which no scanner tells.
     #[inline]
     pub(crate) fn into_value(self) -> Option<Value>
-        ensures { IfSome result (λ value. datum_of value ≡
-            scalar (scalar_of (text_held self).kind (text_held self).content)) }
+        ensures { IfSome result (λ value.
+            datum_of value ≡ text_value (text_held self).kind (text_held self).content) }
     {
         let Text { kind, bytes } = self;
         match kind {
@@ -105,6 +106,33 @@ impl Text {
                 Err(_) => None,
             },
         }
+    }
+}
+
+/// The value of a whole text that is its content alone. A line isn't searched again.
+#[inline(always)]
+pub(crate) fn content_value(kind: TextKind, bytes: Vec<u8>) -> Value
+    requires content_alone { IsContentAlone (text_kind_of kind) }
+    requires is_text { IsTextOf kind bytes.items }
+    ensures { datum_of result ≡ text_value (text_kind_of kind) bytes.items }
+{
+    match kind {
+        TextKind::Simple => Value::Simple(Line::of_plain(bytes)),
+        TextKind::Error => Value::Error(Line::of_plain(bytes)),
+        TextKind::Double => Value::Double(Line::of_plain(bytes)),
+        TextKind::BulkError => Value::BulkError(Content::new(bytes)),
+        _ => Value::Bulk(Content::new(bytes)),
+    }
+}
+
+/// The number of bytes in a text's format.
+#[inline]
+pub(crate) fn format_weight(kind: TextKind) -> u64
+    ensures { result ≡ format_weight (text_kind_of kind) }
+{
+    match kind {
+        TextKind::Verbatim(_) => 3,
+        _ => 0,
     }
 }
 

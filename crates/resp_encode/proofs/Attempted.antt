@@ -9,7 +9,7 @@ use Rattle.resp_value.specs.Data.{Kind, Attr, Scalar, Int, longest, Datum, Data,
 use Rattle.resp_value.specs.Data as d
 use Rattle.resp_value.specs.Trees.{kind_byte, texts}
 use Rattle.resp_value.specs.Canonical.{IsScalarValue, IsWhole, IsKindBelow, IsInTwo, HasNoDouble, HasNoPush, HasTypes, canonical_text, canonical_trees, Fits}
-use Rattle.resp_value.specs.Rules.{Rules}
+use Rattle.resp_value.specs.Rules.{Rules, rules_under}
 use Rattle.resp_value.specs.Values.{extended}
 use Rattle.resp_value.specs.declared.version.Version.{Version}
 use Rattle.resp_value.specs.declared.version.Version.TheVariants.{Two, Three}
@@ -18,7 +18,7 @@ use Rattle.resp_value.specs.declared.kind.OpenKind.TheVariants as v
 use Rattle.resp_value.specs.Kinds.{kind_of}
 use Rattle.resp_encode.specs.Walks.Attempts.{HasKind, HaveTypes, Suits, SuitEach, Attempt, AttemptEach, AttemptAttributePairs, FitsSpare}
 use Rattle.resp_encode.specs.Walks.Writings.{Fills}
-use Rattle.resp_encode.proofs.Extended.{in_two_with, no_double_with, no_push_with, values_with, greatest_depth-extended, longest_among-extended, most_items_among-extended, texts-extended}
+use Rattle.resp_encode.proofs.Extended.{in_two_extended, no_double_extended, no_push_extended, values_with, greatest_depth-extended, longest_among-extended, most_items_among-extended, texts-extended}
 use Rattle.resp_encode.proofs.Texts.{Writes-none, Writes-append, aggregate_text, head_split}
 
 -- what holds where a test is true
@@ -49,23 +49,36 @@ pub part_after : {a b c : Filled} {x : List ℕ} → Fills a b x → (text : Lis
     (text : List ℕ) × Fills a c text
 part_after {x = x} first rest = (x ++ rest.0, Writes-append first rest.1)
 
--- a value without members was written
+-- a value without members suits at any depth
+pub scalar_suits : {version : Version} {bounds : Bounds} {spare : ℕ} {s : Scalar} → FitsSpare version bounds spare (scalar s) → IsScalarValue s →
+    (deeper : ℕ) → Suits version bounds deeper (scalar s)
+scalar_suits fits value deeper = record {
+  allows_doubles = fits.allows_doubles;
+  has_types = fits.has_types;
+  push_at_top = tt;
+  within_depth = omega arith;
+  within_length = fits.within_length;
+  within_items = omega arith;
+  is_value = value;
+}
+
+-- and was written
 pub scalar_done : {version : Version} {bounds : Bounds} {spare : ℕ} {s : Scalar} {a b : Filled} →
     FitsSpare version bounds spare (scalar s) → IsScalarValue s →
     Fills a b (canonical_text version (scalar s)) → (deeper : ℕ) → Attempt version bounds deeper (scalar s) a b true
-scalar_done fits value writes deeper = record {
-  whole = writes;
-  suits = record {
-    allows_doubles = fits.allows_doubles;
-    has_types = fits.has_types;
-    push_at_top = tt;
-    within_depth = omega arith;
-    within_length = fits.within_length;
-    within_items = omega arith;
-    is_value = value;
-  };
-  part = (_, writes);
-}
+scalar_done fits value writes deeper = record { whole = writes; suits = scalar_suits fits value deeper; part = (_, writes) }
+
+-- a value of this kind was written, whose content is another's
+pub text_done : {version : Version} {bounds : Bounds} {spare : ℕ} {a b : Filled} {text text' : List ℕ} (kind : List ℕ → Scalar) → text ≡ text' →
+    FitsSpare version bounds spare (scalar (kind text)) → IsScalarValue (kind text) → Fills a b (canonical_text version (scalar (kind text))) →
+    (deeper : ℕ) → Attempt version bounds deeper (scalar (kind text')) a b true
+text_done {version = version} {bounds = bounds} {a = a} {b = b} kind same fits value writes =
+    subst (λ z. (deeper : ℕ) → Attempt version bounds deeper (scalar (kind z)) a b true) same (scalar_done fits value writes)
+
+-- there is room for a line, where there is room for the text of its value
+pub line_room : {version : Version} {bounds : Bounds} {spare : ℕ} (byte : ℕ) (text : List ℕ) (x : Datum) → FitsSpare version bounds spare x →
+    canonical_text version x ≡ byte ∷ (text ++ crlf []) → length text + 3 ≤ spare
+line_room byte text x fits is = omega (arith, length-append text (crlf []), ap length is, fits.room)
 
 -- version 3 has each type that version 2 has
 pub in_each : (version : Version) (x : Datum) → IsInTwo x → HasTypes version x
@@ -107,21 +120,16 @@ int_length version (negsuc n) = omega (
   length-append (decimal (n + 1)) (crlf []),
 )
 
+-- each version has the types of none
+types_of_none : (version : Version) → HaveTypes version none
+types_of_none Two = tt
+types_of_none Three = tt
+
 -- members, so far
 pub suit_none : (version : Version) (bounds : Bounds) (deeper : ℕ) → SuitEach version bounds deeper none
-suit_none Two bounds deeper = record {
+suit_none version bounds deeper = record {
   no_double = λ off. tt;
-  have_types = tt;
-  no_push = tt;
-  within_depth = omega arith;
-  within_length = omega arith;
-  within_items =
-      omega arith;
-  are_values = tt;
-}
-suit_none Three bounds deeper = record {
-  no_double = λ off. tt;
-  have_types = tt;
+  have_types = types_of_none version;
   no_push = tt;
   within_depth = omega arith;
   within_length = omega arith;
@@ -132,7 +140,7 @@ suit_none Three bounds deeper = record {
 
 have_types_with : (version : Version) (xs : Data) (x : Datum) → HaveTypes version xs → HasTypes version x →
     HaveTypes version (extended xs x)
-have_types_with Two xs x p q = in_two_with xs x p q
+have_types_with Two xs x p q = (in_two_extended xs x).1 (p, q)
 have_types_with Three xs x p q = tt
 
 -- members and one more suit where each of them does
@@ -140,9 +148,9 @@ pub suit_with : (version : Version) (bounds : Bounds) (deeper : ℕ) (xs : Data)
     SuitEach version bounds deeper xs → Suits version bounds deeper x →
     HasNoPush x → SuitEach version bounds deeper (extended xs x)
 suit_with version bounds deeper xs x each one below = record {
-  no_double = λ off. no_double_with xs x (each.no_double off) (one.allows_doubles off);
+  no_double = λ off. (no_double_extended xs x).1 (each.no_double off, one.allows_doubles off);
   have_types = have_types_with version xs x each.have_types one.has_types;
-  no_push = no_push_with xs x each.no_push below;
+  no_push = (no_push_extended xs x).1 (each.no_push, below);
   within_depth = omega (arith, each.within_depth, one.within_depth, greatest_depth-extended xs x);
   within_length = omega (arith, each.within_length, one.within_length, longest_among-extended xs x);
   within_items = omega (arith, each.within_items, one.within_items, most_items_among-extended xs x);
@@ -212,6 +220,12 @@ fits_within rules x suits total = record {
   within_items = suits.within_items;
   within_total = total;
 }
+
+-- a value without members fits, where it is no double and its text is within the total
+pub scalar_fits : (limits : Bounds) (version : Version) (s : Scalar) → IsScalarValue s → HasNoDouble (scalar s) → HasTypes version (scalar s) →
+    longest (scalar s) ≤ limits.length → length (canonical_text version (scalar s)) ≤ limits.total → Fits (rules_under version limits) (scalar s)
+scalar_fits limits version s value plain types short total = fits_within (rules_under version limits) (scalar s)
+    (scalar_suits (record { allows_doubles = λ off. plain; has_types = types; within_length = short; room = total }) value limits.depth) total
 
 -- the head and the pairs of an attribute were tried
 pub attribute_pairs_tried : (version : Version) (bounds : Bounds) (deeper : ℕ) (xs : Data) (items : ℕ) (done : Bool)

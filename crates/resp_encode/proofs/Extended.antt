@@ -1,5 +1,5 @@
 -- What holds of data with one more after them.
-use Rattle.std.proofs.Common.{◌≡◌, ◌+◌, List, [], ◌∷◌, ◌++◌, length, max, refl, sym, ap, ◌∙◌, arith, append_assoc, append-nil, length-append}
+use Rattle.std.proofs.Common.{◌≡◌, ◌↔◌, ◌+◌, List, [], ◌∷◌, ◌++◌, length, max, refl, sym, ap, ◌∙◌, arith, append_assoc, append-nil, length-append}
 use Rattle.resp_value.specs.Data.{Datum, Data, none, more, data_of_list, depth, greatest_depth, longest, longest_among, most_items, most_items_among}
 use Rattle.resp_value.specs.Trees.{texts}
 use Rattle.resp_value.specs.Canonical.{IsValue, AreValues, IsInTwo, AreInTwo, HasNoDouble, HaveNoDouble, HasNoPush, HaveNoPush, canonical_text, canonical_trees}
@@ -10,33 +10,34 @@ pub data_of_list-push : (xs : List Datum) (x : Datum) → data_of_list (xs ++ x 
 data_of_list-push [] x = refl
 data_of_list-push (y ∷ ys) x = ap (more y) (data_of_list-push ys x)
 
-pub in_two_of : (xs : Data) (x : Datum) → AreInTwo (extended xs x) → AreInTwo xs × IsInTwo x
-in_two_of none x p = (tt, p.0)
-in_two_of (more y ys) x p = let q = in_two_of ys x p.1 in ((p.0, q.0), q.1)
+-- What is said of none, and of more where it is said of the first and of the others, is said of data with one more where
+-- it is said of these and of that.
+each_extended : (All : Data → Type 0) (One : Datum → Type 0) → All none →
+    ((y : Datum) (ys : Data) → All (more y ys) ↔ (One y × All ys)) →
+    (xs : Data) (x : Datum) → All (extended xs x) ↔ (All xs × One x)
+each_extended All One empty step none x = (λ p. (empty, ((step x none).0 p).0), λ p. (step x none).1 (p.1, empty))
+each_extended All One empty step (more y ys) x =
+    let rest = each_extended All One empty step ys x in
+    let split : All (more y (extended ys x)) → All (more y ys) × One x = λ p.
+    let q = (step y (extended ys x)).0 p in
+    let r = rest.0 q.1 in
+    ((step y ys).1 (q.0, r.0), r.1) in
+    let join : All (more y ys) × One x → All (more y (extended ys x)) = λ p.
+    let q = (step y ys).0 p.0 in
+    (step y (extended ys x)).1 (q.0, rest.1 (q.1, p.1)) in
+    (split, join)
 
-pub in_two_with : (xs : Data) (x : Datum) → AreInTwo xs → IsInTwo x → AreInTwo (extended xs x)
-in_two_with none x p q = (q, tt)
-in_two_with (more y ys) x p q = (p.0, in_two_with ys x p.1 q)
+pub in_two_extended : (xs : Data) (x : Datum) → AreInTwo (extended xs x) ↔ (AreInTwo xs × IsInTwo x)
+in_two_extended = each_extended AreInTwo IsInTwo tt (λ y ys. (λ p. p, λ p. p))
 
-pub no_double_of : (xs : Data) (x : Datum) → HaveNoDouble (extended xs x) → HaveNoDouble xs × HasNoDouble x
-no_double_of none x p = (tt, p.0)
-no_double_of (more y ys) x p = let q = no_double_of ys x p.1 in ((p.0, q.0), q.1)
+pub no_double_extended : (xs : Data) (x : Datum) → HaveNoDouble (extended xs x) ↔ (HaveNoDouble xs × HasNoDouble x)
+no_double_extended = each_extended HaveNoDouble HasNoDouble tt (λ y ys. (λ p. p, λ p. p))
 
-pub no_double_with : (xs : Data) (x : Datum) → HaveNoDouble xs → HasNoDouble x → HaveNoDouble (extended xs x)
-no_double_with none x p q = (q, tt)
-no_double_with (more y ys) x p q = (p.0, no_double_with ys x p.1 q)
-
-pub no_push_of : (xs : Data) (x : Datum) → HaveNoPush (extended xs x) → HaveNoPush xs × HasNoPush x
-no_push_of none x p = (tt, p.0)
-no_push_of (more y ys) x p = let q = no_push_of ys x p.1 in ((p.0, q.0), q.1)
-
-pub no_push_with : (xs : Data) (x : Datum) → HaveNoPush xs → HasNoPush x → HaveNoPush (extended xs x)
-no_push_with none x p q = (q, tt)
-no_push_with (more y ys) x p q = (p.0, no_push_with ys x p.1 q)
+pub no_push_extended : (xs : Data) (x : Datum) → HaveNoPush (extended xs x) ↔ (HaveNoPush xs × HasNoPush x)
+no_push_extended = each_extended HaveNoPush HasNoPush tt (λ y ys. (λ p. p, λ p. p))
 
 pub values_with : (xs : Data) (x : Datum) → AreValues xs → IsValue x → AreValues (extended xs x)
-values_with none x p q = (q, tt)
-values_with (more y ys) x p q = (p.0, values_with ys x p.1 q)
+values_with xs x p q = (each_extended AreValues IsValue tt (λ y ys. (λ p. p, λ p. p)) xs x).1 (p, q)
 
 pub greatest_depth-extended : (xs : Data) (x : Datum) →
     greatest_depth (extended xs x) ≡ max (greatest_depth xs) (depth x)

@@ -11,14 +11,13 @@ use Rattle.resp_encode.specs.declared.measure.Measure.{Measure}
 use Rattle.resp_encode.specs.Walks.Sizes.{IsSize}
 use Rattle.resp_encode.specs.Walks.Measures.{Describes, DescribesEach}
 use Rattle.resp_encode.proofs.Texts.{aggregate_text, length-head}
-use Rattle.resp_encode.proofs.Extended.{in_two_of, in_two_with, no_double_of, no_double_with, no_push_of, no_push_with, greatest_depth-extended, longest_among-extended, most_items_among-extended, length-texts-extended}
+use Rattle.resp_encode.proofs.Extended.{in_two_extended, no_double_extended, no_push_extended, greatest_depth-extended, longest_among-extended, most_items_among-extended, length-texts-extended}
 
 -- two tests tell of two facts together
-both_tell : (a b : Bool) {P Q R : Type 0} → (IsTrue a ↔ P) → (IsTrue b ↔ Q) → (R → P × Q) → (P → Q → R) →
-    IsTrue (a && b) ↔ R
-both_tell true true p q split join = (λ t. join (p.0 refl) (q.0 refl), λ r. refl)
-both_tell true false p q split join = (λ t. absurd (cc), λ r. q.1 (split r).1)
-both_tell false b p q split join = (λ t. absurd (cc), λ r. p.1 (split r).0)
+both_tell : (a b : Bool) {P Q R : Type 0} → (IsTrue a ↔ P) → (IsTrue b ↔ Q) → (R ↔ (P × Q)) → IsTrue (a && b) ↔ R
+both_tell true true p q both = (λ t. both.1 (p.0 refl, q.0 refl), λ r. refl)
+both_tell true false p q both = (λ t. absurd (cc), λ r. q.1 (both.0 r).1)
+both_tell false b p q both = (λ t. absurd (cc), λ r. p.1 (both.0 r).0)
 
 pub describes_with : (version : Version) (xs : Data) (x : Datum) (a b : Measure) (most_depth most_length most : ℕ)
     (size : Option ℕ) →
@@ -37,9 +36,9 @@ pub describes_with : (version : Version) (xs : Data) (x : Datum) (a b : Measure)
       size = size;
     })
 describes_with version xs x a b most_depth most_length most size d l i s each one = record {
-  in_two = both_tell a.in_two b.in_two each.in_two one.in_two (in_two_of xs x) (in_two_with xs x);
-  no_double = both_tell a.no_double b.no_double each.no_double one.no_double (no_double_of xs x) (no_double_with xs x);
-  no_push = both_tell a.no_push b.no_push each.no_push one.no_push (no_push_of xs x) (no_push_with xs x);
+  in_two = both_tell a.in_two b.in_two each.in_two one.in_two (in_two_extended xs x);
+  no_double = both_tell a.no_double b.no_double each.no_double one.no_double (no_double_extended xs x);
+  no_push = both_tell a.no_push b.no_push each.no_push one.no_push (no_push_extended xs x);
   depth_found = omega (arith, d, each.depth_found, one.depth_found, greatest_depth-extended xs x);
   longest_found = omega (arith, l, each.longest_found, one.longest_found, longest_among-extended xs x);
   most_items_found = omega (arith, i, each.most_items_found, one.most_items_found, most_items_among-extended xs x);
@@ -66,9 +65,9 @@ pub describes_inside : (version : Version) (k : Kind) (xs : Data) (a : Measure) 
           size;
     })
 describes_inside version k xs a in_two below items deeper most head size t b e d i h s each = record {
-  in_two = both_tell a.in_two in_two each.in_two t (λ p. (p.1, p.0)) (λ p q. (q, p));
+  in_two = both_tell a.in_two in_two each.in_two t (λ p. (p.1, p.0), λ p. (p.1, p.0));
   no_double = each.no_double;
-  no_push = both_tell a.no_push below each.no_push b (λ p. (p.1, p.0)) (λ p q. (q, p));
+  no_push = both_tell a.no_push below each.no_push b (λ p. (p.1, p.0), λ p. (p.1, p.0));
   push_at_top = each.no_push;
   depth_found = omega (arith, d, each.depth_found);
   longest_found = each.longest_found;

@@ -1,5 +1,6 @@
 pub mod Decimals
 pub mod Pairs
+pub mod Parts
 pub mod Texts
 pub mod Extended
 pub mod Counts

@@ -9,7 +9,7 @@ use Rattle.resp_value.specs.Values.{extended}
 use Rattle.resp_value.specs.declared.version.Version.{Version}
 use Rattle.resp_value.specs.declared.version.Version.TheVariants.{Two}
 use Rattle.resp_value.specs.Words.{word_datum, texts_of}
-use Rattle.resp_encode.proofs.Extended.{data_of_list-push, length-texts-extended}
+use Rattle.resp_encode.proofs.Extended.{data_of_list-push, length-texts-extended, texts-extended}
 
 -- one more member
 pub data-take_more : {A : Type 0} (f : A → Datum) (xs : List A) (i : ℕ) (d : A) → i < length xs →
@@ -36,6 +36,12 @@ pairs-take_more f xs i d h =
     ∙ ap data_of_list (sym (append_assoc front (pair.0 ∷ []) (pair.1 ∷ [])))
     ∙ data_of_list-push (front ++ pair.0 ∷ []) pair.1
     ∙ ap (λ xs. extended xs pair.1) (data_of_list-push front pair.0)
+
+-- where this is the pair that comes next
+pub pairs-taken : {A : Type 0} (f : A → Datum × Datum) (xs : List A) (i : ℕ) (d : A) → i < length xs → d ≡ get_or xs i d →
+    data_of_list (in_turn (map f (take (i + 1) xs))) ≡ extended (extended (data_of_list (in_turn (map f (take i xs)))) (f d).0) (f d).1
+pairs-taken f xs i d h is = pairs-take_more f xs i d h ∙
+    ap (λ pair. extended (extended (data_of_list (in_turn (map f (take i xs)))) (f pair).0) (f pair).1) (sym is)
 
 texts-append : (version : Version) (xs ys : List Datum) → texts (canonical_trees version (data_of_list (xs ++ ys))) ≡
     texts (canonical_trees version (data_of_list xs)) ++ texts (canonical_trees version (data_of_list ys))
@@ -107,6 +113,14 @@ word_take_more words i d {text = text} h e =
     ∙ ap (λ x. extended (data_of_list (map (λ word. word_datum word.items) (take i words))) (word_datum x)) (sym e)
     ∙ ap (λ ws. extended (data_of_list ws) (word_datum text)) (sym (map-map (take i words)) ∙
     ap (map word_datum) (sym (take-map (λ word. word.items) i words)))
+
+-- and its text
+pub word_text_more : (words : List (Vec ℕ Global)) (i : ℕ) (d : Vec ℕ Global) {text : List ℕ} → i < length words →
+    text ≡ (get_or words i d).items →
+    texts (canonical_trees Two (data_of_list (map word_datum (take (i + 1) (texts_of words))))) ≡
+    texts (canonical_trees Two (data_of_list (map word_datum (take i (texts_of words))))) ++ canonical_text Two (word_datum text)
+word_text_more words i d {text = text} h e = ap (λ xs. texts (canonical_trees Two xs)) (word_take_more words i d h e)
+    ∙ texts-extended Two (data_of_list (map word_datum (take i (texts_of words)))) (word_datum text)
 
 -- after the words up to a place there is room for one more
 pub word_room : (words : List (Vec ℕ Global)) (i : ℕ) (d : Vec ℕ Global) {text : List ℕ} → i < length words →

@@ -62,10 +62,7 @@ hub_cut_short limits es store last hub view ns store' id old new written found p
     ap (λ items. record { version = new.version; out = items; closing = new.closing; decoder = new.decoder }) a.replied ∙
     ap (λ b. record { version = new.version; out = old.out.items ++ a.reply; closing = b; decoder = new.decoder }) a.closes in
     record {
-      answered = a.answered;
-      beyond = a.beyond;
-      whole = a.whole;
-      some = a.some;
+      first = a.first;
       reply = a.reply;
       store = store';
       version = new.version;

@@ -81,10 +81,12 @@ cut_short limits id store store' store'' before middle after last front piece n 
     let start = state_with store before.version [] false 0 in
     let text = front ++ take n piece in
     record {
-      answered = take n piece;
-      beyond = drop n piece;
-      whole = sym (take-append-drop n piece);
-      some = let is = length-drop n piece in omega (arith, is, left);
+      first = record {
+        bytes = take n piece;
+        beyond = drop n piece;
+        whole = sym (take-append-drop n piece);
+        some = let is = length-drop n piece in omega (arith, is, left);
+      };
       reply = a.reply;
       rest = a.rest;
       replied = out ∙ same.same_out ∙ a.replied;
@@ -123,14 +125,11 @@ pub cut_short_shrunk : (limits : Bounds) (id : ℕ) (store store' : Store) (befo
     after.version ≡ middle.version → after.out.items ≡ middle.out.items → after.closing ≡ middle.closing →
     IsCutShort limits id store store' before middle front piece k → IsCutShort limits id store store' before after front piece k
 cut_short_shrunk limits id store store' before middle after front piece k version out closing a = record {
-  answered = a.answered;
-  beyond = a.beyond;
-  whole = a.whole;
-  some = a.some;
+  first = a.first;
   reply = a.reply;
   rest = a.rest;
   replied = out ∙ a.replied;
-  answers = subst (λ v. Answers limits id (state_with store before.version [] false 0) (front ++ a.answered) (state_with store' v a.reply false k) a.rest)
+  answers = subst (λ v. Answers limits id (state_with store before.version [] false 0) (front ++ a.first.bytes) (state_with store' v a.reply false k) a.rest)
       (sym version) a.answers;
   closes = closing ∙ a.closes;
 }

@@ -18,6 +18,7 @@ use Rattle.resp_scan.specs.Reading.{HasNoValue, HasNoSpelling}
 use Rattle.resp_scan.specs.declared.event.Fault.{Fault}
 use Rattle.resp_decode.specs.Decoding.{RefusesByte}
 use Rattle.resp_decode.proofs.Feeding.{no_value_at_start}
+use Rattle.resp_session.proofs.AddedAnswers.{no_value_answered}
 use Rattle.resp_session.specs.Answers.{SessionState, Answers, BeginsNoValue, Ends, server_rules, after_value, after_error}
 use Rattle.resp_session.specs.Replies.{error}
 use Rattle.resp_session.specs.Stores.{Store}
@@ -45,13 +46,8 @@ nothing_begins full r x (b ∷ bs) beyond s e = absurd (cc)
 -- what is waited on
 pub waits_on : (limits : Bounds) (id : ℕ) (s t : SessionState) (text : List ℕ) → s.closing ≡ false → t ≡ s → HasNoValue text →
     IsViable (server_rules limits) WithinTotal text → Answers limits id s text t text
-waits_on limits id s t text is_open same none viable = record {
-  values = [];
-  front = [];
-  spelled = refl;
-  whole = refl;
-  ends = inl (record { is_open = is_open; no_more = no_value_begins (server_rules limits) text none; viable = viable; same = same });
-}
+waits_on limits id s t text is_open same none viable = no_value_answered limits id s t text
+    (inl (record { is_open = is_open; no_more = no_value_begins (server_rules limits) text none; viable = viable; same = same }))
 
 ends_of : NoSpellingIsEmpty → TheEmptyTextIsViable → (limits : Bounds) → AreBounds limits → (s t : SessionState) (closing : Bool) → s ≡ t →
     t.closing ≡ closing → Ends (server_rules limits) [] s t
@@ -78,20 +74,15 @@ value_answers full empty limits bounds id s t x written spelled same = record {
 pub fault_answers : (limits : Bounds) (id : ℕ) (s : SessionState) (front piece : List ℕ) (fault : Fault) → s.closing ≡ false →
     (r : RefusesByte (server_rules limits) front piece fault) → Answers limits id s (front ++ piece)
     (after_error (name_of fault.cause) fault.at s) (front ++ piece)
-fault_answers limits id s front piece fault is_open r = record {
-  values = [];
-  front = [];
-  spelled = refl;
-  whole = refl;
-  ends = inr (inl (record {
-    is_open = is_open;
-    no_more = no_spelling_begins (server_rules limits) (front ++ piece) r.no_value;
-    rule = r.rule;
-    at = fault.at;
-    fault = r.fault_of;
-    line = ap (λ cause. after_error (name_of cause) fault.at s) r.names;
-  }));
-}
+fault_answers limits id s front piece fault is_open r =
+    no_value_answered limits id s (after_error (name_of fault.cause) fault.at s) (front ++ piece) (inr (inl (record {
+      is_open = is_open;
+      no_more = no_spelling_begins (server_rules limits) (front ++ piece) r.no_value;
+      rule = r.rule;
+      at = fault.at;
+      fault = r.fault_of;
+      line = ap (λ cause. after_error (name_of cause) fault.at s) r.names;
+    })))
 
 -- the names of the causes by which bytes are refused are short
 short_name : (rule : Rule) → length (name_of (cause_of rule)) ≤ 16

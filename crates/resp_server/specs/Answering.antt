@@ -49,18 +49,22 @@ pub record IsAnswered (limits : Bounds) (id : ℕ) (store store' : Store) (befor
       (state_with store' after.version reply after.closing commands) rest
   pub taking : after.closing ≡ false → HasReadFront after.decoder rest
 
+-- the first bytes of a piece, and not all of it
+pub record FirstOf (piece : List ℕ) : Type 0 where
+  pub bytes : List ℕ
+  pub beyond : List ℕ
+  pub whole : piece ≡ bytes ++ beyond
+  pub some : 0 < length beyond
+
 -- memory was out after the front and the first bytes of the piece, which were answered: nothing of what stands
 -- after them was done, and the session is closing
 pub record IsCutShort (limits : Bounds) (id : ℕ) (store store' : Store) (before after : Session) (front piece : List ℕ)
     (commands : ℕ) : Type 0 where
-  pub answered : List ℕ
-  pub beyond : List ℕ
-  pub whole : piece ≡ answered ++ beyond
-  pub some : 0 < length beyond
+  pub first : FirstOf piece
   pub reply : List ℕ
   pub rest : List ℕ
   pub replied : after.out.items ≡ before.out.items ++ reply
-  pub answers : Answers limits id (state_with store before.version [] false 0) (front ++ answered)
+  pub answers : Answers limits id (state_with store before.version [] false 0) (front ++ first.bytes)
       (state_with store' after.version reply false commands) rest
   pub closes : after.closing ≡ true
 

@@ -1,9 +1,9 @@
 -- What a hub does with a piece.
-use Rattle.std.specs.Prelude.{◌≡◌, ℕ, Bool, true, false, List, [], ◌++◌, ◌<◌, length, IfSome}
+use Rattle.std.specs.Prelude.{◌≡◌, ℕ, Bool, true, false, List, [], ◌++◌, IfSome}
 use Rattle.resp_value.specs.declared.version.Version.{Version}
 use Rattle.resp_session.specs.Answers.{Answers}
 use Rattle.resp_session.specs.Stores.{Store}
-use Rattle.resp_server.specs.Answering.{state_with}
+use Rattle.resp_server.specs.Answering.{FirstOf, state_with}
 use Rattle.resp_server.specs.Hubs.{HubState, Seat, seat_at, seated, stocked}
 use Rattle.resp_server.specs.Reading.{HasReadFront, Reading}
 use Rattle.resp_server.specs.declared.error.HubError.{HubError}
@@ -32,16 +32,13 @@ pub record HasAnswered (old new : HubState) (id : ℕ) (s : Seat) (text : List �
 -- the front and the first bytes of the piece were answered and not all of it, the session is closing, and nothing else
 -- of the hub is changed
 pub record HasCutShort (old new : HubState) (id : ℕ) (s : Seat) (front piece : List ℕ) (commands : ℕ) : Type 0 where
-  pub answered : List ℕ
-  pub beyond : List ℕ
-  pub whole : piece ≡ answered ++ beyond
-  pub some : 0 < length beyond
+  pub first : FirstOf piece
   pub reply : List ℕ
   pub store : Store
   pub version : Version
   pub decoder : Reading
   pub rest : List ℕ
-  pub answers : Answers old.limits id (state_with old.store s.version [] false 0) (front ++ answered)
+  pub answers : Answers old.limits id (state_with old.store s.version [] false 0) (front ++ first.bytes)
       (state_with store version reply false commands) rest
   pub state : new ≡ stocked (seated old id
       (record { version = version; out = s.out ++ reply; closing = true; decoder = decoder })) store

@@ -1,15 +1,27 @@
 -- Answers after what was written and run before.
 use Rattle.std.proofs.Common.{◌≡◌, inl, inr, ℕ, Bool, true, false, cond, List, [], ◌∷◌, refl, sym, ap, subst, ◌∙◌, append_assoc, arith, codes}
+use Rattle.resp_value.specs.Bounds.{Bounds}
 use Rattle.resp_value.specs.Canonical.{canonical_text}
 use Rattle.resp_value.specs.Causes.{cause_of, name_of}
 use Rattle.resp_value.specs.Data.{Datum}
 use Rattle.resp_value.specs.Rules.{Rules}
 use Rattle.resp_value.specs.declared.version.Version.{Version}
 use Rattle.resp_session.specs.AnswerLaws.{AnswersAreAdded, after_others}
-use Rattle.resp_session.specs.Answers.{Ends, SessionState, after_error, after_meaning, after_value, after_values, server_rules}
+use Rattle.resp_session.specs.Answers.{Answers, Ends, SessionState, after_error, after_meaning, after_value, after_values, server_rules}
 use Rattle.resp_session.specs.Commands.{Meaning, Call, Nothing, NoCommand, meaning_of}
 use Rattle.resp_session.specs.Operations.{operation_of}
 use Rattle.resp_session.specs.Stores.{Store, effect_of}
+
+-- no value is answered, and the text is what ends it
+pub no_value_answered : (limits : Bounds) (id : ℕ) (before after : SessionState) (text : List ℕ) → Ends (server_rules limits) text before after →
+    Answers limits id before text after text
+no_value_answered limits id before after text ends = record {
+  values = [];
+  front = [];
+  spelled = refl;
+  whole = refl;
+  ends = ends;
+}
 
 -- the same state with another text and number
 abbrev state : Store → Version → Bool → List ℕ → ℕ → SessionState

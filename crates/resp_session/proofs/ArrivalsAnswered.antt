@@ -145,7 +145,12 @@ news_served : (limits : Bounds) (w : World) (i k : ℕ) (c : Connection) (reques
     IsServed i requests (session_of w c) (after_values i (session_of w c) (map command_value requests)) (world_of w i k)
     (after_commands (world_of w i k) (commands_for i requests)) (with_arrived k c)
 news_served limits w i k c requests at named =
-    served i requests named (session_of w c) (world_of w i k) (with_arrived k c) (changed_at (with_arrived k) w.connections i c at) refl refl refl
+    served i requests named (session_of w c) (world_of w i k) (with_arrived k c) (record {
+      at = changed_at (with_arrived k) w.connections i c at;
+      store = refl;
+      version = refl;
+      is_open = refl;
+    })
 
 -- what has come of the later requests is spellings of those that came whole
 news_spelled : (limits : Bounds) (k : ℕ) (c : Connection) (rest : List ℕ) →
@@ -234,16 +239,14 @@ left limits w i k c rest rest' front requests after h news spelled whole same v 
     let run : length requests ≡ after.count = omega (arith, counted) in
     record {
       next = v.next;
-      there = v.at;
-      requests = v.requested;
+      there = v.stands.at;
+      client = record { requests = v.client.requests; shown = v.client.shown; dropped = v.client.dropped };
       arrived = v.arrived;
-      shown = v.shown;
-      dropped = v.dropped;
-      unfinished = still_unfinished limits c v.next k rest rest' front requests h v.requested v.arrived news spelled whole;
-      store = ap (λ (z : SessionState). z.store) same ∙ v.store;
-      version = ap (λ (z : SessionState). z.version) same ∙ v.version;
+      unfinished = still_unfinished limits c v.next k rest rest' front requests h v.client.requests v.arrived news spelled whole;
+      store = ap (λ (z : SessionState). z.store) same ∙ v.stands.store;
+      version = ap (λ (z : SessionState). z.version) same ∙ v.stands.version;
       text = back_on c v.next.messages v.messages v.sent ∙ ap (λ z. back_text c ++ z) (sym (ap (λ (z : SessionState). z.text) same ∙ v.text));
-      is_open = ap (λ (z : SessionState). z.closing) same ∙ v.is_open;
+      is_open = ap (λ (z : SessionState). z.closing) same ∙ v.stands.is_open;
       order = order_left i requests (world_of w i k) ∙ ap (λ n. clients_in w ++ replicate n i) run;
       others = λ j other. others_left i j requests (world_of w i k) other ∙ others_stay (with_arrived k) w.connections i j other;
       same_count = as_many_left i requests (world_of w i k) ∙ as_many (with_arrived k) w.connections i;
@@ -260,10 +263,10 @@ answered apart one_cut comes one limits bounds w i k c rest rest' after at h m =
     let named = names_of limits (news_of k c rest) (all_taken (IsSent limits) (new_count k c rest) (later_of c) later) in
     let v = news_served limits w i k c (news_of k c rest) at named in
     let spelled = news_spelled limits k c rest came in
-    let n = news_answered limits w i k c rest came v.is_open in
+    let n = news_answered limits w i k c rest came v.stands.is_open in
     let same : after ≡ after_values i (session_of w c) (map command_value (news_of k c rest)) =
     one limits i (session_of w c) after (after_values i (session_of w c) (map command_value (news_of k c rest))) (rest ++ coming k c) rest' came.rest m n in
-    let is_open : after.closing ≡ false = ap (λ (z : SessionState). z.closing) same ∙ v.is_open in
+    let is_open : after.closing ≡ false = ap (λ (z : SessionState). z.closing) same ∙ v.stands.is_open in
     let mine : Cut r (rest ++ coming k c) m.values rest' = record {
       front = m.front;
       spelled = m.spelled;

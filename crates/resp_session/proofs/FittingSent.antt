@@ -1,8 +1,8 @@
 -- What fits is sent.
-use Rattle.std.proofs.Common.{◌≤◌, [], ◌∷◌, length, Some, refl, arith, codes}
+use Rattle.std.proofs.Common.{[], ◌∷◌, Some, refl, arith, codes}
 use Rattle.resp_value.specs.Bounds.{Bounds, AreBounds}
-use Rattle.resp_value.specs.Canonical.{Fits, IsFirstOver, canonical_text}
-use Rattle.resp_value.specs.Data.{Datum, depth, longest, most_items}
+use Rattle.resp_value.specs.Canonical.{Fits, IsFirstOver}
+use Rattle.resp_value.specs.Data.{Datum}
 use Rattle.resp_value.specs.Rules.{Rules, rules_under}
 use Rattle.resp_value.specs.Words.{command_of}
 use Rattle.resp_value.specs.declared.cause.Cause.TheVariants as cause
@@ -15,6 +15,7 @@ use Rattle.resp_session.specs.Replies.{bulk_string}
 use Rattle.resp_session.specs.Requests.{FitsRequest, Hello, request_words}
 use Rattle.resp_session.specs.Runs.{Done, Run}
 use Rattle.resp_session.specs.Worlds.{World, Greet, Push, ToServer, after_event, new_world}
+use Rattle.resp_session.proofs.SmallValues.{least_fits}
 
 pub requests_that_fit_are_sent : RequestsThatFitAreSent
 requests_that_fit_are_sent limits count request sent fits few cause.Syntax r = r
@@ -90,47 +91,14 @@ abbrev greeting : Datum
 greeting = command_of (request_words (Hello (Some Three)))
 
 greeting_fits : (limits : Bounds) → AreBounds limits → FitsRequest limits (Hello (Some Three))
-greeting_fits limits bounds =
-    let few = bounds.depth_in_range.0 in
-    let short = bounds.length_in_range.0 in
-    let most = bounds.items_in_range.0 in
-    let total = bounds.total_in_range.0 in
-    let deep : depth greeting ≤ 4 = omega arith in
-    let long : longest greeting ≤ 64 = omega arith in
-    let many : most_items greeting ≤ 16 = omega arith in
-    let size : length (canonical_text Two greeting) ≤ 256 = omega arith in
-    record {
-      allows_doubles = λ off. (tt, (tt, tt));
-      has_types = (tt, (tt, (tt, tt)));
-      push_at_top = (tt, (tt, tt));
-      within_depth = omega (arith, few, deep);
-      within_length = omega (arith, short, long);
-      within_items = omega (arith, most, many);
-      within_total = omega (arith, total, size);
-    }
+greeting_fits limits bounds = least_fits limits bounds Two greeting (tt, (tt, tt)) (tt, (tt, (tt, tt))) (tt, (tt, tt))
+    (omega arith) (omega arith) (omega arith) (omega arith)
 
 abbrev push : Datum
 push = (push_message (bulk_string (codes "x") ∷ [])).value
 
 push_fits : (limits : Bounds) → AreBounds limits → Fits (rules_under Three limits) push
-push_fits limits bounds =
-    let few = bounds.depth_in_range.0 in
-    let short = bounds.length_in_range.0 in
-    let most = bounds.items_in_range.0 in
-    let total = bounds.total_in_range.0 in
-    let deep : depth push ≤ 4 = omega arith in
-    let long : longest push ≤ 64 = omega arith in
-    let many : most_items push ≤ 16 = omega arith in
-    let size : length (canonical_text Three push) ≤ 256 = omega arith in
-    record {
-      allows_doubles = λ off. (tt, tt);
-      has_types = tt;
-      push_at_top = (tt, tt);
-      within_depth = omega (arith, few, deep);
-      within_length = omega (arith, short, long);
-      within_items = omega (arith, most, many);
-      within_total = omega (arith, total, size);
-    }
+push_fits limits bounds = least_fits limits bounds Three push (tt, tt) tt (tt, tt) (omega arith) (omega arith) (omega arith) (omega arith)
 
 abbrev greeted : World
 greeted = after_event (new_world 1) (Greet 1 (Some Three))

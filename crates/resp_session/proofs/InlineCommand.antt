@@ -6,7 +6,8 @@ use Rattle.resp_value.specs.Rules.{Rules, Grammar, WithinTotal}
 use Rattle.resp_value.specs.Spellings.{IsSpelling, IsViable, IsCause}
 use Rattle.resp_value.specs.Laws.{NoSpellingIsEmpty, FrontsOfSpellingsAreViable, TheEmptyTextIsViable, NoOtherByteBeginsATree}
 use Rattle.resp_session.specs.Answers.{server_rules}
-use Rattle.resp_session.specs.Examples.{AnInlineCommandIsRefused}
+use Rattle.resp_session.specs.Examples.{AnInlineCommandIsRefused, new_session, refused_at_once}
+use Rattle.resp_session.proofs.AddedAnswers.{no_value_answered}
 
 -- `P` is another byte than this one
 other : (byte : ℕ) → eqb 80 byte ≡ false → 80 ≡ byte → ⊥
@@ -57,24 +58,18 @@ an_inline_command_is_refused full viable empty no_other limits bounds =
         ),
       ),
     ) in
-    record {
-      values = [];
-      front = [];
-      spelled = refl;
-      whole = refl;
-      ends = inr (inl (record {
-        is_open = refl;
-        no_more = no_value_begins full viable r cause;
-        rule = Grammar;
-        at = 0;
-        fault = record {
-          front = 80 ∷ [];
-          beyond = codes "ING\r\n";
-          whole = refl;
-          place = refl;
-          cause = cause;
-          first = nothing_before empty r bounds;
-        };
-        line = refl;
-      }));
-    }
+    no_value_answered limits 1 new_session refused_at_once (codes "PING\r\n") (inr (inl (record {
+      is_open = refl;
+      no_more = no_value_begins full viable r cause;
+      rule = Grammar;
+      at = 0;
+      fault = record {
+        front = 80 ∷ [];
+        beyond = codes "ING\r\n";
+        whole = refl;
+        place = refl;
+        cause = cause;
+        first = nothing_before empty r bounds;
+      };
+      line = refl;
+    })))

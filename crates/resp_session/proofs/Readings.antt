@@ -97,6 +97,16 @@ readings_stay begins viable later limits a b more (x ∷ xs) text m =
       w,
     )
 
+-- two texts that are one with what follows them, and begin with spellings of a value each: it is the same value
+pub same_first : NoSpellingBeginsAnother → (limits : Bounds) (w : Waiting) (x y : Datum) (f f' g g' p q u v : List ℕ) →
+    IsSpelling (reading_rules limits w) x f → IsSpelling (reading_rules limits w) y f' → p ≡ f ++ g → q ≡ f' ++ g' → p ++ u ≡ q ++ v →
+    (y ≡ x) × (g ++ u ≡ g' ++ v)
+same_first apart limits w x y f f' g g' p q u v s s' o o' e =
+    let whole : f ++ (g ++ u) ≡ f' ++ (g' ++ v) =
+    sym (ap (λ z. z ++ u) o ∙ append_assoc f g u) ∙ e ∙ ap (λ z. z ++ v) o' ∙ append_assoc f' g' v in
+    let d = apart (reading_rules limits w) (reading_rules limits w) x y f f' (g ++ u) (g' ++ v) s s' whole in
+    (sym d.0, d.2)
+
 one_reading : NoSpellingBeginsAnother → (limits : Bounds) (w a b : Waiting) (xs ys : List Datum) (p q u v : List ℕ) → ReadsAs limits w xs p a →
     ReadsAs limits w ys q b → p ++ u ≡ q ++ v → MayGoOn limits a u → MayGoOn limits b v → (xs ≡ ys) × (a ≡ b) × (u ≡ v)
 one_reading apart limits w a b [] [] p q u v m n e j k =
@@ -116,11 +126,8 @@ one_reading apart limits w a b (x ∷ xs) [] p q u v m n e j k =
 one_reading apart limits w a b (x ∷ xs) (y ∷ ys) p q u v m n e j k =
     let (f, g, s, may, t, o) = m in
     let (f2, g2, s2, may2, t2, o2) = n in
-    let e2 : f ++ (g ++ u) ≡ f2 ++ (g2 ++ v) = sym (ap (λ z. z ++ u) o ∙ append_assoc f g u) ∙ e ∙ ap (λ z. z ++ v) o2 ∙ append_assoc f2 g2 v in
-    let r = reading_rules limits w in
-    let d = apart r r x y f f2 (g ++ u) (g2 ++ v) s s2 e2 in
-    let x0 : y ≡ x = sym d.0 in
-    let i = one_reading apart limits (waiting_after w x) a b xs ys g g2 u v t (subst (λ z. ReadsAs limits (waiting_after w z) ys g2 b) x0 t2) d.2 j k in
+    let (x0, after) = same_first apart limits w x y f f2 g g2 p q u v s s2 o o2 e in
+    let i = one_reading apart limits (waiting_after w x) a b xs ys g g2 u v t (subst (λ z. ReadsAs limits (waiting_after w z) ys g2 b) x0 t2) after j k in
     let xs0 : xs ≡ ys = i.0 in
     (cc, i.1, i.2)
 

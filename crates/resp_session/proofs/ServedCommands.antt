@@ -8,6 +8,7 @@ use Rattle.resp_session.specs.Commands.{meaning_of}
 use Rattle.resp_session.specs.Connections.{Connection, Message, message_text, with_effect}
 use Rattle.resp_session.specs.Operations.{operation_of}
 use Rattle.resp_session.specs.Requests.{Request, request_words}
+use Rattle.resp_session.specs.Serving.{IsSameClient}
 use Rattle.resp_session.specs.Stores.{Effect, effect_of}
 use Rattle.resp_session.specs.WorldLaws.{HasName}
 use Rattle.resp_session.specs.Worlds.{World, after_command, after_commands, commands_for, connection_at, version_of, with_change}
@@ -32,11 +33,11 @@ record OneEffect (i : ℕ) (words : List (List ℕ)) (s : SessionState) (w : Wor
   world : after_command w (i, words) ≡ left_by effect w i words
 
 -- a session and its connection have one store and one version
-record Stands (i : ℕ) (s : SessionState) (w : World) (c : Connection) : Type 0 where
-  at : connection_at w.connections i ≡ Some c
-  store : s.store ≡ w.store
-  version : s.version ≡ c.version
-  is_open : s.closing ≡ false
+pub record Stands (i : ℕ) (s : SessionState) (w : World) (c : Connection) : Type 0 where
+  pub at : connection_at w.connections i ≡ Some c
+  pub store : s.store ≡ w.store
+  pub version : s.version ≡ c.version
+  pub is_open : s.closing ≡ false
 
 one_effect : (i : ℕ) (words : List (List ℕ)) (s : SessionState) (w : World) (c : Connection) → 0 < length words → Stands i s w c → OneEffect i words s w
 one_effect i [] s w c full h = absurd (omega (arith, full))
@@ -53,14 +54,9 @@ one_effect i (name ∷ arguments) s w c full h =
 -- what commands leave: the session stands with its connection, which has these messages more
 pub record IsServed (i : ℕ) (requests : List Request) (s later : SessionState) (w left : World) (c : Connection) : Type 0 where
   pub next : Connection
-  pub at : connection_at left.connections i ≡ Some next
-  pub store : later.store ≡ left.store
-  pub version : later.version ≡ next.version
-  pub is_open : later.closing ≡ false
-  pub requested : next.requests ≡ c.requests
+  pub stands : Stands i later left next
+  pub client : IsSameClient next c
   pub arrived : next.arrived ≡ c.arrived
-  pub shown : next.shown ≡ c.shown
-  pub dropped : next.dropped ≡ c.dropped
   pub messages : List Message
   pub sent : next.messages ≡ c.messages ++ messages
   pub text : later.text ≡ s.text ++ concat (map message_text messages)
@@ -76,14 +72,9 @@ one_more : (i : ℕ) (request : Request) (requests : List Request) (s : SessionS
     (after_commands (left_by e w i (request_words request)) (commands_for i requests)) c
 one_more i request requests s w c e h = record {
   next = h.next;
-  at = h.at;
-  store = h.store;
-  version = h.version;
-  is_open = h.is_open;
-  requested = h.requested;
+  stands = h.stands;
+  client = record { requests = h.client.requests; shown = h.client.shown; dropped = h.client.dropped };
   arrived = h.arrived;
-  shown = h.shown;
-  dropped = h.dropped;
   messages = message_of e ∷ h.messages;
   sent = h.sent ∙ append_assoc c.messages (message_of e ∷ []) h.messages;
   text = h.text ∙ append_assoc s.text (message_text (message_of e)) (concat (map message_text h.messages));
@@ -91,28 +82,26 @@ one_more i request requests s w c e h = record {
 }
 
 pub served : (i : ℕ) (requests : List Request) → AllByRecursion HasName requests → (s : SessionState) (w : World) (c : Connection) →
-    connection_at w.connections i ≡ Some c → s.store ≡ w.store → s.version ≡ c.version → s.closing ≡ false →
-    IsServed i requests s (after_values i s (map command_value requests)) w (after_commands w (commands_for i requests)) c
-served i [] named s w c at store version is_open = record {
+    Stands i s w c → IsServed i requests s (after_values i s (map command_value requests)) w (after_commands w (commands_for i requests)) c
+served i [] named s w c stands = record {
   next = c;
-  at = at;
-  store = store;
-  version = version;
-  is_open = is_open;
-  requested = refl;
+  stands = stands;
+  client = record { requests = refl; shown = refl; dropped = refl };
   arrived = refl;
-  shown = refl;
-  dropped = refl;
   messages = [];
   sent = sym (append-nil c.messages);
   text = sym (append-nil s.text);
   count = omega arith;
 }
-served i (request ∷ requests) named s w c at store version is_open =
-    let stands : Stands i s w c = record { at = at; store = store; version = version; is_open = is_open } in
+served i (request ∷ requests) named s w c stands =
     let o = one_effect i (request_words request) s w c named.0 stands in
-    let h = served i requests named.1 (after_effect o.effect s) (left_by o.effect w i (request_words request)) (with_effect o.effect c)
-    (changed_at (with_effect o.effect) w.connections i c at) refl refl is_open in
+    let after : Stands i (after_effect o.effect s) (left_by o.effect w i (request_words request)) (with_effect o.effect c) = record {
+      at = changed_at (with_effect o.effect) w.connections i c stands.at;
+      store = refl;
+      version = refl;
+      is_open = stands.is_open;
+    } in
+    let h = served i requests named.1 (after_effect o.effect s) (left_by o.effect w i (request_words request)) (with_effect o.effect c) after in
     let both = one_more i request requests s w c o.effect h in
     let rest = map command_value requests in
     let first : IsServed i (request ∷ requests) s (after_values i (after_effect o.effect s) rest) w

@@ -16,7 +16,7 @@ use Rattle.resp_session.specs.Reading.{Waiting, ReadsAs, MayBeRead, MayGoOn, IsU
 use Rattle.resp_session.specs.ReadingLaws.{ARestHasOneClientFault, ATextHasOneReading, NothingMayGoOn}
 use Rattle.resp_session.specs.WorldLaws.{IsWritten, EachMessageIsWritten, WhatIsWrittenIsRead, WhatIsShownIsRead, WhatIsReadIsShown, WhatIsLeftMayGoOn, NoClientMeetsAFault, waiting_for}
 use Rattle.resp_session.proofs.Arrivals.{none_of_nothing, none_of_front, short, long}
-use Rattle.resp_session.proofs.Readings.{push_is}
+use Rattle.resp_session.proofs.Readings.{push_is, same_first}
 use Rattle.resp_session.proofs.TextsInPieces.{Begins, one_begins}
 use Rattle.resp_session.proofs.WholeTexts.{whole_within-long}
 
@@ -179,12 +179,9 @@ one_reading_faultless apart begins one limits w a b (x ∷ xs) [] p q u v cause 
 one_reading_faultless apart begins one limits w a b (x ∷ xs) (y ∷ ys) p q u v cause at m n e goes_on fault =
     let (f, g, s, may, t, o) = m in
     let (f2, g2, s2, may2, t2, o2) = n in
-    let e2 : f ++ (g ++ u) ≡ f2 ++ (g2 ++ v) = sym (ap (λ z. z ++ u) o ∙ append_assoc f g u) ∙ e ∙ ap (λ z. z ++ v) o2 ∙ append_assoc f2 g2 v in
-    let r = reading_rules limits w in
-    let d = apart r r x y f f2 (g ++ u) (g2 ++ v) s s2 e2 in
-    let x0 : y ≡ x = sym d.0 in
+    let (x0, same) = same_first apart limits w x y f f2 g g2 p q u v s s2 o o2 e in
     one_reading_faultless apart begins one limits (waiting_after w x) a b xs ys g g2 u v cause at t
-    (subst (λ z. ReadsAs limits (waiting_after w z) ys g2 b) x0 t2) d.2 goes_on fault
+    (subst (λ z. ReadsAs limits (waiting_after w z) ys g2 b) x0 t2) same goes_on fault
 
 pub no_client_meets_a_fault : NoSpellingBeginsAnother → APushBeginsWithItsByte → ARestHasOneClientFault → WhatIsShownIsRead → NoClientMeetsAFault
 no_client_meets_a_fault apart begins one shown limits n events w bounds few possible r i c at xs front rest after cause place read whole fault =

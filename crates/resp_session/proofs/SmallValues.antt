@@ -1,11 +1,12 @@
 -- Small values, which no limits refuse.
-use Rattle.std.proofs.Common.{ℕ, ◌+◌, ◌<◌, ◌≤◌, ◌^◌, Bool, true, false, cond, leb, List, [], ◌∷◌, ◌++◌, length, codes, refl, arith, length-append, ◌≡◌}
+use Rattle.std.proofs.Common.{ℕ, ◌+◌, ◌<◌, ◌≤◌, ◌^◌, Bool, true, false, cond, leb, List, [], ◌∷◌, ◌++◌, length, codes, refl, arith, length-append, ◌≡◌, pos}
 use Rattle.std.proofs.lemmas.Bool.{leb-true}
 use Rattle.std.proofs.lemmas.Int.{ints}
 use Rattle.resp_value.specs.Bounds.{Bounds, AreBounds}
 use Rattle.resp_value.specs.Bytes.{IsText, IsLine, crlf}
-use Rattle.resp_value.specs.Canonical.{canonical_text, IsValue, AreValues, IsInTwo, AreInTwo, HasTypes, HasNoDouble, HaveNoDouble, HaveNoPush, HasPushAtTop, Fits}
-use Rattle.resp_value.specs.Data.{Datum, Data, Array, aggregate, none, more, data_of_list, in_turn, depth, longest, most_items}
+use Rattle.resp_value.specs.Canonical.{canonical_text, IsScalarValue, IsValue, AreValues, IsInTwo, AreInTwo, HasTypes, HasNoDouble, HaveNoDouble, HaveNoPush, HasPushAtTop, Fits}
+use Rattle.resp_value.specs.Data as d
+use Rattle.resp_value.specs.Data.{Datum, Data, Scalar, scalar, Array, aggregate, none, more, data_of_list, in_turn, depth, longest, most_items}
 use Rattle.resp_value.specs.Numbers.{decimal}
 use Rattle.resp_value.specs.Rules.{rules_under}
 use Rattle.resp_value.specs.declared.version.Version.{Version}
@@ -25,16 +26,22 @@ pub record IsSmall (version : Version) (x : Datum) : Type 0 where
   pub items_at_most : most_items x ≤ 16
   pub total_at_most : length (canonical_text version x) ≤ 256
 
-pub small_fits : (limits : Bounds) → AreBounds limits → (version : Version) (x : Datum) → IsSmall version x → Fits (rules_under version limits) x
-small_fits limits bounds version x s = record {
-  allows_doubles = λ off. s.no_double;
-  has_types = s.has_types;
-  push_at_top = s.push_at_top;
-  within_depth = let least = bounds.depth_in_range.0 in let most = s.depth_at_most in omega (arith, least, most);
-  within_length = let least = bounds.length_in_range.0 in let most = s.length_at_most in omega (arith, least, most);
-  within_items = let least = bounds.items_in_range.0 in let most = s.items_at_most in omega (arith, least, most);
-  within_total = let least = bounds.total_in_range.0 in let most = s.total_at_most in omega (arith, least, most);
+-- a value that is so small fits in this version, whatever the limits
+pub least_fits : (limits : Bounds) → AreBounds limits → (version : Version) (x : Datum) → HasNoDouble x → HasTypes version x → HasPushAtTop x →
+    depth x ≤ 4 → longest x ≤ 64 → most_items x ≤ 16 → length (canonical_text version x) ≤ 256 → Fits (rules_under version limits) x
+least_fits limits bounds version x single types top deep long many size = record {
+  allows_doubles = λ off. single;
+  has_types = types;
+  push_at_top = top;
+  within_depth = let least = bounds.depth_in_range.0 in omega (arith, least, deep);
+  within_length = let least = bounds.length_in_range.0 in omega (arith, least, long);
+  within_items = let least = bounds.items_in_range.0 in omega (arith, least, many);
+  within_total = let least = bounds.total_in_range.0 in omega (arith, least, size);
 }
+
+pub small_fits : (limits : Bounds) → AreBounds limits → (version : Version) (x : Datum) → IsSmall version x → Fits (rules_under version limits) x
+small_fits limits bounds version x s =
+    least_fits limits bounds version x s.no_double s.has_types s.push_at_top s.depth_at_most s.length_at_most s.items_at_most s.total_at_most
 
 -- each version has the types of version 2
 pub in_each : (version : Version) (x : Datum) → IsInTwo x → HasTypes version x
@@ -72,45 +79,34 @@ short_by_test text e short = let (line, bytes) = plain_line text e in (line, byt
 bytes_of : (text : List ℕ) → are_plain text ≡ true → IsText text
 bytes_of text e = (plain_line text e).1
 
-pub small_simple : (version : Version) (text : List ℕ) → IsShortLine text → IsSmall version (simple_string text)
-small_simple version text (line, bytes, short) = record {
-  value = (line, bytes);
-  no_double = tt;
-  has_types = in_each version (simple_string text) tt;
+-- a scalar without a double, which version 2 has
+small_scalar : (version : Version) (x : Scalar) → IsScalarValue x → HasNoDouble (scalar x) → IsInTwo (scalar x) → longest (scalar x) ≤ 64 →
+    length (canonical_text version (scalar x)) ≤ 256 → IsSmall version (scalar x)
+small_scalar version x value single two long size = record {
+  value = value;
+  no_double = single;
+  has_types = in_each version (scalar x) two;
   push_at_top = tt;
   depth_at_most = omega arith;
-  length_at_most = short;
+  length_at_most = long;
   items_at_most = omega arith;
-  total_at_most = omega (arith, short, length-append text (crlf []));
+  total_at_most = size;
 }
 
+pub small_simple : (version : Version) (text : List ℕ) → IsShortLine text → IsSmall version (simple_string text)
+small_simple version text (line, bytes, short) =
+    small_scalar version (d.Simple text) (line, bytes) tt tt short (omega (arith, short, length-append text (crlf [])))
+
 pub small_error : (version : Version) (text : List ℕ) → IsShortLine text → IsSmall version (error text)
-small_error version text (line, bytes, short) = record {
-  value = (line, bytes);
-  no_double = tt;
-  has_types = in_each version (error text) tt;
-  push_at_top = tt;
-  depth_at_most = omega arith;
-  length_at_most = short;
-  items_at_most = omega arith;
-  total_at_most = omega (arith, short, length-append text (crlf []));
-}
+small_error version text (line, bytes, short) =
+    small_scalar version (d.Error text) (line, bytes) tt tt short (omega (arith, short, length-append text (crlf [])))
 
 null_text : (version : Version) → length (canonical_text version null) ≤ 256
 null_text Two = omega arith
 null_text Three = omega arith
 
 pub small_null : (version : Version) → IsSmall version null
-small_null version = record {
-  value = tt;
-  no_double = tt;
-  has_types = in_each version null tt;
-  push_at_top = tt;
-  depth_at_most = omega arith;
-  length_at_most = omega arith;
-  items_at_most = omega arith;
-  total_at_most = null_text version;
-}
+small_null version = small_scalar version d.Null tt tt tt (omega arith) (null_text version)
 
 -- a number of 63 bits has at most 19 digits
 pub length-decimal-63 : (n : ℕ) → n < 2 ^ 63 → length (decimal n) ≤ 19
@@ -120,16 +116,8 @@ pub numbers_are_short : NumbersAreShort
 numbers_are_short version n h = omega (arith, length-decimal-63 n h, length-append (decimal n) (crlf []))
 
 pub small_natural : (version : Version) (n : ℕ) → n < 2 ^ 63 → IsSmall version (natural n)
-small_natural version n h = record {
-  value = (omega (arith, ints), omega (arith, ints, h));
-  no_double = tt;
-  has_types = in_each version (natural n) tt;
-  push_at_top = tt;
-  depth_at_most = omega arith;
-  length_at_most = omega arith;
-  items_at_most = omega arith;
-  total_at_most = omega (arith, numbers_are_short version n h);
-}
+small_natural version n h =
+    small_scalar version (d.Int (pos n)) (omega (arith, ints), omega (arith, ints, h)) tt tt (omega arith) (omega (arith, numbers_are_short version n h))
 
 -- the members of HELLO's reply
 abbrev hello_members : Version → ℕ → Data

@@ -30,16 +30,20 @@ coming k c = take k (drop c.arrived (sent_text c))
 abbrev pub clients_in : World → List ℕ
 clients_in w = map (λ (command : ℕ × List (List ℕ)). command.0) w.order
 
+-- a client asked and was shown the same as before, and is dropped where it was
+pub record IsSameClient (next c : Connection) : Type 0 where
+  pub requests : next.requests ≡ c.requests
+  pub shown : next.shown ≡ c.shown
+  pub dropped : next.dropped ≡ c.dropped
+
 -- a session's answer is what these bytes leave in the world: its store, its version, its messages, and the order; the
 -- other connections stay
 pub record IsLeftBy (limits : Bounds) (i k : ℕ) (w left : World) (c : Connection) (after : SessionState)
     (rest : List ℕ) : Type 0 where
   pub next : Connection
   pub there : connection_at left.connections i ≡ Some next
-  pub requests : next.requests ≡ c.requests
+  pub client : IsSameClient next c
   pub arrived : next.arrived ≡ min (c.arrived + k) (length (sent_text c))
-  pub shown : next.shown ≡ c.shown
-  pub dropped : next.dropped ≡ c.dropped
   pub unfinished : IsUnfinished limits next rest
   pub store : after.store ≡ left.store
   pub version : after.version ≡ next.version

@@ -7,13 +7,14 @@ use Rattle.std.proofs.lemmas.Int.{ints}
 use Rattle.memchr.specs.Find.{IsFirstByte, is_byte}
 use Rattle.resp_value.specs.Bounds.{Bounds}
 use Rattle.resp_value.specs.Bytes.{IsByte, IsLine, IsText, crlf}
-use Rattle.resp_value.specs.Canonical.{Fits, HasTypes, IsScalarButDouble, canonical_text}
-use Rattle.resp_value.specs.Data.{Scalar, Simple, Error, Int, Bulk, longest, scalar}
+use Rattle.resp_value.specs.Canonical.{Fits, HasTypes, IsInTwo, IsScalarButDouble, IsScalarValue, IsValue, canonical_text}
+use Rattle.resp_value.specs.Data.{Datum, Scalar, Simple, Error, Int, Bulk, longest, scalar}
 use Rattle.resp_value.specs.Numbers.{decimal}
 use Rattle.resp_value.specs.Rules.{rules_under}
 use Rattle.resp_value.specs.declared.version.Version.{Version}
 use Rattle.resp_value.specs.declared.version.Version.TheVariants.{Two, Three}
 use Rattle.resp_value.proofs.FirstBytes.{all_front}
+use Rattle.resp_encode.proofs.Attempted.{in_each, scalar_fits}
 use Rattle.resp_tool.specs.CanonicalFronts.{BeginsWithLine, IsBulkWithin, IsCanonicalWithin, IsInteger, IsLineWithin, FollowsByte}
 
 -- ---- lines
@@ -127,76 +128,38 @@ bulk_within limits text line number begins bytes is short long returns feeds =
 
 -- ---- values
 
-has_simple : (version : Version) (s : List ℕ) → HasTypes version (scalar (Simple s))
-has_simple Two s = tt
-has_simple Three s = tt
-
-has_error : (version : Version) (s : List ℕ) → HasTypes version (scalar (Error s))
-has_error Two s = tt
-has_error Three s = tt
-
-has_integer : (version : Version) (i : ℤ) → HasTypes version (scalar (Int i))
-has_integer Two i = tt
-has_integer Three i = tt
-
-has_bulk : (version : Version) (s : List ℕ) → HasTypes version (scalar (Bulk s))
-has_bulk Two s = tt
-has_bulk Three s = tt
-
-fits_scalar : (limits : Bounds) (version : Version) (s : Scalar) → IsScalarButDouble s → HasTypes version (scalar s) →
-    longest (scalar s) ≤ limits.length → length (canonical_text version (scalar s)) ≤ limits.total →
-    Fits (rules_under version limits) (scalar s)
-fits_scalar limits version s plain types short total = record {
-  allows_doubles = λ off. plain;
-  has_types = types;
-  push_at_top = tt;
-  within_depth = omega arith;
-  within_length = short;
-  within_items = omega arith;
-  within_total = total;
-}
-
 within_total : (limits : Bounds) (canonical text : List ℕ) → canonical ≡ text → length text ≤ limits.total → length canonical ≤ limits.total
 within_total limits canonical text is fits = rw is fits
+
+-- a scalar of version 2 that is written so
+scalar_after : (limits : Bounds) (version : Version) (s : Scalar) (text : List ℕ) → IsScalarValue s → IsScalarButDouble s → IsInTwo (scalar s) →
+    longest (scalar s) ≤ limits.length → canonical_text version (scalar s) ≡ text → length text ≤ limits.total →
+    (x : Datum) × IsValue x × Fits (rules_under version limits) x × (canonical_text version x ≡ text)
+scalar_after limits version s text value plain two short is total = (
+  scalar s,
+  value,
+  scalar_fits limits version s value plain (in_each version (scalar s) two) short (within_total limits (canonical_text version (scalar s)) text is total),
+  is,
+)
 
 pub canonical_after : (limits : Bounds) (kind : ℕ) (text : List ℕ) → FollowsByte limits kind text → length text + 1 ≤ limits.total →
     IsCanonicalWithin limits (kind ∷ text)
 canonical_after limits kind text (inl (inl plus, line)) total = λ version.
-    let is : 43 ∷ (line.line ++ crlf []) ≡ kind ∷ text = ap (λ l. 43 ∷ l) (sym line.whole) ∙ ap (λ k. k ∷ text) (sym plus) in (
-      scalar (Simple line.line),
-      (line.is_line, line.is_text),
-      fits_scalar limits version (Simple line.line) tt (has_simple version line.line) line.short
-          (within_total limits (43 ∷ (line.line ++ crlf [])) (kind ∷ text) is (omega arith)),
-      is,
-    )
+    let is : 43 ∷ (line.line ++ crlf []) ≡ kind ∷ text = ap (λ l. 43 ∷ l) (sym line.whole) ∙ ap (λ k. k ∷ text) (sym plus) in
+    scalar_after limits version (Simple line.line) (kind ∷ text) (line.is_line, line.is_text) tt tt line.short is (omega arith)
 canonical_after limits kind text (inl (inr minus, line)) total = λ version.
-    let is : 45 ∷ (line.line ++ crlf []) ≡ kind ∷ text = ap (λ l. 45 ∷ l) (sym line.whole) ∙ ap (λ k. k ∷ text) (sym minus) in (
-      scalar (Error line.line),
-      (line.is_line, line.is_text),
-      fits_scalar limits version (Error line.line) tt (has_error version line.line) line.short
-          (within_total limits (45 ∷ (line.line ++ crlf [])) (kind ∷ text) is (omega arith)),
-      is,
-    )
+    let is : 45 ∷ (line.line ++ crlf []) ≡ kind ∷ text = ap (λ l. 45 ∷ l) (sym line.whole) ∙ ap (λ k. k ∷ text) (sym minus) in
+    scalar_after limits version (Error line.line) (kind ∷ text) (line.is_line, line.is_text) tt tt line.short is (omega arith)
 canonical_after limits kind text (inr (inl (colon, line))) total = λ version.
     let i = line.is_integer.integer in
     let is : canonical_text version (scalar (Int i)) ≡ kind ∷ text =
-    ap (λ l. 58 ∷ (l ++ crlf [])) (sym line.is_integer.digits) ∙ ap (λ l. 58 ∷ l) (sym line.whole) ∙ ap (λ k. k ∷ text) (sym colon) in (
-      scalar (Int i),
-      (line.is_integer.least, line.is_integer.most),
-      fits_scalar limits version (Int i) tt (has_integer version i) (omega arith)
-          (within_total limits (canonical_text version (scalar (Int i))) (kind ∷ text) is (omega arith)),
-      is,
-    )
+    ap (λ l. 58 ∷ (l ++ crlf [])) (sym line.is_integer.digits) ∙ ap (λ l. 58 ∷ l) (sym line.whole) ∙ ap (λ k. k ∷ text) (sym colon) in
+    scalar_after limits version (Int i) (kind ∷ text) (line.is_integer.least, line.is_integer.most) tt tt (omega arith) is (omega arith)
 canonical_after limits kind text (inr (inr (dollar, bulk))) total = λ version.
     let s = bulk.content in
     let is : canonical_text version (scalar (Bulk s)) ≡ kind ∷ text =
-    ap (λ l. 36 ∷ l) (sym bulk.whole) ∙ ap (λ k. k ∷ text) (sym dollar) in (
-      scalar (Bulk s),
-      bulk.is_text,
-      fits_scalar limits version (Bulk s) tt (has_bulk version s) bulk.short
-          (within_total limits (canonical_text version (scalar (Bulk s))) (kind ∷ text) is (omega arith)),
-      is,
-    )
+    ap (λ l. 36 ∷ l) (sym bulk.whole) ∙ ap (λ k. k ∷ text) (sym dollar) in
+    scalar_after limits version (Bulk s) (kind ∷ text) bulk.is_text tt tt bulk.short is (omega arith)
 
 -- a value at the front of a piece
 pub canonical_piece : (limits : Bounds) (piece text : List ℕ) (kind size : ℕ) → piece ≡ kind ∷ text → size ≤ length text → size < limits.total →

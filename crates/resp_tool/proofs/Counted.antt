@@ -1,9 +1,9 @@
 -- What `check` writes, after a stream of which nothing was written.
-use Rattle.std.proofs.Common.{◌≡◌, ℕ, List, [], ◌∷◌, length, flat_map, Option, Err, refl, sym, ap, subst, ◌∙◌}
+use Rattle.std.proofs.Common.{◌≡◌, ℕ, List, [], ◌∷◌, length, flat_map, Option, Err, refl, ap, subst, ◌∙◌}
 use Rattle.resp_value.specs.Data.{Datum}
 use Rattle.resp_value.specs.Devices.{Appends}
 use Rattle.resp_value.specs.Rules.{Rules}
-use Rattle.resp_tool.specs.Counts.{Counts, CountsAll, CountsPart, IsAny, LeavesNothing, counts_line, no_text}
+use Rattle.resp_tool.specs.Counts.{Counts, CountsAll, CountsBy, CountsPart, IsAny, LeavesNothing, counts_line, no_text}
 use Rattle.resp_tool.specs.Streams.{RendersCounted, RendersStopped}
 use Rattle.resp_tool.specs.Written.{AppendsPart}
 use Rattle.resp_tool.specs.declared.stream.Totals.{Totals}
@@ -25,29 +25,34 @@ nothing_before : (r : Rules) (bytes : List ℕ) (before mid : Option (List ℕ))
     Appends before mid []
 nothing_before r bytes before mid totals s = subst (Appends before mid) (no_texts s.values) s.all.appended
 
-pub counts_all : (r : Rules) (bytes : List ℕ) (before mid after : Option (List ℕ)) (totals : Totals) → RendersCounted r no_text IsAny bytes before mid totals →
-    Appends mid after (counts_line totals.values totals.bytes) → CountsAll r bytes before after
-counts_all r bytes before mid after totals s line = record {
-  values = s.values;
-  cut = s.all.cut;
-  few = s.all.few;
-  appended = Appends-append before mid after [] (counts_line (length s.values) (length bytes)) (nothing_before r bytes before mid totals s)
-      (subst (Appends mid after) (same_line r bytes before mid totals s) line);
-}
+-- what holds of the line as it is written, after a stream of which nothing was
+counts_by : (IsLine : List ℕ → Type 0) {r rules : Rules} {bytes : List ℕ} {before mid : Option (List ℕ)} {totals : Totals} → rules ≡ r →
+    RendersCounted rules no_text IsAny bytes before mid totals →
+    (Appends before mid [] → IsLine (counts_line totals.values totals.bytes)) → CountsBy IsLine r bytes
+counts_by IsLine {r = r} {rules = rules} {bytes = bytes} {before = before} {mid = mid} {totals = totals} same stream line =
+    let s = subst (λ q. RendersCounted q no_text IsAny bytes before mid totals) same stream in
+    record {
+      values = s.values;
+      cut = s.all.cut;
+      few = s.all.few;
+      line = subst IsLine (same_line r bytes before mid totals s) (line (nothing_before r bytes before mid totals s));
+    }
 
-pub counts_part : (r : Rules) (bytes : List ℕ) (before mid after : Option (List ℕ)) (totals : Totals) → RendersCounted r no_text IsAny bytes before mid totals →
-    AppendsPart mid after (counts_line totals.values totals.bytes) → CountsPart r bytes before after
-counts_part r bytes before mid after totals s line = record {
-  values = s.values;
-  cut = s.all.cut;
-  few = s.all.few;
-  appended = record {
-    part = line.part;
-    beyond = line.beyond;
-    whole = sym (same_line r bytes before mid totals s) ∙ line.whole;
-    appended = Appends-append before mid after [] line.part (nothing_before r bytes before mid totals s) line.appended;
-  };
-}
+pub counts_all : {r rules : Rules} {bytes : List ℕ} {before mid : Option (List ℕ)} {totals : Totals} (after : Option (List ℕ)) → rules ≡ r →
+    RendersCounted rules no_text IsAny bytes before mid totals → Appends mid after (counts_line totals.values totals.bytes) →
+    CountsAll r bytes before after
+counts_all {before = before} {mid = mid} {totals = totals} after same stream line = counts_by (Appends before after) same stream
+    (λ nothing. Appends-append before mid after [] (counts_line totals.values totals.bytes) nothing line)
+
+pub counts_part : {r rules : Rules} {bytes : List ℕ} {before mid after : Option (List ℕ)} {totals : Totals} → rules ≡ r →
+    RendersCounted rules no_text IsAny bytes before mid totals → AppendsPart mid after (counts_line totals.values totals.bytes) →
+    CountsPart r bytes before after
+counts_part {before = before} {mid = mid} {after = after} same stream line = counts_by (AppendsPart before after) same stream (λ nothing. record {
+  part = line.part;
+  beyond = line.beyond;
+  whole = line.whole;
+  appended = Appends-append before mid after [] line.part nothing line.appended;
+})
 
 -- what comes of a stop: a writer that wasn't written to doesn't fail
 pub counts_stopped : (r : Rules) (bytes : List ℕ) (before after : Option (List ℕ)) (error : ToolError) → (error ≡ e.Write → ⊥) →

@@ -26,7 +26,8 @@ use Rattle.resp_tool.specs.Counts.{LeavesNothing}
 use Rattle.resp_tool.specs.Takings.{Declines, EndsInput, IsByteFault, IsEndFault, LeavesRefused, Takes, TakesUnfinished, WritesValue}
 use Rattle.resp_tool.specs.Takings as tool
 use Rattle.resp_tool.specs.Written.{AppendsPart, BreaksText}
-use Rattle.resp_tool.proofs.Scanned.{ends_inside, no_spelling_without_value, no_value_at_start, value_uses_some}
+use Rattle.resp_decode.proofs.Feeding.{no_value_at_start}
+use Rattle.resp_tool.proofs.Scanned.{ends_inside, no_spelling_without_value, value_uses_some}
 use Rattle.resp_tool.proofs.Rendered.{spelled_one}
 use Rattle.resp_tool.proofs.WrittenLemmas.{Appends-none}
 

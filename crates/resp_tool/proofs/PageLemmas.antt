@@ -53,6 +53,12 @@ last_line_is (x ∷ ls) l is =
     (codes "end " ++ decimal (items_of (kind_of y.kind) y.members) ++ codes "\n")) same ∙
     ap (λ n. indentation n ++ (codes "end " ++ decimal (items_of (kind_of l.kind) l.members) ++ codes "\n")) level
 
+-- it is written on its level
+pub writes_last_line : (ls : List line.OpenLine) (l : line.OpenLine) (level : ℕ) → innermost ls ≡ Some l → level ≡ length (map line_of ls) - 1 →
+    indentation level ++ (codes "end " ++ decimal (items_of (kind_of l.kind) l.members) ++ codes "\n") ≡ last_line (map line_of ls)
+writes_last_line ls l level is at =
+    ap (λ n. indentation n ++ (codes "end " ++ decimal (items_of (kind_of l.kind) l.members) ++ codes "\n")) at ∙ sym (last_line_is ls l is)
+
 -- content on a page
 pub content_shown : (p : Page) (s : List ℕ) → shown_on p (content_events s) ≡ quoted_text s
 content_shown p [] = refl

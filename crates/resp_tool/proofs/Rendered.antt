@@ -170,11 +170,14 @@ renders_part : (r : Rules) (text : Datum → List ℕ) (W : Datum → Type 0) (B
     (start mid after : Option (List ℕ)) (n : ℕ) (s : HasRendered r text W H bytes start mid n) → WritesPart r text B (s.begun ++ piece) s.so_far mid after →
     RendersPart r text B (bytes ++ piece) start after
 renders_part r text W B H bytes piece start mid after n s t = record {
-  values = s.values ++ t.values;
-  front = s.front ++ t.front;
-  rest = t.beyond;
-  spelled = spelled_on r s.values t.values s.front t.front s.spelled t.spelled;
-  whole = ap (λ z. z ++ piece) s.whole ∙ append_assoc s.front s.begun piece ∙ ap (λ z. s.front ++ z) t.split ∙ sym (append_assoc s.front t.front t.beyond);
+  begins = record {
+    values = s.values ++ t.values;
+    front = s.front ++ t.front;
+    rest = t.beyond;
+    spelled = spelled_on r s.values t.values s.front t.front s.spelled t.spelled;
+    whole = ap (λ z. z ++ piece) s.whole ∙ append_assoc s.front s.begun piece ∙ ap (λ z. s.front ++ z) t.split ∙
+        sym (append_assoc s.front t.front t.beyond);
+  };
   begun = t.begun;
   is_begun = t.is_begun;
   part = (flat_map text s.values ++ s.so_far) ++ t.more;
@@ -229,11 +232,13 @@ pub renders_most : (r : Rules) (text : Datum → List ℕ) (W : Datum → Type 0
     (start after : Option (List ℕ)) (n : ℕ) → n ≡ most_values → 0 < length piece → HasRendered r text W H bytes start after n →
     RendersMost r text W (bytes ++ piece) start after
 renders_most r text W H bytes piece start after n most some s = record {
-  values = s.values;
-  front = s.front;
-  rest = s.begun ++ piece;
-  spelled = s.spelled;
-  whole = ap (λ z. z ++ piece) s.whole ∙ append_assoc s.front s.begun piece;
+  begins = record {
+    values = s.values;
+    front = s.front;
+    rest = s.begun ++ piece;
+    spelled = s.spelled;
+    whole = ap (λ z. z ++ piece) s.whole ∙ append_assoc s.front s.begun piece;
+  };
   some_rest = omega (arith, some, length-append s.begun piece);
   counted = s.counted ∙ most;
   all_written = s.all_written;
@@ -281,11 +286,7 @@ pub renders_so_far : (r : Rules) (text : Datum → List ℕ) (W : Datum → Type
 renders_so_far r text W B H bytes start after n stands s =
     let (later, is_begun) = stands s.begun s.so_far s.takes in
     record {
-      values = s.values;
-      front = s.front;
-      rest = s.begun;
-      spelled = s.spelled;
-      whole = s.whole;
+      begins = record { values = s.values; front = s.front; rest = s.begun; spelled = s.spelled; whole = s.whole };
       begun = s.so_far ++ later;
       is_begun = is_begun;
       part = flat_map text s.values ++ s.so_far;

@@ -8,7 +8,6 @@ use Rattle.resp_value.specs.Trees.{Tree, Spells, leaf, node, null, PlainNull, le
 use Rattle.resp_value.specs.TreeValues.{value}
 use Rattle.resp_value.specs.Rules.{Rules, WithinTotal}
 use Rattle.resp_value.specs.Spellings.{IsViable}
-use Rattle.resp_value.specs.Laws.{FrontsOfViableTextsAreViable}
 use Rattle.resp_value.specs.declared.cause.Cause.{Cause}
 use Rattle.resp_value.specs.declared.cause.Cause.TheVariants as cause
 use Rattle.resp_fronts.specs.Events.{Timed, all_events, events_due}
@@ -17,34 +16,11 @@ use Rattle.resp_scan.specs.Machine.Tokens.{Place}
 use Rattle.resp_scan.specs.Reading.{AreDue, Events, HasNoSpelling, HasNoValue, HasRead, IsRefused, MayEnd}
 use Rattle.resp_scan.specs.declared.event.Fault.{Fault}
 use Rattle.resp_scan.specs.declared.event.Scanned.{Scanned}
+use Rattle.resp_decode.proofs.Feeding.{due_at_start, fault_of_refused, no_value_at_start}
 use Rattle.resp_tool.specs.Counts.{IsAny, LeavesNothing, no_text}
 use Rattle.resp_tool.specs.Scans.{HasLookedAt, HasScanned}
 use Rattle.resp_tool.specs.Takings.{IsByteFault, IsEndFault, LeavesRefused, TakesUnfinished, WritesValue}
 use Rattle.resp_tool.proofs.WrittenLemmas.{Appends-none}
-
--- nothing is due of no byte
-due_at_start : (xs : List Timed) → events_due 0 xs ≡ []
-due_at_start [] = refl
-due_at_start (x ∷ xs) = case (ltb x.at 0) refl (due_at_start xs)
-  where
-    case : (early : Bool) → ltb x.at 0 ≡ early → events_due 0 xs ≡ [] → cond early (x.event ∷ events_due 0 xs) (events_due 0 xs) ≡ []
-    case true is others = let early : x.at < 0 = ltb-true x.at 0 is in absurd (omega arith)
-    case false is others = others
-
--- no text is empty
-some_text : (t : Tree) → text t ≡ [] → ⊥
-some_text (leaf l) is = absurd (omega (arith, ap length is, length-append (leaf_line l) (crlf (leaf_rest l))))
-some_text (node k form ts) is = absurd (cc)
-
--- no text has no value
-pub no_value_at_start : HasNoValue []
-no_value_at_start n tree spells = some_text tree (spells.spelled ∙ take-nil n)
-
--- what was given of no byte is nothing
-pub nothing_given : (given : Events) → AreDue [] given → given ≡ []
-nothing_given given due =
-    let whole : Tree = leaf (null PlainNull) in
-    sym (due (text whole) whole (record { is_tree = tt; spelled = refl })) ∙ due_at_start (all_events whole)
 
 -- between two values nothing was scanned
 pub scanned_nothing : (s : Place) → HasRead s [] [] → HasScanned s [] []
@@ -65,42 +41,13 @@ value_uses_some front piece zero tree none spells = absurd (no_whole_text front 
 value_uses_some front piece (suc used) tree none spells = omega arith
 
 -- the byte that is refused is the first after which nothing can follow
-pub byte_fault : (r : Rules) (front piece : List ℕ) (fault : Fault) (given : Events) → FrontsOfViableTextsAreViable → IsRefused r front given piece fault →
+pub byte_fault : (r : Rules) (front piece : List ℕ) (fault : Fault) (given : Events) → IsRefused r front given piece fault →
     IsByteFault r (front ++ piece) fault.cause fault.at
-byte_fault r front piece fault given law w =
-    let whole = front ++ piece in
-    let n = fault.at in
-    record {
-      rule = w.refused.rule;
-      names = w.refused.names;
-      fault_of = record {
-        front = take (n + 1) whole;
-        beyond = drop (n + 1) whole;
-        whole = sym (take-append-drop (n + 1) whole);
-        place = sym (length-take-le (n + 1) whole (omega (arith, w.before_end)));
-        cause = w.refused.cause;
-        first = viable_before;
-      };
-    }
-  where
-    viable_before : (before : List ℕ) (byte : ℕ) (after : List ℕ) → take (fault.at + 1) (front ++ piece) ≡ before ++ byte ∷ after →
-        IsViable r WithinTotal before
-    viable_before before byte after is =
-        let whole = front ++ piece in
-        let n = fault.at in
-        let beyond = (byte ∷ after) ++ drop (n + 1) whole in
-        let parts : whole ≡ before ++ beyond = sym (take-append-drop (n + 1) whole) ∙ ap (λ z. z ++ drop (n + 1) whole) is ∙
-        append_assoc before (byte ∷ after) (drop (n + 1) whole) in
-        let m = n - length before in
-        let at : n ≡ length before + m = omega (
-          arith,
-          length-take-le (n + 1) whole (omega (arith, w.before_end)),
-          ap length is,
-          length-append before (byte ∷ after),
-        ) in
-        let split : take n whole ≡ before ++ take m beyond = ap (λ k. take k whole) at ∙ ap (take (length before + m)) parts ∙
-        take-append-add before beyond m in
-        law r WithinTotal before (take m beyond) (subst (IsViable r WithinTotal) split w.viable)
+byte_fault r front piece fault given w = record {
+  rule = w.refused.rule;
+  names = w.refused.names;
+  fault_of = fault_of_refused r front piece fault given w;
+}
 
 -- no front of a text without a value is a spelling
 pub no_spelling_without_value : (r : Rules) (front : List ℕ) → HasNoValue front → HasNoSpelling r front
@@ -164,14 +111,14 @@ looks_on r s s' H front piece so_far held scanned looked whole part all viable =
         )
 
 pub looks_refused : (r : Rules) (s : Place) (H : Events → Type 0) (front piece so_far : List ℕ) (held : Option (List ℕ)) (fault : Fault) →
-    FrontsOfViableTextsAreViable → HasLookedAt s front so_far →
+    HasLookedAt s front so_far →
     ((given : Events) → HasRead s front given → HearsRefusal r H front piece fault) →
     LeavesRefused r (IsByteFault r) LeavesNothing (front ++ piece) so_far held held fault.cause fault.at
-looks_refused r s H front piece so_far held fault law looked refusal =
+looks_refused r s H front piece so_far held fault looked refusal =
     let ((given, scanned_so), nothing) = looked in
     let h = refusal given scanned_so.reads in
     record {
-      fault = byte_fault r front piece fault h.heard law h.refused;
+      fault = byte_fault r front piece fault h.heard h.refused;
       no_spelling = h.refused.no_value;
       more = [];
       appended = Appends-none held;

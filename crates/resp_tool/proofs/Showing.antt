@@ -5,7 +5,6 @@ use Rattle.std.specs.List.{AllByRecursion}
 use Rattle.std.proofs.lemmas.List.{take_all}
 use Rattle.resp_value.specs.Data.{Kind}
 use Rattle.resp_value.specs.Rules.{Rules, WithinTotal}
-use Rattle.resp_value.specs.Laws.{FrontsOfViableTextsAreViable}
 use Rattle.resp_value.specs.Spellings.{IsViable}
 use Rattle.resp_value.specs.TreeValues.{value}
 use Rattle.resp_value.specs.Devices.{Appends, count_after}
@@ -31,7 +30,8 @@ use Rattle.resp_tool.specs.Shown.{shown_text}
 use Rattle.resp_tool.specs.Takings.{IsByteFault, IsEndFault, LeavesRefused, TakesUnfinished, WritesValue, WritesPart}
 use Rattle.resp_tool.specs.Written.{AppendsPart, WritesText}
 use Rattle.resp_tool.specs.declared.lines.Lines.{Lines}
-use Rattle.resp_tool.proofs.Scanned.{byte_fault, ends_inside, no_spelling_without_value, nothing_given, scanned_nothing, value_uses_some}
+use Rattle.resp_decode.proofs.Feeding.{given_at_start}
+use Rattle.resp_tool.proofs.Scanned.{byte_fault, ends_inside, no_spelling_without_value, scanned_nothing, value_uses_some}
 use Rattle.resp_tool.proofs.ShownTrees.{page-append, shown-append, tree_is_closed, tree_is_shown}
 use Rattle.resp_tool.proofs.WrittenLemmas.{Appends-append, Appends-none}
 
@@ -366,14 +366,14 @@ module _ (r : Rules) (since : Start) (front piece : List ℕ) (after : Option (L
 
 -- a refused byte, after which an open line was ended
 pub shows_refused : (r : Rules) (since : Start) (front piece : List ℕ) (lines : Lines) (now after : Option (List ℕ)) (f : ℕ) (fault : Fault) →
-    FrontsOfViableTextsAreViable → HearsRefusal r (HasPrinted since lines now f) front piece fault →
+    HearsRefusal r (HasPrinted since lines now f) front piece fault →
     Appends now after (end_of_line (page_of lines).text) →
     LeavesRefused r (IsByteFault r) IsShownOf (front ++ piece) since.so_far since.held after fault.cause fault.at
-shows_refused r since front piece lines now after f fault law h ended =
+shows_refused r since front piece lines now after f fault h ended =
     let w = h.has_heard in
     let ending = end_of_line (page_of lines).text in
     record {
-      fault = byte_fault r front piece fault h.heard law h.refused;
+      fault = byte_fault r front piece fault h.heard h.refused;
       no_spelling = h.refused.no_value;
       more = w.more ++ ending;
       appended = Appends-append since.held now after w.more ending w.appended ended;
@@ -460,7 +460,7 @@ shown_stands r s lines front so_far viable w =
 
 pub shown_between : (s : Place) (lines : Lines) (front so_far : List ℕ) → front ≡ [] → HasShown s lines front so_far → so_far ≡ []
 shown_between s lines front so_far none w =
-    w.written ∙ ap shown (nothing_given w.given (subst (λ z. AreDue z w.given) none w.scanned.all_due))
+    w.written ∙ ap shown (given_at_start w.given (subst (λ z. AreDue z w.given) none w.scanned.all_due))
 
 pub shown_truncated : (r : Rules) (s : Place) (lines : Lines) (front so_far : List ℕ) (before after : Option (List ℕ)) (c : Cause) (at : ℕ) →
     IsViable r WithinTotal front → c ≡ cause.Truncated → at ≡ length front → (front ≡ [] → ⊥) → HasShown s lines front so_far →

@@ -14,19 +14,20 @@ use Rattle.resp_tool.specs.declared.tool_error.ToolError.TheVariants.{Write}
 abbrev pub counts_line : ℕ → ℕ → List ℕ
 counts_line values bytes = codes "values " ++ decimal values ++ codes " bytes " ++ decimal bytes ++ codes "\n"
 
--- the bytes are values and nothing more, and the line of their counts was appended
-pub record CountsAll (r : Rules) (bytes : List ℕ) (before after : Option (List ℕ)) : Type 0 where
+-- the bytes are values and nothing more, and this holds of the line of their counts
+pub record CountsBy (IsLine : List ℕ → Type 0) (r : Rules) (bytes : List ℕ) : Type 0 where
   pub values : List Datum
   pub cut : Cut r bytes values []
   pub few : length values ≤ most_values
-  pub appended : Appends before after (counts_line (length values) (length bytes))
+  pub line : IsLine (counts_line (length values) (length bytes))
 
--- the bytes are values and nothing more, and a first part of the line was appended
-pub record CountsPart (r : Rules) (bytes : List ℕ) (before after : Option (List ℕ)) : Type 0 where
-  pub values : List Datum
-  pub cut : Cut r bytes values []
-  pub few : length values ≤ most_values
-  pub appended : AppendsPart before after (counts_line (length values) (length bytes))
+-- the line was appended
+abbrev pub CountsAll : Rules → List ℕ → Option (List ℕ) → Option (List ℕ) → Type 0
+CountsAll r bytes before after = CountsBy (Appends before after) r bytes
+
+-- a first part of the line was appended
+abbrev pub CountsPart : Rules → List ℕ → Option (List ℕ) → Option (List ℕ) → Type 0
+CountsPart r bytes before after = CountsBy (AppendsPart before after) r bytes
 
 -- nothing is written for a value
 abbrev pub no_text : Datum → List ℕ

@@ -21,6 +21,11 @@ AreRead (Some left) after bytes = (rest : List ℕ) × (after ≡ Some rest) × 
 abbrev pub most_values : ℕ
 most_values = 1000000000
 
+-- whether a call stopped for a reason that passes this test
+abbrev pub stopped_by : {X : Type 0} → (ToolError → Bool) → Result X ToolError → Bool
+stopped_by test (Ok x) = false
+stopped_by test (Err error) = test error
+
 -- whether the stop is by a failed read
 abbrev pub is_of_reader : ToolError → Bool
 is_of_reader Read = true
@@ -28,8 +33,7 @@ is_of_reader _ = false
 
 -- and whether a call stopped so
 abbrev pub failed_to_read : {X : Type 0} → Result X ToolError → Bool
-failed_to_read (Ok x) = false
-failed_to_read (Err error) = is_of_reader error
+failed_to_read result = stopped_by is_of_reader result
 
 -- whether the stop is by a failed write
 abbrev pub is_of_writer : ToolError → Bool
@@ -38,8 +42,7 @@ is_of_writer _ = false
 
 -- and whether a call stopped so
 abbrev pub failed_to_write : {X : Type 0} → Result X ToolError → Bool
-failed_to_write (Ok x) = false
-failed_to_write (Err error) = is_of_writer error
+failed_to_write result = stopped_by is_of_writer result
 
 -- the bytes are values that are written and nothing more, no more than the most of one run, and their texts were
 -- appended, in order
@@ -82,33 +85,33 @@ pub record RendersUpTo (r : Rules) (text : Datum → List ℕ) (IsWritten : Datu
   pub not_written : IsWritten value → ⊥
   pub appended : Appends before after (flat_map text values)
 
--- the bytes are the most values of one run and more, and the texts of these values were appended
-pub record RendersMost (r : Rules) (text : Datum → List ℕ) (IsWritten : Datum → Type 0) (bytes : List ℕ)
-    (before after : Option (List ℕ)) : Type 0 where
+-- the bytes begin with spellings of values
+pub record Begins (r : Rules) (bytes : List ℕ) : Type 0 where
   pub values : List Datum
   pub front : List ℕ
   pub rest : List ℕ
   pub spelled : AreSpellings r values front
   pub whole : bytes ≡ front ++ rest
-  pub some_rest : 0 < length rest
-  pub counted : length values ≡ most_values
-  pub all_written : AllByRecursion IsWritten values
-  pub appended : Appends before after (flat_map text values)
+
+-- the bytes are the most values of one run and more, and the texts of these values were appended
+pub record RendersMost (r : Rules) (text : Datum → List ℕ) (IsWritten : Datum → Type 0) (bytes : List ℕ)
+    (before after : Option (List ℕ)) : Type 0 where
+  pub begins : Begins r bytes
+  pub some_rest : 0 < length begins.rest
+  pub counted : length begins.values ≡ most_values
+  pub all_written : AllByRecursion IsWritten begins.values
+  pub appended : Appends before after (flat_map text begins.values)
 
 -- the bytes begin with values and with bytes for which this may be written, and a first part of the texts of the values
 -- and of that was appended
 pub record RendersPart (r : Rules) (text : Datum → List ℕ) (IsBegun : List ℕ → List ℕ → Type 0) (bytes : List ℕ)
     (before after : Option (List ℕ)) : Type 0 where
-  pub values : List Datum
-  pub front : List ℕ
-  pub rest : List ℕ
-  pub spelled : AreSpellings r values front
-  pub whole : bytes ≡ front ++ rest
+  pub begins : Begins r bytes
   pub begun : List ℕ
-  pub is_begun : IsBegun rest begun
+  pub is_begun : IsBegun begins.rest begun
   pub part : List ℕ
   pub later : List ℕ
-  pub parts : flat_map text values ++ begun ≡ part ++ later
+  pub parts : flat_map text begins.values ++ begun ≡ part ++ later
   pub appended : Appends before after part
 
 -- what was written for bytes that were read, where the call stops for this reason

@@ -17,7 +17,6 @@ use resp_scan::listener::Listener;
 use resp_scan::scanner::Scanner;
 use resp_value::device::{DeviceFault, Sink, WriteFault};
 use resp_value::kind::OpenKind;
-use resp_value::laws;
 use resp_value::limits::Limits;
 use resp_value::version::Version;
 use std::alloc::Global;
@@ -109,7 +108,6 @@ impl Rendering for Unwritten {
     ghost writes = { ⊥ };
 
     fn take<W: Sink>(&mut self, piece: &[u8], _writer: &mut W) -> Result<Taken, Stop> {
-        laws::fronts_of_viable_texts_are_viable();
         match self.scanner.scan(piece, &mut Nobody) {
             Ok(scanned) => {
                 // What was taken is viable, as the scanner says of it here.

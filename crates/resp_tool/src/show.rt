@@ -18,7 +18,6 @@ use crate::tool_error::ToolError;
 use resp_scan::event::ScanError;
 use resp_scan::scanner::Scanner;
 use resp_value::device::{DeviceFault, Sink};
-use resp_value::laws;
 use resp_value::limits::Limits;
 use resp_value::version::Version;
 use std::alloc::Global;
@@ -53,7 +52,6 @@ impl Rendering for Shown {
     ghost writes = { Unit {0} };
 
     fn take<W: Sink>(&mut self, piece: &[u8], writer: &mut W) -> Result<Taken, Stop> {
-        laws::fronts_of_viable_texts_are_viable();
         match print_piece(&mut self.scanner, piece, &mut self.lines, writer) {
             Ok(scanned) => Ok(Taken {
                 used: scanned.used,

@@ -4,8 +4,9 @@ mod hearing;
 mod queueing;
 
 use crate::bounds;
-use crate::cut::Cut;
+use crate::cut::{Cut, pieces};
 use crate::subject::Subject;
+use crate::text::bytes;
 use anyhow::{Result, bail};
 use resp_client::Client;
 use resp_value::Limits;
@@ -41,12 +42,30 @@ impl Subject for Talker {
             "out" => queueing::out(client, said),
             "state" => queueing::state(client, said),
             "taken" => hearing::taken(client, said),
-            "hear" => hearing::hear(alloc, client, given, cut, said),
-            "feed" => hearing::feed(alloc, client, given, said),
-            "show" => hearing::show(alloc, client, given, cut, said),
+            "hear" | "show" | "feed" => hear(alloc, client, name, given, cut, said),
             _ => bail!("an unknown row"),
         }
     }
+}
+
+/// Hears a text: in pieces without a sink or with one, or in one call.
+fn hear(
+    alloc: Global,
+    client: &mut Client,
+    name: &str,
+    given: &str,
+    cut: Cut,
+    said: &mut String,
+) -> Result<()> {
+    let text = bytes(alloc, given)?;
+    if name == "feed" {
+        return hearing::feed(client, text.as_slice(), said);
+    }
+    let pieces = pieces(alloc, text.as_slice(), cut)?;
+    if name == "hear" {
+        return hearing::hear(client, pieces.as_slice(), said);
+    }
+    hearing::show(alloc, client, pieces.as_slice(), said)
 }
 
 /// `client LIMITS` takes a new client.

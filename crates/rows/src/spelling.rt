@@ -1,6 +1,7 @@
 //! Values on one line, in the words of `resp show`: `array [int 1, bulk "a"]`, `map {null: true}`,
 //! `attr {simple "ttl": int 3600} of int 3`.
 
+use resp_scan::event::Fault;
 use resp_value::value::Members;
 use resp_value::{Cause, Value, Version};
 use std::alloc::AllocError;
@@ -100,6 +101,27 @@ pub(crate) fn add_pushes(said: &mut String, pushes: &[Members]) -> Result<(), Al
 /// Adds the line of a refusal: the name of its cause, and its place.
 pub(crate) fn add_fault(said: &mut String, cause: Cause, at: u64) -> Result<(), AllocError> {
     writeln!(said, "refused: {} at {at}", cause.name())
+}
+
+/// Adds the line of a fault, and one where it isn't answered for good.
+pub(crate) fn add_final_fault(
+    said: &mut String,
+    fault: Fault,
+    is_final: bool,
+) -> Result<(), AllocError> {
+    add_fault(said, fault.cause, fault.at)?;
+    if !is_final {
+        said.push_str("the fault isn't answered again\n")?;
+    }
+    Ok(())
+}
+
+/// Whether a call answers this fault.
+pub(crate) fn is_refused<T: Drop>(answer: Result<T, Fault>, fault: Fault) -> bool {
+    match answer {
+        Ok(_) => false,
+        Err(answered) => answered == fault,
+    }
 }
 
 /// Adds a line of what a call answers: a word and the number, or another word and the error.

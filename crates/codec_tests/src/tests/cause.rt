@@ -2,89 +2,48 @@
 
 use super::check_equal;
 use resp_value::cause::{Cause, Limit};
-use std::alloc::{AllocError, Global};
 use std::process::Abort;
 
-/// A line for each cause, of its number and its name.
-fn lines(alloc: Global, causes: &[Cause]) -> Result<String, AllocError> {
-    let mut lines = String::new(alloc);
-    for cause in causes {
-        writeln!(lines, "{} {}", cause.number(), cause.name())?;
+/// Each cause with its number and its name.
+const CAUSES: [(Cause, u32, &str); 33] = [
+    (Cause::Syntax, 1, "Syntax"),
+    (Cause::Double, 2, "Double"),
+    (Cause::Version, 3, "Version"),
+    (Cause::NestedPush, 4, "NestedPush"),
+    (Cause::Range, 5, "Range"),
+    (Cause::Depth, 6, "Depth"),
+    (Cause::Length, 7, "Length"),
+    (Cause::Total, 8, "Total"),
+    (Cause::Truncated, 9, "Truncated"),
+    (Cause::OutOfMemory, 10, "OutOfMemory"),
+    (Cause::Streamed, 12, "Streamed"),
+    (Cause::Items, 13, "Items"),
+    (Cause::Unasked, 20, "Unasked"),
+    (Cause::TooLarge, 21, "TooLarge"),
+    (Cause::BadCommand, 22, "BadCommand"),
+    (Cause::TooMany, 24, "TooMany"),
+    (Cause::TooManySessions, 30, "TooManySessions"),
+    (Cause::NoSession, 31, "NoSession"),
+    (Cause::Closing, 32, "Closing"),
+    (Cause::NotInVersion, 40, "NotInVersion"),
+    (Cause::PushBelowTop, 41, "NestedPush"),
+    (Cause::OverLimits(Limit::Depth), 42, "OverLimits"),
+    (Cause::OverLimits(Limit::Length), 42, "OverLimits"),
+    (Cause::OverLimits(Limit::Items), 42, "OverLimits"),
+    (Cause::OverLimits(Limit::Total), 42, "OverLimits"),
+    (Cause::Read, 50, "Read"),
+    (Cause::Write, 51, "Write"),
+    (Cause::TooManyTurns, 52, "TooManyTurns"),
+    (Cause::Ended, 53, "Ended"),
+    (Cause::BadLine, 60, "BadLine"),
+    (Cause::BadDigits, 61, "BadDigits"),
+    (Cause::Busy, 62, "Busy"),
+    (Cause::BadLimits, 63, "BadLimits"),
+];
+
+#[test]
+fn numbers_and_names(rt: HostRuntime) {
+    for (cause, number, name) in &CAUSES {
+        check_equal(&rt, (cause.number(), cause.name()), (*number, *name));
     }
-    Ok(lines)
-}
-
-/// That these lines are said of these causes.
-fn check<R: Abort + AllocGlobal>(rt: &R, causes: &[Cause], wanted: &str) {
-    let said = lines(rt.alloc(), causes).expect(rt, "out of memory");
-    check_equal(rt, said.as_str(), wanted);
-}
-
-#[test]
-fn causes_of_what_is_read(rt: HostRuntime) {
-    let causes = [
-        Cause::Syntax,
-        Cause::Double,
-        Cause::Version,
-        Cause::NestedPush,
-        Cause::Range,
-        Cause::Depth,
-        Cause::Length,
-        Cause::Total,
-        Cause::Truncated,
-        Cause::OutOfMemory,
-        Cause::Streamed,
-        Cause::Items,
-    ];
-    let lines = "1 Syntax\n2 Double\n3 Version\n4 NestedPush\n5 Range\n6 Depth\n7 Length\n\
-        8 Total\n9 Truncated\n10 OutOfMemory\n12 Streamed\n13 Items\n";
-    check(&rt, &causes, lines);
-}
-
-#[test]
-fn causes_of_clients_and_servers(rt: HostRuntime) {
-    let causes = [
-        Cause::Unasked,
-        Cause::TooLarge,
-        Cause::BadCommand,
-        Cause::TooMany,
-        Cause::TooManySessions,
-        Cause::NoSession,
-        Cause::Closing,
-    ];
-    let lines = "20 Unasked\n21 TooLarge\n22 BadCommand\n24 TooMany\n30 TooManySessions\n\
-        31 NoSession\n32 Closing\n";
-    check(&rt, &causes, lines);
-}
-
-#[test]
-fn causes_of_what_is_encoded(rt: HostRuntime) {
-    let causes = [
-        Cause::NotInVersion,
-        Cause::PushBelowTop,
-        Cause::OverLimits(Limit::Depth),
-        Cause::OverLimits(Limit::Length),
-        Cause::OverLimits(Limit::Items),
-        Cause::OverLimits(Limit::Total),
-    ];
-    let lines = "40 NotInVersion\n41 NestedPush\n42 OverLimits\n42 OverLimits\n42 OverLimits\n\
-        42 OverLimits\n";
-    check(&rt, &causes, lines);
-}
-
-#[test]
-fn causes_of_devices_and_of_what_is_handed_in(rt: HostRuntime) {
-    let causes = [
-        Cause::Read,
-        Cause::Write,
-        Cause::TooManyTurns,
-        Cause::Ended,
-        Cause::BadLine,
-        Cause::BadDigits,
-        Cause::Busy,
-        Cause::BadLimits,
-    ];
-    let lines = "50 Read\n51 Write\n52 TooManyTurns\n53 Ended\n60 BadLine\n61 BadDigits\n62 Busy\n\
-        63 BadLimits\n";
-    check(&rt, &causes, lines);
 }

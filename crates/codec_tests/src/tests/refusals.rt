@@ -115,12 +115,6 @@ const FOUR: &[u8] = b"*4\r\n\
     $64\r\n0123456789abcdef0123456789abcdef0123456789abcdef0123456789abcdef\r\n\
     $64\r\n0123456789abcdef0123456789abcdef0123456789abcdef0123456789abcdef\r\n";
 
-#[test]
-fn over_total(rt: HostRuntime) {
-    check_size(&rt, Version::Two, FOUR, Some(288));
-    check_over(&rt, FOUR, Limit::Total);
-}
-
 /// Three of them: 217 bytes.
 const THREE: &[u8] = b"*3\r\n\
     $64\r\n0123456789abcdef0123456789abcdef0123456789abcdef0123456789abcdef\r\n\
@@ -128,7 +122,9 @@ const THREE: &[u8] = b"*3\r\n\
     $64\r\n0123456789abcdef0123456789abcdef0123456789abcdef0123456789abcdef\r\n";
 
 #[test]
-fn within_total(rt: HostRuntime) {
+fn total(rt: HostRuntime) {
+    check_size(&rt, Version::Two, FOUR, Some(288));
+    check_over(&rt, FOUR, Limit::Total);
     check_size(&rt, Version::Two, THREE, Some(217));
     check_small(&rt, THREE, Ok(THREE));
 }

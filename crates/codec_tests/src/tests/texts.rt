@@ -66,54 +66,42 @@ fn nulls(rt: HostRuntime) {
     check_text(&rt, b"$-1\r\n", b"_\r\n");
 }
 
+/// Texts that values have in version 3 as they are spelled here.
+const TEXTS: [&[u8]; 25] = [
+    b"_\r\n",
+    b"#t\r\n",
+    b"#f\r\n",
+    b":7\r\n",
+    b":0\r\n",
+    b":-12345\r\n",
+    b":-9223372036854775808\r\n",
+    b":9223372036854775807\r\n",
+    b"+OK\r\n",
+    b"-ERR no\r\n",
+    b"$0\r\n\r\n",
+    b"$10\r\nHello word\r\n",
+    b"!7\r\nERR x\r\n\r\n",
+    b"=15\r\ntxt:Some string\r\n",
+    b",3.14\r\n",
+    b",\r\n",
+    b",-nan\r\n",
+    b"%1\r\n,1\r\n,1.0\r\n",
+    b"|1\r\n,1\r\n+a\r\n,2\r\n",
+    b"*0\r\n",
+    b"*2\r\n:1\r\n_\r\n",
+    b"~1\r\n#t\r\n",
+    b">1\r\n$1\r\nx\r\n",
+    b"%1\r\n+a\r\n:1\r\n",
+    b"|1\r\n+a\r\n:1\r\n*1\r\n:3\r\n",
+];
+
 #[test]
-fn scalars(rt: HostRuntime) {
-    let texts = [
-        b"_\r\n".as_slice(),
-        b"#t\r\n",
-        b"#f\r\n",
-        b":7\r\n",
-        b":0\r\n",
-        b":-12345\r\n",
-        b":-9223372036854775808\r\n",
-        b":9223372036854775807\r\n",
-        b"+OK\r\n",
-        b"-ERR no\r\n",
-        b"$0\r\n\r\n",
-        b"$10\r\nHello word\r\n",
-        b"!7\r\nERR x\r\n\r\n",
-        b"=15\r\ntxt:Some string\r\n",
-    ];
-    check_texts(&rt, &texts);
+fn texts_of_values(rt: HostRuntime) {
+    check_texts(&rt, &TEXTS);
 }
 
 #[test]
 fn big_numbers(rt: HostRuntime) {
     check_text(&rt, b"(-00120\r\n", b"(-120\r\n");
     check_text(&rt, b"(-0\r\n", b"(0\r\n");
-}
-
-#[test]
-fn doubles(rt: HostRuntime) {
-    let texts = [
-        b",3.14\r\n".as_slice(),
-        b",\r\n",
-        b",-nan\r\n",
-        b"%1\r\n,1\r\n,1.0\r\n",
-        b"|1\r\n,1\r\n+a\r\n,2\r\n",
-    ];
-    check_texts(&rt, &texts);
-}
-
-#[test]
-fn aggregates(rt: HostRuntime) {
-    let texts = [
-        b"*0\r\n".as_slice(),
-        b"*2\r\n:1\r\n_\r\n",
-        b"~1\r\n#t\r\n",
-        b">1\r\n$1\r\nx\r\n",
-        b"%1\r\n+a\r\n:1\r\n",
-        b"|1\r\n+a\r\n:1\r\n*1\r\n:3\r\n",
-    ];
-    check_texts(&rt, &texts);
 }

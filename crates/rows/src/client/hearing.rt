@@ -1,22 +1,13 @@
 //! Rows of what a client hears.
 
-use crate::cut::{Cut, pieces};
-use crate::spelling::{add_fault, add_members, add_pushes, add_value};
-use crate::text::bytes;
+use crate::spelling::{add_fault, add_final_fault, add_members, add_pushes, add_value, is_refused};
 use anyhow::Result;
 use resp_client::{Client, Fault, Heard, PushList, PushSink, What};
 use std::alloc::{AllocError, Global};
 
 /// `hear TEXT` says each reply and each push of a text, and the fault where it is refused.
-pub(crate) fn hear(
-    alloc: Global,
-    client: &mut Client,
-    given: &str,
-    cut: Cut,
-    said: &mut String,
-) -> Result<()> {
-    let text = bytes(alloc, given)?;
-    for piece in pieces(alloc, text.as_slice(), cut)? {
+pub(crate) fn hear(client: &mut Client, pieces: &[&[u8]], said: &mut String) -> Result<()> {
+    for piece in pieces {
         if !hear_piece(client, piece, said)? {
             break;
         }
@@ -37,14 +28,12 @@ pub(crate) fn taken(client: &Client, said: &mut String) -> Result<()> {
 pub(crate) fn show(
     alloc: Global,
     client: &mut Client,
-    given: &str,
-    cut: Cut,
+    pieces: &[&[u8]],
     said: &mut String,
 ) -> Result<()> {
-    let text = bytes(alloc, given)?;
     let mut sink: Box<dyn PushSink> = Box::new(alloc, PushList::new(alloc))?;
-    for piece in pieces(alloc, text.as_slice(), cut)? {
-        let mut rest = piece;
+    for piece in pieces {
+        let mut rest = *piece;
         for _ in 0..=piece.len() {
             match client.feed_with(rest, &mut sink) {
                 Ok(Heard { used, what }) => {
@@ -87,30 +76,14 @@ fn say_refusal(
     fault: Fault,
     said: &mut String,
 ) -> Result<bool, AllocError> {
-    add_fault(said, fault.cause, fault.at)?;
-    if !is_refused(client, rest, fault) || !is_refused(client, b"", fault) {
-        said.push_str("the fault isn't answered again\n")?;
-    }
+    let is_final = is_refused(client.feed(rest), fault) && is_refused(client.feed(b""), fault);
+    add_final_fault(said, fault, is_final)?;
     Ok(false)
 }
 
-/// Whether a piece is refused by this fault.
-fn is_refused(client: &mut Client, piece: &[u8], fault: Fault) -> bool {
-    match client.feed(piece) {
-        Ok(_) => false,
-        Err(again) => again == fault,
-    }
-}
-
 /// `feed TEXT` is one call, and says how many bytes it used and what ended with them.
-pub(crate) fn feed(
-    alloc: Global,
-    client: &mut Client,
-    given: &str,
-    said: &mut String,
-) -> Result<()> {
-    let text = bytes(alloc, given)?;
-    say_heard(client.feed(text.as_slice()), said)?;
+pub(crate) fn feed(client: &mut Client, text: &[u8], said: &mut String) -> Result<()> {
+    say_heard(client.feed(text), said)?;
     Ok(())
 }
 

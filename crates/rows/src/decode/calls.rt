@@ -1,7 +1,7 @@
 //! The calls of a decoder, and what is said of their answers.
 
 use crate::cut::{Cut, pieces};
-use crate::spelling::{add_fault, add_value, add_values};
+use crate::spelling::{add_fault, add_final_fault, add_value, add_values, is_refused};
 use crate::text::{bytes, split, version};
 use anyhow::Result;
 use resp_decode::{Decoder, Fed, decode_all};
@@ -85,22 +85,12 @@ fn say_refusal(
     fault: Fault,
     said: &mut String,
 ) -> Result<bool, AllocError> {
-    add_fault(said, fault.cause, fault.at)?;
-    if !is_refused(decoder, rest, fault) || decoder.finish() != Err(fault) {
-        said.push_str("the fault isn't answered again\n")?;
-    }
+    let is_final = is_refused(decoder.feed(rest), fault) && decoder.finish() == Err(fault);
+    add_final_fault(said, fault, is_final)?;
     if decoder.taken() != fault.at || decoder.weight() != 0 {
         say_held(decoder, said)?;
     }
     Ok(false)
-}
-
-/// Whether a piece is refused by this fault.
-fn is_refused(decoder: &mut Decoder, piece: &[u8], fault: Fault) -> bool {
-    match decoder.feed(piece) {
-        Ok(_) => false,
-        Err(again) => again == fault,
-    }
 }
 
 /// Is one call, and says how many bytes it used and what value ended with them.

@@ -11,22 +11,10 @@ use Rattle.resp_value.specs.Kinds.{kind_of}
 use Rattle.resp_encode.proofs.Attempted.{inside_tried, one_more_tried, attribute_pairs_tried, annotated_tried, is_below, is_whole}
 use Rattle.resp_encode.proofs.Counts.{count-map, count-in_turn, count-annotated}
 use Rattle.resp_encode.proofs.Extended.{data_of_list-push}
-use Rattle.resp_encode.proofs.SoFar.{data-take_more, pairs-take_more}
+use Rattle.resp_encode.proofs.Parts.{map_data, attr_data}
+use Rattle.resp_encode.proofs.SoFar.{data-take_more, pairs-taken}
 use Rattle.resp_encode.proofs.attempt.+attempt.Goals as goal
 use Rattle.resp_encode.proofs.attempt.+attempt.Goals.{attempt_value-After-attempt_annotated}
-
--- the data of a map, at equal pairs
-map_data : {ps qs : List (Value × Value)} → ps ≡ qs → aggregate d.Map (data_of_list (in_turn (map pair_data ps))) ≡
-    aggregate d.Map (data_of_list (in_turn (map pair_data qs)))
-map_data same = ap (λ ps. aggregate d.Map (data_of_list (in_turn (map pair_data ps)))) same
-
--- the data of an attribute, at equal parts
-attr_data : {ps qs : List (Value × Value)} {x y : Value} → ps ≡ qs → x ≡ y →
-    aggregate d.Attr (data_of_list (in_turn (map pair_data ps) ++ datum_of x ∷ [])) ≡
-    aggregate d.Attr (data_of_list (in_turn (map pair_data qs) ++ datum_of y ∷ []))
-attr_data {qs = qs} {x = x} same under = ap (λ ps. aggregate d.Attr
-    (data_of_list (in_turn (map pair_data ps) ++ datum_of x ∷ []))) same ∙
-    ap (λ z. aggregate d.Attr (data_of_list (in_turn (map pair_data qs) ++ datum_of z ∷ []))) under
 
 pub attempt_value-returns-in-Null-clause-attempt : goal.attempt_value-returns-in-Null-clause-attempt
 attempt_value-returns-in-Null-clause-attempt t c =
@@ -203,11 +191,9 @@ attempt_value-returns-else-not-attempt_attribute_pairs-clause-no_push t c =
 
 pub attempt_pairs-loop-pair-preserved : goal.attempt_pairs-loop-pair-preserved
 attempt_pairs-loop-pair-preserved t c =
-    let i = c.loop-pair.pair-index in
-    let front = data_of_list (in_turn (map pair_data (take i c.args.pairs.now))) in
+    let front = data_of_list (in_turn (map pair_data (take c.loop-pair.pair-index c.args.pairs.now))) in
     let key = datum_of c.pair-item.result.0 in
-    let one_more = pairs-take_more pair_data c.args.pairs.now i c.pair-item.result c.loop-pair-test.true ∙
-    ap (λ pair. extended (extended front (pair_data pair).0) (pair_data pair).1) (sym c.pair-item.is) in
+    let one_more = pairs-taken pair_data c.args.pairs.now c.loop-pair.pair-index c.pair-item.result c.loop-pair-test.true c.pair-item.is in
     let first = one_more_tried c.args.version c.args.limits.now c.args.deeper front key true c.loop-pair.invariant.whole
     c.loop-pair.invariant.suits
     c.if-not-attempt_value.ensures.attempt c.if-not-attempt_value.ensures.no_push in

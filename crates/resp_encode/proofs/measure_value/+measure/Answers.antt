@@ -9,20 +9,9 @@ use Rattle.resp_value.specs.declared.value.Value.{Value}
 use Rattle.resp_encode.specs.Walks.Measures.{Describes, DescribesEach}
 use Rattle.resp_encode.proofs.Counts.{count-map, count-in_turn, count-annotated}
 use Rattle.resp_encode.proofs.Extended.{data_of_list-push, values_with}
-use Rattle.resp_encode.proofs.SoFar.{data-take_more, pairs-take_more}
+use Rattle.resp_encode.proofs.Parts.{map_data, attr_data}
+use Rattle.resp_encode.proofs.SoFar.{data-take_more, pairs-taken}
 use Rattle.resp_encode.proofs.measure_value.+measure.Goals as goal
-
--- the data of a map and of an attribute, at equal parts
-map_data : {ps qs : List (Value × Value)} → ps ≡ qs → aggregate d.Map (data_of_list (in_turn (map pair_data ps))) ≡
-    aggregate d.Map (data_of_list (in_turn (map pair_data qs)))
-map_data same = ap (λ ps. aggregate d.Map (data_of_list (in_turn (map pair_data ps)))) same
-
-attr_data : {ps qs : List (Value × Value)} {x y : Value} → ps ≡ qs → x ≡ y →
-    aggregate d.Attr (data_of_list (in_turn (map pair_data ps) ++ datum_of x ∷ [])) ≡
-    aggregate d.Attr (data_of_list (in_turn (map pair_data qs) ++ datum_of y ∷ []))
-attr_data {qs = qs} {x = x} same under = ap (λ ps. aggregate d.Attr
-    (data_of_list (in_turn (map pair_data ps) ++ datum_of x ∷ []))) same ∙
-    ap (λ z. aggregate d.Attr (data_of_list (in_turn (map pair_data qs) ++ datum_of z ∷ []))) under
 
 pub measure_value-returns-in-Bool-clause-found : goal.measure_value-returns-in-Bool-clause-found
 measure_value-returns-in-Bool-clause-found t c = subst (λ x. Describes c.args.version x c.measure_bool.result)
@@ -188,11 +177,9 @@ measure_pairs-loop-pair-init t c = record { found = c.nothing-found.ensures c.ar
 
 pub measure_pairs-loop-pair-preserved : goal.measure_pairs-loop-pair-preserved
 measure_pairs-loop-pair-preserved t c =
-    let i = c.loop-pair.pair-index in
-    let front = data_of_list (in_turn (map pair_data (take i c.args.pairs.now))) in
+    let front = data_of_list (in_turn (map pair_data (take c.loop-pair.pair-index c.args.pairs.now))) in
     let key = datum_of c.pair-item.result.0 in
-    let one_more = pairs-take_more pair_data c.args.pairs.now i c.pair-item.result c.loop-pair-test.true ∙
-    ap (λ pair. extended (extended front (pair_data pair).0) (pair_data pair).1) (sym c.pair-item.is) in
+    let one_more = pairs-taken pair_data c.args.pairs.now c.loop-pair.pair-index c.pair-item.result c.loop-pair-test.true c.pair-item.is in
     record {
       found = subst (λ xs. DescribesEach c.args.version xs c.with-found-in-loop-pair.result) (sym one_more)
           (c.with-found-in-loop-pair.ensures c.args.version (extended front key) _

@@ -1,4 +1,4 @@
-use Rattle.std.proofs.Common.{◌++◌, [], length, map, take, sym, ap, ◌∙◌, subst, arith, length-append}
+use Rattle.std.proofs.Common.{◌++◌, [], length, map, sym, ap, ◌∙◌, subst, arith, length-append}
 use Rattle.std.proofs.lemmas.List.{take_all, length-map}
 use Rattle.resp_value.specs.Bytes.{crlf}
 use Rattle.resp_value.specs.Data.{data_of_list}
@@ -7,8 +7,7 @@ use Rattle.resp_value.specs.Canonical.{canonical_trees}
 use Rattle.resp_value.specs.declared.version.Version.TheVariants.{Two}
 use Rattle.resp_value.specs.Words.{word_datum, texts_of}
 use Rattle.resp_encode.specs.Walks.Writings.{Fills}
-use Rattle.resp_encode.proofs.Extended.{texts-extended}
-use Rattle.resp_encode.proofs.SoFar.{word_take_more, word_room}
+use Rattle.resp_encode.proofs.SoFar.{word_text_more, word_room}
 use Rattle.resp_encode.proofs.Texts.{Writes-none, Writes-append, length-head}
 use Rattle.resp_encode.proofs.words.write_each.Goals as goal
 
@@ -30,13 +29,9 @@ write_string-requires c =
 
 pub loop-word-preserved : goal.loop-word-preserved
 loop-word-preserved c =
-    let i = c.loop-word.word-index in
-    let front = data_of_list (map word_datum (take i (texts_of c.args.words.now))) in
-    let word = word_datum c.as_slice.result.now in
-    let one_more = word_take_more c.args.words.now i c.word-item.result c.loop-word-test.true
-    (c.as_slice.ensures.value ∙ ap (λ w. w.items) c.word-item.is) in
     subst (Fills c.args.out.now c.write_string.new.out)
-    (sym (ap (λ xs. texts (canonical_trees Two xs)) one_more ∙ texts-extended Two front word))
+    (sym (word_text_more c.args.words.now c.loop-word.word-index c.word-item.result c.loop-word-test.true
+    (c.as_slice.ensures.value ∙ ap (λ w. w.items) c.word-item.is)))
     (Writes-append c.loop-word.invariant c.write_string.ensures)
 
 pub returns : goal.returns

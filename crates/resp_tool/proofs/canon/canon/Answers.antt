@@ -1,5 +1,5 @@
 use Rattle.std.proofs.Common.{refl}
-use Rattle.resp_tool.proofs.Scanned.{no_value_at_start}
+use Rattle.resp_decode.proofs.Feeding.{no_value_at_start}
 use Rattle.resp_tool.proofs.canon.canon.Goals as goal
 
 pub render_stream-requires-clause-nothing_taken : goal.render_stream-requires-clause-nothing_taken

@@ -1,7 +1,7 @@
 use Rattle.std.proofs.Common.{◌≡◌, [], Err, refl, ap, subst}
 use Rattle.resp_value.specs.Rules.{rules_under}
 use Rattle.resp_tool.specs.Counts.{IsAny, LeavesNothing, no_text}
-use Rattle.resp_tool.specs.Streams.{RendersCounted, RendersStopped}
+use Rattle.resp_tool.specs.Streams.{RendersStopped}
 use Rattle.resp_tool.specs.declared.tool_error.ToolError.TheVariants.{Write}
 use Rattle.resp_tool.proofs.Counted.{counts_all, counts_part, counts_stopped}
 use Rattle.resp_tool.proofs.Scanned.{scanned_nothing}
@@ -23,25 +23,13 @@ returns-in-Err-clause-counted g c =
 
 pub returns-in-Ok-write_counts-clause-counted : goal.returns-in-Ok-write_counts-clause-counted
 returns-in-Ok-write_counts-clause-counted g c =
-    let (bytes, read, rendered) = c.in-Ok.ensures.rendered in (
-      bytes,
-      read,
-      counts_all (rules_under c.args.version c.args.limits.now) bytes (g.W.Sink.written c.args.writer.now) (g.W.Sink.written c.render_stream.new.writer)
-          (g.W.Sink.written c.write_counts.new.writer) c.in-Ok.totals
-          (subst (λ r. RendersCounted r no_text IsAny bytes (g.W.Sink.written c.args.writer.now) (g.W.Sink.written c.render_stream.new.writer) c.in-Ok.totals)
-          c.new.ensures.rules rendered) c.in-Ok-write_counts.ensures.0,
-    )
+    let (bytes, read, rendered) = c.in-Ok.ensures.rendered in
+    (bytes, read, counts_all _ c.new.ensures.rules rendered c.in-Ok-write_counts.ensures.0)
 
 pub returns-in-Err-write_counts-clause-counted : goal.returns-in-Err-write_counts-clause-counted
 returns-in-Err-write_counts-clause-counted g c =
-    let (bytes, read, rendered) = c.in-Ok.ensures.rendered in (
-      bytes,
-      read,
-      counts_part (rules_under c.args.version c.args.limits.now) bytes (g.W.Sink.written c.args.writer.now) (g.W.Sink.written c.render_stream.new.writer)
-          (g.W.Sink.written c.write_counts.new.writer) c.in-Ok.totals
-          (subst (λ r. RendersCounted r no_text IsAny bytes (g.W.Sink.written c.args.writer.now) (g.W.Sink.written c.render_stream.new.writer) c.in-Ok.totals)
-          c.new.ensures.rules rendered) c.in-Err-write_counts.ensures.0,
-    )
+    let (bytes, read, rendered) = c.in-Ok.ensures.rendered in
+    (bytes, read, counts_part c.new.ensures.rules rendered c.in-Err-write_counts.ensures.0)
 
 pub returns-in-Err-clause-read_before_written : goal.returns-in-Err-clause-read_before_written
 returns-in-Err-clause-read_before_written g c is_write =

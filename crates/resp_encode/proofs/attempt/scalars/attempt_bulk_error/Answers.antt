@@ -1,9 +1,8 @@
-use Rattle.std.proofs.Common.{ℕ, ◌++◌, [], true, length, subst, arith, length-append}
+use Rattle.std.proofs.Common.{◌++◌, [], length, arith, length-append}
 use Rattle.resp_value.specs.Bytes.{crlf}
 use Rattle.resp_value.specs.Data.{scalar}
 use Rattle.resp_value.specs.Data as d
-use Rattle.resp_encode.specs.Walks.Attempts.{Attempt}
-use Rattle.resp_encode.proofs.Attempted.{scalar_done}
+use Rattle.resp_encode.proofs.Attempted.{text_done}
 use Rattle.resp_encode.proofs.Texts.{length-head}
 use Rattle.resp_encode.proofs.attempt.scalars.attempt_bulk_error.Goals as goal
 
@@ -15,10 +14,5 @@ write_string-requires c =
     omega (arith, fits.room, length-head 33 (length bytes) (bytes ++ crlf []), length-append bytes (crlf []))
 
 pub returns : goal.returns
-returns c =
-    let fits = c.if-not-suits.ensures (scalar (d.BulkError c.list-bytes.result.now))
-    (c.measure_bulk_error-found.ensures.found c.args.version) in
-    subst (λ bytes. (deeper : ℕ) → Attempt c.args.version c.args.limits.now deeper (scalar (d.BulkError bytes))
-    c.args.out.now c.write_string.new.out true)
-    c.list-bytes.ensures
-    (scalar_done fits c.measure_bulk_error-found.ensures.is_text c.write_string.ensures)
+returns c = text_done (λ s. d.BulkError s) c.list-bytes.ensures (c.if-not-suits.ensures _ (c.measure_bulk_error-found.ensures.found c.args.version))
+    c.measure_bulk_error-found.ensures.is_text c.write_string.ensures

@@ -1,26 +1,11 @@
-use Rattle.std.proofs.Common.{ℕ, [], true, subst, arith, length-append}
-use Rattle.resp_value.specs.Bytes.{crlf}
-use Rattle.resp_value.specs.Data.{scalar}
+use Rattle.std.proofs.Common.{refl}
 use Rattle.resp_value.specs.Data as d
-use Rattle.resp_encode.specs.Walks.Attempts.{Attempt}
-use Rattle.resp_encode.proofs.Attempted.{scalar_done}
+use Rattle.resp_encode.proofs.Attempted.{line_room, text_done}
 use Rattle.resp_encode.proofs.attempt.scalars.attempt_error.Goals as goal
 
 pub write_line-requires : goal.write_line-requires
-write_line-requires c =
-    let text = c.text-text.result.now in
-    omega (
-      arith,
-      length-append text (crlf []),
-      (c.if-not-suits.ensures (scalar (d.Error text))
-          (c.measure_line-found.ensures.error c.args.version)).room,
-    )
+write_line-requires c = line_room 45 c.text-text.result.now _ (c.if-not-suits.ensures _ (c.measure_line-found.ensures.error c.args.version)) refl
 
 pub returns : goal.returns
-returns c =
-    let fits = c.if-not-suits.ensures (scalar (d.Error c.text-text.result.now))
-    (c.measure_line-found.ensures.error c.args.version) in
-    subst (λ text. (deeper : ℕ) → Attempt c.args.version c.args.limits.now deeper (scalar (d.Error text)) c.args.out.now
-    c.write_line.new.out true)
-    c.text-text.ensures.text
-    (scalar_done fits (c.text-text.ensures.is_line, c.measure_line-found.ensures.is_text) c.write_line.ensures)
+returns c = text_done (λ s. d.Error s) c.text-text.ensures.text (c.if-not-suits.ensures _ (c.measure_line-found.ensures.error c.args.version))
+    (c.text-text.ensures.is_line, c.measure_line-found.ensures.is_text) c.write_line.ensures

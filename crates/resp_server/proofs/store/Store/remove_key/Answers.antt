@@ -23,9 +23,8 @@ returns-in_default-clause-removed g c =
 pub index_mut-requires : goal.index_mut-requires
 index_mut-requires g c =
     let i = c.self.inside in
-    let rows = i.rows.entries in
     let gone : Bytes × Row = (c.in-Some-swap_remove_index.field-0-0, c.in-Some-swap_remove_index.row) in
-    let at : slice_get rows c.in-Some.index ≡ Some gone = sym c.swap_remove_index.ensures.entry ∙ c.in-Some-swap_remove_index.is in
+    let at : slice_get i.rows.entries c.in-Some.index ≡ Some gone = sym c.swap_remove_index.ensures.entry ∙ c.in-Some-swap_remove_index.is in
     let within = slice_get_within i.places.items gone.1.place (Some c.in-Some.index) (c.self.invariant.there c.in-Some.index gone at) in
     let size = i.places.ok.0 in
     omega (arith, within, size)

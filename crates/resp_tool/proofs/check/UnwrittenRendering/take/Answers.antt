@@ -22,7 +22,7 @@ returns-in-Err-Fault-clause-takes g c = λ front so_far looked.
     let heard = λ (es : Events). Unit {0} in
     let is : c.in-Err-Fault.field-0 ≡ stop.Fault c.in-Err-Fault.fault = search rules in
     looks_refused r c.args.self.now.scanner heard front c.args.piece.now so_far (g.W.Sink.written c.args._writer.now) c.in-Err-Fault.fault
-    c.fronts_of_viable_texts_are_viable.ensures looked
+    looked
     (λ given reads. subst (λ z. OnFault z (HearsRefusal r heard front c.args.piece.now)) is (c.in-Err-Fault.ensures.refusal tt front given reads tt))
 
 -- a listener that never stops doesn't

@@ -36,7 +36,7 @@ returns-in-Ok-end_line-clause-takes g c = λ front so_far h.
     (c.in-Err-Fault.ensures.refusal since front h.given h.scanned.reads before) in
     shows_refused r since front c.args.piece.now c.print_piece.new.lines (g.W.Sink.written c.print_piece.new.writer)
     (g.W.Sink.written c.end_line.new.writer) (g.W.Sink.failures c.print_piece.new.writer) c.in-Err-Fault.fault
-    c.fronts_of_viable_texts_are_viable.ensures refused c.in-Ok-end_line.ensures.0
+    refused c.in-Ok-end_line.ensures.0
 
 pub returns-in-Ok-end_line-clause-write_failures : goal.returns-in-Ok-end_line-clause-write_failures
 returns-in-Ok-end_line-clause-write_failures g c =
