@@ -11,9 +11,13 @@ use crate::server::{Kind, command as text_of, new_hub};
 use crate::{end_line, has, nanos};
 use anyhow::Result;
 use bytes::BytesMut;
-use futures::{FutureExt, StreamExt};
+use futures::TryStreamExt;
+use futures::future::{Future, ready};
+use futures::task::Poll;
+use futures::test::MockTask;
 use resp_client::client::Client;
-use resp_codec::{CommandCodec, RespCodec};
+use resp_codec::{CodecError, CommandCodec, RespCodec};
+use resp_encode::EncodeError;
 use resp_value::command::Command;
 use resp_value::content::Content;
 use resp_value::device::{MemorySink, MemorySource};
@@ -51,76 +55,94 @@ fn get(alloc: Global) -> Result<Value, AllocError> {
     Ok(Value::Array(Members::new(vec![in alloc; name, key]?)))
 }
 
-/// Reads all commands of a text by a framed stream, and encodes null for each. How many there were,
-/// and how many bytes were written.
-fn answer_all(rt: &HostRuntime, text: &[u8]) -> Result<(usize, usize)> {
-    let alloc = rt.alloc();
-    let codec = CommandCodec::new(alloc, &Limits::standard());
-    let commands = FramedRead::with_capacity(alloc, text, codec, PIECE)?;
-    let mut commands = commands.ready_chunks(alloc, ITEMS);
-    let mut replies = Written::new(alloc);
-    let mut codec = CommandCodec::new(alloc, &Limits::standard());
+/// Polls a future until it is ready.
+fn ready_of<F: Future>(rt: &HostRuntime, future: F) -> Result<Option<F::Output>>
+    requires { F.can_poll future }
+{
+    let mut future = future;
+    let task = MockTask::new(rt)?;
     for _ in 0..u64::MAX {
-        match commands.next().now_or_never(rt)? {
-            Some(Some(chunk)) => {
-                for _ in chunk? {
-                    codec.encode(Value::Null, &mut replies.out)?;
-                    replies.add();
-                }
-            }
-            Some(None) => break,
-            None => {}
+        if let Poll::Ready(output) = task.poll(&mut future) {
+            return Ok(Some(output));
         }
     }
-    Ok((replies.items, replies.bytes))
-}
-
-/// Reads all replies of a text by a framed stream, and encodes a GET for each. How many there were,
-/// and how many bytes were written.
-fn hear_all(rt: &HostRuntime, text: &[u8]) -> Result<(usize, usize)> {
-    let alloc = rt.alloc();
-    let codec = RespCodec::new(alloc, Version::Two, &Limits::standard());
-    let replies = FramedRead::with_capacity(alloc, text, codec, PIECE)?;
-    let mut replies = replies.ready_chunks(alloc, ITEMS);
-    let mut commands = Written::new(alloc);
-    let mut codec = RespCodec::new(alloc, Version::Two, &Limits::standard());
-    for _ in 0..u64::MAX {
-        match replies.next().now_or_never(rt)? {
-            Some(Some(chunk)) => {
-                for _ in chunk? {
-                    codec.encode(get(alloc)?, &mut commands.out)?;
-                    commands.add();
-                }
-            }
-            Some(None) => break,
-            None => {}
-        }
-    }
-    Ok((commands.items, commands.bytes))
+    Ok(None)
 }
 
 /// What was encoded: a buffer that is emptied after each item, and what is counted.
 #[derive(Drop)]
-struct Written {
+struct Written<C> {
+    codec: C,
     out: BytesMut,
     items: usize,
     bytes: usize,
 }
 
-impl Written {
-    fn new(alloc: Global) -> Written {
+impl<C: Encoder<Value, Error = CodecError> + Drop> Written<C> {
+    fn new(alloc: Global, codec: C) -> Written<C> {
         Written {
+            codec,
             out: BytesMut::new(alloc),
             items: 0,
             bytes: 0,
         }
     }
 
-    /// Counts an item, whose frame is in the buffer.
-    fn add(&mut self) {
-        self.items = self.items.saturating_add(1);
-        self.bytes = self.bytes.saturating_add(self.out.len());
-        self.out.clear();
+    /// Encodes a value, and counts it and its bytes.
+    fn add(self, value: Value) -> Result<Written<C>, CodecError> {
+        let mut written = self;
+        written.out.clear();
+        written.codec.encode(value, &mut written.out)?;
+        written.items = written.items.saturating_add(1);
+        written.bytes = written.bytes.saturating_add(written.out.len());
+        Ok(written)
+    }
+
+    /// How many there were, and how many bytes.
+    fn counted(&self) -> (usize, usize) {
+        (self.items, self.bytes)
+    }
+}
+
+/// Encodes a GET.
+fn add_get(alloc: Global, written: Written<RespCodec>) -> Result<Written<RespCodec>, CodecError> {
+    match get(alloc) {
+        Ok(get) => written.add(get),
+        Err(_) => Err(CodecError::Refused(EncodeError::OutOfMemory)),
+    }
+}
+
+/// Reads all commands of a text by a framed stream, and encodes null for each. How many there were,
+/// and how many bytes were written.
+fn answer_all(rt: &HostRuntime, text: &[u8]) -> Result<(usize, usize)> {
+    let alloc = rt.alloc();
+    let limits = Limits::standard();
+    let commands = FramedRead::with_capacity(
+        alloc,
+        text,
+        CommandCodec::new(alloc, &limits),
+        PIECE,
+    )?;
+    let replies = Written::new(alloc, CommandCodec::new(alloc, &limits));
+    let all = commands.try_fold(replies, |replies, _| ready(replies.add(Value::Null)));
+    match ready_of(rt, all)? {
+        Some(replies) => Ok(replies?.counted()),
+        None => Ok((0, 0)),
+    }
+}
+
+/// Reads all replies of a text by a framed stream, and encodes a GET for each. How many there were,
+/// and how many bytes were written.
+fn hear_all(rt: &HostRuntime, text: &[u8]) -> Result<(usize, usize)> {
+    let alloc = rt.alloc();
+    let limits = Limits::standard();
+    let codec = RespCodec::new(alloc, Version::Two, &limits);
+    let replies = FramedRead::with_capacity(alloc, text, codec, PIECE)?;
+    let commands = Written::new(alloc, RespCodec::new(alloc, Version::Two, &limits));
+    let all = replies.try_fold(commands, |commands, _| ready(add_get(alloc, commands)));
+    match ready_of(rt, all)? {
+        Some(commands) => Ok(commands?.counted()),
+        None => Ok((0, 0)),
     }
 }
 
