@@ -22,6 +22,7 @@ mod literals;
 mod machine;
 mod needed;
 pub mod scanner;
+mod short_arrays;
 pub mod slot;
 mod start;
 mod step;
