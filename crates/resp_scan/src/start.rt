@@ -45,7 +45,7 @@ impl Machine {
                 let needed = if self.is_full() { 4 } else { 3 };
                 match self.begin(needed) {
                     Some(cause) => self.fail(0, cause),
-                    None => self.array_head(piece, 1),
+                    None => self.array_begins(piece),
                 }
             }
             b'.' => self.close(piece),
