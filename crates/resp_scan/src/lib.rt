@@ -22,4 +22,15 @@ mod literals;
 mod machine;
 mod needed;
 pub mod scanner;
+mod short;
 mod short_arrays;
+pub mod slot;
+mod start;
+mod step;
+mod step_into;
+
+pub use event::{Busy, Event, Fault, ScanError, Scanned, Step, TextKind};
+pub use listener::Listener;
+pub use resp_value::kind::OpenKind;
+pub use scanner::Scanner;
+pub use slot::Slot;
