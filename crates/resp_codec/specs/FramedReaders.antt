@@ -14,7 +14,8 @@ use Rattle.resp_codec.specs.declared.error.CodecError.{CodecError}
 use Rattle.resp_codec.specs.declared.error.CodecError.TheVariants as error
 
 -- these are all bytes that a reader gives from here on
-pub record IsRestOfInput {S : Type 0} (reads : Passes S) (is_at_end : S → Type 0) (io : S) (bytes : List ℕ) : Type 0 where
+pub record IsRestOfInput {S : Type 0} (reads : Passes S) (is_at_end : S → Type 0) (io : S) (bytes : List ℕ) :
+    Type 0 where
   pub last : S
   pub passed : reads io bytes last
   pub at_end : is_at_end last

@@ -40,7 +40,8 @@ pub record TakesPart (d : Decoder) (buffer : List ℕ) (after : Decoder) (left :
 
 -- Within the first bytes of the buffer a byte is refused, the first after which nothing can follow, or no memory was
 -- found. A fault that stands is answered again. It stands from then on, and what is left is an end of the buffer.
-pub record RefusesBuffer (d : Decoder) (buffer : List ℕ) (fault : Fault) (after : Decoder) (left : List ℕ) : Type 0 where
+pub record RefusesBuffer (d : Decoder) (buffer : List ℕ) (fault : Fault) (after : Decoder) (left : List ℕ) :
+    Type 0 where
   pub seen : List ℕ
   pub beyond : List ℕ
   pub begins : buffer ≡ seen ++ beyond

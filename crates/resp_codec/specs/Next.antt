@@ -26,7 +26,8 @@ abbrev pub gives_by : {C T S : Type 0} → ItemReading C T S → Gives C T Codec
 gives_by r c buffer (decoded (Ok item) t left) =
     (x : Datum) × r.Is item x × ValueEnds (r.decoder c) buffer x (r.decoder t) left × IsSame r c t
 gives_by r c buffer (decoded (Err e) t left) =
-    (fault : Fault) × (e ≡ error.Fault fault) × RefusesBuffer (r.decoder c) buffer fault (r.decoder t) left × IsSame r c t
+    (fault : Fault) × (e ≡ error.Fault fault) × RefusesBuffer (r.decoder c) buffer fault (r.decoder t) left ×
+    IsSame r c t
 gives_by r c buffer partial = IsBegun (r.decoder c) buffer
 gives_by r c buffer (at_end (Ok (Some item)) t left) = ⊥
 gives_by r c buffer (at_end (Ok None) t left) =

@@ -24,7 +24,7 @@ use resp_decode::Decoder;
 use resp_encode::{EncodeError, EncodeToError, encode};
 use resp_scan::event::Fault;
 use resp_value::cause::Cause;
-use resp_value::device::{DeviceFault, Sink};
+use resp_value::device::{DeviceFault, Sink, write_all};
 use resp_value::laws;
 use resp_value::limits::Limits;
 use resp_value::value::Value;
@@ -154,7 +154,7 @@ fn write_canonical<W: Sink>(
 {
     text.clear();
     encode(version, limits, value, text)?;
-    match write_text(writer, text.as_slice()) {
+    match write_all(writer, text.as_slice()) {
         Ok(()) => Ok(()),
         Err(fault) => Err(EncodeToError::Write {
             written: fault.written as u64,
