@@ -21,7 +21,7 @@ impl Machine {
     ghost use Rattle.resp_scan.specs.Machine.Fields.{place_of, out_of};
 
     /// After the `*` at the front of the piece, as [`Machine::array_head`].
-    #[inline(always)]
+    #[inline(never)]
     pub fn array_begins(&mut self, piece: &[u8]) -> Taken
         requires { 1 ≤ length piece.now }
         ensures { out_of result self.new ≡
