@@ -1,8 +1,8 @@
 -- Texts that are answered one after another, of which nothing was written.
 use Rattle.std.specs.Option.{option_map}
-use Rattle.std.proofs.Common.{◌≡◌, inl, inr, ℕ, ◌+◌, Bool, true, false, Some, List, [], ◌++◌, take, drop, replicate, refl, sym, ap, subst, ◌∙◌, arith, append_assoc}
+use Rattle.std.proofs.Common.{◌≡◌, inl, inr, ℕ, ◌+◌, Bool, true, false, Some, List, [], ◌++◌, length, min, take, drop, replicate, refl, sym, ap, subst, ◌∙◌, arith, append_assoc}
 use Rattle.std.proofs.Math.Seq.{take-add}
-use Rattle.std.proofs.lemmas.List.{append-nil, drop-drop, replicate-append-replicate}
+use Rattle.std.proofs.lemmas.List.{append-nil, drop-drop, replicate-append-replicate, take_min}
 use Rattle.resp_value.specs.Devices.{HasRisen}
 use Rattle.resp_value.specs.declared.cause.Cause.{Cause}
 use Rattle.resp_session.specs.AnswerLaws.{AnswersAreAdded, AnswersGoOn}
@@ -13,7 +13,7 @@ use Rattle.resp_server.specs.Handling.{HasAnswered, WhereOpen}
 use Rattle.resp_server.specs.Hubs.{HubState, Seat, seat_at, seated, stocked}
 use Rattle.resp_wire.specs.Carrying.{HasBrought, HasClosed, StopsCarrying}
 use Rattle.resp_wire.specs.Serving.{IsClosing}
-use Rattle.resp_wire.proofs.Seated.{at_open, seated_twice}
+use Rattle.resp_wire.proofs.Seated.{at_open, seated_twice, where_open}
 use Rattle.resp_wire.proofs.ServedTexts.{seat_given, seat_with}
 
 -- the session after an answer
@@ -108,14 +108,15 @@ after_brought old mid id s text order order' number P here h w =
     let t = seat_after old mid id s text h.commands a in
     at_open mid id P t a.rest w (seat_given old mid id s t a.store here a.state) h.is_open (a.taking h.is_open)
 
-pub brings_more : AnswersGoOn → AnswersAreAdded → (old mid new : HubState) (id : ℕ) (s : Seat) (front out order order' order'' : List ℕ)
-    (number done n : ℕ) → seat_at old id ≡ Some s → HasBrought old mid id s (front ++ take done out) order order' number →
+pub brings_more : AnswersGoOn → AnswersAreAdded → (old mid new : HubState) (id : ℕ) (out order order' order'' : List ℕ) (number done n : ℕ) →
+    WhereOpen old id (λ s front. HasBrought old mid id s (front ++ take done out) order order' number) →
     WhereOpen mid id (λ t f. HasBrought mid new id t (f ++ take n (drop done out)) order' order'' number) →
-    HasBrought old new id s (front ++ take (done + n) out) order order'' number
+    WhereOpen old id (λ s front. HasBrought old new id s (front ++ take (done + n) out) order order'' number)
 unfolding answered_on
-brings_more go_on added old mid new id s front out order order' order'' number done n here h more =
+brings_more go_on added old mid new id out order order' order'' number done n so_far more = where_open old id _ (λ s here not_closing front taken.
     let first = front ++ take done out in
     let piece = take n (drop done out) in
+    let h = at_open old id (λ t f. HasBrought old mid id t (f ++ take done out) order order' number) s front so_far here not_closing taken in
     let b = after_brought old mid id s first order order' number (λ t f. HasBrought mid new id t (f ++ piece) order' order'' number) here h more in
     subst (λ z. HasBrought old new id s z order order'' number) (text_on front out done n) (record {
       commands = h.commands + b.commands;
@@ -123,7 +124,14 @@ brings_more go_on added old mid new id s front out order order' order'' number d
       is_open = b.is_open;
       added = b.added ∙ ap (λ l. l ++ replicate b.commands number) h.added ∙ append_assoc order (replicate h.commands number) (replicate b.commands number) ∙
           ap (λ l. order ++ l) (replicate-append-replicate h.commands b.commands number);
-    })
+    }))
+
+-- all that was to be brought, or all that waited
+pub brings_whole : (old new : HubState) (id : ℕ) (out order order' : List ℕ) (number done count : ℕ) → done ≡ min count (length out) →
+    WhereOpen old id (λ s front. HasBrought old new id s (front ++ take done out) order order' number) →
+    WhereOpen old id (λ s front. HasBrought old new id s (front ++ take count out) order order' number)
+brings_whole old new id out order order' number done count all =
+    subst (λ z. WhereOpen old id (λ s front. HasBrought old new id s (front ++ z) order order' number)) (ap (λ k. take k out) all ∙ take_min count out)
 
 -- the session was closed by what came after
 closes_more : AnswersGoOn → AnswersAreAdded → (old mid : HubState) (id : ℕ) (s : Seat) (front out order order' : List ℕ) (number done : ℕ) →

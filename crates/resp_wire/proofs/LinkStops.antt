@@ -50,11 +50,8 @@ not_of_link cause.BadLimits few = refl
 pub push_of_no_link : (error : PushError) → IfErr (outcome_of_push error) (λ c. is_of_link c ≡ false)
 push_of_no_link push.NoSession = refl
 push_of_no_link push.Closing = refl
-push_of_no_link push.NotInVersion = tt
-push_of_no_link push.Double = tt
-push_of_no_link push.NestedPush = tt
-push_of_no_link (push.OverLimits limit) = tt
 push_of_no_link push.OutOfMemory = refl
+push_of_no_link _ = tt
 
 -- memory is no cause of links
 pub of_no_link : {T : Type 0} (r : Result T Cause) → IfErr r (λ c. c ≡ cause.OutOfMemory) → IfErr r (λ c. is_of_link c ≡ false)

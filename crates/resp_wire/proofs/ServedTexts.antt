@@ -166,17 +166,19 @@ serves_first_on go_on added old cur new id s front came piece held held' held'' 
       given = stocked (seated old id (seat_with a.version (s.out ++ (st.reply ++ a.reply)) true a.decoder)) a.store;
       commands = st.commands + v.commands;
       cut_short = record {
-        answered = came ++ a.answered;
-        beyond = a.beyond;
-        whole = ap (λ z. came ++ z) a.whole ∙ sym (append_assoc came a.answered a.beyond);
-        some = a.some;
+        first = record {
+          bytes = came ++ a.first.bytes;
+          beyond = a.first.beyond;
+          whole = ap (λ z. came ++ z) a.first.whole ∙ sym (append_assoc came a.first.bytes a.first.beyond);
+          some = a.first.some;
+        };
         reply = st.reply ++ a.reply;
         store = a.store;
         version = a.version;
         decoder = a.decoder;
         rest = a.rest;
-        answers = subst (λ z. Answers old.limits id start z last a.rest) (append_assoc front came a.answered)
-            (answers_on go_on added old cur id s text held held' st a.answered a.rest a.reply a.store a.version false v.commands a.answers);
+        answers = subst (λ z. Answers old.limits id start z last a.rest) (append_assoc front came a.first.bytes)
+            (answers_on go_on added old cur id s text held held' st a.first.bytes a.rest a.reply a.store a.version false v.commands a.answers);
         state = refl;
       };
       sent = sent_on old cur v.given new id s text held held' held'' here st a.reply a.store a.version true a.decoder waits a.state v.sent;
@@ -333,6 +335,21 @@ stop_appends old new id s front came held held' TooManyTurns (waits, why, v) = (
 
 -- The same of every front of a session.
 
+-- what came was served, and this holds of the session as it then is
+came_and_went_on : (old cur : HubState) (id : ℕ) (pieces : List (List ℕ)) (held held' : Option (List ℕ)) →
+    WhereOpen old id (λ s front. Serves old cur id s (front ++ concat pieces) held held' [] × AnswersBefore old id s front pieces held held') →
+    (o : IsOpen cur id) → (P : Seat → List ℕ → Type 0) → WhereOpen cur id P → (s : Seat) (front : List ℕ) → (here : seat_at old id ≡ Some s) →
+    s.closing ≡ false → HasReadFront s.decoder front → (v : Serves old cur id s (front ++ concat pieces) held held' []) ×
+    AnswersBefore old id s front pieces held held' ×
+    P (seat_of old cur id s (front ++ concat pieces) held held' (stands old cur id s (front ++ concat pieces) held held' here v o))
+    (stands old cur id s (front ++ concat pieces) held held' here v o).rest
+came_and_went_on old cur id pieces held held' before o P now_holds s front here not_closing taken =
+    let served = at_open old id (λ t f. Serves old cur id t (f ++ concat pieces) held held' [] × AnswersBefore old id t f pieces held held')
+    s front before here not_closing taken in
+    let st = stands old cur id s (front ++ concat pieces) held held' here served.0 o in
+    let now = seat_of old cur id s (front ++ concat pieces) held held' st in
+    (served.0, served.1, at_open cur id P now st.rest now_holds (seat_given old cur id s now st.store here st.state) refl st.taken)
+
 -- what is served of a piece after what came
 pub piece_serves : AnswersGoOn → AnswersAreAdded → (old cur new : HubState) (id : ℕ) (pieces : List (List ℕ)) (piece : List ℕ)
     (held held' held'' : Option (List ℕ)) →
@@ -342,17 +359,13 @@ pub piece_serves : AnswersGoOn → AnswersAreAdded → (old cur new : HubState) 
     AnswersBefore old id s front (pieces ++ piece ∷ []) held held'')
 piece_serves go_on added old cur new id pieces piece held held' held'' before o answered =
     where_open old id _ (λ s here not_closing front taken.
-    let came = concat pieces in
-    let (v, each) = at_open old id (λ t f. Serves old cur id t (f ++ came) held held' [] × AnswersBefore old id t f pieces held held')
-    s front before here not_closing taken in
-    let st = stands old cur id s (front ++ came) held held' here v o in
-    let now = seat_of old cur id s (front ++ came) held held' st in
-    let (w, _) = at_open cur id (λ t f. Serves cur new id t (f ++ piece) held' held'' [] × ⊤) now st.rest answered
-    (seat_given old cur id s now st.store here st.state) refl st.taken in (
+    let m = came_and_went_on old cur id pieces held held' before o (λ t f. Serves cur new id t (f ++ piece) held' held'' [] × ⊤) answered s front
+    here not_closing taken in
+    let st = stands old cur id s (front ++ concat pieces) held held' here m.0 o in (
       subst (λ z. Serves old new id s (front ++ z) held held'' []) (sym (concat_more pieces piece))
-          (serves_piece go_on added old cur new id s front came piece held held' held'' [] here st w),
+          (serves_piece go_on added old cur new id s front (concat pieces) piece held held' held'' [] here st m.2.0),
       tt,
-      answers_before old cur id s front pieces piece held held' held'' w.sent.text v o each w.sent.appended,
+      answers_before old cur id s front pieces piece held held' held'' m.2.0.sent.text m.0 o m.1 m.2.0.sent.appended,
     ))
 
 -- and where that stops
@@ -364,18 +377,15 @@ pub piece_stops : AnswersGoOn → AnswersAreAdded → (old cur new : HubState) (
     AnswersBefore old id s front (pieces ++ piece ∷ []) held held'')
 piece_stops go_on added old cur new id pieces piece held held' held'' error before o answered =
     where_open old id _ (λ s here not_closing front taken.
-    let came = concat pieces in
-    let (v, each) = at_open old id (λ t f. Serves old cur id t (f ++ came) held held' [] × AnswersBefore old id t f pieces held held')
-    s front before here not_closing taken in
-    let st = stands old cur id s (front ++ came) held held' here v o in
-    let now = seat_of old cur id s (front ++ came) held held' st in
-    let (_, w) = at_open cur id (λ t f. ⊤ × StopsServing cur new id t f piece held' held'' error) now st.rest answered
-    (seat_given old cur id s now st.store here st.state) refl st.taken in
-    let (text, appended) = stop_appends cur new id now st.rest piece held' held'' error w in (
+    let m = came_and_went_on old cur id pieces held held' before o (λ t f. ⊤ × StopsServing cur new id t f piece held' held'' error) answered s front
+    here not_closing taken in
+    let st = stands old cur id s (front ++ concat pieces) held held' here m.0 o in
+    let now = seat_of old cur id s (front ++ concat pieces) held held' st in
+    let (text, appended) = stop_appends cur new id now st.rest piece held' held'' error m.2.1 in (
       tt,
       subst (λ z. StopsServing old new id s front z held held'' error) (sym (concat_more pieces piece))
-          (stops_piece go_on added old cur new id s front came piece held held' held'' error here st w),
-      answers_before old cur id s front pieces piece held held' held'' text v o each appended,
+          (stops_piece go_on added old cur new id s front (concat pieces) piece held held' held'' error here st m.2.1),
+      answers_before old cur id s front pieces piece held held' held'' text m.0 o m.1 appended,
     ))
 
 -- it is closing where it was

@@ -65,24 +65,28 @@ pub waits_still : (old cur : HubState) (id : ℕ) (text : List ℕ) (done n : �
     IfSome (seat_at old id) (λ s. cur ≡ seated old id (without done s)) → done + n ≤ length text → IfSome (seat_at cur id) (λ t. n ≤ length t.out)
 waits_still old cur id text done n out dropped within = waits_by old cur id text done n (seat_at old id) refl out dropped within
 
-pub shows_more : ReadingsGoOn → HearingGoesOn → (s : ClientState) (c new : Client) (before mid after : Asked) (old cur : HubState) (id : ℕ) (seat : Seat)
-    (front : List ℕ) (done n : ℕ) → seat_at old id ≡ Some seat → cur ≡ seated old id (without done seat) →
-    HearsAll s c before mid (front ++ take done seat.out) →
+pub shows_more : ReadingsGoOn → HearingGoesOn → (first c new : Client) (before mid after : Asked) (old cur : HubState) (id done n : ℕ) →
+    IfSome (seat_at old id) (λ t. cur ≡ seated old id (without done t)) →
+    IfSome (seat_at old id) (λ t. WhereTaken first (λ f. HearsAll (state_of first) c before mid (f ++ take done t.out))) →
     IfSome (seat_at cur id) (λ t. WhereTaken c (λ f. HearsAll (state_of c) new mid after (f ++ take n t.out))) →
-    HearsAll s new before after (front ++ take (done + n) seat.out)
-shows_more go_on goes_on s c new before mid after old cur id seat front done n here state h more =
+    IfSome (seat_at old id) (λ t. WhereTaken first (λ f. HearsAll (state_of first) new before after (f ++ take (done + n) t.out)))
+shows_more go_on goes_on first c new before mid after old cur id done n dropped so_far more = if_there old id _ (λ seat here front taken.
+    let s = state_of first in
+    let state = at_there old id (λ t. cur ≡ seated old id (without done t)) seat here dropped in
+    let h = at_there old id (λ t. WhereTaken first (λ f. HearsAll s c before mid (f ++ take done t.out))) seat here so_far front taken in
     let p = at_there cur id (λ t. WhereTaken c (λ f. HearsAll (state_of c) new mid after (f ++ take n t.out))) (without done seat)
     (there_still old cur id seat done here state) more h.rest h.takes in
     subst (λ z. HearsAll s new before after (front ++ z)) (sym (take-add done n seat.out))
-    (hears_piece go_on goes_on s c new before mid after front (take done seat.out) (take n (drop done seat.out)) h p)
+    (hears_piece go_on goes_on s c new before mid after front (take done seat.out) (take n (drop done seat.out)) h p))
 
-pub drops_more : (old cur new : HubState) (id : ℕ) (seat : Seat) (done n : ℕ) → seat_at old id ≡ Some seat → cur ≡ seated old id (without done seat) →
-    IfSome (seat_at cur id) (λ t. new ≡ seated cur id (without n t)) → new ≡ seated old id (without (done + n) seat)
-drops_more old cur new id seat done n here state more =
+pub drops_more : (old cur new : HubState) (id done n : ℕ) → IfSome (seat_at old id) (λ t. cur ≡ seated old id (without done t)) →
+    IfSome (seat_at cur id) (λ t. new ≡ seated cur id (without n t)) → IfSome (seat_at old id) (λ t. new ≡ seated old id (without (done + n) t))
+drops_more old cur new id done n dropped more = if_there old id _ (λ seat here.
+    let state = at_there old id (λ t. cur ≡ seated old id (without done t)) seat here dropped in
     let last = without n (without done seat) in
     at_there cur id (λ t. new ≡ seated cur id (without n t)) (without done seat) (there_still old cur id seat done here state) more ∙
     ap (λ h. seated h id last) state ∙ seated_twice old id (without done seat) last ∙
-    ap (λ z. seated old id (seat_with seat.version z seat.closing seat.decoder)) (drop-drop n done seat.out)
+    ap (λ z. seated old id (seat_with seat.version z seat.closing seat.decoder)) (drop-drop n done seat.out))
 
 stops_on : ReadingsGoOn → HearingGoesOn → (s : ClientState) (c : Client) (before mid after : Asked) (front text : List ℕ)
     (done failures failures' failures'' : ℕ) (cause : Cause) → (h : HearsAll s c before mid (front ++ take done text)) → failures' ≡ failures →

@@ -21,6 +21,6 @@ pub mod world;
 pub use asked::{Asked, Request};
 pub use error::{AskError, ServeError};
 pub use event::{Event, Outcome, Stop};
-pub use link::{Direction, Link, LinkFault, MemoryLink, TcpLink};
+pub use link::{Carried, Direction, Link, LinkFault, MemoryLink, TcpLink};
 pub use serve::Served;
 pub use world::World;

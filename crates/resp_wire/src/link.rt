@@ -30,6 +30,9 @@ pub struct LinkFault {
     pub cause: Cause,
 }
 
+/// What comes of a carry.
+pub type Carried = Result<(), LinkFault>;
+
 /// What carries bytes both ways between a client and its session.
 pub trait Link: Drop {
     /// It gives the bytes that it takes. Where this doesn't hold the link claims nothing of them.
@@ -45,12 +48,7 @@ pub trait Link: Drop {
     ///
     /// Refuses by Read, Write or TooManyTurns, and makes at most 65,536 reads and writes. After a
     /// refusal nothing is known of what was carried.
-    fn carry(
-        &mut self,
-        direction: Direction,
-        piece: &[u8],
-        into: &mut [u8],
-    ) -> Result<(), LinkFault>
+    fn carry(&mut self, direction: Direction, piece: &[u8], into: &mut [u8]) -> Carried
         requires same_length { length piece.now ≡ length into.old }
         requires short { length piece.now ≤ 1_024 }
         ensures carried { is_honest self.old → OnOk result (into.new ≡ piece.now) }

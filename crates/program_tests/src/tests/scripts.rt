@@ -7,7 +7,7 @@ use resp_script::script::{MOST_BYTES, Script, ScriptError, read_script};
 use resp_value::cause::Cause;
 use resp_value::device::MemorySink;
 use resp_value::limits::Limits;
-use resp_wire::{Direction, Link, LinkFault, World};
+use resp_wire::{Carried, Direction, Link, LinkFault, World};
 use std::hash::{BuildHasherDefault, FoldHasher};
 use std::process::Abort;
 
@@ -94,12 +94,7 @@ impl Link for CutLink {
 
     ghost calls = { λ _. 0 };
 
-    fn carry(
-        &mut self,
-        _direction: Direction,
-        _piece: &[u8],
-        _into: &mut [u8],
-    ) -> Result<(), LinkFault> {
+    fn carry(&mut self, _direction: Direction, _piece: &[u8], _into: &mut [u8]) -> Carried {
         self.failures = self.failures.saturating_add(1);
         Err(LinkFault { cause: Cause::Read })
     }

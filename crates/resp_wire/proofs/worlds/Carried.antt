@@ -109,7 +109,7 @@ arrived answered nothing_else goes_on sent limits hub hub' ends order order' w a
     let after_it = beyond limits hub ends order w next_world (ToServer (suc i) k) at step tt in
     let has_come = sent limits at.n at.events w at.run (suc i) c its in
     let same = still_shown nothing_else goes_on sent limits hub ends order w next_world at after_it (suc i) c left.next (seat_at hub (suc i)) e its
-    left.there left.requests left.shown a.reply left.text s in
+    left.there left.client.requests left.client.shown a.reply left.text s in
     let frame : IsFramed i hub hub' w next_world = record {
       limits = ap (λ (h : HubState). h.limits) a.state;
       store = ap (λ (h : HubState). h.store) a.state ∙ left.store;
@@ -118,31 +118,31 @@ arrived answered nothing_else goes_on sent limits hub hub' ends order order' w a
       seats = λ j other. ap (λ h. seat_at h j) a.state ∙ seats_elsewhere hub (suc i) j seat other;
     } in
     let client : ShowsClient limits (seat_at hub' (suc i)) (with_client e client') left.next = record {
-      asked = old.asked ∙ sym left.requests;
+      asked = old.asked ∙ sym left.client.requests;
       replies = old.replies ∙ ap replies_of same.0;
       pushes = old.pushes ∙ ap pushes_of same.0;
-      dropped = old.dropped ∙ sym left.dropped;
-      gone = never_gone left.next _ (left.dropped ∙ is_open);
+      dropped = old.dropped ∙ sym left.client.dropped;
+      gone = never_gone left.next _ (left.client.dropped ∙ is_open);
       stands = λ _. record {
         session = seat;
         there = ap (λ h. seat_at h (suc i)) a.state ∙ seat_here hub (suc i) s.session seat s.there;
         version = left.version;
         is_open = b.is_open;
         answers = ap (λ l. l ++ a.reply) s.answers ∙ sym (drop-append-le c.shown (back_text c) a.reply has_come.1) ∙
-            sym (ap (drop c.shown) left.text) ∙ sym (ap (λ n. drop n (back_text left.next)) left.shown);
+            sym (ap (drop c.shown) left.text) ∙ sym (ap (λ n. drop n (back_text left.next)) left.client.shown);
         front = a.rest;
         taking = a.taking b.is_open;
         unfinished = left.unfinished;
         same_limits = ap (λ (z : ClientState). z.limits) dropped ∙ s.same_limits;
         asks = ap (λ (z : ClientState). z.out) dropped ∙ ap (drop k) s.asks ∙ waits_on c.arrived k (sent_text c) ∙
             sym (ap (λ n. drop n (sent_text c)) left.arrived) ∙ sym (ap (λ (l : List Request). drop left.next.arrived (concat (map request_text l)))
-            left.requests);
-        same_count = ap queued dropped ∙ s.same_count ∙ sym (ap length left.requests);
+            left.client.requests);
+        same_count = ap queued dropped ∙ s.same_count ∙ sym (ap length left.client.requests);
         text = s.text;
         rest = s.rest;
         reads = subst (λ (z : ClientState). ReadsAs limits (waiting_for Two left.next.requests) (values_of (shown_messages left.next)) s.text z.waiting)
             (sym dropped) (subst (λ l. ReadsAs limits (waiting_for Two l) (values_of (shown_messages left.next)) s.text (state_of e.client).waiting)
-            (sym left.requests) (subst (λ xs. ReadsAs limits (waiting_for Two c.requests) xs s.text (state_of e.client).waiting) same.0 s.reads));
+            (sym left.client.requests) (subst (λ xs. ReadsAs limits (waiting_for Two c.requests) xs s.text (state_of e.client).waiting) same.0 s.reads));
         whole = same.1 ∙ s.whole;
         reading = reading.same_front s.rest s.reading;
       };

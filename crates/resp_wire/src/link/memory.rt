@@ -2,7 +2,7 @@
 
 ghost use Rattle.std.specs.Prelude.{◌≡◌, ◌≤◌, length, IsOk};
 
-use super::{Direction, Link, LinkFault};
+use super::{Carried, Direction, Link};
 
 /// A link over memory, which never fails and takes no memory.
 #[derive(Clone, Copy, Debug, Default, PartialEq, Eq, Drop)]
@@ -15,12 +15,7 @@ impl Link for MemoryLink {
 
     ghost calls = { λ _. 0 };
 
-    fn carry(
-        &mut self,
-        _direction: Direction,
-        piece: &[u8],
-        into: &mut [u8],
-    ) -> Result<(), LinkFault>
+    fn carry(&mut self, _direction: Direction, piece: &[u8], into: &mut [u8]) -> Carried
         requires same_length { length piece.now ≡ length into.old }
         requires short { length piece.now ≤ 1_024 }
         ensures carried { into.new ≡ piece.now }

@@ -3,7 +3,7 @@
 ghost use Rattle.std.specs.Prelude.{◌≡◌, ◌+◌, ◌≤◌, IfErr, IfOk, OnOk};
 ghost use Rattle.resp_wire.specs.Links.{IsLinkCause};
 
-use super::{Direction, Link, LinkFault};
+use super::{Carried, Direction, Link, LinkFault};
 use crate::turns::{Halt, read_some, write_text};
 use resp_value::cause::Cause;
 use resp_value::device::{Device, Sink, Source};
@@ -44,12 +44,7 @@ impl TcpLink {
 
 impl TcpLink {
     /// Writes a piece at the end that it comes from, and reads it at the other.
-    fn pass_along(
-        &mut self,
-        direction: Direction,
-        piece: &[u8],
-        into: &mut [u8],
-    ) -> Result<(), LinkFault>
+    fn pass_along(&mut self, direction: Direction, piece: &[u8], into: &mut [u8]) -> Carried
         ensures refusal { IfErr result (λ fault. IsLinkCause fault.cause) }
         ensures calls { self.new.client_end.calls + self.new.server_end.calls ≤
             self.old.client_end.calls + self.old.server_end.calls + TURNS }
@@ -81,12 +76,7 @@ impl Link for TcpLink {
 
     ghost calls = { λ link. link.client_end.calls + link.server_end.calls };
 
-    fn carry(
-        &mut self,
-        direction: Direction,
-        piece: &[u8],
-        into: &mut [u8],
-    ) -> Result<(), LinkFault> {
+    fn carry(&mut self, direction: Direction, piece: &[u8], into: &mut [u8]) -> Carried {
         let passed = match self.pass_along(direction, piece, into) {
             Ok(()) => compare(piece, into),
             Err(fault) => Err(fault),
@@ -99,7 +89,7 @@ impl Link for TcpLink {
 }
 
 /// Whether the bytes that came are those that were written. Refuses by Read where they aren't.
-fn compare(written: &[u8], came: &[u8]) -> Result<(), LinkFault>
+fn compare(written: &[u8], came: &[u8]) -> Carried
     ensures same { OnOk result (came.now ≡ written.now) }
     ensures refusal { IfErr result (λ fault. IsLinkCause fault.cause) }
 {
@@ -110,12 +100,7 @@ fn compare(written: &[u8], came: &[u8]) -> Result<(), LinkFault>
 }
 
 /// Writes a piece at one end, and reads as many bytes at the other as there is room for.
-fn pass<W: Sink, R: Source>(
-    from: &mut W,
-    to: &mut R,
-    piece: &[u8],
-    into: &mut [u8],
-) -> Result<(), LinkFault>
+fn pass<W: Sink, R: Source>(from: &mut W, to: &mut R, piece: &[u8], into: &mut [u8]) -> Carried
     ensures refusal { IfErr result (λ fault. IsLinkCause fault.cause) }
     ensures calls { W.calls from.new + R.calls to.new ≤ W.calls from.old + R.calls to.old + TURNS }
 {

@@ -48,27 +48,19 @@ returns-in-Err-clause-refusal g c honest =
 pub loop-done-preserved : goal.loop-done-preserved
 loop-done-preserved g c =
     let i = c.loop-done.invariant in
-    let old = c.args.hub.now in
     let mid = c.loop-done.hub in
-    let new = c.show.new.hub in
-    let id = c.args.id in
-    let client = state_of c.args.client.now in
     let cur = c.loop-done.client in
     let done = c.loop-done.done in
     let n = c.min-length.result in
     let full : length (take n c.loop-done.into) ≡ n = search rules in
     record {
-      heard = λ honest. if_there old id _ (λ s here front taken.
-          shows_more c.readings_go_on.ensures c.hearing_goes_on.ensures client cur c.show.new.client c.args.heard.now c.loop-done.heard c.show.new.heard old mid
-          id s front done n here (at_there old id (λ t. mid ≡ seated old id (without done t)) s here i.dropped)
-          (at_there old id (λ t. WhereTaken c.args.client.now (λ f. HearsAll client cur c.args.heard.now c.loop-done.heard (f ++ take done t.out))) s here
-          (i.heard honest) front taken)
-          (subst (λ k. IfSome (seat_at mid id) (λ t. WhereTaken cur (λ f.
+      heard = λ honest. shows_more c.readings_go_on.ensures c.hearing_goes_on.ensures c.args.client.now cur c.show.new.client c.args.heard.now
+          c.loop-done.heard c.show.new.heard c.args.hub.now mid c.args.id done n i.dropped (i.heard honest)
+          (subst (λ k. IfSome (seat_at mid c.args.id) (λ t. WhereTaken cur (λ f.
           HearsAll (state_of cur) c.show.new.client c.loop-done.heard c.show.new.heard (f ++ take k t.out)))) full
-          (c.in_default-show.ensures.heard (i.honest honest))));
-      dropped = if_there old id _ (λ s here.
-          drops_more old mid new id s done n here (at_there old id (λ t. mid ≡ seated old id (without done t)) s here i.dropped)
-          (subst (λ k. IfSome (seat_at mid id) (λ t. new ≡ seated mid id (without k t))) full c.in_default-show.ensures.dropped));
+          (c.in_default-show.ensures.heard (i.honest honest)));
+      dropped = drops_more c.args.hub.now mid c.show.new.hub c.args.id done n i.dropped
+          (subst (λ k. IfSome (seat_at mid c.args.id) (λ t. c.show.new.hub ≡ seated mid c.args.id (without k t))) full c.in_default-show.ensures.dropped);
       honest = λ honest. c.in_default-show.ensures.honest (i.honest honest);
       none_failed = c.in_default-show.ensures.none_failed ∙ i.none_failed;
       within = search rules;

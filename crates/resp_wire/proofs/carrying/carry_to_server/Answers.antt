@@ -1,9 +1,8 @@
 use Rattle.std.proofs.Common.{rules, ◌≡◌, ◌++◌, ◌∙◌, ap, arith, drop, length, min, refl, subst, take}
-use Rattle.std.proofs.lemmas.List.{take_min}
 use Rattle.resp_client.specs.Clients.{ClientState, state_of, without_front}
 use Rattle.resp_server.specs.Handling.{HasAnswered, WhereOpen}
 use Rattle.resp_wire.specs.Carrying.{HasBrought, StopsCarrying}
-use Rattle.resp_wire.proofs.AnsweredOn.{brings_more, brings_none, sent_twice, stops_more}
+use Rattle.resp_wire.proofs.AnsweredOn.{brings_more, brings_none, brings_whole, sent_twice, stops_more}
 use Rattle.resp_wire.proofs.Queueing.{keeps_on}
 use Rattle.resp_wire.proofs.Seated.{at_open, where_open}
 use Rattle.resp_wire.proofs.carrying.carry_to_server.Goals as goal
@@ -53,16 +52,11 @@ returns-in-Err-clause-same_reading g c =
 pub loop-done-preserved : goal.loop-done-preserved
 loop-done-preserved g c =
     let i = c.loop-done.invariant in
-    let old = c.args.hub.now in
     let mid = c.loop-done.hub in
     let new = c.give.new.hub in
-    let id = c.args.id in
-    let client = state_of c.args.client.now in
-    let out = client.out in
-    let order = c.args.order.now.items in
+    let out = (state_of c.args.client.now).out in
     let order' = c.loop-done.order.items in
     let order'' = c.give.new.order.items in
-    let number = c.args.number in
     let done = c.loop-done.done in
     let n = c.min-length.result in
     let full : length (take n c.loop-done.into) ≡ n = search rules in
@@ -70,31 +64,21 @@ loop-done-preserved g c =
     let piece : take (length (take n c.loop-done.into)) (state_of c.loop-done.client).out ≡ take n (drop done out) =
     ap (λ k. take k (state_of c.loop-done.client).out) full ∙ ap (take n) left in
     record {
-      brought = λ honest. where_open old id _ (λ s here not_closing front taken.
-          brings_more c.answers_go_on.ensures c.answers_are_added.ensures old mid new id s front out order order' order'' number done n here
-          (at_open old id (λ t f. HasBrought old mid id t (f ++ take done out) order order' number) s front (i.brought honest) here not_closing taken)
-          (subst (λ z. WhereOpen mid id (λ t f. HasBrought mid new id t (f ++ z) order' order'' number)) piece
-          (c.in_default-give.ensures.brought (i.honest honest))));
+      brought = λ honest. brings_more c.answers_go_on.ensures c.answers_are_added.ensures c.args.hub.now mid new c.args.id out c.args.order.now.items order'
+          order'' c.args.number done n (i.brought honest)
+          (subst (λ z. WhereOpen mid c.args.id (λ t f. HasBrought mid new c.args.id t (f ++ z) order' order'' c.args.number)) piece
+          (c.in_default-give.ensures.brought (i.honest honest)));
       honest = λ honest. c.in_default-give.ensures.honest (i.honest honest);
       none_failed = c.in_default-give.ensures.none_failed ∙ i.none_failed;
       sent = c.in_default-give.ensures.sent ∙ ap (λ k. without_front k (state_of c.loop-done.client)) full ∙ ap (without_front n) i.sent ∙
-          sent_twice client done n;
+          sent_twice (state_of c.args.client.now) done n;
       same_reading = keeps_on c.args.client.now c.loop-done.client c.give.new.client i.same_reading c.give.ensures.same_reading;
       within = search rules;
     }
 
 pub returns-clause-brought : goal.returns-clause-brought
 returns-clause-brought g c honest =
-    let old = c.args.hub.now in
-    let new = c.loop-done.hub in
-    let id = c.args.id in
     let out = (state_of c.args.client.now).out in
-    let order = c.args.order.now.items in
-    let order' = c.loop-done.order.items in
-    let number = c.args.number in
-    let done = c.loop-done.done in
-    let all : done ≡ min c.args.count (length out) = search rules in
-    where_open old id _ (λ s here not_closing front taken.
-    subst (λ z. HasBrought old new id s (front ++ z) order order' number) (ap (λ k. take k out) all ∙ take_min c.args.count out)
-    (at_open old id (λ t f. HasBrought old new id t (f ++ take done out) order order' number) s front (c.loop-done.invariant.brought honest) here
-    not_closing taken))
+    let all : c.loop-done.done ≡ min c.args.count (length out) = search rules in
+    brings_whole c.args.hub.now c.loop-done.hub c.args.id out c.args.order.now.items c.loop-done.order.items c.args.number c.loop-done.done c.args.count all
+    (c.loop-done.invariant.brought honest)

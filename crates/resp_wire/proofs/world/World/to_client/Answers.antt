@@ -107,7 +107,7 @@ returns-clause-links g c =
     let s = c.self.inside in
     let n = c.args.number in
     let link' = c.carry_to_client-carried.new.link in
-    let kept : KeepFailures g.L.Link.failures s.links.items (set s.links.items (n - 1) link') =
-    keep_failures g.L.Link.failures s.links.items (n - 1) c.index_mut.result.now link' c.index_mut.ensures.value c.in_default.ensures.none_failed in
     subst (λ (z : WorldState g.row.L.Denot). CountsFailures g.L.Link.failures z.links (set s.links.items (n - 1) link') (stopped_by_link c.keep.result))
-    c.self.view_is (counts_none g.L.Link.failures s.links.items (set s.links.items (n - 1) link') c.keep.result kept (of_no_link c.keep.result c.keep.ensures.memory))
+    c.self.view_is (counts_none g.L.Link.failures s.links.items (set s.links.items (n - 1) link') c.keep.result
+    (keep_failures g.L.Link.failures s.links.items (n - 1) c.index_mut.result.now link' c.index_mut.ensures.value c.in_default.ensures.none_failed)
+    (of_no_link c.keep.result c.keep.ensures.memory))
