@@ -103,7 +103,7 @@ pub fn write_push<W: Sink>(
         (push_heading client ++ indented (shown_text (datum_of (Value.Push push.now)))) }
 {
     match write_number(writer, b"client ", client, b" push\n") {
-        Ok(()) => write_items(alloc, push, writer),
+        Ok(()) => write_members(alloc, push, writer),
         Err(_) => Err(PlayError::Write),
     }
 }
@@ -178,8 +178,12 @@ fn write_string<W: Sink>(word: &[u8], text: &[u8], writer: &mut W) -> Result<(),
     write_number(writer, b"\" ", text.len() as u64, b"\n")
 }
 
-/// Writes the lines of a push of these items, two spaces deeper.
-fn write_items<W: Sink>(alloc: Global, push: &Members, writer: &mut W) -> Result<(), PlayError>
+/// Writes the lines of a push of these members, two spaces deeper. Refuses as [`write_reply`] does.
+pub fn write_members<W: Sink>(
+    alloc: Global,
+    push: &Members,
+    writer: &mut W,
+) -> Result<(), PlayError>
     ensures { Prints (W.written writer.old) (W.written writer.new) (W.failures writer.old)
         (W.failures writer.new) result (indented (shown_text (datum_of (Value.Push push.now)))) }
 {

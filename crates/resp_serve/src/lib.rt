@@ -5,7 +5,7 @@
 //! read, what is answered and what still waits where the socket takes no more.
 //!
 //! A [`Window`] stands between clients and another server: it hands on what either side sends, by
-//! [`resp_tap::way::Way::visit`], and prints what [`resp_tap::Tap`] sees of it.
+//! [`resp_tap::way::Way::visit`], and prints what [`resp_tap::TimedTap`] sees of it.
 #![tactic(auto)]
 
 mod connection;

@@ -3,7 +3,7 @@
 use crate::connection::Next;
 use crate::non_blocking::{Input, Output};
 use mio::net::TcpStream;
-use resp_tap::Tap;
+use resp_tap::TimedTap;
 use resp_tap::watch::{Side, watch};
 use resp_tap::way::{Visited, Way};
 use resp_value::device::{Device, Sink};
@@ -41,7 +41,7 @@ pub(crate) struct Tapped {
     server: TcpStream,
     to_server: Lane,
     to_client: Lane,
-    tap: Tap,
+    tap: TimedTap,
     /// The client's number, from 1.
     pub(crate) number: u64,
     /// Whether it is visited again without waiting for a socket.
@@ -102,7 +102,7 @@ fn after_write<W>(writer: &Output<W>) -> Lately {
 #[derive(Drop)]
 struct Seeing<'a, W> {
     alloc: Global,
-    tap: &'a mut Tap,
+    tap: &'a mut TimedTap,
     client: u64,
     side: Side,
     writer: &'a mut W,
@@ -117,6 +117,7 @@ impl<W: Sink> Seeing<'_, W> {
             self.client,
             self.side,
             piece,
+            None,
             self.writer,
         );
     }
@@ -137,7 +138,7 @@ impl Tapped {
             server,
             to_server: Lane::new(alloc)?,
             to_client: Lane::new(alloc)?,
-            tap: Tap::new(alloc, limits),
+            tap: TimedTap::new(alloc, limits),
             number,
             is_queued: false,
         })

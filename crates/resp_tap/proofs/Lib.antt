@@ -1,3 +1,4 @@
 pub mod Pairings
 pub mod Replies
+pub mod TimeLemmas
 pub mod Visits

@@ -2,7 +2,11 @@ pub mod Kinds
 pub mod Taps
 pub mod Watching
 pub mod Ways
+pub mod Digits
+pub mod Stamps
 pub mod Texts
+pub mod TimeLaws
+pub mod Times
 pub mod Screens
 pub mod Watches
 -- What the steps of a tap promise one another, which no public clause names.

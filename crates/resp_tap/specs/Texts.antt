@@ -1,15 +1,18 @@
 -- What is printed of what was seen.
-use Rattle.std.specs.Prelude.{ℕ, List, [], ◌++◌, codes, decimal}
+use Rattle.std.specs.Prelude.{ℕ, Bool, true, false, List, [], ◌++◌, Option, codes, decimal}
 use Rattle.std.specs.List.{flat_map}
 use Rattle.resp_value.specs.Causes.{name_of}
+use Rattle.resp_value.specs.Data.{Datum}
 use Rattle.resp_value.specs.Values.{datum_of}
 use Rattle.resp_value.specs.declared.value.Value.TheVariants as value
 use Rattle.resp_tool.specs.Shown.{quoted_text, shown_text}
-use Rattle.resp_script.specs.Printed.{indented, push_heading, reply_heading}
+use Rattle.resp_script.specs.Printed.{indented}
+use Rattle.resp_tap.specs.Stamps.{ending_text}
 use Rattle.resp_tap.specs.declared.seen.Place.{Place}
 use Rattle.resp_tap.specs.declared.seen.Place.TheVariants as place
 use Rattle.resp_tap.specs.declared.seen.Seen.{Seen}
 use Rattle.resp_tap.specs.declared.seen.Seen.TheVariants.{Nothing, Passed, Command, Reply, Push, Value, NotCommand, Refused}
+use Rattle.resp_tap.specs.declared.stamp.Stamp.{Stamp}
 
 -- a word in quotes, after a space
 abbrev pub word_text : List ℕ → List ℕ
@@ -23,44 +26,66 @@ words_text words = flat_map word_text words
 abbrev pub words_line : List (List ℕ) → List ℕ
 words_line words = codes " " ++ (words_text words ++ codes "\n")
 
--- the line before a client's command of this number
-abbrev pub command_heading : ℕ → ℕ → List ℕ
-command_heading client number =
-    (codes "client " ++ decimal client ++ codes " command ") ++ (decimal number ++ codes "\n")
+-- a number at the end of a line
+abbrev pub numbered_end : ℕ → Option Stamp → List ℕ
+numbered_end number stamp = decimal number ++ ending_text stamp
+
+-- a client's line of what has a number
+abbrev pub numbered_line : ℕ → List ℕ → ℕ → Option Stamp → List ℕ
+numbered_line client what number stamp = (codes "client " ++ decimal client ++ what) ++ numbered_end number stamp
+
+-- a client's line of what has none
+abbrev pub client_line : ℕ → List ℕ → Option Stamp → List ℕ
+client_line client what stamp = (codes "client " ++ decimal client ++ what) ++ ending_text stamp
 
 -- a command of a client
-abbrev pub command_text : ℕ → ℕ → List (List ℕ) → List ℕ
-command_text client number words = command_heading client number ++ words_line words
+abbrev pub command_text : ℕ → ℕ → Option Stamp → List (List ℕ) → List ℕ
+command_text client number stamp words = numbered_line client (codes " command ") number stamp ++ words_line words
 
--- the line before a value to a client that is paired with no command
-abbrev pub value_heading : ℕ → List ℕ
-value_heading client = codes "client " ++ decimal client ++ codes " value\n"
+-- the reply to it
+abbrev pub reply_text : ℕ → ℕ → Option Stamp → Datum → List ℕ
+reply_text client number stamp x = numbered_line client (codes " reply ") number stamp ++ indented (shown_text x)
+
+-- a push to a client
+abbrev pub push_text : ℕ → Option Stamp → Datum → List ℕ
+push_text client stamp x = client_line client (codes " push") stamp ++ indented (shown_text x)
+
+-- a value to a client that is paired with no command
+abbrev pub value_text : ℕ → Option Stamp → Datum → List ℕ
+value_text client stamp x = client_line client (codes " value") stamp ++ indented (shown_text x)
 
 -- what a refused byte belongs to
-abbrev pub place_text : Place → List ℕ
-place_text (place.Command number) = codes "command " ++ decimal number ++ codes "\n"
-place_text (place.Reply number) = codes "reply " ++ decimal number ++ codes "\n"
-place_text place.Value = codes "a value\n"
+abbrev pub place_text : Place → Option Stamp → List ℕ
+place_text (place.Command number) stamp = codes "command " ++ numbered_end number stamp
+place_text (place.Reply number) stamp = codes "reply " ++ numbered_end number stamp
+place_text place.Value stamp = codes "a value" ++ ending_text stamp
 
 -- a refusal up to its cause
 abbrev pub refusal_heading : ℕ → List ℕ → List ℕ
 refusal_heading client name = (codes "client " ++ decimal client ++ codes " refused ") ++ name
 
 -- which byte was refused
-abbrev pub byte_text : ℕ → Place → List ℕ
-byte_text at where' = (codes " at byte " ++ decimal at ++ codes " of ") ++ place_text where'
+abbrev pub byte_text : ℕ → Place → Option Stamp → List ℕ
+byte_text at where' stamp = (codes " at byte " ++ decimal at ++ codes " of ") ++ place_text where' stamp
 
 -- the line of a refusal
-abbrev pub refusal_text : ℕ → List ℕ → ℕ → Place → List ℕ
-refusal_text client name at where' = refusal_heading client name ++ byte_text at where'
+abbrev pub refusal_text : ℕ → List ℕ → ℕ → Place → Option Stamp → List ℕ
+refusal_text client name at where' stamp = refusal_heading client name ++ byte_text at where' stamp
 
--- what was seen of a client's connection
-abbrev pub seen_text : ℕ → Seen → List ℕ
-seen_text client Nothing = []
-seen_text client Passed = []
-seen_text client (Command number words) = command_text client number words
-seen_text client (Reply number x) = reply_heading client number ++ indented (shown_text (datum_of x))
-seen_text client (Push items) = push_heading client ++ indented (shown_text (datum_of (value.Push items)))
-seen_text client (Value x) = value_heading client ++ indented (shown_text (datum_of x))
-seen_text client (NotCommand number) = refusal_text client (codes "NotCommand") 0 (place.Command number)
-seen_text client (Refused cause at where') = refusal_text client (name_of cause) at where'
+-- what was seen of a client's connection, stamped or not
+abbrev pub seen_text : ℕ → Option Stamp → Seen → List ℕ
+seen_text client stamp Nothing = []
+seen_text client stamp Passed = []
+seen_text client stamp (Command number words) = command_text client number stamp words
+seen_text client stamp (Reply number x) = reply_text client number stamp (datum_of x)
+seen_text client stamp (Push items) = push_text client stamp (datum_of (value.Push items))
+seen_text client stamp (Value x) = value_text client stamp (datum_of x)
+seen_text client stamp (NotCommand number) = refusal_text client (codes "NotCommand") 0 (place.Command number) stamp
+seen_text client stamp (Refused cause at where') = refusal_text client (name_of cause) at where' stamp
+
+-- whether what was seen has the lines of a value, which take memory
+abbrev pub has_value : Seen → Bool
+has_value (Reply number x) = true
+has_value (Push items) = true
+has_value (Value x) = true
+has_value _ = false

@@ -1,14 +1,19 @@
 -- What is seen and printed of pieces that either side sends.
-use Rattle.std.specs.Prelude.{ℕ, List, Option}
+use Rattle.std.specs.Prelude.{◌≡◌, ℕ, true, false, List, [], ◌∷◌, length, drop, slice_get, Option, Result, IfErr}
 use Rattle.resp_script.specs.Printed.{Prints}
-use Rattle.resp_tap.specs.Taps.{TapState, at_front}
-use Rattle.resp_tap.specs.Texts.{seen_text}
+use Rattle.resp_script.specs.declared.play.PlayError.{PlayError}
+use Rattle.resp_script.specs.declared.play.PlayError.TheVariants.{Write}
+use Rattle.resp_tap.specs.Taps.{TapState, at_front, tap_state}
+use Rattle.resp_tap.specs.Texts.{has_value, seen_text}
+use Rattle.resp_tap.specs.Times.{HasTimes, KeepsTimes, stamp_of}
 use Rattle.resp_tap.specs.Watching.{KeepsRequest, KeepsValue, SeesRequest, SeesValue, WhereAnswered, WhereRequested}
+use Rattle.resp_tap.specs.declared.moment.Moment.{Moment}
 use Rattle.resp_tap.specs.declared.seen.Seen.{Seen}
+use Rattle.resp_tap.specs.declared.seen.Seen.TheVariants as seen
 use Rattle.resp_tap.specs.declared.tap.Tap.{Tap}
+use Rattle.resp_tap.specs.declared.timed.TimedTap.{TimedTap}
 use Rattle.resp_tap.specs.declared.watch.Side.{Side}
 use Rattle.resp_tap.specs.declared.watch.Side.TheVariants.{Client, Server}
-use Rattle.resp_tap.specs.declared.watch.Watched.{Watched}
 
 -- what was taken of the value that the other side sends is the same
 abbrev pub KeepsOther : Side → Tap → Tap → Type 0
@@ -25,9 +30,29 @@ abbrev pub SeesSent : Side → TapState → Tap → List ℕ → List ℕ → �
 SeesSent Client s new front piece used seen = SeesRequest s new front piece used seen
 SeesSent Server s new front piece used seen = SeesValue (at_front front s) new front piece used seen
 
--- what is printed is the text of what is seen
-pub record PrintsWhatIsSeen (side : Side) (s : TapState) (new : Tap) (front piece : List ℕ) (client : ℕ)
-    (before after : Option (List ℕ)) (failures failures' : ℕ) (watched : Watched) : Type 0 where
-  pub what : Seen
-  pub seen : SeesSent side s new front piece watched.used what
-  pub text : Prints before after failures failures' watched.printed (seen_text client what)
+-- what is seen at the front of a piece that came at this moment, of which this many bytes were used
+pub record SeesFirst (side : Side) (now : Option Moment) (old new : TimedTap) (piece : List ℕ) (used : ℕ)
+    (what : Seen) : Type 0 where
+  pub read : (tap_state old.tap).is_read ≡ true → WhereSent side old.tap (λ front.
+      SeesSent side (tap_state old.tap) new.tap front piece used what × KeepsTimes now old new)
+  pub unread : (tap_state old.tap).is_read ≡ false → (new ≡ old) × (used ≡ length piece) × (what ≡ seen.Nothing)
+
+-- What is seen is printed, as far as writes succeed and memory is found for the lines of a value. Where times are told
+-- a reply has that of the command that it answers.
+pub record PrintsSeen (client : ℕ) (now : Option Moment) (old : TimedTap) (what : Seen) (before after : Option (List ℕ))
+    (failures failures' : ℕ) (printed : Result (Unit {0}) PlayError) : Type 0 where
+  pub asked : Option ℕ
+  pub of_command : (times : List ℕ) → HasTimes old times → asked ≡ slice_get times (tap_state old.tap).answered
+  pub text : Prints before after failures failures' printed (seen_text client (stamp_of now asked what) what)
+  pub memory : has_value what ≡ false → IfErr printed (λ error. error ≡ Write)
+
+-- All of these are seen in a piece, one after another, and each is printed before the next is seen.
+abbrev pub WatchesAll : ℕ → Side → Option Moment → List Seen → TimedTap → TimedTap → List ℕ → Option (List ℕ) →
+    Option (List ℕ) → ℕ → ℕ → Type 0
+WatchesAll client side now [] old new piece before after failures failures' =
+    (piece ≡ []) × (new ≡ old) × (after ≡ before) × (failures' ≡ failures)
+WatchesAll client side now (what ∷ more) old new piece before after failures failures' =
+    (next : TimedTap) × (used : ℕ) × (written : Option (List ℕ)) × (failed : ℕ) ×
+    (printed : Result (Unit {0}) PlayError) × SeesFirst side now old next piece used what ×
+    PrintsSeen client now old what before written failures failed printed ×
+    WatchesAll client side now more next new (drop used piece) written after failed failures'

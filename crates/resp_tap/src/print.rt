@@ -1,57 +1,103 @@
 //! What is printed of what was seen.
 
-ghost use Rattle.std.specs.Prelude.{◌++◌, ℕ, List, Option};
+ghost use Rattle.std.specs.Prelude.{◌≡◌, ◌++◌, false, ℕ, List, Option, Some, codes, decimal, IfErr};
 ghost use Rattle.resp_script.specs.Printed.{Prints, indented};
 ghost use Rattle.resp_tool.specs.Shown.{shown_text};
 ghost use Rattle.resp_tool.specs.Written.{WritesText};
 ghost use Rattle.resp_value.specs.Values.{datum_of};
-ghost use Rattle.resp_tap.specs.Texts.{byte_text, command_heading, command_text, place_text, refusal_heading, refusal_text, seen_text, value_heading, word_text, words_line, words_text};
+ghost use Rattle.resp_value.specs.declared.value.Value.TheVariants as value;
+ghost use Rattle.resp_tap.specs.Stamps.{ending_text};
+ghost use Rattle.resp_tap.specs.Texts.{byte_text, client_line, command_text, has_value, numbered_end, numbered_line, place_text, push_text, refusal_heading, refusal_text, reply_text, seen_text, value_text, word_text, words_line, words_text};
 
 use crate::seen::{Place, Seen};
-use resp_script::heard::{write_push, write_reply, write_value};
+use crate::stamp::{Stamp, write_ending, write_stamp};
+use resp_script::heard::{write_members, write_value};
 use resp_script::play::PlayError;
 use resp_session::words::Words;
 use resp_tool::text::{write_number, write_quoted, write_text};
 use resp_value::device::{DeviceFault, Sink};
-use resp_value::value::Value;
+use resp_value::value::{Members, Value};
 use std::alloc::Global;
 
 /// Writes what was seen of the connection of the client with this number, as `resp loop` does of
-/// its clients, and nothing where nothing was. Refuses where a write fails, or when out of memory,
-/// and then a first part of it was written.
+/// its clients, and nothing where nothing was. Where it is stamped the first line tells the time.
+/// Refuses where a write fails, or when out of memory for the lines of a value, and then a first
+/// part of it was written.
 pub fn write_seen<W: Sink>(
     alloc: Global,
     client: u64,
+    stamp: Option<Stamp>,
     seen: &Seen,
     writer: &mut W,
 ) -> Result<(), PlayError>
-    ensures { Prints (W.written writer.old) (W.written writer.new) (W.failures writer.old)
-        (W.failures writer.new) result (seen_text client seen.now) }
+    ensures printed { Prints (W.written writer.old) (W.written writer.new) (W.failures writer.old)
+        (W.failures writer.new) result (seen_text client stamp seen.now) }
+    ensures memory { has_value seen.now ≡ false → IfErr result (λ error. error ≡ PlayError.Write) }
 {
     match seen {
         Seen::Nothing | Seen::Passed => Ok(()),
-        Seen::Command { number, words } => printed(write_command(client, *number, words, writer)),
-        Seen::Reply { number, value } => write_reply(alloc, client, *number, value, writer),
-        Seen::Push(items) => write_push(alloc, client, items, writer),
-        Seen::Value(value) => write_unpaired(alloc, client, value, writer),
+        Seen::Command { number, words } => {
+            printed(write_command(client, *number, stamp, words, writer))
+        }
+        Seen::Reply { number, value } => write_reply(alloc, client, *number, stamp, value, writer),
+        Seen::Push(items) => write_push(alloc, client, stamp, items, writer),
+        Seen::Value(value) => write_unpaired(alloc, client, stamp, value, writer),
         Seen::NotCommand { number } => {
             let place = Place::Command(*number);
-            printed(write_refusal(client, b"NotCommand", 0, place, writer))
+            printed(write_refusal(client, b"NotCommand", 0, place, stamp, writer))
         }
         Seen::Refused { cause, at, place } => {
-            printed(write_refusal(client, cause.name().as_bytes(), *at, *place, writer))
+            let name = cause.name().as_bytes();
+            printed(write_refusal(client, name, *at, *place, stamp, writer))
         }
     }
 }
 
 /// What a write came to.
 fn printed(written: Result<(), DeviceFault>) -> Result<(), PlayError>
-    ensures { (before after : Option (List ℕ)) (failures failures' : ℕ) (text : List ℕ) →
+    ensures printed { (before after : Option (List ℕ)) (failures failures' : ℕ) (text : List ℕ) →
         WritesText before after failures failures' written text →
         Prints before after failures failures' result text }
+    ensures no_memory { IfErr result (λ error. error ≡ PlayError.Write) }
 {
     match written {
         Ok(()) => Ok(()),
+        Err(_) => Err(PlayError::Write),
+    }
+}
+
+/// Writes the reply to a command, below its heading.
+fn write_reply<W: Sink>(
+    alloc: Global,
+    client: u64,
+    number: u64,
+    stamp: Option<Stamp>,
+    value: &Value,
+    writer: &mut W,
+) -> Result<(), PlayError>
+    ensures { Prints (W.written writer.old) (W.written writer.new) (W.failures writer.old)
+        (W.failures writer.new) result (reply_text client number stamp (datum_of value.now)) }
+{
+    match write_numbered_line(client, b" reply ", number, stamp, writer) {
+        Ok(()) => write_value(alloc, value, writer),
+        Err(_) => Err(PlayError::Write),
+    }
+}
+
+/// Writes a push, below its heading.
+fn write_push<W: Sink>(
+    alloc: Global,
+    client: u64,
+    stamp: Option<Stamp>,
+    items: &Members,
+    writer: &mut W,
+) -> Result<(), PlayError>
+    ensures { Prints (W.written writer.old) (W.written writer.new) (W.failures writer.old)
+        (W.failures writer.new) result
+        (push_text client stamp (datum_of (value.Push items.now))) }
+{
+    match write_client_line(client, b" push", stamp, writer) {
+        Ok(()) => write_members(alloc, items, writer),
         Err(_) => Err(PlayError::Write),
     }
 }
@@ -60,14 +106,14 @@ fn printed(written: Result<(), DeviceFault>) -> Result<(), PlayError>
 fn write_unpaired<W: Sink>(
     alloc: Global,
     client: u64,
+    stamp: Option<Stamp>,
     value: &Value,
     writer: &mut W,
 ) -> Result<(), PlayError>
     ensures { Prints (W.written writer.old) (W.written writer.new) (W.failures writer.old)
-        (W.failures writer.new) result
-        (value_heading client ++ indented (shown_text (datum_of value.now))) }
+        (W.failures writer.new) result (value_text client stamp (datum_of value.now)) }
 {
-    match write_number(writer, b"client ", client, b" value\n") {
+    match write_client_line(client, b" value", stamp, writer) {
         Ok(()) => write_value(alloc, value, writer),
         Err(_) => Err(PlayError::Write),
     }
@@ -77,27 +123,72 @@ fn write_unpaired<W: Sink>(
 fn write_command<W: Sink>(
     client: u64,
     number: u64,
+    stamp: Option<Stamp>,
     words: &Words,
     writer: &mut W,
 ) -> Result<(), DeviceFault>
     ensures { WritesText (W.written writer.old) (W.written writer.new) (W.failures writer.old)
-        (W.failures writer.new) result (command_text client number words.now) }
+        (W.failures writer.new) result (command_text client number stamp words.now) }
 {
-    write_command_heading(client, number, writer)?;
+    write_numbered_line(client, b" command ", number, stamp, writer)?;
     write_words_line(words, writer)
 }
 
-/// Writes the line before a command's words.
-fn write_command_heading<W: Sink>(
+/// Writes the line before what has a number, a command or a reply.
+fn write_numbered_line<W: Sink>(
     client: u64,
+    what: &[u8],
     number: u64,
+    stamp: Option<Stamp>,
     writer: &mut W,
 ) -> Result<(), DeviceFault>
     ensures { WritesText (W.written writer.old) (W.written writer.new) (W.failures writer.old)
-        (W.failures writer.new) result (command_heading client number) }
+        (W.failures writer.new) result (numbered_line client what.now number stamp) }
 {
-    write_number(writer, b"client ", client, b" command ")?;
-    write_number(writer, b"", number, b"\n")
+    write_number(writer, b"client ", client, what)?;
+    write_numbered_end(number, stamp, writer)
+}
+
+/// Writes a line of a client that has no number, as that it is gone. Refuses where a write fails.
+pub fn write_client_line<W: Sink>(
+    client: u64,
+    what: &[u8],
+    stamp: Option<Stamp>,
+    writer: &mut W,
+) -> Result<(), DeviceFault>
+    ensures { WritesText (W.written writer.old) (W.written writer.new) (W.failures writer.old)
+        (W.failures writer.new) result (client_line client what.now stamp) }
+{
+    write_number(writer, b"client ", client, what)?;
+    write_ending(stamp, writer)
+}
+
+/// Writes a number and the end of its line.
+fn write_numbered_end<W: Sink>(
+    number: u64,
+    stamp: Option<Stamp>,
+    writer: &mut W,
+) -> Result<(), DeviceFault>
+    ensures { WritesText (W.written writer.old) (W.written writer.new) (W.failures writer.old)
+        (W.failures writer.new) result (numbered_end number stamp) }
+{
+    match stamp {
+        None => write_number(writer, b"", number, b"\n"),
+        Some(stamp) => write_stamped_number(number, stamp, writer),
+    }
+}
+
+/// Writes a number and the stamp of what has it.
+fn write_stamped_number<W: Sink>(
+    number: u64,
+    stamp: Stamp,
+    writer: &mut W,
+) -> Result<(), DeviceFault>
+    ensures { WritesText (W.written writer.old) (W.written writer.new) (W.failures writer.old)
+        (W.failures writer.new) result (numbered_end number (Some stamp)) }
+{
+    write_number(writer, b"", number, b" at ")?;
+    write_stamp(stamp, writer)
 }
 
 /// Writes the line of a command's words.
@@ -139,13 +230,14 @@ fn write_refusal<W: Sink>(
     name: &[u8],
     at: u64,
     place: Place,
+    stamp: Option<Stamp>,
     writer: &mut W,
 ) -> Result<(), DeviceFault>
     ensures { WritesText (W.written writer.old) (W.written writer.new) (W.failures writer.old)
-        (W.failures writer.new) result (refusal_text client name.now at place) }
+        (W.failures writer.new) result (refusal_text client name.now at place stamp) }
 {
     write_refusal_heading(client, name, writer)?;
-    write_byte(at, place, writer)
+    write_byte(at, place, stamp, writer)
 }
 
 /// Writes a refusal up to its cause.
@@ -162,22 +254,54 @@ fn write_refusal_heading<W: Sink>(
 }
 
 /// Writes which byte was refused.
-fn write_byte<W: Sink>(at: u64, place: Place, writer: &mut W) -> Result<(), DeviceFault>
+fn write_byte<W: Sink>(
+    at: u64,
+    place: Place,
+    stamp: Option<Stamp>,
+    writer: &mut W,
+) -> Result<(), DeviceFault>
     ensures { WritesText (W.written writer.old) (W.written writer.new) (W.failures writer.old)
-        (W.failures writer.new) result (byte_text at place) }
+        (W.failures writer.new) result (byte_text at place stamp) }
 {
     write_number(writer, b" at byte ", at, b" of ")?;
-    write_place(place, writer)
+    write_place(place, stamp, writer)
 }
 
 /// Writes what a refused byte belongs to.
-fn write_place<W: Sink>(place: Place, writer: &mut W) -> Result<(), DeviceFault>
+fn write_place<W: Sink>(
+    place: Place,
+    stamp: Option<Stamp>,
+    writer: &mut W,
+) -> Result<(), DeviceFault>
     ensures { WritesText (W.written writer.old) (W.written writer.new) (W.failures writer.old)
-        (W.failures writer.new) result (place_text place) }
+        (W.failures writer.new) result (place_text place stamp) }
 {
     match place {
-        Place::Command(number) => write_number(writer, b"command ", number, b"\n"),
-        Place::Reply(number) => write_number(writer, b"reply ", number, b"\n"),
-        Place::Value => write_text(writer, b"a value\n"),
+        Place::Command(number) => write_named(b"command ", number, stamp, writer),
+        Place::Reply(number) => write_named(b"reply ", number, stamp, writer),
+        Place::Value => write_value_end(stamp, writer),
     }
+}
+
+/// Writes a name with its number, and the end of the line.
+fn write_named<W: Sink>(
+    name: &[u8],
+    number: u64,
+    stamp: Option<Stamp>,
+    writer: &mut W,
+) -> Result<(), DeviceFault>
+    ensures { WritesText (W.written writer.old) (W.written writer.new) (W.failures writer.old)
+        (W.failures writer.new) result (name.now ++ numbered_end number stamp) }
+{
+    write_text(writer, name)?;
+    write_numbered_end(number, stamp, writer)
+}
+
+/// Writes that it was a value, and the end of the line.
+fn write_value_end<W: Sink>(stamp: Option<Stamp>, writer: &mut W) -> Result<(), DeviceFault>
+    ensures { WritesText (W.written writer.old) (W.written writer.new) (W.failures writer.old)
+        (W.failures writer.new) result (codes "a value" ++ ending_text stamp) }
+{
+    write_text(writer, b"a value")?;
+    write_ending(stamp, writer)
 }

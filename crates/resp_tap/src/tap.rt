@@ -60,7 +60,7 @@ pub struct Tap {
 
 impl Step {
     /// A piece that is used up.
-    fn nothing(piece: &[u8]) -> Step
+    pub(crate) fn nothing(piece: &[u8]) -> Step
         ensures { result ≡ record { used = length piece.now; seen = Seen.Nothing } }
     {
         Step {
@@ -97,7 +97,7 @@ fn unpaired_as(value: Value) -> Seen
 impl Tap {
     ghost use Rattle.resp_value.specs.Spellings.{IsSpelling};
     ghost use Rattle.resp_tap.specs.Kinds.{command_kind};
-    ghost use Rattle.resp_tap.specs.Taps.{at_front, new_tap, tap_state, with_command};
+    ghost use Rattle.resp_tap.specs.Taps.{at_front, new_tap, tap_state, with_command, with_refusal};
     ghost use Rattle.resp_tap.specs.Watching.{HasTakenRequest, HasTakenValue, IsLeftOut, KeepsRequest, KeepsValue, SeesRequest, SeesValue, WhereAnswered, WhereRequested, request_rules};
 
     /// A connection of which nothing has passed, read within these limits. Takes no memory.
@@ -116,13 +116,6 @@ impl Tap {
             is_read: true,
             limits: *limits,
         }
-    }
-
-    /// Whether what comes is read: until a refusal.
-    pub fn is_read(&self) -> bool
-        ensures { result ≡ (tap_state self.now).is_read }
-    {
-        self.is_read
     }
 
     /// Takes bytes that the client sends until a command is whole or the piece ends.
@@ -160,6 +153,18 @@ impl Tap {
                 seen: self.command_of(value),
             },
         }
+    }
+
+    /// Refuses the next command at its first byte, since no memory is found for it.
+    pub(crate) fn lack_memory(&mut self, piece: &[u8]) -> Step
+        ensures seen { (front : List ℕ) → SeesRequest (tap_state self.old) self.new front piece.now
+            result.used result.seen }
+        ensures same_value { KeepsValue self.old self.new }
+        ensures whole_piece { result.used ≡ length piece.now }
+        ensures refused { tap_state self.new ≡ with_refusal (tap_state self.old) }
+    {
+        let place = Place::Command(self.commands.saturating_add(1));
+        self.refuse(Cause::OutOfMemory, 0, place, piece)
     }
 
     /// Refuses what comes.

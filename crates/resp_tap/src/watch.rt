@@ -1,12 +1,16 @@
 //! Pieces that pass: what is seen of them is printed.
 
-ghost use Rattle.std.specs.Prelude.{◌≡◌, ◌<◌, ◌≤◌, length, true, false};
+ghost use Rattle.std.specs.Prelude.{◌≡◌, ◌<◌, ◌≤◌, List, length, true, false};
 ghost use Rattle.resp_tap.specs.Taps.{tap_state};
-ghost use Rattle.resp_tap.specs.Watches.{KeepsOther, PrintsWhatIsSeen, SeesSent, WhereSent};
+ghost use Rattle.resp_tap.specs.Times.{KeepsTimes, stamp_of, waited_of};
+ghost use Rattle.resp_tap.specs.Watches.{KeepsOther, PrintsSeen, SeesFirst, SeesSent, WatchesAll, WhereSent};
+ghost use Rattle.resp_tap.specs.declared.seen.Seen.{Seen};
 
+use crate::moment::Moment;
 use crate::print::write_seen;
 use crate::seen::{Seen, Step};
-use crate::tap::Tap;
+use crate::stamp::Stamp;
+use crate::timed::TimedTap;
 use resp_script::play::PlayError;
 use resp_value::device::Sink;
 use std::alloc::Global;
@@ -28,43 +32,65 @@ pub struct Watched {
 }
 
 /// Takes bytes that a side sends until something is seen or the piece ends.
-fn step(tap: &mut Tap, side: Side, piece: &[u8]) -> Step
-    ensures seen { (tap_state tap.old).is_read ≡ true → WhereSent side tap.old (λ front.
-        SeesSent side (tap_state tap.old) tap.new front piece.now result.used result.seen) }
-    ensures unread { (tap_state tap.old).is_read ≡ false → (tap.new ≡ tap.old) ×
-        (result ≡ record { used = length piece.now; seen = Seen.Nothing }) }
-    ensures other_side { KeepsOther side tap.old tap.new }
+fn step(tap: &mut TimedTap, side: Side, piece: &[u8], now: Option<Moment>) -> Step
+    ensures sees { SeesFirst side now tap.old tap.new piece.now result.used result.seen }
+    ensures other_side { KeepsOther side tap.old.tap tap.new.tap }
     ensures within_piece { result.used ≤ length piece.now }
     ensures uses_bytes { 0 < length piece.now → 0 < result.used }
 {
     match side {
-        Side::Client => tap.from_client(piece),
-        Side::Server => tap.from_server(piece),
+        Side::Client => tap.from_client(piece, now),
+        Side::Server => tap.from_server(piece, now),
+    }
+}
+
+/// How long the command waited that came at this time, where a reply to it is seen.
+fn waited_of(now: Moment, asked: Option<u64>, seen: &Seen) -> Option<u64>
+    ensures { result ≡ waited_of now asked seen.now }
+{
+    match (asked, seen) {
+        (Some(asked), Seen::Reply { .. }) => Some(now.steady.saturating_sub(asked)),
+        _ => None,
+    }
+}
+
+/// What is printed of the time at which something is seen.
+fn stamp_of(now: Option<Moment>, asked: Option<u64>, seen: &Seen) -> Option<Stamp>
+    ensures { result ≡ stamp_of now asked seen.now }
+{
+    match now {
+        None => None,
+        Some(now) => Some(Stamp {
+            of_day: now.of_day,
+            waited: waited_of(now, asked, seen),
+        }),
     }
 }
 
 /// Takes bytes that a side of the connection of the client with this number has sent, until
-/// something is seen or the piece ends, and prints what is seen.
+/// something is seen or the piece ends, and prints what is seen: where a moment is given, with the
+/// time of day, and a reply with how long its command waited for it.
 pub fn watch_some<W: Sink>(
     alloc: Global,
-    tap: &mut Tap,
+    tap: &mut TimedTap,
     client: u64,
     side: Side,
     piece: &[u8],
+    now: Option<Moment>,
     writer: &mut W,
 ) -> Watched
-    ensures printed { (tap_state tap.old).is_read ≡ true → WhereSent side tap.old (λ front.
-        PrintsWhatIsSeen side (tap_state tap.old) tap.new front piece.now client
-        (W.written writer.old) (W.written writer.new) (W.failures writer.old)
-        (W.failures writer.new) result) }
-    ensures unread { (tap_state tap.old).is_read ≡ false →
-        (tap.new ≡ tap.old) × (result.used ≡ length piece.now) }
-    ensures other_side { KeepsOther side tap.old tap.new }
+    ensures watches { (what : Seen) ×
+        SeesFirst side now tap.old tap.new piece.now result.used what ×
+        PrintsSeen client now tap.old what (W.written writer.old) (W.written writer.new)
+        (W.failures writer.old) (W.failures writer.new) result.printed }
+    ensures other_side { KeepsOther side tap.old.tap tap.new.tap }
     ensures within_piece { result.used ≤ length piece.now }
     ensures uses_bytes { 0 < length piece.now → 0 < result.used }
 {
-    let step = step(tap, side, piece);
-    let printed = write_seen(alloc, client, &step.seen, writer);
+    let asked = tap.asked();
+    let step = step(tap, side, piece, now);
+    let stamp = stamp_of(now, asked, &step.seen);
+    let printed = write_seen(alloc, client, stamp, &step.seen, writer);
     Watched {
         used: step.used,
         printed,
@@ -72,24 +98,25 @@ pub fn watch_some<W: Sink>(
 }
 
 /// Gives the tap a piece that a side of the connection of the client with this number has sent, and
-/// prints all that is seen. What can't be printed is left out.
+/// prints all that is seen, as [`watch_some`] does. What can't be printed is left out.
 pub fn watch<W: Sink>(
     alloc: Global,
-    tap: &mut Tap,
+    tap: &mut TimedTap,
     client: u64,
     side: Side,
     piece: &[u8],
+    now: Option<Moment>,
     writer: &mut W,
 )
-    ensures other_side { KeepsOther side tap.old tap.new }
+    ensures watches { (all : List Seen) × WatchesAll client side now all tap.old tap.new piece.now
+        (W.written writer.old) (W.written writer.new) (W.failures writer.old)
+        (W.failures writer.new) }
+    ensures other_side { KeepsOther side tap.old.tap tap.new.tap }
 {
     let mut rest = piece;
-    // Each turn uses a byte at least.
-    for turn in 0..piece.len() {
-        if rest.is_empty() {
-            return;
-        }
-        let watched = watch_some(alloc, tap, client, side, rest, writer);
+    while !rest.is_empty() {
+        let watched = watch_some(alloc, tap, client, side, rest, now, writer);
+        // A byte at least was used.
         rest = &rest[watched.used..];
     }
 }

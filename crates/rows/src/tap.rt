@@ -5,9 +5,9 @@ use crate::cut::{Cut, pieces};
 use crate::subject::Subject;
 use crate::text::bytes;
 use anyhow::{Result, bail};
-use resp_tap::Tap;
 use resp_tap::screen::Screen;
 use resp_tap::watch::{Side, watch};
+use resp_tap::{Moment, TimedTap};
 use resp_value::Limits;
 use std::alloc::Global;
 use std::str;
@@ -19,14 +19,17 @@ const MOST: usize = 65_536;
 #[derive(Drop)]
 pub(crate) struct Tapping {
     alloc: Global,
-    tap: Tap,
+    tap: TimedTap,
+    /// When what passes comes, where that is told.
+    now: Option<Moment>,
 }
 
 impl Subject for Tapping {
     fn new(alloc: Global) -> Result<Tapping> {
         Ok(Tapping {
             alloc,
-            tap: Tap::new(alloc, &Limits::standard().with_doubles(true)),
+            tap: TimedTap::new(alloc, &Limits::standard().with_doubles(true)),
+            now: None,
         })
     }
 
@@ -37,6 +40,7 @@ impl Subject for Tapping {
     fn run(&mut self, name: &str, given: &str, cut: Cut, said: &mut String) -> Result<()> {
         match name {
             "tap" => self.renew(given),
+            "now" => self.set_clock(given),
             "client" => self.pass(Side::Client, given, cut, said),
             "server" => self.pass(Side::Server, given, cut, said),
             _ => bail!("an unknown row"),
@@ -47,7 +51,20 @@ impl Subject for Tapping {
 impl Tapping {
     /// `tap LIMITS` taps a new connection.
     fn renew(&mut self, limits: &str) -> Result<()> {
-        self.tap = Tap::new(self.alloc, &bounds::limits(limits)?);
+        self.tap = TimedTap::new(self.alloc, &bounds::limits(limits)?);
+        Ok(())
+    }
+
+    /// `now OF_DAY STEADY` is the moment at which all comes that passes from here on, in
+    /// microseconds: of the day, and by a clock that is never set.
+    fn set_clock(&mut self, moment: &str) -> Result<()> {
+        let Some((of_day, steady)) = moment.split_once(' ') else {
+            bail!("a moment has two numbers");
+        };
+        self.now = Some(Moment {
+            of_day: of_day.parse()?,
+            steady: steady.parse()?,
+        });
         Ok(())
     }
 
@@ -57,7 +74,7 @@ impl Tapping {
         let text = bytes(alloc, given)?;
         let mut screen = Screen::new(alloc, MOST);
         for piece in pieces(alloc, text.as_slice(), cut)? {
-            watch(alloc, &mut self.tap, 1, side, piece, &mut screen);
+            watch(alloc, &mut self.tap, 1, side, piece, self.now, &mut screen);
         }
         said.push_str(str::from_utf8(screen.text())?)?;
         Ok(())

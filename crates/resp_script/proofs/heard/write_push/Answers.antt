@@ -7,8 +7,8 @@ use Rattle.resp_script.proofs.heard.write_push.Goals as goal
 
 pub returns-in-Ok : goal.returns-in-Ok
 returns-in-Ok g c =
-    prints_next c.write_items.result _ _ _ _ _ _ (push_heading c.args.client) (indented (shown_text (datum_of (value.Push c.args.push.now)))) c.in-Ok.ensures
-    c.write_items.ensures
+    prints_next c.write_members.result _ _ _ _ _ _ (push_heading c.args.client) (indented (shown_text (datum_of (value.Push c.args.push.now)))) c.in-Ok.ensures
+    c.write_members.ensures
 
 pub returns-in-Err : goal.returns-in-Err
 returns-in-Err g c =

@@ -1,13 +1,14 @@
-use Rattle.resp_tap.specs.Texts.{command_heading, words_line}
+use Rattle.std.proofs.Common.{codes}
+use Rattle.resp_tap.specs.Texts.{numbered_line, words_line}
 use Rattle.resp_tool.proofs.WrittenLemmas.{writes_next, writes_part}
 use Rattle.resp_tap.proofs.print.write_command.Goals as goal
 
-pub returns-in_err-write_command_heading : goal.returns-in_err-write_command_heading
-returns-in_err-write_command_heading g c =
-    writes_part c.from_residual.result _ _ _ _ (command_heading c.args.client c.args.number) (words_line c.args.words.now)
-    c.from_residual.ensures.0 c.in_err-write_command_heading.ensures
+pub returns-in_err-write_numbered_line : goal.returns-in_err-write_numbered_line
+returns-in_err-write_numbered_line g c =
+    writes_part c.from_residual.result _ _ _ _ (numbered_line c.args.client (codes " command ") c.args.number c.args.stamp) (words_line c.args.words.now)
+    c.from_residual.ensures.0 c.in_err-write_numbered_line.ensures
 
 pub returns : goal.returns
 returns g c =
-    writes_next c.write_words_line.result _ _ _ _ _ _ (command_heading c.args.client c.args.number) (words_line c.args.words.now)
-    c.in_ok-write_command_heading.ensures c.write_words_line.ensures
+    writes_next c.write_words_line.result _ _ _ _ _ _ (numbered_line c.args.client (codes " command ") c.args.number c.args.stamp) (words_line c.args.words.now)
+    c.in_ok-write_numbered_line.ensures c.write_words_line.ensures

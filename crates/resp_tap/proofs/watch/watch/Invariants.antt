@@ -1,5 +1,18 @@
-use Rattle.resp_tap.specs.Watches.{KeepsOther}
+use Rattle.std.proofs.Common.{ℕ, List, length, Option}
+use Rattle.resp_tap.specs.Watches.{KeepsOther, WatchesAll}
+use Rattle.resp_tap.specs.declared.seen.Seen.{Seen}
+use Rattle.resp_tap.specs.declared.timed.TimedTap.{TimedTap}
 use Rattle.resp_tap.proofs.watch.watch.Given as goal
 
-abbrev pub invariant-loop-turn : goal.invariant-loop-turn
-invariant-loop-turn g l = KeepsOther l.side l.initial.tap l.tap
+-- what is seen of the rest, after what was seen before it, is seen of the piece
+abbrev pub invariant-loop-rest : goal.invariant-loop-rest
+invariant-loop-rest g l = record {
+  other : KeepsOther l.side l.initial.tap.tap l.tap.tap;
+  so_far : (more : List Seen) (new : TimedTap) (after : Option (List ℕ)) (failures' : ℕ) →
+      WatchesAll l.client l.side l.now more l.tap new l.rest (g.W.Sink.written l.writer) after (g.W.Sink.failures l.writer) failures' →
+      (all : List Seen) × WatchesAll l.client l.side l.now all l.initial.tap new l.piece (g.W.Sink.written l.initial.writer) after
+      (g.W.Sink.failures l.initial.writer) failures';
+}
+
+abbrev pub decreases-loop-rest : goal.decreases-loop-rest
+decreases-loop-rest g l = length l.rest

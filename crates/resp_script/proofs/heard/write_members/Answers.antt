@@ -7,7 +7,7 @@ use Rattle.resp_value.specs.declared.value.Value.TheVariants as value
 use Rattle.resp_value.specs.declared.version.Version.TheVariants.{Three}
 use Rattle.resp_value.proofs.DatumOf.{datum_of-Push}
 use Rattle.resp_encode.specs.Pushes.{push_of}
-use Rattle.resp_script.proofs.heard.write_items.Goals as goal
+use Rattle.resp_script.proofs.heard.write_members.Goals as goal
 
 pub returns-in-Ok : goal.returns-in-Ok
 returns-in-Ok g c =

@@ -1,0 +1,29 @@
+use Rattle.std.proofs.Common.{rules, ◌≡◌, ◌≢◌, [], ◌∷◌, ◌++◌, length, sym, ◌∙◌}
+use Rattle.std.specs.Prelude.{IsSome}
+use Rattle.resp_tap.specs.Taps.{tap_state}
+use Rattle.resp_tap.proofs.TimeLemmas.{request_waits, snoc_same, times_on}
+use Rattle.resp_tap.proofs.timed.TimedTap.from_client_at.Goals as goal
+
+pub returns-then-is_err-clause-seen : goal.returns-then-is_err-clause-seen
+returns-then-is_err-clause-seen c = λ read. λ front taken. c.lack_memory.ensures.seen front
+
+pub returns-then-waiting-clause-times : goal.returns-then-waiting-clause-times
+returns-then-waiting-clause-times c = λ read. λ front taken.
+    let old = c.args.self.now in
+    let step = c.from_client-step in
+    let pushed : c.push_back.new.self.items ≡ old.times.items ++ c.args.now.steady ∷ [] = search rules in
+    let waits = request_waits (tap_state old.tap) step.new.self front c.args.piece.now step.result.used step.result.seen (step.ensures.seen read front taken) in
+    let same : length (tap_state step.new.self).waiting.asks ≡ length (tap_state old.tap).waiting.asks = search rules in
+    let some : IsSome c.pop_back.result = search rules in
+    times_on old _ c.args.now.steady waits
+    (λ _. snoc_same old.times.items c.pop_back.new.self.items c.args.now.steady c.pop_back.result (sym pushed ∙ c.pop_back.ensures.items) some)
+    (λ other. absurd (other same))
+
+pub returns-else-waiting-clause-times : goal.returns-else-waiting-clause-times
+returns-else-waiting-clause-times c = λ read. λ front taken.
+    let old = c.args.self.now in
+    let step = c.from_client-step in
+    let pushed : c.push_back.new.self.items ≡ old.times.items ++ c.args.now.steady ∷ [] = search rules in
+    let waits = request_waits (tap_state old.tap) step.new.self front c.args.piece.now step.result.used step.result.seen (step.ensures.seen read front taken) in
+    let other : length (tap_state step.new.self).waiting.asks ≢ length (tap_state old.tap).waiting.asks = search rules in
+    times_on old _ c.args.now.steady waits (λ same. absurd (other same)) (λ _. pushed)

@@ -1,0 +1,18 @@
+-- How a line ends that tells when something was seen.
+use Rattle.std.specs.Prelude.{ℕ, ◌/◌, List, ◌++◌, Option, None, Some, codes, decimal}
+use Rattle.resp_tap.specs.Digits.{micros_text, time_text}
+use Rattle.resp_tap.specs.declared.stamp.Stamp.{Stamp}
+
+-- how many seconds a command waited, with six decimals, if that is known
+abbrev pub waited_text : Option ℕ → List ℕ
+waited_text None = codes "\n"
+waited_text (Some micros) =
+    (codes " after " ++ decimal (micros / 1000000) ++ codes ".") ++ (micros_text micros ++ codes " s\n")
+
+abbrev pub stamp_text : Stamp → List ℕ
+stamp_text stamp = time_text stamp.of_day ++ waited_text stamp.waited
+
+-- the end of a line
+abbrev pub ending_text : Option Stamp → List ℕ
+ending_text None = codes "\n"
+ending_text (Some stamp) = codes " at " ++ stamp_text stamp

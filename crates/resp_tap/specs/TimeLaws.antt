@@ -1,0 +1,20 @@
+-- What must be true of what is printed of times.
+use Rattle.std.specs.Prelude.{◌≡◌, ℕ, ◌++◌, None, codes}
+use Rattle.resp_value.specs.Data.{Datum}
+use Rattle.resp_tool.specs.Shown.{shown_text}
+use Rattle.resp_script.specs.Printed.{indented, push_heading, reply_heading}
+use Rattle.resp_tap.specs.Digits.{micros_text, time_text}
+use Rattle.resp_tap.specs.Texts.{push_text, reply_text}
+
+-- times of day and microseconds that were worked out by hand
+pub record TimesAreToldSo : Type 0 where
+  pub midnight : time_text 0 ≡ codes "00:00:00.000000"
+  pub morning : time_text 20216123456 ≡ codes "05:36:56.123456"
+  pub last_of_day : time_text 86399999999 ≡ codes "23:59:59.999999"
+  pub whole_seconds_left_out : micros_text 12000213 ≡ codes "000213"
+
+-- without a time, replies and pushes are printed as those of a script are
+abbrev pub PrintsAsPlayed : Type 0
+PrintsAsPlayed = (client number : ℕ) (x : Datum) →
+    (reply_text client number None x ≡ reply_heading client number ++ indented (shown_text x)) ×
+    (push_text client None x ≡ push_heading client ++ indented (shown_text x))

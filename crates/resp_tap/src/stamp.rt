@@ -1,0 +1,140 @@
+//! When something was seen, as it is printed.
+
+ghost use Rattle.std.specs.Prelude.{◌≡◌, ◌++◌, ◌/◌, ◌%◌, None, Some, codes};
+ghost use Rattle.resp_tool.specs.Written.{WritesText};
+ghost use Rattle.resp_tap.specs.Digits.{digit, micros_text, time_text, two_digits};
+
+use crate::moment::Moment;
+use resp_tool::text::{write_number, write_text};
+use resp_value::device::{DeviceFault, Sink};
+
+/// When something was seen, in microseconds.
+#[derive(Clone, Copy, Debug, PartialEq, Eq)]
+pub struct Stamp {
+    /// The time of day in UTC, since midnight.
+    pub of_day: u64,
+    /// Of a reply, how long its command waited for it.
+    pub waited: Option<u64>,
+}
+
+ghost use Rattle.resp_tap.specs.Stamps.{ending_text, stamp_text, waited_text};
+
+impl Stamp {
+    /// Tells this moment, and that no command waited.
+    pub fn new(now: Moment) -> Stamp
+        ensures { result ≡ record { of_day = now.of_day; waited = None } }
+    {
+        Stamp {
+            of_day: now.of_day,
+            waited: None,
+        }
+    }
+}
+
+/// Writes the end of a line: an LF, and before it when what it tells was seen, where it is stamped.
+/// Refuses where a write fails.
+pub(crate) fn write_ending<W: Sink>(stamp: Option<Stamp>, writer: &mut W) -> Result<(), DeviceFault>
+    ensures { WritesText (W.written writer.old) (W.written writer.new) (W.failures writer.old)
+        (W.failures writer.new) result (ending_text stamp) }
+{
+    match stamp {
+        None => write_text(writer, b"\n"),
+        Some(stamp) => write_stamped_ending(stamp, writer),
+    }
+}
+
+/// Writes the end of a line that is stamped.
+fn write_stamped_ending<W: Sink>(stamp: Stamp, writer: &mut W) -> Result<(), DeviceFault>
+    ensures { WritesText (W.written writer.old) (W.written writer.new) (W.failures writer.old)
+        (W.failures writer.new) result (codes " at " ++ stamp_text stamp) }
+{
+    write_text(writer, b" at ")?;
+    write_stamp(stamp, writer)
+}
+
+/// Writes a time of day, how long a command waited, and an LF. Refuses where a write fails.
+pub(crate) fn write_stamp<W: Sink>(stamp: Stamp, writer: &mut W) -> Result<(), DeviceFault>
+    ensures { WritesText (W.written writer.old) (W.written writer.new) (W.failures writer.old)
+        (W.failures writer.new) result (stamp_text stamp) }
+{
+    write_time(stamp.of_day, writer)?;
+    write_waited(stamp.waited, writer)
+}
+
+/// Writes the time of day, this many microseconds after midnight.
+fn write_time<W: Sink>(micros: u64, writer: &mut W) -> Result<(), DeviceFault>
+    ensures { WritesText (W.written writer.old) (W.written writer.new) (W.failures writer.old)
+        (W.failures writer.new) result (time_text micros) }
+{
+    let text = time_of_day(micros);
+    write_text(writer, text.as_slice())
+}
+
+/// Writes how long a command waited, if that is known, and an LF.
+fn write_waited<W: Sink>(waited: Option<u64>, writer: &mut W) -> Result<(), DeviceFault>
+    ensures { WritesText (W.written writer.old) (W.written writer.new) (W.failures writer.old)
+        (W.failures writer.new) result (waited_text waited) }
+{
+    match waited {
+        None => write_text(writer, b"\n"),
+        Some(micros) => write_seconds(micros, writer),
+    }
+}
+
+/// Writes a number of microseconds as seconds, and an LF.
+fn write_seconds<W: Sink>(micros: u64, writer: &mut W) -> Result<(), DeviceFault>
+    ensures { WritesText (W.written writer.old) (W.written writer.new) (W.failures writer.old)
+        (W.failures writer.new) result (waited_text (Some micros)) }
+{
+    write_number(writer, b" after ", micros / 1_000_000, b".")?;
+    write_micros(micros, writer)?;
+    write_text(writer, b" s\n")
+}
+
+/// Writes the microseconds that are no whole seconds.
+fn write_micros<W: Sink>(micros: u64, writer: &mut W) -> Result<(), DeviceFault>
+    ensures { WritesText (W.written writer.old) (W.written writer.new) (W.failures writer.old)
+        (W.failures writer.new) result (micros_text micros) }
+{
+    let text = micros_of(micros);
+    write_text(writer, text.as_slice())
+}
+
+/// The last digit of a number.
+fn digit(number: u64) -> u8
+    ensures { result ≡ digit number }
+{
+    b'0' + (number % 10) as u8
+}
+
+/// The last two digits of a number.
+fn two_digits(number: u64) -> [u8; 2]
+    ensures { result ≡ two_digits number }
+{
+    [digit(number / 10), digit(number)]
+}
+
+/// The last six digits of a number.
+fn micros_of(number: u64) -> [u8; 6]
+    ensures { result ≡ micros_text number }
+{
+    [
+        digit(number / 100_000),
+        digit(number / 10_000),
+        digit(number / 1_000),
+        digit(number / 100),
+        digit(number / 10),
+        digit(number),
+    ]
+}
+
+/// The time of day, this many microseconds after midnight.
+fn time_of_day(micros: u64) -> [u8; 15]
+    ensures { result ≡ time_text micros }
+{
+    let [h, i] = two_digits(micros / 3_600_000_000);
+    let [m, n] = two_digits(micros / 60_000_000 % 60);
+    let [s, t] = two_digits(micros / 1_000_000 % 60);
+    let [a, b, c, d, e, f] = micros_of(micros);
+    [h, i, b':', m, n, b':', s, t, b'.', a, b, c, d, e, f]
+}

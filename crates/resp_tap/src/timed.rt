@@ -1,0 +1,124 @@
+//! A tap that knows when the commands came that wait for their replies.
+
+ghost use Rattle.std.specs.Prelude.{◌≡◌, ◌<◌, ◌≤◌, true, false, ℕ, List, [], Some, length, slice_get};
+ghost use Rattle.resp_tap.specs.Taps.{at_front, new_tap, tap_state};
+ghost use Rattle.resp_tap.specs.Watching.{HasTakenRequest, HasTakenValue, KeepsRequest, KeepsValue, SeesRequest, SeesValue, WhereAnswered, WhereRequested};
+
+use crate::moment::Moment;
+use crate::seen::{Seen, Step};
+use crate::tap::Tap;
+use resp_value::limits::Limits;
+use std::alloc::Global;
+use std::collections::VecDeque;
+
+/// A tap, and beside it when each command came that waits for its reply: eight bytes for each.
+///
+/// Where no moment is given, no time is kept and the tap is as any other.
+#[derive(Drop)]
+pub struct TimedTap {
+    pub(crate) tap: Tap,
+    /// When the commands came that wait for their replies, by the steady clock, the first first.
+    pub(crate) times: VecDeque<u64>,
+}
+
+ghost use Rattle.resp_tap.specs.Times.{HasTimes, KeepsTimes, is_reply};
+
+/// Whether this is a reply.
+fn is_reply(seen: &Seen) -> bool
+    ensures { result ≡ is_reply seen.now }
+{
+    matches!(seen, Seen::Reply { .. })
+}
+
+impl TimedTap {
+    /// A connection of which nothing has passed, read within these limits. Takes no memory.
+    pub fn new(alloc: Global, limits: &Limits) -> TimedTap
+        ensures nothing_passed { tap_state result.tap ≡ new_tap limits.now }
+        ensures nothing_requested { HasTakenRequest result.tap [] }
+        ensures nothing_answered { HasTakenValue result.tap [] }
+        ensures no_times { HasTimes result [] }
+    {
+        TimedTap {
+            tap: Tap::new(alloc, limits),
+            times: VecDeque::new(alloc),
+        }
+    }
+
+    /// When the command came that the next reply answers, by the steady clock, if that is known.
+    pub fn asked(&self) -> Option<u64>
+        ensures { (times : List ℕ) → HasTimes self.now times →
+            result ≡ slice_get times (tap_state self.now.tap).answered }
+    {
+        self.times.get(0).copied()
+    }
+
+    /// Takes bytes that the client sent, which came at this moment, as [`Tap::from_client`] does.
+    /// Refuses the next command at its first byte where no memory is found for its time.
+    pub fn from_client(&mut self, piece: &[u8], now: Option<Moment>) -> Step
+        ensures seen { (tap_state self.old.tap).is_read ≡ true →
+            WhereRequested self.old.tap (λ front. SeesRequest (tap_state self.old.tap) self.new.tap
+            front piece.now result.used result.seen) }
+        ensures times { (tap_state self.old.tap).is_read ≡ true →
+            WhereRequested self.old.tap (λ front. KeepsTimes now self.old self.new) }
+        ensures same_value { KeepsValue self.old.tap self.new.tap }
+        ensures within_piece { result.used ≤ length piece.now }
+        ensures uses_bytes { 0 < length piece.now → 0 < result.used }
+        ensures unread { (tap_state self.old.tap).is_read ≡ false → (self.new ≡ self.old) ×
+            (result ≡ record { used = length piece.now; seen = Seen.Nothing }) }
+    {
+        match now {
+            None => self.tap.from_client(piece),
+            Some(now) => self.from_client_at(piece, now),
+        }
+    }
+
+    /// The same where a moment is given.
+    fn from_client_at(&mut self, piece: &[u8], now: Moment) -> Step
+        ensures seen { (tap_state self.old.tap).is_read ≡ true →
+            WhereRequested self.old.tap (λ front. SeesRequest (tap_state self.old.tap) self.new.tap
+            front piece.now result.used result.seen) }
+        ensures times { (tap_state self.old.tap).is_read ≡ true →
+            WhereRequested self.old.tap (λ front. KeepsTimes (Some now) self.old self.new) }
+        ensures same_value { KeepsValue self.old.tap self.new.tap }
+        ensures within_piece { result.used ≤ length piece.now }
+        ensures uses_bytes { 0 < length piece.now → 0 < result.used }
+        ensures unread { (tap_state self.old.tap).is_read ≡ false → (self.new ≡ self.old) ×
+            (result ≡ record { used = length piece.now; seen = Seen.Nothing }) }
+    {
+        if !self.tap.is_read() {
+            return Step::nothing(piece);
+        }
+        if self.times.push_back(now.steady).is_err() {
+            return self.tap.lack_memory(piece);
+        }
+        let waiting = self.tap.waiting();
+        let step = self.tap.from_client(piece);
+        if self.tap.waiting() == waiting {
+            // No command came that waits.
+            let _ = self.times.pop_back();
+        }
+        step
+    }
+
+    /// Takes bytes that the server sent, as [`Tap::from_server`] does. The time of a command that
+    /// they answer is dropped.
+    pub fn from_server(&mut self, piece: &[u8], now: Option<Moment>) -> Step
+        ensures seen { (tap_state self.old.tap).is_read ≡ true →
+            WhereAnswered self.old.tap (λ front. SeesValue
+            (at_front front (tap_state self.old.tap)) self.new.tap front piece.now result.used
+            result.seen) }
+        ensures times { (tap_state self.old.tap).is_read ≡ true →
+            WhereAnswered self.old.tap (λ front. KeepsTimes now self.old self.new) }
+        ensures same_request { KeepsRequest self.old.tap self.new.tap }
+        ensures within_piece { result.used ≤ length piece.now }
+        ensures uses_bytes { 0 < length piece.now → 0 < result.used }
+        ensures unread { (tap_state self.old.tap).is_read ≡ false → (self.new ≡ self.old) ×
+            (result ≡ record { used = length piece.now; seen = Seen.Nothing }) }
+    {
+        let step = self.tap.from_server(piece);
+        if now.is_some() && is_reply(&step.seen) {
+            let _ = self.times.pop_front();
+        }
+        step
+    }
+}
