@@ -17,6 +17,8 @@ setup(
             depends=["bytes.h", "values.h"],
             include_dirs=[os.path.join(PREFIX, "include")],
             extra_objects=[os.path.join(PREFIX, "lib", "libresp.a")],
+            # (each member of an array is a call or two of Python, which go by no table then)
+            extra_compile_args=["-O3", "-fno-plt"],
             py_limited_api=True,
         )
     ],

@@ -314,6 +314,17 @@ class Rows(unittest.TestCase):
         gc.collect()
         self.assertIsNone(held())
 
+    def test_a_list_that_is_begun_is_hidden(self):
+        read = reader()
+        read.feed(b"*987\r\n*654\r\n" + b":1\r\n" * 600)
+        self.assertIs(read.gets(), reader_waits)
+        gc.collect()
+        self.assertFalse([it for it in gc.get_objects() if type(it) is list and len(it) in (987, 654)])
+        read.feed(b":1\r\n" * 1040)
+        reply = read.gets()
+        self.assertEqual(reply, [[1] * 654] + [1] * 986)
+        self.assertTrue(gc.is_tracked(reply) and gc.is_tracked(reply[0]))
+
     def test_a_head_is_not_believed(self):
         tracemalloc.start()
         try:

@@ -20,10 +20,17 @@
 #define APART
 #endif
 
-/* An aggregate that is open: its kind, and where its members begin among the values. */
+/* An array of so many members is made where it opens. Of how many others have, no head is believed. */
+#define LEAST_FILLED 8
+#define MOST_FILLED 1024
+
+/* An aggregate that is open: its kind, and where its members begin among the values; or the list that is filled with
+ * them, and how many it has. The list is hidden from the collector, and so from everyone, until it has all. */
 struct open {
     uint32_t form;
     size_t first;
+    PyObject *list;
+    Py_ssize_t filled;
 };
 
 /* How strings are read. */
@@ -35,6 +42,8 @@ struct values {
     size_t count, room;
     struct open open[MOST_OPEN];
     size_t depth;
+    /* The innermost aggregate, where it is a list that is filled. */
+    struct open *filling;
     /* The text that comes in parts: its kind, whether it is a big number below zero, and its bytes. */
     uint32_t form;
     bool is_negative;
@@ -287,6 +296,10 @@ static inline void add(struct values *values, PyObject *value) {
         Py_INCREF(Py_None);
         value = Py_None;
     }
+    if (values->filling) {
+        PyList_SetItem(values->filling->list, values->filling->filled++, value);
+        return;
+    }
     if (values->count == values->room && !reserve_values(values)) {
         fail(values);
         Py_DECREF(value);
@@ -295,9 +308,26 @@ static inline void add(struct values *values, PyObject *value) {
     values->start[values->count++] = value;
 }
 
-/* The innermost aggregate has all its members. Its head isn't believed how many these are. */
+static APART void begin_values(struct values *values, const struct resp_event *event) {
+    struct open *open = &values->open[values->depth++];
+    bool is_filled = event->form == RESP_ARRAY && event->members >= LEAST_FILLED && event->members <= MOST_FILLED;
+    *open = (struct open){event->form, values->count, is_filled ? PyList_New((Py_ssize_t)event->members) : NULL, 0};
+    if (is_filled && !open->list)
+        fail(values);
+    if (open->list)
+        PyObject_GC_UnTrack(open->list);
+    values->filling = open->list ? open : NULL;
+}
+
+/* The innermost aggregate has all its members. */
 static APART void end(struct values *values) {
     struct open *open = &values->open[--values->depth];
+    values->filling = values->depth && open[-1].list ? open - 1 : NULL;
+    if (open->list) {
+        PyObject_GC_Track(open->list);
+        add(values, open->list);
+        return;
+    }
     PyObject **members = values->start + open->first;
     size_t count = values->count - open->first;
     /* (from now on the collector of cycles sees the members where they come to lie) */
@@ -341,7 +371,7 @@ static inline bool take(struct values *values, const struct resp_event *event, c
     else if (event->kind == RESP_DONE || event->kind == RESP_MORE)
         return false;
     else if (event->kind == RESP_OPEN)
-        values->open[values->depth++] = (struct open){event->form, values->count};
+        begin_values(values, event);
     else if (event->kind == RESP_CLOSE)
         end(values);
     else
@@ -351,9 +381,11 @@ static inline bool take(struct values *values, const struct resp_event *event, c
 
 /* Lets go of what was taken, and gives much room back. */
 static void forget(struct values *values) {
+    values->filling = NULL;
+    while (values->depth)
+        Py_XDECREF(values->open[--values->depth].list);
     while (values->count)
         Py_DECREF(values->start[--values->count]);
-    values->depth = 0;
     Py_CLEAR(values->failure);
     if (values->room > MOST_VALUES) {
         PyMem_Free(values->start);
