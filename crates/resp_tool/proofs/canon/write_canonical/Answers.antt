@@ -11,6 +11,6 @@ returns-in-Err-clause-part g c =
     let bytes = c.as_slice.result.now in
     let is : bytes ≡ canonical_text c.args.version (datum_of c.args.value.now) = search rules in (
       subst (AppendsPart (g.W.Sink.written c.args.writer.now) (g.W.Sink.written c.write_all.new.sink)) is
-      (record { part = take n bytes; beyond = drop n bytes; whole = sym (take-append-drop n bytes); appended = c.in-Err.ensures.part }),
+          (record { part = take n bytes; beyond = drop n bytes; whole = sym (take-append-drop n bytes); appended = c.in-Err.ensures.part }),
       c.in-Err.ensures.failed_once,
     )
