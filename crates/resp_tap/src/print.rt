@@ -12,7 +12,7 @@ use resp_script::heard::{write_push, write_reply, write_value};
 use resp_script::play::PlayError;
 use resp_session::words::Words;
 use resp_tool::text::{write_number, write_quoted, write_text};
-use resp_value::device::{Sink, WriteFault};
+use resp_value::device::{DeviceFault, Sink};
 use resp_value::value::Value;
 use std::alloc::Global;
 
@@ -45,7 +45,7 @@ pub fn write_seen<W: Sink>(
 }
 
 /// What a write came to.
-fn printed(written: Result<(), WriteFault>) -> Result<(), PlayError>
+fn printed(written: Result<(), DeviceFault>) -> Result<(), PlayError>
     ensures { (before after : Option (List ℕ)) (failures failures' : ℕ) (text : List ℕ) →
         WritesText before after failures failures' written text →
         Prints before after failures failures' result text }
@@ -79,7 +79,7 @@ fn write_command<W: Sink>(
     number: u64,
     words: &Words,
     writer: &mut W,
-) -> Result<(), WriteFault>
+) -> Result<(), DeviceFault>
     ensures { WritesText (W.written writer.old) (W.written writer.new) (W.failures writer.old)
         (W.failures writer.new) result (command_text client number words.now) }
 {
@@ -92,7 +92,7 @@ fn write_command_heading<W: Sink>(
     client: u64,
     number: u64,
     writer: &mut W,
-) -> Result<(), WriteFault>
+) -> Result<(), DeviceFault>
     ensures { WritesText (W.written writer.old) (W.written writer.new) (W.failures writer.old)
         (W.failures writer.new) result (command_heading client number) }
 {
@@ -101,7 +101,7 @@ fn write_command_heading<W: Sink>(
 }
 
 /// Writes the line of a command's words.
-fn write_words_line<W: Sink>(words: &Words, writer: &mut W) -> Result<(), WriteFault>
+fn write_words_line<W: Sink>(words: &Words, writer: &mut W) -> Result<(), DeviceFault>
     ensures { WritesText (W.written writer.old) (W.written writer.new) (W.failures writer.old)
         (W.failures writer.new) result (words_line words.now) }
 {
@@ -111,7 +111,7 @@ fn write_words_line<W: Sink>(words: &Words, writer: &mut W) -> Result<(), WriteF
 }
 
 /// Writes words in quotes, each after a space.
-fn write_words<W: Sink>(words: &Words, writer: &mut W) -> Result<(), WriteFault>
+fn write_words<W: Sink>(words: &Words, writer: &mut W) -> Result<(), DeviceFault>
     ensures { WritesText (W.written writer.old) (W.written writer.new) (W.failures writer.old)
         (W.failures writer.new) result (words_text words.now) }
 {
@@ -124,7 +124,7 @@ fn write_words<W: Sink>(words: &Words, writer: &mut W) -> Result<(), WriteFault>
 }
 
 /// Writes a word in quotes, after a space.
-fn write_word<W: Sink>(word: &[u8], writer: &mut W) -> Result<(), WriteFault>
+fn write_word<W: Sink>(word: &[u8], writer: &mut W) -> Result<(), DeviceFault>
     ensures { WritesText (W.written writer.old) (W.written writer.new) (W.failures writer.old)
         (W.failures writer.new) result (word_text word.now) }
 {
@@ -140,7 +140,7 @@ fn write_refusal<W: Sink>(
     at: u64,
     place: Place,
     writer: &mut W,
-) -> Result<(), WriteFault>
+) -> Result<(), DeviceFault>
     ensures { WritesText (W.written writer.old) (W.written writer.new) (W.failures writer.old)
         (W.failures writer.new) result (refusal_text client name.now at place) }
 {
@@ -153,7 +153,7 @@ fn write_refusal_heading<W: Sink>(
     client: u64,
     name: &[u8],
     writer: &mut W,
-) -> Result<(), WriteFault>
+) -> Result<(), DeviceFault>
     ensures { WritesText (W.written writer.old) (W.written writer.new) (W.failures writer.old)
         (W.failures writer.new) result (refusal_heading client name.now) }
 {
@@ -162,7 +162,7 @@ fn write_refusal_heading<W: Sink>(
 }
 
 /// Writes which byte was refused.
-fn write_byte<W: Sink>(at: u64, place: Place, writer: &mut W) -> Result<(), WriteFault>
+fn write_byte<W: Sink>(at: u64, place: Place, writer: &mut W) -> Result<(), DeviceFault>
     ensures { WritesText (W.written writer.old) (W.written writer.new) (W.failures writer.old)
         (W.failures writer.new) result (byte_text at place) }
 {
@@ -171,7 +171,7 @@ fn write_byte<W: Sink>(at: u64, place: Place, writer: &mut W) -> Result<(), Writ
 }
 
 /// Writes what a refused byte belongs to.
-fn write_place<W: Sink>(place: Place, writer: &mut W) -> Result<(), WriteFault>
+fn write_place<W: Sink>(place: Place, writer: &mut W) -> Result<(), DeviceFault>
     ensures { WritesText (W.written writer.old) (W.written writer.new) (W.failures writer.old)
         (W.failures writer.new) result (place_text place) }
 {
