@@ -1,7 +1,7 @@
 //! Parts on the decoder.
 
 use crate::encoding::{SAMPLE, is_written_so};
-use crate::outcome::Outcome;
+use crate::outcome::{Outcome, answers};
 use resp_decode::{AllFault, Decoder, decode_all};
 use resp_scan::event::Fault;
 use resp_value::cause::Cause;
@@ -15,17 +15,9 @@ fn feed(decoder: &mut Decoder, piece: &[u8]) -> Result<Option<Value>, Fault> {
     Ok(decoder.feed(piece)?.value)
 }
 
-/// Whether this is answered to a further piece.
-fn refuses(decoder: &mut Decoder, fault: Fault) -> bool {
-    match feed(decoder, b":7\r\n") {
-        Ok(_) => false,
-        Err(again) => again == fault,
-    }
-}
-
 /// Whether this is answered for good, and nothing is held.
 fn is_final(decoder: &mut Decoder, fault: Fault) -> bool {
-    refuses(decoder, fault)
+    answers(feed(decoder, b":7\r\n"), fault)
         && decoder.finish() == Err(fault)
         && decoder.taken() == fault.at
         && decoder.weight() == 0

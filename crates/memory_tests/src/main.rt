@@ -59,7 +59,8 @@ fn print(rt: &impl Print, parts: &[Part]) -> Result<()> {
     Ok(())
 }
 
-fn of_decoder(alloc: Global) -> [Part; 6] {
+/// Each part, in the order in which they are made.
+fn parts(alloc: Global) -> [Part; 30] {
     [
         ("decode a piece", decoding::of_one_piece(alloc)),
         ("decode bytes", decoding::of_single_bytes(alloc)),
@@ -67,32 +68,17 @@ fn of_decoder(alloc: Global) -> [Part; 6] {
         ("decode scalars", decoding::of_scalars(alloc)),
         ("decode heads", decoding::of_heads(alloc)),
         ("decode_all", decoding::of_all(alloc)),
-    ]
-}
-
-fn of_encoder(alloc: Global) -> [Part; 6] {
-    [
         ("try_clone", encoding::of_clone(alloc)),
         ("encode", encoding::of_value(alloc)),
         ("encode_push", encoding::of_push(alloc)),
         ("encode_words", encoding::of_words(alloc)),
         ("encode_to", encoding::to_writer(alloc)),
         ("command", encoding::of_command(alloc)),
-    ]
-}
-
-fn of_client(alloc: Global) -> [Part; 5] {
-    [
         ("send", pipelining::of_send(alloc)),
         ("hello", pipelining::of_hello(alloc)),
         ("client feed", pipelining::of_feed(alloc)),
         ("client feed_with", pipelining::of_feed_with(alloc)),
         ("client integer", pipelining::of_integer(alloc)),
-    ]
-}
-
-fn of_hub(alloc: Global) -> [Part; 7] {
-    [
         ("hub open", serving::of_open(alloc)),
         ("hub set", serving::of_set(alloc)),
         ("hub get", serving::of_get(alloc)),
@@ -100,19 +86,9 @@ fn of_hub(alloc: Global) -> [Part; 7] {
         ("hub hello", serving::of_hello(alloc)),
         ("hub protocol error", serving::of_protocol_error(alloc)),
         ("hub push", serving::of_push(alloc)),
-    ]
-}
-
-fn of_wire(alloc: Global) -> [Part; 3] {
-    [
         ("ask", engines::of_ask(alloc)),
         ("serve", engines::of_serve(alloc)),
         ("world", worlds::of_run(alloc)),
-    ]
-}
-
-fn of_codecs(alloc: Global) -> [Part; 3] {
-    [
         ("framed values in", framing::of_values_in(alloc)),
         ("framed commands in", framing::of_commands_in(alloc)),
         ("framed replies out", framing::of_replies_out(alloc)),
@@ -122,10 +98,5 @@ fn of_codecs(alloc: Global) -> [Part; 3] {
 fn main(rt: HostRuntime) -> Result<()> {
     let alloc = rt.alloc();
     allocate(alloc, count_input(&mut rt.stdin())?)?;
-    print(&rt, &of_decoder(alloc))?;
-    print(&rt, &of_encoder(alloc))?;
-    print(&rt, &of_client(alloc))?;
-    print(&rt, &of_hub(alloc))?;
-    print(&rt, &of_wire(alloc))?;
-    print(&rt, &of_codecs(alloc))
+    print(&rt, &parts(alloc))
 }

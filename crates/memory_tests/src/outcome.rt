@@ -1,5 +1,7 @@
 //! What came of a part.
 
+use resp_scan::event::Fault;
+
 #[derive(Clone, Copy)]
 pub(crate) enum Outcome {
     Whole,
@@ -36,5 +38,13 @@ impl Outcome {
         } else {
             Outcome::Wrong
         }
+    }
+}
+
+/// Whether a call answers this fault.
+pub(crate) fn answers<T: Drop>(answer: Result<T, Fault>, fault: Fault) -> bool {
+    match answer {
+        Ok(_) => false,
+        Err(answered) => answered == fault,
     }
 }

@@ -2,7 +2,7 @@
 
 use crate::encoding::is_written_so;
 use crate::given::command;
-use crate::outcome::Outcome;
+use crate::outcome::{Outcome, answers};
 use resp_client::{Client, Fault, Heard, PushList, PushSink, SendError, What};
 use resp_value::cause::Cause;
 use resp_value::command::Command;
@@ -72,18 +72,10 @@ fn hear(client: &mut Client, piece: &[u8]) -> Result<What, Fault> {
     Ok(client.feed(piece)?.what)
 }
 
-/// Whether this is answered to a further piece.
-fn refuses(client: &mut Client, fault: Fault) -> bool {
-    match hear(client, b":7\r\n") {
-        Ok(_) => false,
-        Err(again) => again == fault,
-    }
-}
-
 /// A fault is OutOfMemory, is answered for good, and leaves what waits to be sent.
 fn refused(client: &mut Client, fault: Fault) -> Outcome {
-    let is_refusal = fault.cause == Cause::OutOfMemory && refuses(client, fault);
-    Outcome::refused(is_refusal && client.out() == HELLO)
+    let is_final = answers(hear(client, b":7\r\n"), fault);
+    Outcome::refused(is_final && fault.cause == Cause::OutOfMemory && client.out() == HELLO)
 }
 
 fn is_news(items: &Members) -> bool {

@@ -55,9 +55,12 @@ taken_suc {A} (y ∷ ys) zero x within is = ap (λ z. z ∷ []) (sym is)
 taken_suc {A} (y ∷ ys) (suc i) x within is = ap (λ z. y ∷ z) (taken_suc ys i x (omega (arith, within)) is)
 
 -- the events of one step more
-pub steps_more : (clients : ℕ) (steps : List (ℕ × Option Event)) (i : ℕ) (step : ℕ × Option Event) → i < length steps → step ≡ get_or steps i step →
+pub steps_more : (clients : ℕ) (steps items : List (ℕ × Option Event)) → items ≡ steps → (i : ℕ) (step : ℕ × Option Event) →
+    i < length items → step ≡ get_or items i step →
     steps_events clients (take (i + 1) steps) ≡ steps_events clients (take i steps) ++ step_events clients step.0 step.1
-steps_more clients steps i step within is =
+steps_more clients steps items same i step less found =
+    let within = subst (λ items. i < length items) same less in
+    let is = subst (λ items. step ≡ get_or items i step) same found in
     let events : ℕ × Option Event → List PlayedEvent = λ step. step_events clients step.0 step.1 in
     ap (λ n. steps_events clients (take n steps)) (add-one i)
     ∙ ap (steps_events clients) (taken_suc steps i step within is)
@@ -65,10 +68,11 @@ steps_more clients steps i step within is =
     ∙ ap (λ z. steps_events clients (take i steps) ++ z) (append-nil (events step))
 
 -- the events of steps up to one are the first of them
-pub steps_split : (clients : ℕ) (steps : List (ℕ × Option Event)) (i : ℕ) (step : ℕ × Option Event) → i < length steps → step ≡ get_or steps i step →
+pub steps_split : (clients : ℕ) (steps items : List (ℕ × Option Event)) → items ≡ steps → (i : ℕ) (step : ℕ × Option Event) →
+    i < length items → step ≡ get_or items i step →
     steps_events clients steps ≡ (steps_events clients (take i steps) ++ step_events clients step.0 step.1) ++ steps_events clients (drop (i + 1) steps)
-steps_split clients steps i step within is =
+steps_split clients steps items same i step less found =
     let events : ℕ × Option Event → List PlayedEvent = λ step. step_events clients step.0 step.1 in
     ap (steps_events clients) (sym (take-append-drop (i + 1) steps))
     ∙ flat_map-append events (take (i + 1) steps) (drop (i + 1) steps)
-    ∙ ap (λ z. z ++ steps_events clients (drop (i + 1) steps)) (steps_more clients steps i step within is)
+    ∙ ap (λ z. z ++ steps_events clients (drop (i + 1) steps)) (steps_more clients steps items same i step less found)

@@ -2,10 +2,11 @@
 use Rattle.std.proofs.Common.{◌≡◌, inl, inr, ℕ, List, [], ◌∷◌, ◌++◌, Option, Result, Ok, Err, sym, ap, subst, ◌∙◌, append_assoc}
 use Rattle.resp_value.specs.Bounds.{Bounds}
 use Rattle.resp_session.specs.Worlds.{World}
+use Rattle.resp_tool.specs.Written.{AppendsPart}
 use Rattle.resp_tool.proofs.WrittenLemmas.{Appends-append}
 use Rattle.resp_wire.specs.Worlds.{WorldState}
 use Rattle.resp_script.proofs.Printing.{part_next}
-use Rattle.resp_script.specs.Plays.{Plays, PlaysAll, PlaysScript, PlaysTo, text_of_step}
+use Rattle.resp_script.specs.Plays.{ArePlayed, BreaksInCounts, Plays, PlaysAll, PlaysPart, PlaysScript, PlaysTo, text_of_step}
 use Rattle.resp_script.specs.Printed.{PlayedEvent, Prints, counts_text}
 use Rattle.resp_script.specs.declared.play.PlayError.{PlayError}
 use Rattle.resp_script.specs.declared.play.PlayError.TheVariants.{Stopped, Write, Memory}
@@ -25,16 +26,37 @@ plays_more limits w mid last (played ∷ events) more text text' (outcome, next,
   ap (λ z. z ++ text') is ∙ append_assoc (text_of_step w played outcome next) rest text',
 )
 
--- all of some events were played, and then more came to something
-pub all_then : {L : Type 0} (is_honest : L → Type 0) (limits : Bounds) (w : World) (events more : List PlayedEvent) (between after : WorldState L)
-    (a b c : Option (List ℕ)) (r : Result (Unit {0}) PlayError) (first : PlaysAll is_honest limits w events between a b) →
-    PlaysTo is_honest limits first.last more after b c r → PlaysTo is_honest limits w (events ++ more) after a c r
-all_then is_honest limits w events more between after a b c (Ok x) first second = record {
+-- events that were played after others
+played_after : (limits : Bounds) (w : World) (events more : List PlayedEvent) (first : ArePlayed limits w events) →
+    ArePlayed limits first.last more → ArePlayed limits w (events ++ more)
+played_after limits w events more first second = record {
   text = first.text ++ second.text;
   last = second.last;
   plays = plays_more limits w first.last second.last events more first.text second.text first.plays second.plays;
+}
+
+-- all of some events were played, and then a part of more
+part_then : {L : Type 0} (is_honest : L → Type 0) (limits : Bounds) (w : World) (events more : List PlayedEvent) (between : WorldState L)
+    (a b c : Option (List ℕ)) (first : PlaysAll is_honest limits w events between a b) → PlaysPart limits first.played.last more b c →
+    PlaysPart limits w (events ++ more) a c
+unfolding played_after
+part_then is_honest limits w events more between a b c first second = record {
+  done = events ++ second.done;
+  later = second.later;
+  whole = ap (λ z. events ++ z) second.whole ∙ sym (append_assoc events second.done second.later);
+  played = played_after limits w events second.done first.played second.played;
+  part = part_next a b c first.played.text second.played.text first.appended second.part;
+}
+
+-- all of some events were played, and then more came to something
+pub all_then : {L : Type 0} (is_honest : L → Type 0) (limits : Bounds) (w : World) (events more : List PlayedEvent) (between after : WorldState L)
+    (a b c : Option (List ℕ)) (r : Result (Unit {0}) PlayError) (first : PlaysAll is_honest limits w events between a b) →
+    PlaysTo is_honest limits first.played.last more after b c r → PlaysTo is_honest limits w (events ++ more) after a c r
+unfolding played_after
+all_then is_honest limits w events more between after a b c (Ok x) first second = record {
+  played = played_after limits w events more first.played second.played;
   shows = second.shows;
-  appended = Appends-append a b c first.text second.text first.appended second.appended;
+  appended = Appends-append a b c first.played.text second.played.text first.appended second.appended;
 }
 all_then is_honest limits w events more between after a b c (Err (Stopped line cause)) first second = record {
   done = events ++ second.done;
@@ -42,28 +64,23 @@ all_then is_honest limits w events more between after a b c (Err (Stopped line c
   beyond = second.beyond;
   whole = ap (λ z. events ++ z) second.whole ∙ sym (append_assoc events second.done (second.stopped_at ∷ second.beyond));
   at_line = second.at_line;
-  text = first.text ++ second.text;
-  last = second.last;
-  plays = plays_more limits w first.last second.last events second.done first.text second.text first.plays second.plays;
-  appended = Appends-append a b c first.text second.text first.appended second.appended;
+  played = played_after limits w events second.done first.played second.played;
+  appended = Appends-append a b c first.played.text second.played.text first.appended second.appended;
 }
-all_then is_honest limits w events more between after a b c (Err Write) first second = record {
-  done = events ++ second.done;
-  later = second.later;
-  whole = ap (λ z. events ++ z) second.whole ∙ sym (append_assoc events second.done second.later);
-  text = first.text ++ second.text;
-  last = second.last;
-  plays = plays_more limits w first.last second.last events second.done first.text second.text first.plays second.plays;
-  part = part_next a b c first.text second.text first.appended second.part;
-}
-all_then is_honest limits w events more between after a b c (Err Memory) first second = record {
-  done = events ++ second.done;
-  later = second.later;
-  whole = ap (λ z. events ++ z) second.whole ∙ sym (append_assoc events second.done second.later);
-  text = first.text ++ second.text;
-  last = second.last;
-  plays = plays_more limits w first.last second.last events second.done first.text second.text first.plays second.plays;
-  part = part_next a b c first.text second.text first.appended second.part;
+all_then is_honest limits w events more between after a b c (Err Write) first second =
+    part_then is_honest limits w events more between a b c first second
+all_then is_honest limits w events more between after a b c (Err Memory) first second =
+    part_then is_honest limits w events more between a b c first second
+
+-- a part of some events is a part of them and more
+part_before : (limits : Bounds) (w : World) (events more : List PlayedEvent) (a b : Option (List ℕ)) → PlaysPart limits w events a b →
+    PlaysPart limits w (events ++ more) a b
+part_before limits w events more a b first = record {
+  done = first.done;
+  later = first.later ++ more;
+  whole = ap (λ z. z ++ more) first.whole ∙ append_assoc first.done first.later more;
+  played = first.played;
+  part = first.part;
 }
 
 -- what stopped some events stops them and more
@@ -76,29 +93,11 @@ stops_before is_honest limits w events more after a b (Stopped line cause) first
   beyond = first.beyond ++ more;
   whole = ap (λ z. z ++ more) first.whole ∙ append_assoc first.done (first.stopped_at ∷ first.beyond) more;
   at_line = first.at_line;
-  text = first.text;
-  last = first.last;
-  plays = first.plays;
+  played = first.played;
   appended = first.appended;
 }
-stops_before is_honest limits w events more after a b Write first = record {
-  done = first.done;
-  later = first.later ++ more;
-  whole = ap (λ z. z ++ more) first.whole ∙ append_assoc first.done first.later more;
-  text = first.text;
-  last = first.last;
-  plays = first.plays;
-  part = first.part;
-}
-stops_before is_honest limits w events more after a b Memory first = record {
-  done = first.done;
-  later = first.later ++ more;
-  whole = ap (λ z. z ++ more) first.whole ∙ append_assoc first.done first.later more;
-  text = first.text;
-  last = first.last;
-  plays = first.plays;
-  part = first.part;
-}
+stops_before is_honest limits w events more after a b Write first = part_before limits w events more a b first
+stops_before is_honest limits w events more after a b Memory first = part_before limits w events more a b first
 
 -- what stopped the steps of a script stopped the script
 pub stops_script : {L : Type 0} (is_honest : L → Type 0) (limits : Bounds) (w : World) (events : List PlayedEvent) (after : WorldState L)
@@ -108,27 +107,24 @@ stops_script is_honest limits w events after a b (Stopped line cause) stops = st
 stops_script is_honest limits w events after a b Write stops = inl stops
 stops_script is_honest limits w events after a b Memory stops = inl stops
 
+-- all of the events were played, and a part of the line of counts was written
+breaks_in_counts : {L : Type 0} (is_honest : L → Type 0) (limits : Bounds) (w : World) (events : List PlayedEvent) (after : WorldState L)
+    (a b c : Option (List ℕ)) (all : PlaysAll is_honest limits w events after a b) → AppendsPart b c (counts_text all.played.last) →
+    BreaksInCounts limits w events a c
+breaks_in_counts is_honest limits w events after a b c all part = record {
+  played = all.played;
+  part = part_next a b c all.played.text (counts_text all.played.last) all.appended part;
+}
+
 -- all of the events were played, and then what came of the line of counts
 pub counts_then : {L : Type 0} (is_honest : L → Type 0) (limits : Bounds) (w : World) (events : List PlayedEvent) (after : WorldState L)
     (a b c : Option (List ℕ)) (f g : ℕ) (r : Result (Unit {0}) PlayError) (all : PlaysAll is_honest limits w events after a b) →
-    Prints b c f g r (counts_text all.last) → PlaysScript is_honest limits w events after a c r
+    Prints b c f g r (counts_text all.played.last) → PlaysScript is_honest limits w events after a c r
 counts_then is_honest limits w events after a b c f g (Ok x) all prints = record {
-  text = all.text;
-  last = all.last;
-  plays = all.plays;
+  played = all.played;
   shows = all.shows;
-  appended = Appends-append a b c all.text (counts_text all.last) all.appended prints.0;
+  appended = Appends-append a b c all.played.text (counts_text all.played.last) all.appended prints.0;
 }
-counts_then is_honest limits w events after a b c f g (Err Write) all prints = inr (record {
-  text = all.text;
-  last = all.last;
-  plays = all.plays;
-  part = part_next a b c all.text (counts_text all.last) all.appended prints.0;
-})
-counts_then is_honest limits w events after a b c f g (Err Memory) all prints = inr (record {
-  text = all.text;
-  last = all.last;
-  plays = all.plays;
-  part = part_next a b c all.text (counts_text all.last) all.appended prints.0;
-})
+counts_then is_honest limits w events after a b c f g (Err Write) all prints = inr (breaks_in_counts is_honest limits w events after a b c all prints.0)
+counts_then is_honest limits w events after a b c f g (Err Memory) all prints = inr (breaks_in_counts is_honest limits w events after a b c all prints.0)
 counts_then is_honest limits w events after a b c f g (Err (Stopped line cause)) all prints = absurd prints

@@ -3,45 +3,48 @@ use Rattle.std.proofs.Common.{◌≡◌, ℕ, false, List, [], ◌∷◌, Option
 use Rattle.resp_value.specs.Bounds.{Bounds}
 use Rattle.resp_session.specs.Runs.{Step, connection_of, is_gone}
 use Rattle.resp_session.specs.Worlds.{World, WorldEvent, client_of, connection_at}
+use Rattle.resp_tool.specs.Written.{AppendsPart}
 use Rattle.resp_wire.specs.Worlds.{Shows, WorldState, outcome_of}
 use Rattle.resp_wire.specs.declared.event.Outcome.{Outcome}
 use Rattle.resp_wire.specs.declared.event.Outcome.TheVariants.{Done}
 use Rattle.resp_script.proofs.HeardOf.{are_there, still_there}
-use Rattle.resp_script.specs.Plays.{AreThere, AreShownOn, PlaysTo, text_of_step}
+use Rattle.resp_script.specs.Plays.{AreThere, AreShownOn, ArePlayed, PlaysPart, PlaysTo, text_of_step}
 use Rattle.resp_script.specs.Printed.{PlayedEvent, Prints}
 use Rattle.resp_script.specs.declared.play.PlayError.{PlayError}
 use Rattle.resp_script.specs.declared.play.PlayError.TheVariants.{Stopped, Write, Memory}
+
+-- an event that was taken was played
+one_played : (limits : Bounds) (w next : World) (played : PlayedEvent) (outcome : Outcome) → Step limits w played.event (outcome_of outcome) next →
+    ArePlayed limits w (played ∷ [])
+one_played limits w next played outcome step = record {
+  text = text_of_step w played (outcome_of outcome) next;
+  last = next;
+  plays = (outcome_of outcome, next, [], step, (refl, refl), sym (append-nil (text_of_step w played (outcome_of outcome) next)));
+}
+
+-- a part of its text
+one_part : (limits : Bounds) (w next : World) (played : PlayedEvent) (outcome : Outcome) (a b : Option (List ℕ)) →
+    Step limits w played.event (outcome_of outcome) next → AppendsPart a b (text_of_step w played (outcome_of outcome) next) →
+    PlaysPart limits w (played ∷ []) a b
+unfolding one_played
+one_part limits w next played outcome a b step part = record {
+  done = played ∷ [];
+  later = [];
+  whole = refl;
+  played = one_played limits w next played outcome step;
+  part = part;
+}
 
 -- an event that was taken is all that was played
 pub took : {L : Type 0} (is_honest : L → Type 0) (limits : Bounds) (w next : World) (played : PlayedEvent) (outcome : Outcome) (after : WorldState L)
     (a b : Option (List ℕ)) (f g : ℕ) (r : Result (Unit {0}) PlayError) → Step limits w played.event (outcome_of outcome) next →
     Shows is_honest after limits next → Prints a b f g r (text_of_step w played (outcome_of outcome) next) →
     PlaysTo is_honest limits w (played ∷ []) after a b r
-took is_honest limits w next played outcome after a b f g (Ok x) step shows prints = record {
-  text = text_of_step w played (outcome_of outcome) next;
-  last = next;
-  plays = (outcome_of outcome, next, [], step, (refl, refl), sym (append-nil (text_of_step w played (outcome_of outcome) next)));
-  shows = shows;
-  appended = prints.0;
-}
-took is_honest limits w next played outcome after a b f g (Err Write) step shows prints = record {
-  done = played ∷ [];
-  later = [];
-  whole = refl;
-  text = text_of_step w played (outcome_of outcome) next;
-  last = next;
-  plays = (outcome_of outcome, next, [], step, (refl, refl), sym (append-nil (text_of_step w played (outcome_of outcome) next)));
-  part = prints.0;
-}
-took is_honest limits w next played outcome after a b f g (Err Memory) step shows prints = record {
-  done = played ∷ [];
-  later = [];
-  whole = refl;
-  text = text_of_step w played (outcome_of outcome) next;
-  last = next;
-  plays = (outcome_of outcome, next, [], step, (refl, refl), sym (append-nil (text_of_step w played (outcome_of outcome) next)));
-  part = prints.0;
-}
+unfolding one_played
+took is_honest limits w next played outcome after a b f g (Ok x) step shows prints =
+    record { played = one_played limits w next played outcome step; shows = shows; appended = prints.0 }
+took is_honest limits w next played outcome after a b f g (Err Write) step shows prints = one_part limits w next played outcome a b step prints.0
+took is_honest limits w next played outcome after a b f g (Err Memory) step shows prints = one_part limits w next played outcome a b step prints.0
 took is_honest limits w next played outcome after a b f g (Err (Stopped line cause)) step shows prints = absurd prints
 
 -- an event that happened was not of nobody

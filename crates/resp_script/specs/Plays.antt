@@ -63,14 +63,18 @@ Plays limits w (played ∷ events) text last = (outcome : runs.Outcome) × (next
     Step limits w played.event outcome next × Plays limits next events rest last ×
     (text ≡ text_of_step w played outcome next ++ rest)
 
--- all of the events were played, the world shows what they leave, and their text was appended
-pub record PlaysAll {L : Type 0} (is_honest : L → Type 0) (limits : Bounds) (w : World) (events : List PlayedEvent)
-    (after : WorldState L) (held held' : Option (List ℕ)) : Type 0 where
+-- these events were played, this is their text, and this world they leave
+pub record ArePlayed (limits : Bounds) (w : World) (events : List PlayedEvent) : Type 0 where
   pub text : List ℕ
   pub last : World
   pub plays : Plays limits w events text last
-  pub shows : Shows is_honest after limits last
-  pub appended : Appends held held' text
+
+-- all of the events were played, the world shows what they leave, and their text was appended
+pub record PlaysAll {L : Type 0} (is_honest : L → Type 0) (limits : Bounds) (w : World) (events : List PlayedEvent)
+    (after : WorldState L) (held held' : Option (List ℕ)) : Type 0 where
+  pub played : ArePlayed limits w events
+  pub shows : Shows is_honest after limits played.last
+  pub appended : Appends held held' played.text
 
 -- the events before one in this line were played, and their text was appended
 pub record PlaysUpTo (limits : Bounds) (w : World) (events : List PlayedEvent) (line : ℕ)
@@ -80,10 +84,8 @@ pub record PlaysUpTo (limits : Bounds) (w : World) (events : List PlayedEvent) (
   pub beyond : List PlayedEvent
   pub whole : events ≡ done ++ stopped_at ∷ beyond
   pub at_line : stopped_at.line ≡ line
-  pub text : List ℕ
-  pub last : World
-  pub plays : Plays limits w done text last
-  pub appended : Appends held held' text
+  pub played : ArePlayed limits w done
+  pub appended : Appends held held' played.text
 
 -- some first events were played, or all of them, and a first part of their text was appended
 pub record PlaysPart (limits : Bounds) (w : World) (events : List PlayedEvent) (held held' : Option (List ℕ)) : Type 0
@@ -91,10 +93,8 @@ pub record PlaysPart (limits : Bounds) (w : World) (events : List PlayedEvent) (
     pub done : List PlayedEvent
     pub later : List PlayedEvent
     pub whole : events ≡ done ++ later
-    pub text : List ℕ
-    pub last : World
-    pub plays : Plays limits w done text last
-    pub part : AppendsPart held held' text
+    pub played : ArePlayed limits w done
+    pub part : AppendsPart held held' played.text
 
 -- What comes of events: all of them and their text; or the first of them, up to that at which the world stopped, and
 -- their text; or a first part of the text, where a write failed or when out of memory.
@@ -108,19 +108,15 @@ PlaysTo {L} is_honest limits w events after held held' (Err e) = PlaysPart limit
 -- all of the events were played, and their text was appended, and after it the line of counts
 pub record PlaysWhole {L : Type 0} (is_honest : L → Type 0) (limits : Bounds) (w : World) (events : List PlayedEvent)
     (after : WorldState L) (held held' : Option (List ℕ)) : Type 0 where
-  pub text : List ℕ
-  pub last : World
-  pub plays : Plays limits w events text last
-  pub shows : Shows is_honest after limits last
-  pub appended : Appends held held' (text ++ counts_text last)
+  pub played : ArePlayed limits w events
+  pub shows : Shows is_honest after limits played.last
+  pub appended : Appends held held' (played.text ++ counts_text played.last)
 
 -- all of the events were played, and a first part of their text and the line of counts was appended
 pub record BreaksInCounts (limits : Bounds) (w : World) (events : List PlayedEvent) (held held' : Option (List ℕ)) :
     Type 0 where
-  pub text : List ℕ
-  pub last : World
-  pub plays : Plays limits w events text last
-  pub part : AppendsPart held held' (text ++ counts_text last)
+  pub played : ArePlayed limits w events
+  pub part : AppendsPart held held' (played.text ++ counts_text played.last)
 
 -- What comes of all the events of a script, with the line of counts after their text.
 abbrev pub PlaysScript : {L : Type 0} → (L → Type 0) → Bounds → World → List PlayedEvent → WorldState L →

@@ -195,13 +195,28 @@ pub fn write_members<W: Sink>(
     }
 }
 
+/// Writes a line of two numbers, with words before each.
+pub(crate) fn write_numbers<W: Sink>(
+    writer: &mut W,
+    words: &[u8],
+    first: u64,
+    between: &[u8],
+    second: u64,
+) -> Result<(), DeviceFault>
+    ensures { WritesText (W.written writer.old) (W.written writer.new) (W.failures writer.old)
+        (W.failures writer.new) result ((words.now ++ decimal first ++ between.now) ++
+        (decimal second ++ codes "\n")) }
+{
+    write_number(writer, words, first, between)?;
+    write_number(writer, b"", second, b"\n")
+}
+
 /// Writes the line before a reply.
 fn write_reply_heading<W: Sink>(client: u64, number: u64, writer: &mut W) -> Result<(), DeviceFault>
     ensures { WritesText (W.written writer.old) (W.written writer.new) (W.failures writer.old)
         (W.failures writer.new) result (reply_heading client number) }
 {
-    write_number(writer, b"client ", client, b" reply ")?;
-    write_number(writer, b"", number, b"\n")
+    write_numbers(writer, b"client ", client, b" reply ", number)
 }
 
 /// The limits that leave the most.

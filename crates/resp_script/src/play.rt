@@ -10,7 +10,7 @@ ghost use Rattle.resp_tool.specs.Written.{WritesText};
 ghost use Rattle.resp_value.specs.Bounds.{Bounds};
 ghost use Rattle.resp_wire.specs.Worlds.{Shows, event_of, outcome_of};
 
-use crate::heard::{write_pushes, write_replies};
+use crate::heard::{write_numbers, write_pushes, write_replies};
 use crate::script::Script;
 use resp_tool::text::{write_number, write_text};
 use resp_value::cause::Cause;
@@ -37,14 +37,14 @@ pub enum PlayError {
     Memory,
 }
 
-/// Writes the line of a stop.
-fn write_stop<W: Sink>(writer: &mut W, line: u64, name: &[u8]) -> Result<(), DeviceFault>
+/// Writes a line: its subject, the number of that, and why.
+fn note<W: Sink>(writer: &mut W, subject: &[u8], number: u64, why: &[u8]) -> Result<(), DeviceFault>
     ensures { WritesText (W.written writer.old) (W.written writer.new) (W.failures writer.old)
         (W.failures writer.new) result
-        (codes "line " ++ decimal line ++ codes ": " ++ name.now ++ codes "\n") }
+        (subject.now ++ decimal number ++ codes ": " ++ why.now ++ codes "\n") }
 {
-    write_number(writer, b"line ", line, b": ")?;
-    write_text(writer, name)?;
+    write_number(writer, subject, number, b": ")?;
+    write_text(writer, why)?;
     write_text(writer, b"\n")
 }
 
@@ -59,7 +59,7 @@ impl PlayError {
     {
         match self {
             PlayError::Stopped { line, cause } => {
-                write_stop(writer, *line, cause.name().as_bytes())
+                note(writer, b"line ", *line, cause.name().as_bytes())
             }
             PlayError::Write => write_text(writer, b"write failed\n"),
             PlayError::Memory => write_text(writer, b"out of memory\n"),
@@ -84,9 +84,7 @@ pub fn write_no_connection<W: Sink>(
     ensures { WritesText (W.written writer.old) (W.written writer.new) (W.failures writer.old)
         (W.failures writer.new) result (no_connection_line client why.now) }
 {
-    write_number(writer, b"no connection for client ", client, b": ")?;
-    write_text(writer, why)?;
-    write_text(writer, b"\n")
+    note(writer, b"no connection for client ", client, why)
 }
 
 /// Takes each event of a script, and writes what comes of it, and last how many commands were run
@@ -141,8 +139,7 @@ fn write_totals<W: Sink>(commands: u64, keys: u64, writer: &mut W) -> Result<(),
         (W.failures writer.new) result ((codes "commands " ++ decimal commands ++ codes " keys ") ++
         (decimal keys ++ codes "\n")) }
 {
-    write_number(writer, b"commands ", commands, b" keys ")?;
-    write_number(writer, b"", keys, b"\n")
+    write_numbers(writer, b"commands ", commands, b" keys ", keys)
 }
 
 /// How many keys the store holds, as far as 64 bits count.
@@ -198,34 +195,15 @@ fn flush<L: Link, S: BuildHasher + Drop, W: Sink>(
 {
     for index in 0..clients {
         let to_server = Event::ToServer(index + 1, ALL);
-        if let Err(error) = take_of_flush(alloc, line, to_server, world, writer) {
+        if let Err(error) = take(alloc, line, &to_server, true, world, writer) {
             return Err(error);
         }
         let to_client = Event::ToClient(index + 1, ALL);
-        if let Err(error) = take_of_flush(alloc, line, to_client, world, writer) {
+        if let Err(error) = take(alloc, line, &to_client, true, world, writer) {
             return Err(error);
         }
     }
     Ok(())
-}
-
-/// Takes one event of a flush.
-fn take_of_flush<L: Link, S: BuildHasher + Drop, W: Sink>(
-    alloc: Global,
-    line: u64,
-    event: Event,
-    world: &mut World<L, S>,
-    writer: &mut W,
-) -> Result<(), PlayError>
-    ensures plays { (limits : Bounds) (w : session.World) → Shows L.is_honest world.old limits w →
-        PlaysTo L.is_honest limits w (played line true (event_of event) ∷ []) world.new
-        (W.written writer.old) (W.written writer.new) result }
-    ensures stopped { IfErr result (λ error. IsAtLine line error) }
-    ensures cause { IfErr result (KeepsCause world.new.stopped) }
-    ensures going { OnOk result (world.old.stopped ≡ None → world.new.stopped ≡ None) }
-    ensures failed { FailsToWrite (W.failures writer.old) (W.failures writer.new) result }
-{
-    take(alloc, line, &event, true, world, writer)
 }
 
 /// Takes one event. What comes of it is written, but of a flush not that a client is gone.

@@ -1,8 +1,20 @@
-use Rattle.std.proofs.Common.{◌≡◌, ◌+◌, ◌++◌, ◌∷◌, [], ◌∙◌, Ok, Err, sym, subst, arith, append_assoc}
+use Rattle.std.proofs.Common.{◌≡◌, ◌+◌, ◌++◌, ◌∷◌, [], ◌∙◌, Ok, Err, refl, sym, subst, arith, append_assoc}
+use Rattle.resp_tool.proofs.WrittenLemmas.{Appends-none}
 use Rattle.resp_script.specs.Plays.{PlaysAll, flush_events}
 use Rattle.resp_script.proofs.Flushed.{flush_more, flush_splits, stops_within, to_client, to_server}
 use Rattle.resp_script.proofs.Played.{all_then}
 use Rattle.resp_script.proofs.play.flush.Goals as goal
+
+pub loop-index-init : goal.loop-index-init
+loop-index-init g c = record {
+  plays = λ limits w shows. record {
+    played = record { text = []; last = w; plays = (refl, refl) };
+    shows = shows;
+    appended = Appends-none (g.W.Sink.written c.args.writer.now);
+  };
+  none_failed = refl;
+  going = λ going. going;
+}
 
 pub returns-in-Err-clause-plays : goal.returns-in-Err-clause-plays
 returns-in-Err-clause-plays g c = λ limits w shows.
@@ -11,26 +23,26 @@ returns-in-Err-clause-plays g c = λ limits w shows.
     let so_far = c.loop-index.invariant.plays limits w shows in
     let (rest, whole) = flush_splits line i c.args.clients c.loop-index-test.true in
     let first = flush_events line i ++ to_server line (i + 1) ∷ [] in
-    stops_within g.L.Link.is_honest limits w first (to_client line (i + 1) ∷ [] ++ rest) (flush_events line c.args.clients) c.take_of_flush.new.world _ _
+    stops_within g.L.Link.is_honest limits w first (to_client line (i + 1) ∷ [] ++ rest) (flush_events line c.args.clients) c.take.new.world _ _
     c.in-Err.error (whole ∙ append_assoc first (to_client line (i + 1) ∷ []) rest)
-    (all_then g.L.Link.is_honest limits w (flush_events line i) (to_server line (i + 1) ∷ []) c.loop-index.world c.take_of_flush.new.world _ _ _
-    (Err c.in-Err.error) so_far (c.in-Err.ensures.plays limits so_far.last so_far.shows))
+    (all_then g.L.Link.is_honest limits w (flush_events line i) (to_server line (i + 1) ∷ []) c.loop-index.world c.take.new.world _ _ _
+    (Err c.in-Err.error) so_far (c.in-Err.ensures.plays limits so_far.played.last so_far.shows))
 
-pub returns-in-Err-take_of_flush-clause-plays : goal.returns-in-Err-take_of_flush-clause-plays
-returns-in-Err-take_of_flush-clause-plays g c = λ limits w shows.
+pub returns-in-Err-take-clause-plays : goal.returns-in-Err-take-clause-plays
+returns-in-Err-take-clause-plays g c = λ limits w shows.
     let line = c.args.line in
     let i = c.loop-index.index in
     let so_far = c.loop-index.invariant.plays limits w shows in
     let (rest, whole) = flush_splits line i c.args.clients c.loop-index-test.true in
     let first = flush_events line i ++ to_server line (i + 1) ∷ [] in
-    let half : PlaysAll g.L.Link.is_honest limits w first c.take_of_flush.new.world (g.W.Sink.written c.args.writer.now)
-    (g.W.Sink.written c.take_of_flush.new.writer) =
-    all_then g.L.Link.is_honest limits w (flush_events line i) (to_server line (i + 1) ∷ []) c.loop-index.world c.take_of_flush.new.world _ _ _
-    (Ok tt) so_far (c.in_default.ensures.plays limits so_far.last so_far.shows) in
+    let half : PlaysAll g.L.Link.is_honest limits w first c.take.new.world (g.W.Sink.written c.args.writer.now)
+    (g.W.Sink.written c.take.new.writer) =
+    all_then g.L.Link.is_honest limits w (flush_events line i) (to_server line (i + 1) ∷ []) c.loop-index.world c.take.new.world _ _ _
+    (Ok tt) so_far (c.in_default.ensures.plays limits so_far.played.last so_far.shows) in
     stops_within g.L.Link.is_honest limits w (first ++ to_client line (i + 1) ∷ []) rest (flush_events line c.args.clients)
-    c.take_of_flush-in-loop-index.new.world _ _ c.in-Err-take_of_flush.error whole
-    (all_then g.L.Link.is_honest limits w first (to_client line (i + 1) ∷ []) c.take_of_flush.new.world c.take_of_flush-in-loop-index.new.world _ _ _
-    (Err c.in-Err-take_of_flush.error) half (c.in-Err-take_of_flush.ensures.plays limits half.last half.shows))
+    c.take-in-loop-index.new.world _ _ c.in-Err-take.error whole
+    (all_then g.L.Link.is_honest limits w first (to_client line (i + 1) ∷ []) c.take.new.world c.take-in-loop-index.new.world _ _ _
+    (Err c.in-Err-take.error) half (c.in-Err-take.ensures.plays limits half.played.last half.shows))
 
 pub loop-index-preserved : goal.loop-index-preserved
 loop-index-preserved g c = record {
@@ -39,16 +51,16 @@ loop-index-preserved g c = record {
       let i = c.loop-index.index in
       let so_far = c.loop-index.invariant.plays limits w shows in
       let first = flush_events line i ++ to_server line (i + 1) ∷ [] in
-      let half : PlaysAll g.L.Link.is_honest limits w first c.take_of_flush.new.world (g.W.Sink.written c.args.writer.now)
-      (g.W.Sink.written c.take_of_flush.new.writer) =
-      all_then g.L.Link.is_honest limits w (flush_events line i) (to_server line (i + 1) ∷ []) c.loop-index.world c.take_of_flush.new.world _ _ _
-      (Ok tt) so_far (c.in_default.ensures.plays limits so_far.last so_far.shows) in
-      subst (λ es. PlaysAll g.L.Link.is_honest limits w es c.take_of_flush-in-loop-index.new.world (g.W.Sink.written c.args.writer.now)
-      (g.W.Sink.written c.take_of_flush-in-loop-index.new.writer)) (sym (flush_more line i))
-      (all_then g.L.Link.is_honest limits w first (to_client line (i + 1) ∷ []) c.take_of_flush.new.world c.take_of_flush-in-loop-index.new.world _ _ _
-      (Ok tt) half (c.in_default-take_of_flush.ensures.plays limits half.last half.shows));
-  none_failed = c.in_default-take_of_flush.ensures.failed ∙ c.in_default.ensures.failed ∙ c.loop-index.invariant.none_failed;
-  going = λ going. c.in_default-take_of_flush.ensures.going (c.in_default.ensures.going (c.loop-index.invariant.going going));
+      let half : PlaysAll g.L.Link.is_honest limits w first c.take.new.world (g.W.Sink.written c.args.writer.now)
+      (g.W.Sink.written c.take.new.writer) =
+      all_then g.L.Link.is_honest limits w (flush_events line i) (to_server line (i + 1) ∷ []) c.loop-index.world c.take.new.world _ _ _
+      (Ok tt) so_far (c.in_default.ensures.plays limits so_far.played.last so_far.shows) in
+      subst (λ es. PlaysAll g.L.Link.is_honest limits w es c.take-in-loop-index.new.world (g.W.Sink.written c.args.writer.now)
+      (g.W.Sink.written c.take-in-loop-index.new.writer)) (sym (flush_more line i))
+      (all_then g.L.Link.is_honest limits w first (to_client line (i + 1) ∷ []) c.take.new.world c.take-in-loop-index.new.world _ _ _
+      (Ok tt) half (c.in_default-take.ensures.plays limits half.played.last half.shows));
+  none_failed = c.in_default-take.ensures.failed ∙ c.in_default.ensures.failed ∙ c.loop-index.invariant.none_failed;
+  going = λ going. c.in_default-take.ensures.going (c.in_default.ensures.going (c.loop-index.invariant.going going));
 }
 
 pub returns-clause-plays : goal.returns-clause-plays

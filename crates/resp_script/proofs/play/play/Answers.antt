@@ -1,10 +1,22 @@
-use Rattle.std.proofs.Common.{◌≡◌, ◌+◌, ◌<◌, ◌≤◌, ◌++◌, ◌∙◌, Ok, Err, length, take, drop, get_or, sym, ap, subst, arith}
+use Rattle.std.proofs.Common.{◌≡◌, ◌+◌, ◌<◌, ◌≤◌, ◌++◌, ◌∙◌, Ok, Err, [], refl, length, take, drop, get_or, sym, ap, subst, arith}
 use Rattle.std.proofs.lemmas.List.{take_all}
+use Rattle.resp_tool.proofs.WrittenLemmas.{Appends-none}
 use Rattle.resp_script.specs.Plays.{PlaysAll, step_events, steps_events}
 use Rattle.resp_script.proofs.Flushed.{steps_more, steps_split, stops_within}
 use Rattle.resp_script.proofs.Played.{all_then, counts_then, stops_script}
 use Rattle.resp_script.proofs.Playing.{at_step_of, fails_to_write, no_stop_at_step, no_stop_kept}
 use Rattle.resp_script.proofs.play.play.Goals as goal
+
+pub loop-line-init : goal.loop-line-init
+loop-line-init g c = record {
+  plays = λ limits w shows. record {
+    played = record { text = []; last = w; plays = (refl, refl) };
+    shows = shows;
+    appended = Appends-none (g.W.Sink.written c.args.writer.now);
+  };
+  none_failed = refl;
+  going = λ going. going;
+}
 
 pub returns-in-Err-clause-plays : goal.returns-in-Err-clause-plays
 returns-in-Err-clause-plays g c = λ limits w shows.
@@ -12,16 +24,14 @@ returns-in-Err-clause-plays g c = λ limits w shows.
     let steps = c.args.script.now.steps.items in
     let i = c.loop-line.line-index in
     let step = c.loop-line-item.result in
-    let within = subst (λ items. i < length items) c.deref-line-items.ensures.value c.loop-line-test.true in
-    let is = subst (λ items. step ≡ get_or items i step) c.deref-line-items.ensures.value c.loop-line-item.is in
     let so_far = c.loop-line.invariant.plays limits w shows in
     let first = steps_events clients (take i steps) in
     let events = step_events clients step.0 step.1 in
     stops_script g.L.Link.is_honest limits w (steps_events clients steps) c.play_step.new.world _ _ c.in-Err.error
     (stops_within g.L.Link.is_honest limits w (first ++ events) (steps_events clients (drop (i + 1) steps)) (steps_events clients steps) c.play_step.new.world _ _
-    c.in-Err.error (steps_split clients steps i step within is)
+    c.in-Err.error (steps_split clients steps _ c.deref-line-items.ensures.value i step c.loop-line-test.true c.loop-line-item.is)
     (all_then g.L.Link.is_honest limits w first events c.loop-line.world c.play_step.new.world _ _ _ (Err c.in-Err.error) so_far
-    (c.in-Err.ensures.plays limits so_far.last so_far.shows)))
+    (c.in-Err.ensures.plays limits so_far.played.last so_far.shows)))
 
 pub returns-in-Err-clause-stopped : goal.returns-in-Err-clause-stopped
 returns-in-Err-clause-stopped g c =
@@ -35,13 +45,11 @@ loop-line-preserved g c = record {
       let steps = c.args.script.now.steps.items in
       let i = c.loop-line.line-index in
       let step = c.loop-line-item.result in
-      let within = subst (λ items. i < length items) c.deref-line-items.ensures.value c.loop-line-test.true in
-      let is = subst (λ items. step ≡ get_or items i step) c.deref-line-items.ensures.value c.loop-line-item.is in
       let so_far = c.loop-line.invariant.plays limits w shows in
       subst (λ es. PlaysAll g.L.Link.is_honest limits w es c.play_step.new.world (g.W.Sink.written c.args.writer.now) (g.W.Sink.written c.play_step.new.writer))
-      (sym (steps_more clients steps i step within is))
+      (sym (steps_more clients steps _ c.deref-line-items.ensures.value i step c.loop-line-test.true c.loop-line-item.is))
       (all_then g.L.Link.is_honest limits w (steps_events clients (take i steps)) (step_events clients step.0 step.1) c.loop-line.world c.play_step.new.world _ _ _
-      (Ok tt) so_far (c.in_default.ensures.plays limits so_far.last so_far.shows));
+      (Ok tt) so_far (c.in_default.ensures.plays limits so_far.played.last so_far.shows));
   none_failed = c.in_default.ensures.failed ∙ c.loop-line.invariant.none_failed;
   going = λ going. c.in_default.ensures.going (c.loop-line.invariant.going going);
 }
@@ -57,7 +65,7 @@ returns-clause-plays g c = λ limits w shows.
     subst (λ taken. PlaysAll g.L.Link.is_honest limits w (steps_events clients taken) c.loop-line.world (g.W.Sink.written c.args.writer.now)
     (g.W.Sink.written c.loop-line.writer)) (take_all i steps over) (c.loop-line.invariant.plays limits w shows) in
     counts_then g.L.Link.is_honest limits w (steps_events clients steps) c.loop-line.world _ _ _ _ _ c.write_counts.result all
-    (c.write_counts.ensures.prints limits all.last all.shows)
+    (c.write_counts.ensures.prints limits all.played.last all.shows)
 
 pub returns-clause-stopped : goal.returns-clause-stopped
 returns-clause-stopped g c = no_stop_at_step c.args.script.now.steps.items _ _ c.write_counts.result c.write_counts.ensures.ends

@@ -15,9 +15,7 @@ returns-in-Err-clause-plays g c = λ limits w shows. record {
   beyond = [];
   whole = refl;
   at_line = refl;
-  text = [];
-  last = w;
-  plays = (refl, refl);
+  played = record { text = []; last = w; plays = (refl, refl) };
   appended = Appends-none (g.W.Sink.written c.args.writer.now);
 }
 
