@@ -18,7 +18,7 @@ use bytes::BytesMut;
 use resp_encode::{encode, encode_push};
 use resp_tool::show::show;
 use resp_tool::text::{write_number, write_quoted, write_text};
-use resp_value::device::{MemorySource, Sink, WriteFault};
+use resp_value::device::{DeviceFault, MemorySource, Sink};
 use resp_value::laws;
 use resp_value::limits::{BadLimits, Limits};
 use resp_value::value::{Members, Value};
@@ -153,7 +153,7 @@ fn is_short(value: &Value) -> bool
 }
 
 /// Writes the line of such a value.
-fn write_short<W: Sink>(value: &Value, writer: &mut W) -> Result<(), WriteFault>
+fn write_short<W: Sink>(value: &Value, writer: &mut W) -> Result<(), DeviceFault>
     ensures { is_short (datum_of value.now) ≡ true →
         WritesText (W.written writer.old) (W.written writer.new) (W.failures writer.old)
         (W.failures writer.new) result (shown_text (datum_of value.now)) }
@@ -168,7 +168,7 @@ fn write_short<W: Sink>(value: &Value, writer: &mut W) -> Result<(), WriteFault>
 }
 
 /// Writes a word and a quote, a text in quotes, and the number of its bytes.
-fn write_string<W: Sink>(word: &[u8], text: &[u8], writer: &mut W) -> Result<(), WriteFault>
+fn write_string<W: Sink>(word: &[u8], text: &[u8], writer: &mut W) -> Result<(), DeviceFault>
     ensures { WritesText (W.written writer.old) (W.written writer.new) (W.failures writer.old)
         (W.failures writer.new) result (word.now ++ (quoted_text text.now ++
         (codes "\" " ++ decimal (length text.now) ++ codes "\n"))) }
@@ -196,7 +196,7 @@ pub fn write_members<W: Sink>(
 }
 
 /// Writes the line before a reply.
-fn write_reply_heading<W: Sink>(client: u64, number: u64, writer: &mut W) -> Result<(), WriteFault>
+fn write_reply_heading<W: Sink>(client: u64, number: u64, writer: &mut W) -> Result<(), DeviceFault>
     ensures { WritesText (W.written writer.old) (W.written writer.new) (W.failures writer.old)
         (W.failures writer.new) result (reply_heading client number) }
 {
@@ -258,7 +258,7 @@ fn shown(alloc: Global, limits: &Limits, text: &[u8]) -> Option<GrowingSink>
 }
 
 /// Writes a text with each of its lines two spaces deeper.
-fn write_indented<W: Sink>(text: &[u8], writer: &mut W) -> Result<(), WriteFault>
+fn write_indented<W: Sink>(text: &[u8], writer: &mut W) -> Result<(), DeviceFault>
     ensures { WritesText (W.written writer.old) (W.written writer.new) (W.failures writer.old)
         (W.failures writer.new) result (indented text.now) }
 {
@@ -271,7 +271,7 @@ fn write_indented<W: Sink>(text: &[u8], writer: &mut W) -> Result<(), WriteFault
 }
 
 /// Writes a line two spaces deeper.
-fn write_indented_line<W: Sink>(line: &[u8], writer: &mut W) -> Result<(), WriteFault>
+fn write_indented_line<W: Sink>(line: &[u8], writer: &mut W) -> Result<(), DeviceFault>
     ensures { WritesText (W.written writer.old) (W.written writer.new) (W.failures writer.old)
         (W.failures writer.new) result (codes "  " ++ (line.now ++ codes "\n")) }
 {

@@ -14,7 +14,7 @@ use crate::heard::{write_pushes, write_replies};
 use crate::script::Script;
 use resp_tool::text::{write_number, write_text};
 use resp_value::cause::Cause;
-use resp_value::device::{Sink, WriteFault};
+use resp_value::device::{DeviceFault, Sink};
 use resp_wire::{Event, Link, Outcome, World};
 use std::alloc::Global;
 use std::hash::BuildHasher;
@@ -38,7 +38,7 @@ pub enum PlayError {
 }
 
 /// Writes the line of a stop.
-fn write_stop<W: Sink>(writer: &mut W, line: u64, name: &[u8]) -> Result<(), WriteFault>
+fn write_stop<W: Sink>(writer: &mut W, line: u64, name: &[u8]) -> Result<(), DeviceFault>
     ensures { WritesText (W.written writer.old) (W.written writer.new) (W.failures writer.old)
         (W.failures writer.new) result
         (codes "line " ++ decimal line ++ codes ": " ++ name.now ++ codes "\n") }
@@ -53,7 +53,7 @@ impl PlayError {
 
     /// Writes the line that says what was refused, with an LF. Refuses where a write fails, and
     /// then the first bytes of the line were written.
-    pub fn line<W: Sink>(&self, writer: &mut W) -> Result<(), WriteFault>
+    pub fn line<W: Sink>(&self, writer: &mut W) -> Result<(), DeviceFault>
         ensures { WritesText (W.written writer.old) (W.written writer.new) (W.failures writer.old)
             (W.failures writer.new) result (play_fault_line self.now) }
     {
@@ -80,7 +80,7 @@ pub fn write_no_connection<W: Sink>(
     writer: &mut W,
     client: u64,
     why: &[u8],
-) -> Result<(), WriteFault>
+) -> Result<(), DeviceFault>
     ensures { WritesText (W.written writer.old) (W.written writer.new) (W.failures writer.old)
         (W.failures writer.new) result (no_connection_line client why.now) }
 {
@@ -136,7 +136,7 @@ fn write_counts<L: Link, S: BuildHasher + Drop, W: Sink>(
 }
 
 /// Writes the line of counts.
-fn write_totals<W: Sink>(commands: u64, keys: u64, writer: &mut W) -> Result<(), WriteFault>
+fn write_totals<W: Sink>(commands: u64, keys: u64, writer: &mut W) -> Result<(), DeviceFault>
     ensures { WritesText (W.written writer.old) (W.written writer.new) (W.failures writer.old)
         (W.failures writer.new) result ((codes "commands " ++ decimal commands ++ codes " keys ") ++
         (decimal keys ++ codes "\n")) }
@@ -364,7 +364,7 @@ fn write_refused<W: Sink>(client: u64, cause: Cause, writer: &mut W) -> Result<(
 }
 
 /// Writes the line of a refusal.
-fn write_refusal<W: Sink>(client: u64, name: &[u8], writer: &mut W) -> Result<(), WriteFault>
+fn write_refusal<W: Sink>(client: u64, name: &[u8], writer: &mut W) -> Result<(), DeviceFault>
     ensures { WritesText (W.written writer.old) (W.written writer.new) (W.failures writer.old)
         (W.failures writer.new) result ((codes "client " ++ decimal client ++ codes " refused ") ++
         (name.now ++ codes "\n")) }

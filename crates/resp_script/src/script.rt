@@ -11,7 +11,7 @@ mod words;
 use crate::script::reasons::BadLine;
 use memchr::memchr;
 use resp_tool::text::{write_number, write_text};
-use resp_value::device::{Sink, WriteFault};
+use resp_value::device::{DeviceFault, Sink};
 use resp_wire::Event;
 use std::alloc::Global;
 use steps::{Saying, said};
@@ -59,7 +59,7 @@ impl ScriptError {
 
     /// Writes the line that says what was refused, with an LF. Refuses where a write fails, and
     /// then the first bytes of the line were written.
-    pub fn line<W: Sink>(&self, writer: &mut W) -> Result<(), WriteFault>
+    pub fn line<W: Sink>(&self, writer: &mut W) -> Result<(), DeviceFault>
         ensures { WritesText (W.written writer.old) (W.written writer.new) (W.failures writer.old)
             (W.failures writer.new) result (script_fault_line self.now) }
     {
@@ -73,7 +73,7 @@ impl ScriptError {
 
     /// Writes a line that says, for people, why the script is bad; nothing when out of memory.
     /// Refuses where a write fails, and then the first bytes of the line were written.
-    pub fn explain<W: Sink>(&self, writer: &mut W) -> Result<(), WriteFault>
+    pub fn explain<W: Sink>(&self, writer: &mut W) -> Result<(), DeviceFault>
         ensures { WritesText (W.written writer.old) (W.written writer.new) (W.failures writer.old)
             (W.failures writer.new) result (script_reason_line self.now) }
     {

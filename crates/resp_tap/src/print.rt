@@ -15,7 +15,7 @@ use resp_script::heard::{write_members, write_value};
 use resp_script::play::PlayError;
 use resp_session::words::Words;
 use resp_tool::text::{write_number, write_quoted, write_text};
-use resp_value::device::{Sink, WriteFault};
+use resp_value::device::{DeviceFault, Sink};
 use resp_value::value::{Members, Value};
 use std::alloc::Global;
 
@@ -54,7 +54,7 @@ pub fn write_seen<W: Sink>(
 }
 
 /// What a write came to.
-fn printed(written: Result<(), WriteFault>) -> Result<(), PlayError>
+fn printed(written: Result<(), DeviceFault>) -> Result<(), PlayError>
     ensures printed { (before after : Option (List ℕ)) (failures failures' : ℕ) (text : List ℕ) →
         WritesText before after failures failures' written text →
         Prints before after failures failures' result text }
@@ -126,7 +126,7 @@ fn write_command<W: Sink>(
     stamp: Option<Stamp>,
     words: &Words,
     writer: &mut W,
-) -> Result<(), WriteFault>
+) -> Result<(), DeviceFault>
     ensures { WritesText (W.written writer.old) (W.written writer.new) (W.failures writer.old)
         (W.failures writer.new) result (command_text client number stamp words.now) }
 {
@@ -141,7 +141,7 @@ fn write_numbered_line<W: Sink>(
     number: u64,
     stamp: Option<Stamp>,
     writer: &mut W,
-) -> Result<(), WriteFault>
+) -> Result<(), DeviceFault>
     ensures { WritesText (W.written writer.old) (W.written writer.new) (W.failures writer.old)
         (W.failures writer.new) result (numbered_line client what.now number stamp) }
 {
@@ -155,7 +155,7 @@ pub fn write_client_line<W: Sink>(
     what: &[u8],
     stamp: Option<Stamp>,
     writer: &mut W,
-) -> Result<(), WriteFault>
+) -> Result<(), DeviceFault>
     ensures { WritesText (W.written writer.old) (W.written writer.new) (W.failures writer.old)
         (W.failures writer.new) result (client_line client what.now stamp) }
 {
@@ -168,7 +168,7 @@ fn write_numbered_end<W: Sink>(
     number: u64,
     stamp: Option<Stamp>,
     writer: &mut W,
-) -> Result<(), WriteFault>
+) -> Result<(), DeviceFault>
     ensures { WritesText (W.written writer.old) (W.written writer.new) (W.failures writer.old)
         (W.failures writer.new) result (numbered_end number stamp) }
 {
@@ -183,7 +183,7 @@ fn write_stamped_number<W: Sink>(
     number: u64,
     stamp: Stamp,
     writer: &mut W,
-) -> Result<(), WriteFault>
+) -> Result<(), DeviceFault>
     ensures { WritesText (W.written writer.old) (W.written writer.new) (W.failures writer.old)
         (W.failures writer.new) result (numbered_end number (Some stamp)) }
 {
@@ -192,7 +192,7 @@ fn write_stamped_number<W: Sink>(
 }
 
 /// Writes the line of a command's words.
-fn write_words_line<W: Sink>(words: &Words, writer: &mut W) -> Result<(), WriteFault>
+fn write_words_line<W: Sink>(words: &Words, writer: &mut W) -> Result<(), DeviceFault>
     ensures { WritesText (W.written writer.old) (W.written writer.new) (W.failures writer.old)
         (W.failures writer.new) result (words_line words.now) }
 {
@@ -202,7 +202,7 @@ fn write_words_line<W: Sink>(words: &Words, writer: &mut W) -> Result<(), WriteF
 }
 
 /// Writes words in quotes, each after a space.
-fn write_words<W: Sink>(words: &Words, writer: &mut W) -> Result<(), WriteFault>
+fn write_words<W: Sink>(words: &Words, writer: &mut W) -> Result<(), DeviceFault>
     ensures { WritesText (W.written writer.old) (W.written writer.new) (W.failures writer.old)
         (W.failures writer.new) result (words_text words.now) }
 {
@@ -215,7 +215,7 @@ fn write_words<W: Sink>(words: &Words, writer: &mut W) -> Result<(), WriteFault>
 }
 
 /// Writes a word in quotes, after a space.
-fn write_word<W: Sink>(word: &[u8], writer: &mut W) -> Result<(), WriteFault>
+fn write_word<W: Sink>(word: &[u8], writer: &mut W) -> Result<(), DeviceFault>
     ensures { WritesText (W.written writer.old) (W.written writer.new) (W.failures writer.old)
         (W.failures writer.new) result (word_text word.now) }
 {
@@ -232,7 +232,7 @@ fn write_refusal<W: Sink>(
     place: Place,
     stamp: Option<Stamp>,
     writer: &mut W,
-) -> Result<(), WriteFault>
+) -> Result<(), DeviceFault>
     ensures { WritesText (W.written writer.old) (W.written writer.new) (W.failures writer.old)
         (W.failures writer.new) result (refusal_text client name.now at place stamp) }
 {
@@ -245,7 +245,7 @@ fn write_refusal_heading<W: Sink>(
     client: u64,
     name: &[u8],
     writer: &mut W,
-) -> Result<(), WriteFault>
+) -> Result<(), DeviceFault>
     ensures { WritesText (W.written writer.old) (W.written writer.new) (W.failures writer.old)
         (W.failures writer.new) result (refusal_heading client name.now) }
 {
@@ -259,7 +259,7 @@ fn write_byte<W: Sink>(
     place: Place,
     stamp: Option<Stamp>,
     writer: &mut W,
-) -> Result<(), WriteFault>
+) -> Result<(), DeviceFault>
     ensures { WritesText (W.written writer.old) (W.written writer.new) (W.failures writer.old)
         (W.failures writer.new) result (byte_text at place stamp) }
 {
@@ -272,7 +272,7 @@ fn write_place<W: Sink>(
     place: Place,
     stamp: Option<Stamp>,
     writer: &mut W,
-) -> Result<(), WriteFault>
+) -> Result<(), DeviceFault>
     ensures { WritesText (W.written writer.old) (W.written writer.new) (W.failures writer.old)
         (W.failures writer.new) result (place_text place stamp) }
 {
@@ -289,7 +289,7 @@ fn write_named<W: Sink>(
     number: u64,
     stamp: Option<Stamp>,
     writer: &mut W,
-) -> Result<(), WriteFault>
+) -> Result<(), DeviceFault>
     ensures { WritesText (W.written writer.old) (W.written writer.new) (W.failures writer.old)
         (W.failures writer.new) result (name.now ++ numbered_end number stamp) }
 {
@@ -298,7 +298,7 @@ fn write_named<W: Sink>(
 }
 
 /// Writes that it was a value, and the end of the line.
-fn write_value_end<W: Sink>(stamp: Option<Stamp>, writer: &mut W) -> Result<(), WriteFault>
+fn write_value_end<W: Sink>(stamp: Option<Stamp>, writer: &mut W) -> Result<(), DeviceFault>
     ensures { WritesText (W.written writer.old) (W.written writer.new) (W.failures writer.old)
         (W.failures writer.new) result (codes "a value" ++ ending_text stamp) }
 {

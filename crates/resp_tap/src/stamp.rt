@@ -6,7 +6,7 @@ ghost use Rattle.resp_tap.specs.Digits.{digit, micros_text, time_text, two_digit
 
 use crate::moment::Moment;
 use resp_tool::text::{write_number, write_text};
-use resp_value::device::{Sink, WriteFault};
+use resp_value::device::{DeviceFault, Sink};
 
 /// When something was seen, in microseconds.
 #[derive(Clone, Copy, Debug, PartialEq, Eq)]
@@ -33,7 +33,7 @@ impl Stamp {
 
 /// Writes the end of a line: an LF, and before it when what it tells was seen, where it is stamped.
 /// Refuses where a write fails.
-pub(crate) fn write_ending<W: Sink>(stamp: Option<Stamp>, writer: &mut W) -> Result<(), WriteFault>
+pub(crate) fn write_ending<W: Sink>(stamp: Option<Stamp>, writer: &mut W) -> Result<(), DeviceFault>
     ensures { WritesText (W.written writer.old) (W.written writer.new) (W.failures writer.old)
         (W.failures writer.new) result (ending_text stamp) }
 {
@@ -44,7 +44,7 @@ pub(crate) fn write_ending<W: Sink>(stamp: Option<Stamp>, writer: &mut W) -> Res
 }
 
 /// Writes the end of a line that is stamped.
-fn write_stamped_ending<W: Sink>(stamp: Stamp, writer: &mut W) -> Result<(), WriteFault>
+fn write_stamped_ending<W: Sink>(stamp: Stamp, writer: &mut W) -> Result<(), DeviceFault>
     ensures { WritesText (W.written writer.old) (W.written writer.new) (W.failures writer.old)
         (W.failures writer.new) result (codes " at " ++ stamp_text stamp) }
 {
@@ -53,7 +53,7 @@ fn write_stamped_ending<W: Sink>(stamp: Stamp, writer: &mut W) -> Result<(), Wri
 }
 
 /// Writes a time of day, how long a command waited, and an LF. Refuses where a write fails.
-pub(crate) fn write_stamp<W: Sink>(stamp: Stamp, writer: &mut W) -> Result<(), WriteFault>
+pub(crate) fn write_stamp<W: Sink>(stamp: Stamp, writer: &mut W) -> Result<(), DeviceFault>
     ensures { WritesText (W.written writer.old) (W.written writer.new) (W.failures writer.old)
         (W.failures writer.new) result (stamp_text stamp) }
 {
@@ -62,7 +62,7 @@ pub(crate) fn write_stamp<W: Sink>(stamp: Stamp, writer: &mut W) -> Result<(), W
 }
 
 /// Writes the time of day, this many microseconds after midnight.
-fn write_time<W: Sink>(micros: u64, writer: &mut W) -> Result<(), WriteFault>
+fn write_time<W: Sink>(micros: u64, writer: &mut W) -> Result<(), DeviceFault>
     ensures { WritesText (W.written writer.old) (W.written writer.new) (W.failures writer.old)
         (W.failures writer.new) result (time_text micros) }
 {
@@ -71,7 +71,7 @@ fn write_time<W: Sink>(micros: u64, writer: &mut W) -> Result<(), WriteFault>
 }
 
 /// Writes how long a command waited, if that is known, and an LF.
-fn write_waited<W: Sink>(waited: Option<u64>, writer: &mut W) -> Result<(), WriteFault>
+fn write_waited<W: Sink>(waited: Option<u64>, writer: &mut W) -> Result<(), DeviceFault>
     ensures { WritesText (W.written writer.old) (W.written writer.new) (W.failures writer.old)
         (W.failures writer.new) result (waited_text waited) }
 {
@@ -82,7 +82,7 @@ fn write_waited<W: Sink>(waited: Option<u64>, writer: &mut W) -> Result<(), Writ
 }
 
 /// Writes a number of microseconds as seconds, and an LF.
-fn write_seconds<W: Sink>(micros: u64, writer: &mut W) -> Result<(), WriteFault>
+fn write_seconds<W: Sink>(micros: u64, writer: &mut W) -> Result<(), DeviceFault>
     ensures { WritesText (W.written writer.old) (W.written writer.new) (W.failures writer.old)
         (W.failures writer.new) result (waited_text (Some micros)) }
 {
@@ -92,7 +92,7 @@ fn write_seconds<W: Sink>(micros: u64, writer: &mut W) -> Result<(), WriteFault>
 }
 
 /// Writes the microseconds that are no whole seconds.
-fn write_micros<W: Sink>(micros: u64, writer: &mut W) -> Result<(), WriteFault>
+fn write_micros<W: Sink>(micros: u64, writer: &mut W) -> Result<(), DeviceFault>
     ensures { WritesText (W.written writer.old) (W.written writer.new) (W.failures writer.old)
         (W.failures writer.new) result (micros_text micros) }
 {

@@ -15,7 +15,7 @@ use crate::tool_error::ToolError;
 use resp_scan::event::{ScanError, TextKind};
 use resp_scan::listener::Listener;
 use resp_scan::scanner::Scanner;
-use resp_value::device::{DeviceFault, Sink, WriteFault};
+use resp_value::device::{DeviceFault, Sink};
 use resp_value::kind::OpenKind;
 use resp_value::laws;
 use resp_value::limits::Limits;
@@ -192,7 +192,7 @@ pub fn check<R: LiveSource<W>, W: LiveSink>(
 }
 
 /// Writes the line of counts.
-fn write_counts<W: Sink>(writer: &mut W, totals: Totals) -> Result<(), WriteFault>
+fn write_counts<W: Sink>(writer: &mut W, totals: Totals) -> Result<(), DeviceFault>
     ensures { WritesText (W.written writer.old) (W.written writer.new) (W.failures writer.old)
         (W.failures writer.new) result (counts_line totals.values totals.bytes) }
 {

@@ -19,7 +19,7 @@ use crate::stream::MOST_READS;
 use crate::text::write_text;
 use crate::tool_error::ToolError;
 use clap::error::ErrorKind;
-use resp_value::device::{Sink, WriteFault};
+use resp_value::device::{DeviceFault, Sink};
 use std::alloc::Global;
 use std::convert::AsStr;
 use std::io::ErrorKind as IoErrorKind;
@@ -113,7 +113,7 @@ pub fn refuse_file<F: Sink>(name: &str, why: &str, faults: &mut F) -> u8
 }
 
 /// Writes the line of a file that can't be opened.
-fn write_open_failed<F: Sink>(name: &[u8], why: &[u8], faults: &mut F) -> Result<(), WriteFault>
+fn write_open_failed<F: Sink>(name: &[u8], why: &[u8], faults: &mut F) -> Result<(), DeviceFault>
     ensures { WritesText (F.written faults.old) (F.written faults.new) (F.failures faults.old)
         (F.failures faults.new) result (open_failed_line name.now why.now) }
 {

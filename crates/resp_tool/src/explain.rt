@@ -11,7 +11,7 @@ use crate::text::{write_number, write_quoted, write_text};
 use crate::tool_error::{MOST_VALUES, ToolError};
 use crate::watched::Watched;
 use resp_value::cause::Cause;
-use resp_value::device::{MemorySink, Sink, WriteFault};
+use resp_value::device::{DeviceFault, MemorySink, Sink};
 use resp_value::limits::Limits;
 use resp_value::version::Version;
 use std::alloc::Global;
@@ -107,7 +107,7 @@ fn write_lines<F: Sink>(
     error: &ToolError,
     options: &Options<'_>,
     missing: u64,
-) -> Result<(), WriteFault>
+) -> Result<(), DeviceFault>
     ensures { OnOk result (Appends (F.written faults.old) (F.written faults.new)
         (explanation_lines margin.now after.now blank.now (sentence_text
         (rules_under options.now.version options.now.limits) missing error.now))) }
@@ -122,7 +122,7 @@ fn write_lines<F: Sink>(
 }
 
 /// Writes the first line up to the place.
-fn write_margin<F: Sink>(faults: &mut F, place: u64, before: &[u8]) -> Result<(), WriteFault>
+fn write_margin<F: Sink>(faults: &mut F, place: u64, before: &[u8]) -> Result<(), DeviceFault>
     ensures { WritesText (F.written faults.old) (F.written faults.new) (F.failures faults.old)
         (F.failures faults.new) result (margin_text place before.now) }
 {
@@ -137,7 +137,7 @@ fn write_sentence<F: Sink>(
     version: Version,
     limits: &Limits,
     missing: u64,
-) -> Result<(), WriteFault>
+) -> Result<(), DeviceFault>
     ensures { WritesText (F.written faults.old) (F.written faults.new) (F.failures faults.old)
         (F.failures faults.new) result
         (sentence_text (rules_under version limits.now) missing error.now) }
@@ -162,7 +162,7 @@ fn write_cause<F: Sink>(
     version: Version,
     limits: &Limits,
     missing: u64,
-) -> Result<(), WriteFault>
+) -> Result<(), DeviceFault>
     ensures { WritesText (F.written faults.old) (F.written faults.new) (F.failures faults.old)
         (F.failures faults.new) result
         (cause_text (rules_under version limits.now) missing cause) }
@@ -210,7 +210,7 @@ fn write_cause<F: Sink>(
 }
 
 /// Writes what reads a double.
-fn write_double<F: Sink>(faults: &mut F, version: Version) -> Result<(), WriteFault>
+fn write_double<F: Sink>(faults: &mut F, version: Version) -> Result<(), DeviceFault>
     ensures { WritesText (F.written faults.old) (F.written faults.new) (F.failures faults.old)
         (F.failures faults.new) result (double_text version) }
 {

@@ -16,7 +16,7 @@ use crate::short_line::make_line;
 use crate::text::{write_number, write_quoted, write_text};
 use arrayvec::ArrayVec;
 use resp_scan::event::TextKind;
-use resp_value::device::{Sink, WriteFault};
+use resp_value::device::{DeviceFault, Sink};
 use resp_value::kind::OpenKind;
 
 /// Two spaces for each level.
@@ -74,7 +74,7 @@ impl Lines {
     }
 
     /// Writes an LF where a line is open.
-    pub fn end_line<W: Sink>(&self, writer: &mut W) -> Result<(), WriteFault>
+    pub fn end_line<W: Sink>(&self, writer: &mut W) -> Result<(), DeviceFault>
         ensures { WritesText (W.written writer.old) (W.written writer.new)
             (W.failures writer.old) (W.failures writer.new) result
             (end_of_line (page_of self.now).text) }
@@ -87,7 +87,7 @@ impl Lines {
 
     /// Writes what stands before a value on its line, and `of` where an attribute annotates it, and
     /// then these words.
-    fn begin<W: Sink>(&self, words: &[u8], writer: &mut W) -> Result<(), WriteFault>
+    fn begin<W: Sink>(&self, words: &[u8], writer: &mut W) -> Result<(), DeviceFault>
         ensures { WritesText (W.written writer.old) (W.written writer.new)
             (W.failures writer.old) (W.failures writer.new) result
             (beginning (page_of self.now) ++ words.now) }
@@ -98,7 +98,7 @@ impl Lines {
 
     /// Writes what stands before a value on its line, and `of` where an attribute annotates it.
     #[inline(always)]
-    fn begin_line<W: Sink>(&self, writer: &mut W) -> Result<(), WriteFault>
+    fn begin_line<W: Sink>(&self, writer: &mut W) -> Result<(), DeviceFault>
         ensures { WritesText (W.written writer.old) (W.written writer.new)
             (W.failures writer.old) (W.failures writer.new) result (beginning (page_of self.now)) }
     {
@@ -130,7 +130,7 @@ impl Lines {
     }
 
     /// Writes `of` where an attribute has all its pairs.
-    fn write_of<W: Sink>(&self, writer: &mut W) -> Result<(), WriteFault>
+    fn write_of<W: Sink>(&self, writer: &mut W) -> Result<(), DeviceFault>
         ensures { WritesText (W.written writer.old) (W.written writer.new)
             (W.failures writer.old) (W.failures writer.new) result
             (of_line (page_of self.now).open_lines) }
@@ -170,7 +170,7 @@ impl Lines {
     }
 
     /// The null.
-    pub fn null<W: Sink>(&mut self, writer: &mut W) -> Result<(), WriteFault>
+    pub fn null<W: Sink>(&mut self, writer: &mut W) -> Result<(), DeviceFault>
         ensures written { WritesText (W.written writer.old) (W.written writer.new)
             (W.failures writer.old) (W.failures writer.new) result
             (shown_on (page_of self.old) (e.Null ∷ [])) }
@@ -183,7 +183,7 @@ impl Lines {
     }
 
     /// A truth value.
-    pub fn truth<W: Sink>(&mut self, truth: bool, writer: &mut W) -> Result<(), WriteFault>
+    pub fn truth<W: Sink>(&mut self, truth: bool, writer: &mut W) -> Result<(), DeviceFault>
         ensures written { WritesText (W.written writer.old) (W.written writer.new)
             (W.failures writer.old) (W.failures writer.new) result
             (shown_on (page_of self.old) (e.Bool truth ∷ [])) }
@@ -196,7 +196,7 @@ impl Lines {
     }
 
     /// An integer.
-    pub fn int<W: Sink>(&mut self, number: i64, writer: &mut W) -> Result<(), WriteFault>
+    pub fn int<W: Sink>(&mut self, number: i64, writer: &mut W) -> Result<(), DeviceFault>
         ensures written { WritesText (W.written writer.old) (W.written writer.new)
             (W.failures writer.old) (W.failures writer.new) result
             (shown_on (page_of self.old) (e.Int number ∷ [])) }
@@ -210,7 +210,7 @@ impl Lines {
     }
 
     /// A text begins.
-    pub fn text<W: Sink>(&mut self, kind: TextKind, writer: &mut W) -> Result<(), WriteFault>
+    pub fn text<W: Sink>(&mut self, kind: TextKind, writer: &mut W) -> Result<(), DeviceFault>
         ensures written { WritesText (W.written writer.old) (W.written writer.new)
             (W.failures writer.old) (W.failures writer.new) result
             (shown_on (page_of self.old) (e.Text (text_kind_of kind) ∷ [])) }
@@ -227,7 +227,7 @@ impl Lines {
     }
 
     /// A run of its bytes.
-    pub fn part<W: Sink>(&mut self, part: &[u8], writer: &mut W) -> Result<(), WriteFault>
+    pub fn part<W: Sink>(&mut self, part: &[u8], writer: &mut W) -> Result<(), DeviceFault>
         ensures written { WritesText (W.written writer.old) (W.written writer.new)
             (W.failures writer.old) (W.failures writer.new) result
             (shown_on (page_of self.old) (content_events part.now)) }
@@ -240,7 +240,7 @@ impl Lines {
     }
 
     /// It has ended.
-    pub fn text_end<W: Sink>(&mut self, writer: &mut W) -> Result<(), WriteFault>
+    pub fn text_end<W: Sink>(&mut self, writer: &mut W) -> Result<(), DeviceFault>
         ensures written { WritesText (W.written writer.old) (W.written writer.new)
             (W.failures writer.old) (W.failures writer.new) result
             (shown_on (page_of self.old) (e.TextEnd ∷ [])) }
@@ -259,7 +259,7 @@ impl Lines {
         kind: TextKind,
         bytes: &[u8],
         writer: &mut W,
-    ) -> Result<(), WriteFault>
+    ) -> Result<(), DeviceFault>
         ensures written { WritesText (W.written writer.old) (W.written writer.new)
             (W.failures writer.old) (W.failures writer.new) result
             (shown_on (page_of self.old) (whole_text_events kind bytes.now)) }
@@ -279,7 +279,7 @@ impl Lines {
         kind: OpenKind,
         count: Option<u64>,
         writer: &mut W,
-    ) -> Result<(), WriteFault>
+    ) -> Result<(), DeviceFault>
         ensures written { WritesText (W.written writer.old) (W.written writer.new)
             (W.failures writer.old) (W.failures writer.new) result
             (shown_on (page_of self.old) (e.Open (kind_of kind) count ∷ [])) }
@@ -315,7 +315,7 @@ impl Lines {
     }
 
     /// The innermost one has ended.
-    pub fn close<W: Sink>(&mut self, writer: &mut W) -> Result<(), WriteFault>
+    pub fn close<W: Sink>(&mut self, writer: &mut W) -> Result<(), DeviceFault>
         ensures written { WritesText (W.written writer.old) (W.written writer.new)
             (W.failures writer.old) (W.failures writer.new) result
             (shown_on (page_of self.old) (e.Close ∷ [])) }
@@ -329,7 +329,7 @@ impl Lines {
     }
 
     /// Writes the last line of the innermost aggregate.
-    fn write_last<W: Sink>(&self, writer: &mut W) -> Result<(), WriteFault>
+    fn write_last<W: Sink>(&self, writer: &mut W) -> Result<(), DeviceFault>
         ensures { WritesText (W.written writer.old) (W.written writer.new)
             (W.failures writer.old) (W.failures writer.new) result
             (last_line (page_of self.now).open_lines) }
@@ -373,7 +373,7 @@ impl OpenLine {
 }
 
 /// Writes two spaces for each level.
-fn write_indentation<W: Sink>(writer: &mut W, level: usize) -> Result<(), WriteFault>
+fn write_indentation<W: Sink>(writer: &mut W, level: usize) -> Result<(), DeviceFault>
     requires { level ≤ 128 }
     ensures { WritesText (W.written writer.old) (W.written writer.new) (W.failures writer.old)
         (W.failures writer.new) result (indentation level) }
@@ -383,7 +383,7 @@ fn write_indentation<W: Sink>(writer: &mut W, level: usize) -> Result<(), WriteF
 
 /// Writes what stands of a whole text on its line.
 #[inline(always)]
-fn write_text_line<W: Sink>(writer: &mut W, kind: TextKind, bytes: &[u8]) -> Result<(), WriteFault>
+fn write_text_line<W: Sink>(writer: &mut W, kind: TextKind, bytes: &[u8]) -> Result<(), DeviceFault>
     ensures { WritesText (W.written writer.old) (W.written writer.new) (W.failures writer.old)
         (W.failures writer.new) result (text_line (text_kind_of kind) bytes.now) }
 {
@@ -395,7 +395,7 @@ fn write_text_line<W: Sink>(writer: &mut W, kind: TextKind, bytes: &[u8]) -> Res
 }
 
 /// The same piece by piece.
-fn write_long_line<W: Sink>(writer: &mut W, kind: TextKind, bytes: &[u8]) -> Result<(), WriteFault>
+fn write_long_line<W: Sink>(writer: &mut W, kind: TextKind, bytes: &[u8]) -> Result<(), DeviceFault>
     ensures { WritesText (W.written writer.old) (W.written writer.new) (W.failures writer.old)
         (W.failures writer.new) result (text_line (text_kind_of kind) bytes.now) }
 {
@@ -409,7 +409,7 @@ fn write_long_line<W: Sink>(writer: &mut W, kind: TextKind, bytes: &[u8]) -> Res
 }
 
 /// Writes the words up to a text's content.
-fn write_head<W: Sink>(writer: &mut W, kind: TextKind) -> Result<(), WriteFault>
+fn write_head<W: Sink>(writer: &mut W, kind: TextKind) -> Result<(), DeviceFault>
     ensures { WritesText (W.written writer.old) (W.written writer.new) (W.failures writer.old)
         (W.failures writer.new) result (text_words (text_kind_of kind)) }
 {
@@ -426,7 +426,7 @@ fn write_head<W: Sink>(writer: &mut W, kind: TextKind) -> Result<(), WriteFault>
 }
 
 /// Writes the line of an integer.
-fn write_int<W: Sink>(writer: &mut W, number: i64) -> Result<(), WriteFault>
+fn write_int<W: Sink>(writer: &mut W, number: i64) -> Result<(), DeviceFault>
     ensures { WritesText (W.written writer.old) (W.written writer.new) (W.failures writer.old)
         (W.failures writer.new) result (codes "int " ++ signed_decimal number ++ codes "\n") }
 {
@@ -434,7 +434,7 @@ fn write_int<W: Sink>(writer: &mut W, number: i64) -> Result<(), WriteFault>
 }
 
 /// Writes the words up to a verbatim string's content.
-fn write_format<W: Sink>(writer: &mut W, format: &[u8]) -> Result<(), WriteFault>
+fn write_format<W: Sink>(writer: &mut W, format: &[u8]) -> Result<(), DeviceFault>
     ensures { WritesText (W.written writer.old) (W.written writer.new) (W.failures writer.old)
         (W.failures writer.new) result
         (codes "verbatim \"" ++ quoted_text format.now ++ codes "\" \"") }
@@ -445,7 +445,7 @@ fn write_format<W: Sink>(writer: &mut W, format: &[u8]) -> Result<(), WriteFault
 }
 
 /// Writes two spaces for each level, and a line.
-fn write_indented<W: Sink>(writer: &mut W, level: usize, line: &[u8]) -> Result<(), WriteFault>
+fn write_indented<W: Sink>(writer: &mut W, level: usize, line: &[u8]) -> Result<(), DeviceFault>
     requires { level ≤ 128 }
     ensures { WritesText (W.written writer.old) (W.written writer.new) (W.failures writer.old)
         (W.failures writer.new) result (indentation level ++ line.now) }
@@ -506,7 +506,7 @@ fn longer(text: Option<OpenText>, bytes: u64) -> Option<OpenText>
 }
 
 /// Writes what ends the line of a text.
-fn write_end<W: Sink>(writer: &mut W, text: Option<OpenText>) -> Result<(), WriteFault>
+fn write_end<W: Sink>(writer: &mut W, text: Option<OpenText>) -> Result<(), DeviceFault>
     ensures { WritesText (W.written writer.old) (W.written writer.new) (W.failures writer.old)
         (W.failures writer.new) result (end_of_text (text_of text)) }
 {

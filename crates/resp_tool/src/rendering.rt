@@ -10,7 +10,7 @@ ghost use Rattle.resp_value.specs.Rules.{Rules};
 use crate::live::LiveSink;
 use crate::tool_error::ToolError;
 use resp_scan::event::Fault;
-use resp_value::device::{DeviceFault, Sink, WriteFault};
+use resp_value::device::{DeviceFault, Sink};
 
 /// What came of bytes that were given.
 #[derive(Clone, Copy, Debug, PartialEq, Eq)]
@@ -34,12 +34,12 @@ pub enum Stop {
     Memory,
 }
 
-impl From<WriteFault> for Stop {
+impl From<DeviceFault> for Stop {
     ghost use Rattle.resp_tool.specs.declared.rendering.Stop.TheVariants.{Write};
 
     ghost from_gives = { λ _ error. error ≡ Write };
 
-    fn from(_: WriteFault) -> Stop {
+    fn from(_: DeviceFault) -> Stop {
         Stop::Write
     }
 }

@@ -12,7 +12,7 @@ use crate::options::{limits_of, number_of, text_of};
 use crate::parser::matches_of;
 use crate::text::write_text;
 use clap::ArgMatches;
-use resp_value::device::{Sink, WriteFault};
+use resp_value::device::{DeviceFault, Sink};
 use resp_value::limits::Limits;
 use std::alloc::Global;
 use std::convert::AsStr;
@@ -139,7 +139,7 @@ pub(crate) fn write_bad_address<F: Sink>(
     address: &str,
     name: &str,
     faults: &mut F,
-) -> Result<(), WriteFault> {
+) -> Result<(), DeviceFault> {
     write_text(faults, b"error: invalid value '")?;
     write_text(faults, address.as_bytes())?;
     write_text(faults, b"' for '<")?;

@@ -5,14 +5,14 @@ ghost use Rattle.resp_tool.specs.Shown.{is_plain, hex_digit, escape_of, quoted_t
 ghost use Rattle.resp_tool.specs.Written.{WritesText};
 
 use itoa::{Buffer, Integer};
-use resp_value::device::{DeviceFault, Sink, WriteFault, write_all};
+use resp_value::device::{DeviceFault, Sink, write_all};
 
 /// How many bytes are looked at together.
 const RUN: usize = 64;
 
 /// Writes a text, mostly by one write: small texts that are known here then need no call to copy.
 #[inline(always)]
-pub fn write_text<W: Sink>(writer: &mut W, text: &[u8]) -> Result<(), WriteFault>
+pub fn write_text<W: Sink>(writer: &mut W, text: &[u8]) -> Result<(), DeviceFault>
     ensures { WritesText (W.written writer.old) (W.written writer.new) (W.failures writer.old)
         (W.failures writer.new) result text.now }
 {
@@ -25,27 +25,25 @@ pub fn write_text<W: Sink>(writer: &mut W, text: &[u8]) -> Result<(), WriteFault
                 return Ok(());
             }
             if count == 0 {
-                return Err(WriteFault { written: 0 });
+                return Err(DeviceFault);
             }
             write_rest(writer, text, count)
         }
-        Err(DeviceFault) => Err(WriteFault { written: 0 }),
+        Err(DeviceFault) => Err(DeviceFault),
     }
 }
 
 /// Writes what is left of a text after its first bytes.
 #[cold]
 #[inline(never)]
-fn write_rest<W: Sink>(writer: &mut W, text: &[u8], written: usize) -> Result<(), WriteFault>
+fn write_rest<W: Sink>(writer: &mut W, text: &[u8], written: usize) -> Result<(), DeviceFault>
     requires { written ≤ length text.now }
     ensures { WritesText (W.written writer.old) (W.written writer.new) (W.failures writer.old)
         (W.failures writer.new) result (drop written text.now) }
 {
     match write_all(writer, &text[written..]) {
         Ok(()) => Ok(()),
-        Err(fault) => Err(WriteFault {
-            written: written + fault.written,
-        }),
+        Err(_) => Err(DeviceFault),
     }
 }
 
@@ -56,7 +54,7 @@ pub fn write_number<W: Sink, N: Integer + Drop>(
     before: &[u8],
     number: N,
     beyond: &[u8],
-) -> Result<(), WriteFault>
+) -> Result<(), DeviceFault>
     ensures { WritesText (W.written writer.old) (W.written writer.new) (W.failures writer.old)
         (W.failures writer.new) result (before.now ++ N.text number ++ beyond.now) }
 {
@@ -82,7 +80,7 @@ fn hex_digit(n: u8) -> u8
 }
 
 /// Writes a byte that doesn't stand for itself inside quotes.
-fn write_escaped<W: Sink>(writer: &mut W, byte: u8) -> Result<(), WriteFault>
+fn write_escaped<W: Sink>(writer: &mut W, byte: u8) -> Result<(), DeviceFault>
     ensures { WritesText (W.written writer.old) (W.written writer.new) (W.failures writer.old)
         (W.failures writer.new) result (escape_of byte) }
 {
@@ -128,7 +126,7 @@ fn plain_length(text: &[u8]) -> usize
 }
 
 /// Writes a text as it stands inside quotes.
-pub fn write_quoted<W: Sink>(writer: &mut W, text: &[u8]) -> Result<(), WriteFault>
+pub fn write_quoted<W: Sink>(writer: &mut W, text: &[u8]) -> Result<(), DeviceFault>
     ensures { WritesText (W.written writer.old) (W.written writer.new) (W.failures writer.old)
         (W.failures writer.new) result (quoted_text text.now) }
 {

@@ -6,7 +6,7 @@ ghost use Rattle.resp_tool.specs.declared.tool_error.ToolError.TheVariants.{Memo
 
 use crate::text::{write_number, write_text};
 use resp_value::cause::Cause;
-use resp_value::device::{Sink, WriteFault};
+use resp_value::device::{DeviceFault, Sink};
 use std::alloc::AllocError;
 use thiserror::Error;
 
@@ -47,10 +47,10 @@ impl From<AllocError> for ToolError {
     }
 }
 
-impl From<WriteFault> for ToolError {
+impl From<DeviceFault> for ToolError {
     ghost from_gives = { λ _ error. error ≡ Write };
 
-    fn from(_: WriteFault) -> ToolError {
+    fn from(_: DeviceFault) -> ToolError {
         ToolError::Write
     }
 }
@@ -61,7 +61,7 @@ fn write_refusal<W: Sink>(
     value: u64,
     name: &[u8],
     at: u64,
-) -> Result<(), WriteFault>
+) -> Result<(), DeviceFault>
     ensures { WritesText (W.written writer.old) (W.written writer.new) (W.failures writer.old)
         (W.failures writer.new) result (refusal_line value name.now at) }
 {
@@ -75,7 +75,7 @@ impl ToolError {
 
     /// Writes the line that says what was refused, with an LF. Refuses where a write fails, and
     /// then the first bytes of the line were written.
-    pub fn line<W: Sink>(&self, writer: &mut W) -> Result<(), WriteFault>
+    pub fn line<W: Sink>(&self, writer: &mut W) -> Result<(), DeviceFault>
         ensures { WritesText (W.written writer.old) (W.written writer.new) (W.failures writer.old)
             (W.failures writer.new) result (fault_line self.now) }
     {
