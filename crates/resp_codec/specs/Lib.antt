@@ -9,5 +9,3 @@ pub mod FramedReaders
 -- The proofs of the laws that a codec has to keep.
 pub mod FrameLaws
 pub mod NextLaws
-pub mod ValuesLaws
-pub mod CommandsLaws

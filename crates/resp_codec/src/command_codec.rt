@@ -5,8 +5,8 @@ ghost use Rattle.resp_value.specs.Rules.{rules_under};
 ghost use Rattle.resp_value.specs.declared.version.Version.TheVariants.{Two};
 ghost use Rattle.resp_decode.specs.Decoding as decoding;
 ghost use Rattle.tokio_util.specs.Codec.Next.{Decodes};
-ghost use Rattle.resp_codec.specs.Commands.{HasTaken, ReadsLike, reads_by, writes_by, gives_commands, encodes_replies, refuses_replies};
-ghost use Rattle.resp_codec.specs.CommandsLaws.{commands_stable, commands_partial, commands_end};
+ghost use Rattle.resp_codec.specs.Commands.{HasTaken, ReadsLike, reads_by, writes_by, gives_commands, reading_commands, encodes_replies, refuses_replies};
+ghost use Rattle.resp_codec.specs.NextLaws as laws;
 
 use crate::error::CodecError;
 use crate::reading::next_value;
@@ -58,11 +58,11 @@ impl codec::Decoder for CommandCodec {
 
     ghost gives = { gives_commands };
 
-    ghost stable = { commands_stable };
+    ghost stable = { laws.stable reading_commands };
 
-    ghost partial_has_no_frame = { commands_partial };
+    ghost partial_has_no_frame = { laws.partial_has_no_frame reading_commands };
 
-    ghost end_is_partial = { commands_end };
+    ghost end_is_partial = { laws.end_is_partial reading_commands };
 
     /// What the value asks that ends in the buffer. Without one it takes all bytes, and reads on
     /// from there.

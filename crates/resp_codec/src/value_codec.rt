@@ -63,8 +63,8 @@ impl RespCodec {
 
 impl codec::Decoder for RespCodec {
     ghost use Rattle.tokio_util.specs.Codec.Next.{Decodes};
-    ghost use Rattle.resp_codec.specs.Values.{gives_values};
-    ghost use Rattle.resp_codec.specs.ValuesLaws.{values_end, values_partial, values_stable};
+    ghost use Rattle.resp_codec.specs.Values.{gives_values, reading_values};
+    ghost use Rattle.resp_codec.specs.NextLaws as laws;
 
     type Item = Value;
 
@@ -72,11 +72,11 @@ impl codec::Decoder for RespCodec {
 
     ghost gives = { gives_values };
 
-    ghost stable = { values_stable };
+    ghost stable = { laws.stable reading_values };
 
-    ghost partial_has_no_frame = { values_partial };
+    ghost partial_has_no_frame = { laws.partial_has_no_frame reading_values };
 
-    ghost end_is_partial = { values_end };
+    ghost end_is_partial = { laws.end_is_partial reading_values };
 
     /// The value that ends in the buffer, as [`Decoder::feed`] gives it. Without one it takes all
     /// bytes, and reads on from there.
