@@ -1,30 +1,32 @@
-"""Talks to redis-server through `resp tap`: tapped.py SERVER TAP LOG, two ports and what the tap prints.
+"""Talks to redis-server through `resp tap`: tapped.py SERVER TAP LOG TIMED TIMED_LOG, the ports of the server, of a tap
+and of one that tells times, and what the taps print.
 
 redis-cli prints the same with the tap and without it, in both versions, and the tap prints its commands and replies; a
-HELLO 3 in mid-pipeline moves the version of what follows; after SUBSCRIBE values are unpaired; and redis-benchmark in
-pipelines of 16 doesn't stall: it reaches a tenth at least of what it reaches without the tap."""
+HELLO 3 in mid-pipeline moves the version of what follows; after SUBSCRIBE values are unpaired; where times are told they
+go on in the order of the lines, and a reply waited as long as its command blocked; and redis-benchmark in pipelines of
+16 doesn't stall: it reaches a tenth at least of what it reaches without the tap."""
 import re
 import socket
 import subprocess
 import sys
 import time
 
-server, tap = int(sys.argv[1]), int(sys.argv[2])
+server, tap, timed = int(sys.argv[1]), int(sys.argv[2]), int(sys.argv[4])
 
 
-def printed():
-    """What the tap has printed so far."""
-    with open(sys.argv[3], encoding="utf-8") as file:
+def printed(log=sys.argv[3]):
+    """What a tap has printed so far."""
+    with open(log, encoding="utf-8") as file:
         return file.read()
 
 
-def waits_for(text):
-    """Waits until the tap has printed a text."""
+def waits_for(text, log=sys.argv[3]):
+    """Waits until a tap has printed a text."""
     for _ in range(100):
-        if text in printed():
+        if text in printed(log):
             return
         time.sleep(0.1)
-    raise AssertionError(f"not printed: {text!r}; but {printed()[-2000:]!r}")
+    raise AssertionError(f"not printed: {text!r}; but {printed(log)[-2000:]!r}")
 
 
 def command(*words):
@@ -81,6 +83,35 @@ waits_for("client 9 refused Syntax at byte 0 of command 1\n")
 cli(server, "SETRANGE", "large", str((1 << 24) - 1), "x")
 whole = talk(server, command("GET", "large"), b"x\r\n")
 assert talk(tap, command("GET", "large"), b"x\r\n") == whole
+
+
+def told(line, text):
+    """The microseconds of the day and of the delay, if there is one, that a line tells after a text."""
+    found = re.fullmatch(re.escape(text) + r" at (\d\d):(\d\d):(\d\d)\.(\d{6})(?: after (\d+)\.(\d{6}) s)?", line)
+    assert found, (line, text)
+    hours, minutes, seconds, micros, whole, part = (int(it) if it else 0 for it in found.groups())
+    assert hours < 24 and minutes < 60 and seconds < 60, line
+    delay = None if found[5] is None else 1000000 * whole + part
+    return 1000000 * (3600 * hours + 60 * minutes + seconds) + micros, delay
+
+
+# Where times are told, a command that blocks for 0.2 seconds and one after it in the same pipeline wait as long.
+before = time.time()
+talk(timed, command("BLPOP", "no such list", "0.2") + command("PING"), b"+PONG\r\n")
+waits_for("client 1 gone", sys.argv[5])
+after = time.time()
+lines = [line for line in printed(sys.argv[5]).splitlines() if line.startswith("client ")]
+wanted = ["client 1 command 1", "client 1 command 2", "client 1 reply 1", "client 1 reply 2", "client 1 gone"]
+assert len(lines) == len(wanted), lines
+moments = [told(line, text) for line, text in zip(lines, wanted)]
+DAY = 86400000000
+# How long after the first of these times each came, which may be over midnight.
+ages = [(of_day - int(before * 1000000)) % DAY for of_day, _ in moments]
+assert ages == sorted(ages) and ages[-1] <= (after - before) * 1000000 + 1, (ages, lines)
+assert [delay is not None for _, delay in moments] == [False, False, True, True, False], lines
+# A timer of the server may be a tick early.
+assert all(delay >= 180000 for _, delay in moments if delay is not None), lines
+assert not re.search(r" at \d\d:\d\d:", printed()), "a time that wasn't asked for"
 
 
 def rate(port):

@@ -235,6 +235,7 @@ fn run_tap<W: LiveSink, F: Sink>(
         tapping.server,
         tapping.limits,
         tapping.clients,
+        tapping.tells_time,
     );
     let mut window = match listened {
         Ok(window) => window,

@@ -13,6 +13,7 @@ mod non_blocking;
 mod server;
 mod tapped;
 mod terminal;
+mod timing;
 mod window;
 
 pub use server::Server;

@@ -2,6 +2,7 @@
 
 use crate::connection::Next;
 use crate::non_blocking::{Input, Output};
+use crate::timing::Timing;
 use mio::net::TcpStream;
 use resp_tap::TimedTap;
 use resp_tap::watch::{Side, watch};
@@ -10,6 +11,7 @@ use resp_value::device::{Device, Sink};
 use resp_value::limits::Limits;
 use std::alloc::{AllocError, Global};
 use std::net::Shutdown;
+use std::rt::Clock;
 
 /// How many pieces are handed on each way before other connections have their turn.
 const TURNS: usize = 16;
@@ -58,12 +60,12 @@ impl Lane {
     }
 
     /// Visits the lane once, and gives the tap what came.
-    fn visit<W: Sink>(
+    fn visit<W: Sink, C: Clock>(
         &mut self,
         from: &TcpStream,
         to: &TcpStream,
         is_at_end: bool,
-        see: &mut Seeing<'_, W>,
+        see: &mut Seeing<'_, W, C>,
     ) -> Lately {
         if self.has_ended {
             return Lately::Waits;
@@ -100,24 +102,30 @@ fn after_write<W>(writer: &Output<W>) -> Lately {
 
 /// What sees the pieces that one side sends.
 #[derive(Drop)]
-struct Seeing<'a, W> {
+struct Seeing<'a, W, C> {
     alloc: Global,
     tap: &'a mut TimedTap,
     client: u64,
     side: Side,
+    clock: &'a C,
+    timing: &'a mut Timing,
     writer: &'a mut W,
 }
 
-impl<W: Sink> Seeing<'_, W> {
+impl<W: Sink, C: Clock> Seeing<'_, W, C> {
     /// A piece came.
     fn piece(&mut self, piece: &[u8]) {
+        if piece.is_empty() {
+            return;
+        }
+        let now = self.timing.now(self.clock);
         watch(
             self.alloc,
             self.tap,
             self.client,
             self.side,
             piece,
-            None,
+            now,
             self.writer,
         );
     }
@@ -146,10 +154,16 @@ impl Tapped {
 
     /// Hands on what has come, until each call would wait or the turns are spent. `is_at_end` tells
     /// whether an input may have ended.
-    pub(crate) fn hand_on<W: Sink>(&mut self, is_at_end: bool, writer: &mut W) -> Next {
+    pub(crate) fn hand_on<W: Sink, C: Clock>(
+        &mut self,
+        is_at_end: bool,
+        clock: &C,
+        timing: &mut Timing,
+        writer: &mut W,
+    ) -> Next {
         for _ in 0..TURNS {
-            let to_server = self.visit(Side::Client, is_at_end, writer);
-            let to_client = self.visit(Side::Server, is_at_end, writer);
+            let to_server = self.visit(Side::Client, is_at_end, clock, timing, writer);
+            let to_client = self.visit(Side::Server, is_at_end, clock, timing, writer);
             match (to_server, to_client) {
                 (Lately::Failed, _) | (_, Lately::Failed) => return Next::Close,
                 (Lately::Waits, Lately::Waits) if self.has_ended() => return Next::Close,
@@ -161,12 +175,21 @@ impl Tapped {
     }
 
     /// Visits the lane of what one side sends.
-    fn visit<W: Sink>(&mut self, side: Side, is_at_end: bool, writer: &mut W) -> Lately {
+    fn visit<W: Sink, C: Clock>(
+        &mut self,
+        side: Side,
+        is_at_end: bool,
+        clock: &C,
+        timing: &mut Timing,
+        writer: &mut W,
+    ) -> Lately {
         let mut see = Seeing {
             alloc: self.alloc,
             tap: &mut self.tap,
             client: self.number,
             side,
+            clock,
+            timing,
             writer,
         };
         match side {

@@ -4,16 +4,19 @@ use crate::connection::{Next, refuse};
 use crate::server::{ACCEPTED, Backlog, EVENTS, PAUSE, TOO_MANY};
 use crate::tapped::Tapped;
 use crate::terminal::Terminal;
+use crate::timing::Timing;
 use mio::net::{TcpListener, TcpStream};
 use mio::{Events, Interest, Poll, Token};
+use resp_tap::print::write_client_line;
 use resp_tap::screen::Screen;
+use resp_tap::stamp::Stamp;
 use resp_tool::live::LiveSink;
-use resp_tool::text::write_number;
 use resp_value::limits::Limits;
 use slab::Slab;
 use std::alloc::Global;
 use std::io::ErrorKind;
 use std::net::{Net, SocketAddr};
+use std::rt::Clock;
 use std::time::Duration;
 use std::{io, mem};
 
@@ -52,21 +55,23 @@ pub struct Window {
     queue: Vec<usize>,
     screen: Screen,
     terminal: Terminal,
+    timing: Timing,
 }
 
 impl Window {
     /// Listens on an address for `most` clients at once of the server at another, whose connections
-    /// are read within these limits.
-    pub fn listen(
-        net: &impl Net,
+    /// are read within these limits. `tells_time` asks for the time of what passes.
+    pub fn listen<R: Net + Clock>(
+        rt: &R,
         alloc: Global,
         address: SocketAddr,
         server: SocketAddr,
         limits: Limits,
         most: usize,
+        tells_time: bool,
     ) -> io::Result<Self> {
-        let poll = Poll::new(net)?;
-        let mut listener = TcpListener::bind(net, address)?;
+        let poll = Poll::new(rt)?;
+        let mut listener = TcpListener::bind(rt, address)?;
         poll.registry()
             .register(&mut listener, Token(LISTENER), Interest::READABLE)?;
         Ok(Window {
@@ -81,7 +86,8 @@ impl Window {
             count: 0,
             queue: Vec::new(alloc),
             screen: Screen::new(alloc, SCREEN),
-            terminal: Terminal::new(net, alloc)?,
+            terminal: Terminal::new(rt, alloc)?,
+            timing: Timing::new(rt, tells_time)?,
         })
     }
 
@@ -92,7 +98,7 @@ impl Window {
 
     /// Hands on what all that connect and their server send, and shows what is seen, until a wait
     /// or a write of what is shown fails.
-    pub fn run<W: LiveSink>(&mut self, net: &impl Net, out: &mut W) -> io::Result<()> {
+    pub fn run<R: Net + Clock, W: LiveSink>(&mut self, rt: &R, out: &mut W) -> io::Result<()> {
         let Ok(mut events) = Events::with_capacity(self.alloc, EVENTS) else {
             return Err(ErrorKind::OutOfMemory.into());
         };
@@ -100,28 +106,28 @@ impl Window {
             return Err(ErrorKind::WriteZero.into());
         }
         for _ in 0..u64::MAX {
-            self.turn(net, &mut events)?;
+            self.turn(rt, &mut events)?;
             self.show(out)?;
         }
         Ok(())
     }
 
     /// Waits until something is ready, and visits it.
-    fn turn(&mut self, net: &impl Net, events: &mut Events) -> io::Result<()> {
+    fn turn<R: Net + Clock>(&mut self, rt: &R, events: &mut Events) -> io::Result<()> {
         let timeout = self.timeout();
         self.poll.poll(events, timeout)?;
         let queue = mem::replace(&mut self.queue, Vec::new(self.alloc));
         for event in events.iter() {
             match event.token() {
                 Token(LISTENER) => self.backlog = Backlog::Waiting,
-                Token(token) => self.visit_ready((token - 1) / 2, event.is_read_closed()),
+                Token(token) => self.visit_ready(rt, (token - 1) / 2, event.is_read_closed()),
             }
         }
         for place in queue {
-            self.visit_queued(place);
+            self.visit_queued(rt, place);
         }
         if self.backlog != Backlog::Empty {
-            self.accept_some(net);
+            self.accept_some(rt);
         }
         Ok(())
     }
@@ -161,10 +167,10 @@ impl Window {
     }
 
     /// Accepts connections that wait.
-    fn accept_some(&mut self, net: &impl Net) {
+    fn accept_some<R: Net + Clock>(&mut self, rt: &R) {
         for _ in 0..ACCEPTED {
             match self.listener.accept() {
-                Ok((stream, _)) => self.admit(net, stream),
+                Ok((stream, _)) => self.admit(rt, stream),
                 Err(error) => {
                     self.backlog = match error.kind() {
                         ErrorKind::WouldBlock => Backlog::Empty,
@@ -178,7 +184,7 @@ impl Window {
     }
 
     /// Takes a connection, or refuses it where there are as many as may be.
-    fn admit(&mut self, net: &impl Net, client: TcpStream) {
+    fn admit<R: Net + Clock>(&mut self, rt: &R, client: TcpStream) {
         if self.connections.len() >= self.most {
             refuse(&client, TOO_MANY);
             return;
@@ -186,9 +192,18 @@ impl Window {
         self.count = self.count.saturating_add(1);
         let number = self.count;
         // Without memory for it, or without a socket that works, it is closed.
-        if self.place(net, client, number).is_err() {
-            let _ = write_number(&mut self.screen, b"client ", number, b" not connected\n");
+        if self.place(rt, client, number).is_err() {
+            self.tell(rt, number, b" not connected");
         }
+    }
+
+    /// Prints a line of a client.
+    fn tell(&mut self, clock: &impl Clock, client: u64, what: &[u8]) {
+        let stamp = match self.timing.now(clock) {
+            Some(now) => Some(Stamp::new(now)),
+            None => None,
+        };
+        let _ = write_client_line(client, what, stamp, &mut self.screen);
     }
 
     /// Gives a connection and one to the server a place.
@@ -213,39 +228,39 @@ impl Window {
 
     /// Visits the connection in a place, of which a socket is ready. One that is queued has its
     /// turn there.
-    fn visit_ready(&mut self, place: usize, is_at_end: bool) {
+    fn visit_ready(&mut self, clock: &impl Clock, place: usize, is_at_end: bool) {
         if let Some(tapped) = self.connections.get(place) {
             if !tapped.is_queued {
-                self.visit(place, is_at_end);
+                self.visit(clock, place, is_at_end);
             }
         }
     }
 
     /// Visits the connection in a place, which was queued.
-    fn visit_queued(&mut self, place: usize) {
+    fn visit_queued(&mut self, clock: &impl Clock, place: usize) {
         if let Some(tapped) = self.connections.get_mut(place) {
             tapped.is_queued = false;
             // The event that would have told of the end may have passed.
-            self.visit(place, true);
+            self.visit(clock, place, true);
         }
     }
 
     /// Visits the connection in a place, if one is there.
-    fn visit(&mut self, place: usize, is_at_end: bool) {
+    fn visit(&mut self, clock: &impl Clock, place: usize, is_at_end: bool) {
         let Some(tapped) = self.connections.get_mut(place) else {
             return;
         };
-        match tapped.hand_on(is_at_end, &mut self.screen) {
+        match tapped.hand_on(is_at_end, clock, &mut self.timing, &mut self.screen) {
             Next::Wait => {}
             Next::Again if self.queue.push(place).is_ok() => tapped.is_queued = true,
-            Next::Again | Next::Close => self.close(place),
+            Next::Again | Next::Close => self.close(clock, place),
         }
     }
 
     /// Closes the connection in a place. The place is used again.
-    fn close(&mut self, place: usize) {
+    fn close(&mut self, clock: &impl Clock, place: usize) {
         if let Some(tapped) = self.connections.try_remove(place) {
-            let _ = write_number(&mut self.screen, b"client ", tapped.number, b" gone\n");
+            self.tell(clock, tapped.number, b" gone");
         }
         // Where no connection could be accepted, one may be now.
         if self.backlog == Backlog::Failing {

@@ -75,18 +75,20 @@ HasServing given serving = HasServeWords given serving.address_text.now serving.
     IsSocketText serving.address_text.now serving.address
 
 -- of `tap`, with the texts of its addresses
-pub record HasTapWords (given : List Row) (address server : Text) (limits : Bounds) (clients : ℕ) : Type 0 where
+pub record HasTapWords (given : List Row) (address server : Text) (limits : Bounds) (clients : ℕ) (tells_time : Bool) :
+    Type 0 where
   pub in_limits : HasLimits given limits
   pub with_doubles : limits.doubles ≡ true
   pub at_once : HasNumber given (codes "clients") clients
   pub at_once_in_range : (1 ≤ clients) × (clients ≤ 65536)
+  pub tells : HasFlag given (codes "time") tells_time
   pub listen_text : first_of (codes "listen") given ≡ Some address
   pub server_text : first_of (codes "server") given ≡ Some server
 
 -- and with its addresses
 abbrev pub HasTapping : List Row → Tapping → Type 0
 HasTapping given tapping = (server_text : Text) ×
-    HasTapWords given tapping.address_text.now server_text tapping.limits tapping.clients ×
+    HasTapWords given tapping.address_text.now server_text tapping.limits tapping.clients tapping.tells_time ×
     IsSocketText tapping.address_text.now tapping.address × IsSocketText server_text tapping.server
 
 abbrev pub task_word : Task → Text

@@ -65,9 +65,9 @@ stream_options versions = value_option (codes "proto") versions (codes "2") ∷ 
 abbrev pub address_word : Text → Rule
 address_word name = record (new_rule name) { value_names = 1; required = true }
 
--- the options of `serve` and `tap`, before their addresses
+-- the options of `serve` and `tap`, before those that only one of them has
 abbrev pub listening_options : List Rule → List Rule
-listening_options addresses = limit_options ++ number_option (codes "clients") 1 65536 (codes "1000") ∷ addresses
+listening_options others = limit_options ++ number_option (codes "clients") 1 65536 (codes "1000") ∷ others
 
 -- the options of `serve`
 abbrev pub serve_options : List Rule
@@ -75,7 +75,8 @@ serve_options = listening_options (address_word (codes "address") ∷ [])
 
 -- the options of `tap`
 abbrev pub tap_options : List Rule
-tap_options = listening_options (address_word (codes "listen") ∷ address_word (codes "server") ∷ [])
+tap_options = listening_options
+    (flag_option (codes "time") ∷ address_word (codes "listen") ∷ address_word (codes "server") ∷ [])
 
 -- ---- tasks
 

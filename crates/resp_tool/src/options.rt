@@ -98,7 +98,7 @@ pub(crate) fn number_of(matches: &ArgMatches<'_>, name: &str) -> Option<u64>
 }
 
 /// Whether an option is given.
-fn flag_of(matches: &ArgMatches<'_>, name: &str) -> Option<bool>
+pub(crate) fn flag_of(matches: &ArgMatches<'_>, name: &str) -> Option<bool>
     ensures some { IfSome result (HasFlag (rows_of (found_of matches.now)) name.now) }
     ensures none { IfNone result ((on : Bool)
         → HasFlag (rows_of (found_of matches.now)) name.now on → ⊥) }

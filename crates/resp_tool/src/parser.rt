@@ -259,9 +259,15 @@ fn with_tap_options<'a>(alloc: Global, command: Command<'a>) -> Result<Command<'
         "SERVER",
         "The address of the server, as 127.0.0.1:6379",
     );
+    let time = flag(
+        alloc,
+        "time",
+        "Tells the time of day in UTC, and how long each command waited for its reply",
+    );
     Ok(
         with_limits(alloc, command)?
             .arg(CLIENTS.option(alloc))?
+            .arg(time)?
             .arg(listen)?
             .arg(server)?
             .after_help(LISTENING_STATUSES),

@@ -1,6 +1,6 @@
 //! What the words of `resp tap` ask for.
 
-ghost use Rattle.std.specs.Prelude.{◌≡◌, ◌≤◌, ℕ, List, IfErr, IfNone, IfOk, IfSome, IsErrOf, OnErr, OnOk, map};
+ghost use Rattle.std.specs.Prelude.{◌≡◌, ◌≤◌, ℕ, Bool, List, IfErr, IfNone, IfOk, IfSome, IsErrOf, OnErr, OnOk, map};
 ghost use Rattle.std.specs.Net.Grammar.{IsSocketText};
 ghost use Rattle.clap.specs.Words.{App, found_of, rows_of, subcommand_rows_of};
 ghost use Rattle.resp_tool.specs.CommandWords.{AnswersStatus, AskToTap, EntersTap, HasTapWords, HasTapping};
@@ -9,7 +9,7 @@ ghost use Rattle.resp_tool.specs.Runs.{IsWordStatus, TellsFailure};
 ghost use Rattle.resp_value.specs.Bounds.{Bounds};
 
 use crate::command_line::{BAD_ARGUMENTS, explain};
-use crate::options::{limits_of, number_of, text_of};
+use crate::options::{flag_of, limits_of, number_of, text_of};
 use crate::parser::matches_of;
 use crate::serving::write_bad_address;
 use crate::text::write_text;
@@ -20,8 +20,8 @@ use std::alloc::Global;
 use std::convert::AsStr;
 use std::net::SocketAddr;
 
-/// Where clients are listened for and where their server is, how many there are at once, and within
-/// which limits what passes is read.
+/// Where clients are listened for and where their server is, how many there are at once, within
+/// which limits what passes is read, and whether it is told when it passed.
 #[derive(Clone, Copy, Debug)]
 pub struct Tapping<'a> {
     pub address: SocketAddr,
@@ -33,6 +33,8 @@ pub struct Tapping<'a> {
     pub limits: Limits,
     /// The most clients at once, from 1 to 65,536.
     pub clients: usize,
+    /// Whether times are told.
+    pub tells_time: bool,
 }
 
 /// What the words say, before the addresses are read.
@@ -42,6 +44,7 @@ struct Words<'a> {
     server: &'a str,
     limits: Limits,
     clients: usize,
+    tells_time: bool,
 }
 
 /// Why there is nothing to tap.
@@ -133,6 +136,7 @@ fn tapping_of<'a>(matches: &ArgMatches<'a>) -> Result<Tapping<'a>, NoTapping<'a>
         server,
         limits: words.limits,
         clients: words.clients,
+        tells_time: words.tells_time,
     })
 }
 
@@ -140,9 +144,10 @@ fn tapping_of<'a>(matches: &ArgMatches<'a>) -> Result<Tapping<'a>, NoTapping<'a>
 /// parser of the words refuses before.
 fn words_of<'a>(matches: &ArgMatches<'a>) -> Option<Words<'a>>
     ensures some { IfSome result (λ words. HasTapWords (rows_of (found_of matches.now))
-        words.address.now words.server.now words.limits words.clients) }
+        words.address.now words.server.now words.limits words.clients words.tells_time) }
     ensures none { IfNone result ((address server : List ℕ) (limits : Bounds) (clients : ℕ)
-        → HasTapWords (rows_of (found_of matches.now)) address server limits clients → ⊥) }
+        (tells_time : Bool) → HasTapWords (rows_of (found_of matches.now)) address server limits
+        clients tells_time → ⊥) }
 {
     let clients = number_of(matches, "clients")?;
     if clients < 1 || clients > 65_536 {
@@ -153,5 +158,6 @@ fn words_of<'a>(matches: &ArgMatches<'a>) -> Option<Words<'a>>
         server: text_of(matches, "server")?,
         limits: limits_of(matches)?.with_doubles(true),
         clients: clients as usize,
+        tells_time: flag_of(matches, "time")?,
     })
 }

@@ -1,4 +1,4 @@
-use Rattle.std.proofs.Common.{ℕ, List}
+use Rattle.std.proofs.Common.{ℕ, Bool, List}
 use Rattle.clap.specs.Words.{found_of, rows_of}
 use Rattle.resp_value.specs.Bounds.{Bounds}
 use Rattle.resp_tool.specs.CommandWords.{HasTapWords}
@@ -7,6 +7,7 @@ use Rattle.resp_tool.proofs.tapping.words_of.Goals as goal
 
 pub returns-in_err-clients-clause-none : goal.returns-in_err-clients-clause-none
 returns-in_err-clients-clause-none c =
-    let none : (address server : List ℕ) (limits : Bounds) (clients : ℕ) → HasTapWords (rows_of (found_of c.args.matches.now)) address server limits clients → ⊥ =
-    λ address server limits clients has. c.in_err-clients.ensures.none _ has.at_once in
+    let none : (address server : List ℕ) (limits : Bounds) (clients : ℕ) (tells_time : Bool) →
+        HasTapWords (rows_of (found_of c.args.matches.now)) address server limits clients tells_time → ⊥ =
+    λ address server limits clients tells_time has. c.in_err-clients.ensures.none _ has.at_once in
     if_none _ _ none
