@@ -55,7 +55,7 @@ content_adds [] b = refl
 content_adds (x ∷ s) b = omega (arith, content_adds s (with_event (e.Byte x) b))
 
 -- what is not empty has a last one
-last_split : (xs : List Group) (d : Group) → 0 < length xs → (init : List Group) × (xs ≡ init ++ get_or xs (length xs - 1) d ∷ [])
+pub last_split : {X : Type 0} (xs : List X) (d : X) → 0 < length xs → (init : List X) × (xs ≡ init ++ get_or xs (length xs - 1) d ∷ [])
 last_split [] d h = absurd (omega arith)
 last_split (a ∷ []) d h = ([], refl)
 last_split (a ∷ b ∷ rest) d h =

@@ -101,7 +101,7 @@ hears_scalar old new event goes_on takes within =
     within stop (same ∙ brief_groups given nothing (brief_first given (event ∷ []) brief) refl))
 
 -- the events of a text that is told whole build its value
-whole_text_builds : (kind : TextKind) (s : List ℕ) (b : Construction) → b.text ≡ None →
+pub whole_text_builds : (kind : TextKind) (s : List ℕ) (b : Construction) → b.text ≡ None →
     with_events (e.Text kind ∷ (content_events s ++ e.TextEnd ∷ [])) b ≡ with_value (scalar (scalar_of kind s)) b
 whole_text_builds kind s b rests =
     let opened = with_event (e.Text kind) b in

@@ -7,7 +7,8 @@ pub mod Rendered
 pub mod LiveLemmas
 pub mod Scanned
 pub mod Counted
-pub mod Decoded
+pub mod Drafted
+pub mod Drafting
 pub mod ShownTrees
 pub mod PageLemmas
 pub mod Showing

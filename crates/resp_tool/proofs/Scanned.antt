@@ -110,20 +110,24 @@ looks_on r s s' H front piece so_far held scanned looked whole part all viable =
           },
         )
 
+-- a byte that is refused where nothing was written
+pub nothing_left : (r : Rules) (H : Events → Type 0) (front piece so_far : List ℕ) (held : Option (List ℕ)) (fault : Fault) → so_far ≡ [] →
+    HearsRefusal r H front piece fault → LeavesRefused r (IsByteFault r) LeavesNothing (front ++ piece) so_far held held fault.cause fault.at
+nothing_left r H front piece so_far held fault nothing h = record {
+  fault = byte_fault r front piece fault h.heard h.refused;
+  no_spelling = h.refused.no_value;
+  more = [];
+  appended = Appends-none held;
+  is_left = append-nil so_far ∙ nothing;
+}
+
 pub looks_refused : (r : Rules) (s : Place) (H : Events → Type 0) (front piece so_far : List ℕ) (held : Option (List ℕ)) (fault : Fault) →
     HasLookedAt s front so_far →
     ((given : Events) → HasRead s front given → HearsRefusal r H front piece fault) →
     LeavesRefused r (IsByteFault r) LeavesNothing (front ++ piece) so_far held held fault.cause fault.at
 looks_refused r s H front piece so_far held fault looked refusal =
     let ((given, scanned_so), nothing) = looked in
-    let h = refusal given scanned_so.reads in
-    record {
-      fault = byte_fault r front piece fault h.heard h.refused;
-      no_spelling = h.refused.no_value;
-      more = [];
-      appended = Appends-none held;
-      is_left = append-nil so_far ∙ nothing;
-    }
+    nothing_left r H front piece so_far held fault nothing (refusal given scanned_so.reads)
 
 -- the end of the input inside a value
 pub looks_truncated : (r : Rules) (front so_far : List ℕ) (held : Option (List ℕ)) (c : Cause) (at : ℕ) → HasNoValue front → IsViable r WithinTotal front →

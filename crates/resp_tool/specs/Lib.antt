@@ -19,3 +19,4 @@ pub mod Program
 pub mod CommandWords
 pub mod Commands
 pub mod CanonicalFronts
+pub mod Drafts

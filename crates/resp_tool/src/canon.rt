@@ -1,38 +1,33 @@
 //! `canon`: each value of a stream again, in its one canonical spelling.
 
-ghost use Rattle.std.specs.Prelude.{◌≡◌, ◌+◌, ◌≤◌, ℕ, true, List, [], length, Some, IfErr, IfOk, IfSome, IsErrOf, OnOk};
-ghost use Rattle.resp_encode.specs.Refusals.{IfWrite, IsFirstRefusal};
-ghost use Rattle.resp_encode.specs.declared.error.EncodeError.{EncodeError};
-ghost use Rattle.resp_tool.specs.Canons.{stop_at, stop_of};
+ghost use Rattle.std.specs.Prelude.{◌≡◌, ◌⊎◌, ◌+◌, ◌<◌, ◌≤◌, ℕ, true, List, [], length, Some, IfErr, IfOk, IfSome, IsErrOf, OnOk};
+ghost use Rattle.resp_decode.specs.Builds.{nothing};
 ghost use Rattle.resp_tool.specs.Counts.{LeavesNothing};
+ghost use Rattle.resp_tool.specs.Drafts.{IsDraftOf};
 ghost use Rattle.resp_tool.specs.Live.{EachRead, IsLive};
 ghost use Rattle.resp_tool.specs.Streams.{AreRead, AtEnd, Renders, failed_to_read, failed_to_write};
 ghost use Rattle.resp_tool.specs.Written.{BreaksText, WritesText, WritesWhole};
 ghost use Rattle.resp_value.specs.Canonical.{canonical_text, Fits};
+ghost use Rattle.resp_value.specs.Data.{Datum};
 ghost use Rattle.resp_value.specs.Devices.{count_after, failures_after};
 ghost use Rattle.resp_value.specs.Rules.{rules_under};
-ghost use Rattle.resp_value.specs.Values.{datum_of};
 
 use crate::canonical_front::canonical_front;
+use crate::draft::Draft;
 use crate::live::{LiveSink, LiveSource};
 use crate::rendering::{Rendering, Stop, Taken};
 use crate::stream::{MOST_READS, render_stream};
 use crate::text::write_text;
 use crate::tool_error::ToolError;
-use bytes::BytesMut;
-use resp_decode::Decoder;
-use resp_encode::{EncodeError, EncodeToError, encode};
-use resp_scan::event::Fault;
-use resp_value::cause::Cause;
-use resp_value::device::{DeviceFault, Sink, write_all};
+use resp_scan::event::ScanError;
+use resp_scan::scanner::Scanner;
+use resp_value::device::{DeviceFault, Sink};
 use resp_value::laws;
 use resp_value::limits::Limits;
-use resp_value::value::Value;
 use resp_value::version::Version;
 use std::alloc::Global;
 
-/// The room for a text from the start. Where a text just fills its room the encoder has to measure
-/// it, so there is more than most texts need.
+/// The room for a text from the start.
 const ROOM: usize = 4_096;
 
 /// Each value in its canonical spelling in a version, under limits.
@@ -40,18 +35,18 @@ const ROOM: usize = 4_096;
 struct Canonical<'a> {
     version: Version,
     limits: &'a Limits,
-    decoder: Decoder,
+    scanner: Scanner,
     /// Where each text is made before it is written.
-    text: BytesMut,
+    draft: Draft,
 }
 
 impl Rendering for Canonical<'_> {
-    ghost use Rattle.resp_tool.specs.Canons.{HasDecoded};
+    ghost use Rattle.resp_tool.specs.Canons.{HasBegunDraft};
 
     ghost rules = { λ c. rules_under c.version c.limits.now };
 
     ghost has_taken = { λ c.
-        HasDecoded (rules_under c.version c.limits.now) c.decoder };
+        HasBegunDraft (rules_under c.version c.limits.now) c.scanner c.draft };
 
     ghost text = { λ rules. canonical_text rules.version };
 
@@ -69,29 +64,33 @@ impl Rendering for Canonical<'_> {
 
     fn take<W: Sink>(&mut self, piece: &[u8], writer: &mut W) -> Result<Taken, Stop> {
         laws::canonical_text_spells_what_fits();
+        laws::what_was_read_can_be_written();
         // Most values without members are written as they came.
-        if self.decoder.taken() == 0 {
+        if self.scanner.taken() == 0 {
             if let Some(size) = canonical_front(piece, self.limits) {
                 return write_front(&piece[..size], writer);
             }
         }
-        let fed = match self.decoder.feed(piece) {
-            Ok(fed) => fed,
-            Err(fault) => return Err(stop_at(fault)),
+        let scanned = match self.scanner.scan(piece, &mut self.draft) {
+            Ok(scanned) => scanned,
+            Err(ScanError::Fault(fault)) => return Err(Stop::Fault(fault)),
+            Err(ScanError::Stopped { .. }) => return Err(Stop::Memory),
         };
-        let used = fed.used;
-        let Some(value) = fed.value else {
+        let used = scanned.used;
+        if !scanned.is_whole {
+            // What was taken is viable, as the scanner says of it here.
+            let _viable = self.scanner.taken();
             return Ok(Taken {
                 used,
                 is_whole: false,
             });
-        };
-        match write_canonical(self.version, self.limits, &value, &mut self.text, writer) {
-            Ok(_) => Ok(Taken {
+        }
+        match write_draft(&mut self.draft, self.limits, writer) {
+            Ok(()) => Ok(Taken {
                 used,
                 is_whole: true,
             }),
-            Err(error) => Err(stop_of(error)),
+            Err(stop) => Err(stop),
         }
     }
 
@@ -102,11 +101,11 @@ impl Rendering for Canonical<'_> {
     }
 
     fn finish<W: Sink>(&mut self, _writer: &mut W) -> Result<(), Stop> {
-        // What was taken is viable, as the decoder says of it here.
-        let _viable = self.decoder.taken();
-        match self.decoder.finish() {
+        // What was taken is viable, as the scanner says of it here.
+        let _viable = self.scanner.taken();
+        match self.scanner.finish() {
             Ok(()) => Ok(()),
-            Err(fault) => Err(stop_at(fault)),
+            Err(fault) => Err(Stop::Fault(fault)),
         }
     }
 }
@@ -129,58 +128,30 @@ fn write_front<W: Sink>(text: &[u8], writer: &mut W) -> Result<Taken, Stop>
     }
 }
 
-/// Writes the canonical text of a value, which is first made in `text` in the place of what stands
-/// there, so that one room serves for all values. Its refusals are those of `encode`, before
-/// anything is written; or a write fails, and the first bytes were written.
+/// Writes the text of a value that is whole, and begins the next. A text over the limit of total is
+/// refused, and nothing of it written; or a write fails, and a first part was written.
 #[inline(always)]
-fn write_canonical<W: Sink>(
-    version: Version,
-    limits: &Limits,
-    value: &Value,
-    text: &mut BytesMut,
-    writer: &mut W,
-) -> Result<(), EncodeToError>
+fn write_draft<W: Sink>(draft: &mut Draft, limits: &Limits, writer: &mut W) -> Result<(), Stop>
     ensures whole { OnOk result (WritesWhole (W.written writer.old) (W.written writer.new)
-        (W.failures writer.old) (W.failures writer.new)
-        (canonical_text version (datum_of value.now))) }
-    ensures fits { OnOk result (Fits (rules_under version limits.now) (datum_of value.now)) }
-    ensures first_fault { IfErr result (IsFirstRefusal (rules_under version limits.now)
-        (datum_of value.now)) }
-    ensures nothing_written { (error : EncodeError) →
-        IsErrOf result (EncodeToError.Refused error) → writer.new ≡ writer.old }
-    ensures part { IfErr result (IfWrite (λ _. BreaksText (W.written writer.old)
+        (W.failures writer.old) (W.failures writer.new) draft.old.text.items) }
+    ensures within_total { OnOk result (length draft.old.text.items ≤ limits.now.total) }
+    ensures next { OnOk result ((x : Datum) →
+        IsDraftOf draft.old (record nothing { whole = Some x }) → IsDraftOf draft.new nothing) }
+    ensures same_version { draft.new.version ≡ draft.old.version }
+    ensures over_total { IsErrOf result Stop.OverLimits → (writer.new ≡ writer.old)
+        × (limits.now.total < length draft.old.text.items) }
+    ensures part { IsErrOf result Stop.Write → BreaksText (W.written writer.old)
         (W.written writer.new) (W.failures writer.old) (W.failures writer.new)
-        (canonical_text version (datum_of value.now)))) }
+        draft.old.text.items }
+    ensures stops { IfErr result (λ stop. (stop ≡ Stop.OverLimits) ⊎ (stop ≡ Stop.Write)) }
 {
-    text.clear();
-    encode(version, limits, value, text)?;
-    match write_all(writer, text.as_slice()) {
-        Ok(()) => Ok(()),
-        Err(fault) => Err(EncodeToError::Write {
-            written: fault.written as u64,
-        }),
+    let text = draft.text();
+    if (text.len() as u64) > limits.total() {
+        return Err(Stop::OverLimits);
     }
-}
-
-/// Out of memory, or the fault of a byte.
-fn stop_at(fault: Fault) -> Stop
-    ensures { result ≡ stop_at fault }
-{
-    match fault.cause {
-        Cause::OutOfMemory => Stop::Memory,
-        _ => Stop::Fault(fault),
-    }
-}
-
-/// Why a text was not written.
-fn stop_of(error: EncodeToError) -> Stop
-    ensures { result ≡ stop_of error }
-{
-    match error {
-        EncodeToError::Refused(EncodeError::OutOfMemory) => Stop::Memory,
-        EncodeToError::Refused(_) => Stop::OverLimits,
-        EncodeToError::Write { .. } => Stop::Write,
-    }
+    write_text(writer, text)?;
+    draft.clear();
+    Ok(())
 }
 
 /// Reads the stream by reads of at most `piece` bytes, from 1 to 65,536, and writes the canonical
@@ -222,14 +193,13 @@ pub fn canon<R: LiveSource<W>, W: LiveSink>(
     ensures write_failures { W.failures writer.new ≡
         failures_after (failed_to_write result) (W.failures writer.old) }
 {
-    let mut text = BytesMut::new(alloc);
-    // Without this room the encoder makes room for each text that needs it.
-    let _ = text.reserve(ROOM);
+    let mut draft = Draft::new(alloc, version);
+    draft.reserve(ROOM);
     let mut canonical = Canonical {
         version,
         limits,
-        decoder: Decoder::new(alloc, version, limits),
-        text,
+        scanner: Scanner::new(version, limits),
+        draft,
     };
     match render_stream(alloc, &mut canonical, piece, reader, writer) {
         Ok(_) => Ok(()),

@@ -8,6 +8,7 @@ pub mod canon;
 mod canonical_front;
 pub mod check;
 pub mod command_line;
+mod draft;
 pub mod explain;
 pub mod laws;
 mod lines;

@@ -1,11 +1,12 @@
-use Rattle.std.proofs.Common.{refl}
-use Rattle.resp_decode.proofs.Feeding.{no_value_at_start}
+use Rattle.std.proofs.Common.{[], refl, ◌∙◌}
+use Rattle.resp_tool.proofs.Scanned.{scanned_nothing}
 use Rattle.resp_tool.proofs.canon.canon.Goals as goal
 
 pub render_stream-requires-clause-nothing_taken : goal.render_stream-requires-clause-nothing_taken
 render_stream-requires-clause-nothing_taken g c = record {
-  takes = c.new.ensures.nothing_taken;
-  no_value = no_value_at_start;
+  given = [];
+  scanned = scanned_nothing c.new.result c.new.ensures.nothing_read;
+  drafted = (c.reserve.ensures.same_version ∙ c.new-draft.ensures.0, c.reserve.ensures.same _ c.new-draft.ensures.1);
   same_rules = c.new.ensures.rules;
   nothing = refl;
 }

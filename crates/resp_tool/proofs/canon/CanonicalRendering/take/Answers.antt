@@ -1,62 +1,90 @@
-use Rattle.std.proofs.Common.{rules, ◌⊎◌, ◌++◌, [], Err, take, sym, ap, subst, ◌∙◌}
+use Rattle.std.proofs.Common.{rules, ◌≡◌, inl, inr, ℕ, true, false, List, ◌++◌, take, Option, Err, sym, ap, subst, ◌∙◌}
 use Rattle.resp_value.specs.Canonical.{canonical_text, Fits}
-use Rattle.resp_value.specs.Devices.{Appends}
 use Rattle.resp_value.specs.Rules.{rules_under}
-use Rattle.resp_decode.specs.Decoding.{GivesValue, LacksMemory, RefusesByte}
-use Rattle.resp_tool.specs.Canons.{HasDecoded}
+use Rattle.resp_scan.specs.Kinds.{rules_of}
+use Rattle.resp_scan.specs.Listening.{HearsRefusal, HearsValue, OnFault}
+use Rattle.resp_scan.specs.declared.event.ScanError.TheVariants as stop
+use Rattle.resp_tool.specs.Canons.{HasBegunDraft}
 use Rattle.resp_tool.specs.Counts.{LeavesNothing}
+use Rattle.resp_tool.specs.Drafts.{HasDrafted}
 use Rattle.resp_tool.specs.Takings.{Takes}
+use Rattle.resp_tool.specs.declared.rendering.Stop.{Stop}
+use Rattle.resp_tool.specs.declared.rendering.Stop.TheVariants.{OverLimits}
+use Rattle.resp_tool.proofs.Drafted.{declines, drafts_front, drafts_value, no_part, part_of_draft}
 use Rattle.resp_tool.proofs.FrontsTaken.{takes_front}
-use Rattle.resp_tool.proofs.Decoded.{decoder_stops, decodes_value, encoder_stops_at}
-use Rattle.resp_tool.proofs.WrittenLemmas.{Appends-none}
+use Rattle.resp_tool.proofs.Scanned.{nothing_left}
 use Rattle.resp_tool.proofs.canon.CanonicalRendering.take.Goals as goal
 
 pub returns-in-Some-clause-takes : goal.returns-in-Some-clause-takes
 returns-in-Some-clause-takes g c = λ front so_far w.
     let self = c.args.self.now in
-    takes_front c.canonical_text_spells_what_fits.ensures self.version self.limits.now self.decoder front c.args.piece.now so_far
+    takes_front c.canonical_text_spells_what_fits.ensures self.version self.limits.now self.scanner self.draft front c.args.piece.now so_far
     (g.W.Sink.written c.args.writer.now) (g.W.Sink.written c.write_front.new.writer) (g.W.Sink.failures c.args.writer.now)
     (g.W.Sink.failures c.write_front.new.writer) c.in-Some.size c.write_front.result w
-    (sym c.if-taken-eq0.true ∙ c.taken.ensures.length_of_front front w.takes) c.in-Some.ensures.within c.in-Some.ensures.canonical
+    (sym c.if-taken-eq0.true ∙ c.taken.ensures.length_of_front front w.given w.scanned.reads) c.in-Some.ensures.within c.in-Some.ensures.canonical
     c.write_front.ensures.writes c.write_front.ensures.whole c.write_front.ensures.stops
+
+pub returns-in-Err-Fault-clause-takes : goal.returns-in-Err-Fault-clause-takes
+returns-in-Err-Fault-clause-takes g c = λ front so_far w.
+    let self = c.args.self.now in
+    let r = rules_under self.version self.limits.now in
+    let piece = c.args.piece.now in
+    let heard = HasDrafted self.version c.scan.new.listener in
+    let is : c.in-Err-Fault.field-0 ≡ stop.Fault c.in-Err-Fault.fault = search rules in
+    let refusal = subst (λ z. OnFault z (HearsRefusal (rules_of self.scanner) heard front piece)) is
+    (c.in-Err-Fault.ensures.refusal self.version front w.given w.scanned.reads w.drafted) in
+    nothing_left r heard front piece so_far (g.W.Sink.written c.args.writer.now) c.in-Err-Fault.fault w.nothing
+    (subst (λ z. HearsRefusal z heard front piece c.in-Err-Fault.fault) w.same_rules refusal)
+
+pub returns-in-Err-Stopped-clause-takes : goal.returns-in-Err-Stopped-clause-takes
+returns-in-Err-Stopped-clause-takes g c = λ front so_far w.
+    no_part (rules_under c.args.self.now.version c.args.self.now.limits.now) (front ++ c.args.piece.now) so_far (g.W.Sink.written c.args.writer.now) w.nothing
+
+pub returns-then-not-scanned-clause-takes : goal.returns-then-not-scanned-clause-takes
+returns-then-not-scanned-clause-takes g c = λ front so_far w.
+    let self = c.args.self.now in
+    let is : c.in-Ok.scanned.is_whole ≡ false = search rules in
+    let heard = c.in-Ok.ensures.used_up self.version front w.given w.scanned.reads w.drafted is in (
+      c.in-Ok.ensures.whole_piece is,
+      drafts_front (rules_under self.version self.limits.now) c.scan.new.self c.scan.new.listener front c.args.piece.now so_far
+          (g.W.Sink.written c.args.writer.now) w.nothing heard (c.in-Ok.ensures.same_rules ∙ w.same_rules),
+    )
+
+pub returns-in-Ok-write_draft-clause-takes : goal.returns-in-Ok-write_draft-clause-takes
+returns-in-Ok-write_draft-clause-takes g c = λ front so_far w.
+    let self = c.args.self.now in
+    let r = rules_under self.version self.limits.now in
+    let piece = c.args.piece.now in
+    let used = c.in-Ok.scanned.used in
+    let is : c.in-Ok.scanned.is_whole ≡ true = search rules in
+    let heard = subst (λ z. HearsValue z c.scan.new.self (HasDrafted self.version c.scan.new.listener) (front ++ take used piece)) w.same_rules
+    (c.in-Ok.ensures.value_whole self.version front w.given w.scanned.reads w.drafted is) in
+    drafts_value c.what_was_read_can_be_written.ensures.fits_but_for_total r c.scan.new.self c.scan.new.listener c.write_draft.new.draft front piece so_far
+    (g.W.Sink.written c.args.writer.now) (g.W.Sink.written c.write_draft.new.writer) used w.scanned.no_value w.nothing heard
+    (c.in-Ok.ensures.same_rules ∙ w.same_rules) c.in-Ok-write_draft.ensures.same_version c.in-Ok-write_draft.ensures.next
+    c.in-Ok-write_draft.ensures.within_total c.in-Ok-write_draft.ensures.whole.0
 
 pub returns-in-Err-clause-takes : goal.returns-in-Err-clause-takes
 returns-in-Err-clause-takes g c = λ front so_far w.
-    let r = rules_under c.args.self.now.version c.args.self.now.limits.now in
-    let held = g.W.Sink.written c.args.writer.now in
+    let self = c.args.self.now in
+    let r = rules_under self.version self.limits.now in
     let piece = c.args.piece.now in
-    let fault = c.in-Err.fault in
-    let H = HasDecoded r c.feed.new.self in
-    let refused = subst (λ z. RefusesByte z front piece fault ⊎ LacksMemory z front piece fault) w.same_rules (c.in-Err.ensures.refusal front w.takes) in
-    subst (λ z. Takes r (canonical_text r.version) (Fits r) LeavesNothing LeavesNothing H front piece so_far held held (Err z)) (sym c.stop_at.ensures)
-    (decoder_stops r H front piece so_far held fault w.nothing refused)
-
-pub returns-in-Ok-write_canonical-clause-takes : goal.returns-in-Ok-write_canonical-clause-takes
-returns-in-Ok-write_canonical-clause-takes g c = λ front so_far w.
-    let r = rules_under c.args.self.now.version c.args.self.now.limits.now in
-    let used = c.in-Ok.fed.used in
-    let value = c.in-Some-value.value in
-    let given = subst (λ z. GivesValue z c.feed.new.self (front ++ take used c.args.piece.now) value) w.same_rules
-    (c.in-Ok.ensures.value_whole front w.takes value c.in-Some-value.is) in
-    decodes_value r c.feed.new.self front c.args.piece.now so_far (g.W.Sink.written c.args.writer.now)
-    (g.W.Sink.written c.write_canonical.new.writer) used value _
-    (search rules)
-    w.no_value w.nothing given (c.in-Ok.ensures.same_rules ∙ w.same_rules) c.in-Ok-write_canonical.ensures.fits c.in-Ok-write_canonical.ensures.whole.0
-
-pub returns-clause-takes : goal.returns-clause-takes
-returns-clause-takes g c = λ front so_far w.
-    let r = rules_under c.args.self.now.version c.args.self.now.limits.now in
     let before = g.W.Sink.written c.args.writer.now in
-    let after = g.W.Sink.written c.write_canonical.new.writer in
-    let piece = c.args.piece.now in
-    let used = c.in-Ok.fed.used in
-    let value = c.in-Some-value.value in
-    let error = c.in-Err-write_canonical.error in
-    let H = HasDecoded r c.feed.new.self in
-    let given = subst (λ z. GivesValue z c.feed.new.self (front ++ take used piece) value) w.same_rules
-    (c.in-Ok.ensures.value_whole front w.takes value c.in-Some-value.is) in
-    subst (λ z. Takes r (canonical_text r.version) (Fits r) LeavesNothing LeavesNothing H front piece so_far before after (Err z)) (sym c.stop_of.ensures)
-    (encoder_stops_at r H value _ front piece so_far used before after (g.W.Sink.failures c.args.writer.now) (g.W.Sink.failures c.write_canonical.new.writer)
-    error c.in-Some-value.value-is w.nothing given.spelling c.in-Err-write_canonical.ensures.first_fault
-    (λ e is. subst (λ z. Appends before (g.W.Sink.written z) []) (sym (c.in-Err-write_canonical.ensures.nothing_written e (ap Err is))) (Appends-none before))
-    c.in-Err-write_canonical.ensures.part)
+    let after = g.W.Sink.written c.write_draft.new.writer in
+    let used = c.in-Ok.scanned.used in
+    let draft = c.scan.new.listener in
+    let is : c.in-Ok.scanned.is_whole ≡ true = search rules in
+    let heard = subst (λ z. HearsValue z c.scan.new.self (HasDrafted self.version draft) (front ++ take used piece)) w.same_rules
+    (c.in-Ok.ensures.value_whole self.version front w.given w.scanned.reads w.drafted is) in
+    let Comes = λ (b : Option (List ℕ)) (z : Stop).
+    Takes r (canonical_text r.version) (Fits r) LeavesNothing LeavesNothing (HasBegunDraft r c.scan.new.self c.write_draft.new.draft) front piece so_far before b
+    (Err z) in
+    elim c.in-Err.ensures.stops [
+      | inl over ↦
+          let (same, long) = c.in-Err.ensures.over_total (ap Err over) in
+          subst (Comes after) (sym over) (subst (λ b. Comes b OverLimits) (ap g.W.Sink.written (sym same))
+          (declines r c.scan.new.self draft front piece so_far used before w.nothing heard long))
+      | inr broke ↦
+          subst (Comes after) (sym broke)
+          (part_of_draft r c.scan.new.self draft front piece so_far used before after w.nothing heard (c.in-Err.ensures.part (ap Err broke)).0)
+    ]

@@ -1,0 +1,163 @@
+-- What `canon` has taken and written of a value, from what the scanner says and the draft has.
+use Rattle.std.proofs.Common.{◌≡◌, ℕ, ◌<◌, ◌≤◌, List, [], ◌∷◌, ◌++◌, length, take, drop, Option, Some, refl, sym, ap, subst, ◌∙◌, arith, append_assoc, append-nil, take-append-drop}
+use Rattle.resp_value.specs.Canonical.{canonical_text, Fits}
+use Rattle.resp_value.specs.Data.{Datum}
+use Rattle.resp_value.specs.Devices.{Appends}
+use Rattle.resp_value.specs.Laws.{WhatWasReadFitsButForTotal}
+use Rattle.resp_value.specs.Rules.{Rules, WithinTotal}
+use Rattle.resp_value.specs.Spellings.{IsSpelling, IsViable}
+use Rattle.resp_value.specs.TreeValues.{value}
+use Rattle.resp_scan.specs.Kinds.{rules_of}
+use Rattle.resp_scan.specs.Listening.{HearsPiece, HearsValue}
+use Rattle.resp_scan.specs.Machine.Tokens.{Place}
+use Rattle.resp_scan.specs.Reading.{HasNoValue}
+use Rattle.resp_decode.specs.Builds.{nothing}
+use Rattle.resp_decode.proofs.Values.{value_is_built}
+use Rattle.resp_tool.specs.Canons.{HasBegunDraft}
+use Rattle.resp_tool.specs.Counts.{LeavesNothing}
+use Rattle.resp_tool.specs.Drafts.{HasDrafted, IsDraftOf}
+use Rattle.resp_tool.specs.Takings.{Declines, TakesUnfinished, WritesValue}
+use Rattle.resp_tool.specs.Takings as tool
+use Rattle.resp_tool.specs.Written.{AppendsPart}
+use Rattle.resp_tool.specs.declared.draft.Draft.{Draft}
+use Rattle.resp_tool.proofs.Drafting.{draft_is_text}
+use Rattle.resp_tool.proofs.Scanned.{scanned_nothing, value_uses_some}
+use Rattle.resp_tool.proofs.Rendered.{spelled_one}
+use Rattle.resp_tool.proofs.WrittenLemmas.{Appends-none}
+
+-- a value that was read whole, and the draft of it, which has its text
+pub record IsDrafted (r : Rules) (draft : Draft) (written : List ℕ) : Type 0 where
+  pub x : Datum
+  pub spelling : IsSpelling r x written
+  pub drafted : IsDraftOf draft (record nothing { whole = Some x })
+  pub text : draft.text.items ≡ canonical_text r.version x
+
+pub is_drafted : (r : Rules) (s : Place) (draft : Draft) (written : List ℕ) → HearsValue r s (HasDrafted r.version draft) written → IsDrafted r draft written
+is_drafted r s draft written h =
+    let b = value_is_built r written h.heard h.is_value in
+    let drafted : IsDraftOf draft (record nothing { whole = Some (value b.tree) }) = subst (IsDraftOf draft) b.is h.has_heard.1 in
+    record {
+      x = value b.tree;
+      spelling = b.spelling;
+      drafted = drafted;
+      text = draft_is_text draft (value b.tree) drafted ∙ ap (λ v. canonical_text v (value b.tree)) h.has_heard.0;
+    }
+
+-- a value that was read and written whole
+pub drafts_value : WhatWasReadFitsButForTotal → (r : Rules) (s : Place) (draft next : Draft) (front piece so_far : List ℕ) (before after : Option (List ℕ))
+    (used : ℕ) → HasNoValue front → so_far ≡ [] → HearsValue r s (HasDrafted r.version draft) (front ++ take used piece) → rules_of s ≡ r →
+    next.version ≡ draft.version → ((x : Datum) → IsDraftOf draft (record nothing { whole = Some x }) → IsDraftOf next nothing) → length draft.text.items ≤ r.limits.total →
+    Appends before after draft.text.items →
+    (0 < used) × WritesValue r (canonical_text r.version) (Fits r) (HasBegunDraft r s next) (front ++ take used piece) so_far before after
+drafts_value law r s draft next front piece so_far before after used none nothing h same same_version begins short appended =
+    let is = is_drafted r s draft (front ++ take used piece) h in
+    let (is_value, doubles, types, push, depth, longest, items) = law r is.x (front ++ take used piece) is.spelling in (
+      value_uses_some front piece used is.spelling.tree none is.spelling.spells,
+      record {
+        value = is.x;
+        spelling = is.spelling;
+        written = record {
+          allows_doubles = doubles;
+          has_types = types;
+          push_at_top = push;
+          within_depth = depth;
+          within_length = longest;
+          within_items = items;
+          within_total = omega (arith, short, ap length is.text);
+        };
+        more = draft.text.items;
+        appended = appended;
+        whole = sym is.text ∙ ap (λ z. z ++ draft.text.items) (sym nothing);
+        takes = record {
+          given = [];
+          scanned = scanned_nothing s h.reads;
+          drafted = (same_version ∙ h.has_heard.0, begins is.x is.drafted);
+          same_rules = same;
+          nothing = refl;
+        };
+      },
+    )
+
+-- nothing more was written
+pub no_part : (r : Rules) (whole so_far : List ℕ) (held : Option (List ℕ)) → so_far ≡ [] →
+    tool.WritesPart r (canonical_text r.version) LeavesNothing whole so_far held held
+no_part r whole so_far held nothing = record {
+  values = [];
+  front = [];
+  beyond = whole;
+  split = refl;
+  spelled = refl;
+  begun = [];
+  is_begun = refl;
+  more = [];
+  later = [];
+  parts = sym (append-nil so_far ∙ nothing);
+  appended = Appends-none held;
+}
+
+-- a piece at the place where a value ends
+cut : (front piece : List ℕ) (used : ℕ) → front ++ piece ≡ (front ++ take used piece) ++ drop used piece
+cut front piece used = ap (λ z. front ++ z) (sym (take-append-drop used piece)) ∙ sym (append_assoc front (take used piece) (drop used piece))
+
+-- a value whose text is over the limit of total
+pub declines : (r : Rules) (s : Place) (draft : Draft) (front piece so_far : List ℕ) (used : ℕ) (held : Option (List ℕ)) → so_far ≡ [] →
+    HearsValue r s (HasDrafted r.version draft) (front ++ take used piece) → r.limits.total < length draft.text.items →
+    Declines r (Fits r) (front ++ piece) so_far held held
+declines r s draft front piece so_far used held nothing h over =
+    let is = is_drafted r s draft (front ++ take used piece) h in
+    record {
+      value = is.x;
+      front = front ++ take used piece;
+      beyond = drop used piece;
+      split = cut front piece used;
+      spelling = is.spelling;
+      not_written = λ fits. omega (arith, over, ap length is.text, fits.within_total);
+      nothing = nothing;
+      appended = Appends-none held;
+    }
+
+-- a first part of a text that was to be written
+pub part_of_value : (r : Rules) (x : Datum) (front piece so_far : List ℕ) (used : ℕ) (before after : Option (List ℕ)) → so_far ≡ [] →
+    IsSpelling r x (front ++ take used piece) → AppendsPart before after (canonical_text r.version x) →
+    tool.WritesPart r (canonical_text r.version) LeavesNothing (front ++ piece) so_far before after
+part_of_value r x front piece so_far used before after nothing spelling written = record {
+  values = x ∷ [];
+  front = front ++ take used piece;
+  beyond = drop used piece;
+  split = cut front piece used;
+  spelled = spelled_one r x (front ++ take used piece) spelling;
+  begun = [];
+  is_begun = refl;
+  more = written.part;
+  later = written.beyond;
+  parts =
+      let whole = canonical_text r.version x in
+      append-nil (whole ++ []) ∙ append-nil whole ∙ written.whole ∙ ap (λ z. z ++ (written.part ++ written.beyond)) (sym nothing);
+  appended = written.appended;
+}
+
+-- and of the text of a draft
+pub part_of_draft : (r : Rules) (s : Place) (draft : Draft) (front piece so_far : List ℕ) (used : ℕ) (before after : Option (List ℕ)) → so_far ≡ [] →
+    HearsValue r s (HasDrafted r.version draft) (front ++ take used piece) → AppendsPart before after draft.text.items →
+    tool.WritesPart r (canonical_text r.version) LeavesNothing (front ++ piece) so_far before after
+part_of_draft r s draft front piece so_far used before after nothing h written =
+    let is = is_drafted r s draft (front ++ take used piece) h in
+    part_of_value r is.x front piece so_far used before after nothing is.spelling (subst (AppendsPart before after) is.text written)
+
+-- a piece that was taken whole
+pub drafts_front : (r : Rules) (s : Place) (draft : Draft) (front piece so_far : List ℕ) (held : Option (List ℕ)) → so_far ≡ [] →
+    HearsPiece s (HasDrafted r.version draft) (front ++ piece) → rules_of s ≡ r →
+    TakesUnfinished r (HasBegunDraft r s draft) (front ++ piece) so_far held held
+drafts_front r s draft front piece so_far held nothing h same = record {
+  no_value = h.no_value;
+  viable = subst (λ z. IsViable z WithinTotal (front ++ piece)) same h.viable;
+  more = [];
+  appended = Appends-none held;
+  takes = record {
+    given = h.heard;
+    scanned = record { reads = h.reads; all_due = h.all_due; no_value = h.no_value };
+    drafted = h.has_heard;
+    same_rules = same;
+    nothing = append-nil so_far ∙ nothing;
+  };
+}

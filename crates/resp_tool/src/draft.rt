@@ -1,0 +1,356 @@
+//! The canonical text of a value, made as its events come, so that no value is held.
+
+ghost use Rattle.std.specs.Prelude.{◌≡◌, ◌∷◌, ◌++◌, [], Some, drop, is_ok, length, reverse, take, OnOk};
+ghost use Rattle.resp_decode.specs.Builds.{text_value};
+ghost use Rattle.resp_fronts.specs.Events as e;
+ghost use Rattle.resp_scan.specs.Kinds.{text_kind_of};
+ghost use Rattle.resp_scan.specs.Listening.{whole_text_events};
+ghost use Rattle.resp_tool.specs.Drafts.{AppendsKnownHead, CountsOne, WithHead, head_text};
+ghost use Rattle.resp_value.specs.Bytes.{crlf};
+ghost use Rattle.resp_value.specs.Canonical.{canonical_text};
+ghost use Rattle.resp_value.specs.Data.{Datum, items_of, scalar};
+ghost use Rattle.resp_value.specs.Data as d;
+ghost use Rattle.resp_value.specs.Kinds.{kind_of};
+ghost use Rattle.resp_value.specs.Numbers.{decimal};
+ghost use Rattle.resp_value.specs.declared.version.Version.{Version};
+
+use itoa::Buffer;
+use resp_scan::event::TextKind;
+use resp_scan::listener::Listener;
+use resp_value::kind::OpenKind;
+use resp_value::version::Version;
+use std::alloc::{AllocError, Global};
+
+/// An aggregate whose end hasn't come.
+#[derive(Clone, Copy)]
+struct OpenAggregate {
+    kind: OpenKind,
+    /// The number in its head; none where it is streamed, and has no head yet.
+    count: Option<u64>,
+    /// Where its head begins in the text.
+    head_at: usize,
+    /// Where its members begin.
+    members_at: usize,
+    /// The number of its members that have ended.
+    members: u64,
+}
+
+impl OpenAggregate {
+    /// The number that its head has to have: of pairs in a map or an attribute, else of members.
+    fn number(&self) -> u64
+        ensures { result ≡ items_of (kind_of self.now.kind) self.now.members }
+    {
+        match self.kind {
+            OpenKind::Map | OpenKind::Attr => self.members / 2,
+            OpenKind::Array | OpenKind::Set | OpenKind::Push => self.members,
+        }
+    }
+}
+
+/// The canonical text of the value that is being read, as far as its events have come.
+#[derive(Drop)]
+pub(crate) struct Draft {
+    alloc: Global,
+    version: Version,
+    text: Vec<u8>,
+    /// The open aggregates, the innermost last.
+    aggregates: Vec<OpenAggregate>,
+    /// The kind of the simple or bulk text, or of the big number, that is being read.
+    kind: Option<TextKind>,
+    /// What has come of its content.
+    content: Vec<u8>,
+}
+
+impl Draft {
+    ghost use Rattle.resp_decode.specs.Builds.{Construction, nothing};
+    ghost use Rattle.resp_tool.specs.Drafts.{DraftsWhereFit, HasDrafted, IsDraftOf};
+
+    /// A draft of no event. Takes no memory.
+    pub(crate) fn new(alloc: Global, version: Version) -> Draft
+        ensures { HasDrafted version result [] }
+    {
+        Draft {
+            alloc,
+            version,
+            text: Vec::new(alloc),
+            aggregates: Vec::new(alloc),
+            kind: None,
+            content: Vec::new(alloc),
+        }
+    }
+
+    /// Makes room for texts of `size` bytes, where there is memory for it.
+    pub(crate) fn reserve(&mut self, size: usize)
+        ensures same { (b : Construction) → IsDraftOf self.old b → IsDraftOf self.new b }
+        ensures same_version { self.new.version ≡ self.old.version }
+    {
+        let _ = self.text.reserve(size);
+    }
+
+    /// The text of what has come: of the whole value, once that has ended.
+    #[inline]
+    pub(crate) fn text(&self) -> &[u8]
+        ensures { result.now ≡ self.now.text.items }
+    {
+        self.text.as_slice()
+    }
+
+    /// Begins the next value, after one that has ended.
+    #[inline]
+    pub(crate) fn clear(&mut self)
+        ensures next { (x : Datum) → IsDraftOf self.old (record nothing { whole = Some x }) →
+            IsDraftOf self.new nothing }
+        ensures same_version { self.new.version ≡ self.old.version }
+    {
+        self.text.clear();
+    }
+
+    /// Counts a value that has ended as a member of the innermost aggregate, and says whether its
+    /// text was written.
+    #[inline]
+    fn end_value(&mut self, written: Result<(), AllocError>) -> bool
+        ensures counted { CountsOne (reverse self.old.aggregates.items) (reverse self.new.aggregates.items) }
+        ensures same { self.new ≡ record self.old { aggregates = self.new.aggregates } }
+        ensures result { result ≡ is_ok written }
+    {
+        if let Some(aggregate) = self.aggregates.last_mut() {
+            aggregate.members = aggregate.members.saturating_add(1);
+        }
+        written.is_ok()
+    }
+
+    /// Adds a whole text of this kind.
+    fn add_text(&mut self, kind: TextKind, content: &[u8]) -> bool
+        ensures { DraftsWhereFit self.old self.new (whole_text_events kind content.now) result }
+    {
+        let written = write_text(&mut self.text, kind, content);
+        self.end_value(written)
+    }
+
+    /// Adds the text whose content has come. False where none has begun, or there is no memory.
+    fn end_text(&mut self) -> bool
+        ensures { DraftsWhereFit self.old self.new (e.TextEnd ∷ []) result }
+    {
+        let Some(kind) = self.kind.take() else {
+            return false;
+        };
+        let written = write_text(&mut self.text, kind, self.content.as_slice());
+        self.content.clear();
+        self.end_value(written)
+    }
+
+    /// Opens an aggregate, with its head where its number is known.
+    fn open_aggregate(&mut self, kind: OpenKind, count: Option<u64>) -> Result<(), AllocError>
+        ensures { DraftsWhereFit self.old self.new (e.Open (kind_of kind) count ∷ [])
+            (is_ok result) }
+    {
+        let head_at = self.text.len();
+        write_known_head(&mut self.text, kind, count)?;
+        let members_at = self.text.len();
+        self.aggregates.reserve(1)?;
+        self.aggregates.push_reserved(OpenAggregate {
+            kind,
+            count,
+            head_at,
+            members_at,
+            members: 0,
+        });
+        Ok(())
+    }
+
+    /// Closes the innermost aggregate. False where none is open, or there is no memory.
+    fn close_aggregate(&mut self) -> bool
+        ensures { DraftsWhereFit self.old self.new (e.Close ∷ []) result }
+    {
+        let Some(aggregate) = self.aggregates.pop() else {
+            return false;
+        };
+        let written = self.put_head(&aggregate);
+        self.end_value(written)
+    }
+
+    /// Puts the head of an aggregate that ends before its members, where it doesn't stand there.
+    fn put_head(&mut self, aggregate: &OpenAggregate) -> Result<(), AllocError>
+        ensures text { OnOk result
+            (WithHead aggregate.now self.old.text.items self.new.text.items) }
+        ensures same { self.new ≡ record self.old { text = self.new.text } }
+    {
+        let number = aggregate.number();
+        match aggregate.count {
+            Some(count) if count == number => Ok(()),
+            _ => self.write_head_before(aggregate, number),
+        }
+    }
+
+    /// Writes the head of a streamed aggregate, whose number is known at its end, before its
+    /// members.
+    #[cold]
+    fn write_head_before(
+        &mut self,
+        aggregate: &OpenAggregate,
+        number: u64,
+    ) -> Result<(), AllocError>
+        ensures text { OnOk result (self.new.text.items ≡
+            take aggregate.now.head_at self.old.text.items
+            ++ (head_text (kind_of aggregate.now.kind) number
+            ++ drop aggregate.now.members_at self.old.text.items)) }
+        ensures same { self.new ≡ record self.old { text = self.new.text } }
+    {
+        let Some(members) = self.text.as_slice().get(aggregate.members_at..) else {
+            return Err(AllocError);
+        };
+        let members = Vec::from_slice(self.alloc, members)?;
+        self.text.truncate(aggregate.head_at);
+        write_head(&mut self.text, aggregate.kind.byte(), number)?;
+        self.text.extend_from_slice(members.as_slice())
+    }
+}
+
+impl Listener for Draft {
+    ghost use Rattle.resp_tool.specs.Drafts.{HasDrafted};
+
+    /// The version of the text.
+    ghost Origin = { Version };
+
+    ghost has_heard = { λ draft version. HasDrafted version draft };
+
+    ghost has_stopped = { λ _ _ _. Unit {0} };
+
+    fn null(&mut self) -> bool {
+        let text: &[u8] = match self.version {
+            Version::Two => b"$-1\r\n",
+            Version::Three => b"_\r\n",
+        };
+        let written = self.text.extend_from_slice(text);
+        self.end_value(written)
+    }
+
+    fn truth(&mut self, truth: bool) -> bool {
+        let text: &[u8] = if truth { b"#t\r\n" } else { b"#f\r\n" };
+        let written = self.text.extend_from_slice(text);
+        self.end_value(written)
+    }
+
+    fn int(&mut self, number: i64) -> bool {
+        let written = write_int(&mut self.text, number);
+        self.end_value(written)
+    }
+
+    fn text(&mut self, kind: TextKind) -> bool {
+        self.kind = Some(kind);
+        true
+    }
+
+    fn part(&mut self, part: &[u8]) -> bool {
+        self.content.extend_from_slice(part).is_ok()
+    }
+
+    fn text_end(&mut self) -> bool {
+        self.end_text()
+    }
+
+    fn open(&mut self, kind: OpenKind, count: Option<u64>) -> bool {
+        self.open_aggregate(kind, count).is_ok()
+    }
+
+    fn close(&mut self) -> bool {
+        self.close_aggregate()
+    }
+
+    fn whole_text(&mut self, kind: TextKind, bytes: &[u8]) -> bool {
+        self.add_text(kind, bytes)
+    }
+}
+
+/// Appends the head of an aggregate, where its number is known.
+fn write_known_head(
+    text: &mut Vec<u8>,
+    kind: OpenKind,
+    count: Option<u64>,
+) -> Result<(), AllocError>
+    ensures { OnOk result (AppendsKnownHead (kind_of kind) count text.old.items text.new.items) }
+{
+    match count {
+        Some(number) => write_head(text, kind.byte(), number),
+        None => Ok(()),
+    }
+}
+
+/// Appends the head of an aggregate or a string: its type byte, the number, CR and LF.
+fn write_head(text: &mut Vec<u8>, byte: u8, number: u64) -> Result<(), AllocError>
+    ensures { OnOk result (text.new.items ≡
+        text.old.items ++ (byte ∷ decimal number ++ crlf [])) }
+{
+    let mut buffer = Buffer::new();
+    write_line(text, &[byte], buffer.format(number).as_bytes())
+}
+
+/// Appends a line of these two parts, with CR and LF.
+fn write_line(text: &mut Vec<u8>, first: &[u8], second: &[u8]) -> Result<(), AllocError>
+    ensures { OnOk result (text.new.items ≡
+        text.old.items ++ (first.now ++ (second.now ++ crlf []))) }
+{
+    text.extend_from_slice(first)?;
+    text.extend_from_slice(second)?;
+    text.extend_from_slice(b"\r\n")
+}
+
+/// Appends an integer.
+fn write_int(text: &mut Vec<u8>, number: i64) -> Result<(), AllocError>
+    ensures { (version : Version) → OnOk result (text.new.items ≡
+        text.old.items ++ canonical_text version (scalar (d.Int number))) }
+{
+    if number < 0 {
+        text.extend_from_slice(b":")?;
+        write_head(text, b'-', number.unsigned_abs())
+    } else {
+        write_head(text, b':', number.unsigned_abs())
+    }
+}
+
+/// Appends the text of this kind with this content.
+fn write_text(text: &mut Vec<u8>, kind: TextKind, content: &[u8]) -> Result<(), AllocError>
+    ensures { (version : Version) → OnOk result (text.new.items ≡ text.old.items
+        ++ canonical_text version (text_value (text_kind_of kind) content.now)) }
+{
+    match kind {
+        TextKind::Simple => write_line(text, b"+", content),
+        TextKind::Error => write_line(text, b"-", content),
+        TextKind::Double => write_line(text, b",", content),
+        TextKind::Bulk => write_string(text, b'$', content),
+        TextKind::BulkError => write_string(text, b'!', content),
+        TextKind::Verbatim(format) => write_verbatim(text, &format, content),
+        TextKind::Big { negative } => write_big(text, negative, content),
+    }
+}
+
+/// Appends a string: its head, its content, CR and LF.
+fn write_string(text: &mut Vec<u8>, byte: u8, content: &[u8]) -> Result<(), AllocError>
+    ensures { OnOk result (text.new.items ≡ text.old.items
+        ++ (byte ∷ decimal (length content.now) ++ crlf (content.now ++ crlf []))) }
+{
+    write_head(text, byte, content.len() as u64)?;
+    write_line(text, b"", content)
+}
+
+/// Appends a verbatim string.
+fn write_verbatim(text: &mut Vec<u8>, format: &[u8; 3], content: &[u8]) -> Result<(), AllocError>
+    ensures { (version : Version) → OnOk result (text.new.items ≡ text.old.items
+        ++ canonical_text version (scalar (d.Verbatim format.now content.now))) }
+{
+    write_head(text, b'=', (content.len() as u64).saturating_add(4))?;
+    text.extend_from_slice(format)?;
+    write_line(text, b":", content)
+}
+
+/// Appends a big number, of which no digits are a zero.
+fn write_big(text: &mut Vec<u8>, negative: bool, digits: &[u8]) -> Result<(), AllocError>
+    ensures { (version : Version) → OnOk result (text.new.items ≡ text.old.items
+        ++ canonical_text version (text_value (e.Big negative) digits.now)) }
+{
+    let head: &[u8] = if negative { b"(-" } else { b"(" };
+    if digits.is_empty() {
+        return write_line(text, head, b"0");
+    }
+    write_line(text, head, digits)
+}
