@@ -119,7 +119,7 @@ pub fn write_value<W: Sink>(alloc: Global, value: &Value, writer: &mut W) -> Res
             Err(_) => Err(PlayError::Write),
         };
     }
-    let limits = most_limits()?;
+    let limits = most_limits();
     let mut text = BytesMut::new(alloc);
     match encode(Version::Three, &limits, value, &mut text) {
         Ok(()) => write_lines(alloc, &limits, text.as_slice(), writer),
@@ -187,7 +187,7 @@ pub fn write_members<W: Sink>(
     ensures { Prints (W.written writer.old) (W.written writer.new) (W.failures writer.old)
         (W.failures writer.new) result (indented (shown_text (datum_of (Value.Push push.now)))) }
 {
-    let limits = most_limits()?;
+    let limits = most_limits();
     let mut text = BytesMut::new(alloc);
     match encode_push(&limits, push.list(), &mut text) {
         Ok(()) => write_lines(alloc, &limits, text.as_slice(), writer),
@@ -220,12 +220,20 @@ fn write_reply_heading<W: Sink>(client: u64, number: u64, writer: &mut W) -> Res
 }
 
 /// The limits that leave the most.
-fn most_limits() -> Result<Limits, PlayError>
-    ensures { IfErr result (λ error. error ≡ PlayError.Memory) }
+fn most_limits() -> Limits
+    ensures { result ≡ record {
+      depth = 128;
+      length = 1_073_741_824;
+      total = 1_099_511_627_776;
+      items = 1_099_511_627_776;
+      streamed = true;
+      doubles = true;
+    } }
 {
     match Limits::new(128, 1_073_741_824, 1_099_511_627_776) {
-        Ok(limits) => Ok(limits.with_doubles(true)),
-        Err(BadLimits) => Err(PlayError::Memory),
+        Ok(limits) => limits.with_doubles(true),
+        // Each is the greatest of its range.
+        Err(BadLimits) => unreachable!(),
     }
 }
 

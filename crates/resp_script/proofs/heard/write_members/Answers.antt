@@ -11,7 +11,7 @@ use Rattle.resp_script.proofs.heard.write_members.Goals as goal
 
 pub returns-in-Ok : goal.returns-in-Ok
 returns-in-Ok g c =
-    let r = rules_under Three c.in_ok-limits.limits in
+    let r = rules_under Three c.most_limits-limits.result in
     let x = datum_of (value.Push c.args.push.now) in
     let same : push_of c.list.result.now ≡ x = ap push_of c.list.ensures ∙ sym (datum_of-Push c.args.push.now) in
     let text = c.as_slice.ensures ∙ c.in-Ok.ensures.whole_or_nothing.appended
