@@ -3,22 +3,21 @@
 #![tactic(auto)]
 
 mod input;
+mod listening;
 mod output;
 
 ghost use Rattle.std.specs.Prelude.{◌≤◌};
 
 use input::read_input;
+use listening::{run_serve, run_tap};
 use output::Output;
 use resp_script::play::{play, write_no_connection};
 use resp_script::script::read_script;
-use resp_serve::{Server, Window};
+use resp_tool::asked::Asked;
 use resp_tool::command_line::{perform, read_words, refuse_file, refuse_words, run_options, stop};
 use resp_tool::explain::explain;
 use resp_tool::live::{Gathering, LiveSink};
 use resp_tool::options::{Options, STANDARD_INPUT};
-use resp_tool::serving::read_serving;
-use resp_tool::tapping::read_tapping;
-use resp_tool::text::write_text;
 use resp_tool::tool_error::ToolError;
 use resp_tool::watched::Watched;
 use resp_value::device::{Device, MemorySink, Sink, Source};
@@ -26,12 +25,12 @@ use resp_value::limits::Limits;
 use resp_wire::{TcpLink, World};
 use std::alloc::{AllocError, Global};
 use std::cell::Cell;
+use std::env;
 use std::fs::File;
 use std::hash::RandomState;
-use std::io::{ErrorKind, Read, Write};
+use std::io::{Read, Write};
 use std::net::{Net, TcpListener, TcpStream};
 use std::process::ExitCode;
-use std::{env, io};
 
 /// The status of a failed device, and of OutOfMemory.
 const DEVICE_FAILED: u8 = 3;
@@ -87,66 +86,43 @@ fn run_words<W: LiveSink, F: Sink>(
     writer: &mut W,
     faults: &mut F,
 ) -> Result<u8, AllocError> {
-    if let Some(explains) = loop_explains(words) {
-        let hasher = RandomState::new(rt).ok();
-        let mut reader = Device::new(rt.stdin());
-        return run_loop(
-            rt,
-            rt.alloc(),
-            hasher,
-            explains,
-            &mut reader,
-            writer,
-            faults,
-        );
-    }
-    if begins_with(words, "serve") {
-        return run_serve(rt, words, writer, faults);
-    }
-    if begins_with(words, "tap") {
-        return run_tap(rt, words, writer, faults);
-    }
-    run_task(rt, words, writer, faults)
-}
-
-/// Whether a bad line is explained, where the words after the program's name are `loop` with no
-/// option but `--explain`.
-fn loop_explains(words: &[String]) -> Option<bool> {
-    match words {
-        [_, word] if word.as_str() == "loop" => Some(false),
-        [_, word, option] if word.as_str() == "loop" && option.as_str() == "--explain" => {
-            Some(true)
+    match read_words(rt.alloc(), words, writer, faults) {
+        Ok(Asked::Stream(options)) => run_task(rt, &options, writer, faults),
+        Ok(Asked::Play { explains }) => {
+            let hasher = RandomState::new(rt).ok();
+            let mut reader = Device::new(rt.stdin());
+            run_loop(
+                rt,
+                rt.alloc(),
+                hasher,
+                explains,
+                &mut reader,
+                writer,
+                faults,
+            )
         }
-        _ => None,
+        Ok(Asked::Serve(serving)) => run_serve(rt, &serving, writer, faults),
+        Ok(Asked::Tap(tapping)) => run_tap(rt, &tapping, writer, faults),
+        Err(status) => Ok(status),
     }
 }
 
-/// Whether the first of the words after the program's name is this one.
-fn begins_with(words: &[String], name: &str) -> bool {
-    match words {
-        [_, word, ..] => word.as_str() == name,
-        _ => false,
-    }
-}
-
-/// Does what the words say with the file that they name, or with standard input, and answers the
+/// Does what the options say with the file that they name, or with standard input, and answers the
 /// status.
 fn run_task<W: LiveSink, F: Sink>(
     rt: &HostRuntime,
-    words: &[String],
+    options: &Options<'_>,
     writer: &mut W,
     faults: &mut F,
-) -> Result<u8, AllocError> {
+) -> Result<u8, AllocError>
+    requires { (1 ≤ options.now.piece) × (options.now.piece ≤ 65536) }
+{
     let alloc = rt.alloc();
-    let options = match read_words(alloc, words, writer, faults) {
-        Ok(options) => options,
-        Err(status) => return Ok(status),
-    };
     if options.file == STANDARD_INPUT {
-        return Ok(run_stream(alloc, &options, rt.stdin(), writer, faults));
+        return Ok(run_stream(alloc, options, rt.stdin(), writer, faults));
     }
     match File::open(rt, options.file) {
-        Ok(file) => Ok(run_stream(alloc, &options, file, writer, faults)),
+        Ok(file) => Ok(run_stream(alloc, options, file, writer, faults)),
         Err(error) => {
             let why = format!(in alloc; "{error}")?;
             Ok(refuse_file(options.file, why.as_str(), faults))
@@ -178,95 +154,6 @@ fn run_stream<R: Read + Drop, W: LiveSink, F: Sink>(
             status
         }
     }
-}
-
-/// Serves clients where the words say, and answers the status where it can't be gone on with that.
-fn run_serve<W: LiveSink, F: Sink>(
-    rt: &HostRuntime,
-    words: &[String],
-    writer: &mut W,
-    faults: &mut F,
-) -> Result<u8, AllocError> {
-    let alloc = rt.alloc();
-    let serving = match read_serving(alloc, words, writer, faults) {
-        Ok(serving) => serving,
-        Err(status) => return Ok(status),
-    };
-    let Ok(hasher) = RandomState::new(rt) else {
-        return Ok(stop(&ToolError::Read, faults));
-    };
-    let limits = serving.limits;
-    let most = serving.clients;
-    let mut server = match Server::listen(rt, alloc, serving.address, limits, most, hasher) {
-        Ok(server) => server,
-        Err(error) => return refuse_address(alloc, serving.address_text, &error, faults),
-    };
-    let address = match server.address() {
-        Ok(address) => address,
-        Err(error) => return refuse_address(alloc, serving.address_text, &error, faults),
-    };
-    let line = format!(in alloc; "listening on {address}\n")?;
-    if write_text(writer, line.as_str().as_bytes()).is_err() || writer.flush().is_err() {
-        return Ok(stop(&ToolError::Write, faults));
-    }
-    match server.run() {
-        Ok(()) => Ok(0),
-        Err(error) => refuse_address(alloc, serving.address_text, &error, faults),
-    }
-}
-
-/// Stands between clients and a server where the words say, and answers the status where it can't
-/// be gone on with that.
-fn run_tap<W: LiveSink, F: Sink>(
-    rt: &HostRuntime,
-    words: &[String],
-    writer: &mut W,
-    faults: &mut F,
-) -> Result<u8, AllocError> {
-    let alloc = rt.alloc();
-    let tapping = match read_tapping(alloc, words, writer, faults) {
-        Ok(tapping) => tapping,
-        Err(status) => return Ok(status),
-    };
-    let listened = Window::listen(
-        rt,
-        alloc,
-        tapping.address,
-        tapping.server,
-        tapping.limits,
-        tapping.clients,
-        tapping.tells_time,
-    );
-    let mut window = match listened {
-        Ok(window) => window,
-        Err(error) => return refuse_address(alloc, tapping.address_text, &error, faults),
-    };
-    let address = match window.address() {
-        Ok(address) => address,
-        Err(error) => return refuse_address(alloc, tapping.address_text, &error, faults),
-    };
-    let line = format!(in alloc; "listening on {address}\n")?;
-    if write_text(writer, line.as_str().as_bytes()).is_err() {
-        return Ok(stop(&ToolError::Write, faults));
-    }
-    match window.run(rt, writer) {
-        Ok(()) => Ok(0),
-        Err(error) if error.kind() == ErrorKind::WriteZero => {
-            Ok(stop(&ToolError::Write, faults))
-        }
-        Err(error) => refuse_address(alloc, tapping.address_text, &error, faults),
-    }
-}
-
-/// Says of an address that it can't be listened on, and why, and answers the status.
-fn refuse_address<F: Sink>(
-    alloc: Global,
-    address: &str,
-    error: &io::Error,
-    faults: &mut F,
-) -> Result<u8, AllocError> {
-    let why = format!(in alloc; "{error}")?;
-    Ok(refuse_file(address, why.as_str(), faults))
 }
 
 /// Plays the script in the input over TCP, and answers the status. Why a line is bad is said after

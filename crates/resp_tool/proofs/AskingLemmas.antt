@@ -1,7 +1,7 @@
 -- What the words give an option, from what the matches read of it.
 use Rattle.std.proofs.Common.{subst, ◌≤◌, zero, suc, arith, inl, inr, ◌⊎◌, ◌≢◌, ◌∙◌, ◌≡◌, ℕ, ap, Bool, true, false, List, [], ◌∷◌, map, refl, sym, Option, Some, None, Result, Ok, Err, IfOk, IfSome, IfNone, codes}
 use Rattle.std.specs.Str.Parse.{ParsesBool, ParsesUnsigned}
-use Rattle.clap.specs.Words.{App, FailsBy, HasKind, HasMatchesOf, IsAmong, kind_of, ReadsOne, Row, Text, fault_of, first_of, is_simple, is_simple_and_free, one_of, one_text, rows_of, subcommand_of, subcommand_rows_of}
+use Rattle.clap.specs.Words.{App, FailsBy, HasKind, HasMatchesOf, IsAmong, kind_of, ReadsOne, Row, Text, fault_of, is_simple, is_simple_and_free, one_text, rows_of, subcommand_of, subcommand_rows_of}
 use Rattle.clap.specs.declared.error.Error.{Error}
 use Rattle.clap.specs.declared.error.kind.ErrorKind.{ErrorKind}
 use Rattle.clap.specs.declared.error.kind.ErrorKind.TheVariants.{DisplayHelp, DisplayVersion, OutOfMemory}
@@ -10,17 +10,20 @@ use Rattle.clap.specs.declared.parser.matches.ArgMatches.{ArgMatches}
 use Rattle.clap.specs.declared.parser.matches.Found.{Found}
 use Rattle.clap.proofs.OnLiterals.{clap_on_literals}
 use Rattle.clap.proofs.WalkLemmas.{one_text-rows}
-use Rattle.resp_tool.specs.CommandWords.{AnswersStatus, AnswersWords, AreWrong, AskFor, AskToServe, Enters, EntersServe, FindsWords, HasFlag, HasNumber, flag_text}
+use Rattle.resp_tool.specs.CommandWords.{AnswersStatus, AreWrong, AskFor, Enters, FindsWords, HasFlag, HasNumber, HasTapping, IsAsked, flag_text, task_word}
 use Rattle.resp_tool.specs.Runs.{AskForRun, DoesWords, IsWordStatus}
 use Rattle.std.specs.Str.{bytes_eq}
-use Rattle.std.specs.Prelude.{not, unwrap_or}
-use Rattle.std.specs.Option.{option_map_or}
+use Rattle.std.specs.Prelude.{not, unwrap_or, if◌then◌else◌}
 use Rattle.resp_tool.specs.Program.{IsProgram, resp_app}
 use Rattle.resp_tool.proofs.CommandLemmas.{names_take_versions}
 use Rattle.std.specs.Borrow.{Bor}
 use Rattle.clap.specs.declared.builder.value_parser.ValueParser.TheVariants as vp
+use Rattle.resp_tool.specs.declared.asked.Asked.{Asked}
+use Rattle.resp_tool.specs.declared.asked.Asked.TheVariants.{Stream, Play, Serve, Tap}
 use Rattle.resp_tool.specs.declared.options.Options.{Options}
-use Rattle.resp_tool.specs.declared.serving.Serving.{Serving}
+use Rattle.resp_tool.specs.declared.options.Task.{Task}
+use Rattle.resp_tool.specs.declared.options.Task.TheVariants.{Show, Check, Canon}
+use Rattle.resp_tool.specs.declared.tapping.Tapping.{Tapping}
 
 none≢some : {X : Type 0} (x : X) → Some x ≡ None → ⊥
 none≢some x e = cc
@@ -95,28 +98,60 @@ found_by_program versions app words (Err e) is fails matches =
     taken (program_is_free versions)
 
 -- what was entered is what the words ask for
-module _ {X : Type 0} (Enter : Option (Text × List Row) → X → Type 0) (program : App) (words : List Text)
-    (found : Result ArgMatches Error) (m : ArgMatches) (finds : FindsWords program words found) (is : found ≡ Ok m) where
-  pub asks_if_entered : (x : X) → Enter (subcommand_rows_of m) x → (fault_of program words ≡ []) × Enter (subcommand_of program words) x
-  asks_if_entered x enters =
+module _ (program : App) (words : List Text) (found : Result ArgMatches Error) (m : ArgMatches) (finds : FindsWords program words found)
+    (is : found ≡ Ok m) where
+  pub asks_if_entered : (asked : Asked) → Enters (subcommand_rows_of m) asked → AskFor program words asked
+  asks_if_entered asked enters =
       let all = rw is at finds in
-      (all.0, subst (λ (entered : Option (Text × List Row)). Enter entered x) all.1 enters)
+      (all.0, subst (λ (entered : Option (Text × List Row)). Enters entered asked) all.1 enters)
 
-  pub entered_if_asks : (x : X) → (fault_of program words ≡ []) × Enter (subcommand_of program words) x → Enter (subcommand_rows_of m) x
-  entered_if_asks x asks =
+  entered_if_asks : (asked : Asked) → AskFor program words asked → Enters (subcommand_rows_of m) asked
+  entered_if_asks asked asks =
       let all = rw is at finds in
-      subst (λ (entered : Option (Text × List Row)). Enter entered x) (sym all.1) asks.1
+      subst (λ (entered : Option (Text × List Row)). Enters entered asked) (sym all.1) asks.1
 
--- and so is what is answered to the words
-pub answered_by_program : (program : App) (words : List Text) (found : Result ArgMatches Error) (m : ArgMatches) (asked : Option Options) →
-    FindsWords program words found → found ≡ Ok m → IfSome asked (Enters (subcommand_rows_of m)) →
-    IfNone asked ((options : Options) → Enters (subcommand_rows_of m) options → ⊥) → AnswersWords AskFor program words (Ok asked)
-answered_by_program program words found m (Some options) finds is some none =
-    asks_if_entered Enters program words found m finds is options some
-answered_by_program program words found m None finds is some none = inr (
-  (rw is at finds).0,
-  λ options asks. none options (entered_if_asks Enters program words found m finds is options asks),
-)
+  -- and words that enter nothing are wrong
+  pub asked_for_nothing : ((asked : Asked) → Enters (subcommand_rows_of m) asked → ⊥) → AnswersStatus AskFor program words (Err 2)
+  asked_for_nothing none =
+      (λ two. absurd (omega arith), λ two. inr ((rw is at finds).0, λ asked asks. none asked (entered_if_asks asked asks)))
+
+-- ---- subcommands
+
+-- whether it is that of a task, or which of the others, by its name and by what it is asked for
+abbrev sort_of_word : Text → ℕ
+sort_of_word word = if bytes_eq word (codes "loop") then 1 else if bytes_eq word (codes "serve") then 2 else
+    if bytes_eq word (codes "tap") then 3 else 0
+
+abbrev sort_of : Asked → ℕ
+sort_of (Stream options) = 0
+sort_of (Play explains) = 1
+sort_of (Serve serving) = 2
+sort_of (Tap tapping) = 3
+
+sort_of_task : (task : Task) → sort_of_word (task_word task) ≡ 0
+sort_of_task Show = refl
+sort_of_task Check = refl
+sort_of_task Canon = refl
+
+sort_by_word : (name : Text) (given : List Row) (asked : Asked) → IsAsked name given asked → sort_of_word name ≡ sort_of asked
+sort_by_word name given (Stream options) is = ap sort_of_word is.0 ∙ sort_of_task options.task
+sort_by_word name given (Play explains) is = ap sort_of_word is.0
+sort_by_word name given (Serve serving) is = ap sort_of_word is.0
+sort_by_word name given (Tap tapping) is = ap sort_of_word is.0
+
+-- where `tap` can't be asked for what is tapped it can't be asked for anything
+pub no_tapping : (given : List Row) → ((tapping : Tapping) → HasTapping given tapping → ⊥) → (asked : Asked) →
+    IsAsked (codes "tap") given asked → ⊥
+no_tapping given none asked is = go asked is (sort_by_word (codes "tap") given asked is)
+  where
+    go : (asked : Asked) → IsAsked (codes "tap") given asked → 3 ≡ sort_of asked → ⊥
+    go (Tap tapping) is sort = none tapping is.1
+    go other is sort = omega arith
+
+-- what was entered is of one sort
+one_sort : (entered : Option (Text × List Row)) (a b : Asked) → Enters entered a → Enters entered b → sort_of a ≡ sort_of b
+one_sort None a b enters enters' = absurd enters
+one_sort (Some entered) a b enters enters' = sym (sort_by_word _ _ a enters) ∙ sort_by_word _ _ b enters'
 
 -- it is the program's definition, where `--proto` takes the two names
 pub is_program : (names : Bor (List (Bor Text))) (words : List Text) (found : Result ArgMatches Error) →
@@ -150,22 +185,6 @@ refused_by_program Ask program words error status (inr kind) helps refuses = (
   λ two. inl (kind_of error, kind, (refuses two).1, (refuses two).2),
 )
 
--- the status of words that ask for nothing here
-pub asked_for_nothing : {X : Type 0} (Ask : App → List Text → X → Type 0) (program : App) (words : List Text) → AreWrong Ask program words →
-    AnswersStatus Ask program words (Err 2)
-asked_for_nothing Ask program words wrong = (λ two. absurd (omega arith), λ two. wrong)
-
--- and of words that enter something else
-pub asked_for_other : {X : Type 0} (Enter : Option (Text × List Row) → X → Type 0) (program : App) (words : List Text)
-    (found : Result ArgMatches Error) (m : ArgMatches) → FindsWords program words found → found ≡ Ok m →
-    ((x : X) → Enter (subcommand_rows_of m) x → ⊥) →
-    AnswersStatus (λ p ws x. (fault_of p ws ≡ []) × Enter (subcommand_of p ws) x) program words (Err 2)
-asked_for_other Enter program words found m finds is none =
-    asked_for_nothing (λ p ws x. (fault_of p ws ≡ []) × Enter (subcommand_of p ws) x) program words (inr (
-      (rw is at finds).0,
-      λ x asks. none x (entered_if_asks Enter program words found m finds is x asks),
-    ))
-
 two_or_three : (n : ℕ) → 2 ≤ n → n ≤ 3 → (n ≡ 2) ⊎ (n ≡ 3)
 two_or_three zero low high = absurd (omega arith)
 two_or_three (suc zero) low high = absurd (omega arith)
@@ -175,7 +194,7 @@ two_or_three (suc (suc (suc (suc n)))) low high = absurd (omega arith)
 
 wrong_for_run : (program : App) (words : List Text) → AreWrong AskFor program words → AreWrong AskForRun program words
 wrong_for_run program words (inl refused) = inl refused
-wrong_for_run program words (inr other) = inr (other.0, λ options asks. other.1 options asks.0)
+wrong_for_run program words (inr other) = inr (other.0, λ options asks. other.1 (Stream options) asks.0)
 
 -- what comes of words that ask for nothing to be run
 pub does_nothing : (program : App) (words : List Text) (Stays : Type 0) (Runs : Options → Type 0) (status : ℕ) → Stays →
@@ -195,23 +214,34 @@ flag_of_text false true e = ap (λ (t : Text). bytes_eq t (codes "false")) (sym 
 text_in : Option Text → Text
 text_in o = unwrap_or o []
 
-given_in : Option (Text × List Row) → List Row
-given_in o = option_map_or (λ p. p.1) o []
+same_options : (entered : Option (Text × List Row)) (a b : Options) → Enters entered (Stream a) → Enters entered (Stream b) →
+    (a.file.now ≡ b.file.now) × (a.explains ≡ b.explains)
+unfolding text_in
+same_options None a b enters enters' = absurd enters
+same_options (Some entered) a b enters enters' = (
+  ap text_in (sym enters.1.file ∙ enters'.1.file),
+  flag_of_text _ _ (ap text_in (sym enters.1.explains ∙ enters'.1.explains)),
+)
 
 -- words ask for one file, and either for explanations or for none
-pub asked_once : (program : App) (words : List Text) (a b : Options) → AskFor program words a → AskFor program words b →
+asked_once : (program : App) (words : List Text) (a b : Options) → AskFor program words (Stream a) → AskFor program words (Stream b) →
     (a.file.now ≡ b.file.now) × (a.explains ≡ b.explains)
-unfolding text_in given_in
-asked_once program words a b asks asks' =
-    let given : asks.1.0 ≡ asks'.1.0 = ap given_in (sym asks.1.1 ∙ asks'.1.1) in
-    let same : first_of (codes "file") asks.1.0 ≡ first_of (codes "file") asks'.1.0 = ap (first_of (codes "file")) given in
-    let flags : one_of (codes "explain") asks.1.0 ≡ one_of (codes "explain") asks'.1.0 = ap (one_of (codes "explain")) given in (
-      ap text_in (sym asks.1.2.file ∙ same ∙ asks'.1.2.file),
-      flag_of_text _ _ (ap text_in (sym asks.1.2.explains ∙ flags ∙ asks'.1.2.explains)),
-    )
+asked_once program words a b asks asks' = same_options (subcommand_of program words) a b asks.1 asks'.1
 
--- words that name a file, or ask for an explanation, ask for nothing to be run
-module _ (program : App) (words : List Text) (options : Options) (asks : AskFor program words options) where
+none_of_sort : (asked : Asked) → ((options : Options) → asked ≡ Stream options → ⊥) → sort_of asked ≡ 0 → ⊥
+none_of_sort (Stream options) other sort = other options refl
+none_of_sort asked other sort = omega arith
+
+-- words that ask for no stream ask for nothing to be run
+pub runs_no_stream : (program : App) (words : List Text) (asked : Asked) → AskFor program words asked →
+    ((options : Options) → asked ≡ Stream options → ⊥) → AreWrong AskForRun program words
+runs_no_stream program words asked asks other = inr (
+  asks.0,
+  λ options runs. none_of_sort asked other (one_sort (subcommand_of program words) asked (Stream options) asks.1 runs.0.1),
+)
+
+-- and neither do words that name a file, or ask for an explanation
+module _ (program : App) (words : List Text) (options : Options) (asks : AskFor program words (Stream options)) where
   pub runs_no_file : not (bytes_eq options.file.now (codes "-")) ≡ true → AreWrong AskForRun program words
   runs_no_file named = inr (
     asks.0,

@@ -1,6 +1,6 @@
 -- What the parser makes of the words of the worked examples.
 use Rattle.std.specs.Str.{bytes_eq}
-use Rattle.std.proofs.Common.{true≢false, option_map, rules, ◌≢◌, Option, ◌≡◌, ◌∙◌, ap, Bool, false, List, [], ◌∷◌, Some, codes, refl, sym, inl, inr, subst, arith}
+use Rattle.std.proofs.Common.{true≢false, option_map, rules, ◌≢◌, Option, ◌≡◌, ◌∙◌, ap, Bool, true, false, List, [], ◌∷◌, None, Some, codes, refl, sym, inl, subst, arith}
 use Rattle.clap.specs.Words.{App, IsAmong, Row, Text, fault_of, first_of, subcommand_of}
 use Rattle.clap.specs.declared.error.kind.ErrorKind.{ErrorKind}
 use Rattle.clap.specs.declared.error.kind.ErrorKind.TheVariants.{ArgumentConflict, DisplayHelp, DisplayVersion, MissingSubcommand, ValueValidation}
@@ -9,11 +9,12 @@ use Rattle.clap.proofs.OnLiterals.{clap_on_literals}
 use Rattle.std.specs.Option.{option_map_or}
 use Rattle.resp_value.specs.Bounds.{Bounds}
 use Rattle.resp_value.specs.declared.version.Version.TheVariants.{Two}
-use Rattle.resp_tool.specs.CommandWords.{AreWrong, AskFor, HasFlag, HasLimits, HasNumber, flag_text, task_word, version_word}
+use Rattle.resp_tool.specs.CommandWords.{AreWrong, AskFor, Enters, HasFlag, HasLimits, HasNumber, flag_text, task_word, version_word}
+use Rattle.resp_tool.specs.declared.asked.Asked.TheVariants.{Stream, Play}
 use Rattle.resp_tool.specs.declared.options.Options.{Options}
 use Rattle.resp_tool.specs.declared.options.Task.{Task}
 use Rattle.resp_tool.specs.declared.options.Task.TheVariants.{Show, Check, Canon}
-use Rattle.resp_tool.specs.Commands.{AreOptions, default_limits, depth_twice, help_of_show, no_task, served, show_alone, too_deep}
+use Rattle.resp_tool.specs.Commands.{AreOptions, default_limits, depth_twice, explained_loop, help_of_show, no_task, served, show_alone, too_deep}
 use Rattle.resp_tool.specs.Program.{TakesVersions, resp_app}
 
 pub show_alone_is_taken : (versions : ValueParser) → TakesVersions versions → fault_of (resp_app versions) show_alone ≡ []
@@ -74,24 +75,27 @@ unfolding clap_on_literals
 alone_gives_rest versions = (refl, refl, (codes "4096", refl, (omega arith, search rules), refl, omega arith), refl, refl)
 
 pub defaults_are_asked : (versions : ValueParser) → TakesVersions versions → (options : Options) →
-    AreOptions Show Two default_limits 4096 (codes "-") false options → AskFor (resp_app versions) show_alone options
+    AreOptions Show Two default_limits 4096 (codes "-") false options → AskFor (resp_app versions) show_alone (Stream options)
 defaults_are_asked versions takes options are =
-    let rest = alone_gives_rest versions in (
+    let rest = alone_gives_rest versions in
+    let enters : Enters (default_task versions Show) (Stream options) = (
+      ap task_word (sym are.of_task),
+      record {
+        version = rest.0 ∙ ap (λ v. Some (version_word v)) (sym are.of_version);
+        limits = subst (HasLimits (given_alone versions)) (sym are.of_limits) (alone_gives_limits versions);
+        doubles = rest.1 ∙ ap (λ (l : Bounds). Some (flag_text l.doubles)) (sym are.of_limits);
+        piece = rw are.of_piece (rest.2, omega arith, omega arith);
+        file = rest.3 ∙ ap (λ (t : Text). Some t) (sym are.of_file);
+        explains = rest.4 ∙ ap (λ b. Some (flag_text b)) (sym are.of_explains);
+      },
+    ) in (
       show_alone_is_taken versions takes,
-      (
-        given_alone versions,
-        alone_enters_show versions ∙ ap (default_task versions) (sym are.of_task),
-        record {
-          version = rest.0 ∙ ap (λ v. Some (version_word v)) (sym are.of_version);
-          limits = subst (HasLimits (given_alone versions)) (sym are.of_limits) (alone_gives_limits versions);
-          doubles = rest.1 ∙ ap (λ (l : Bounds). Some (flag_text l.doubles)) (sym are.of_limits);
-          piece = subst (HasNumber (given_alone versions) (codes "piece")) (sym are.of_piece) rest.2;
-          piece_in_range = rw are.of_piece (omega arith, omega arith);
-          file = rest.3 ∙ ap (λ (t : Text). Some t) (sym are.of_file);
-          explains = rest.4 ∙ ap (λ b. Some (flag_text b)) (sym are.of_explains);
-        },
-      ),
+      subst (λ (entered : Option (Text × List Row)). Enters entered (Stream options)) (sym (alone_enters_show versions)) enters,
     )
+
+pub loop_is_asked : (versions : ValueParser) → AskFor (resp_app versions) explained_loop (Play true)
+unfolding clap_on_literals
+loop_is_asked versions = (refl, (refl, refl))
 
 pub wrong_of_kind : (program : App) (words : List Text) (kind : ErrorKind) → fault_of program words ≡ kind ∷ [] → kind ≢ DisplayHelp →
     kind ≢ DisplayVersion → AreWrong AskFor program words
@@ -111,9 +115,12 @@ serve_enters_serve : (versions : ValueParser) → option_map (λ p. p.0) (subcom
 unfolding clap_on_literals
 serve_enters_serve versions = refl
 
-pub serve_is_other : (versions : ValueParser) → AreWrong AskFor (resp_app versions) served
-serve_is_other versions = inr (
-  serve_is_taken versions,
-  λ options asks.
-      no_task_serves options.task (sym (serve_enters_serve versions) ∙ ap (option_map (λ p. p.0)) asks.1.1),
-)
+no_stream_is_served : (entered : Option (Text × List Row)) → option_map (λ p. p.0) entered ≡ Some (codes "serve") → (options : Options) →
+    Enters entered (Stream options) → ⊥
+no_stream_is_served None named options enters = absurd enters
+no_stream_is_served (Some entered) named options enters =
+    no_task_serves options.task (sym named ∙ ap (λ (t : Text). Some t) enters.0)
+
+pub serve_asks_for_no_stream : (versions : ValueParser) (options : Options) → AskFor (resp_app versions) served (Stream options) → ⊥
+serve_asks_for_no_stream versions options asks =
+    no_stream_is_served (subcommand_of (resp_app versions) served) (serve_enters_serve versions) options asks.1

@@ -1,15 +1,10 @@
 -- What was read so far.
-use Rattle.std.proofs.Common.{◌≡◌, false, ℕ, zero, suc, ◌+◌, ◌*◌, ◌<◌, ◌≤◌, List, [], ◌++◌, length, take, drop, Option, None, Some, Ok, Err, refl, sym, ap, subst, ◌∙◌, arith, append_assoc, append-nil, take-append-drop}
+use Rattle.std.proofs.Common.{◌≡◌, ℕ, zero, suc, ◌+◌, ◌*◌, ◌<◌, ◌≤◌, List, [], ◌++◌, length, take, drop, Option, None, Some, Ok, Err, refl, sym, ap, subst, ◌∙◌, arith, append_assoc, append-nil, take-append-drop}
 use Rattle.std.specs.Option.{IfSome}
 use Rattle.std.proofs.lemmas.List.{take-take, take-append-le}
-use Rattle.resp_value.specs.Devices.{Reads, count_after, failures_after}
+use Rattle.resp_value.specs.Devices.{Reads, count_after}
 use Rattle.resp_value.specs.declared.device.DeviceFault.{DeviceFault}
-use Rattle.resp_tool.specs.Stops.{error_of}
-use Rattle.resp_tool.specs.Streams.{AreRead, IsRenderingError, is_of_reader}
-use Rattle.resp_tool.specs.declared.rendering.Stop.{Stop}
-use Rattle.resp_tool.specs.declared.rendering.Stop.TheVariants as stop
-use Rattle.resp_tool.specs.declared.tool_error.ToolError.{ToolError}
-use Rattle.resp_tool.specs.declared.tool_error.ToolError.TheVariants as error
+use Rattle.resp_tool.specs.Streams.{AreRead}
 
 -- nothing was read yet
 pub nothing_read : (left : Option (List ℕ)) → AreRead left left []
@@ -80,26 +75,3 @@ take-into into buffer size n within room =
 pub one_more : (n each : ℕ) → (n + 1) * each ≡ n * each + each
 one_more zero each = omega arith
 one_more (suc n) each = omega arith
-
--- Failures of the reader.
-
--- what stops a rendering is no failed read
-pub never_of_reader : (value : ℕ) (why : Stop) → is_of_reader (error_of value why) ≡ false
-never_of_reader value (stop.Fault fault) = refl
-never_of_reader value stop.OverLimits = refl
-never_of_reader value stop.Write = refl
-never_of_reader value stop.Memory = refl
-
-pub not_of_reader : (e : ToolError) → IsRenderingError e → is_of_reader e ≡ false
-not_of_reader (error.Refused number c at) is = refl
-not_of_reader (error.OverLimits number) is = refl
-not_of_reader error.TooManyValues is = refl
-not_of_reader error.Read is = absurd is
-not_of_reader error.Write is = refl
-not_of_reader error.TooManyTurns is = absurd is
-not_of_reader error.Memory is = refl
-
--- and then the reader's count of failures is as before
-pub read_otherwise : (failures failures' : ℕ) (e : ToolError) → is_of_reader e ≡ false → failures' ≡ failures →
-    failures' ≡ failures_after (is_of_reader e) failures
-read_otherwise failures failures' e other same = subst (λ b. failures' ≡ failures_after b failures) (sym other) same

@@ -1,4 +1,4 @@
--- Which words ask for which options.
+-- Which words ask for what.
 use Rattle.std.specs.Prelude.{◌≡◌, ◌≢◌, ◌⊎◌, ◌≤◌, ◌<◌, ◌^◌, ℕ, Bool, false, true, not, if◌then◌else◌, codes}
 use Rattle.std.specs.Prelude.{List, [], Option, Some, None, Result, Ok, Err}
 use Rattle.std.specs.Net.Grammar.{IsSocketText}
@@ -12,19 +12,25 @@ use Rattle.clap.specs.declared.parser.matches.ArgMatches.{ArgMatches}
 use Rattle.resp_value.specs.Bounds.{AreBounds, Bounds}
 use Rattle.resp_value.specs.declared.version.Version.{Version}
 use Rattle.resp_value.specs.declared.version.Version.TheVariants.{Two, Three}
+use Rattle.resp_tool.specs.declared.asked.Asked.{Asked}
+use Rattle.resp_tool.specs.declared.asked.Asked.TheVariants.{Stream, Play, Serve, Tap}
 use Rattle.resp_tool.specs.declared.options.Options.{Options}
 use Rattle.resp_tool.specs.declared.options.Task.{Task}
 use Rattle.resp_tool.specs.declared.options.Task.TheVariants.{Show, Check, Canon}
 use Rattle.resp_tool.specs.declared.serving.Serving.{Serving}
 use Rattle.resp_tool.specs.declared.tapping.Tapping.{Tapping}
 
--- ---- one option, by the texts that the words give the options of a task, or that stand for those not given
+-- ---- one option, by the texts that the words give the options of a subcommand, or that stand for those not given
 
 -- it is this number, of 64 bits
 abbrev pub HasNumber : List Row → Text → ℕ → Type 0
 HasNumber given name number = (text : Text) × (one_of name given ≡ Some text) ×
     IsNumeral 10 (without_leading_plus text) × (digits_value 10 (without_leading_plus text) ≡ number)
     × (number < 2 ^ 64)
+
+-- and is from 1 to 65,536
+abbrev pub HasSmallNumber : List Row → Text → ℕ → Type 0
+HasSmallNumber given name number = HasNumber given name number × (1 ≤ number) × (number ≤ 65536)
 
 abbrev pub flag_text : Bool → Text
 flag_text on = if on then codes "true" else codes "false"
@@ -41,7 +47,7 @@ version_word Three = codes "3"
 abbrev pub HasProto : List Row → Version → Type 0
 HasProto given version = first_of (codes "proto") given ≡ Some (version_word version)
 
--- ---- all options of a task
+-- ---- all options of a subcommand
 
 pub record HasLimits (given : List Row) (limits : Bounds) : Type 0 where
   pub depth : HasNumber given (codes "depth") limits.depth
@@ -56,8 +62,7 @@ pub record HasOptions (given : List Row) (options : Options) : Type 0 where
   pub version : HasProto given options.version
   pub limits : HasLimits given options.limits
   pub doubles : HasFlag given (codes "doubles") options.limits.doubles
-  pub piece : HasNumber given (codes "piece") options.piece
-  pub piece_in_range : (1 ≤ options.piece) × (options.piece ≤ 65536)
+  pub piece : HasSmallNumber given (codes "piece") options.piece
   pub file : first_of (codes "file") given ≡ Some options.file.now
   pub explains : HasFlag given (codes "explain") options.explains
 
@@ -65,8 +70,7 @@ pub record HasOptions (given : List Row) (options : Options) : Type 0 where
 pub record HasServeWords (given : List Row) (address : Text) (limits : Bounds) (clients : ℕ) : Type 0 where
   pub in_limits : HasLimits given limits
   pub no_doubles : limits.doubles ≡ false
-  pub at_once : HasNumber given (codes "clients") clients
-  pub at_once_in_range : (1 ≤ clients) × (clients ≤ 65536)
+  pub at_once : HasSmallNumber given (codes "clients") clients
   pub text : first_of (codes "address") given ≡ Some address
 
 -- and with its address
@@ -79,8 +83,7 @@ pub record HasTapWords (given : List Row) (address server : Text) (limits : Boun
     Type 0 where
   pub in_limits : HasLimits given limits
   pub with_doubles : limits.doubles ≡ true
-  pub at_once : HasNumber given (codes "clients") clients
-  pub at_once_in_range : (1 ≤ clients) × (clients ≤ 65536)
+  pub at_once : HasSmallNumber given (codes "clients") clients
   pub tells : HasFlag given (codes "time") tells_time
   pub listen_text : first_of (codes "listen") given ≡ Some address
   pub server_text : first_of (codes "server") given ≡ Some server
@@ -96,36 +99,32 @@ task_word Show = codes "show"
 task_word Check = codes "check"
 task_word Canon = codes "canon"
 
--- this is what was entered: a task that reads a stream, with these options
-abbrev pub Enters : Option (Text × List Row) → Options → Type 0
-Enters entered options =
-    (given : List Row) × (entered ≡ Some (task_word options.task, given)) × HasOptions given options
-
--- or `serve`
-abbrev pub EntersServe : Option (Text × List Row) → Serving → Type 0
-EntersServe entered serving =
-    (given : List Row) × (entered ≡ Some (codes "serve", given)) × HasServing given serving
-
--- or `tap`
-abbrev pub EntersTap : Option (Text × List Row) → Tapping → Type 0
-EntersTap entered tapping =
-    (given : List Row) × (entered ≡ Some (codes "tap", given)) × HasTapping given tapping
-
 -- ---- all words, of which the first is the program's own name
 
--- the program takes the words, and they ask for these options
-abbrev pub AskFor : App → List Text → Options → Type 0
-AskFor program words options = (fault_of program words ≡ []) × Enters (subcommand_of program words) options
+-- the subcommand of this name is asked for this with these options
+abbrev pub IsAsked : Text → List Row → Asked → Type 0
+IsAsked name given (Stream options) = (name ≡ task_word options.task) × HasOptions given options
+IsAsked name given (Play explains) = (name ≡ codes "loop") × HasFlag given (codes "explain") explains
+IsAsked name given (Serve serving) = (name ≡ codes "serve") × HasServing given serving
+IsAsked name given (Tap tapping) = (name ≡ codes "tap") × HasTapping given tapping
 
--- or to serve
-abbrev pub AskToServe : App → List Text → Serving → Type 0
-AskToServe program words serving = (fault_of program words ≡ []) × EntersServe (subcommand_of program words) serving
+-- and so is the one that was entered
+abbrev pub Enters : Option (Text × List Row) → Asked → Type 0
+Enters None asked = ⊥
+Enters (Some entered) asked = IsAsked entered.0 entered.1 asked
 
--- or to tap
-abbrev pub AskToTap : App → List Text → Tapping → Type 0
-AskToTap program words tapping = (fault_of program words ≡ []) × EntersTap (subcommand_of program words) tapping
+-- the program takes the words, and they ask for this
+abbrev pub AskFor : App → List Text → Asked → Type 0
+AskFor program words asked = (fault_of program words ≡ []) × Enters (subcommand_of program words) asked
 
--- or they ask for help, or for the program's version
+-- the size of a read, or the most clients at once, is from 1 to 65,536
+abbrev pub IsInRange : Asked → Type 0
+IsInRange (Stream options) = (1 ≤ options.piece) × (options.piece ≤ 65536)
+IsInRange (Play explains) = Unit {0}
+IsInRange (Serve serving) = (1 ≤ serving.clients) × (serving.clients ≤ 65536)
+IsInRange (Tap tapping) = (1 ≤ tapping.clients) × (tapping.clients ≤ 65536)
+
+-- they ask for help, or for the program's version
 abbrev pub AskForHelp : App → List Text → Type 0
 AskForHelp program words =
     IsAmong DisplayHelp (fault_of program words) ⊎ IsAmong DisplayVersion (fault_of program words)
@@ -144,15 +143,7 @@ FindsWords program words (Ok found) =
     (fault_of program words ≡ []) × (subcommand_rows_of found ≡ subcommand_of program words)
 FindsWords program words (Err error) = HasKind (fault_of program words) error
 
--- options of a sort where the words ask for them, none where they ask for none, and else what the parser refuses or
--- helps with
-abbrev pub AnswersWords : {X : Type 0} → (App → List Text → X → Type 0) → App → List Text
-    → Result (Option X) Error → Type 0
-AnswersWords Ask program words (Ok (Some x)) = Ask program words x
-AnswersWords Ask program words (Ok None) = AreWrong Ask program words
-AnswersWords Ask program words (Err error) = HasKind (fault_of program words) error
-
--- the same with a status in place of an error: 0 where the words ask for help, and 2 where they are wrong
+-- what the words ask for, or a status: 0 where they ask for help, and 2 where they are wrong
 abbrev pub AnswersStatus : {X : Type 0} → (App → List Text → X → Type 0) → App → List Text → Result X ℕ → Type 0
 AnswersStatus Ask program words (Ok x) = Ask program words x
 AnswersStatus Ask program words (Err status) =

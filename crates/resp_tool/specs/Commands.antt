@@ -1,10 +1,11 @@
 -- Words of the worked examples of command lines.
 use Rattle.std.specs.Prelude.{◌≡◌, ℕ, Bool, true, false, List, [], ◌∷◌, codes}
-use Rattle.clap.specs.Words.{App, Text}
+use Rattle.clap.specs.Words.{App, Text, fault_of}
 use Rattle.resp_value.specs.Bounds.{Bounds}
 use Rattle.resp_value.specs.declared.version.Version.{Version}
 use Rattle.resp_tool.specs.CommandWords.{AreWrong, AskFor, AskForHelp}
 use Rattle.resp_tool.specs.Program.{IsProgram}
+use Rattle.resp_tool.specs.declared.asked.Asked.TheVariants.{Stream, Play}
 use Rattle.resp_tool.specs.declared.options.Options.{Options}
 use Rattle.resp_tool.specs.declared.options.Task.{Task}
 
@@ -18,10 +19,19 @@ pub record AreOptions (task : Task) (version : Version) (limits : Bounds) (piece
   pub of_file : options.file.now ≡ file
   pub of_explains : options.explains ≡ explains
 
--- the words ask for these options
+-- the words ask for a stream to be read, with these options
 abbrev pub AskForThese : List Text → (Options → Type 0) → Type 0
 AskForThese words These = (program : App) → IsProgram program → (options : Options) → These options
-    → AskFor program words options
+    → AskFor program words (Stream options)
+
+-- and these for a script to be played, where this says whether a bad line is explained
+abbrev pub AskToPlay : List Text → Bool → Type 0
+AskToPlay words explains = (program : App) → IsProgram program → AskFor program words (Play explains)
+
+-- and these for something, but for no stream to be read
+abbrev pub AskForNoStream : List Text → Type 0
+AskForNoStream words = (program : App) → IsProgram program → (fault_of program words ≡ []) ×
+    ((options : Options) → AskFor program words (Stream options) → ⊥)
 
 -- and these are wrong
 abbrev pub AreWrongWords : List Text → Type 0
@@ -56,9 +66,13 @@ depth_twice = codes "resp" ∷ codes "check" ∷ codes "--depth" ∷ codes "4" �
 abbrev pub no_task : List Text
 no_task = codes "resp" ∷ []
 
--- what is served is done elsewhere
+-- no stream is read where clients are served
 abbrev pub served : List Text
 served = codes "resp" ∷ codes "serve" ∷ codes "127.0.0.1:6380" ∷ []
+
+-- a script is played, and a bad line of it is explained
+abbrev pub explained_loop : List Text
+explained_loop = codes "resp" ∷ codes "loop" ∷ codes "--explain" ∷ []
 
 abbrev pub help_of_show : List Text
 help_of_show = codes "resp" ∷ codes "show" ∷ codes "--help" ∷ []

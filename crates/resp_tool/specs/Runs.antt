@@ -11,6 +11,7 @@ use Rattle.resp_tool.specs.Scans.{IsShownDue, IsShownIn, IsShownOf}
 use Rattle.resp_tool.specs.Shown.{shown_text}
 use Rattle.resp_tool.specs.Streams.{AreRead, AtEnd, Renders}
 use Rattle.resp_tool.specs.Written.{TriesText}
+use Rattle.resp_tool.specs.declared.asked.Asked.TheVariants.{Stream}
 use Rattle.resp_tool.specs.declared.options.Options.{Options}
 use Rattle.resp_tool.specs.declared.options.Task.{Task}
 use Rattle.resp_tool.specs.declared.options.Task.TheVariants.{Show, Check, Canon}
@@ -65,7 +66,7 @@ IsWordStatus status = (status ≡ 0) ⊎ (2 ≤ status) × (status ≤ 3)
 -- the words ask for a task over standard input, and for nothing that is done elsewhere
 abbrev pub AskForRun : App → List Text → Options → Type 0
 AskForRun program words options =
-    AskFor program words options × (options.file.now ≡ codes "-") × (options.explains ≡ false)
+    AskFor program words (Stream options) × (options.file.now ≡ codes "-") × (options.explains ≡ false)
 
 -- what the words bring about, where the first says that nothing was read, and the second which options were run: help, or
 -- nothing since they are wrong, or since a device or memory failed, or a run of what they ask for

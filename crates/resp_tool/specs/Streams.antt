@@ -1,10 +1,10 @@
 -- What a call has read of its stream, and what it has written for that.
-use Rattle.std.specs.Prelude.{◌≡◌, ◌⊎◌, ℕ, ◌+◌, ◌<◌, ◌≤◌, Bool, true, false, List, [], ◌++◌, length, take, flat_map, Option, None, Some, Result, Ok, Err}
+use Rattle.std.specs.Prelude.{◌≡◌, ◌⊎◌, ℕ, ◌+◌, ◌<◌, ◌≤◌, Bool, true, false, List, [], ◌++◌, length, take, flat_map, Option, None, Some, Result, Ok, Err, IsErrOf}
 use Rattle.std.specs.List.{AllByRecursion}
 use Rattle.resp_value.specs.Data.{Datum}
 use Rattle.resp_value.specs.Rules.{Rules}
 use Rattle.resp_value.specs.Spellings.{AreSpellings, Cut, IsSpelling}
-use Rattle.resp_value.specs.Devices.{Appends}
+use Rattle.resp_value.specs.Devices.{Appends, count_after, failures_after}
 use Rattle.resp_value.specs.declared.cause.Cause.{Cause}
 use Rattle.resp_value.specs.declared.cause.Cause.TheVariants as cause
 use Rattle.resp_tool.specs.Takings.{IsByteFault, IsEndFault}
@@ -34,6 +34,14 @@ is_of_reader _ = false
 -- and whether a call stopped so
 abbrev pub failed_to_read : {X : Type 0} → Result X ToolError → Bool
 failed_to_read result = stopped_by is_of_reader result
+
+-- How a call used its reader, of whose reads, and of whose failed reads, these are the counts before and after: it read
+-- no more often than this, just so often where it stopped for that, and a read failed where it stopped for that.
+pub record UsesReader {X : Type 0} (most : ℕ) (result : Result X ToolError) (calls calls' failures failures' : ℕ) :
+    Type 0 where
+  pub bounded : calls' ≤ calls + most
+  pub used_up : IsErrOf result TooManyTurns → calls' ≡ count_after most calls
+  pub failed : failures' ≡ failures_after (failed_to_read result) failures
 
 -- whether the stop is by a failed write
 abbrev pub is_of_writer : ToolError → Bool

@@ -5,11 +5,11 @@ ghost use Rattle.resp_decode.specs.Builds.{nothing};
 ghost use Rattle.resp_tool.specs.Counts.{LeavesNothing};
 ghost use Rattle.resp_tool.specs.Drafts.{IsDraftOf};
 ghost use Rattle.resp_tool.specs.Live.{EachRead, IsLive};
-ghost use Rattle.resp_tool.specs.Streams.{AreRead, AtEnd, Renders, failed_to_read, failed_to_write};
+ghost use Rattle.resp_tool.specs.Streams.{AreRead, AtEnd, Renders, UsesReader, failed_to_write};
 ghost use Rattle.resp_tool.specs.Written.{BreaksText, WritesText, WritesWhole};
 ghost use Rattle.resp_value.specs.Canonical.{canonical_text, Fits};
 ghost use Rattle.resp_value.specs.Data.{Datum};
-ghost use Rattle.resp_value.specs.Devices.{count_after, failures_after};
+ghost use Rattle.resp_value.specs.Devices.{failures_after};
 ghost use Rattle.resp_value.specs.Rules.{rules_under};
 
 use crate::canonical_front::canonical_front;
@@ -185,11 +185,8 @@ pub fn canon<R: LiveSource<W>, W: LiveSink>(
         (R.remaining reader.old) (W.written writer.old)) }
 
     // A device or memory that failed.
-    ensures reads_bounded { R.calls reader.new ≤ R.calls reader.old + MOST_READS }
-    ensures read_failures { R.failures reader.new ≡
-        failures_after (failed_to_read result) (R.failures reader.old) }
-    ensures reads_used_up { IsErrOf result ToolError.TooManyTurns →
-        R.calls reader.new ≡ count_after MOST_READS (R.calls reader.old) }
+    ensures reads { UsesReader MOST_READS result (R.calls reader.old) (R.calls reader.new)
+        (R.failures reader.old) (R.failures reader.new) }
     ensures write_failures { W.failures writer.new ≡
         failures_after (failed_to_write result) (W.failures writer.old) }
 {

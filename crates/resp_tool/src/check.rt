@@ -1,10 +1,10 @@
 //! `check`: how many values a stream has, and in how many bytes.
 
-ghost use Rattle.std.specs.Prelude.{◌≡◌, ◌+◌, ◌≤◌, ℕ, List, [], Some, IfErr, IfSome, IsErrOf};
+ghost use Rattle.std.specs.Prelude.{◌≡◌, ◌≤◌, ℕ, List, [], Some, IfErr, IfSome, IsErrOf};
 ghost use Rattle.resp_tool.specs.Counts.{Counts, counts_line};
-ghost use Rattle.resp_tool.specs.Streams.{AreRead, AtEnd, IsNeverOver, failed_to_read, failed_to_write};
+ghost use Rattle.resp_tool.specs.Streams.{AreRead, AtEnd, IsNeverOver, UsesReader, failed_to_write};
 ghost use Rattle.resp_tool.specs.Written.{WritesText};
-ghost use Rattle.resp_value.specs.Devices.{count_after, failures_after};
+ghost use Rattle.resp_value.specs.Devices.{failures_after};
 ghost use Rattle.resp_value.specs.Rules.{rules_under};
 
 use crate::live::{LiveSink, LiveSource};
@@ -166,11 +166,8 @@ pub fn check<R: LiveSource<W>, W: LiveSink>(
     ensures never_over_limits { IfErr result IsNeverOver }
 
     // A device or memory that failed.
-    ensures reads_bounded { R.calls reader.new ≤ R.calls reader.old + MOST_READS }
-    ensures read_failures { R.failures reader.new ≡
-        failures_after (failed_to_read result) (R.failures reader.old) }
-    ensures reads_used_up { IsErrOf result ToolError.TooManyTurns →
-        R.calls reader.new ≡ count_after MOST_READS (R.calls reader.old) }
+    ensures reads { UsesReader MOST_READS result (R.calls reader.old) (R.calls reader.new)
+        (R.failures reader.old) (R.failures reader.new) }
     ensures write_failures { W.failures writer.new ≡
         failures_after (failed_to_write result) (W.failures writer.old) }
     ensures no_buffer { IsErrOf result ToolError.Memory →

@@ -2,7 +2,7 @@
 
 ghost use Rattle.std.specs.Prelude.{◌≡◌, ◌≢◌, ◌⊎◌, ◌≤◌, ◌+◌, ℕ, List, [], Some, IfErr, IfOk, IfSome, IsErrOf, OnOk, codes, map};
 ghost use Rattle.clap.specs.Words.{App, kind_of};
-ghost use Rattle.resp_tool.specs.CommandWords.{AnswersStatus, AskFor};
+ghost use Rattle.resp_tool.specs.CommandWords.{AnswersStatus, AskFor, IsInRange};
 ghost use Rattle.resp_tool.specs.Faults.{fault_line, open_failed_line, status_of};
 ghost use Rattle.resp_tool.specs.Program.{IsProgram};
 ghost use Rattle.resp_tool.specs.Runs.{DoesWords, HasRun, IsWordStatus, Lives, TaskWrites, TellsFailure};
@@ -10,10 +10,12 @@ ghost use Rattle.resp_tool.specs.Streams.{AreRead, AtEnd};
 ghost use Rattle.resp_tool.specs.Written.{TriesText, WritesText};
 ghost use Rattle.resp_value.specs.Rules.{rules_under};
 
+use crate::asked::{Asked, NothingAsked, asked_of};
 use crate::canon::canon;
 use crate::check::check;
 use crate::live::{LiveSink, LiveSource};
-use crate::options::{Options, STANDARD_INPUT, Task, parse};
+use crate::options::{Options, STANDARD_INPUT, Task};
+use crate::parser::matches_of;
 use crate::show::show;
 use crate::stream::MOST_READS;
 use crate::text::write_text;
@@ -25,13 +27,13 @@ use std::convert::AsStr;
 use std::io::ErrorKind as IoErrorKind;
 
 /// The status of bad arguments.
-pub(crate) const BAD_ARGUMENTS: u8 = 2;
+const BAD_ARGUMENTS: u8 = 2;
 
 /// The status of a failed device.
 const DEVICE_FAILED: u8 = 3;
 
 /// Says what is wrong with the words, or helps, and answers the status.
-pub(crate) fn explain<W: Sink, F: Sink>(
+fn explain<W: Sink, F: Sink>(
     alloc: Global,
     error: &clap::Error,
     writer: &mut W,
@@ -161,11 +163,10 @@ pub fn read_words<'a, S: AsStr, W: Sink, F: Sink>(
     words: &'a [S],
     writer: &mut W,
     faults: &mut F,
-) -> Result<Options<'a>, u8>
+) -> Result<Asked<'a>, u8>
     ensures asked { (program : App) × IsProgram program
         × AnswersStatus AskFor program (map S.text words.entry.now) result }
-    ensures piece_in_range { IfOk result (λ options.
-        (1 ≤ options.piece) × (options.piece ≤ 65536)) }
+    ensures in_range { IfOk result IsInRange }
     ensures nothing_said { OnOk result ((writer.new ≡ writer.old) × (faults.new ≡ faults.old)) }
     ensures never_one { IfErr result IsWordStatus }
     ensures nothing_told_at_zero { IsErrOf result 0 → faults.new ≡ faults.old }
@@ -173,14 +174,14 @@ pub fn read_words<'a, S: AsStr, W: Sink, F: Sink>(
     ensures told_at_three { IsErrOf result 3 → TellsFailure (F.written faults.old)
         (F.written faults.new) (F.failures faults.old) (F.failures faults.new) }
 {
-    let asked = match parse(alloc, words) {
-        Ok(asked) => asked,
+    let matches = match matches_of(alloc, words) {
+        Ok(matches) => matches,
         Err(error) => return Err(explain(alloc, &error, writer, faults)),
     };
-    match asked {
-        Some(options) => Ok(options),
-        None => {
-            let _ = write_text(faults, b"error: these words ask for nothing here\n");
+    match asked_of(&matches) {
+        Ok(asked) => Ok(asked),
+        Err(nothing) => {
+            let _ = nothing.write(faults);
             Err(BAD_ARGUMENTS)
         }
     }
@@ -217,8 +218,8 @@ pub fn run_options<R: LiveSource<W>, W: LiveSink, F: Sink>(
 
 /// Does what the words say, the program's name first among them, with the stream of `reader`, and
 /// answers the status: 0 where all is well or help was asked for, 1 where the input was refused, 2
-/// where the words are bad, name a file or ask for an explanation, and 3 where a device or memory
-/// failed. What is wrong is said on `faults`, whether or not that takes it. What the writer holds
+/// where the words are bad, name a file or ask for an explanation or for no stream to be read, and 3
+/// where a device or memory failed. What is wrong is said on `faults`, whether or not that takes it. What the writer holds
 /// back at the end is the caller's to flush.
 pub fn command<S: AsStr, R: LiveSource<W>, W: LiveSink, F: Sink>(
     alloc: Global,
@@ -241,9 +242,13 @@ pub fn command<S: AsStr, R: LiveSource<W>, W: LiveSink, F: Sink>(
     ensures nothing_at_two { result ≡ 2 →
         (reader.new ≡ reader.old) × (writer.new ≡ writer.old) }
 {
-    let options = match read_words(alloc, words, writer, faults) {
-        Ok(options) => options,
+    let asked = match read_words(alloc, words, writer, faults) {
+        Ok(asked) => asked,
         Err(status) => return status,
+    };
+    let Asked::Stream(options) = asked else {
+        let _ = NothingAsked::OtherWords.write(faults);
+        return BAD_ARGUMENTS;
     };
     if options.file != STANDARD_INPUT {
         let _ = write_text(faults, b"error: these words name a file\n");

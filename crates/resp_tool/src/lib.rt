@@ -4,6 +4,7 @@
 //! [`live`]; [`command_line::command`] does what the words of a command line say of them.
 #![tactic(auto)]
 
+pub mod asked;
 pub mod canon;
 mod canonical_front;
 pub mod check;

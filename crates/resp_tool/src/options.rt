@@ -1,17 +1,16 @@
-//! What the words of the command line ask for.
+//! What the options of the command line say.
 
-ghost use Rattle.std.specs.Prelude.{◌≡◌, ◌≤◌, ℕ, Bool, false, IfNone, IfOk, IfSome, map, option_map};
-ghost use Rattle.clap.specs.Words.{App, first_of, found_of, rows_of, subcommand_rows_of};
-ghost use Rattle.resp_tool.specs.CommandWords.{AnswersWords, AskFor, Enters, HasFlag, HasLimits, HasNumber, HasOptions, HasProto};
-ghost use Rattle.resp_tool.specs.Program.{IsProgram};
+ghost use Rattle.std.specs.Prelude.{◌≡◌, ℕ, Bool, false, IfNone, IfOk, IfSome, OnErr, option_map};
+ghost use Rattle.std.specs.Net.Grammar.{IsSocketText};
+ghost use Rattle.clap.specs.Words.{first_of, found_of, rows_of};
+ghost use Rattle.resp_tool.specs.CommandWords.{HasFlag, HasLimits, HasNumber, HasOptions, HasProto, HasSmallNumber};
 ghost use Rattle.resp_value.specs.Bounds.{Bounds};
 
-use crate::parser::matches_of;
+use crate::asked::NothingAsked;
 use clap::ArgMatches;
 use resp_value::limits::Limits;
 use resp_value::version::Version;
-use std::alloc::Global;
-use std::convert::AsStr;
+use std::net::SocketAddr;
 
 /// The name of a file that is standard input.
 pub const STANDARD_INPUT: &str = "-";
@@ -41,36 +40,6 @@ pub struct Options<'a> {
     pub explains: bool,
 }
 
-/// Reads the words, the program's name first among them. None where they begin with `loop` or
-/// `serve`, which are done elsewhere, or where a number is outside its range, which the parser of
-/// the words refuses before.
-pub fn parse<'a, S: AsStr>(
-    alloc: Global,
-    words: &'a [S],
-) -> Result<Option<Options<'a>>, clap::Error>
-    ensures piece_in_range { IfOk result (λ found. IfSome found (λ options.
-        (1 ≤ options.piece) × (options.piece ≤ 65536))) }
-    ensures answers { (program : App) × IsProgram program
-        × AnswersWords AskFor program (map S.text words.entry.now) result }
-{
-    let matches = matches_of(alloc, words)?;
-    Ok(asked_of(&matches))
-}
-
-/// The options that the words ask for.
-fn asked_of<'a>(matches: &ArgMatches<'a>) -> Option<Options<'a>>
-    ensures some { IfSome result (Enters (subcommand_rows_of matches.now)) }
-    ensures none { IfNone result ((options : Options)
-        → Enters (subcommand_rows_of matches.now) options → ⊥) }
-{
-    match matches.subcommand() {
-        Some(("show", given)) => options_of(Task::Show, given),
-        Some(("check", given)) => options_of(Task::Check, given),
-        Some(("canon", given)) => options_of(Task::Canon, given),
-        _ => None,
-    }
-}
-
 /// The limits that the options say; none where a number is outside its range.
 pub(crate) fn limits_of(matches: &ArgMatches<'_>) -> Option<Limits>
     ensures some { IfSome result (HasLimits (rows_of (found_of matches.now))) }
@@ -89,12 +58,25 @@ pub(crate) fn limits_of(matches: &ArgMatches<'_>) -> Option<Limits>
 }
 
 /// The number of an option.
-pub(crate) fn number_of(matches: &ArgMatches<'_>, name: &str) -> Option<u64>
+fn number_of(matches: &ArgMatches<'_>, name: &str) -> Option<u64>
     ensures some { IfSome result (HasNumber (rows_of (found_of matches.now)) name.now) }
     ensures none { IfNone result ((number : ℕ)
         → HasNumber (rows_of (found_of matches.now)) name.now number → ⊥) }
 {
     matches.get_one::<u64>(name)
+}
+
+/// The number of an option that is from 1 to 65,536; none where it is outside that range.
+pub(crate) fn small_number_of(matches: &ArgMatches<'_>, name: &str) -> Option<usize>
+    ensures some { IfSome result (HasSmallNumber (rows_of (found_of matches.now)) name.now) }
+    ensures none { IfNone result ((number : ℕ)
+        → HasSmallNumber (rows_of (found_of matches.now)) name.now number → ⊥) }
+{
+    let number = number_of(matches, name)?;
+    if number < 1 || number > 65_536 {
+        return None;
+    }
+    Some(number as usize)
 }
 
 /// Whether an option is given.
@@ -114,6 +96,17 @@ pub(crate) fn text_of<'a>(matches: &ArgMatches<'a>, name: &str) -> Option<&'a st
     matches.get_str(name)
 }
 
+/// The address that a text is, which stands for the word of this name.
+pub(crate) fn address_of<'a>(text: &'a str, name: &'a str) -> Result<SocketAddr, NothingAsked<'a>>
+    ensures ok { IfOk result (IsSocketText text.now) }
+    ensures err { OnErr result ((address : SocketAddr) → IsSocketText text.now address → ⊥) }
+{
+    match text.parse::<SocketAddr>() {
+        Ok(address) => Ok(address),
+        Err(_) => Err(NothingAsked::BadAddress { text, name }),
+    }
+}
+
 /// The version of `--proto`.
 fn version_of(matches: &ArgMatches<'_>) -> Option<Version>
     ensures some { IfSome result (HasProto (rows_of (found_of matches.now))) }
@@ -127,8 +120,9 @@ fn version_of(matches: &ArgMatches<'_>) -> Option<Version>
     }
 }
 
-/// The options of a subcommand; none where a number is outside its range.
-fn options_of<'a>(task: Task, matches: &ArgMatches<'a>) -> Option<Options<'a>>
+/// The options of a subcommand; none where a number is outside its range, which the parser of the
+/// words refuses before.
+pub(crate) fn options_of<'a>(task: Task, matches: &ArgMatches<'a>) -> Option<Options<'a>>
     ensures task { IfSome result (λ options. options.task ≡ task) }
     ensures some { IfSome result (HasOptions (rows_of (found_of matches.now))) }
     ensures none { IfNone result ((options : Options)
@@ -136,15 +130,12 @@ fn options_of<'a>(task: Task, matches: &ArgMatches<'a>) -> Option<Options<'a>>
 {
     let version = version_of(matches)?;
     let limits = limits_of(matches)?.with_doubles(flag_of(matches, "doubles")?);
-    let piece = number_of(matches, "piece")?;
-    if piece < 1 || piece > 65_536 {
-        return None;
-    }
+    let piece = small_number_of(matches, "piece")?;
     Some(Options {
         task,
         version,
         limits,
-        piece: piece as usize,
+        piece,
         file: text_of(matches, "file")?,
         explains: flag_of(matches, "explain")?,
     })

@@ -1,12 +1,12 @@
 //! `show`: each value of a stream as lines of text.
 
-ghost use Rattle.std.specs.Prelude.{◌≡◌, ◌+◌, ◌≤◌, ℕ, List, [], Some, IfErr, IfSome, IsErrOf};
+ghost use Rattle.std.specs.Prelude.{◌≡◌, ◌≤◌, ℕ, List, [], Some, IfErr, IfSome, IsErrOf};
 ghost use Rattle.resp_tool.specs.Counts.{IsAny};
 ghost use Rattle.resp_tool.specs.Live.{EachRead, IsLive};
 ghost use Rattle.resp_tool.specs.Scans.{IsShownDue, IsShownIn, IsShownOf};
 ghost use Rattle.resp_tool.specs.Shown.{shown_text};
-ghost use Rattle.resp_tool.specs.Streams.{AreRead, AtEnd, IsNeverOver, Renders, failed_to_read, failed_to_write};
-ghost use Rattle.resp_value.specs.Devices.{count_after, failures_after};
+ghost use Rattle.resp_tool.specs.Streams.{AreRead, AtEnd, IsNeverOver, Renders, UsesReader, failed_to_write};
+ghost use Rattle.resp_value.specs.Devices.{failures_after};
 ghost use Rattle.resp_value.specs.Rules.{rules_under};
 
 use crate::lines::Lines;
@@ -118,11 +118,8 @@ pub fn show<R: LiveSource<W>, W: LiveSink>(
         (W.written writer.old)) }
 
     // A device or memory that failed.
-    ensures reads_bounded { R.calls reader.new ≤ R.calls reader.old + MOST_READS }
-    ensures read_failures { R.failures reader.new ≡
-        failures_after (failed_to_read result) (R.failures reader.old) }
-    ensures reads_used_up { IsErrOf result ToolError.TooManyTurns →
-        R.calls reader.new ≡ count_after MOST_READS (R.calls reader.old) }
+    ensures reads { UsesReader MOST_READS result (R.calls reader.old) (R.calls reader.new)
+        (R.failures reader.old) (R.failures reader.new) }
     ensures write_failures { W.failures writer.new ≡
         failures_after (failed_to_write result) (W.failures writer.old) }
     ensures no_buffer { IsErrOf result ToolError.Memory →

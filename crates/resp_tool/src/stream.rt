@@ -2,8 +2,8 @@
 
 ghost use Rattle.std.specs.Prelude.{◌≡◌, ◌⊎◌, ◌+◌, ◌≤◌, ◌++◌, ℕ, List, [], Option, Some, IfErr, IfOk, IfSome, IsErrOf};
 ghost use Rattle.resp_tool.specs.Live.{EachRead, IsLive};
-ghost use Rattle.resp_tool.specs.Streams.{AreRead, AtEnd, HasRendered, IsBeforeEnd, IsRenderingError, RendersStopped, RendersStream, failed_to_read, failed_to_write};
-ghost use Rattle.resp_value.specs.Devices.{count_after, failures_after};
+ghost use Rattle.resp_tool.specs.Streams.{AreRead, AtEnd, HasRendered, IsBeforeEnd, IsRenderingError, RendersStopped, RendersStream, UsesReader, failed_to_write};
+ghost use Rattle.resp_value.specs.Devices.{failures_after};
 
 use crate::live::{LiveSink, LiveSource};
 use crate::rendering::Rendering;
@@ -48,11 +48,8 @@ pub fn render_stream<T: Rendering, R: LiveSource<W>, W: LiveSink>(
         (T.is_due (T.rules rendering.old)) (R.remaining reader.old) (W.written writer.old)) }
 
     // A device or memory that failed.
-    ensures reads_bounded { R.calls reader.new ≤ R.calls reader.old + MOST_READS }
-    ensures read_failures { R.failures reader.new ≡
-        failures_after (failed_to_read result) (R.failures reader.old) }
-    ensures reads_used_up { IsErrOf result ToolError.TooManyTurns →
-        R.calls reader.new ≡ count_after MOST_READS (R.calls reader.old) }
+    ensures reads { UsesReader MOST_READS result (R.calls reader.old) (R.calls reader.new)
+        (R.failures reader.old) (R.failures reader.new) }
     ensures write_failures { W.failures writer.new ≡
         failures_after (failed_to_write result) (W.failures writer.old) }
     ensures writes { IsErrOf result ToolError.Write → T.writes }

@@ -1,5 +1,5 @@
-use Rattle.std.proofs.Common.{◌∙◌, inl, inr, map, refl, sym}
-use Rattle.resp_tool.proofs.AskingLemmas.{does_nothing, runs_no_explanation, runs_no_file}
+use Rattle.std.proofs.Common.{◌∙◌, arith, inl, inr, map, refl, sym}
+use Rattle.resp_tool.proofs.AskingLemmas.{does_nothing, runs_no_explanation, runs_no_file, runs_no_stream}
 use Rattle.resp_tool.proofs.SameBytes.{same_bytes}
 use Rattle.resp_tool.proofs.command_line.command.Goals as goal
 
@@ -8,40 +8,60 @@ returns-in-Err-clause-does g c =
     let asked = c.in-Err.ensures.asked in
     (asked.0, asked.1, does_nothing asked.0 (map g.S.AsStr.text c.args.words.now) _ _ c.in-Err.status refl asked.2 c.in-Err.ensures.never_one)
 
+pub returns-in_default : goal.returns-in_default
+returns-in_default g c =
+    let asked = c.in-Ok.ensures.asked in
+    let said = c.in-Ok.ensures.nothing_said in
+    record {
+      at_most_three = omega arith;
+      does = (
+        asked.0,
+        asked.1,
+        inr (inl (refl, refl, runs_no_stream asked.0 (map g.S.AsStr.text c.args.words.now) c.in-Ok.asked asked.2 c.in_default.not-Stream)),
+      );
+      reads_bounded = omega arith;
+      nothing_told_at_zero = λ none. absurd (omega arith);
+      told_at_three = λ three. absurd (omega arith);
+      nothing_at_two = λ two. (refl, said.0);
+    }
+
 pub returns-then-ne-clause-does : goal.returns-then-ne-clause-does
 returns-then-ne-clause-does g c =
-    let asked = c.in-Ok.ensures.asked in (
+    let asked = c.in-Ok.ensures.asked in
+    let asks = rw c.in-Stream.is at asked.2 in (
       asked.0,
       asked.1,
       inr (inl (
         refl,
         refl,
-        runs_no_file asked.0 (map g.S.AsStr.text c.args.words.now) c.in-Ok.options asked.2 (sym c.ne.ensures ∙ c.if-ne.true),
+        runs_no_file asked.0 (map g.S.AsStr.text c.args.words.now) c.in-Stream.options asks (sym c.ne.ensures ∙ c.if-ne.true),
       )),
     )
 
 pub returns-then-options-clause-does : goal.returns-then-options-clause-does
 returns-then-options-clause-does g c =
-    let asked = c.in-Ok.ensures.asked in (
+    let asked = c.in-Ok.ensures.asked in
+    let asks = rw c.in-Stream.is at asked.2 in (
       asked.0,
       asked.1,
       inr (inl (
         refl,
         refl,
-        runs_no_explanation asked.0 (map g.S.AsStr.text c.args.words.now) c.in-Ok.options asked.2 c.if-options.true,
+        runs_no_explanation asked.0 (map g.S.AsStr.text c.args.words.now) c.in-Stream.options asks c.if-options.true,
       )),
     )
 
 pub returns-clause-does : goal.returns-clause-does
 returns-clause-does g c =
     let asked = c.in-Ok.ensures.asked in
+    let asks = rw c.in-Stream.is at asked.2 in
     let said = c.in-Ok.ensures.nothing_said in
     let run = rw (said.0, said.1) at c.run_options.ensures.ran in (
       asked.0,
       asked.1,
       inr (inr (inr (
-        c.in-Ok.options,
-        (asked.2, same_bytes _ _ (sym c.ne.ensures ∙ c.if-ne.false), c.if-options.false),
+        c.in-Stream.options,
+        (asks, same_bytes _ _ (sym c.ne.ensures ∙ c.if-ne.false), c.if-options.false),
         run,
       ))),
     )

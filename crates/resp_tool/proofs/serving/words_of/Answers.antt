@@ -5,8 +5,8 @@ use Rattle.resp_tool.specs.CommandWords.{HasServeWords}
 use Rattle.resp_tool.proofs.AskingLemmas.{if_none}
 use Rattle.resp_tool.proofs.serving.words_of.Goals as goal
 
-pub returns-in_err-clients-clause-none : goal.returns-in_err-clients-clause-none
-returns-in_err-clients-clause-none c =
+pub returns-in_err-small_number_of-clause-none : goal.returns-in_err-small_number_of-clause-none
+returns-in_err-small_number_of-clause-none c =
     let none : (address : List ℕ) (limits : Bounds) (clients : ℕ) → HasServeWords (rows_of (found_of c.args.matches.now)) address limits clients → ⊥ =
-    λ address limits clients has. c.in_err-clients.ensures.none _ has.at_once in
+    λ address limits clients has. c.in_err-small_number_of.ensures.none _ has.at_once in
     if_none _ _ none

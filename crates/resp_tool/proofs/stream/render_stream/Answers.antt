@@ -1,11 +1,11 @@
-use Rattle.std.proofs.Common.{◌≡◌, ◌+◌, ◌≤◌, ◌++◌, ℕ, false, List, [], Ok, Err, length, take, vec_len, refl, sym, ap, subst, ◌∙◌, arith, length-append}
+use Rattle.std.proofs.Common.{◌≡◌, ◌+◌, ◌≤◌, ◌++◌, ℕ, List, [], Ok, Err, length, take, vec_len, refl, sym, ap, subst, ◌∙◌, arith, length-append}
 use Rattle.std.proofs.lemmas.List.{length-take-le}
-use Rattle.resp_tool.specs.Streams.{HasRendered, RendersStopped, RendersStream, failed_to_read, is_of_reader}
+use Rattle.resp_tool.specs.Streams.{HasRendered, RendersStopped, RendersStream, UsesReader}
 use Rattle.resp_tool.specs.declared.tool_error.ToolError.TheVariants.{Memory}
-use Rattle.resp_value.specs.Devices.{failures_after}
+use Rattle.resp_tool.specs.declared.stream.TheConstants.{MOST_READS}
 use Rattle.resp_tool.proofs.LiveLemmas.{flushed, live_on, none_recorded}
 use Rattle.resp_tool.proofs.Outcomes.{is_that_error}
-use Rattle.resp_tool.proofs.ReadLemmas.{called_again, never_of_reader, not_of_reader, read_otherwise, never_called, nothing_read, one_more, reads_fail, reads_none, reads_on, take-into}
+use Rattle.resp_tool.proofs.ReadLemmas.{called_again, never_called, nothing_read, one_more, reads_fail, reads_none, reads_on, take-into}
 use Rattle.resp_tool.proofs.Rendered.{EndsOf, ended_stop, nothing_rendered, renders_counted, renders_so_far}
 use Rattle.resp_tool.proofs.stream.render_stream.Goals as goal
 
@@ -180,20 +180,12 @@ returns-clause-rendered g c =
           (g.W.Sink.written c.args.writer.now) (g.W.Sink.written c.loop.writer) c.loop.totals.values stands w.stands,
     )
 
-pub returns-in_err-buffer-clause-read_failures : goal.returns-in_err-buffer-clause-read_failures
-returns-in_err-buffer-clause-read_failures g c =
+pub returns-in_err-buffer-clause-reads : goal.returns-in_err-buffer-clause-reads
+returns-in_err-buffer-clause-reads g c =
+    let calls = g.R.Source.calls c.args.reader.now in
     let failures = g.R.Source.failures c.args.reader.now in
-    subst (λ r. failures ≡ failures_after (failed_to_read r) failures) (sym (is_that_error c.from_residual.result Memory c.from_residual.ensures.1)) refl
-
-pub returns-in-Err-finish-clause-read_failures : goal.returns-in-Err-finish-clause-read_failures
-returns-in-Err-finish-clause-read_failures g c =
-    read_otherwise _ _ c.of_value.result (subst (λ e. is_of_reader e ≡ false) (sym c.of_value.ensures) (never_of_reader _ c.in-Err-finish.stop))
-    (c.in-Ok.ensures.failures ∙ c.loop.invariant.unfailing)
-
-pub returns-in-Err-render_piece-clause-read_failures : goal.returns-in-Err-render_piece-clause-read_failures
-returns-in-Err-render_piece-clause-read_failures g c =
-    read_otherwise _ _ c.in-Err-render_piece.error (not_of_reader c.in-Err-render_piece.error c.in-Err-render_piece.ensures.not_reading)
-    (c.in-Ok.ensures.failures ∙ c.loop.invariant.unfailing)
+    subst (λ r. UsesReader MOST_READS r calls calls failures failures) (sym (is_that_error c.from_residual.result Memory c.from_residual.ensures.1))
+    record { bounded = omega arith; used_up = λ turns. absurd cc; failed = refl }
 
 pub returns-in-Err-read_beside-clause-live : goal.returns-in-Err-read_beside-clause-live
 returns-in-Err-read_beside-clause-live g c = λ writes. live_on (g.T.Rendering.rules c.args.rendering.now) (g.T.Rendering.rules c.loop.rendering) c.loop.invariant.same_rules

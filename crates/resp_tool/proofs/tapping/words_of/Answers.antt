@@ -5,9 +5,9 @@ use Rattle.resp_tool.specs.CommandWords.{HasTapWords}
 use Rattle.resp_tool.proofs.AskingLemmas.{if_none}
 use Rattle.resp_tool.proofs.tapping.words_of.Goals as goal
 
-pub returns-in_err-clients-clause-none : goal.returns-in_err-clients-clause-none
-returns-in_err-clients-clause-none c =
+pub returns-in_err-small_number_of-clause-none : goal.returns-in_err-small_number_of-clause-none
+returns-in_err-small_number_of-clause-none c =
     let none : (address server : List ℕ) (limits : Bounds) (clients : ℕ) (tells_time : Bool) →
     HasTapWords (rows_of (found_of c.args.matches.now)) address server limits clients tells_time → ⊥ =
-    λ address server limits clients tells_time has. c.in_err-clients.ensures.none _ has.at_once in
+    λ address server limits clients tells_time has. c.in_err-small_number_of.ensures.none _ has.at_once in
     if_none _ _ none

@@ -1,0 +1,136 @@
+//! `serve` and `tap`: what the program does for clients that come to an address.
+
+use resp_serve::{Server, Window};
+use resp_tool::command_line::{refuse_file, stop};
+use resp_tool::live::LiveSink;
+use resp_tool::serving::Serving;
+use resp_tool::tapping::Tapping;
+use resp_tool::text::write_text;
+use resp_tool::tool_error::ToolError;
+use resp_value::device::Sink;
+use std::alloc::{AllocError, Global};
+use std::hash::RandomState;
+use std::io;
+use std::io::ErrorKind;
+use std::net::SocketAddr;
+
+/// Why clients can't be listened for any longer.
+#[derive(Drop)]
+enum ListenError {
+    /// The address can't be listened on, or a connection to it failed.
+    Address(io::Error),
+    /// Another device, or memory, failed.
+    Tool(ToolError),
+}
+
+impl From<io::Error> for ListenError {
+    fn from(error: io::Error) -> Self {
+        ListenError::Address(error)
+    }
+}
+
+impl From<ToolError> for ListenError {
+    fn from(error: ToolError) -> Self {
+        ListenError::Tool(error)
+    }
+}
+
+/// Serves clients where the words say, and answers the status where it can't be gone on with that.
+pub fn run_serve<W: LiveSink, F: Sink>(
+    rt: &HostRuntime,
+    serving: &Serving<'_>,
+    writer: &mut W,
+    faults: &mut F,
+) -> Result<u8, AllocError> {
+    match serve(rt, serving, writer) {
+        Ok(()) => Ok(0),
+        Err(error) => refuse(rt.alloc(), serving.address_text, &error, faults),
+    }
+}
+
+/// Serves clients until that fails.
+fn serve<W: LiveSink>(
+    rt: &HostRuntime,
+    serving: &Serving<'_>,
+    writer: &mut W,
+) -> Result<(), ListenError> {
+    let alloc = rt.alloc();
+    let Ok(hasher) = RandomState::new(rt) else {
+        return Err(ToolError::Read.into());
+    };
+    let most = serving.clients;
+    let mut server = Server::listen(rt, alloc, serving.address, serving.limits, most, hasher)?;
+    write_listening(alloc, server.address()?, writer)?;
+    if writer.flush().is_err() {
+        return Err(ToolError::Write.into());
+    }
+    Ok(server.run()?)
+}
+
+/// Stands between clients and a server where the words say, and answers the status where it can't
+/// be gone on with that.
+pub fn run_tap<W: LiveSink, F: Sink>(
+    rt: &HostRuntime,
+    tapping: &Tapping<'_>,
+    writer: &mut W,
+    faults: &mut F,
+) -> Result<u8, AllocError> {
+    match tap(rt, tapping, writer) {
+        Ok(()) => Ok(0),
+        Err(error) => refuse(rt.alloc(), tapping.address_text, &error, faults),
+    }
+}
+
+/// Stands between clients and a server until that fails.
+fn tap<W: LiveSink>(
+    rt: &HostRuntime,
+    tapping: &Tapping<'_>,
+    writer: &mut W,
+) -> Result<(), ListenError> {
+    let alloc = rt.alloc();
+    let mut window = Window::listen(
+        rt,
+        alloc,
+        tapping.address,
+        tapping.server,
+        tapping.limits,
+        tapping.clients,
+        tapping.tells_time,
+    )?;
+    write_listening(alloc, window.address()?, writer)?;
+    match window.run(rt, writer) {
+        Err(error) if error.kind() == ErrorKind::WriteZero => Err(ToolError::Write.into()),
+        ended => Ok(ended?),
+    }
+}
+
+/// Tells the address that is listened on.
+fn write_listening<W: Sink>(
+    alloc: Global,
+    address: SocketAddr,
+    writer: &mut W,
+) -> Result<(), ToolError> {
+    let Ok(line) = format!(in alloc; "listening on {address}\n") else {
+        return Err(ToolError::Memory);
+    };
+    match write_text(writer, line.as_str().as_bytes()) {
+        Ok(()) => Ok(()),
+        Err(_) => Err(ToolError::Write),
+    }
+}
+
+/// Says why clients can't be listened for at this address, and answers the status.
+fn refuse<F: Sink>(
+    alloc: Global,
+    address: &str,
+    error: &ListenError,
+    faults: &mut F,
+) -> Result<u8, AllocError> {
+    match error {
+        ListenError::Address(error) => {
+            let why = format!(in alloc; "{error}")?;
+            Ok(refuse_file(address, why.as_str(), faults))
+        }
+        ListenError::Tool(error) => Ok(stop(error, faults)),
+    }
+}

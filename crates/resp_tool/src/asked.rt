@@ -1,0 +1,141 @@
+//! What the words of the command line ask for: a subcommand, with its options.
+
+ghost use Rattle.std.specs.Prelude.{IfOk, OnErr, codes};
+ghost use Rattle.clap.specs.Words.{found_of, rows_of, subcommand_rows_of};
+ghost use Rattle.resp_tool.specs.CommandWords.{Enters, IsAsked, task_word};
+
+use crate::options::{Options, Task, flag_of, options_of};
+use crate::serving::{Serving, serving_of};
+use crate::tapping::{Tapping, tapping_of};
+use crate::text::write_text;
+use clap::ArgMatches;
+use resp_value::device::{DeviceFault, Sink};
+
+/// What the words of the command line ask for.
+#[derive(Clone, Copy, Debug)]
+pub enum Asked<'a> {
+    /// To read a stream: `show`, `check` or `canon`.
+    Stream(Options<'a>),
+    /// To play a script: `loop`.
+    Play {
+        /// Whether it is said why a line is bad.
+        explains: bool,
+    },
+    /// To serve clients: `serve`.
+    Serve(Serving<'a>),
+    /// To stand between clients and a server: `tap`.
+    Tap(Tapping<'a>),
+}
+
+/// Why the words ask for nothing.
+#[derive(Clone, Copy)]
+pub(crate) enum NothingAsked<'a> {
+    /// They are for nothing that is done here.
+    OtherWords,
+    /// The text is no address.
+    BadAddress {
+        text: &'a str,
+        /// The word that it stands for.
+        name: &'a str,
+    },
+}
+
+impl NothingAsked<'_> {
+    /// Says why.
+    pub(crate) fn write<F: Sink>(self, faults: &mut F) -> Result<(), DeviceFault> {
+        match self {
+            Self::OtherWords => write_text(faults, b"error: these words ask for nothing here\n"),
+            Self::BadAddress { text, name } => write_bad_address(text, name, faults),
+        }
+    }
+}
+
+/// Says what is wrong with an address, which the word of this name is to be.
+fn write_bad_address<F: Sink>(text: &str, name: &str, faults: &mut F) -> Result<(), DeviceFault> {
+    write_text(faults, b"error: invalid value '")?;
+    write_text(faults, text.as_bytes())?;
+    write_text(faults, b"' for '<")?;
+    write_text(faults, name.as_bytes())?;
+    write_text(
+        faults,
+        b">': an IP address and a port are wanted, as 127.0.0.1:6380\n\n",
+    )?;
+    write_text(faults, b"For more information, try '--help'.\n")
+}
+
+/// What the words ask for, or why they ask for nothing.
+pub(crate) fn asked_of<'a>(matches: &ArgMatches<'a>) -> Result<Asked<'a>, NothingAsked<'a>>
+    ensures ok { IfOk result (Enters (subcommand_rows_of matches.now)) }
+    ensures err { OnErr result ((asked : Asked)
+        → Enters (subcommand_rows_of matches.now) asked → ⊥) }
+{
+    match matches.subcommand() {
+        Some((name, given)) => asked_by(name, given),
+        None => Err(NothingAsked::OtherWords),
+    }
+}
+
+/// What the subcommand of this name is asked for with these options.
+fn asked_by<'a>(name: &str, given: &ArgMatches<'a>) -> Result<Asked<'a>, NothingAsked<'a>>
+    ensures ok { IfOk result (IsAsked name.now (rows_of (found_of given.now))) }
+    ensures err { OnErr result ((asked : Asked)
+        → IsAsked name.now (rows_of (found_of given.now)) asked → ⊥) }
+{
+    match name {
+        "show" => stream_of(Task::Show, given),
+        "check" => stream_of(Task::Check, given),
+        "canon" => stream_of(Task::Canon, given),
+        "loop" => play_of(given),
+        "serve" => serve_of(given),
+        "tap" => tap_of(given),
+        _ => Err(NothingAsked::OtherWords),
+    }
+}
+
+/// What a task is asked for with these options.
+fn stream_of<'a>(task: Task, given: &ArgMatches<'a>) -> Result<Asked<'a>, NothingAsked<'a>>
+    ensures ok { IfOk result (IsAsked (task_word task) (rows_of (found_of given.now))) }
+    ensures err { OnErr result ((asked : Asked)
+        → IsAsked (task_word task) (rows_of (found_of given.now)) asked → ⊥) }
+{
+    match options_of(task, given) {
+        Some(options) => Ok(Asked::Stream(options)),
+        None => Err(NothingAsked::OtherWords),
+    }
+}
+
+/// What `loop` is asked for with these options.
+fn play_of<'a>(given: &ArgMatches<'a>) -> Result<Asked<'a>, NothingAsked<'a>>
+    ensures ok { IfOk result (IsAsked (codes "loop") (rows_of (found_of given.now))) }
+    ensures err { OnErr result ((asked : Asked)
+        → IsAsked (codes "loop") (rows_of (found_of given.now)) asked → ⊥) }
+{
+    match flag_of(given, "explain") {
+        Some(explains) => Ok(Asked::Play { explains }),
+        None => Err(NothingAsked::OtherWords),
+    }
+}
+
+/// What `serve` is asked for with these options.
+fn serve_of<'a>(given: &ArgMatches<'a>) -> Result<Asked<'a>, NothingAsked<'a>>
+    ensures ok { IfOk result (IsAsked (codes "serve") (rows_of (found_of given.now))) }
+    ensures err { OnErr result ((asked : Asked)
+        → IsAsked (codes "serve") (rows_of (found_of given.now)) asked → ⊥) }
+{
+    match serving_of(given) {
+        Ok(serving) => Ok(Asked::Serve(serving)),
+        Err(nothing) => Err(nothing),
+    }
+}
+
+/// What `tap` is asked for with these options.
+fn tap_of<'a>(given: &ArgMatches<'a>) -> Result<Asked<'a>, NothingAsked<'a>>
+    ensures ok { IfOk result (IsAsked (codes "tap") (rows_of (found_of given.now))) }
+    ensures err { OnErr result ((asked : Asked)
+        → IsAsked (codes "tap") (rows_of (found_of given.now)) asked → ⊥) }
+{
+    match tapping_of(given) {
+        Ok(tapping) => Ok(Asked::Tap(tapping)),
+        Err(nothing) => Err(nothing),
+    }
+}
