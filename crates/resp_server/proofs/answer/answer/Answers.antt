@@ -2,7 +2,7 @@ use Rattle.std.proofs.Common.{◌≡◌, ◌+◌, ◌-◌, length, take, drop, t
 use Rattle.std.proofs.lemmas.List.{take_rest}
 use Rattle.resp_server.specs.declared.session.Session.{Session}
 use Rattle.resp_server.proofs.AnsweredPieces.{none_answered, turn_answered, closed_answered, cut_short}
-use Rattle.resp_server.proofs.answer.answer_turns.Goals as goal
+use Rattle.resp_server.proofs.answer.answer.Goals as goal
 
 pub loop-used-init : goal.loop-used-init
 loop-used-init g c = record {
