@@ -1,10 +1,9 @@
 -- What a framed reader has given where it has ended.
-use Rattle.std.proofs.Common.{◌≡◌, List, [], ◌++◌, Result, ap, subst}
+use Rattle.std.proofs.Common.{List, [], ◌++◌, Result, ap, subst}
 use Rattle.std.specs.declared.io.Error.{Error}
 use Rattle.resp_decode.specs.Decoding.{HasTaken, rules_of}
 use Rattle.tokio.specs.Io.Moved.{Passes, PassesInOrder}
 use Rattle.tokio_util.specs.Codec.Framed.{framed_read}
-use Rattle.tokio_util.specs.Codec.Framing.{unframed}
 use Rattle.tokio_util.specs.Codec.Whole.{EndIsFinal, ReadsAll}
 use Rattle.tokio_util.specs.declared.codec.framed_read.FramedRead.{FramedRead}
 use Rattle.tokio_util.proofs.CodecLemmas.Whole.{all_frames}

@@ -10,7 +10,7 @@ use Rattle.resp_session.specs.Commands.{meaning_of}
 use Rattle.resp_session.specs.declared.words.Asked.{Asked}
 use Rattle.tokio_util.specs.Codec.Next.{Gives}
 use Rattle.resp_codec.specs.Next.{ItemReading, gives_by}
-use Rattle.resp_codec.specs.Values.{RefusesToWrite, Settings, Writes}
+use Rattle.resp_codec.specs.Values.{RefusesToWrite, Settings, Writes, reading_with}
 use Rattle.resp_codec.specs.declared.command_codec.CommandCodec.{CommandCodec}
 use Rattle.resp_codec.specs.declared.error.CodecError.{CodecError}
 
@@ -42,11 +42,7 @@ Asks asked x = (meaning_in asked ≡ meaning_of x) × IfCommand asked (λ words.
 
 -- it reads what values ask
 abbrev pub reading_commands : ItemReading CommandCodec Asked Settings
-reading_commands = record {
-  decoder = λ c. c.decoder;
-  rest = λ c. record { version = c.version; limits = c.limits };
-  Is = Asks;
-}
+reading_commands = reading_with (λ c. c.decoder) (λ c. c.version) (λ c. c.limits) Asks
 
 -- what it reads next
 abbrev pub gives_commands : Gives CommandCodec Asked CodecError

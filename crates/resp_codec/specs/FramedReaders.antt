@@ -5,7 +5,7 @@ use Rattle.resp_value.specs.Data.{Datum}
 use Rattle.resp_value.specs.Rules.{Rules}
 use Rattle.tokio.specs.Io.Moved.{Passes}
 use Rattle.tokio.specs.Io.Steps.{Yields}
-use Rattle.tokio_util.specs.Codec.Framed.{PollsFrame, Reads, framed_read}
+use Rattle.tokio_util.specs.Codec.Framed.{PollsFrame, framed_read}
 use Rattle.tokio_util.specs.Codec.Framing.{IsReading, unframed}
 use Rattle.tokio_util.specs.Codec.Next.{Gives}
 use Rattle.tokio_util.specs.declared.codec.framed_read.FramedRead.{FramedRead}

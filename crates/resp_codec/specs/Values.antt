@@ -10,6 +10,7 @@ use Rattle.resp_value.specs.declared.value.Value.{Value}
 use Rattle.resp_value.specs.declared.version.Version.{Version}
 use Rattle.resp_scan.specs.declared.event.Fault.{Fault}
 use Rattle.resp_decode.specs.Decoding as decoding
+use Rattle.resp_decode.specs.declared.decoder.Decoder.{Decoder}
 use Rattle.resp_encode.specs.Refusals.{IsFirstFault}
 use Rattle.resp_encode.specs.declared.error.EncodeError.{EncodeError}
 use Rattle.resp_encode.specs.declared.error.EncodeError.TheVariants.{OutOfMemory}
@@ -40,17 +41,22 @@ pub record Settings : Type 0 where
   pub version : Version
   pub limits : Bounds
 
+-- what a codec reads with this decoder, which keeps this version and these limits
+abbrev pub reading_with : {C T : Type 0} → (C → Decoder) → (C → Version) → (C → Bounds) → (T → Datum → Type 0) →
+    ItemReading C T Settings
+reading_with decoder version limits holds = record {
+  decoder = decoder;
+  rest = λ c. record { version = version c; limits = limits c };
+  Is = holds;
+}
+
 -- the value is this one, apart from memory
 abbrev pub Holds : Value → Datum → Type 0
 Holds value x = datum_of value ≡ x
 
 -- it reads values as they are
 abbrev pub reading_values : ItemReading RespCodec Value Settings
-reading_values = record {
-  decoder = λ c. c.decoder;
-  rest = λ c. record { version = c.version; limits = c.limits };
-  Is = Holds;
-}
+reading_values = reading_with (λ c. c.decoder) (λ c. c.version) (λ c. c.limits) Holds
 
 -- what it reads next
 abbrev pub gives_values : Gives RespCodec Value CodecError

@@ -1,15 +1,24 @@
 -- Events played one after another, and their text.
-use Rattle.std.proofs.Common.{◌≡◌, inl, inr, ℕ, List, [], ◌∷◌, ◌++◌, Option, Result, Ok, Err, sym, ap, subst, ◌∙◌, append_assoc}
+use Rattle.std.proofs.Common.{◌≡◌, inl, inr, ℕ, List, [], ◌∷◌, ◌++◌, Option, Result, Ok, Err, refl, sym, ap, subst, ◌∙◌, append_assoc}
 use Rattle.resp_value.specs.Bounds.{Bounds}
 use Rattle.resp_session.specs.Worlds.{World}
 use Rattle.resp_tool.specs.Written.{AppendsPart}
-use Rattle.resp_tool.proofs.WrittenLemmas.{Appends-append}
-use Rattle.resp_wire.specs.Worlds.{WorldState}
+use Rattle.resp_tool.proofs.WrittenLemmas.{Appends-append, Appends-none}
+use Rattle.resp_wire.specs.Worlds.{Shows, WorldState}
 use Rattle.resp_script.proofs.Printing.{part_next}
 use Rattle.resp_script.specs.Plays.{ArePlayed, BreaksInCounts, Plays, PlaysAll, PlaysPart, PlaysScript, PlaysTo, text_of_step}
 use Rattle.resp_script.specs.Printed.{PlayedEvent, Prints, counts_text}
 use Rattle.resp_script.specs.declared.play.PlayError.{PlayError}
 use Rattle.resp_script.specs.declared.play.PlayError.TheVariants.{Stopped, Write, Memory}
+
+-- before the first event nothing was played
+pub plays_none : {L : Type 0} {is_honest : L → Type 0} {limits : Bounds} {w : World} {world : WorldState L} → Shows is_honest world limits w →
+    (held : Option (List ℕ)) → PlaysAll is_honest limits w [] world held held
+plays_none {L} {is_honest} {limits} {w} {world} shows held = record {
+  played = record { text = []; last = w; plays = (refl, refl) };
+  shows = shows;
+  appended = Appends-none held;
+}
 
 -- some events were played, and then more
 pub plays_more : (limits : Bounds) (w mid last : World) (events more : List PlayedEvent) (text text' : List ℕ) → Plays limits w events text mid →

@@ -1,5 +1,5 @@
 -- What a session answers, turn by turn.
-use Rattle.std.proofs.Common.{Result, Ok, Err, IfOk, IfErr, ◌≡◌, ℕ, ◌+◌, ◌-◌, ◌<◌, true, false, List, [], ◌++◌, length, take, drop, refl, sym, ap, subst, ◌∙◌, arith, append_assoc, append-nil, length-drop, take-add}
+use Rattle.std.proofs.Common.{◌≡◌, ℕ, ◌+◌, ◌-◌, ◌<◌, true, false, List, [], ◌++◌, length, take, drop, refl, sym, ap, subst, ◌∙◌, arith, append_assoc, append-nil, length-drop, take-add}
 use Rattle.std.proofs.lemmas.Bool.{false≢true}
 use Rattle.std.proofs.lemmas.List.{take-append-drop, take_rest}
 use Rattle.resp_value.specs.Bounds.{Bounds}
@@ -112,15 +112,7 @@ answered_shrunk limits id store store' before middle after text k version out cl
       taking = λ open_now. let is_open = sym closing ∙ open_now in taken is_open a.rest (a.taking is_open);
     }
 
--- what follows of what holds of a success holds of it, and of a refusal likewise
-pub each_ok : {T E : Type 0} (r : Result T E) (P Q : T → Type 0) → ((x : T) → P x → Q x) → IfOk r P → IfOk r Q
-each_ok (Ok x) P Q h p = h x p
-each_ok (Err e) P Q h p = tt
-
-pub each_err : {T E : Type 0} (r : Result T E) (P Q : E → Type 0) → ((e : E) → P e → Q e) → IfErr r P → IfErr r Q
-each_err (Ok x) P Q h p = tt
-each_err (Err e) P Q h p = h e p
-
+-- nor does it cease to be cut short
 pub cut_short_shrunk : (limits : Bounds) (id : ℕ) (store store' : Store) (before middle after : Session) (front piece : List ℕ) (k : ℕ) →
     after.version ≡ middle.version → after.out.items ≡ middle.out.items → after.closing ≡ middle.closing →
     IsCutShort limits id store store' before middle front piece k → IsCutShort limits id store store' before after front piece k

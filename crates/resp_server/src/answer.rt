@@ -36,32 +36,6 @@ pub(crate) fn answer<S: BuildHasher>(
     ensures stored { FitsStore limits.now store.new }
     ensures reading { ReadsBy (server_rules limits.now) session.new.decoder }
 {
-    let answered = answer_turns(store, session, id, limits, alloc, piece);
-    session.shrink();
-    answered
-}
-
-/// Answers it, and keeps what it reads with.
-fn answer_turns<S: BuildHasher>(
-    store: &mut Store<S>,
-    session: &mut Session,
-    id: u64,
-    limits: &Limits,
-    alloc: Global,
-    piece: &[u8],
-) -> Result<u64, u64>
-    requires is_open { session.old.closing ≡ false }
-    requires stored { FitsStore limits.now store.old }
-    requires small { id < 2 ^ 63 }
-    requires reading { ReadsBy (server_rules limits.now) session.old.decoder }
-    requires taking { (front : List ℕ) × HasReadFront session.old.decoder front }
-    ensures answered { WhereFrontRead session.old.decoder (λ front. IfOk result (IsAnswered limits.now
-        id store.old store.new session.old session.new (front ++ piece.now))) }
-    ensures cut_short { WhereFrontRead session.old.decoder (λ front. IfErr result (IsCutShort limits.now
-        id store.old store.new session.old session.new front piece.now)) }
-    ensures stored { FitsStore limits.now store.new }
-    ensures reading { ReadsBy (server_rules limits.now) session.new.decoder }
-{
     laws::answers_go_on();
     laws::answers_end();
     // What was taken is viable, as the decoder says of it here.

@@ -238,6 +238,7 @@ impl<S: BuildHasher> Hub<S> {
             self.alloc,
             piece,
         );
+        session.shrink();
         let commands = match answered {
             Ok(commands) => commands,
             Err(commands) => return Err(HubError::OutOfMemory { commands }),

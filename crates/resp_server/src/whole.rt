@@ -53,36 +53,22 @@ fn asked_with(verb: Option<Verb>, count: usize, text: &[u8]) -> Option<Whole<'_>
     ensures { IfSome result (λ whole.
         AsksWith verb count text.now (lent_operation whole.command) whole.rest.now) }
 {
-    match verb {
-        Some(Verb::Ping) => ping(count, text),
-        Some(Verb::Get) => get(count, text),
-        Some(Verb::Set) => set(count, text),
+    match (verb, count) {
+        (Some(Verb::Ping), 1) => Some(Whole {
+            command: Lent::Ping,
+            rest: text,
+        }),
+        (Some(Verb::Get), 2) => get(text),
+        (Some(Verb::Set), 3) => set(text),
         _ => None,
     }
 }
 
-/// What PING asks.
-fn ping(count: usize, text: &[u8]) -> Option<Whole<'_>>
+/// What a GET of one key asks.
+fn get(text: &[u8]) -> Option<Whole<'_>>
     ensures { IfSome result (λ whole.
-        AsksWith (Some Ping) count text.now (lent_operation whole.command) whole.rest.now) }
+        AsksWith (Some Get) 2 text.now (lent_operation whole.command) whole.rest.now) }
 {
-    if count != 1 {
-        return None;
-    }
-    Some(Whole {
-        command: Lent::Ping,
-        rest: text,
-    })
-}
-
-/// What GET asks.
-fn get(count: usize, text: &[u8]) -> Option<Whole<'_>>
-    ensures { IfSome result (λ whole.
-        AsksWith (Some Get) count text.now (lent_operation whole.command) whole.rest.now) }
-{
-    if count != 2 {
-        return None;
-    }
     let (key, rest) = word(text)?;
     Some(Whole {
         command: Lent::Get(key),
@@ -90,14 +76,11 @@ fn get(count: usize, text: &[u8]) -> Option<Whole<'_>>
     })
 }
 
-/// What SET asks.
-fn set(count: usize, text: &[u8]) -> Option<Whole<'_>>
+/// What a SET of a key and a value asks.
+fn set(text: &[u8]) -> Option<Whole<'_>>
     ensures { IfSome result (λ whole.
-        AsksWith (Some Set) count text.now (lent_operation whole.command) whole.rest.now) }
+        AsksWith (Some Set) 3 text.now (lent_operation whole.command) whole.rest.now) }
 {
-    if count != 3 {
-        return None;
-    }
     let (key, text) = word(text)?;
     let (value, rest) = word(text)?;
     Some(Whole {

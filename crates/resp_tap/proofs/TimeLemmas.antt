@@ -62,7 +62,7 @@ asks_more (Hello version) Unpaired asks = inl refl
 waits_as : (s t : TapState) → t.answered ≡ s.answered → t.waiting ≡ s.waiting → WaitsOneMore s t
 waits_as s t answered waiting = (answered, inl (ap (λ w. length w.asks) waiting))
 
-pub request_waits : (s : TapState) (new : Tap) (front piece : List ℕ) (used : ℕ) (what : Seen) → SeesRequest s new front piece used what →
+request_waits : (s : TapState) (new : Tap) (front piece : List ℕ) (used : ℕ) (what : Seen) → SeesRequest s new front piece used what →
     WaitsOneMore s (tap_state new)
 request_waits s new front piece used seen.Nothing h = waits_as s (tap_state new) (ap (λ (z : TapState). z.answered) h.after) (ap (λ (z : TapState). z.waiting) h.after)
 request_waits s new front piece used seen.Passed h = waits_as s (tap_state new) (ap (λ (z : TapState). z.answered) h.after) (ap (λ (z : TapState). z.waiting) h.after)
@@ -78,8 +78,7 @@ request_waits s new front piece used (seen.Reply number x) h = absurd h
 request_waits s new front piece used (seen.Push items) h = absurd h
 request_waits s new front piece used (seen.Value x) h = absurd h
 
--- where the time of what came was kept only if a command came that waits, the times go on
-pub times_on : (old new : TimedTap) (steady : ℕ) → WaitsOneMore (tap_state old.tap) (tap_state new.tap) →
+times_on : (old new : TimedTap) (steady : ℕ) → WaitsOneMore (tap_state old.tap) (tap_state new.tap) →
     (length (tap_state new.tap).waiting.asks ≡ length (tap_state old.tap).waiting.asks → new.times.items ≡ old.times.items) →
     (length (tap_state new.tap).waiting.asks ≢ length (tap_state old.tap).waiting.asks → new.times.items ≡ old.times.items ++ steady ∷ []) →
     (times : List ℕ) → HasTimes old times → HasTimes new times ⊎ HasTimes new (times ++ steady ∷ [])
@@ -95,6 +94,15 @@ times_on old new steady (answered, inr more) without with' times h =
           ap (λ n. drop n (times ++ steady ∷ [])) (sym answered);
       each = length_push times steady ∙ omega (arith, h.each, answered, more);
     })
+
+-- where the time of what came was kept only if a command came that waits, the times go on
+pub times_go_on : (old new : TimedTap) (steady : ℕ) (front piece : List ℕ) (used : ℕ) (what : Seen) →
+    SeesRequest (tap_state old.tap) new.tap front piece used what →
+    (length (tap_state new.tap).waiting.asks ≡ length (tap_state old.tap).waiting.asks → new.times.items ≡ old.times.items) →
+    (length (tap_state new.tap).waiting.asks ≢ length (tap_state old.tap).waiting.asks → new.times.items ≡ old.times.items ++ steady ∷ []) →
+    (times : List ℕ) → HasTimes old times → HasTimes new times ⊎ HasTimes new (times ++ steady ∷ [])
+times_go_on old new steady front piece used what sees =
+    times_on old new steady (request_waits (tap_state old.tap) new.tap front piece used what sees)
 
 -- and where nothing more is read they stand
 pub times_refused : (old new : TimedTap) (steady : ℕ) → tap_state new.tap ≡ with_refusal (tap_state old.tap) → new.times.items ≡ old.times.items →

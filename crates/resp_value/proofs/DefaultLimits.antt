@@ -28,11 +28,7 @@ text_at_least (node k form ts) =
 -- each member takes three bytes at least
 pub texts_at_least : (ts : Trees) → 3 * count ts ≤ length (texts ts)
 texts_at_least none = omega arith
-texts_at_least (more t ts) =
-    let one = text_at_least t in
-    let others = texts_at_least ts in
-    let both : length (text t ++ texts ts) ≡ length (text t) + length (texts ts) = length-append (text t) (texts ts) in
-    omega arith
+texts_at_least (more t ts) = omega (arith, text_at_least t, texts_at_least ts, length-append (text t) (texts ts))
 
 -- an aggregate has no more items than members
 pub items_of_at_most : (k : Kind) (n : ℕ) → items_of k n ≤ n
@@ -59,11 +55,7 @@ mutual
 
   pub most_items_among_at_most : (ts : Trees) → most_items_among (values ts) ≤ length (texts ts)
   most_items_among_at_most none = omega arith
-  most_items_among_at_most (more t ts) =
-      let here = most_items_at_most t in
-      let among = most_items_among_at_most ts in
-      let both : length (text t ++ texts ts) ≡ length (text t) + length (texts ts) = length-append (text t) (texts ts) in
-      omega arith
+  most_items_among_at_most (more t ts) = omega (arith, most_items_at_most t, most_items_among_at_most ts, length-append (text t) (texts ts))
 
 -- the limit of items as great as the limit of total, and streamed forms allowed
 record AllowsAll (r : Rules) : Type 0 where

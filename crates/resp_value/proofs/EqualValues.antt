@@ -235,6 +235,12 @@ aggregate_told k xs ys h = through h (ap (λ zs. aggregate k (data_of_list zs)))
     inside : aggregate k (data_of_list xs) ≡ aggregate k (data_of_list ys) → data_of_list xs ≡ data_of_list ys
     inside e = cc
 
+-- two tests tell data of two parts
+parts_told : {A B : Type 0} {p q : Bool} (make : A → B → Datum) (a a' : A) (b b' : B) → Decides p (a ≡ a') → Decides q (b ≡ b') →
+    (make a b ≡ make a' b' → (a ≡ a') × (b ≡ b')) → Decides (p && q) (make a b ≡ make a' b')
+parts_told {A} {B} {p} {q} make a a' b b' first second parted =
+    through (both p q _ _ first second) (λ e. ap (λ z. make z b) e.0 ∙ ap (make a') e.1) parted
+
 -- Each variant's test tells its data.
 
 bool_told : (one other : Bool) → Decides (beq one other) (scalar (d.Bool one) ≡ scalar (d.Bool other))
@@ -261,26 +267,14 @@ bulk_error_told one other = through (bytes_decides one other) (ap (λ s. scalar 
 verbatim_told : (format format' s s' : List ℕ) → Decides (pointwise eqb format format' && pointwise eqb s s')
     (scalar (d.Verbatim format s) ≡ scalar (d.Verbatim format' s'))
 verbatim_told format format' s s' =
-    through (both (pointwise eqb format format') (pointwise eqb s s') _ _ (bytes_decides format format') (bytes_decides s s'))
-    (λ e. joined e.0 e.1) parted
-  where
-    joined : format ≡ format' → s ≡ s' → scalar (d.Verbatim format s) ≡ scalar (d.Verbatim format' s')
-    joined f g = cc
-
-    parted : scalar (d.Verbatim format s) ≡ scalar (d.Verbatim format' s') → (format ≡ format') × (s ≡ s')
-    parted e = let f : format ≡ format' = cc in let g : s ≡ s' = cc in (f, g)
+    parts_told (λ z t. scalar (d.Verbatim z t)) format format' s s' (bytes_decides format format') (bytes_decides s s')
+    (λ e. let f : format ≡ format' = cc in let g : s ≡ s' = cc in (f, g))
 
 big_told : (negative negative' : Bool) (digits digits' : List ℕ) → Decides (beq negative negative' && pointwise eqb digits digits')
     (scalar (d.Big negative digits) ≡ scalar (d.Big negative' digits'))
 big_told negative negative' digits digits' =
-    through (both (beq negative negative') (pointwise eqb digits digits') _ _ (booleans_Decides negative negative') (bytes_decides digits digits'))
-    (λ e. joined e.0 e.1) parted
-  where
-    joined : negative ≡ negative' → digits ≡ digits' → scalar (d.Big negative digits) ≡ scalar (d.Big negative' digits')
-    joined f g = cc
-
-    parted : scalar (d.Big negative digits) ≡ scalar (d.Big negative' digits') → (negative ≡ negative') × (digits ≡ digits')
-    parted e = let f : negative ≡ negative' = cc in let g : digits ≡ digits' = cc in (f, g)
+    parts_told (λ z t. scalar (d.Big z t)) negative negative' digits digits' (booleans_Decides negative negative') (bytes_decides digits digits')
+    (λ e. let f : negative ≡ negative' = cc in let g : digits ≡ digits' = cc in (f, g))
 
 array_told : (one other : Members) → HoldsTold (v.Array one) →
     Decides (equal_laws.family member-Members one other) (datum_of (v.Array one) ≡ datum_of (v.Array other))

@@ -24,28 +24,12 @@ mutual
   every_of_canonical L N w at_leaf at_node (d.more x xs) p = (every_canonical L N w at_leaf at_node x p.0, every_of_canonical L N w at_leaf at_node xs p.1)
 
 in_range_leaf : (w : Version) (s : Scalar) → IsScalarValue s → IsInRange (canonical_leaf w s)
-in_range_leaf w d.Null p = tt
-in_range_leaf w (d.Bool b) p = tt
 in_range_leaf w (d.Int i) p = subst (λ (j : ℤ). (neg_ℤ (pos (2 ^ 63)) ≤ℤ j) × (j <ℤ pos (2 ^ 63))) (sym (signed-decimal i)) p
-in_range_leaf w (d.Simple s) p = tt
-in_range_leaf w (d.Error s) p = tt
-in_range_leaf w (d.Double s) p = tt
-in_range_leaf w (d.Bulk s) p = tt
-in_range_leaf w (d.BulkError s) p = tt
-in_range_leaf w (d.Verbatim format s) p = tt
-in_range_leaf w (d.Big negative digits) p = tt
+in_range_leaf w _ p = tt
 
 counted_leaf : (w : Version) (s : Scalar) → IsScalarValue s → IsCountedLeaf (canonical_leaf w s)
 counted_leaf w d.Null p = tt
-counted_leaf w (d.Bool b) p = tt
-counted_leaf w (d.Int i) p = tt
-counted_leaf w (d.Simple s) p = tt
-counted_leaf w (d.Error s) p = tt
-counted_leaf w (d.Double s) p = tt
-counted_leaf w (d.Bulk s) p = tt
-counted_leaf w (d.BulkError s) p = tt
-counted_leaf w (d.Verbatim format s) p = tt
-counted_leaf w (d.Big negative digits) p = tt
+counted_leaf w _ p = tt
 
 -- a canonical tree's integers have 64 bits
 pub canonical_in_range : (w : Version) (x : Datum) → IsValue x → Every IsInRange IsAnyNode (canonical_tree w x)

@@ -1,5 +1,5 @@
 -- The rules by recursion are the rules at each node.
-use Rattle.std.proofs.Common.{◌≡◌, ◌↔◌, ℕ, suc, ◌+◌, ◌<◌, ◌≤◌, false, refl, ap, arith}
+use Rattle.std.proofs.Common.{◌≡◌, ◌↔◌, ℕ, suc, ◌+◌, ◌<◌, ◌≤◌, false, max, refl, ap, arith}
 use Rattle.resp_value.specs.Data.{Kind, Array, Set, Map, Attr, Push, items_of, depth, greatest_depth, longest, longest_among, most_items, most_items_among}
 use Rattle.resp_value.specs.Data as d
 use Rattle.resp_value.specs.Trees.{Tree, Trees, leaf, node, none, more, Leaf, Form, count}
@@ -122,6 +122,13 @@ mutual
     λ p. let here = (depth_from r level t h).1 p.0 in let each = (depth_from_each r level ts h).1 p.1 in omega arith,
   )
 
+-- the greater of two is within a limit where both are
+greater_within : (a b limit : ℕ) {P Q : Type 0} → ((a ≤ limit) ↔ P) → ((b ≤ limit) ↔ Q) → (max a b ≤ limit) ↔ (P × Q)
+greater_within a b limit first second = (
+  λ p. (first.0 (omega (arith, p)), second.0 (omega (arith, p))),
+  λ p. let here = first.1 p.0 in let there = second.1 p.1 in omega arith,
+)
+
 mutual
   -- no content is longer than the limit where no leaf's is
   pub length_from : (r : Rules) (level : ℕ) (t : Tree) → (longest (value t) ≤ r.limits.length) ↔
@@ -132,10 +139,8 @@ mutual
   pub length_from_each : (r : Rules) (level : ℕ) (ts : Trees) → (longest_among (values ts) ≤ r.limits.length) ↔
       HoldsFromEach (LeafMeets r WithinLength) (NodeMeets r WithinLength) level ts
   length_from_each r level none = (λ p. tt, λ p. omega arith)
-  length_from_each r level (more t ts) = (
-    λ p. ((length_from r level t).0 (omega arith), (length_from_each r level ts).0 (omega arith)),
-    λ p. let here = (length_from r level t).1 p.0 in let each = (length_from_each r level ts).1 p.1 in omega arith,
-  )
+  length_from_each r level (more t ts) =
+      greater_within (longest (value t)) (longest_among (values ts)) r.limits.length (length_from r level t) (length_from_each r level ts)
 
 -- a tree's value has as many members as the tree
 pub count-values : (ts : Trees) → d.count (values ts) ≡ count ts
@@ -157,10 +162,8 @@ mutual
   pub items_from_each : (r : Rules) (level : ℕ) (ts : Trees) → (most_items_among (values ts) ≤ r.limits.items) ↔
       HoldsFromEach (LeafMeets r WithinItems) (NodeMeets r WithinItems) level ts
   items_from_each r level none = (λ p. tt, λ p. omega arith)
-  items_from_each r level (more t ts) = (
-    λ p. ((items_from r level t).0 (omega arith), (items_from_each r level ts).0 (omega arith)),
-    λ p. let here = (items_from r level t).1 p.0 in let each = (items_from_each r level ts).1 p.1 in omega arith,
-  )
+  items_from_each r level (more t ts) =
+      greater_within (most_items (value t)) (most_items_among (values ts)) r.limits.items (items_from r level t) (items_from_each r level ts)
 
 mutual
   every_is_any : (t : Tree) → Every IsAnyLeaf IsAnyNode t

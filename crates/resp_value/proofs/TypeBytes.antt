@@ -5,8 +5,8 @@ use Rattle.std.proofs.lemmas.Int.{ints}
 use Rattle.resp_value.specs.Bounds.{AreBounds}
 use Rattle.resp_value.specs.Numbers.{Unsigned, IsDigits}
 use Rattle.resp_value.specs.Data.{Kind, Array, Set, Map, Attr, Push, members_of, items_of}
-use Rattle.resp_value.specs.Trees.{Tree, leaf, node, none, more, Leaf, line, numeral, null, truth, string, Simple, Error, Double, Int, Big, PlainNull, Bulk, BulkError, Verbatim, Counted, text}
-use Rattle.resp_value.specs.Rules.{Rules, Rule, Grammar, NoDouble, InVersion, PushAtTop, InRange, NotStreamed, WithinDepth, WithinLength, WithinItems, WithinTotal, rank, Meets, Every, HasVersion, IsAnyNode, IsNoDouble, IsLeafInTwo, IsNodeInTwo, IsCountedLeaf, IsCountedNode}
+use Rattle.resp_value.specs.Trees.{IsTree, Tree, leaf, node, none, more, Leaf, line, numeral, null, truth, string, Simple, Error, Double, Int, Big, PlainNull, Bulk, BulkError, Verbatim, Counted, text}
+use Rattle.resp_value.specs.Rules.{Rules, Rule, Grammar, NoDouble, InVersion, PushAtTop, InRange, NotStreamed, WithinDepth, WithinLength, WithinItems, WithinTotal, rank, Keeps, Meets, Every, HasVersion, IsAnyNode, IsNoDouble, IsLeafInTwo, IsNodeInTwo, IsCountedLeaf, IsCountedNode}
 use Rattle.resp_value.specs.Spellings.{IsViable, IsCause}
 use Rattle.resp_value.specs.Laws.{type_bytes, later_type_bytes, type_bytes_of, TheEmptyTextIsViable, TypeBytesAreViable, LaterTypeBytesWantVersionThree, ACommaBeginsADouble, NoOtherByteBeginsATree}
 use Rattle.resp_value.specs.declared.version.Version.{Version}
@@ -82,18 +82,16 @@ small_attribute : IsSmall bare_attribute
 small_attribute = small_node Attr (Counted zero_digit) (more (leaf (null PlainNull)) none) ((zero_is_digits, refl), (tt, tt)) (tt, tt) (tt, tt) (tt, tt)
     (omega arith) (omega arith) (omega arith) (omega arith)
 
+-- a tree's first byte is viable up to a rule where the tree keeps the rules up to it
+viable_by : (r : Rules) (rule : Rule) (t : Tree) → IsTree t → Keeps r rule t → IsViable r rule (first_byte t ∷ [])
+viable_by r rule t is_tree keeps =
+    let (rest, e) = begins t in
+    record { rest = rest; tree = t; spells = record { is_tree = is_tree; spelled = e }; keeps = keeps }
+
 -- the type byte of a small counted tree of the version is viable
 small_is_viable : (r : Rules) (t : Tree) → AreBounds r.limits → IsSmall t → Every IsCountedLeaf IsCountedNode t → HasVersion r.version t → (rule : Rule) →
     IsViable r rule (first_byte t ∷ [])
-small_is_viable r t b s c w rule =
-    let (rest, e) = begins t in
-    record {
-      rest = rest;
-      tree = t;
-      spells = record { is_tree = s.is_tree; spelled = e };
-      keeps =
-          λ earlier h. small_meets r t b s w (if_counted r t c) earlier;
-    }
+small_is_viable r t b s c w rule = viable_by r rule t s.is_tree (λ earlier h. small_meets r t b s w (if_counted r t c) earlier)
 
 -- each of these bytes is viable
 abbrev AllViable : Rules → Rule → List ℕ → Type 0
@@ -247,15 +245,7 @@ a_comma_begins_a_double r = (
 -- a byte that begins a small tree and no tree of version 2
 wants_three : (r : Rules) (t : Tree) → r.version ≡ Two → IsSmall t → IsLater (first_byte t) → IsCause r (first_byte t ∷ []) InVersion
 wants_three r t is_two s later = record {
-  viable_before = λ earlier h.
-      let (rest, e) = begins t in
-      record {
-        rest = rest;
-        tree = t;
-        spells = record { is_tree = s.is_tree; spelled = e };
-        keeps =
-            λ first g. before_version r first t (λ off. s.no_double) (omega arith);
-      };
+  viable_before = λ earlier h. viable_by r earlier t s.is_tree (λ first g. before_version r first t (λ off. s.no_double) (omega arith));
   not_viable = λ v.
       let in_version : HasVersion r.version v.tree = v.keeps InVersion (omega arith) in
       let in_two : Every IsLeafInTwo IsNodeInTwo v.tree = subst (λ w. HasVersion w v.tree) is_two in_version in

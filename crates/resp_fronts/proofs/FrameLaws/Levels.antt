@@ -27,26 +27,20 @@ abbrev pub levels_needed : List Level → ℕ
 levels_needed [] = 0
 levels_needed (v ∷ vs) = shape_needed v.kind (shape_after v.shape) + levels_needed vs
 
+-- the members that a count promises, as its digits say
+promised : (k : Kind) (ds es : List ℕ) (n : ℕ) → Counted ds ≡ Counted es → members_of k (number es) ≡ n → members_of k (number ds) ≡ n
+promised k ds es n e members = let d : ds ≡ es = cc in ap (λ z. members_of k (number z)) d ∙ members
+
 -- that is three bytes for each missing member, and the close
 pub shape_needed_is : (k : Kind) (s : Shape) (f : Form) (n : ℕ) → HasShape k s f n → shape_needed k s ≡ 3 * members_missing k f n + length (close f)
-shape_needed_is k (to_come m) (Counted ds) n h =
-    let e : Counted ds ≡ Counted h.0 = h.1 in
-    let d : ds ≡ h.0 = cc in
-    let c : members_of k (number h.0) ≡ n + m = h.3 in
-    let b : members_of k (number ds) ≡ members_of k (number h.0) = ap (λ z. members_of k (number z)) d in
-    omega arith
+shape_needed_is k (to_come m) (Counted ds) n h = omega (arith, promised k ds h.0 (n + m) h.1 h.3)
 shape_needed_is k (to_come m) Streamed n h = let e : Streamed ≡ Counted h.0 = h.1 in absurd (cc)
 shape_needed_is k (so_far m) (Counted ds) n h = let e : Counted ds ≡ Streamed = h.0 in absurd (cc)
 shape_needed_is Map (so_far m) Streamed n h = let e : m ≡ n = h.1 in omega (arith, ap (λ z. z % 2) e)
 shape_needed_is _ _ _ n h = refl
 
 shape_later : (k : Kind) (s : Shape) (f : Form) (n : ℕ) → HasShape k s f n → shape_needed k (shape_after s) ≡ 3 * members_missing k f (suc n) + length (close f)
-shape_later k (to_come m) (Counted ds) n h =
-    let e : Counted ds ≡ Counted h.0 = h.1 in
-    let d : ds ≡ h.0 = cc in
-    let c : members_of k (number h.0) ≡ n + m = h.3 in
-    let b : members_of k (number ds) ≡ members_of k (number h.0) = ap (λ z. members_of k (number z)) d in
-    omega arith
+shape_later k (to_come m) (Counted ds) n h = omega (arith, h.4, promised k ds h.0 (n + m) h.1 h.3)
 shape_later k (to_come m) Streamed n h = let e : Streamed ≡ Counted h.0 = h.1 in absurd (cc)
 shape_later k (so_far m) (Counted ds) n h = let e : Counted ds ≡ Streamed = h.0 in absurd (cc)
 shape_later k (so_far m) Streamed n h = let e : m + 1 ≡ suc n = omega (arith, h.1) in shape_needed_is k (so_far (m + 1)) Streamed (suc n) (refl, e)

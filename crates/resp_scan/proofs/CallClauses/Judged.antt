@@ -25,6 +25,7 @@ use Rattle.resp_scan.specs.Machine.Standing as f
 use Rattle.resp_scan.specs.Machine.Standing.{HasCountsOf, Leads, StandsAfter, StandsAfterAt}
 use Rattle.resp_scan.proofs.TokenMoves.BigNumbersLead.{big_digit_is_owed, text_end_is_owed}
 use Rattle.resp_scan.proofs.TokenMoves.ClosesLead.{close_is_owed}
+use Rattle.resp_scan.proofs.Soundness.Counted.{sound_counted}
 use Rattle.resp_scan.proofs.Soundness.Kept.{IsOut, is_advanced, sound_new}
 use Rattle.resp_scan.proofs.CallClauses.LeastNeeded.{followed_is_viable}
 use Rattle.resp_scan.proofs.TokenMoves.EachLeads.{IsLookedAt, each_leads}
@@ -158,15 +159,7 @@ after_whole r front es b w = grammar_cause r (front ++ b ∷ []) (λ rest c.
 stands_after : (r : Rules) (s t : Place) (front : List ℕ) (b : ℕ) (es : List e.Event) → Stands r s front → t.taken ≡ s.taken → rules_of t ≡ rules_of s →
     IsSoundBy 1 t → StandsAfter t (front ++ b ∷ []) es → Stands r (after_bytes 1 t) (front ++ b ∷ [])
 stands_after r s t front b es w same rules sound stands = record {
-  sound = record {
-    bounds = sound.bounds;
-    nested = sound.nested;
-    counted = sound.counted;
-    frames_need = sound.frames_need;
-    total =
-        omega (arith, sound.total);
-    token = sound.token;
-  };
+  sound = sound_counted t 1 sound;
   rules = rules ∙ w.rules;
   taken = omega (arith, w.taken, same, length-append front (b ∷ []));
   events = es;

@@ -11,7 +11,7 @@ use Rattle.resp_scan.specs.Machine.Scan.{Out, More, Gave, Part, Whole, Bad, and_
 use Rattle.resp_scan.specs.Kinds.{rules_of}
 use Rattle.resp_scan.specs.Machine.Sound.{IsTokenSound, token_needed, need_of_frames, IsClosed, IsSoundBy, IsSound}
 use Rattle.resp_scan.proofs.Soundness.Sound.{is_move}
-use Rattle.resp_scan.proofs.Soundness.SoundMoves.{is_outside, IsPlain, IsNext, IsInside, IsMove}
+use Rattle.resp_scan.proofs.Soundness.SoundMoves.{is_outside, stays, IsPlain, IsNext, IsInside, IsMove}
 use Rattle.resp_scan.proofs.Soundness.SoundFrames.{sound_ended, sound_closed}
 
 -- a digit stands after no byte
@@ -61,19 +61,7 @@ is_content i s [] h g = same i s h
 is_content i s (b ∷ bs) h g = content_next (next s (i + 1) b) i s bs h (is_move s.token s i b h (no_outside i 0 s.token g)) (λ t. is_content (i + 1) t bs)
 
 pub dead : (i : ℕ) (s : Place) (c : Cause) → IsSoundBy i s → IsNext i s (at s (Dead c))
-dead i s c h = record {
-  taken = refl;
-  rules = refl;
-  sound = record {
-    bounds = h.bounds;
-    nested = h.nested;
-    counted = h.counted;
-    frames_need =
-        h.frames_need;
-    total = omega (arith, h.total);
-    token = tt;
-  };
-}
+dead i s c h = (stays s s.token (Dead c) i i h (omega (arith, h.total)) tt).0
 
 scan_next : (v : Move) (i : ℕ) (s : Place) (bs : List ℕ) → IsSoundBy i s → IsMove (i + 1) s v →
     ((t : Place) → IsSoundBy (i + 1) t → is_outside t.token ≡ false → IsOut t (scan (i + 1) t bs)) →
@@ -116,19 +104,7 @@ moved : (s : Place) (t u : Token) → s.token ≡ t → IsSound s → token_need
 moved s t u e h q f =
     let w : s.taken + 0 + token_needed s.token s.bounds.depth s.frames + s.frames_need ≤ s.bounds.total = h.total in
     let r : token_needed s.token s.bounds.depth s.frames ≡ token_needed t s.bounds.depth s.frames = ap (λ v. token_needed v s.bounds.depth s.frames) e in
-    record {
-      taken = refl;
-      rules = refl;
-      sound = record {
-        bounds = h.bounds;
-        nested = h.nested;
-        counted = h.counted;
-        frames_need = h.frames_need;
-        total =
-            omega (arith, w, r, q);
-        token = f;
-      };
-    }
+    (stays s s.token u 0 0 h (omega (arith, w, r, q)) f).0
 
 is_in : (t : Token) (s : Place) (p : List ℕ) → s.token ≡ t → IsSound s → IsOut s (out_from_token t s p)
 is_in AtEnd s p e h = is_closes s s.frames e refl h

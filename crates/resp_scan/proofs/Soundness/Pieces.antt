@@ -91,8 +91,12 @@ few_by tag.Done n m s h = omega (arith, h.1)
 few_by w n m s h = few_at n (place_of m) h.0.sound
 
 -- the bytes taken are at most 2 ^ 40
-pub few_taken : (g : Taken) (m : Machine) (s : Place) (p : List ℕ) → IsSound s → out_of g m ≡ out_from s p → m.taken + g.used ≤ 2 ^ 40
-few_taken g m s p h e = few_by g.tag g.used m s (said_kept g m s p h e).0
+-- what was taken of some place is within the piece, and few
+pub taken_within : (g : Taken) (m : Machine) (p : List ℕ) → (s : Place) × IsSound s × (out_of g m ≡ out_from s p) → g.used ≤ length p
+taken_within g m p (s, h, e) = (used_within g m s p h e).0
+
+pub few_taken : (g : Taken) (m : Machine) (p : List ℕ) → (s : Place) × IsSound s × (out_of g m ≡ out_from s p) → m.taken + g.used ≤ 2 ^ 40
+few_taken g m p (s, h, e) = few_by g.tag g.used m s (said_kept g m s p h e).0
 
 part_by : (w : EventTag) (n l : ℕ) (m : Machine) → w ≡ tag.Part → Takes l (out_by w n m) → 0 < n
 part_by w n l m e k = (subst (λ v. Takes l (out_by v n m)) e k).0

@@ -164,6 +164,17 @@ aggregate_leads s kind h front es no_push begins no_stop c w no_two answer =
     (begins (λ level i. record { no_two = no_two; no_push = no_push level i; below = omega (arith, below, i); are = refl; told = refl })) no_stop c w none)
     answer
 
+-- a byte that begins a head
+head_begins : (s : Place) (h : Head) (byte needed : ℕ) →
+    ((level : ℕ) → level ≡ length s.frames → b.HeadBegun (rules_of s) h level (byte ∷ []) []) →
+    ((level : ℕ) (bytes : List ℕ) (shown : List Event) → b.HeadBegun (rules_of s) h level bytes shown → IsBegunBy (rules_of s) level bytes needed) →
+    Begins s (AtHead h) byte needed
+head_begins s h byte needed took row = record {
+  took = took;
+  row = λ level bytes shown i u. row level bytes shown u;
+  lies = λ fs x y inside. inside;
+}
+
 -- the byte of a push, at the top alone
 push_leads : (s : Place) (front : List ℕ) (es : List Event) → HasCountsOf (at s AtStart) 0 front → StandsAfter (at s AtStart) front es →
     (s.version ≡ version.Two → ⊥) → first_byte_refusal (rules_of s) (length s.frames) 62 ≡ push_refusal (rules_of s) (length s.frames) →
@@ -174,12 +185,8 @@ push_leads s front es c w no_two answer = case s.frames answer c w
         HasCountsOf (record s { token = AtStart; frames = fs }) 0 front → AwaitsMember (rules_of s) fs front es →
         Leads (record s { token = AtStart; frames = fs }) front es 62 (push_move (record s { token = AtStart; frames = fs }) fs)
     case [] answer c w = aggregate_leads (record s { frames = [] }) d.Push head.Push front es (λ level i. i)
-        (λ took. record {
-          took = took;
-          row = λ level bytes shown i u. aggregate_row (rules_of s) d.Push level bytes shown refl u;
-          lies =
-              λ fs x y inside. inside;
-        })
+        (λ took. head_begins (record s { frames = [] }) head.Push (kind_byte d.Push) 3 took
+        (λ level bytes shown u. aggregate_row (rules_of s) d.Push level bytes shown refl u))
         (λ z. omega arith) c w no_two answer
     case (f ∷ fs) answer c w = answer_named (record s { token = AtStart; frames = f ∷ fs }) front es 62 PushAtTop cause.NestedPush c (λ z. omega arith) w
         answer refl
@@ -333,24 +340,12 @@ start_rows_lead s front es c w =
     (and_rows (later AtBigSign 40 3 (big_begins s roomy) (λ z. omega arith) refl)
     (and_rows (later (AtHead head.BulkError) 33 5 (bulk_error_begins s) (λ z. omega arith) refl)
     (and_rows (later (AtHead head.Verbatim) 61 9 (verbatim_begins s roomy) (λ z. omega arith) refl)
-    (and_rows (later_aggregate d.Set head.Set (λ level i. tt) (λ took. record {
-      took = took;
-      row =
-          λ level bytes shown i u. aggregate_row (rules_of s) d.Set level bytes shown refl u;
-      lies = λ fs x y inside. inside;
-    }) (λ z. omega arith) refl)
-    (and_rows (later_aggregate d.Map head.Map (λ level i. tt) (λ took. record {
-      took = took;
-      row =
-          λ level bytes shown i u. aggregate_row (rules_of s) d.Map level bytes shown refl u;
-      lies = λ fs x y inside. inside;
-    }) (λ z. omega arith) refl)
-    (and_rows (later_aggregate d.Attr head.Attr (λ level i. tt) (λ took. record {
-      took = took;
-      row =
-          λ level bytes shown i u. attribute_row (rules_of s) level bytes shown u;
-      lies = λ fs x y inside. inside;
-    }) (λ z. omega arith) refl)
+    (and_rows (later_aggregate d.Set head.Set (λ level i. tt) (λ took. head_begins s head.Set (kind_byte d.Set) 3 took
+    (λ level bytes shown u. aggregate_row (rules_of s) d.Set level bytes shown refl u)) (λ z. omega arith) refl)
+    (and_rows (later_aggregate d.Map head.Map (λ level i. tt) (λ took. head_begins s head.Map (kind_byte d.Map) 3 took
+    (λ level bytes shown u. aggregate_row (rules_of s) d.Map level bytes shown refl u)) (λ z. omega arith) refl)
+    (and_rows (later_aggregate d.Attr head.Attr (λ level i. tt) (λ took. head_begins s head.Attr (kind_byte d.Attr) 6 took
+    (λ level bytes shown u. attribute_row (rules_of s) level bytes shown u)) (λ z. omega arith) refl)
     (and_rows (three_leads s 62 front es (push_refusal (rules_of s) (length s.frames)) (push_move (at s AtStart) s.frames) (λ z. omega arith) refl c w
     (push_leads s front es c w)) tt)))))))))))))))
   where

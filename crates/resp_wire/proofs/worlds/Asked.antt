@@ -1,23 +1,47 @@
 -- Requests that a client of a world queues or refuses.
-use Rattle.std.proofs.Common.{◌≡◌, ℕ, suc, ◌+◌, ◌<◌, ◌^◌, false, Some, Option, List, [], ◌∷◌, ◌++◌, length, map, drop, slice_get, sym, ap, subst, ◌∙◌, arith, length-append}
+use Rattle.std.proofs.Common.{◌≡◌, ℕ, suc, ◌+◌, false, Some, Option, List, [], ◌∷◌, ◌++◌, length, map, drop, slice_get, sym, ap, subst, ◌∙◌, arith, length-append}
 use Rattle.std.proofs.lemmas.List.{drop-append-le, map-append}
 use Rattle.resp_value.specs.Bounds.{Bounds}
-use Rattle.resp_value.specs.declared.cause.Cause.{Cause}
-use Rattle.resp_value.specs.declared.cause.Cause.TheVariants as cause
 use Rattle.resp_value.specs.declared.version.Version.TheVariants.{Two}
 use Rattle.resp_session.specs.Connections.{Connection, sent_text, shown_messages, values_of, with_request}
 use Rattle.resp_session.specs.Reading.{ReadsAs}
 use Rattle.resp_session.specs.ReadingLaws.{ReadingsStay}
-use Rattle.resp_session.specs.Requests.{FitsRequest, RefusesRequest, Request, is_unsent_request, request_text, version_asked}
-use Rattle.resp_session.specs.Serving.{ArrivalsStay, WhatHasComeWasSent}
+use Rattle.resp_session.specs.Requests.{Request, request_text, version_asked}
+use Rattle.resp_session.specs.Serving.{ArrivalsStay, IsUnfinished, WhatHasComeWasSent}
 use Rattle.resp_session.specs.Worlds.{World, connection_at}
 use Rattle.resp_server.specs.Hubs.{HubState, Seat, seat_at}
 use Rattle.resp_client.specs.Clients.{ClientState, queued, state_of}
+use Rattle.resp_client.specs.Hearing.{KeepsReading}
 use Rattle.resp_wire.specs.Ends.{Queues, StaysAs}
-use Rattle.resp_wire.specs.Worlds.{ShowsClient, ShowsEach}
+use Rattle.resp_wire.specs.Worlds.{ShowsClient, ShowsEach, Stands}
 use Rattle.resp_wire.specs.declared.end.End.{End}
 use Rattle.resp_wire.proofs.worlds.Places.{never_gone}
 use Rattle.resp_wire.proofs.worlds.Reading.{one_more_request}
+
+-- where nothing more is read and sent, a client stands with its requests as it stood
+stands_on : (limits : Bounds) (seat : Option Seat) (e e' : End) (c : Connection) (requests : List Request) (s : Stands limits seat e c) →
+    IsUnfinished limits (record c { requests = requests }) s.front → (state_of e'.client).limits ≡ (state_of e.client).limits →
+    (state_of e'.client).out ≡ drop c.arrived (sent_text (record c { requests = requests })) → queued (state_of e'.client) ≡ length requests →
+    ReadsAs limits (record { version = Two; asks = map version_asked requests }) (values_of (shown_messages c)) s.text (state_of e'.client).waiting →
+    KeepsReading e.client e'.client → Stands limits seat e' (record c { requests = requests })
+stands_on limits seat e e' c requests s unfinished same_limits asks counted reads reading = record {
+  session = s.session;
+  there = s.there;
+  version = s.version;
+  is_open = s.is_open;
+  answers = s.answers;
+  front = s.front;
+  taking = s.taking;
+  unfinished = unfinished;
+  same_limits = same_limits ∙ s.same_limits;
+  asks = asks;
+  same_count = counted;
+  text = s.text;
+  rest = s.rest;
+  reads = reads;
+  whole = s.whole;
+  reading = reading.same_front s.rest s.reading;
+}
 
 -- a client that queues a request shows what its connection shows with it
 pub with_one_more : ReadingsStay → WhatHasComeWasSent → ArrivalsStay → (limits : Bounds) (hub : HubState) (ends : List End) (order : List ℕ) (w : World)
@@ -45,26 +69,13 @@ with_one_more readings sent arrivals limits hub ends order w at i e e' c request
       pushes = q.same_heard.pushes ∙ old.pushes;
       dropped = q.same_heard.dropped ∙ old.dropped;
       gone = never_gone c _ is_open;
-      stands = λ _. record {
-        session = s.session;
-        there = s.there;
-        version = s.version;
-        is_open = s.is_open;
-        answers = s.answers;
-        front = s.front;
-        taking = s.taking;
-        unfinished = arrivals limits at.n at.events w at.run (suc i) c its request s.front s.unfinished;
-        same_limits = ap (λ (z : ClientState). z.limits) q.queued ∙ s.same_limits;
-        asks = ap (λ (z : ClientState). z.out) q.queued ∙ ap (λ l. l ++ request_text request) s.asks ∙
-            sym (drop-append-le c.arrived (sent_text c) (request_text request) within) ∙ sym (ap (drop c.arrived) (one_more_request request c));
-        same_count = ap queued q.queued ∙ counts;
-        text = s.text;
-        rest = s.rest;
-        reads = subst (λ (z : ClientState). ReadsAs limits (record { version = Two; asks = map version_asked (c.requests ++ request ∷ []) })
-            (values_of (shown_messages c)) s.text z.waiting) (sym q.queued) asked;
-        whole = s.whole;
-        reading = q.same_reading.same_front s.rest s.reading;
-      };
+      stands = λ _. stands_on limits (seat_at hub (suc i)) e e' c (c.requests ++ request ∷ []) s
+          (arrivals limits at.n at.events w at.run (suc i) c its request s.front s.unfinished) (ap (λ (z : ClientState). z.limits) q.queued)
+          (ap (λ (z : ClientState). z.out) q.queued ∙ ap (λ l. l ++ request_text request) s.asks ∙
+          sym (drop-append-le c.arrived (sent_text c) (request_text request) within) ∙ sym (ap (drop c.arrived) (one_more_request request c)))
+          (ap queued q.queued ∙ counts)
+          (subst (λ (z : ClientState). ReadsAs limits (record { version = Two; asks = map version_asked (c.requests ++ request ∷ []) })
+          (values_of (shown_messages c)) s.text z.waiting) (sym q.queued) asked) q.same_reading;
     }
 
 -- a client that refuses one shows what it showed
@@ -76,23 +87,10 @@ as_before limits seat e e' c old same = record {
   pushes = same.same_heard.pushes ∙ old.pushes;
   dropped = same.same_heard.dropped ∙ old.dropped;
   gone = old.gone;
-  stands = λ is_open. let s = old.stands is_open in record {
-    session = s.session;
-    there = s.there;
-    version = s.version;
-    is_open = s.is_open;
-    answers = s.answers;
-    front = s.front;
-    taking = s.taking;
-    unfinished = s.unfinished;
-    same_limits = ap (λ (z : ClientState). z.limits) same.same_state ∙ s.same_limits;
-    asks = ap (λ (z : ClientState). z.out) same.same_state ∙ s.asks;
-    same_count = ap queued same.same_state ∙ s.same_count;
-    text = s.text;
-    rest = s.rest;
-    reads = subst (λ (z : ClientState). ReadsAs limits (record { version = Two; asks = map version_asked c.requests }) (values_of (shown_messages c)) s.text
-        z.waiting) (sym same.same_state) s.reads;
-    whole = s.whole;
-    reading = same.same_reading.same_front s.rest s.reading;
-  };
+  stands = λ is_open.
+      let s = old.stands is_open in
+      stands_on limits seat e e' c c.requests s s.unfinished (ap (λ (z : ClientState). z.limits) same.same_state)
+      (ap (λ (z : ClientState). z.out) same.same_state ∙ s.asks) (ap queued same.same_state ∙ s.same_count)
+      (subst (λ (z : ClientState). ReadsAs limits (record { version = Two; asks = map version_asked c.requests }) (values_of (shown_messages c)) s.text
+      z.waiting) (sym same.same_state) s.reads) same.same_reading;
 }

@@ -133,22 +133,42 @@ request_taken {L} is_honest readings sent arrivals change limits hub ends links 
 pub numbered : (number : ℕ) → 1 ≤ number → suc (number - 1) ≡ number
 numbered number least = omega (arith, least)
 
+-- what an event of this request asks of each connection
+abbrev Asks : (ℕ → WorldEvent) → Request → Type 0
+Asks event request = ((limits : Bounds) (c : Connection) (n : ℕ) (cause : Cause) →
+    (RefusesEvent limits (Some c) (event n) cause → RefusesRequest limits (length c.requests) request cause) ×
+    (RefusesRequest limits (length c.requests) request cause → RefusesEvent limits (Some c) (event n) cause)) ×
+    ((w : World) (n : ℕ) → (connection_of w (event n) ≡ connection_at w.connections n) ×
+    (after_event w (event n) ≡ world_with (with_request request) w n))
+
+-- what came of a request of a client that was not dropped
+asks : {L : Type 0} (is_honest : L → Type 0) → ReadingsStay → WhatHasComeWasSent → ArrivalsStay → AChangeIsOfOneConnection → (hub : HubState)
+    (ends : List End) (links : List L) (order : List ℕ) (stopped : Option Cause) (number : ℕ) (event : ℕ → WorldEvent) (request : Request)
+    (e e' : End) (outcome : Outcome) → Asks event request → (outcome ≡ Done → (n : ℕ) → IsPossible (event n)) →
+    (1 ≤ number) × (number ≤ length ends) → IsOpenEnd ends (number - 1) → e ≡ get_or ends (number - 1) e → TakesRequest e e' request outcome →
+    Happens is_honest (world_of hub ends links order stopped)
+    (world_of hub (set ends (number - 1) e') links order stopped) (event number) outcome
+asks {L} is_honest readings sent arrivals change hub ends links order stopped number event request e e' outcome of_request possible there open_end e_is takes
+    limits w shows =
+    let i = number - 1 in
+    let (least, most) = there in
+    let a = found_at limits hub ends order w i e shows.each (omega (arith, least, most)) e_is open_end in
+    let refusals = of_request.0 limits a.connection (suc i) in
+    let changes = of_request.1 w (suc i) in
+    subst (λ n. (next : World) × Step limits w (event n) (outcome_of outcome) next ×
+    Shows is_honest (world_of hub (set ends i e') links order stopped) limits next) (numbered number least)
+    (request_taken is_honest readings sent arrivals change limits hub ends links order stopped w i e e' (event (suc i)) request outcome shows a takes
+    (λ done. possible done (suc i)) (λ cause. (refusals cause).0) (λ cause. (refusals cause).1) (changes.0 ∙ a.its) changes.1)
+
 pub sends : {L : Type 0} (is_honest : L → Type 0) → ReadingsStay → WhatHasComeWasSent → ArrivalsStay → AChangeIsOfOneConnection → (hub : HubState)
     (ends : List End) (links : List L) (order : List ℕ) (stopped : Option Cause) (number : ℕ) (words : List (List ℕ)) (e e' : End)
     (outcome : Outcome) → (1 ≤ number) × (number ≤ length ends) → IsOpenEnd ends (number - 1) → e ≡ get_or ends (number - 1) e →
     TakesRequest e e' (Command words) outcome → (outcome ≡ Done → HasBytes (Command words)) →
     Happens is_honest (world_of hub ends links order stopped)
     (world_of hub (set ends (number - 1) e') links order stopped) (Send number words) outcome
-sends {L} is_honest readings sent arrivals change hub ends links order stopped number words e e' outcome there open_end e_is takes bytes limits w shows =
-    let i = number - 1 in
-    let (least, most) = there in
-    let within : number - 1 < length ends = omega (arith, least, most) in
-    let a = found_at limits hub ends order w i e shows.each within e_is open_end in
-    subst (λ n. (next : World) × Step limits w (Send n words) (outcome_of outcome) next ×
-    Shows is_honest (world_of hub (set ends i e') links order stopped) limits next) (numbered number least)
-    (request_taken is_honest readings sent arrivals change limits hub ends links order stopped w i e e' (Send (suc i) words) (Command words) outcome shows a
-    takes
-    bytes (λ cause r. r) (λ cause r. r) a.its refl)
+sends {L} is_honest readings sent arrivals change hub ends links order stopped number words e e' outcome there open_end e_is takes bytes =
+    asks is_honest readings sent arrivals change hub ends links order stopped number (λ n. Send n words) (Command words) e e' outcome
+    ((λ limits c n cause. (λ r. r, λ r. r)), (λ v n. (refl, refl))) (λ done n. bytes done) there open_end e_is takes
 
 pub greets : {L : Type 0} (is_honest : L → Type 0) → ReadingsStay → WhatHasComeWasSent → ArrivalsStay → AChangeIsOfOneConnection → (hub : HubState)
     (ends : List End) (links : List L) (order : List ℕ) (stopped : Option Cause) (number : ℕ) (asked : Option Version) (e e' : End)
@@ -156,13 +176,6 @@ pub greets : {L : Type 0} (is_honest : L → Type 0) → ReadingsStay → WhatHa
     TakesRequest e e' (Hello asked) outcome →
     Happens is_honest (world_of hub ends links order stopped)
     (world_of hub (set ends (number - 1) e') links order stopped) (Greet number asked) outcome
-greets {L} is_honest readings sent arrivals change hub ends links order stopped number asked e e' outcome there open_end e_is takes limits w shows =
-    let i = number - 1 in
-    let (least, most) = there in
-    let within : number - 1 < length ends = omega (arith, least, most) in
-    let a = found_at limits hub ends order w i e shows.each within e_is open_end in
-    subst (λ n. (next : World) × Step limits w (Greet n asked) (outcome_of outcome) next ×
-    Shows is_honest (world_of hub (set ends i e') links order stopped) limits next) (numbered number least)
-    (request_taken is_honest readings sent arrivals change limits hub ends links order stopped w i e e' (Greet (suc i) asked) (Hello asked) outcome shows a
-    takes
-    (λ _. tt) (λ cause r. r) (λ cause r. r) a.its refl)
+greets {L} is_honest readings sent arrivals change hub ends links order stopped number asked e e' outcome =
+    asks is_honest readings sent arrivals change hub ends links order stopped number (λ n. Greet n asked) (Hello asked) e e' outcome
+    ((λ limits c n cause. (λ r. r, λ r. r)), (λ v n. (refl, refl))) (λ done n. tt)

@@ -1,20 +1,12 @@
 use Rattle.std.proofs.Common.{◌≡◌, ◌+◌, ◌++◌, ◌∷◌, [], ◌∙◌, Ok, Err, refl, sym, subst, arith, append_assoc}
-use Rattle.resp_tool.proofs.WrittenLemmas.{Appends-none}
 use Rattle.resp_script.specs.Plays.{PlaysAll, flush_events}
 use Rattle.resp_script.proofs.Flushed.{flush_more, flush_splits, stops_within, to_client, to_server}
-use Rattle.resp_script.proofs.Played.{all_then}
+use Rattle.resp_script.proofs.Played.{all_then, plays_none}
 use Rattle.resp_script.proofs.play.flush.Goals as goal
 
 pub loop-index-init : goal.loop-index-init
-loop-index-init g c = record {
-  plays = λ limits w shows. record {
-    played = record { text = []; last = w; plays = (refl, refl) };
-    shows = shows;
-    appended = Appends-none (g.W.Sink.written c.args.writer.now);
-  };
-  none_failed = refl;
-  going = λ going. going;
-}
+loop-index-init g c =
+    record { plays = λ limits w shows. plays_none shows (g.W.Sink.written c.args.writer.now); none_failed = refl; going = λ going. going }
 
 pub returns-in-Err-clause-plays : goal.returns-in-Err-clause-plays
 returns-in-Err-clause-plays g c = λ limits w shows.

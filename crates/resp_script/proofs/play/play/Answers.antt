@@ -1,22 +1,14 @@
-use Rattle.std.proofs.Common.{◌≡◌, ◌+◌, ◌<◌, ◌≤◌, ◌++◌, ◌∙◌, Ok, Err, [], refl, length, take, drop, get_or, sym, ap, subst, arith}
+use Rattle.std.proofs.Common.{◌+◌, ◌≤◌, ◌++◌, ◌∙◌, Ok, Err, refl, length, take, drop, sym, ap, subst, arith}
 use Rattle.std.proofs.lemmas.List.{take_all}
-use Rattle.resp_tool.proofs.WrittenLemmas.{Appends-none}
 use Rattle.resp_script.specs.Plays.{PlaysAll, step_events, steps_events}
 use Rattle.resp_script.proofs.Flushed.{steps_more, steps_split, stops_within}
-use Rattle.resp_script.proofs.Played.{all_then, counts_then, stops_script}
+use Rattle.resp_script.proofs.Played.{all_then, counts_then, plays_none, stops_script}
 use Rattle.resp_script.proofs.Playing.{at_step_of, fails_to_write, no_stop_at_step, no_stop_kept}
 use Rattle.resp_script.proofs.play.play.Goals as goal
 
 pub loop-line-init : goal.loop-line-init
-loop-line-init g c = record {
-  plays = λ limits w shows. record {
-    played = record { text = []; last = w; plays = (refl, refl) };
-    shows = shows;
-    appended = Appends-none (g.W.Sink.written c.args.writer.now);
-  };
-  none_failed = refl;
-  going = λ going. going;
-}
+loop-line-init g c =
+    record { plays = λ limits w shows. plays_none shows (g.W.Sink.written c.args.writer.now); none_failed = refl; going = λ going. going }
 
 pub returns-in-Err-clause-plays : goal.returns-in-Err-clause-plays
 returns-in-Err-clause-plays g c = λ limits w shows.

@@ -4,8 +4,8 @@ use Rattle.resp_server.proofs.whole.set.Goals as goal
 pub returns : goal.returns
 returns c = record {
   arguments = c.in_ok-key.key.now ∷ c.in_ok-value.value.now ∷ [];
-  as_many = omega (arith, c.if-count-ne3.false);
-  few = omega (arith, c.if-count-ne3.false);
+  as_many = omega arith;
+  few = omega arith;
   words = (
     c.in_ok-key.text.now,
     c.in_ok-key.ensures.begins,

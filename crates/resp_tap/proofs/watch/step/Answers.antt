@@ -1,26 +1,35 @@
-use Rattle.std.proofs.Common.{ap, sym, subst}
-use Rattle.resp_tap.specs.Watches.{SeesFirst}
+use Rattle.std.proofs.Common.{◌≡◌, ℕ, List, Option, length, true, false, ap, sym, subst}
+use Rattle.resp_tap.specs.Taps.{tap_state}
+use Rattle.resp_tap.specs.Times.{KeepsTimes}
+use Rattle.resp_tap.specs.Watches.{SeesFirst, SeesSent, WhereSent}
+use Rattle.resp_tap.specs.declared.moment.Moment.{Moment}
+use Rattle.resp_tap.specs.declared.seen.Seen.TheVariants as seen
 use Rattle.resp_tap.specs.declared.seen.Step.{Step}
+use Rattle.resp_tap.specs.declared.timed.TimedTap.{TimedTap}
+use Rattle.resp_tap.specs.declared.watch.Side.{Side}
+use Rattle.resp_tap.specs.declared.watch.Side.TheVariants.{Client, Server}
 use Rattle.resp_tap.proofs.watch.step.Goals as goal
+
+-- what a side's own call says of a piece is what is said of either side
+sees_first : (own side : Side) (now : Option Moment) (old new : TimedTap) (piece : List ℕ) (step : Step) → side ≡ own →
+    ((tap_state old.tap).is_read ≡ true → WhereSent own old.tap (λ front.
+    SeesSent own (tap_state old.tap) new.tap front piece step.used step.seen × KeepsTimes now old new)) →
+    ((tap_state old.tap).is_read ≡ false → (new ≡ old) × (step ≡ record { used = length piece; seen = seen.Nothing })) →
+    SeesFirst side now old new piece step.used step.seen
+sees_first own side now old new piece step is read unread =
+    subst (λ s. SeesFirst s now old new piece step.used step.seen) (sym is) (record {
+      read = read;
+      unread = λ e. let same = unread e in (same.0, ap (λ (z : Step). z.used) same.1, ap (λ (z : Step). z.seen) same.1);
+    })
 
 pub returns-in-Client-clause-sees : goal.returns-in-Client-clause-sees
 returns-in-Client-clause-sees c =
     let done = c.from_client.ensures in
-    subst (λ side. SeesFirst side c.args.now c.args.tap.now c.from_client.new.self c.args.piece.now c.from_client.result.used c.from_client.result.seen)
-    (sym c.in-Client.is) (record {
-      read = λ read. λ front taken. (done.seen read front taken, done.times read front taken);
-      unread = λ unread.
-          let same = done.unread unread in
-          (same.0, ap (λ (z : Step). z.used) same.1, ap (λ (z : Step). z.seen) same.1);
-    })
+    sees_first Client c.args.side c.args.now c.args.tap.now c.from_client.new.self c.args.piece.now c.from_client.result c.in-Client.is
+    (λ read. λ front taken. (done.seen read front taken, done.times read front taken)) done.unread
 
 pub returns-in-Server-clause-sees : goal.returns-in-Server-clause-sees
 returns-in-Server-clause-sees c =
     let done = c.from_server.ensures in
-    subst (λ side. SeesFirst side c.args.now c.args.tap.now c.from_server.new.self c.args.piece.now c.from_server.result.used c.from_server.result.seen)
-    (sym c.in-Server.is) (record {
-      read = λ read. λ front taken. (done.seen read front taken, done.times read front taken);
-      unread = λ unread.
-          let same = done.unread unread in
-          (same.0, ap (λ (z : Step). z.used) same.1, ap (λ (z : Step). z.seen) same.1);
-    })
+    sees_first Server c.args.side c.args.now c.args.tap.now c.from_server.new.self c.args.piece.now c.from_server.result c.in-Server.is
+    (λ read. λ front taken. (done.seen read front taken, done.times read front taken)) done.unread

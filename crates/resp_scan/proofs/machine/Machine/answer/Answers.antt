@@ -7,14 +7,14 @@ use Rattle.resp_scan.specs.Machine.Scan.{Gave, Part, Bad}
 use Rattle.resp_scan.specs.Machine.Tokens.{Int}
 use Rattle.resp_scan.specs.Machine.StepOutcomes.{after_step, after_bytes, out_of_event}
 use Rattle.resp_scan.specs.Machine.Fields.{place_of}
-use Rattle.resp_scan.proofs.Soundness.Pieces.{used_within, few_taken, part_some, chunk_part_some, digit_owed, done_none, failed_is}
+use Rattle.resp_scan.proofs.Soundness.Pieces.{chunk_part_some, digit_owed, done_none, failed_is, few_taken, part_some, taken_within, used_within}
 use Rattle.resp_scan.proofs.Soundness.Counted.{place_counted}
 use Rattle.resp_scan.proofs.CallClauses.Told.{told, part_heard, digit_heard, done_heard, run_length, run_is, digit_is}
 use Rattle.resp_scan.proofs.machine.Machine.answer.Goals as goal
 use Rattle.resp_scan.proofs.machine.Machine.answer.Goals.{in-More, in-Null, in-Bool, in-Int, in-Simple, in-Error, in-Double, in-Bulk, in-BulkError, in-Verbatim, in-Big, in-Part, in-ChunkPart, in-Digit, in-TextEnd, in-Open, in-OpenStreamed, in-Close, in-Done}
 
 pub overflow_add-self : goal.overflow_add-self
-overflow_add-self c = omega (arith, few_taken c.args.got c.args.self.now c.requires.0 c.args.piece.now c.requires.1 c.requires.2)
+overflow_add-self c = omega (arith, few_taken c.args.got c.args.self.now c.args.piece.now c.requires)
 
 pub returns-in-Failed-clause-heard : goal.returns-in-Failed-clause-heard
 returns-in-Failed-clause-heard c s h e =
@@ -27,7 +27,7 @@ returns-in-Failed-clause-heard c s h e =
     ap after_step (sym f.0)
 
 pub slice_bounds-event-end : goal.slice_bounds-event-end
-slice_bounds-event-end c = sym (length-take-le _ _ (used_within c.args.got c.args.self.now c.requires.0 c.args.piece.now c.requires.1 c.requires.2).0)
+slice_bounds-event-end c = sym (length-take-le _ _ (taken_within c.args.got c.args.self.now c.args.piece.now c.requires))
 
 pub run-requires-clause-start : goal.run-requires-clause-start
 run-requires-clause-start c = omega (
@@ -37,13 +37,13 @@ run-requires-clause-start c = omega (
 )
 
 pub run-requires-clause-within : goal.run-requires-clause-within
-run-requires-clause-within c = (used_within c.args.got c.args.self.now c.requires.0 c.args.piece.now c.requires.1 c.requires.2).0
+run-requires-clause-within c = taken_within c.args.got c.args.self.now c.args.piece.now c.requires
 
 pub digit_text-requires : goal.digit_text-requires
 digit_text-requires c = (digit_owed c.args.got c.args.self.now c.requires.0 c.args.piece.now c.requires.1 c.requires.2 c.in-Digit.is).1
 
 pub returns-clause-within : goal.returns-clause-within
-returns-clause-within c = (used_within c.args.got c.args.self.now c.requires.0 c.args.piece.now c.requires.1 c.requires.2).0
+returns-clause-within c = taken_within c.args.got c.args.self.now c.args.piece.now c.requires
 
 pub returns-clause-heard : goal.returns-clause-heard
 returns-clause-heard c s h e =

@@ -12,17 +12,11 @@ innermost_is (g ∷ fs) f e = let h : g ≡ f = cc in ap (λ x. x ∷ fs) h
 
 pub returns-in-Some-clause-cause : goal.returns-in-Some-clause-cause
 returns-in-Some-clause-cause c =
-    let fs = (place_of c.args.self.now).frames in
-    let f = c.in-Some.frame.now in
-    let h : innermost fs ≡ Some f = grind (arith, common_steps) in
-    c.begin_in.ensures.cause (drop 1 fs) (innermost_is fs f h)
+    c.begin_in.ensures.cause _ (innermost_is (place_of c.args.self.now).frames c.in-Some.frame.now (grind (arith, common_steps)))
 
 pub returns-in-Some-clause-begun : goal.returns-in-Some-clause-begun
 returns-in-Some-clause-begun c =
-    let fs = (place_of c.args.self.now).frames in
-    let f = c.in-Some.frame.now in
-    let h : innermost fs ≡ Some f = grind (arith, common_steps) in
-    c.begin_in.ensures.begun (drop 1 fs) (innermost_is fs f h)
+    c.begin_in.ensures.begun _ (innermost_is (place_of c.args.self.now).frames c.in-Some.frame.now (grind (arith, common_steps)))
 
 pub begin_in-requires : goal.begin_in-requires
 begin_in-requires c =

@@ -9,11 +9,11 @@ use Rattle.resp_scan.specs.Machine.Fields.{place_of}
 use Rattle.resp_scan.specs.Machine.StepOutcomes.{after_bytes}
 use Rattle.resp_scan.proofs.CallClauses.SlotSteps.{event_fills, failed_fills, more_fills}
 use Rattle.resp_scan.proofs.CallClauses.Told.{digit_heard, digit_is, done_heard, part_heard, run_is, run_length}
-use Rattle.resp_scan.proofs.Soundness.Pieces.{chunk_part_some, digit_owed, done_none, few_taken, part_some, used_within}
+use Rattle.resp_scan.proofs.Soundness.Pieces.{chunk_part_some, digit_owed, done_none, few_taken, part_some, taken_within, used_within}
 use Rattle.resp_scan.proofs.machine.Machine.show_event.Goals as goal
 
 pub overflow_add-self : goal.overflow_add-self
-overflow_add-self g c = omega (arith, few_taken c.args.taken c.args.self.now c.requires.0 c.args.piece.now c.requires.1 c.requires.2)
+overflow_add-self g c = omega (arith, few_taken c.args.taken c.args.self.now c.args.piece.now c.requires)
 
 pub run-part-requires-clause-start : goal.run-part-requires-clause-start
 run-part-requires-clause-start g c = omega (
@@ -22,7 +22,7 @@ run-part-requires-clause-start g c = omega (
 )
 
 pub run-part-requires-clause-within : goal.run-part-requires-clause-within
-run-part-requires-clause-within g c = (used_within c.args.taken c.args.self.now c.requires.0 c.args.piece.now c.requires.1 c.requires.2).0
+run-part-requires-clause-within g c = taken_within c.args.taken c.args.self.now c.args.piece.now c.requires
 
 pub digit_text-requires : goal.digit_text-requires
 digit_text-requires g c = (digit_owed c.args.taken c.args.self.now c.requires.0 c.args.piece.now c.requires.1 c.requires.2 c.in-Digit.is).1
@@ -119,7 +119,7 @@ returns-in-Close-clause-fills g c s sound out =
 
 pub slice_bounds-event-end : goal.slice_bounds-event-end
 slice_bounds-event-end g c =
-    sym (length-take-le _ _ (used_within c.args.taken c.args.self.now c.requires.0 c.args.piece.now c.requires.1 c.requires.2).0)
+    sym (length-take-le _ _ (taken_within c.args.taken c.args.self.now c.args.piece.now c.requires))
 
 pub returns-in-Int-clause-fills : goal.returns-in-Int-clause-fills
 returns-in-Int-clause-fills g c s sound out =

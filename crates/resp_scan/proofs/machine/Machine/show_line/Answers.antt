@@ -1,21 +1,17 @@
 use Rattle.std.proofs.Common.{arith}
 use Rattle.resp_scan.proofs.CallClauses.Calls.{is_text}
 use Rattle.resp_scan.proofs.CallClauses.SlotSteps.{line_fills}
-use Rattle.resp_scan.proofs.Soundness.Pieces.{used_within, few_taken}
+use Rattle.resp_scan.proofs.Soundness.Pieces.{few_taken, taken_within}
 use Rattle.resp_scan.proofs.machine.Machine.show_line.Goals as goal
 
 pub beyond-after-requires : goal.beyond-after-requires
-beyond-after-requires g c = (used_within c.args.taken c.args.self.now c.requires.whole.0 c.args.piece.now c.requires.whole.1 c.requires.whole.2).0
+beyond-after-requires g c = taken_within c.args.taken c.args.self.now c.args.piece.now c.requires.whole
 
 pub show_text-requires-clause-few : goal.show_text-requires-clause-few
-show_text-requires-clause-few g c = omega (
-  arith,
-  c.in-Some.ensures.few,
-  few_taken c.args.taken c.args.self.now c.requires.whole.0 c.args.piece.now c.requires.whole.1 c.requires.whole.2,
-)
+show_text-requires-clause-few g c = omega (arith, c.in-Some.ensures.few, few_taken c.args.taken c.args.self.now c.args.piece.now c.requires.whole)
 
 pub whole_line-requires : goal.whole_line-requires
-whole_line-requires g c = omega (arith, few_taken c.args.taken c.args.self.now c.requires.whole.0 c.args.piece.now c.requires.whole.1 c.requires.whole.2)
+whole_line-requires g c = omega (arith, few_taken c.args.taken c.args.self.now c.args.piece.now c.requires.whole)
 
 pub returns-in-Some-clause-fills : goal.returns-in-Some-clause-fills
 returns-in-Some-clause-fills g c s sound out =

@@ -10,15 +10,15 @@ use Rattle.resp_scan.proofs.CallClauses.Told.{run_length}
 use Rattle.resp_scan.proofs.CallClauses.Calls.{is_text}
 use Rattle.resp_scan.proofs.CallClauses.Turns.{is_counted, is_done, is_failed, is_more, tells}
 use Rattle.resp_scan.proofs.Soundness.Counted.{place_counted}
-use Rattle.resp_scan.proofs.Soundness.Pieces.{used_within, few_taken, part_some, chunk_part_some, digit_owed, failed_is}
+use Rattle.resp_scan.proofs.Soundness.Pieces.{chunk_part_some, digit_owed, failed_is, few_taken, part_some, taken_within, used_within}
 use Rattle.resp_scan.proofs.Soundness.Kept.{IsOut, is_advanced}
 use Rattle.resp_scan.proofs.machine.Machine.tell.Goals as goal
 
 pub overflow_add-self : goal.overflow_add-self
-overflow_add-self g c = omega (arith, few_taken c.args.taken c.args.self.now c.requires.0 c.args.rest.now c.requires.1 c.requires.2)
+overflow_add-self g c = omega (arith, few_taken c.args.taken c.args.self.now c.args.rest.now c.requires)
 
 pub slice_bounds-part-end : goal.slice_bounds-part-end
-slice_bounds-part-end g c = sym (length-take-le _ _ (used_within c.args.taken c.args.self.now c.requires.0 c.args.rest.now c.requires.1 c.requires.2).0)
+slice_bounds-part-end g c = sym (length-take-le _ _ (taken_within c.args.taken c.args.self.now c.args.rest.now c.requires))
 
 pub run-requires-clause-start : goal.run-requires-clause-start
 run-requires-clause-start g c = omega (
@@ -27,7 +27,7 @@ run-requires-clause-start g c = omega (
 )
 
 pub run-requires-clause-within : goal.run-requires-clause-within
-run-requires-clause-within g c = (used_within c.args.taken c.args.self.now c.requires.0 c.args.rest.now c.requires.1 c.requires.2).0
+run-requires-clause-within g c = taken_within c.args.taken c.args.self.now c.args.rest.now c.requires
 
 pub digit_text-requires : goal.digit_text-requires
 digit_text-requires g c = (digit_owed c.args.taken c.args.self.now c.requires.0 c.args.rest.now c.requires.1 c.requires.2 c.in-Digit.is).1

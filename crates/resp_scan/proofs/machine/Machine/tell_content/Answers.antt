@@ -1,18 +1,14 @@
 use Rattle.std.proofs.Common.{arith}
 use Rattle.resp_scan.proofs.CallClauses.Calls.{is_text}
 use Rattle.resp_scan.proofs.CallClauses.WholeTexts.{content_turn}
-use Rattle.resp_scan.proofs.Soundness.Pieces.{used_within, few_taken}
+use Rattle.resp_scan.proofs.Soundness.Pieces.{few_taken, taken_within}
 use Rattle.resp_scan.proofs.machine.Machine.tell_content.Goals as goal
 
 pub beyond-after-requires : goal.beyond-after-requires
-beyond-after-requires g c = (used_within c.args.taken c.args.self.now c.requires.whole.0 c.args.rest.now c.requires.whole.1 c.requires.whole.2).0
+beyond-after-requires g c = taken_within c.args.taken c.args.self.now c.args.rest.now c.requires.whole
 
 pub tell_whole-requires-clause-few : goal.tell_whole-requires-clause-few
-tell_whole-requires-clause-few g c = omega (
-  arith,
-  c.in-Some.ensures.few,
-  few_taken c.args.taken c.args.self.now c.requires.whole.0 c.args.rest.now c.requires.whole.1 c.requires.whole.2,
-)
+tell_whole-requires-clause-few g c = omega (arith, c.in-Some.ensures.few, few_taken c.args.taken c.args.self.now c.args.rest.now c.requires.whole)
 
 pub tell-requires : goal.tell-requires
 tell-requires g c = c.requires.whole

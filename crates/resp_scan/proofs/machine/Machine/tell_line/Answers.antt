@@ -1,21 +1,17 @@
 use Rattle.std.proofs.Common.{arith, drop}
 use Rattle.resp_scan.proofs.CallClauses.Calls.{is_text}
 use Rattle.resp_scan.proofs.CallClauses.WholeTexts.{line_text_is, line_turn, run_is_line}
-use Rattle.resp_scan.proofs.Soundness.Pieces.{used_within, few_taken}
+use Rattle.resp_scan.proofs.Soundness.Pieces.{few_taken, taken_within}
 use Rattle.resp_scan.proofs.machine.Machine.tell_line.Goals as goal
 
 pub beyond-after-requires : goal.beyond-after-requires
-beyond-after-requires g c = (used_within c.args.taken c.args.self.now c.requires.whole.0 c.args.rest.now c.requires.whole.1 c.requires.whole.2).0
+beyond-after-requires g c = taken_within c.args.taken c.args.self.now c.args.rest.now c.requires.whole
 
 pub whole_line-requires : goal.whole_line-requires
-whole_line-requires g c = omega (arith, few_taken c.args.taken c.args.self.now c.requires.whole.0 c.args.rest.now c.requires.whole.1 c.requires.whole.2)
+whole_line-requires g c = omega (arith, few_taken c.args.taken c.args.self.now c.args.rest.now c.requires.whole)
 
 pub tell_whole-requires-clause-few : goal.tell_whole-requires-clause-few
-tell_whole-requires-clause-few g c = omega (
-  arith,
-  c.in-Some.ensures.few,
-  few_taken c.args.taken c.args.self.now c.requires.whole.0 c.args.rest.now c.requires.whole.1 c.requires.whole.2,
-)
+tell_whole-requires-clause-few g c = omega (arith, c.in-Some.ensures.few, few_taken c.args.taken c.args.self.now c.args.rest.now c.requires.whole)
 
 pub tell_whole-requires-clause-is_text : goal.tell_whole-requires-clause-is_text
 tell_whole-requires-clause-is_text g c =

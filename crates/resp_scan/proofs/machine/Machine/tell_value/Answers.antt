@@ -13,8 +13,8 @@ pub tell_whole-requires-clause-few : goal.tell_whole-requires-clause-few
 tell_whole-requires-clause-few g c = omega (
   arith,
   c.in-Some.ensures.ends.0,
-  few_taken (record { used = c.in-Some.short.head; tag = tag.Bulk }) c.short_text.new.self c.requires.from.0 c.args.rest.now c.requires.from.1
-      (c.in-Some.ensures.begun ∙ sym c.requires.from.2),
+  few_taken (record { used = c.in-Some.short.head; tag = tag.Bulk }) c.short_text.new.self c.args.rest.now
+      (c.requires.from.0, c.requires.from.1, c.in-Some.ensures.begun ∙ sym c.requires.from.2),
 )
 
 pub returns-in-Some-clause-is_turn : goal.returns-in-Some-clause-is_turn
@@ -32,8 +32,8 @@ tell_whole-requires-in-Some-short_line-clause-few g c =
     omega (
       arith,
       c.in-Some-short_line.ensures.line.0,
-      few_taken (record { used = 1; tag = tag.Simple }) c.short_line.new.self c.requires.from.0 c.args.rest.now c.requires.from.1
-          (begun ∙ sym c.requires.from.2),
+      few_taken (record { used = 1; tag = tag.Simple }) c.short_line.new.self c.args.rest.now
+          (c.requires.from.0, c.requires.from.1, begun ∙ sym c.requires.from.2),
     )
 
 pub tell_whole-requires-in-Some-short_line-clause-is_text : goal.tell_whole-requires-in-Some-short_line-clause-is_text

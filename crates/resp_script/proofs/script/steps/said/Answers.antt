@@ -1,5 +1,4 @@
 use Rattle.std.proofs.Common.{sym, subst, ◌∙◌}
-use Rattle.resp_script.specs.Reasons.{WhereBad}
 use Rattle.resp_script.specs.Scripts.{SaysSomething}
 use Rattle.resp_script.proofs.ScriptWords.{no_clients, no_step, says_nothing, where_bad}
 use Rattle.resp_script.proofs.script.steps.said.Goals as goal

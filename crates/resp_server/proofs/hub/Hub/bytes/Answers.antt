@@ -1,7 +1,9 @@
-use Rattle.std.proofs.Common.{None, refl, sym, ◌∙◌, arith}
+use Rattle.std.proofs.Common.{◌++◌, None, refl, sym, ◌∙◌, arith}
 use Rattle.std.proofs.lemmas.Bool.{false≢true}
+use Rattle.resp_session.specs.Answers.{server_rules}
 use Rattle.resp_server.specs.Hubs.{seat_at}
 use Rattle.resp_server.proofs.Seats.{seat_is, seat_is_there, same_state, sound_at, sound_with}
+use Rattle.resp_server.proofs.AnsweredPieces.{answered_shrunk, cut_short_shrunk}
 use Rattle.resp_server.proofs.AnsweredHubs.{hub_answered, hub_cut_short, answered_sound, not_closing, if_closing, not_open, if_none}
 use Rattle.resp_server.proofs.hub.Hub.bytes.Goals as goal
 
@@ -68,16 +70,18 @@ invariant_of-self-in-Err g c =
     let (front, taken) = (sound_at i.limits i.last i.sessions.entries c.args.id c.in-Some.session.now c.in-Some.ensures.value
     c.self.invariant.sound).taking c.if-session.false in
     answered_sound i.limits i.sessions.entries i.store i.last c.self.invariant _ c.answer-answered.new.store c.args.id c.in-Some.session.now
-    c.answer-answered.new.session (c.get_mut.follows.holds _).0 c.in-Some.ensures.value
-    c.answer-answered.ensures.stored c.answer-answered.ensures.reading
-    (λ is_open. absurd (false≢true (sym is_open ∙ (c.in-Err.ensures.cut_short front taken).closes)))
+    c.shrink.new.self (c.get_mut.follows.holds _).0 c.in-Some.ensures.value
+    c.answer-answered.ensures.stored (c.shrink.ensures.reading (server_rules i.limits) c.answer-answered.ensures.reading)
+    (λ is_open. absurd (false≢true (sym is_open ∙ c.shrink.ensures.same_closing ∙ (c.in-Err.ensures.cut_short front taken).closes)))
 
 pub returns-in-Err-clause-cut_short : goal.returns-in-Err-clause-cut_short
 returns-in-Err-clause-cut_short g c =
     let i = c.self.inside in
     hub_cut_short i.limits i.sessions.entries i.store i.last c.args.self.now c.self.view_is _ c.answer-answered.new.store c.args.id
-    c.in-Some.session.now c.answer-answered.new.session (c.get_mut.follows.holds _).0 c.in-Some.ensures.value c.args.piece.now c.in-Err.commands
-    c.in-Err.ensures.cut_short
+    c.in-Some.session.now c.shrink.new.self (c.get_mut.follows.holds _).0 c.in-Some.ensures.value c.args.piece.now c.in-Err.commands
+    (λ front taken. let s = c.shrink.ensures in cut_short_shrunk i.limits c.args.id i.store c.answer-answered.new.store c.in-Some.session.now
+    c.answer-answered.new.session c.shrink.new.self front c.args.piece.now c.in-Err.commands s.same_version s.same_out s.same_closing
+    (c.in-Err.ensures.cut_short front taken))
 
 pub returns-in-Err-clause-closing : goal.returns-in-Err-clause-closing
 returns-in-Err-clause-closing g c =
@@ -98,15 +102,19 @@ invariant_of-self-2 g c =
     c.self.invariant.sound).taking c.if-session.false in
     let answered = c.in-Ok.ensures.answered front taken in
     answered_sound i.limits i.sessions.entries i.store i.last c.self.invariant _ c.answer-answered.new.store c.args.id c.in-Some.session.now
-    c.answer-answered.new.session (c.get_mut.follows.holds _).0 c.in-Some.ensures.value
-    c.answer-answered.ensures.stored c.answer-answered.ensures.reading (λ is_open. (answered.rest, answered.taking is_open))
+    c.shrink.new.self (c.get_mut.follows.holds _).0 c.in-Some.ensures.value
+    c.answer-answered.ensures.stored (c.shrink.ensures.reading (server_rules i.limits) c.answer-answered.ensures.reading)
+    (λ is_open. let open_before = sym c.shrink.ensures.same_closing ∙ is_open in
+    (answered.rest, c.shrink.ensures.same_taken open_before answered.rest (answered.taking open_before)))
 
 pub returns-clause-answered : goal.returns-clause-answered
 returns-clause-answered g c =
     let i = c.self.inside in
     hub_answered i.limits i.sessions.entries i.store i.last c.args.self.now c.self.view_is _ c.answer-answered.new.store c.args.id
-    c.in-Some.session.now c.answer-answered.new.session (c.get_mut.follows.holds _).0 c.in-Some.ensures.value c.args.piece.now c.in-Ok.commands
-    c.in-Ok.ensures.answered
+    c.in-Some.session.now c.shrink.new.self (c.get_mut.follows.holds _).0 c.in-Some.ensures.value c.args.piece.now c.in-Ok.commands
+    (λ front taken. let s = c.shrink.ensures in answered_shrunk i.limits c.args.id i.store c.answer-answered.new.store c.in-Some.session.now
+    c.answer-answered.new.session c.shrink.new.self (front ++ c.args.piece.now) c.in-Ok.commands s.same_version s.same_out s.same_closing
+    s.same_taken (c.in-Ok.ensures.answered front taken))
 
 pub returns-clause-closing : goal.returns-clause-closing
 returns-clause-closing g c =

@@ -1,7 +1,7 @@
 use Rattle.std.proofs.Common.{rules, ◌≡◌, ◌≢◌, [], ◌∷◌, ◌++◌, length, sym, ◌∙◌}
 use Rattle.std.specs.Prelude.{IsSome}
 use Rattle.resp_tap.specs.Taps.{tap_state}
-use Rattle.resp_tap.proofs.TimeLemmas.{request_waits, snoc_same, times_on}
+use Rattle.resp_tap.proofs.TimeLemmas.{snoc_same, times_go_on}
 use Rattle.resp_tap.proofs.timed.TimedTap.from_client_at.Goals as goal
 
 pub returns-then-is_err-clause-seen : goal.returns-then-is_err-clause-seen
@@ -11,11 +11,10 @@ pub returns-then-waiting-clause-times : goal.returns-then-waiting-clause-times
 returns-then-waiting-clause-times c = λ read. λ front taken.
     let old = c.args.self.now in
     let step = c.from_client-step in
-    let pushed : c.push_back.new.self.items ≡ old.times.items ++ c.args.now.steady ∷ [] = search rules in
-    let waits = request_waits (tap_state old.tap) step.new.self front c.args.piece.now step.result.used step.result.seen (step.ensures.seen read front taken) in
     let same : length (tap_state step.new.self).waiting.asks ≡ length (tap_state old.tap).waiting.asks = search rules in
+    let pushed : c.push_back.new.self.items ≡ old.times.items ++ c.args.now.steady ∷ [] = search rules in
     let some : IsSome c.pop_back.result = search rules in
-    times_on old _ c.args.now.steady waits
+    times_go_on old _ c.args.now.steady front c.args.piece.now step.result.used step.result.seen (step.ensures.seen read front taken)
     (λ _. snoc_same old.times.items c.pop_back.new.self.items c.args.now.steady c.pop_back.result (sym pushed ∙ c.pop_back.ensures.items) some)
     (λ other. absurd (other same))
 
@@ -23,7 +22,6 @@ pub returns-else-waiting-clause-times : goal.returns-else-waiting-clause-times
 returns-else-waiting-clause-times c = λ read. λ front taken.
     let old = c.args.self.now in
     let step = c.from_client-step in
-    let pushed : c.push_back.new.self.items ≡ old.times.items ++ c.args.now.steady ∷ [] = search rules in
-    let waits = request_waits (tap_state old.tap) step.new.self front c.args.piece.now step.result.used step.result.seen (step.ensures.seen read front taken) in
     let other : length (tap_state step.new.self).waiting.asks ≢ length (tap_state old.tap).waiting.asks = search rules in
-    times_on old _ c.args.now.steady waits (λ same. absurd (other same)) (λ _. pushed)
+    times_go_on old _ c.args.now.steady front c.args.piece.now step.result.used step.result.seen (step.ensures.seen read front taken)
+    (λ same. absurd (other same)) (λ _. search rules)

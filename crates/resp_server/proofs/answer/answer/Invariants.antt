@@ -3,7 +3,7 @@ use Rattle.resp_session.specs.Answers.{server_rules}
 use Rattle.resp_session.specs.Fitting.{FitsStore}
 use Rattle.resp_server.specs.Answering.{IsAnswered}
 use Rattle.resp_server.specs.Reading.{HasReadFront, ReadsBy}
-use Rattle.resp_server.proofs.answer.answer_turns.Given as goal
+use Rattle.resp_server.proofs.answer.answer.Given as goal
 
 abbrev pub invariant-loop-used : goal.invariant-loop-used
 invariant-loop-used g l = record {
