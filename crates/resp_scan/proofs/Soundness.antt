@@ -10,5 +10,6 @@ pub mod Kept
 pub mod Places
 pub mod Pieces
 pub mod Counted
+pub mod ShortHeads
 pub mod ShortTexts
 pub mod ShortInts

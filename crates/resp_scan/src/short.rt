@@ -6,7 +6,7 @@ ghost use Rattle.resp_scan.specs.Machine.Room.{has_total_room, total_room};
 ghost use Rattle.resp_scan.specs.Machine.Runs.{plain_run};
 ghost use Rattle.resp_scan.specs.Machine.Scan.{Gave, scan};
 ghost use Rattle.resp_scan.specs.Machine.Tokens.{AtBulkHead, InInt, Place, Text, at};
-ghost use Rattle.resp_scan.specs.Machine.Turns.{EndsAt, LeavesContent};
+ghost use Rattle.resp_scan.specs.Machine.Turns.{EndsAt, HasShortNumber, LeavesContent};
 ghost use Rattle.resp_scan.specs.declared.event.TextKind.TheVariants as text;
 
 use crate::lines::line_run;
@@ -134,7 +134,8 @@ fn few_digits(piece: &[u8], first: u64) -> Option<Digits>
     None
 }
 
-/// A bulk string of few bytes: those of its head, and how many there are.
+/// A number of one digit or two after the first byte of a piece: where what follows its CR LF
+/// begins, and the number.
 #[derive(Clone, Copy)]
 pub struct Short {
     pub head: usize,
@@ -143,6 +144,7 @@ pub struct Short {
 
 /// The head of a bulk string at the front of a piece, where it has one digit or two.
 #[inline(always)]
+#[tactic(auto, using(crate::proofs::Soundness::ShortHeads::text_head))]
 fn short_head(piece: &[u8]) -> Option<Short>
     ensures within { IfSome result (λ short. (short.head ≤ length piece.now) × (4 ≤ short.head) ×
         (short.head ≤ 5) × (short.count < 100) × (get_or piece.now 0 0 ≡ 36)) }
@@ -154,23 +156,27 @@ fn short_head(piece: &[u8]) -> Option<Short>
     if piece.len() < 5 || piece[0] != b'$' {
         return None;
     }
+    short_number(piece)
+}
+
+/// The number of one digit or two after the first byte of a piece, where CR LF follows.
+#[inline(always)]
+pub fn short_number(piece: &[u8]) -> Option<Short>
+    requires { 5 ≤ length piece.now }
+    ensures { IfSome result (λ short. HasShortNumber piece.now short.head short.count) }
+{
     match piece[3] {
-        b'\r' => head_of_two_digits(piece),
-        b'\n' => head_of_one_digit(piece),
+        b'\r' => two_digits(piece),
+        b'\n' => one_digit(piece),
         _ => None,
     }
 }
 
 /// The same where it has one digit.
 #[inline(always)]
-fn head_of_one_digit(piece: &[u8]) -> Option<Short>
-    requires begins { (5 ≤ length piece.now) × (get_or piece.now 0 0 ≡ 36) }
-    requires line_feed { get_or piece.now 3 0 ≡ 10 }
-    ensures within { IfSome result (λ short. (short.head ≡ 4) × (short.count < 100)) }
-    ensures head { IfSome result (λ short. (u : Place) → short.count ≤ u.bounds.length →
-        short.head + short.count + 2 ≤ total_room u →
-        Gave short.head (Text text.Bulk) (content_at short.count u) ≡
-        scan 1 (at u AtBulkHead) (drop 1 piece.now)) }
+fn one_digit(piece: &[u8]) -> Option<Short>
+    requires begins { (5 ≤ length piece.now) × (get_or piece.now 3 0 ≡ 10) }
+    ensures { IfSome result (λ short. HasShortNumber piece.now short.head short.count) }
 {
     if piece[1] < b'0' || piece[1] > b'9' || piece[2] != b'\r' {
         return None;
@@ -183,14 +189,9 @@ fn head_of_one_digit(piece: &[u8]) -> Option<Short>
 
 /// The same where it has two digits.
 #[inline(always)]
-fn head_of_two_digits(piece: &[u8]) -> Option<Short>
-    requires begins { (5 ≤ length piece.now) × (get_or piece.now 0 0 ≡ 36) }
-    requires carriage_return { get_or piece.now 3 0 ≡ 13 }
-    ensures within { IfSome result (λ short. (short.head ≡ 5) × (short.count < 100)) }
-    ensures head { IfSome result (λ short. (u : Place) → short.count ≤ u.bounds.length →
-        short.head + short.count + 2 ≤ total_room u →
-        Gave short.head (Text text.Bulk) (content_at short.count u) ≡
-        scan 1 (at u AtBulkHead) (drop 1 piece.now)) }
+fn two_digits(piece: &[u8]) -> Option<Short>
+    requires begins { (5 ≤ length piece.now) × (get_or piece.now 3 0 ≡ 13) }
+    ensures { IfSome result (λ short. HasShortNumber piece.now short.head short.count) }
 {
     if piece[1] < b'0' || piece[1] > b'9' || piece[2] < b'0' || piece[2] > b'9' {
         return None;

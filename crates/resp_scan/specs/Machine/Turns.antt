@@ -1,6 +1,6 @@
 -- What one turn of the loop comes to, for every front that was read and all events that the listener has heard.
 use Rattle.std.specs.Str.{byte}
-use Rattle.std.specs.Prelude.{◌≡◌, ◌+◌, get_or, Bool, true, false, ℕ, ◌<◌, ◌≤◌, List, ◌++◌, length, take}
+use Rattle.std.specs.Prelude.{◌≡◌, ◌⊎◌, ◌+◌, ◌-◌, ◌*◌, get_or, Bool, true, false, ℕ, ◌<◌, ◌≤◌, List, ◌++◌, length, take}
 use Rattle.resp_value.specs.Rules.{Rules, WithinTotal}
 use Rattle.resp_value.specs.Spellings.{IsViable}
 use Rattle.resp_scan.specs.declared.event.Fault.{Fault}
@@ -80,6 +80,31 @@ pub record EndsAt (piece : List ℕ) (at : ℕ) : Type 0 where
   pub within : at + 2 ≤ length piece
   pub cr : get_or piece at 0 ≡ byte "\r"
   pub lf : get_or piece (at + 1) 0 ≡ byte "\n"
+
+-- a digit stands at this index of the piece
+abbrev pub HasDigitAt : List ℕ → ℕ → Type 0
+HasDigitAt piece at = (byte "0" ≤ get_or piece at 0) × (get_or piece at 0 ≤ byte "9")
+
+-- after the first byte of the piece one digit stands, this number, and CR LF, which the head ends with
+pub record HasOneDigit (piece : List ℕ) (head n : ℕ) : Type 0 where
+  pub ends : head ≡ 4
+  pub digit : HasDigitAt piece 1
+  pub cr : get_or piece 2 0 ≡ byte "\r"
+  pub lf : get_or piece 3 0 ≡ byte "\n"
+  pub valued : n ≡ get_or piece 1 0 - byte "0"
+
+-- or two digits
+pub record HasTwoDigits (piece : List ℕ) (head n : ℕ) : Type 0 where
+  pub ends : head ≡ 5
+  pub first : HasDigitAt piece 1
+  pub second : HasDigitAt piece 2
+  pub cr : get_or piece 3 0 ≡ byte "\r"
+  pub lf : get_or piece 4 0 ≡ byte "\n"
+  pub valued : n ≡ (get_or piece 1 0 - byte "0") * 10 + (get_or piece 2 0 - byte "0")
+
+-- after the first byte of the piece this number stands, in one digit or two
+abbrev pub HasShortNumber : List ℕ → ℕ → ℕ → Type 0
+HasShortNumber piece head n = HasOneDigit piece head n ⊎ HasTwoDigits piece head n
 
 -- how many bytes of counted content are still to come in this state, which has such a count
 abbrev pub LeavesContent : State → ℕ → ℕ → Type 0

@@ -10,7 +10,7 @@ returns-then-has_total_room c =
     let s = place_of c.args.self.now in
     let short = c.in-Some.short in
     let full : is_full s ≡ false = grind (arith, common_steps) in
-    let fits : nat_le ((short.head - 2) + (short.members * 3 + 2)) (total_room s) ≡ true =
+    let fits : nat_le ((short.head - 2) + (short.count * 3 + 2)) (total_room s) ≡ true =
     sym c.has_total_room.ensures.fits ∙ c.if-has_total_room.true in
-    let room : (short.head - 2) + (short.members * 3 + 2) ≤ total_room s = grind (arith, nat_tests) in
+    let room : (short.head - 2) + (short.count * 3 + 2) ≤ total_room s = grind (arith, nat_tests) in
     c.open.ensures ∙ c.in-Some.ensures.head s full (omega (arith, c.if-is_few.true, c.items.ensures.items)) (omega (arith, room, c.in-Some.ensures.within.1))
