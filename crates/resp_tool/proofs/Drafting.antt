@@ -26,7 +26,7 @@ use Rattle.resp_decode.specs.Fits.{IsInText, MayAllCome, MayBegin}
 use Rattle.resp_decode.proofs.Folds.{with_events-append}
 use Rattle.resp_decode.proofs.HeldLemmas.{content_held, last_split}
 use Rattle.resp_decode.proofs.Taking.{room_for, whole_text_builds}
-use Rattle.resp_tool.specs.Drafts.{AppendsKnownHead, AreOpen, CountsOne, DraftsWhereFit, HasDrafted, IsDraftOf, IsOpen, IsRead, WithHead, head_text, number_of, whole_text}
+use Rattle.resp_tool.specs.Drafts.{AppendsKnownHead, StandOpen, CountsOne, DraftsWhereFit, HasDrafted, IsDraftOf, StandsOpen, IsRead, WithHead, head_text, number_of, whole_text}
 use Rattle.resp_tool.specs.declared.draft.Draft.{Draft}
 use Rattle.resp_tool.specs.declared.draft.OpenAggregate.{OpenAggregate}
 
@@ -34,11 +34,11 @@ use Rattle.resp_tool.specs.declared.draft.OpenAggregate.{OpenAggregate}
 
 -- the text of a value that has ended
 value_added : (w : Version) (os new : List OpenAggregate) (gs : List Group) (x : Datum) (b : Construction) (text : List ℕ) → b.groups ≡ gs →
-    b.whole ≡ None → AreOpen w os gs [] text → CountsOne os new →
-    AreOpen w new (with_value_in gs x b).groups (whole_text w (with_value_in gs x b).whole) (text ++ canonical_text w x)
+    b.whole ≡ None → StandOpen w os gs [] text → CountsOne os new →
+    StandOpen w new (with_value_in gs x b).groups (whole_text w (with_value_in gs x b).whole) (text ++ canonical_text w x)
 value_added w [] new [] x b text is none opens counts =
-    subst (λ zs. AreOpen w zs b.groups (canonical_text w x) (text ++ canonical_text w x)) (sym counts)
-    (subst (λ gs. AreOpen w [] gs (canonical_text w x) (text ++ canonical_text w x)) (sym is) (ap (λ t. t ++ canonical_text w x) opens))
+    subst (λ zs. StandOpen w zs b.groups (canonical_text w x) (text ++ canonical_text w x)) (sym counts)
+    (subst (λ gs. StandOpen w [] gs (canonical_text w x) (text ++ canonical_text w x)) (sym is) (ap (λ t. t ++ canonical_text w x) opens))
 value_added w [] new (g ∷ gs) x b text is none opens counts = absurd opens
 value_added w (o ∷ os) new [] x b text is none opens counts = absurd opens
 value_added w (o ∷ os) new (g ∷ gs) x b text is none opens counts =
@@ -46,7 +46,7 @@ value_added w (o ∷ os) new (g ∷ gs) x b text is none opens counts =
     let wider : Group = record g { members = g.members ++ x ∷ [] } in
     let more : OpenAggregate = record o { members = min (o.members + 1) (2 ^ 64 - 1) } in
     let f = canonical_text w in
-    let opened : IsOpen w more wider outer (text ++ f x) = record {
+    let opened : StandsOpen w more wider outer (text ++ f x) = record {
       kind = inner.kind;
       members = omega (arith, inner.members, length-append g.members (x ∷ []));
       head = inner.head;
@@ -59,8 +59,8 @@ value_added w (o ∷ os) new (g ∷ gs) x b text is none opens counts =
           ∙ ap (λ t. outer ++ t) (append_assoc inner.head (flat_map f g.members) (f x)
           ∙ ap (λ t. inner.head ++ t) (ap (λ t. flat_map f g.members ++ t) (sym (append-nil (f x))) ∙ sym (flat_map-append f g.members (x ∷ []))));
     } in
-    let around : AreOpen w os gs (whole_text w b.whole) outer = subst (λ z. AreOpen w os gs (whole_text w z) outer) (sym none) others in
-    subst (λ zs. AreOpen w zs (wider ∷ gs) (whole_text w b.whole) (text ++ f x)) (sym counts) (outer, opened, around)
+    let around : StandOpen w os gs (whole_text w b.whole) outer = subst (λ z. StandOpen w os gs (whole_text w z) outer) (sym none) others in
+    subst (λ zs. StandOpen w zs (wider ∷ gs) (whole_text w b.whole) (text ++ f x)) (sym counts) (outer, opened, around)
 
 -- the last aggregate is the innermost
 pub counts_last : (xs : List OpenAggregate) (n : ℕ) (o y : OpenAggregate) → n ≡ length xs → 0 < n → o ≡ get_or xs (n - 1) o →
@@ -91,31 +91,31 @@ still kind now content left text same same_content none read =
 
 -- the draft of a value that has ended, whose text was added after what is around it
 pub draft_value : (w : Version) (os : List OpenAggregate) (outer : List ℕ) (new : Draft) (b : Construction) (x : Datum) → b.text ≡ None →
-    b.whole ≡ None → AreOpen w os b.groups [] outer → new.version ≡ w → IsRead new.kind new.content.items None →
+    b.whole ≡ None → StandOpen w os b.groups [] outer → new.version ≡ w → IsRead new.kind new.content.items None →
     new.text.items ≡ outer ++ canonical_text w x → CountsOne os (reverse new.aggregates.items) → IsDraftOf new (with_value x b)
 draft_value w os outer new b x no_text none opens version read added counts =
     let after = with_value_in b.groups x b in
     let opened = value_added w os (reverse new.aggregates.items) b.groups x b outer refl none opens counts in
     record {
       opens =
-          subst (λ v. AreOpen v (reverse new.aggregates.items) after.groups (whole_text v after.whole) new.text.items) (sym version)
-          (subst (λ t. AreOpen w (reverse new.aggregates.items) after.groups (whole_text w after.whole) t) (sym added) opened);
+          subst (λ v. StandOpen v (reverse new.aggregates.items) after.groups (whole_text v after.whole) new.text.items) (sym version)
+          (subst (λ t. StandOpen w (reverse new.aggregates.items) after.groups (whole_text w after.whole) t) (sym added) opened);
       read = subst (IsRead new.kind new.content.items) (sym (same_text b.groups x b ∙ no_text)) read;
     }
 
 -- what is open of a draft between two values, or after one
 pub open_at : (draft : Draft) (b : Construction) → b.whole ≡ None → IsDraftOf draft b →
-    AreOpen draft.version (reverse draft.aggregates.items) b.groups [] draft.text.items
-open_at draft b none is = subst (λ z. AreOpen draft.version (reverse draft.aggregates.items) b.groups (whole_text draft.version z) draft.text.items) none is.opens
+    StandOpen draft.version (reverse draft.aggregates.items) b.groups [] draft.text.items
+open_at draft b none is = subst (λ z. StandOpen draft.version (reverse draft.aggregates.items) b.groups (whole_text draft.version z) draft.text.items) none is.opens
 
 -- what is open stays so where the text does
 same_open : (old new : Draft) (gs : List Group) (whole : Option Datum) → new.version ≡ old.version → new.text ≡ old.text → new.aggregates ≡ old.aggregates →
-    AreOpen old.version (reverse old.aggregates.items) gs (whole_text old.version whole) old.text.items →
-    AreOpen new.version (reverse new.aggregates.items) gs (whole_text new.version whole) new.text.items
+    StandOpen old.version (reverse old.aggregates.items) gs (whole_text old.version whole) old.text.items →
+    StandOpen new.version (reverse new.aggregates.items) gs (whole_text new.version whole) new.text.items
 same_open old new gs whole version text opens is =
-    subst (λ v. AreOpen v (reverse new.aggregates.items) gs (whole_text v whole) new.text.items) (sym version)
-    (subst (λ t. AreOpen old.version (reverse new.aggregates.items) gs (whole_text old.version whole) t.items) (sym text)
-    (subst (λ os. AreOpen old.version (reverse os.items) gs (whole_text old.version whole) old.text.items) (sym opens) is))
+    subst (λ v. StandOpen v (reverse new.aggregates.items) gs (whole_text v whole) new.text.items) (sym version)
+    (subst (λ t. StandOpen old.version (reverse new.aggregates.items) gs (whole_text old.version whole) t.items) (sym text)
+    (subst (λ os. StandOpen old.version (reverse os.items) gs (whole_text old.version whole) old.text.items) (sym opens) is))
 
 -- ---- an aggregate's end
 
@@ -143,7 +143,7 @@ aggregate_text w k xs =
     ∙ sym (append_assoc (kind_byte k ∷ decimal (items_of k (length xs))) (crlf []) members)
 
 -- the text with an aggregate's head is its canonical text after what is around it
-closed_text : (w : Version) (o : OpenAggregate) (g : Group) (outer text closed : List ℕ) → IsOpen w o g outer text → length text < 2 ^ 63 →
+closed_text : (w : Version) (o : OpenAggregate) (g : Group) (outer text closed : List ℕ) → StandsOpen w o g outer text → length text < 2 ^ 63 →
     WithHead o text closed → closed ≡ outer ++ canonical_text w (aggregate g.kind (data_of_list g.members))
 closed_text w o g outer text closed inner short with_head = whole with_head ∙ ap (λ t. outer ++ t) (sym (aggregate_text w g.kind g.members))
   where
@@ -183,7 +183,7 @@ closed_text w o g outer text closed inner short with_head = whole with_head ∙ 
 
 -- the draft of an aggregate that has ended
 pub draft_closed : (w : Version) (o : OpenAggregate) (os : List OpenAggregate) (gs : List Group) (text closed : List ℕ) (new : Draft) (b : Construction) →
-    b.text ≡ None → b.whole ≡ None → AreOpen w (o ∷ os) gs [] text → length text < 2 ^ 63 → WithHead o text closed → new.version ≡ w →
+    b.text ≡ None → b.whole ≡ None → StandOpen w (o ∷ os) gs [] text → length text < 2 ^ 63 → WithHead o text closed → new.version ≡ w →
     IsRead new.kind new.content.items None → new.text.items ≡ closed → CountsOne os (reverse new.aggregates.items) → IsDraftOf new (with_group_closed gs b)
 draft_closed w o os [] text closed new b no_text none opens short with_head version read added counts = absurd opens
 draft_closed w o os (g ∷ gs) text closed new b no_text none opens short with_head version read added counts =
@@ -209,7 +209,7 @@ draft_opened old new b kind count head_at members_at may is version same_kind sa
     let w = old.version in
     let group : Group = record { kind = kind_of kind; members = [] } in
     let o : OpenAggregate = record { kind = kind; count = count; head_at = head_at; members_at = members_at; members = 0 } in
-    let inner : IsOpen w o group old.text.items new.text.items = record {
+    let inner : StandsOpen w o group old.text.items new.text.items = record {
       kind = refl;
       members = omega arith;
       head = head;
@@ -218,12 +218,12 @@ draft_opened old new b kind count head_at members_at may is version same_kind sa
       counted = counted;
       parts = added ∙ ap (λ t. old.text.items ++ t) (sym (append-nil head));
     } in
-    let all : AreOpen w (o ∷ reverse old.aggregates.items) (group ∷ b.groups) [] new.text.items = (old.text.items, inner, open_at old b may.1 is) in
+    let all : StandOpen w (o ∷ reverse old.aggregates.items) (group ∷ b.groups) [] new.text.items = (old.text.items, inner, open_at old b may.1 is) in
     record {
       opens =
-          subst (λ v. AreOpen v (reverse new.aggregates.items) (group ∷ b.groups) (whole_text v b.whole) new.text.items) (sym version)
-          (subst (λ os. AreOpen w os (group ∷ b.groups) (whole_text w b.whole) new.text.items) (sym opened)
-          (subst (λ z. AreOpen w (o ∷ reverse old.aggregates.items) (group ∷ b.groups) (whole_text w z) new.text.items) (sym may.1) all));
+          subst (λ v. StandOpen v (reverse new.aggregates.items) (group ∷ b.groups) (whole_text v b.whole) new.text.items) (sym version)
+          (subst (λ os. StandOpen w os (group ∷ b.groups) (whole_text w b.whole) new.text.items) (sym opened)
+          (subst (λ z. StandOpen w (o ∷ reverse old.aggregates.items) (group ∷ b.groups) (whole_text w z) new.text.items) (sym may.1) all));
       read =
           subst (IsRead new.kind new.content.items) (sym may.0)
           (still old.kind new.kind old.content.items new.content.items b.text same_kind (ap (λ c. c.items) same_content) may.0 is.read);
@@ -315,7 +315,7 @@ draft_hears old new more false drafts version given is may = record { told = mor
 pub draft_is_text : (draft : Draft) (x : Datum) → IsDraftOf draft (record nothing { whole = Some x }) → draft.text.items ≡ canonical_text draft.version x
 draft_is_text draft x is = no_group (reverse draft.aggregates.items) is.opens
   where
-    no_group : (os : List OpenAggregate) → AreOpen draft.version os [] (canonical_text draft.version x) draft.text.items →
+    no_group : (os : List OpenAggregate) → StandOpen draft.version os [] (canonical_text draft.version x) draft.text.items →
         draft.text.items ≡ canonical_text draft.version x
     no_group [] opens = opens
     no_group (o ∷ os) opens = absurd opens
@@ -324,11 +324,11 @@ draft_is_text draft x is = no_group (reverse draft.aggregates.items) is.opens
 pub draft_cleared : (old new : Draft) (x : Datum) → IsDraftOf old (record nothing { whole = Some x }) → new.aggregates ≡ old.aggregates → new.kind ≡ old.kind →
     new.content ≡ old.content → new.text.items ≡ [] → IsDraftOf new nothing
 draft_cleared old new x is same same_kind same_content empty = record {
-  opens = subst (λ os. AreOpen new.version (reverse os.items) [] [] new.text.items) (sym same) (no_group (reverse old.aggregates.items) is.opens);
+  opens = subst (λ os. StandOpen new.version (reverse os.items) [] [] new.text.items) (sym same) (no_group (reverse old.aggregates.items) is.opens);
   read = still old.kind new.kind old.content.items new.content.items None same_kind (ap (λ c. c.items) same_content) refl is.read;
 }
   where
-    no_group : (os : List OpenAggregate) → AreOpen old.version os [] (canonical_text old.version x) old.text.items →
-        AreOpen new.version os [] [] new.text.items
+    no_group : (os : List OpenAggregate) → StandOpen old.version os [] (canonical_text old.version x) old.text.items →
+        StandOpen new.version os [] [] new.text.items
     no_group [] opens = empty
     no_group (o ∷ os) opens = absurd opens

@@ -27,7 +27,7 @@ AppendsKnownHead kind (Some number) before after = after ≡ before ++ head_text
 
 -- After the text of what is around it stands the head of an open aggregate, where its number is known, and then the
 -- texts of its finished members.
-pub record IsOpen (version : Version) (o : OpenAggregate) (g : Group) (outer text : List ℕ) : Type 0 where
+pub record StandsOpen (version : Version) (o : OpenAggregate) (g : Group) (outer text : List ℕ) : Type 0 where
   pub kind : kind_of o.kind ≡ g.kind
   pub members : o.members ≡ min (length g.members) (2 ^ 64 - 1)
   pub head : List ℕ
@@ -37,12 +37,12 @@ pub record IsOpen (version : Version) (o : OpenAggregate) (g : Group) (outer tex
   pub parts : text ≡ outer ++ (head ++ flat_map (canonical_text version) g.members)
 
 -- the text of all open aggregates, the innermost first, after what stands at the top
-abbrev pub AreOpen : Version → List OpenAggregate → List Group → List ℕ → List ℕ → Type 0
-AreOpen version [] [] top text = text ≡ top
-AreOpen version [] (g ∷ gs) top text = ⊥
-AreOpen version (o ∷ os) [] top text = ⊥
-AreOpen version (o ∷ os) (g ∷ gs) top text =
-    (outer : List ℕ) × IsOpen version o g outer text × AreOpen version os gs top outer
+abbrev pub StandOpen : Version → List OpenAggregate → List Group → List ℕ → List ℕ → Type 0
+StandOpen version [] [] top text = text ≡ top
+StandOpen version [] (g ∷ gs) top text = ⊥
+StandOpen version (o ∷ os) [] top text = ⊥
+StandOpen version (o ∷ os) (g ∷ gs) top text =
+    (outer : List ℕ) × StandsOpen version o g outer text × StandOpen version os gs top outer
 
 -- the text of the whole value, if there is one
 abbrev pub whole_text : Version → Option Datum → List ℕ
@@ -57,7 +57,7 @@ IsRead _ content _ = ⊥
 
 -- the draft has the text of what is built
 pub record IsDraftOf (draft : Draft) (b : Construction) : Type 0 where
-  pub opens : AreOpen draft.version (reverse draft.aggregates.items) b.groups (whole_text draft.version b.whole)
+  pub opens : StandOpen draft.version (reverse draft.aggregates.items) b.groups (whole_text draft.version b.whole)
       draft.text.items
   pub read : IsRead draft.kind draft.content.items b.text
 

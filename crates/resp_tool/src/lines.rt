@@ -40,8 +40,7 @@ struct OpenText {
     size: u64,
 }
 
-/// What has to be known of the lines so far: the aggregates that are open, and the text that was
-/// begun.
+/// What has to be known of the lines so far: the open aggregates, and the text that was begun.
 #[derive(Debug, Drop)]
 pub struct Lines {
     /// The open aggregates, the innermost last: no more than the greatest limit of depth.
@@ -85,8 +84,7 @@ impl Lines {
         }
     }
 
-    /// Writes what stands before a value on its line, and `of` where an attribute annotates it, and
-    /// then these words.
+    /// Writes what stands before a value on its line, and then these words.
     fn begin<W: Sink>(&self, words: &[u8], writer: &mut W) -> Result<(), DeviceFault>
         ensures { WritesText (W.written writer.old) (W.written writer.new)
             (W.failures writer.old) (W.failures writer.new) result

@@ -1,6 +1,6 @@
 use Rattle.std.proofs.Common.{rules, ◌≡◌, ◌<◌, ◌^◌, [], ◌∷◌, ◌++◌, length, reverse, refl, ap, subst, ◌∙◌, arith}
 use Rattle.std.proofs.lemmas.List.{reverse-append}
-use Rattle.resp_tool.specs.Drafts.{AreOpen, CountsOne, WithHead}
+use Rattle.resp_tool.specs.Drafts.{StandOpen, CountsOne, WithHead}
 use Rattle.resp_tool.specs.declared.draft.Draft.{Draft}
 use Rattle.resp_tool.proofs.Drafting.{draft_closed, open_at, still}
 use Rattle.resp_tool.proofs.draft.Draft.close_aggregate.Goals as goal
@@ -15,7 +15,7 @@ returns c = λ b may is goes.
     let had = c.put_head-written.ensures.same in
     let same = c.end_value.ensures.same in
     let split : old.aggregates.items ≡ left.items ++ o ∷ [] = search rules in
-    let opened = subst (λ zs. AreOpen old.version zs b.groups [] old.text.items) (ap reverse split ∙ reverse-append left.items (o ∷ []))
+    let opened = subst (λ zs. StandOpen old.version zs b.groups [] old.text.items) (ap reverse split ∙ reverse-append left.items (o ∷ []))
     (open_at old b may.0.0.1 is) in
     let short : length old.text.items < 2 ^ 63 = omega (arith, old.text.ok.0, old.text.ok.1, old.text.small) in
     let with_head : WithHead o old.text.items put.text.items = search rules in
