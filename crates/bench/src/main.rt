@@ -1,18 +1,13 @@
-//! How long the encoder, the scanner, the decoder, the client, the server and the codecs take, to
-//! be compared with others.
+//! How long the client, the server, the codecs and worlds take, to be compared with others.
 //!
-//! The arguments name a part, `encode`, `scan`, `client`, `server`, `framed`, `worlds` or `grow`,
-//! and what it is to do. With no argument each part counts what it does with short texts, the same
-//! on every run.
+//! The arguments name a part, `client`, `server`, `framed`, `worlds` or `grow`, and what it is to
+//! do. With no argument each part counts what it does with short texts, the same on every run.
 #![tactic(auto)]
 
 mod client;
-mod encode;
 mod framed;
 mod grow;
-mod scan;
 mod server;
-mod texts;
 mod worlds;
 
 use anyhow::Result;
@@ -40,9 +35,7 @@ fn end_line(rt: &HostRuntime, timed: bool, nanos: u128, count: u128, each: &str)
 
 /// Runs the parts that the words name, or each where they name none.
 fn bench(rt: &HostRuntime, words: &[String]) -> Result<()> {
-    let names = [
-        "encode", "scan", "client", "server", "framed", "worlds", "grow",
-    ];
+    let names = ["client", "server", "framed", "worlds", "grow"];
     let all = !names.iter().any(|name| has(words, name));
     for name in names {
         if all || has(words, name) {
@@ -54,8 +47,6 @@ fn bench(rt: &HostRuntime, words: &[String]) -> Result<()> {
 
 fn bench_part(rt: &HostRuntime, name: &str, words: &[String]) -> Result<()> {
     match name {
-        "encode" => encode::bench(rt, words),
-        "scan" => scan::bench(rt, words),
         "client" => client::bench(rt, words),
         "server" => server::bench(rt, words),
         "framed" => framed::bench(rt, words),
