@@ -1,5 +1,5 @@
 -- Values without members at the front of a piece.
-use Rattle.std.proofs.Common.{◌≡◌, inl, inr, ◌∙◌, ◌+◌, ◌^◌, ◌<◌, ◌≤◌, ℕ, ℤ, true, false, zero, suc, List, [], ◌∷◌, ◌++◌, length, take, drop, get_or, Option, Some, None, is_some, refl, sym, ap, subst, arith, append_assoc, length-append, length-take-le, take_at, drop_at, take-append-drop, drop-cons}
+use Rattle.std.proofs.Common.{◌≡◌, inl, inr, ◌∙◌, ◌+◌, ◌^◌, ◌<◌, ◌≤◌, ℕ, true, false, zero, suc, List, [], ◌∷◌, ◌++◌, length, take, drop, get_or, Option, Some, None, is_some, refl, sym, ap, subst, arith, append_assoc, length-append, length-take-le, take_at, drop_at, take-append-drop, drop-cons}
 use Rattle.std.specs.Prelude.{pos, negsuc}
 use Rattle.std.proofs.lemmas.Bool.{eq-eqb, eqb-true}
 use Rattle.std.proofs.lemmas.List.{get_or-take}
@@ -7,12 +7,11 @@ use Rattle.std.proofs.lemmas.Int.{ints}
 use Rattle.memchr.specs.Find.{IsFirstByte, is_byte}
 use Rattle.resp_value.specs.Bounds.{Bounds}
 use Rattle.resp_value.specs.Bytes.{IsByte, IsLine, IsText, crlf}
-use Rattle.resp_value.specs.Canonical.{Fits, HasTypes, IsInTwo, IsScalarButDouble, IsScalarValue, IsValue, canonical_text}
+use Rattle.resp_value.specs.Canonical.{Fits, IsInTwo, IsScalarButDouble, IsScalarValue, IsValue, canonical_text}
 use Rattle.resp_value.specs.Data.{Datum, Scalar, Simple, Error, Int, Bulk, longest, scalar}
 use Rattle.resp_value.specs.Numbers.{decimal}
 use Rattle.resp_value.specs.Rules.{rules_under}
 use Rattle.resp_value.specs.declared.version.Version.{Version}
-use Rattle.resp_value.specs.declared.version.Version.TheVariants.{Two, Three}
 use Rattle.resp_value.proofs.FirstBytes.{all_front}
 use Rattle.resp_encode.proofs.Attempted.{in_each, scalar_fits}
 use Rattle.resp_tool.specs.CanonicalFronts.{BeginsWithLine, IsBulkWithin, IsCanonicalWithin, IsInteger, IsLineWithin, FollowsByte}

@@ -1,7 +1,7 @@
 -- A draft takes in events: what it has is the canonical text of what they build.
-use Rattle.std.proofs.Common.{◌≡◌, ℕ, zero, suc, ◌+◌, ◌-◌, ◌<◌, ◌≤◌, ◌^◌, Bool, true, false, Option, None, Some, List, [], ◌∷◌, ◌++◌, length, take, drop, get_or, min, reverse, refl, sym, ap, subst, ◌∙◌, append_assoc, append-nil, length-append, arith, vec_len}
+use Rattle.std.proofs.Common.{◌≡◌, ℕ, ◌+◌, ◌-◌, ◌<◌, ◌≤◌, ◌^◌, Bool, true, false, Option, None, Some, List, [], ◌∷◌, ◌++◌, length, take, drop, get_or, min, reverse, refl, sym, ap, subst, ◌∙◌, append_assoc, append-nil, length-append, arith}
 use Rattle.std.specs.Prelude.{flat_map}
-use Rattle.std.proofs.Common.{◌⊎◌, inl, inr}
+use Rattle.std.proofs.Common.{inl, inr}
 use Rattle.std.proofs.lemmas.List.{reverse-append}
 use Rattle.std.proofs.Math.ListN.{set}
 use Rattle.std.proofs.Math.Seq.{drop-append-add, drop-append_seam, set-append_seam, take-append_seam}
@@ -84,8 +84,8 @@ same_text [] x b = refl
 same_text (g ∷ gs) x b = refl
 
 -- where no text is read, and nothing of it has changed, none is
-pub still : (kind now : Option ScannedKind) (content left : List ℕ) (text : Option Text) → now ≡ kind → left ≡ content → text ≡ None → IsRead kind content text →
-    IsRead now left None
+pub still : (kind now : Option ScannedKind) (content left : List ℕ) (text : Option Text) → now ≡ kind → left ≡ content → text ≡ None →
+    IsRead kind content text → IsRead now left None
 still kind now content left text same same_content none read =
     subst (λ k. IsRead k left None) (sym same) (subst (λ c. IsRead kind c None) (sym same_content) (subst (IsRead kind content) none read))
 
@@ -106,7 +106,8 @@ draft_value w os outer new b x no_text none opens version read added counts =
 -- what is open of a draft between two values, or after one
 pub open_at : (draft : Draft) (b : Construction) → b.whole ≡ None → IsDraftOf draft b →
     StandOpen draft.version (reverse draft.aggregates.items) b.groups [] draft.text.items
-open_at draft b none is = subst (λ z. StandOpen draft.version (reverse draft.aggregates.items) b.groups (whole_text draft.version z) draft.text.items) none is.opens
+open_at draft b none is =
+    subst (λ z. StandOpen draft.version (reverse draft.aggregates.items) b.groups (whole_text draft.version z) draft.text.items) none is.opens
 
 -- what is open stays so where the text does
 same_open : (old new : Draft) (gs : List Group) (whole : Option Datum) → new.version ≡ old.version → new.text ≡ old.text → new.aggregates ≡ old.aggregates →
@@ -127,7 +128,8 @@ texts_of_members w (x ∷ xs) = ap (λ t. canonical_text w x ++ t) (texts_of_mem
 few_members : (w : Version) (xs : List Datum) → length xs ≤ length (flat_map (canonical_text w) xs)
 few_members w [] = omega arith
 few_members w (x ∷ xs) =
-    omega (arith, few_members w xs, length-append (canonical_text w x) (flat_map (canonical_text w) xs), some (canonical_text w x) (text_not_empty (canonical_tree w x)))
+    let full = some (canonical_text w x) (text_not_empty (canonical_tree w x)) in
+    omega (arith, few_members w xs, length-append (canonical_text w x) (flat_map (canonical_text w) xs), full)
   where
     some : (text : List ℕ) → (text ≡ [] → ⊥) → 1 ≤ length text
     some [] h = absurd (h refl)
@@ -233,7 +235,8 @@ draft_opened old new b kind count head_at members_at may is version same_kind sa
 
 -- the draft of a text that has begun
 pub draft_begun : (old new : Draft) (b : Construction) (kind : ScannedKind) → b.text ≡ None → IsDraftOf old b → new.version ≡ old.version →
-    new.text ≡ old.text → new.aggregates ≡ old.aggregates → new.kind ≡ Some kind → new.content ≡ old.content → IsDraftOf new (with_event (e.Text (text_kind_of kind)) b)
+    new.text ≡ old.text → new.aggregates ≡ old.aggregates → new.kind ≡ Some kind → new.content ≡ old.content →
+    IsDraftOf new (with_event (e.Text (text_kind_of kind)) b)
 draft_begun old new b kind no_text is version text opens begun same = record {
   opens = same_open old new b.groups b.whole version text opens is.opens;
   read =
@@ -276,7 +279,8 @@ draft_ended old new b kind (Some t) has none is had version no_kind empty added 
     let same : text_value (text_kind_of kind) old.content.items ≡ text_value t.kind t.content =
     ap (λ k. text_value k old.content.items) read.0 ∙ ap (text_value t.kind) read.1 in
     draft_value old.version (reverse old.aggregates.items) old.text.items new (record b { text = None }) (text_value t.kind t.content) refl none
-    (open_at old b none is) version (subst (λ k. IsRead k new.content.items None) (sym no_kind) empty) (added ∙ ap (λ x. old.text.items ++ canonical_text old.version x) same) counts
+    (open_at old b none is) version (subst (λ k. IsRead k new.content.items None) (sym no_kind) empty)
+    (added ∙ ap (λ x. old.text.items ++ canonical_text old.version x) same) counts
 
 -- a text that comes whole
 pub draft_whole_text : (old new : Draft) (b : Construction) (kind : ScannedKind) (s : List ℕ) → MayAllCome (whole_text_events kind s) b → IsDraftOf old b →
@@ -293,8 +297,8 @@ draft_whole_text old new b kind s may is version same_kind same_content added co
 -- ---- a scalar without content
 
 pub draft_scalar : (old new : Draft) (b : Construction) (x : Datum) → MayBegin b → IsDraftOf old b → new.version ≡ old.version → new.kind ≡ old.kind →
-    new.content ≡ old.content → new.text.items ≡ old.text.items ++ canonical_text old.version x → CountsOne (reverse old.aggregates.items) (reverse new.aggregates.items) →
-    IsDraftOf new (with_value x b)
+    new.content ≡ old.content → new.text.items ≡ old.text.items ++ canonical_text old.version x →
+    CountsOne (reverse old.aggregates.items) (reverse new.aggregates.items) → IsDraftOf new (with_value x b)
 draft_scalar old new b x may is version kind content added counts =
     draft_value old.version (reverse old.aggregates.items) old.text.items new b x may.0 may.1 (open_at old b may.1 is) version
     (still old.kind new.kind old.content.items new.content.items b.text kind (ap (λ c. c.items) content) may.0 is.read) added counts

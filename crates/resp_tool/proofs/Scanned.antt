@@ -1,19 +1,16 @@
 -- What a scanner has read of a value, from what its calls say.
-use Rattle.std.proofs.Common.{◌≡◌, inl, inr, ℕ, zero, suc, ◌+◌, ◌-◌, ◌<◌, Bool, true, false, cond, ltb, List, [], ◌∷◌, ◌++◌, length, take, drop, MatchBool, Option, refl, sym, ap, subst, ◌∙◌, arith, append_assoc, append-nil, length-append, take-append-drop}
-use Rattle.std.proofs.lemmas.Bool.{ltb-true}
-use Rattle.std.proofs.lemmas.List.{length-take-le, take_all}
-use Rattle.std.proofs.Math.Seq.{take-append-add, take-nil}
-use Rattle.resp_value.specs.Bytes.{crlf}
-use Rattle.resp_value.specs.Trees.{Tree, Spells, leaf, node, null, PlainNull, leaf_line, leaf_rest, text}
+use Rattle.std.proofs.Common.{◌≡◌, inl, inr, ℕ, zero, suc, ◌<◌, Bool, true, false, List, [], ◌∷◌, ◌++◌, length, take, MatchBool, Option, refl, sym, subst, ◌∙◌, arith, append-nil}
+use Rattle.std.proofs.lemmas.List.{take_all}
+use Rattle.resp_value.specs.Trees.{Tree, Spells}
 use Rattle.resp_value.specs.TreeValues.{value}
 use Rattle.resp_value.specs.Rules.{Rules, WithinTotal}
 use Rattle.resp_value.specs.Spellings.{IsViable}
 use Rattle.resp_value.specs.declared.cause.Cause.{Cause}
 use Rattle.resp_value.specs.declared.cause.Cause.TheVariants as cause
-use Rattle.resp_fronts.specs.Events.{Timed, all_events, events_due}
+use Rattle.resp_fronts.specs.Events.{all_events}
 use Rattle.resp_scan.specs.Listening.{HearsPiece, HearsRefusal, HearsValue}
 use Rattle.resp_scan.specs.Machine.Tokens.{Place}
-use Rattle.resp_scan.specs.Reading.{AreDue, Events, HasNoSpelling, HasNoValue, HasRead, IsRefused, MayEnd}
+use Rattle.resp_scan.specs.Reading.{Events, HasNoSpelling, HasNoValue, HasRead, IsRefused, MayEnd}
 use Rattle.resp_scan.specs.declared.event.Fault.{Fault}
 use Rattle.resp_scan.specs.declared.event.Scanned.{Scanned}
 use Rattle.resp_decode.proofs.Feeding.{due_at_start, fault_of_refused, no_value_at_start}

@@ -109,7 +109,8 @@ impl Draft {
     /// text was written.
     #[inline]
     fn end_value(&mut self, written: Result<(), AllocError>) -> bool
-        ensures counted { CountsOne (reverse self.old.aggregates.items) (reverse self.new.aggregates.items) }
+        ensures counted { CountsOne (reverse self.old.aggregates.items)
+            (reverse self.new.aggregates.items) }
         ensures same { self.new ≡ record self.old { aggregates = self.new.aggregates } }
         ensures result { result ≡ is_ok written }
     {

@@ -1,4 +1,4 @@
-use Rattle.std.proofs.Common.{rules, ◌≡◌, ◌<◌, ◌^◌, [], ◌∷◌, ◌++◌, length, reverse, refl, ap, subst, ◌∙◌, arith}
+use Rattle.std.proofs.Common.{rules, ◌≡◌, ◌<◌, ◌^◌, [], ◌∷◌, ◌++◌, length, reverse, ap, subst, ◌∙◌, arith}
 use Rattle.std.proofs.lemmas.List.{reverse-append}
 use Rattle.resp_tool.specs.Drafts.{StandOpen, CountsOne, WithHead}
 use Rattle.resp_tool.specs.declared.draft.Draft.{Draft}

@@ -1,4 +1,4 @@
-use Rattle.std.proofs.Common.{◌≡◌, ◌<◌, ◌-◌, length, reverse, refl, sym, ap, subst, arith, vec_len}
+use Rattle.std.proofs.Common.{◌≡◌, length, reverse, refl, sym, ap, subst, arith, vec_len}
 use Rattle.resp_tool.specs.Drafts.{CountsOne}
 use Rattle.resp_tool.specs.declared.draft.Draft.{Draft}
 use Rattle.resp_tool.specs.declared.draft.OpenAggregate.{OpenAggregate}
