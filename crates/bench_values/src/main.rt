@@ -1,7 +1,7 @@
 //! How long the encoder, the scanner and the decoder take a value, to be compared with others.
 //!
-//! It is a program of its own, since what a call takes depends on how many places a program calls
-//! it from. The arguments name a part, `encode` or `scan`, and what it is to do. With no argument
+//! It is a program of its own, since what a call takes depends on what else a program holds. The
+//! arguments name a part, `encode` or `scan`, and what it is to do. With no argument
 //! each counts what it does with short texts, the same on every run.
 #![tactic(auto)]
 
