@@ -16,7 +16,7 @@ use resp_script::script::read_script;
 use resp_tool::asked::Asked;
 use resp_tool::command_line::{perform, read_words, refuse_file, refuse_words, run_options, stop};
 use resp_tool::explain::explain;
-use resp_tool::live::{Gathering, LiveSink};
+use resp_print::live::{Gathering, LiveSink};
 use resp_tool::options::{Options, STANDARD_INPUT};
 use resp_tool::tool_error::ToolError;
 use resp_tool::watched::Watched;

@@ -2,12 +2,12 @@
 use Rattle.std.proofs.Common.{◌≡◌, inl, inr, ℕ, List, [], ◌∷◌, ◌++◌, Option, Result, Ok, Err, refl, sym, ap, subst, ◌∙◌, append_assoc}
 use Rattle.resp_value.specs.Bounds.{Bounds}
 use Rattle.resp_session.specs.Worlds.{World}
-use Rattle.resp_tool.specs.Written.{AppendsPart}
-use Rattle.resp_tool.proofs.WrittenLemmas.{Appends-append, Appends-none}
+use Rattle.resp_print.specs.Written.{AppendsPart}
+use Rattle.resp_print.proofs.WrittenLemmas.{Appends-append, Appends-none}
 use Rattle.resp_wire.specs.Worlds.{Shows, WorldState}
-use Rattle.resp_script.proofs.Printing.{part_next}
+use Rattle.resp_print.proofs.Printing.{part_next}
 use Rattle.resp_script.specs.Plays.{ArePlayed, BreaksInCounts, Plays, PlaysAll, PlaysPart, PlaysScript, PlaysTo, text_of_step}
-use Rattle.resp_script.specs.Printed.{PlayedEvent, Prints, counts_text}
+use Rattle.resp_script.specs.Printed.{PlayedEvent, PlaysText, counts_text}
 use Rattle.resp_script.specs.declared.play.PlayError.{PlayError}
 use Rattle.resp_script.specs.declared.play.PlayError.TheVariants.{Stopped, Write, Memory}
 
@@ -128,7 +128,7 @@ breaks_in_counts is_honest limits w events after a b c all part = record {
 -- all of the events were played, and then what came of the line of counts
 pub counts_then : {L : Type 0} (is_honest : L → Type 0) (limits : Bounds) (w : World) (events : List PlayedEvent) (after : WorldState L)
     (a b c : Option (List ℕ)) (f g : ℕ) (r : Result (Unit {0}) PlayError) (all : PlaysAll is_honest limits w events after a b) →
-    Prints b c f g r (counts_text all.played.last) → PlaysScript is_honest limits w events after a c r
+    PlaysText b c f g r (counts_text all.played.last) → PlaysScript is_honest limits w events after a c r
 counts_then is_honest limits w events after a b c f g (Ok x) all prints = record {
   played = all.played;
   shows = all.shows;

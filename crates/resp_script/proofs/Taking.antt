@@ -3,13 +3,13 @@ use Rattle.std.proofs.Common.{◌≡◌, ℕ, false, List, [], ◌∷◌, Option
 use Rattle.resp_value.specs.Bounds.{Bounds}
 use Rattle.resp_session.specs.Runs.{Step, connection_of, is_gone}
 use Rattle.resp_session.specs.Worlds.{World, WorldEvent, client_of, connection_at}
-use Rattle.resp_tool.specs.Written.{AppendsPart}
+use Rattle.resp_print.specs.Written.{AppendsPart}
 use Rattle.resp_wire.specs.Worlds.{Shows, WorldState, outcome_of}
 use Rattle.resp_wire.specs.declared.event.Outcome.{Outcome}
 use Rattle.resp_wire.specs.declared.event.Outcome.TheVariants.{Done}
 use Rattle.resp_script.proofs.HeardOf.{are_there, still_there}
 use Rattle.resp_script.specs.Plays.{AreThere, AreShownOn, ArePlayed, PlaysPart, PlaysTo, text_of_step}
-use Rattle.resp_script.specs.Printed.{PlayedEvent, Prints}
+use Rattle.resp_script.specs.Printed.{PlayedEvent, PlaysText}
 use Rattle.resp_script.specs.declared.play.PlayError.{PlayError}
 use Rattle.resp_script.specs.declared.play.PlayError.TheVariants.{Stopped, Write, Memory}
 
@@ -38,7 +38,7 @@ one_part limits w next played outcome a b step part = record {
 -- an event that was taken is all that was played
 pub took : {L : Type 0} (is_honest : L → Type 0) (limits : Bounds) (w next : World) (played : PlayedEvent) (outcome : Outcome) (after : WorldState L)
     (a b : Option (List ℕ)) (f g : ℕ) (r : Result (Unit {0}) PlayError) → Step limits w played.event (outcome_of outcome) next →
-    Shows is_honest after limits next → Prints a b f g r (text_of_step w played (outcome_of outcome) next) →
+    Shows is_honest after limits next → PlaysText a b f g r (text_of_step w played (outcome_of outcome) next) →
     PlaysTo is_honest limits w (played ∷ []) after a b r
 unfolding one_played
 took is_honest limits w next played outcome after a b f g (Ok x) step shows prints =

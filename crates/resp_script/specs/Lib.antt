@@ -2,6 +2,5 @@ pub mod ScriptSteps
 pub mod Reasons
 pub mod Scripts
 pub mod SaidLines
-pub mod Growing
 pub mod Printed
 pub mod Plays

@@ -9,7 +9,7 @@ use Rattle.resp_session.specs.Connections.{Connection, shown_pushes, shown_repli
 use Rattle.resp_session.specs.Runs as runs
 use Rattle.resp_session.specs.Runs.{Step, connection_of}
 use Rattle.resp_session.specs.Worlds.{World, WorldEvent, ToServer, ToClient, client_of}
-use Rattle.resp_tool.specs.Written.{AppendsPart}
+use Rattle.resp_print.specs.Written.{AppendsPart}
 use Rattle.resp_wire.specs.Worlds.{Shows, WorldState, event_of}
 use Rattle.resp_wire.specs.declared.event.Event.{Event}
 use Rattle.resp_wire.specs.declared.event.Outcome.{Outcome}

@@ -1,55 +1,28 @@
 -- The text that is printed of what comes of events.
 use Rattle.std.specs.Prelude.{◌≡◌, ℕ, ◌+◌, Bool, true, false, List, [], ◌∷◌, ◌++◌, length, drop, min, Option, Some, Result, Ok, Err, codes, decimal}
-use Rattle.std.specs.List.{flat_map}
 use Rattle.resp_value.specs.Causes.{name_of}
-use Rattle.resp_value.specs.Data.{Datum, scalar}
-use Rattle.resp_value.specs.Data as d
+use Rattle.resp_value.specs.Data.{Datum}
 use Rattle.resp_value.specs.Devices.{Appends, count_after, last_count}
 use Rattle.resp_value.specs.declared.cause.Cause.{Cause}
 use Rattle.resp_session.specs.Connections.{Connection, shown_pushes, shown_replies}
 use Rattle.resp_session.specs.Runs.{Outcome, Done, Refused, Gone}
 use Rattle.resp_session.specs.Worlds.{World, WorldEvent}
-use Rattle.resp_tool.specs.Shown.{shown_text}
-use Rattle.resp_tool.specs.Written.{AppendsPart}
-use Rattle.resp_script.specs.Scripts.{lines_of}
+use Rattle.resp_print.specs.Headings.{push_heading, reply_heading}
+use Rattle.resp_print.specs.Shown.{lines_on}
+use Rattle.resp_print.specs.Written.{AppendsPart}
 use Rattle.resp_script.specs.declared.play.PlayError.{PlayError}
 use Rattle.resp_script.specs.declared.play.PlayError.TheVariants.{Stopped, Write, Memory}
-
--- whether a value has a short way to its line
-abbrev pub is_short : Datum → Bool
-is_short (scalar d.Null) = true
-is_short (scalar (d.Int i)) = true
-is_short (scalar (d.Simple s)) = true
-is_short (scalar (d.Bulk s)) = true
-is_short _ = false
-
--- a line two spaces deeper
-abbrev pub indented_line : List ℕ → List ℕ
-indented_line line = codes "  " ++ (line ++ codes "\n")
-
--- a text whose lines stand two spaces deeper
-abbrev pub indented : List ℕ → List ℕ
-indented text = flat_map indented_line (lines_of text)
-
--- the line before a client's reply to its command of this number
-abbrev pub reply_heading : ℕ → ℕ → List ℕ
-reply_heading client number =
-    (codes "client " ++ decimal client ++ codes " reply ") ++ (decimal number ++ codes "\n")
-
--- the line before a push to a client
-abbrev pub push_heading : ℕ → List ℕ
-push_heading client = codes "client " ++ decimal client ++ codes " push\n"
 
 -- replies to a client, of which this many came before
 abbrev pub reply_texts : ℕ → ℕ → List Datum → List ℕ
 reply_texts client count [] = []
 reply_texts client count (x ∷ xs) =
-    (reply_heading client (count + 1) ++ indented (shown_text x)) ++ reply_texts client (count + 1) xs
+    (reply_heading client (count + 1) ++ lines_on 1 x) ++ reply_texts client (count + 1) xs
 
 -- pushes to a client
 abbrev pub push_texts : ℕ → List Datum → List ℕ
 push_texts client [] = []
-push_texts client (x ∷ xs) = (push_heading client ++ indented (shown_text x)) ++ push_texts client xs
+push_texts client (x ∷ xs) = (push_heading client ++ lines_on 1 x) ++ push_texts client xs
 
 -- what a client has heard beyond some replies and pushes: first the further replies, and then the further pushes
 abbrev pub heard_text : ℕ → ℕ → ℕ → Connection → List ℕ
@@ -94,9 +67,9 @@ counts_text w =
     (codes "commands " ++ decimal (length w.order) ++ codes " keys ") ++ (decimal (key_count w) ++ codes "\n")
 
 -- The text was appended; or, where a write failed or when out of memory, a first part of it.
-abbrev pub Prints : {X : Type 0} → Option (List ℕ) → Option (List ℕ) → ℕ → ℕ → Result X PlayError → List ℕ → Type 0
-Prints before after failures failures' (Ok x) text = Appends before after text × (failures' ≡ failures)
-Prints before after failures failures' (Err Write) text =
+abbrev pub PlaysText : {X : Type 0} → Option (List ℕ) → Option (List ℕ) → ℕ → ℕ → Result X PlayError → List ℕ → Type 0
+PlaysText before after failures failures' (Ok x) text = Appends before after text × (failures' ≡ failures)
+PlaysText before after failures failures' (Err Write) text =
     AppendsPart before after text × (failures' ≡ count_after 1 failures)
-Prints before after failures failures' (Err Memory) text = AppendsPart before after text × (failures' ≡ failures)
-Prints before after failures failures' (Err (Stopped line cause)) text = ⊥
+PlaysText before after failures failures' (Err Memory) text = AppendsPart before after text × (failures' ≡ failures)
+PlaysText before after failures failures' (Err (Stopped line cause)) text = ⊥

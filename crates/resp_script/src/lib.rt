@@ -2,7 +2,6 @@
 //! world of clients of one server.
 #![tactic(auto)]
 
-mod growing_sink;
 pub mod heard;
 pub mod play;
 pub mod script;

@@ -2,17 +2,17 @@
 
 ghost use Rattle.std.specs.Prelude.{◌≡◌, true, ◌+◌, ◌<◌, ◌^◌, ◌++◌, ◌∷◌, [], codes, decimal, drop, length, None, Option, Some, IfErr, OnOk};
 ghost use Rattle.resp_script.specs.Plays.{AreThere, EndsPrint, FailsToWrite, AreShownOn, IsAtLine, IsAtStep, KeepsCause, PlaysScript, PlaysTo, flush_events, no_connection_line, played, step_events, steps_events};
-ghost use Rattle.resp_script.specs.Printed.{Prints, counts_text, key_count, gone_text, heard_text, outcome_text, refused_text};
+ghost use Rattle.resp_script.specs.Printed.{PlaysText, counts_text, key_count, gone_text, heard_text, outcome_text, refused_text};
 ghost use Rattle.resp_session.specs.Connections.{Connection};
 ghost use Rattle.resp_session.specs.Worlds as session;
 ghost use Rattle.resp_session.specs.Worlds.{connection_at};
-ghost use Rattle.resp_tool.specs.Written.{WritesText};
+ghost use Rattle.resp_print.specs.Written.{WritesText};
 ghost use Rattle.resp_value.specs.Bounds.{Bounds};
 ghost use Rattle.resp_wire.specs.Worlds.{Shows, event_of, outcome_of};
 
 use crate::heard::{write_numbers, write_pushes, write_replies};
 use crate::script::Script;
-use resp_tool::text::{write_number, write_text};
+use resp_print::text::{write_number, write_text};
 use resp_value::cause::Cause;
 use resp_value::device::{DeviceFault, Sink};
 use resp_wire::{Event, Link, Outcome, World};
@@ -123,7 +123,7 @@ fn write_counts<L: Link, S: BuildHasher + Drop, W: Sink>(
     writer: &mut W,
 ) -> Result<(), PlayError>
     ensures prints { (limits : Bounds) (w : session.World) → Shows L.is_honest world.now limits w →
-        Prints (W.written writer.old) (W.written writer.new) (W.failures writer.old)
+        PlaysText (W.written writer.old) (W.written writer.new) (W.failures writer.old)
         (W.failures writer.new) result (counts_text w) }
     ensures ends { EndsPrint (W.failures writer.old) (W.failures writer.new) result }
 {
@@ -279,7 +279,7 @@ impl Before {
             Shows L.is_honest world.now limits next → (c : Option Connection) →
             AreShownOn self.now.replies self.now.pushes c →
             AreThere outcome c (connection_at next.connections self.now.client) →
-            Prints (W.written writer.old) (W.written writer.new) (W.failures writer.old)
+            PlaysText (W.written writer.old) (W.written writer.new) (W.failures writer.old)
             (W.failures writer.new) result (outcome_text self.now.client is_flush
             (outcome_of outcome) c (connection_at next.connections self.now.client)) }
         ensures ends { EndsPrint (W.failures writer.old) (W.failures writer.new) result }
@@ -301,7 +301,7 @@ impl Before {
         ensures prints { (limits : Bounds) (next : session.World) →
             Shows L.is_honest world.now limits next → (c : Connection) →
             connection_at next.connections self.now.client ≡ Some c →
-            Prints (W.written writer.old) (W.written writer.new) (W.failures writer.old)
+            PlaysText (W.written writer.old) (W.written writer.new) (W.failures writer.old)
             (W.failures writer.new) result
             (heard_text self.now.client self.now.replies self.now.pushes c) }
         ensures ends { EndsPrint (W.failures writer.old) (W.failures writer.new) result }
@@ -312,10 +312,10 @@ impl Before {
         let client = self.client as u64;
         let replies = beyond(world.replies(self.client), self.replies);
         let pushes = beyond(world.pushes(self.client), self.pushes);
-        if let Err(error) = write_replies(alloc, client, self.replies as u64, replies, writer) {
+        if let Err(error) = write_replies(client, self.replies as u64, replies, writer) {
             return Err(error);
         }
-        write_pushes(alloc, client, pushes, writer)
+        write_pushes(client, pushes, writer)
     }
 }
 
@@ -333,7 +333,7 @@ fn beyond<T>(items: &[T], count: usize) -> &[T]
 
 /// Writes that an event of a client was refused.
 fn write_refused<W: Sink>(client: u64, cause: Cause, writer: &mut W) -> Result<(), PlayError>
-    ensures { Prints (W.written writer.old) (W.written writer.new) (W.failures writer.old)
+    ensures { PlaysText (W.written writer.old) (W.written writer.new) (W.failures writer.old)
         (W.failures writer.new) result (refused_text client cause) }
 {
     match write_refusal(client, cause.name().as_bytes(), writer) {
@@ -355,7 +355,7 @@ fn write_refusal<W: Sink>(client: u64, name: &[u8], writer: &mut W) -> Result<()
 
 /// Writes that a client is gone, but nothing of a flush.
 fn write_gone<W: Sink>(client: u64, is_flush: bool, writer: &mut W) -> Result<(), PlayError>
-    ensures { Prints (W.written writer.old) (W.written writer.new) (W.failures writer.old)
+    ensures { PlaysText (W.written writer.old) (W.written writer.new) (W.failures writer.old)
         (W.failures writer.new) result (gone_text client is_flush) }
 {
     if is_flush {

@@ -2,7 +2,7 @@
 
 ghost use Rattle.std.specs.Prelude.{◌≡◌, ◌+◌, ◌-◌, ◌<◌, ◌≤◌, [], ◌∷◌, length, IfOk, IfErr, IfSome, IfNone, MatchBool};
 ghost use Rattle.resp_script.specs.Scripts.{IsRefusedScript, IsScript, NameNoClients, PassesLimit, lines_of};
-ghost use Rattle.resp_tool.specs.Written.{WritesText};
+ghost use Rattle.resp_print.specs.Written.{WritesText};
 
 pub mod reasons;
 pub mod steps;
@@ -10,7 +10,7 @@ mod words;
 
 use crate::script::reasons::BadLine;
 use memchr::memchr;
-use resp_tool::text::{write_number, write_text};
+use resp_print::text::{write_number, write_text};
 use resp_value::device::{DeviceFault, Sink};
 use resp_wire::Event;
 use std::alloc::Global;

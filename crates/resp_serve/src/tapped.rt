@@ -38,7 +38,6 @@ enum Lately {
 /// A client's connection and that to the server for it.
 #[derive(Drop)]
 pub(crate) struct Tapped {
-    alloc: Global,
     client: TcpStream,
     server: TcpStream,
     to_server: Lane,
@@ -103,7 +102,6 @@ fn after_write<W>(writer: &Output<W>) -> Lately {
 /// What sees the pieces that one side sends.
 #[derive(Drop)]
 struct Seeing<'a, W, C> {
-    alloc: Global,
     tap: &'a mut TimedTap,
     client: u64,
     side: Side,
@@ -120,7 +118,6 @@ impl<W: Sink, C: Clock> Seeing<'_, W, C> {
         }
         let now = self.timing.now(self.clock);
         watch(
-            self.alloc,
             self.tap,
             self.client,
             self.side,
@@ -141,7 +138,6 @@ impl Tapped {
         number: u64,
     ) -> Result<Self, AllocError> {
         Ok(Tapped {
-            alloc,
             client,
             server,
             to_server: Lane::new(alloc)?,
@@ -184,7 +180,6 @@ impl Tapped {
         writer: &mut W,
     ) -> Lately {
         let mut see = Seeing {
-            alloc: self.alloc,
             tap: &mut self.tap,
             client: self.number,
             side,

@@ -10,7 +10,7 @@ use mio::{Events, Interest, Poll, Token};
 use resp_tap::print::write_client_line;
 use resp_tap::screen::Screen;
 use resp_tap::stamp::Stamp;
-use resp_tool::live::LiveSink;
+use resp_print::live::LiveSink;
 use resp_value::limits::Limits;
 use slab::Slab;
 use std::alloc::Global;

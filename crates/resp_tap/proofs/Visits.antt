@@ -1,6 +1,6 @@
 -- What visits hand on, one after another.
 use Rattle.std.proofs.Common.{ℕ, List, ◌++◌, Option, None, Some, sym, ap, subst, ◌∙◌, append_assoc}
-use Rattle.resp_tool.proofs.WrittenLemmas.{Appends-append}
+use Rattle.resp_print.proofs.WrittenLemmas.{Appends-append}
 use Rattle.resp_tap.specs.Ways.{HaveCome, VisitsAddUp}
 
 -- what came, and then more

@@ -1,12 +1,11 @@
 -- What is printed of what was seen.
-use Rattle.std.specs.Prelude.{ℕ, Bool, true, false, List, [], ◌++◌, Option, codes, decimal}
+use Rattle.std.specs.Prelude.{ℕ, ◌+◌, List, [], ◌++◌, Option, codes, decimal}
 use Rattle.std.specs.List.{flat_map}
 use Rattle.resp_value.specs.Causes.{name_of}
-use Rattle.resp_value.specs.Data.{Datum}
+use Rattle.resp_value.specs.Data.{Datum, depth}
 use Rattle.resp_value.specs.Values.{datum_of}
 use Rattle.resp_value.specs.declared.value.Value.TheVariants as value
-use Rattle.resp_tool.specs.Shown.{quoted_text, shown_text}
-use Rattle.resp_script.specs.Printed.{indented}
+use Rattle.resp_print.specs.Shown.{lines_on, quoted_text}
 use Rattle.resp_tap.specs.Stamps.{ending_text}
 use Rattle.resp_tap.specs.declared.seen.Place.{Place}
 use Rattle.resp_tap.specs.declared.seen.Place.TheVariants as place
@@ -44,15 +43,15 @@ command_text client number stamp words = numbered_line client (codes " command "
 
 -- the reply to it
 abbrev pub reply_text : ℕ → ℕ → Option Stamp → Datum → List ℕ
-reply_text client number stamp x = numbered_line client (codes " reply ") number stamp ++ indented (shown_text x)
+reply_text client number stamp x = numbered_line client (codes " reply ") number stamp ++ lines_on 1 x
 
 -- a push to a client
 abbrev pub push_text : ℕ → Option Stamp → Datum → List ℕ
-push_text client stamp x = client_line client (codes " push") stamp ++ indented (shown_text x)
+push_text client stamp x = client_line client (codes " push") stamp ++ lines_on 1 x
 
 -- a value to a client that is paired with no command
 abbrev pub value_text : ℕ → Option Stamp → Datum → List ℕ
-value_text client stamp x = client_line client (codes " value") stamp ++ indented (shown_text x)
+value_text client stamp x = client_line client (codes " value") stamp ++ lines_on 1 x
 
 -- what a refused byte belongs to
 abbrev pub place_text : Place → Option Stamp → List ℕ
@@ -83,9 +82,9 @@ seen_text client stamp (Value x) = value_text client stamp (datum_of x)
 seen_text client stamp (NotCommand number) = refusal_text client (codes "NotCommand") 0 (place.Command number) stamp
 seen_text client stamp (Refused cause at where') = refusal_text client (name_of cause) at where' stamp
 
--- whether what was seen has the lines of a value, which take memory
-abbrev pub has_value : Seen → Bool
-has_value (Reply number x) = true
-has_value (Push items) = true
-has_value (Value x) = true
-has_value _ = false
+-- how many levels the lines of what was seen have
+abbrev pub levels_of : Seen → ℕ
+levels_of (Reply number x) = 1 + depth (datum_of x)
+levels_of (Push items) = 1 + depth (datum_of (value.Push items))
+levels_of (Value x) = 1 + depth (datum_of x)
+levels_of _ = 0

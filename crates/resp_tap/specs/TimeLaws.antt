@@ -1,8 +1,8 @@
 -- What must be true of what is printed of times.
 use Rattle.std.specs.Prelude.{◌≡◌, ℕ, ◌++◌, None, codes}
 use Rattle.resp_value.specs.Data.{Datum}
-use Rattle.resp_tool.specs.Shown.{shown_text}
-use Rattle.resp_script.specs.Printed.{indented, push_heading, reply_heading}
+use Rattle.resp_print.specs.Shown.{lines_on}
+use Rattle.resp_print.specs.Headings.{push_heading, reply_heading}
 use Rattle.resp_tap.specs.Digits.{micros_text, time_text}
 use Rattle.resp_tap.specs.Texts.{push_text, reply_text}
 
@@ -16,5 +16,5 @@ pub record TimesAreToldSo : Type 0 where
 -- without a time, replies and pushes are printed as those of a script are
 abbrev pub PrintsAsPlayed : Type 0
 PrintsAsPlayed = (client number : ℕ) (x : Datum) →
-    (reply_text client number None x ≡ reply_heading client number ++ indented (shown_text x)) ×
-    (push_text client None x ≡ push_heading client ++ indented (shown_text x))
+    (reply_text client number None x ≡ reply_heading client number ++ lines_on 1 x) ×
+    (push_text client None x ≡ push_heading client ++ lines_on 1 x)

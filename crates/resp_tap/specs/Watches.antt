@@ -1,10 +1,9 @@
 -- What is seen and printed of pieces that either side sends.
-use Rattle.std.specs.Prelude.{◌≡◌, ℕ, true, false, List, [], ◌∷◌, length, drop, slice_get, Option, Result, IfErr}
-use Rattle.resp_script.specs.Printed.{Prints}
-use Rattle.resp_script.specs.declared.play.PlayError.{PlayError}
-use Rattle.resp_script.specs.declared.play.PlayError.TheVariants.{Write}
+use Rattle.std.specs.Prelude.{◌≡◌, ℕ, true, false, List, [], ◌∷◌, length, drop, slice_get, Option, Result}
+use Rattle.resp_print.specs.Printed.{Prints}
+use Rattle.resp_print.specs.declared.print_error.PrintError.{PrintError}
 use Rattle.resp_tap.specs.Taps.{TapState, at_front, tap_state}
-use Rattle.resp_tap.specs.Texts.{has_value, seen_text}
+use Rattle.resp_tap.specs.Texts.{levels_of, seen_text}
 use Rattle.resp_tap.specs.Times.{HasTimes, KeepsTimes, stamp_of}
 use Rattle.resp_tap.specs.Watching.{KeepsRequest, KeepsValue, SeesRequest, SeesValue, WhereAnswered, WhereRequested}
 use Rattle.resp_tap.specs.declared.moment.Moment.{Moment}
@@ -37,14 +36,13 @@ pub record SeesFirst (side : Side) (now : Option Moment) (old new : TimedTap) (p
       SeesSent side (tap_state old.tap) new.tap front piece used what × KeepsTimes now old new)
   pub unread : (tap_state old.tap).is_read ≡ false → (new ≡ old) × (used ≡ length piece) × (what ≡ seen.Nothing)
 
--- What is seen is printed, as far as writes succeed and memory is found for the lines of a value. Where times are told
--- a reply has that of the command that it answers.
+-- The text of what is seen is printed, as far as writes succeed. If times are printed, the text of a reply has the time
+-- of the command that it answers.
 pub record PrintsSeen (client : ℕ) (now : Option Moment) (old : TimedTap) (what : Seen) (before after : Option (List ℕ))
-    (failures failures' : ℕ) (printed : Result (Unit {0}) PlayError) : Type 0 where
+    (failures failures' : ℕ) (printed : Result (Unit {0}) PrintError) : Type 0 where
   pub asked : Option ℕ
   pub of_command : (times : List ℕ) → HasTimes old times → asked ≡ slice_get times (tap_state old.tap).answered
-  pub text : Prints before after failures failures' printed (seen_text client (stamp_of now asked what) what)
-  pub memory : has_value what ≡ false → IfErr printed (λ error. error ≡ Write)
+  pub text : Prints before after failures failures' printed (seen_text client (stamp_of now asked what) what) (levels_of what)
 
 -- All of these are seen in a piece, one after another, and each is printed before the next is seen.
 abbrev pub WatchesAll : ℕ → Side → Option Moment → List Seen → TimedTap → TimedTap → List ℕ → Option (List ℕ) →
@@ -53,6 +51,6 @@ WatchesAll client side now [] old new piece before after failures failures' =
     (piece ≡ []) × (new ≡ old) × (after ≡ before) × (failures' ≡ failures)
 WatchesAll client side now (what ∷ more) old new piece before after failures failures' =
     (next : TimedTap) × (used : ℕ) × (written : Option (List ℕ)) × (failed : ℕ) ×
-    (printed : Result (Unit {0}) PlayError) × SeesFirst side now old next piece used what ×
+    (printed : Result (Unit {0}) PrintError) × SeesFirst side now old next piece used what ×
     PrintsSeen client now old what before written failures failed printed ×
     WatchesAll client side now more next new (drop used piece) written after failed failures'

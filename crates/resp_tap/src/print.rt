@@ -1,47 +1,46 @@
 //! What is printed of what was seen.
 
-ghost use Rattle.std.specs.Prelude.{◌≡◌, ◌++◌, false, ℕ, List, Option, Some, codes, decimal, IfErr};
-ghost use Rattle.resp_script.specs.Printed.{Prints, indented};
-ghost use Rattle.resp_tool.specs.Shown.{shown_text};
-ghost use Rattle.resp_tool.specs.Written.{WritesText};
+ghost use Rattle.std.specs.Prelude.{◌+◌, ◌++◌, ℕ, List, Option, Some, codes, decimal};
+ghost use Rattle.resp_print.specs.Printed.{Prints};
+ghost use Rattle.resp_print.specs.Written.{WritesText};
+ghost use Rattle.resp_value.specs.Data.{depth};
 ghost use Rattle.resp_value.specs.Values.{datum_of};
 ghost use Rattle.resp_value.specs.declared.value.Value.TheVariants as value;
 ghost use Rattle.resp_tap.specs.Stamps.{ending_text};
-ghost use Rattle.resp_tap.specs.Texts.{byte_text, client_line, command_text, has_value, numbered_end, numbered_line, place_text, push_text, refusal_heading, refusal_text, reply_text, seen_text, value_text, word_text, words_line, words_text};
+ghost use Rattle.resp_tap.specs.Texts.{byte_text, client_line, command_text, levels_of, numbered_end, numbered_line, place_text, push_text, refusal_heading, refusal_text, reply_text, seen_text, value_text, word_text, words_line, words_text};
 
 use crate::seen::{Place, Seen};
 use crate::stamp::{Stamp, write_ending, write_stamp};
-use resp_script::heard::{write_members, write_value};
-use resp_script::play::PlayError;
+use resp_print::print_error::PrintError;
+use resp_print::text::{write_number, write_quoted, write_text};
+use resp_print::value::{write_push_value, write_value};
 use resp_session::words::Words;
-use resp_tool::text::{write_number, write_quoted, write_text};
 use resp_value::device::{DeviceFault, Sink};
 use resp_value::value::{Members, Value};
-use std::alloc::Global;
 
-/// Writes what was seen of the connection of the client with this number, as `resp loop` does of
-/// its clients, and nothing where nothing was. Where it is stamped the first line tells the time.
-/// Refuses where a write fails, or when out of memory for the lines of a value, and then a first
-/// part of it was written.
+/// Writes what was seen of the connection of the client with this number, as `resp loop` prints
+/// what its clients receive. If there is a stamp, the first line ends with the time.
+///
+/// # Errors
+///
+/// Fails as [`write_value`] does. The sink has then taken a first part of the text.
 pub fn write_seen<W: Sink>(
-    alloc: Global,
     client: u64,
     stamp: Option<Stamp>,
     seen: &Seen,
     writer: &mut W,
-) -> Result<(), PlayError>
-    ensures printed { Prints (W.written writer.old) (W.written writer.new) (W.failures writer.old)
-        (W.failures writer.new) result (seen_text client stamp seen.now) }
-    ensures memory { has_value seen.now ≡ false → IfErr result (λ error. error ≡ PlayError.Write) }
+) -> Result<(), PrintError>
+    ensures { Prints (W.written writer.old) (W.written writer.new) (W.failures writer.old)
+        (W.failures writer.new) result (seen_text client stamp seen.now) (levels_of seen.now) }
 {
     match seen {
         Seen::Nothing | Seen::Passed => Ok(()),
         Seen::Command { number, words } => {
             printed(write_command(client, *number, stamp, words, writer))
         }
-        Seen::Reply { number, value } => write_reply(alloc, client, *number, stamp, value, writer),
-        Seen::Push(items) => write_push(alloc, client, stamp, items, writer),
-        Seen::Value(value) => write_unpaired(alloc, client, stamp, value, writer),
+        Seen::Reply { number, value } => write_reply(client, *number, stamp, value, writer),
+        Seen::Push(items) => write_push(client, stamp, items, writer),
+        Seen::Value(value) => write_unpaired(client, stamp, value, writer),
         Seen::NotCommand { number } => {
             let place = Place::Command(*number);
             printed(write_refusal(client, b"NotCommand", 0, place, stamp, writer))
@@ -54,68 +53,67 @@ pub fn write_seen<W: Sink>(
 }
 
 /// What a write came to.
-fn printed(written: Result<(), DeviceFault>) -> Result<(), PlayError>
-    ensures printed { (before after : Option (List ℕ)) (failures failures' : ℕ) (text : List ℕ) →
-        WritesText before after failures failures' written text →
-        Prints before after failures failures' result text }
-    ensures no_memory { IfErr result (λ error. error ≡ PlayError.Write) }
+fn printed(written: Result<(), DeviceFault>) -> Result<(), PrintError>
+    ensures { (before after : Option (List ℕ)) (failures failures' : ℕ) (text : List ℕ)
+        (levels : ℕ) → WritesText before after failures failures' written text →
+        Prints before after failures failures' result text levels }
 {
     match written {
         Ok(()) => Ok(()),
-        Err(_) => Err(PlayError::Write),
+        Err(_) => Err(PrintError::Write),
     }
 }
 
 /// Writes the reply to a command, below its heading.
 fn write_reply<W: Sink>(
-    alloc: Global,
     client: u64,
     number: u64,
     stamp: Option<Stamp>,
     value: &Value,
     writer: &mut W,
-) -> Result<(), PlayError>
+) -> Result<(), PrintError>
     ensures { Prints (W.written writer.old) (W.written writer.new) (W.failures writer.old)
-        (W.failures writer.new) result (reply_text client number stamp (datum_of value.now)) }
+        (W.failures writer.new) result (reply_text client number stamp (datum_of value.now))
+        (1 + depth (datum_of value.now)) }
 {
     match write_numbered_line(client, b" reply ", number, stamp, writer) {
-        Ok(()) => write_value(alloc, value, writer),
-        Err(_) => Err(PlayError::Write),
+        Ok(()) => write_value(value, 1, writer),
+        Err(_) => Err(PrintError::Write),
     }
 }
 
 /// Writes a push, below its heading.
 fn write_push<W: Sink>(
-    alloc: Global,
     client: u64,
     stamp: Option<Stamp>,
     items: &Members,
     writer: &mut W,
-) -> Result<(), PlayError>
+) -> Result<(), PrintError>
     ensures { Prints (W.written writer.old) (W.written writer.new) (W.failures writer.old)
         (W.failures writer.new) result
-        (push_text client stamp (datum_of (value.Push items.now))) }
+        (push_text client stamp (datum_of (value.Push items.now)))
+        (1 + depth (datum_of (value.Push items.now))) }
 {
     match write_client_line(client, b" push", stamp, writer) {
-        Ok(()) => write_members(alloc, items, writer),
-        Err(_) => Err(PlayError::Write),
+        Ok(()) => write_push_value(items, 1, writer),
+        Err(_) => Err(PrintError::Write),
     }
 }
 
 /// Writes a value that is paired with no command, below its heading.
 fn write_unpaired<W: Sink>(
-    alloc: Global,
     client: u64,
     stamp: Option<Stamp>,
     value: &Value,
     writer: &mut W,
-) -> Result<(), PlayError>
+) -> Result<(), PrintError>
     ensures { Prints (W.written writer.old) (W.written writer.new) (W.failures writer.old)
-        (W.failures writer.new) result (value_text client stamp (datum_of value.now)) }
+        (W.failures writer.new) result (value_text client stamp (datum_of value.now))
+        (1 + depth (datum_of value.now)) }
 {
     match write_client_line(client, b" value", stamp, writer) {
-        Ok(()) => write_value(alloc, value, writer),
-        Err(_) => Err(PlayError::Write),
+        Ok(()) => write_value(value, 1, writer),
+        Err(_) => Err(PrintError::Write),
     }
 }
 

@@ -4,7 +4,7 @@ ghost use Rattle.std.specs.Prelude.{◌≡◌, ◌≤◌, length, None, IfOk};
 ghost use Rattle.resp_value.specs.Devices.{Writes, count_after, failures_after, write_fails};
 
 use bytes::BytesMut;
-use resp_tool::text::write_number;
+use resp_print::text::write_number;
 use resp_value::device::{DeviceFault, MemorySink, Sink};
 use std::alloc::Global;
 use std::marker::Model;

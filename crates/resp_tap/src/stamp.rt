@@ -1,11 +1,11 @@
 //! When something was seen, as it is printed.
 
 ghost use Rattle.std.specs.Prelude.{◌≡◌, ◌++◌, ◌/◌, ◌%◌, None, Some, codes};
-ghost use Rattle.resp_tool.specs.Written.{WritesText};
+ghost use Rattle.resp_print.specs.Written.{WritesText};
 ghost use Rattle.resp_tap.specs.Digits.{digit, micros_text, time_text, two_digits};
 
 use crate::moment::Moment;
-use resp_tool::text::{write_number, write_text};
+use resp_print::text::{write_number, write_text};
 use resp_value::device::{DeviceFault, Sink};
 
 /// When something was seen, in microseconds.

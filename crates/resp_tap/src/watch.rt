@@ -11,9 +11,8 @@ use crate::print::write_seen;
 use crate::seen::{Seen, Step};
 use crate::stamp::Stamp;
 use crate::timed::TimedTap;
-use resp_script::play::PlayError;
+use resp_print::print_error::PrintError;
 use resp_value::device::Sink;
-use std::alloc::Global;
 
 /// Which side of a connection sends.
 #[derive(Clone, Copy, Debug, PartialEq, Eq)]
@@ -28,7 +27,7 @@ pub struct Watched {
     /// The number of bytes used from the front of the piece.
     pub used: usize,
     /// Refuses as [`write_seen`] does.
-    pub printed: Result<(), PlayError>,
+    pub printed: Result<(), PrintError>,
 }
 
 /// Takes bytes that a side sends until something is seen or the piece ends.
@@ -71,7 +70,6 @@ fn stamp_of(now: Option<Moment>, asked: Option<u64>, seen: &Seen) -> Option<Stam
 /// something is seen or the piece ends, and prints what is seen: where a moment is given, with the
 /// time of day, and a reply with how long its command waited for it.
 pub fn watch_some<W: Sink>(
-    alloc: Global,
     tap: &mut TimedTap,
     client: u64,
     side: Side,
@@ -90,7 +88,7 @@ pub fn watch_some<W: Sink>(
     let asked = tap.asked();
     let step = step(tap, side, piece, now);
     let stamp = stamp_of(now, asked, &step.seen);
-    let printed = write_seen(alloc, client, stamp, &step.seen, writer);
+    let printed = write_seen(client, stamp, &step.seen, writer);
     Watched {
         used: step.used,
         printed,
@@ -100,7 +98,6 @@ pub fn watch_some<W: Sink>(
 /// Gives the tap a piece that a side of the connection of the client with this number has sent, and
 /// prints all that is seen, as [`watch_some`] does. What can't be printed is left out.
 pub fn watch<W: Sink>(
-    alloc: Global,
     tap: &mut TimedTap,
     client: u64,
     side: Side,
@@ -115,7 +112,7 @@ pub fn watch<W: Sink>(
 {
     let mut rest = piece;
     while !rest.is_empty() {
-        let watched = watch_some(alloc, tap, client, side, rest, now, writer);
+        let watched = watch_some(tap, client, side, rest, now, writer);
         // A byte at least was used.
         rest = &rest[watched.used..];
     }

@@ -5,11 +5,11 @@ use Rattle.resp_value.specs.Devices.{Appends}
 use Rattle.resp_value.specs.Rules.{Rules}
 use Rattle.resp_tool.specs.Counts.{Counts, CountsAll, CountsBy, CountsPart, IsAny, LeavesNothing, counts_line, no_text}
 use Rattle.resp_tool.specs.Streams.{RendersCounted, RendersStopped}
-use Rattle.resp_tool.specs.Written.{AppendsPart}
+use Rattle.resp_print.specs.Written.{AppendsPart}
 use Rattle.resp_tool.specs.declared.stream.Totals.{Totals}
 use Rattle.resp_tool.specs.declared.tool_error.ToolError.{ToolError}
 use Rattle.resp_tool.specs.declared.tool_error.ToolError.TheVariants as e
-use Rattle.resp_tool.proofs.WrittenLemmas.{Appends-append}
+use Rattle.resp_print.proofs.WrittenLemmas.{Appends-append}
 
 -- values without texts
 no_texts : (xs : List Datum) → flat_map no_text xs ≡ []

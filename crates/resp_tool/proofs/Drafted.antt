@@ -18,12 +18,12 @@ use Rattle.resp_tool.specs.Counts.{LeavesNothing}
 use Rattle.resp_tool.specs.Drafts.{HasDrafted, IsDraftOf}
 use Rattle.resp_tool.specs.Takings.{Declines, TakesUnfinished, WritesValue}
 use Rattle.resp_tool.specs.Takings as tool
-use Rattle.resp_tool.specs.Written.{AppendsPart}
+use Rattle.resp_print.specs.Written.{AppendsPart}
 use Rattle.resp_tool.specs.declared.draft.Draft.{Draft}
 use Rattle.resp_tool.proofs.Drafting.{draft_is_text}
 use Rattle.resp_tool.proofs.Scanned.{scanned_nothing, value_uses_some}
 use Rattle.resp_tool.proofs.Rendered.{spelled_one}
-use Rattle.resp_tool.proofs.WrittenLemmas.{Appends-none}
+use Rattle.resp_print.proofs.WrittenLemmas.{Appends-none}
 
 -- a value that was read whole, and the draft of it, which has its text
 pub record IsDrafted (r : Rules) (draft : Draft) (written : List ℕ) : Type 0 where

@@ -11,7 +11,7 @@ use Rattle.resp_tool.specs.Canons.{HasBegunDraft}
 use Rattle.resp_tool.specs.CanonicalFronts.{IsCanonicalWithin}
 use Rattle.resp_tool.specs.Counts.{LeavesNothing}
 use Rattle.resp_tool.specs.Takings.{Takes, WritesValue}
-use Rattle.resp_tool.specs.Written.{AppendsPart, WritesText}
+use Rattle.resp_print.specs.Written.{AppendsPart, WritesText}
 use Rattle.resp_tool.specs.declared.draft.Draft.{Draft}
 use Rattle.resp_tool.specs.declared.rendering.Stop.{Stop}
 use Rattle.resp_tool.specs.declared.rendering.Stop.TheVariants.{Write}

@@ -1,7 +1,5 @@
 pub mod Outcomes
-pub mod WrittenLemmas
-pub mod Quoted
-pub mod QuotedWrites
+pub mod Tried
 pub mod ReadLemmas
 pub mod Rendered
 pub mod LiveLemmas

@@ -5,10 +5,11 @@ use Rattle.resp_value.specs.Data.{Datum}
 use Rattle.resp_value.specs.Rules.{Rules}
 use Rattle.resp_value.specs.Devices.{Appends}
 use Rattle.resp_scan.specs.Reading.{HasNoSpelling}
-use Rattle.resp_tool.specs.Live.{EachRead, IsLive, Look, Records}
+use Rattle.resp_print.specs.Live.{Look, Records}
+use Rattle.resp_tool.specs.Live.{EachRead, IsLive}
 use Rattle.resp_tool.specs.Streams.{AreRead, HasRendered}
 use Rattle.resp_tool.proofs.Rendered.{no_more}
-use Rattle.resp_tool.proofs.WrittenLemmas.{Appends-append}
+use Rattle.resp_print.proofs.WrittenLemmas.{Appends-append}
 
 -- nothing was recorded yet
 pub none_recorded : (looks : Option (List Look)) (P : Look → Type 0) → EachRead looks looks P

@@ -10,14 +10,14 @@ use Rattle.resp_scan.specs.Kinds.{content_events}
 use Rattle.resp_value.specs.Data.{items_of}
 use Rattle.resp_value.specs.Kinds.{kind_of}
 use Rattle.resp_value.specs.Devices.{Appends, count_after}
-use Rattle.resp_tool.specs.Shown.{indentation, quoted_byte, quoted_text}
-use Rattle.resp_tool.specs.Written.{AppendsPart, WritesText}
+use Rattle.resp_print.specs.Shown.{indentation, quoted_byte, quoted_text}
+use Rattle.resp_print.specs.Written.{AppendsPart, WritesText}
 use Rattle.resp_tool.specs.Lines.{HasRoomFor, around, innermost, line_of, page_of}
 use Rattle.resp_tool.specs.Pages.{OpenLine, OpenText, Page, beginning, end_of_text, has_all_pairs, is_big, last_line, of_line, page_after, shown_on, text_line, text_words, with_byte, with_bytes, with_member, with_value}
 use Rattle.resp_tool.specs.declared.lines.Lines.{Lines}
 use Rattle.resp_tool.specs.declared.lines.OpenLine as line
 use Rattle.resp_tool.proofs.ShownTrees.{page-append, shown-append}
-use Rattle.resp_tool.proofs.WrittenLemmas.{writes_next, writes_part}
+use Rattle.resp_print.proofs.WrittenLemmas.{writes_next, writes_part}
 
 map_size : (ls : List line.OpenLine) → length (map line_of ls) ≡ length ls
 map_size [] = refl

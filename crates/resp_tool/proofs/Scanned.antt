@@ -17,7 +17,7 @@ use Rattle.resp_decode.proofs.Feeding.{due_at_start, fault_of_refused, no_value_
 use Rattle.resp_tool.specs.Counts.{IsAny, LeavesNothing, no_text}
 use Rattle.resp_tool.specs.Scans.{HasLookedAt, HasScanned}
 use Rattle.resp_tool.specs.Takings.{IsByteFault, IsEndFault, LeavesRefused, TakesUnfinished, WritesValue}
-use Rattle.resp_tool.proofs.WrittenLemmas.{Appends-none}
+use Rattle.resp_print.proofs.WrittenLemmas.{Appends-none}
 
 -- between two values nothing was scanned
 pub scanned_nothing : (s : Place) → HasRead s [] [] → HasScanned s [] []

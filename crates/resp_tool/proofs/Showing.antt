@@ -26,14 +26,14 @@ use Rattle.resp_tool.specs.Lines.{HasRoomFor, page_of, size_of_text}
 use Rattle.resp_tool.specs.Pages.{OpenLine, OpenText, Page, blank, end_of_line, left_text, page_after, page_after_event, shown, shown_on, with_byte, with_member, without_last}
 use Rattle.resp_tool.specs.Printing.{Call, HasBroken, HasPrinted, IsOfCall, IsPageAfter, Start}
 use Rattle.resp_tool.specs.Scans.{HasShown, IsShownIn, IsShownOf}
-use Rattle.resp_tool.specs.Shown.{shown_text}
+use Rattle.resp_print.specs.Shown.{shown_text}
 use Rattle.resp_tool.specs.Takings.{IsByteFault, IsEndFault, LeavesRefused, TakesUnfinished, WritesValue, WritesPart}
-use Rattle.resp_tool.specs.Written.{AppendsPart, WritesText}
+use Rattle.resp_print.specs.Written.{AppendsPart, WritesText}
 use Rattle.resp_tool.specs.declared.lines.Lines.{Lines}
 use Rattle.resp_decode.proofs.Feeding.{given_at_start}
 use Rattle.resp_tool.proofs.Scanned.{byte_fault, ends_inside, no_spelling_without_value, scanned_nothing, value_uses_some}
 use Rattle.resp_tool.proofs.ShownTrees.{page-append, shown-append, tree_is_closed, tree_is_shown}
-use Rattle.resp_tool.proofs.WrittenLemmas.{Appends-append, Appends-none}
+use Rattle.resp_print.proofs.WrittenLemmas.{Appends-append, Appends-none}
 
 -- Room for the counts.
 

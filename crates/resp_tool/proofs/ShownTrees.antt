@@ -11,9 +11,9 @@ use Rattle.resp_value.specs.Trees.{Tree, Trees, leaf, node, none, more, Leaf, li
 use Rattle.resp_value.specs.TreeValues.{value, values, leaf_value}
 use Rattle.resp_fronts.specs.Events.{Event, Timed, TextKind, bytes_from, text_events, last_of, big_events, chunk_events, leaf_events, events, events_each, open_event, close_event, declared_count, without_places}
 use Rattle.resp_fronts.specs.Events as e
-use Rattle.resp_tool.specs.Shown.{indentation, kind_word, lines_on, member_lines, annotating_lines, is_plain, quoted_byte, quoted_text, scalar_line}
+use Rattle.resp_print.specs.Shown.{indentation, kind_word, lines_on, member_lines, annotating_lines, is_plain, quoted_byte, quoted_text, scalar_line}
 use Rattle.resp_tool.specs.Pages.{OpenLine, Page, beginning, blank, end_of_text, has_all_pairs, is_big, last_line, of_line, page_after, page_after_event, piece_of, shown_on, text_words, with_member}
-use Rattle.resp_tool.proofs.Quoted.{quoted-append, quoted-plain}
+use Rattle.resp_print.proofs.Quoted.{quoted-append, quoted-plain}
 
 -- events side by side
 places-append : (xs ys : List Timed) → without_places (xs ++ ys) ≡ without_places xs ++ without_places ys

@@ -6,7 +6,7 @@ use Rattle.resp_value.specs.Rules.{Rules}
 use Rattle.resp_value.specs.Spellings.{Cut}
 use Rattle.resp_tool.specs.Streams.{RendersStopped, most_values}
 use Rattle.resp_tool.specs.Scans.{IsNothing}
-use Rattle.resp_tool.specs.Written.{AppendsPart}
+use Rattle.resp_print.specs.Written.{AppendsPart}
 use Rattle.resp_tool.specs.declared.tool_error.ToolError.{ToolError}
 use Rattle.resp_tool.specs.declared.tool_error.ToolError.TheVariants.{Write}
 

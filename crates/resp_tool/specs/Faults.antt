@@ -1,7 +1,7 @@
 -- The line and the status of each reason to stop.
 use Rattle.std.specs.Prelude.{ℕ, List, ◌++◌, codes, decimal}
 use Rattle.resp_value.specs.Causes.{name_of}
-use Rattle.resp_tool.specs.Written.{refusal_line}
+use Rattle.resp_tool.specs.Tried.{refusal_line}
 use Rattle.resp_tool.specs.declared.tool_error.ToolError.{ToolError}
 use Rattle.resp_tool.specs.declared.tool_error.ToolError.TheVariants.{Refused, OverLimits, TooManyValues, Read, Write, TooManyTurns, Memory}
 

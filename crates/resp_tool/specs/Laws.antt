@@ -4,7 +4,7 @@ use Rattle.resp_value.specs.Trees.{IsTree, Tree}
 use Rattle.resp_value.specs.TreeValues.{value}
 use Rattle.resp_fronts.specs.Events.{all_events, without_places}
 use Rattle.resp_tool.specs.Pages.{shown}
-use Rattle.resp_tool.specs.Shown.{shown_text}
+use Rattle.resp_print.specs.Shown.{shown_text}
 
 -- the text of a value's events, piece by piece, is the text of the value
 abbrev pub EventsAreShownAsTheirValue : Type 0

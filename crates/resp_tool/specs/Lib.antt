@@ -1,5 +1,4 @@
-pub mod Shown
-pub mod Written
+pub mod Tried
 pub mod Faults
 pub mod Stops
 pub mod Live

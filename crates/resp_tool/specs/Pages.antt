@@ -6,7 +6,7 @@ use Rattle.resp_value.specs.Numbers.{sign_text}
 use Rattle.resp_value.specs.Canonical.{sign_of}
 use Rattle.resp_fronts.specs.Events.{Event, TextKind}
 use Rattle.resp_fronts.specs.Events as e
-use Rattle.resp_tool.specs.Shown.{indentation, kind_word, quoted_byte, quoted_text, truth_word}
+use Rattle.resp_print.specs.Shown.{indentation, kind_word, quoted_byte, quoted_text, truth_word}
 
 -- an aggregate whose first line was written and whose last wasn't: its kind, the number in its head, and how many of
 -- its members were written

@@ -6,11 +6,12 @@ use Rattle.clap.specs.Words.{App, Text}
 use Rattle.resp_tool.specs.CommandWords.{AreWrong, AskFor, AskForHelp}
 use Rattle.resp_tool.specs.Counts.{Counts, IsAny, LeavesNothing}
 use Rattle.resp_tool.specs.Faults.{fault_line, status_of}
-use Rattle.resp_tool.specs.Live.{EachRead, IsLive, Look}
+use Rattle.resp_print.specs.Live.{Look}
+use Rattle.resp_tool.specs.Live.{EachRead, IsLive}
 use Rattle.resp_tool.specs.Scans.{IsShownDue, IsShownIn, IsShownOf}
-use Rattle.resp_tool.specs.Shown.{shown_text}
+use Rattle.resp_print.specs.Shown.{shown_text}
 use Rattle.resp_tool.specs.Streams.{AreRead, AtEnd, Renders}
-use Rattle.resp_tool.specs.Written.{TriesText}
+use Rattle.resp_tool.specs.Tried.{TriesText}
 use Rattle.resp_tool.specs.declared.asked.Asked.TheVariants.{Stream}
 use Rattle.resp_tool.specs.declared.options.Options.{Options}
 use Rattle.resp_tool.specs.declared.options.Task.{Task}

@@ -7,8 +7,8 @@ ghost use Rattle.resp_tool.specs.CommandWords.{Enters, IsAsked, task_word};
 use crate::options::{Options, Task, flag_of, options_of};
 use crate::serving::{Serving, serving_of};
 use crate::tapping::{Tapping, tapping_of};
-use crate::text::write_text;
 use clap::ArgMatches;
+use resp_print::text::write_text;
 use resp_value::device::{DeviceFault, Sink};
 
 /// What the words of the command line ask for.

@@ -3,15 +3,15 @@
 ghost use Rattle.std.specs.Prelude.{◌≡◌, ◌≤◌, ℕ, List, [], Some, IfErr, IfSome, IsErrOf};
 ghost use Rattle.resp_tool.specs.Counts.{Counts, counts_line};
 ghost use Rattle.resp_tool.specs.Streams.{AreRead, AtEnd, IsNeverOver, UsesReader, failed_to_write};
-ghost use Rattle.resp_tool.specs.Written.{WritesText};
+ghost use Rattle.resp_print.specs.Written.{WritesText};
 ghost use Rattle.resp_value.specs.Devices.{failures_after};
 ghost use Rattle.resp_value.specs.Rules.{rules_under};
 
-use crate::live::{LiveSink, LiveSource};
 use crate::rendering::{Rendering, Stop, Taken};
 use crate::stream::{MOST_READS, Totals, render_stream};
-use crate::text::write_number;
 use crate::tool_error::ToolError;
+use resp_print::live::{LiveSink, LiveSource};
+use resp_print::text::write_number;
 use resp_scan::event::{ScanError, TextKind};
 use resp_scan::listener::Listener;
 use resp_scan::scanner::Scanner;

@@ -7,20 +7,21 @@ ghost use Rattle.resp_tool.specs.Faults.{fault_line, open_failed_line, status_of
 ghost use Rattle.resp_tool.specs.Program.{IsProgram};
 ghost use Rattle.resp_tool.specs.Runs.{DoesWords, HasRun, IsWordStatus, Lives, TaskWrites, TellsFailure};
 ghost use Rattle.resp_tool.specs.Streams.{AreRead, AtEnd};
-ghost use Rattle.resp_tool.specs.Written.{TriesText, WritesText};
+ghost use Rattle.resp_print.specs.Written.{WritesText};
+ghost use Rattle.resp_tool.specs.Tried.{TriesText};
 ghost use Rattle.resp_value.specs.Rules.{rules_under};
 
 use crate::asked::{Asked, NothingAsked, asked_of};
 use crate::canon::canon;
 use crate::check::check;
-use crate::live::{LiveSink, LiveSource};
 use crate::options::{Options, STANDARD_INPUT, Task};
 use crate::parser::matches_of;
 use crate::show::show;
 use crate::stream::MOST_READS;
-use crate::text::write_text;
 use crate::tool_error::ToolError;
 use clap::error::ErrorKind;
+use resp_print::live::{LiveSink, LiveSource};
+use resp_print::text::write_text;
 use resp_value::device::{DeviceFault, Sink};
 use std::alloc::Global;
 use std::convert::AsStr;
@@ -83,7 +84,7 @@ pub fn stop<F: Sink>(error: &ToolError, faults: &mut F) -> u8
 
 /// Says why the words of the command line can't be read, and answers the status: 2 where one is not
 /// UTF-8, and else 3, since memory was refused.
-#[tactic(auto, using(crate::proofs::WrittenLemmas::tries_text))]
+#[tactic(auto, using(crate::proofs::Tried::tries_text))]
 pub fn refuse_words<F: Sink>(kind: IoErrorKind, faults: &mut F) -> u8
     ensures two_where_not_text { kind ≡ IoErrorKind.InvalidData → result ≡ 2 }
     ensures three_without_memory { kind ≢ IoErrorKind.InvalidData → result ≡ 3 }
@@ -104,7 +105,7 @@ pub fn refuse_words<F: Sink>(kind: IoErrorKind, faults: &mut F) -> u8
 }
 
 /// Says that a file can't be opened, and why, and answers the status.
-#[tactic(auto, using(crate::proofs::WrittenLemmas::tries_text))]
+#[tactic(auto, using(crate::proofs::Tried::tries_text))]
 pub fn refuse_file<F: Sink>(name: &str, why: &str, faults: &mut F) -> u8
     ensures status { result ≡ 3 }
     ensures told { TriesText (F.written faults.old) (F.written faults.new)

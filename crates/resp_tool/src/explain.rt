@@ -2,14 +2,14 @@
 
 ghost use Rattle.std.specs.Prelude.{◌≡◌, ℕ, List, OnOk};
 ghost use Rattle.resp_tool.specs.Explained.{Explains, ExplainsAt, HasWatched, cause_text, double_text, explanation_lines, margin_text, rules_watched, sentence_text};
-ghost use Rattle.resp_tool.specs.Written.{WritesText};
+ghost use Rattle.resp_print.specs.Written.{WritesText};
 ghost use Rattle.resp_value.specs.Devices.{Appends};
 ghost use Rattle.resp_value.specs.Rules.{rules_under};
 
 use crate::options::Options;
-use crate::text::{write_number, write_quoted, write_text};
 use crate::tool_error::{MOST_VALUES, ToolError};
 use crate::watched::Watched;
+use resp_print::text::{write_number, write_quoted, write_text};
 use resp_value::cause::Cause;
 use resp_value::device::{DeviceFault, MemorySink, Sink};
 use resp_value::limits::Limits;

@@ -9,18 +9,15 @@ ghost use Rattle.resp_scan.specs.Kinds.{content_events, text_kind_of};
 ghost use Rattle.resp_scan.specs.Listening.{whole_text_events};
 ghost use Rattle.resp_tool.specs.Lines.{size_of_text, text_of};
 ghost use Rattle.resp_tool.specs.Pages.{end_of_text, is_big, last_line, of_line, text_line, text_words, with_bytes};
-ghost use Rattle.resp_tool.specs.Shown.{indentation, kind_word, quoted_text, truth_word};
-ghost use Rattle.resp_tool.specs.Written.{WritesText};
+ghost use Rattle.resp_print.specs.Shown.{indentation, kind_word, quoted_text, truth_word};
+ghost use Rattle.resp_print.specs.Written.{WritesText};
 
 use crate::short_line::make_line;
-use crate::text::{write_number, write_quoted, write_text};
 use arrayvec::ArrayVec;
+use resp_print::text::{write_indentation, write_number, write_quoted, write_text};
 use resp_scan::event::TextKind;
 use resp_value::device::{DeviceFault, Sink};
 use resp_value::kind::OpenKind;
-
-/// Two spaces for each level.
-const SPACES: [u8; 256] = [b' '; 256];
 
 /// An aggregate whose first line was written, and whose last wasn't.
 #[derive(Clone, Copy, Debug, PartialEq, Eq)]
@@ -106,7 +103,7 @@ impl Lines {
         }
         let level = self.level();
         self.write_of(writer)?;
-        write_indentation(writer, level)
+        write_indentation(writer, level as u64)
     }
 
     /// The innermost open aggregate.
@@ -335,7 +332,7 @@ impl Lines {
         let level = self.level().saturating_sub(1);
         match self.innermost() {
             Some(line) => {
-                write_indentation(writer, level)?;
+                write_indentation(writer, level as u64)?;
                 write_number(writer, b"end ", line.items(), b"\n")
             }
             None => write_text(writer, b""),
@@ -368,15 +365,6 @@ impl OpenLine {
             OpenKind::Array | OpenKind::Set | OpenKind::Push => self.members,
         }
     }
-}
-
-/// Writes two spaces for each level.
-fn write_indentation<W: Sink>(writer: &mut W, level: usize) -> Result<(), DeviceFault>
-    requires { level ≤ 128 }
-    ensures { WritesText (W.written writer.old) (W.written writer.new) (W.failures writer.old)
-        (W.failures writer.new) result (indentation level) }
-{
-    write_text(writer, &SPACES[..2 * level])
 }
 
 /// Writes what stands of a whole text on its line.
@@ -448,7 +436,7 @@ fn write_indented<W: Sink>(writer: &mut W, level: usize, line: &[u8]) -> Result<
     ensures { WritesText (W.written writer.old) (W.written writer.new) (W.failures writer.old)
         (W.failures writer.new) result (indentation level ++ line.now) }
 {
-    write_indentation(writer, level)?;
+    write_indentation(writer, level as u64)?;
     write_text(writer, line)
 }
 

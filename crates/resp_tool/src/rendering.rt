@@ -3,12 +3,12 @@
 ghost use Rattle.std.specs.Prelude.{◌≡◌, ◌≤◌, ◌++◌, ℕ, List, [], length, IfOk, IsErr, IsErrOf, OnOk};
 ghost use Rattle.resp_value.specs.Data.{Datum};
 ghost use Rattle.resp_scan.specs.Reading.{HasNoSpelling};
-ghost use Rattle.resp_tool.specs.Live.{flush_fails};
+ghost use Rattle.resp_print.specs.Live.{flush_fails};
 ghost use Rattle.resp_value.specs.Devices.{Appends, failures_after};
 ghost use Rattle.resp_value.specs.Rules.{Rules};
 
-use crate::live::LiveSink;
 use crate::tool_error::ToolError;
+use resp_print::live::LiveSink;
 use resp_scan::event::Fault;
 use resp_value::device::{DeviceFault, Sink};
 

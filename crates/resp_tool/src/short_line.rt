@@ -5,8 +5,8 @@ ghost use Rattle.std.specs.Prelude.{◌≡◌, ◌++◌, [], codes, decimal, fal
 ghost use Rattle.resp_scan.specs.Kinds.{text_kind_of};
 ghost use Rattle.resp_tool.specs.Pages.{is_big, text_line, text_words};
 
-use crate::text::is_all_plain;
 use arrayvec::ArrayVec;
+use resp_print::text::is_all_plain;
 use resp_scan::event::TextKind;
 
 /// The most bytes of content of a short line.

@@ -4,17 +4,17 @@ ghost use Rattle.std.specs.Prelude.{◌≡◌, ◌≤◌, ℕ, List, [], Some, I
 ghost use Rattle.resp_tool.specs.Counts.{IsAny};
 ghost use Rattle.resp_tool.specs.Live.{EachRead, IsLive};
 ghost use Rattle.resp_tool.specs.Scans.{IsShownDue, IsShownIn, IsShownOf};
-ghost use Rattle.resp_tool.specs.Shown.{shown_text};
+ghost use Rattle.resp_print.specs.Shown.{shown_text};
 ghost use Rattle.resp_tool.specs.Streams.{AreRead, AtEnd, IsNeverOver, Renders, UsesReader, failed_to_write};
 ghost use Rattle.resp_value.specs.Devices.{failures_after};
 ghost use Rattle.resp_value.specs.Rules.{rules_under};
 
 use crate::lines::Lines;
-use crate::live::{LiveSink, LiveSource};
 use crate::printer::print_piece;
 use crate::rendering::{Rendering, Stop, Taken};
 use crate::stream::{MOST_READS, render_stream};
 use crate::tool_error::ToolError;
+use resp_print::live::{LiveSink, LiveSource};
 use resp_scan::event::ScanError;
 use resp_scan::scanner::Scanner;
 use resp_value::device::{DeviceFault, Sink};

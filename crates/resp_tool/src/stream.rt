@@ -5,9 +5,9 @@ ghost use Rattle.resp_tool.specs.Live.{EachRead, IsLive};
 ghost use Rattle.resp_tool.specs.Streams.{AreRead, AtEnd, HasRendered, IsBeforeEnd, IsRenderingError, RendersStopped, RendersStream, UsesReader, failed_to_write};
 ghost use Rattle.resp_value.specs.Devices.{failures_after};
 
-use crate::live::{LiveSink, LiveSource};
 use crate::rendering::Rendering;
 use crate::tool_error::{MOST_VALUES, ToolError};
+use resp_print::live::{LiveSink, LiveSource};
 use resp_value::device::{DeviceFault, Sink};
 use resp_value::laws;
 use std::alloc::Global;

@@ -1,10 +1,11 @@
 //! Why the program stops, the line that it prints then, and its status.
 
 ghost use Rattle.std.specs.Prelude.{◌≡◌};
-ghost use Rattle.resp_tool.specs.Written.{WritesText, refusal_line};
+ghost use Rattle.resp_print.specs.Written.{WritesText};
+ghost use Rattle.resp_tool.specs.Tried.{refusal_line};
 ghost use Rattle.resp_tool.specs.declared.tool_error.ToolError.TheVariants.{Memory, Write};
 
-use crate::text::{write_number, write_text};
+use resp_print::text::{write_number, write_text};
 use resp_value::cause::Cause;
 use resp_value::device::{DeviceFault, Sink};
 use std::alloc::AllocError;

@@ -3,13 +3,13 @@
 ghost use Rattle.std.specs.Prelude.{◌≡◌, ◌≤◌, ◌-◌, ◌++◌, ℕ, List, [], length, drop, take, IfOk, IfSome, IsErr, false};
 ghost use Rattle.resp_tool.specs.Begun.{HavePassed};
 ghost use Rattle.resp_tool.specs.Explained.{HasWatched, IsPlace, rules_watched};
-ghost use Rattle.resp_tool.specs.Live.{Records};
+ghost use Rattle.resp_print.specs.Live.{Records};
 ghost use Rattle.resp_value.specs.Devices.{Reads, count_after, failures_after, read_fails};
 ghost use Rattle.resp_value.specs.Rules.{rules_under};
 
-use crate::live::{LiveSink, LiveSource};
 use crate::starts::Starts;
 use bytes::BytesMut;
+use resp_print::live::{LiveSink, LiveSource};
 use resp_value::device::{DeviceFault, Source};
 use resp_value::limits::Limits;
 use resp_value::version::Version;

@@ -3,7 +3,7 @@
 use super::check_equal;
 use resp_tool::canon::canon;
 use resp_tool::check::check;
-use resp_tool::live::{Gathering, LiveSource};
+use resp_print::live::{Gathering, LiveSource};
 use resp_tool::options::Task;
 use resp_tool::show::show;
 use resp_tool::tool_error::ToolError;

@@ -1,15 +1,15 @@
-use Rattle.resp_tool.specs.Shown.{shown_text}
+use Rattle.resp_print.specs.Shown.{lines_on}
 use Rattle.resp_value.specs.Values.{datum_of}
 use Rattle.resp_value.specs.declared.value.Value.TheVariants as value
-use Rattle.resp_script.specs.Printed.{indented, push_heading}
+use Rattle.resp_print.specs.Headings.{push_heading}
 use Rattle.resp_script.proofs.Printing.{prints_next, failed_part}
 use Rattle.resp_script.proofs.heard.write_push.Goals as goal
 
 pub returns-in-Ok : goal.returns-in-Ok
 returns-in-Ok g c =
-    prints_next c.write_members.result _ _ _ _ _ _ (push_heading c.args.client) (indented (shown_text (datum_of (value.Push c.args.push.now)))) c.in-Ok.ensures
-    c.write_members.ensures
+    prints_next c.played.result _ _ _ _ _ _ (push_heading c.args.client) (lines_on 1 (datum_of (value.Push c.args.push.now))) c.in-Ok.ensures
+    (c.played.ensures _ _ _ _ _ _ c.write_push_value.ensures)
 
 pub returns-in-Err : goal.returns-in-Err
 returns-in-Err g c =
-    failed_part _ _ _ _ (push_heading c.args.client) (indented (shown_text (datum_of (value.Push c.args.push.now)))) c.in-Err.ensures
+    failed_part _ _ _ _ (push_heading c.args.client) (lines_on 1 (datum_of (value.Push c.args.push.now))) c.in-Err.ensures

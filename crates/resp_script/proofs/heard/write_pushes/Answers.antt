@@ -1,17 +1,19 @@
 use Rattle.std.proofs.Common.{◌++◌, ap}
-use Rattle.resp_tool.specs.Shown.{shown_text}
+use Rattle.resp_print.specs.Shown.{lines_on}
 use Rattle.resp_value.specs.Values.{datum_of}
 use Rattle.resp_value.specs.declared.value.Value.TheVariants as value
 use Rattle.resp_wire.specs.Worlds.{pushes_with}
-use Rattle.resp_script.specs.Printed.{indented, push_heading, push_texts}
-use Rattle.resp_script.proofs.Printing.{printed_as, printed_more, prints_on}
+use Rattle.resp_print.specs.Headings.{push_heading}
+use Rattle.resp_script.specs.Printed.{push_texts}
+use Rattle.resp_print.proofs.Printing.{printed_as, printed_more}
+use Rattle.resp_script.proofs.Printing.{prints_on}
 use Rattle.resp_script.proofs.heard.write_pushes.Goals as goal
 
 pub returns-in-Err : goal.returns-in-Err
 returns-in-Err g c =
     let client = c.args.client in
     prints_on c.in-Err.error (push_texts client (pushes_with c.args.pushes.now))
-    (push_heading client ++ indented (shown_text (datum_of (value.Push c.in-Some.push.now)))) (push_texts client (pushes_with c.in-Some.beyond.now)) _ _ _ _ _ _
+    (push_heading client ++ lines_on 1 (datum_of (value.Push c.in-Some.push.now))) (push_texts client (pushes_with c.in-Some.beyond.now)) _ _ _ _ _ _
     (printed_as (push_texts client (pushes_with c.args.pushes.now)) _ _ _ _ _ _ (ap (λ ps. push_texts client (pushes_with ps)) c.in-Some.ensures.cases.0)
     c.loop-push.invariant) c.in-Err.ensures
 
@@ -19,6 +21,6 @@ pub loop-push-preserved : goal.loop-push-preserved
 loop-push-preserved g c =
     let client = c.args.client in
     printed_more (push_texts client (pushes_with c.args.pushes.now))
-    (push_heading client ++ indented (shown_text (datum_of (value.Push c.in-Some.push.now)))) (push_texts client (pushes_with c.in-Some.beyond.now)) _ _ _ _ _ _
+    (push_heading client ++ lines_on 1 (datum_of (value.Push c.in-Some.push.now))) (push_texts client (pushes_with c.in-Some.beyond.now)) _ _ _ _ _ _
     (printed_as (push_texts client (pushes_with c.args.pushes.now)) _ _ _ _ _ _ (ap (λ ps. push_texts client (pushes_with ps)) c.in-Some.ensures.cases.0)
     c.loop-push.invariant) c.in_default-write_push.ensures

@@ -1,6 +1,6 @@
 use Rattle.std.proofs.Common.{length}
 use Rattle.resp_script.specs.Printed.{push_texts}
-use Rattle.resp_script.proofs.Printing.{HasPrintedUpTo}
+use Rattle.resp_print.proofs.Printing.{HasPrintedUpTo}
 use Rattle.resp_wire.specs.Worlds.{pushes_with}
 use Rattle.resp_script.proofs.heard.write_pushes.Given as goal
 

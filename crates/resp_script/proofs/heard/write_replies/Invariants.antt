@@ -1,6 +1,6 @@
 use Rattle.std.proofs.Common.{◌≡◌, ◌+◌, length}
 use Rattle.resp_script.specs.Printed.{reply_texts}
-use Rattle.resp_script.proofs.Printing.{HasPrintedUpTo}
+use Rattle.resp_print.proofs.Printing.{HasPrintedUpTo}
 use Rattle.resp_wire.specs.Worlds.{values_in}
 use Rattle.resp_script.proofs.heard.write_replies.Given as goal
 

@@ -1,14 +1,14 @@
-use Rattle.resp_tool.specs.Shown.{shown_text}
+use Rattle.resp_print.specs.Shown.{lines_on}
 use Rattle.resp_value.specs.Values.{datum_of}
-use Rattle.resp_script.specs.Printed.{indented, reply_heading}
+use Rattle.resp_print.specs.Headings.{reply_heading}
 use Rattle.resp_script.proofs.Printing.{prints_next, failed_part}
 use Rattle.resp_script.proofs.heard.write_reply.Goals as goal
 
 pub returns-in-Ok : goal.returns-in-Ok
 returns-in-Ok g c =
-    prints_next c.write_value.result _ _ _ _ _ _ (reply_heading c.args.client c.args.number) (indented (shown_text (datum_of c.args.reply.now))) c.in-Ok.ensures
-    c.write_value.ensures
+    prints_next c.played.result _ _ _ _ _ _ (reply_heading c.args.client c.args.number) (lines_on 1 (datum_of c.args.reply.now)) c.in-Ok.ensures
+    (c.played.ensures _ _ _ _ _ _ c.write_value.ensures)
 
 pub returns-in-Err : goal.returns-in-Err
 returns-in-Err g c =
-    failed_part _ _ _ _ (reply_heading c.args.client c.args.number) (indented (shown_text (datum_of c.args.reply.now))) c.in-Err.ensures
+    failed_part _ _ _ _ (reply_heading c.args.client c.args.number) (lines_on 1 (datum_of c.args.reply.now)) c.in-Err.ensures

@@ -1,10 +1,10 @@
 use Rattle.std.proofs.Common.{◌≡◌, ◌∙◌, [], refl, subst, sym}
 use Rattle.resp_session.specs.Runs.{connection_of}
 use Rattle.resp_session.specs.Worlds.{client_of, connection_at}
-use Rattle.resp_tool.proofs.WrittenLemmas.{Appends-none}
+use Rattle.resp_print.proofs.WrittenLemmas.{Appends-none}
 use Rattle.resp_wire.specs.Worlds.{event_of, outcome_of}
 use Rattle.resp_script.specs.Plays.{AreThere, AreShownOn, played}
-use Rattle.resp_script.specs.Printed.{Prints, outcome_text}
+use Rattle.resp_script.specs.Printed.{PlaysText, outcome_text}
 use Rattle.resp_script.proofs.Taking.{stands, took}
 use Rattle.resp_script.proofs.play.take.Goals as goal
 
@@ -35,5 +35,5 @@ returns-clause-plays g c = λ limits w shows.
     (stands g.L.Link.is_honest limits w next event outcome c.args.world.now c.step.new.self shows shows' c.step.ensures.as_many step) in
     let prints = c.write_outcome.ensures.prints limits next shows' before shown there in
     took g.L.Link.is_honest limits w next (played c.args.line c.args.is_flush event) outcome c.step.new.self _ _ _ _ c.write_outcome.result step shows'
-    (subst (λ n. Prints (g.W.Sink.written c.args.writer.now) after (g.W.Sink.failures c.args.writer.now) (g.W.Sink.failures c.write_outcome.new.writer)
+    (subst (λ n. PlaysText (g.W.Sink.written c.args.writer.now) after (g.W.Sink.failures c.args.writer.now) (g.W.Sink.failures c.write_outcome.new.writer)
     c.write_outcome.result (outcome_text n c.args.is_flush (outcome_of outcome) before (connection_at next.connections n))) is prints)

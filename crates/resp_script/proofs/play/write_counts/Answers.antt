@@ -3,7 +3,7 @@ use Rattle.std.proofs.lemmas.List.{length-map}
 use Rattle.resp_session.specs.Serving.{clients_in}
 use Rattle.resp_session.specs.Worlds.{World}
 use Rattle.resp_value.specs.Devices.{Appends}
-use Rattle.resp_tool.specs.Written.{AppendsPart}
+use Rattle.resp_print.specs.Written.{AppendsPart}
 use Rattle.resp_script.specs.Printed.{counts_text, key_count}
 use Rattle.resp_script.proofs.play.write_counts.Goals as goal
 

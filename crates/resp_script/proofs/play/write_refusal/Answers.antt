@@ -1,5 +1,5 @@
 use Rattle.std.proofs.Common.{◌++◌, codes, decimal}
-use Rattle.resp_tool.proofs.WrittenLemmas.{writes_next, writes_part}
+use Rattle.resp_print.proofs.WrittenLemmas.{writes_next, writes_part}
 use Rattle.resp_script.proofs.play.write_refusal.Goals as goal
 
 pub returns-in_err-write_number : goal.returns-in_err-write_number

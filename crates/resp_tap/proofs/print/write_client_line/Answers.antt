@@ -1,6 +1,6 @@
 use Rattle.std.proofs.Common.{◌++◌, codes, decimal}
 use Rattle.resp_tap.specs.Stamps.{ending_text}
-use Rattle.resp_tool.proofs.WrittenLemmas.{writes_next, writes_part}
+use Rattle.resp_print.proofs.WrittenLemmas.{writes_next, writes_part}
 use Rattle.resp_tap.proofs.print.write_client_line.Goals as goal
 
 pub returns-in_err-write_number : goal.returns-in_err-write_number

@@ -1,5 +1,5 @@
 use Rattle.resp_tap.specs.Texts.{numbered_end}
-use Rattle.resp_tool.proofs.WrittenLemmas.{writes_next, writes_part}
+use Rattle.resp_print.proofs.WrittenLemmas.{writes_next, writes_part}
 use Rattle.resp_tap.proofs.print.write_named.Goals as goal
 
 pub returns-in_err-write_text : goal.returns-in_err-write_text

@@ -1,5 +1,5 @@
 use Rattle.resp_tap.specs.Texts.{byte_text, refusal_heading}
-use Rattle.resp_tool.proofs.WrittenLemmas.{writes_next, writes_part}
+use Rattle.resp_print.proofs.WrittenLemmas.{writes_next, writes_part}
 use Rattle.resp_tap.proofs.print.write_refusal.Goals as goal
 
 pub returns-in_err-write_refusal_heading : goal.returns-in_err-write_refusal_heading

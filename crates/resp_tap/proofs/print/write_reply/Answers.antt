@@ -1,15 +1,14 @@
 use Rattle.std.proofs.Common.{codes}
-use Rattle.resp_tool.specs.Shown.{shown_text}
+use Rattle.resp_print.specs.Shown.{lines_on}
 use Rattle.resp_value.specs.Values.{datum_of}
-use Rattle.resp_script.specs.Printed.{indented}
-use Rattle.resp_script.proofs.Printing.{prints_next, failed_part}
+use Rattle.resp_print.proofs.Printing.{prints_next, failed_part}
 use Rattle.resp_tap.specs.Texts.{numbered_line}
 use Rattle.resp_tap.proofs.print.write_reply.Goals as goal
 
 pub returns-in-Ok : goal.returns-in-Ok
 returns-in-Ok g c =
-    prints_next c.write_value.result _ _ _ _ _ _ (numbered_line c.args.client (codes " reply ") c.args.number c.args.stamp) (indented (shown_text (datum_of c.args.value.now))) c.in-Ok.ensures
+    prints_next c.write_value.result _ _ _ _ _ _ (numbered_line c.args.client (codes " reply ") c.args.number c.args.stamp) (lines_on 1 (datum_of c.args.value.now)) _ c.in-Ok.ensures
     c.write_value.ensures
 
 pub returns-in-Err : goal.returns-in-Err
-returns-in-Err g c = failed_part _ _ _ _ (numbered_line c.args.client (codes " reply ") c.args.number c.args.stamp) (indented (shown_text (datum_of c.args.value.now))) c.in-Err.ensures
+returns-in-Err g c = failed_part _ _ _ _ (numbered_line c.args.client (codes " reply ") c.args.number c.args.stamp) (lines_on 1 (datum_of c.args.value.now)) 0 c.in-Err.ensures

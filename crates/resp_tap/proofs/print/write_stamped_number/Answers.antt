@@ -1,6 +1,6 @@
 use Rattle.std.proofs.Common.{◌++◌, append_assoc, codes, decimal, subst}
-use Rattle.resp_tool.specs.Written.{WritesText}
-use Rattle.resp_tool.proofs.WrittenLemmas.{writes_next, writes_part}
+use Rattle.resp_print.specs.Written.{WritesText}
+use Rattle.resp_print.proofs.WrittenLemmas.{writes_next, writes_part}
 use Rattle.resp_tap.specs.Stamps.{stamp_text}
 use Rattle.resp_tap.proofs.print.write_stamped_number.Goals as goal
 

@@ -1,7 +1,7 @@
 use Rattle.std.proofs.Common.{rules, arith, ℕ, ◌≡◌, ◌+◌, ◌<◌, ◌++◌, List, [], drop, get_or, length, ap, sym, ◌∙◌}
 use Rattle.std.proofs.lemmas.List.{at_drop_more}
 use Rattle.resp_tap.specs.Texts.{word_text, words_text}
-use Rattle.resp_script.proofs.Printing.{printed_as, printed_more, write_failed}
+use Rattle.resp_print.proofs.Printing.{printed_as, printed_more, write_failed}
 use Rattle.resp_tap.proofs.print.write_words.Goals as goal
 
 -- the next word, and the rest

@@ -1,5 +1,5 @@
 use Rattle.std.proofs.Common.{◌-◌, ◌≤◌, drop, length}
-use Rattle.resp_script.proofs.Printing.{HasPrintedUpTo}
+use Rattle.resp_print.proofs.Printing.{HasPrintedUpTo}
 use Rattle.resp_tap.specs.Texts.{words_text}
 use Rattle.resp_tap.proofs.print.write_words.Given as goal
 

@@ -1,5 +1,5 @@
 use Rattle.std.proofs.Common.{◌++◌, ◌/◌, codes, decimal}
-use Rattle.resp_tool.proofs.WrittenLemmas.{writes_next, writes_part}
+use Rattle.resp_print.proofs.WrittenLemmas.{writes_next, writes_part}
 use Rattle.resp_tap.specs.Digits.{micros_text}
 use Rattle.resp_tap.proofs.stamp.write_seconds.Goals as goal
 

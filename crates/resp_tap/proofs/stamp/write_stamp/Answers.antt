@@ -1,6 +1,6 @@
 use Rattle.resp_tap.specs.Digits.{time_text}
 use Rattle.resp_tap.specs.Stamps.{waited_text}
-use Rattle.resp_tool.proofs.WrittenLemmas.{writes_next, writes_part}
+use Rattle.resp_print.proofs.WrittenLemmas.{writes_next, writes_part}
 use Rattle.resp_tap.proofs.stamp.write_stamp.Goals as goal
 
 pub returns-in_err-write_time : goal.returns-in_err-write_time

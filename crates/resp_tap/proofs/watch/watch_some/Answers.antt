@@ -1,6 +1,6 @@
 use Rattle.std.proofs.Common.{subst}
-use Rattle.resp_script.specs.Printed.{Prints}
-use Rattle.resp_tap.specs.Texts.{seen_text}
+use Rattle.resp_print.specs.Printed.{Prints}
+use Rattle.resp_tap.specs.Texts.{levels_of, seen_text}
 use Rattle.resp_tap.proofs.watch.watch_some.Goals as goal
 
 pub returns-clause-watches : goal.returns-clause-watches
@@ -12,7 +12,6 @@ returns-clause-watches g c = (
     of_command = c.asked-asked.ensures;
     text = subst (λ stamp. Prints (g.W.Sink.written c.args.writer.now) (g.W.Sink.written c.write_seen-printed.new.writer)
         (g.W.Sink.failures c.args.writer.now) (g.W.Sink.failures c.write_seen-printed.new.writer) c.write_seen-printed.result
-        (seen_text c.args.client stamp c.step-step.result.seen)) c.stamp_of-stamp.ensures c.write_seen-printed.ensures.printed;
-    memory = c.write_seen-printed.ensures.memory;
+        (seen_text c.args.client stamp c.step-step.result.seen) (levels_of c.step-step.result.seen)) c.stamp_of-stamp.ensures c.write_seen-printed.ensures;
   },
 )

@@ -1,4 +1,4 @@
-use Rattle.resp_tool.proofs.WrittenLemmas.{tries_text}
+use Rattle.resp_tool.proofs.Tried.{tries_text}
 use Rattle.resp_tool.proofs.command_line.stop.Goals as goal
 
 pub returns-clause-told : goal.returns-clause-told

@@ -1,7 +1,7 @@
 use Rattle.std.proofs.Common.{◌++◌, codes, sym, append_assoc}
-use Rattle.resp_tool.specs.Shown.{quoted_text}
+use Rattle.resp_print.specs.Shown.{quoted_text}
 use Rattle.resp_tool.proofs.PageLemmas.{both_written, first_fails, second_fails}
-use Rattle.resp_tool.proofs.WrittenLemmas.{writes_next}
+use Rattle.resp_print.proofs.WrittenLemmas.{writes_next}
 use Rattle.resp_tool.proofs.lines.write_format.Goals as goal
 
 pub returns-in_err-write_text : goal.returns-in_err-write_text

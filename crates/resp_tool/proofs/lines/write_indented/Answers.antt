@@ -1,5 +1,5 @@
 use Rattle.std.proofs.Common.{refl}
-use Rattle.resp_tool.specs.Shown.{indentation}
+use Rattle.resp_print.specs.Shown.{indentation}
 use Rattle.resp_tool.proofs.PageLemmas.{both_written, first_fails}
 use Rattle.resp_tool.proofs.lines.write_indented.Goals as goal
 

@@ -1,9 +1,9 @@
 use Rattle.std.proofs.Common.{◌++◌, Some, length, refl}
 use Rattle.resp_scan.specs.Kinds.{text_kind_of}
 use Rattle.resp_tool.specs.Pages.{end_of_text, is_big, text_words}
-use Rattle.resp_tool.specs.Shown.{quoted_text}
+use Rattle.resp_print.specs.Shown.{quoted_text}
 use Rattle.resp_tool.proofs.PageLemmas.{both_written, first_fails, second_fails}
-use Rattle.resp_tool.proofs.WrittenLemmas.{writes_next}
+use Rattle.resp_print.proofs.WrittenLemmas.{writes_next}
 use Rattle.resp_tool.proofs.lines.write_long_line.Goals as goal
 
 pub returns-in_err-write_head : goal.returns-in_err-write_head

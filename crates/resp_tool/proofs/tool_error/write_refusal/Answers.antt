@@ -1,5 +1,6 @@
 use Rattle.std.proofs.Common.{◌++◌, codes, decimal}
-use Rattle.resp_tool.proofs.WrittenLemmas.{writes_next, writes_part, line_parts}
+use Rattle.resp_print.proofs.WrittenLemmas.{writes_next, writes_part}
+use Rattle.resp_tool.proofs.Tried.{line_parts}
 use Rattle.resp_tool.proofs.tool_error.write_refusal.Goals as goal
 
 pub returns-in_err-write_number : goal.returns-in_err-write_number

@@ -1,6 +1,6 @@
 use Rattle.std.proofs.Common.{codes, ◌∙◌}
 use Rattle.resp_script.specs.Reasons.{reason_text}
-use Rattle.resp_tool.proofs.WrittenLemmas.{writes_next, writes_part}
+use Rattle.resp_print.proofs.WrittenLemmas.{writes_next, writes_part}
 use Rattle.resp_script.proofs.script.ScriptError.explain.Goals as goal
 
 pub returns-in_err-write_text-in-BadScript : goal.returns-in_err-write_text-in-BadScript

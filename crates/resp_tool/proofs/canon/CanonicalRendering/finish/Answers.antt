@@ -2,7 +2,7 @@ use Rattle.std.proofs.Common.{inl, refl, subst}
 use Rattle.resp_value.specs.Rules.{WithinTotal, rules_under}
 use Rattle.resp_value.specs.Spellings.{IsViable}
 use Rattle.resp_tool.proofs.Scanned.{ends_between, looks_truncated}
-use Rattle.resp_tool.proofs.WrittenLemmas.{Appends-none}
+use Rattle.resp_print.proofs.WrittenLemmas.{Appends-none}
 use Rattle.resp_scan.specs.Kinds.{rules_of}
 use Rattle.resp_tool.proofs.canon.CanonicalRendering.finish.Goals as goal
 

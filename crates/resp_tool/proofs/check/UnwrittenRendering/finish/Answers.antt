@@ -1,7 +1,7 @@
 use Rattle.std.proofs.Common.{inl, refl}
 use Rattle.resp_scan.specs.Kinds.{rules_of}
 use Rattle.resp_tool.proofs.Scanned.{ends_between, looks_truncated}
-use Rattle.resp_tool.proofs.WrittenLemmas.{Appends-none}
+use Rattle.resp_print.proofs.WrittenLemmas.{Appends-none}
 use Rattle.resp_tool.proofs.check.UnwrittenRendering.finish.Goals as goal
 
 pub returns-in-Ok-clause-ends : goal.returns-in-Ok-clause-ends

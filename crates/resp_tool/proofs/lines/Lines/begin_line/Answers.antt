@@ -1,7 +1,7 @@
 use Rattle.std.proofs.Common.{ap, refl, ◌++◌}
 use Rattle.resp_tool.specs.Lines.{page_of}
 use Rattle.resp_tool.specs.Pages.{of_line}
-use Rattle.resp_tool.specs.Shown.{indentation}
+use Rattle.resp_print.specs.Shown.{indentation}
 use Rattle.resp_tool.proofs.PageLemmas.{both_written, first_fails}
 use Rattle.resp_tool.proofs.lines.Lines.begin_line.Goals as goal
 

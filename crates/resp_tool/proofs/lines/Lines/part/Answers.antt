@@ -1,7 +1,7 @@
 use Rattle.std.proofs.Common.{[], sym, ap, subst, append-nil, ◌∙◌}
 use Rattle.resp_tool.specs.Lines.{page_of}
 use Rattle.resp_tool.specs.Pages.{Page}
-use Rattle.resp_tool.specs.Shown.{quoted_text}
+use Rattle.resp_print.specs.Shown.{quoted_text}
 use Rattle.resp_value.specs.Devices.{Appends}
 use Rattle.resp_tool.proofs.PageLemmas.{content_page, content_shown, first_fails}
 use Rattle.resp_tool.proofs.lines.Lines.part.Goals as goal

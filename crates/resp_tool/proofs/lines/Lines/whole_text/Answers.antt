@@ -4,7 +4,7 @@ use Rattle.resp_tool.specs.Lines.{page_of}
 use Rattle.resp_tool.specs.Pages.{beginning, text_line}
 use Rattle.resp_tool.proofs.PageLemmas.{first_fails, room_without_text, second_fails, whole_page, whole_shown}
 use Rattle.resp_value.specs.Devices.{Appends}
-use Rattle.resp_tool.proofs.WrittenLemmas.{Appends-append}
+use Rattle.resp_print.proofs.WrittenLemmas.{Appends-append}
 use Rattle.resp_tool.proofs.lines.Lines.whole_text.Goals as goal
 
 pub returns-in_err-begin_line-clause-written : goal.returns-in_err-begin_line-clause-written

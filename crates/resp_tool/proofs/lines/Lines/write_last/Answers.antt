@@ -1,5 +1,5 @@
 use Rattle.std.proofs.Common.{◌-◌, ◌++◌, codes, decimal, reverse, sym, ap, ◌∙◌}
-use Rattle.resp_tool.specs.Shown.{indentation}
+use Rattle.resp_print.specs.Shown.{indentation}
 use Rattle.resp_tool.proofs.PageLemmas.{both_written, first_fails, writes_last_line}
 use Rattle.resp_tool.proofs.lines.Lines.write_last.Goals as goal
 

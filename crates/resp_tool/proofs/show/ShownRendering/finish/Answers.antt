@@ -2,7 +2,7 @@ use Rattle.std.proofs.Common.{inl, refl}
 use Rattle.resp_scan.specs.Kinds.{rules_of}
 use Rattle.resp_tool.proofs.Scanned.{ends_between}
 use Rattle.resp_tool.proofs.Showing.{shown_between, shown_end_part, shown_truncated}
-use Rattle.resp_tool.proofs.WrittenLemmas.{Appends-none}
+use Rattle.resp_print.proofs.WrittenLemmas.{Appends-none}
 use Rattle.resp_tool.proofs.show.ShownRendering.finish.Goals as goal
 
 pub returns-in-Ok-clause-ends : goal.returns-in-Ok-clause-ends

@@ -1,0 +1,23 @@
+use Rattle.std.proofs.Common.{◌++◌, codes, decimal, length}
+use Rattle.resp_print.specs.Shown.{quoted_text}
+use Rattle.resp_print.proofs.WrittenLemmas.{writes_next, writes_part}
+use Rattle.resp_print.proofs.value.write_string.Goals as goal
+
+pub returns-in_err-write_text : goal.returns-in_err-write_text
+returns-in_err-write_text g c =
+    let size = codes "\" " ++ decimal (length c.args.text.now) ++ codes "\n" in
+    writes_part c.from_residual.result _ _ _ _ c.args.word.now (quoted_text c.args.text.now ++ size) c.from_residual.ensures.0 c.in_err-write_text.ensures
+
+pub returns-in_err-write_quoted : goal.returns-in_err-write_quoted
+returns-in_err-write_quoted g c =
+    let size = codes "\" " ++ decimal (length c.args.text.now) ++ codes "\n" in
+    let r = c.from_residual-in_err-write_quoted.result in
+    writes_next r _ _ _ _ _ _ c.args.word.now (quoted_text c.args.text.now ++ size) c.in_ok-write_text.ensures
+    (writes_part r _ _ _ _ (quoted_text c.args.text.now) size c.from_residual-in_err-write_quoted.ensures.0 c.in_err-write_quoted.ensures)
+
+pub returns : goal.returns
+returns g c =
+    let size = codes "\" " ++ decimal (length c.args.text.now) ++ codes "\n" in
+    let r = c.write_number.result in
+    writes_next r _ _ _ _ _ _ c.args.word.now (quoted_text c.args.text.now ++ size) c.in_ok-write_text.ensures
+    (writes_next r _ _ _ _ _ _ (quoted_text c.args.text.now) size c.in_ok-write_quoted.ensures c.write_number.ensures)

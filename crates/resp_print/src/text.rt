@@ -1,0 +1,162 @@
+//! Text to a writer: plain pieces, numbers, and quoted bytes.
+
+ghost use Rattle.std.specs.Prelude.{◌≡◌, ◌++◌, ◌<◌, ◌≤◌, false, true, length, drop, take, slice_index};
+ghost use Rattle.resp_print.specs.Shown.{is_plain, hex_digit, escape_of, indentation, quoted_text};
+ghost use Rattle.resp_print.specs.Written.{WritesText};
+
+use itoa::{Buffer, Integer};
+use resp_value::device::{DeviceFault, Sink, write_all};
+
+/// The number of bytes that are looked at together.
+const RUN: usize = 64;
+
+/// The spaces of 128 levels.
+const SPACES: [u8; 256] = [b' '; 256];
+
+/// Writes a text, mostly by one write: small texts that are known here then need no call to copy.
+#[inline(always)]
+pub fn write_text<W: Sink>(writer: &mut W, text: &[u8]) -> Result<(), DeviceFault>
+    ensures { WritesText (W.written writer.old) (W.written writer.new) (W.failures writer.old)
+        (W.failures writer.new) result text.now }
+{
+    if text.is_empty() {
+        return Ok(());
+    }
+    match writer.write(text) {
+        Ok(count) => {
+            if count == text.len() {
+                return Ok(());
+            }
+            if count == 0 {
+                return Err(DeviceFault);
+            }
+            write_rest(writer, text, count)
+        }
+        Err(DeviceFault) => Err(DeviceFault),
+    }
+}
+
+/// Writes what is left of a text after its first bytes.
+#[cold]
+#[inline(never)]
+fn write_rest<W: Sink>(writer: &mut W, text: &[u8], written: usize) -> Result<(), DeviceFault>
+    requires { written ≤ length text.now }
+    ensures { WritesText (W.written writer.old) (W.written writer.new) (W.failures writer.old)
+        (W.failures writer.new) result (drop written text.now) }
+{
+    match write_all(writer, &text[written..]) {
+        Ok(()) => Ok(()),
+        Err(_) => Err(DeviceFault),
+    }
+}
+
+/// Writes a text, an integer, and another text.
+#[inline(always)]
+pub fn write_number<W: Sink, N: Integer + Drop>(
+    writer: &mut W,
+    before: &[u8],
+    number: N,
+    beyond: &[u8],
+) -> Result<(), DeviceFault>
+    ensures { WritesText (W.written writer.old) (W.written writer.new) (W.failures writer.old)
+        (W.failures writer.new) result (before.now ++ N.text number ++ beyond.now) }
+{
+    let mut buffer = Buffer::new();
+    write_text(writer, before)?;
+    write_text(writer, buffer.format(number).as_bytes())?;
+    write_text(writer, beyond)
+}
+
+/// Writes two spaces for each level.
+#[inline(always)]
+pub fn write_indentation<W: Sink>(writer: &mut W, level: u64) -> Result<(), DeviceFault>
+    ensures { WritesText (W.written writer.old) (W.written writer.new) (W.failures writer.old)
+        (W.failures writer.new) result (indentation level) }
+{
+    let mut left = level;
+    while left > 128 {
+        write_text(writer, &SPACES)?;
+        left -= 128;
+    }
+    write_text(writer, &SPACES[..2 * left as usize])
+}
+
+/// Whether a byte stands for itself inside quotes: printable ASCII, no quote and no backslash.
+fn is_plain(byte: u8) -> bool
+    ensures { result ≡ is_plain byte }
+{
+    32 <= byte && byte <= 126 && byte != b'"' && byte != b'\\'
+}
+
+/// The digit of base 16 for a number below 16, a small letter from ten on.
+fn hex_digit(n: u8) -> u8
+    requires { n < 16 }
+    ensures { result ≡ hex_digit n }
+{
+    if n < 10 { n + b'0' } else { n - 10 + b'a' }
+}
+
+/// Writes a byte that doesn't stand for itself inside quotes.
+fn write_escaped<W: Sink>(writer: &mut W, byte: u8) -> Result<(), DeviceFault>
+    ensures { WritesText (W.written writer.old) (W.written writer.new) (W.failures writer.old)
+        (W.failures writer.new) result (escape_of byte) }
+{
+    match byte {
+        b'"' => write_text(writer, b"\\\""),
+        b'\\' => write_text(writer, b"\\\\"),
+        b'\r' => write_text(writer, b"\\r"),
+        b'\n' => write_text(writer, b"\\n"),
+        b'\t' => write_text(writer, b"\\t"),
+        _ => write_text(
+            writer,
+            &[b'\\', b'x', hex_digit(byte / 16), hex_digit(byte % 16)],
+        ),
+    }
+}
+
+/// Whether all bytes stand for themselves inside quotes. It looks at each, whatever the others are,
+/// so that many are looked at together.
+pub fn is_all_plain(text: &[u8]) -> bool
+    ensures { result ≡ true → quoted_text text.now ≡ text.now }
+{
+    let mut is_plain_so_far = true;
+    for byte in text {
+        is_plain_so_far &= is_plain(*byte);
+    }
+    is_plain_so_far
+}
+
+/// How many bytes stand before the first that doesn't stand for itself inside quotes.
+fn plain_length(text: &[u8]) -> usize
+    ensures within { result ≤ length text.now }
+    ensures plain { quoted_text (take result text.now) ≡ take result text.now }
+    ensures whole { result < length text.now → is_plain (slice_index text.now result) ≡ false }
+{
+    let mut length = 0;
+    while text.len() - length >= RUN && is_all_plain(&text[length..length + RUN]) {
+        length += RUN;
+    }
+    while length < text.len() && is_plain(text[length]) {
+        length += 1;
+    }
+    length
+}
+
+/// Writes a text as it stands inside quotes.
+pub fn write_quoted<W: Sink>(writer: &mut W, text: &[u8]) -> Result<(), DeviceFault>
+    ensures { WritesText (W.written writer.old) (W.written writer.new) (W.failures writer.old)
+        (W.failures writer.new) result (quoted_text text.now) }
+{
+    let mut rest = text;
+    while let Some((byte, beyond)) = rest.split_first() {
+        let (plain, other) = rest.split_at(plain_length(rest));
+        if plain.is_empty() {
+            write_escaped(writer, *byte)?;
+            rest = beyond;
+        } else {
+            write_text(writer, plain)?;
+            rest = other;
+        }
+    }
+    Ok(())
+}

@@ -1,0 +1,307 @@
+//! The lines of a value, as `resp show` prints them, written from the value itself.
+
+ghost use Rattle.std.specs.Prelude.{◌≡◌, ◌+◌, ◌++◌, ℕ, List, Option, suc, length, map, codes, decimal};
+ghost use Rattle.resp_value.specs.Data.{data_of_list, depth, greatest_depth, in_turn};
+ghost use Rattle.resp_value.specs.Data as d;
+ghost use Rattle.resp_value.specs.Values.{datum_of, digits_text, is_negative, pair_data};
+ghost use Rattle.resp_value.specs.declared.value.Value.TheVariants as value;
+ghost use Rattle.resp_print.specs.Printed.{IsScalar, Prints, annotating_front, big_word, end_line, first_line, group_lines};
+ghost use Rattle.resp_print.specs.Shown.{lines_on, member_lines, quoted_text, scalar_line};
+ghost use Rattle.resp_print.specs.Written.{WritesText};
+
+use crate::print_error::PrintError;
+use crate::text::{write_indentation, write_number, write_quoted, write_text};
+use resp_value::device::{DeviceFault, Sink};
+use resp_value::digits::Digits;
+use resp_value::value::{Members, Value};
+
+/// Writes the lines of a value, two spaces deeper for each level.
+///
+/// The lines are those of `resp show`, which prints a value on level 0. The call allocates nothing.
+///
+/// # Errors
+///
+/// - [`PrintError::Write`] if a write fails.
+/// - [`PrintError::TooDeep`] if the value and the levels around it are 2^64 levels or more.
+///
+/// After an error the sink has taken a first part of the lines.
+#[cycle(lines)]
+pub fn write_value<W: Sink>(value: &Value, level: u64, writer: &mut W) -> Result<(), PrintError>
+    ensures { Prints (W.written writer.old) (W.written writer.new) (W.failures writer.old)
+        (W.failures writer.new) result (lines_on level (datum_of value.now))
+        (level + depth (datum_of value.now)) }
+{
+    match value {
+        Value::Array(members) => write_group(b"array\n", members.list(), level, writer),
+        Value::Set(members) => write_group(b"set\n", members.list(), level, writer),
+        Value::Push(members) => write_group(b"push\n", members.list(), level, writer),
+        Value::Map(pairs) => write_map(pairs.list(), level, writer),
+        Value::Attr(pairs, annotated) => {
+            let pairs = pairs.list();
+            let Some(deeper) = level.checked_add(1) else {
+                return Err(PrintError::TooDeep);
+            };
+            if let Err(error) = write_annotating(pairs, level, deeper, writer) {
+                return Err(error);
+            }
+            if let Err(error) = write_value(annotated, deeper, writer) {
+                return Err(error);
+            }
+            write_end_line(level, pairs.len() as u64, writer)
+        }
+        _ => printed(write_scalar(value, level, writer)),
+    }
+}
+
+/// Writes the lines of a push of these members, as [`write_value`] writes those of a value.
+///
+/// # Errors
+///
+/// Fails as [`write_value`] does.
+pub fn write_push_value<W: Sink>(
+    members: &Members,
+    level: u64,
+    writer: &mut W,
+) -> Result<(), PrintError>
+    ensures { Prints (W.written writer.old) (W.written writer.new) (W.failures writer.old)
+        (W.failures writer.new) result
+        (lines_on level (datum_of (value.Push members.now)))
+        (level + depth (datum_of (value.Push members.now))) }
+{
+    write_group(b"push\n", members.list(), level, writer)
+}
+
+/// Writes the lines of members, between the first and the last line of their aggregate.
+#[cycle(lines)]
+fn write_group<W: Sink>(
+    words: &[u8],
+    members: &[Value],
+    level: u64,
+    writer: &mut W,
+) -> Result<(), PrintError>
+    ensures { Prints (W.written writer.old) (W.written writer.new) (W.failures writer.old)
+        (W.failures writer.new) result
+        (group_lines level words.now
+        (member_lines (suc level) (data_of_list (map datum_of members.now)))
+        (length members.now))
+        (level + (greatest_depth (data_of_list (map datum_of members.now)) + 1)) }
+{
+    let Some(deeper) = level.checked_add(1) else {
+        return Err(PrintError::TooDeep);
+    };
+    if let Err(error) = write_first_line(level, words, writer) {
+        return Err(error);
+    }
+    if let Err(error) = write_members(members, deeper, writer) {
+        return Err(error);
+    }
+    write_end_line(level, members.len() as u64, writer)
+}
+
+/// Writes the lines of a map.
+#[cycle(lines)]
+fn write_map<W: Sink>(
+    pairs: &[(Value, Value)],
+    level: u64,
+    writer: &mut W,
+) -> Result<(), PrintError>
+    ensures { Prints (W.written writer.old) (W.written writer.new) (W.failures writer.old)
+        (W.failures writer.new) result
+        (group_lines level (codes "map\n")
+        (member_lines (suc level) (data_of_list (in_turn (map pair_data pairs.now))))
+        (length pairs.now))
+        (level + (greatest_depth (data_of_list (in_turn (map pair_data pairs.now))) + 1)) }
+{
+    let Some(deeper) = level.checked_add(1) else {
+        return Err(PrintError::TooDeep);
+    };
+    if let Err(error) = write_first_line(level, b"map\n", writer) {
+        return Err(error);
+    }
+    if let Err(error) = write_pairs(pairs, deeper, writer) {
+        return Err(error);
+    }
+    write_end_line(level, pairs.len() as u64, writer)
+}
+
+/// Writes the first line of an attribute, the lines of its pairs, and the line `of`.
+#[cycle(lines)]
+fn write_annotating<W: Sink>(
+    pairs: &[(Value, Value)],
+    level: u64,
+    deeper: u64,
+    writer: &mut W,
+) -> Result<(), PrintError>
+    ensures { Prints (W.written writer.old) (W.written writer.new) (W.failures writer.old)
+        (W.failures writer.new) result
+        (annotating_front level (member_lines deeper
+        (data_of_list (in_turn (map pair_data pairs.now)))))
+        (deeper + greatest_depth (data_of_list (in_turn (map pair_data pairs.now)))) }
+{
+    if let Err(error) = write_first_line(level, b"attr\n", writer) {
+        return Err(error);
+    }
+    if let Err(error) = write_pairs(pairs, deeper, writer) {
+        return Err(error);
+    }
+    write_first_line(level, b"of\n", writer)
+}
+
+/// Writes the lines of members, one after another.
+#[cycle(lines)]
+fn write_members<W: Sink>(members: &[Value], level: u64, writer: &mut W) -> Result<(), PrintError>
+    ensures { Prints (W.written writer.old) (W.written writer.new) (W.failures writer.old)
+        (W.failures writer.new) result
+        (member_lines level (data_of_list (map datum_of members.now)))
+        (level + greatest_depth (data_of_list (map datum_of members.now))) }
+{
+    for member in members {
+        if let Err(error) = write_value(member, level, writer) {
+            return Err(error);
+        }
+    }
+    Ok(())
+}
+
+/// Writes the lines of keys and values in turn.
+#[cycle(lines)]
+fn write_pairs<W: Sink>(
+    pairs: &[(Value, Value)],
+    level: u64,
+    writer: &mut W,
+) -> Result<(), PrintError>
+    ensures { Prints (W.written writer.old) (W.written writer.new) (W.failures writer.old)
+        (W.failures writer.new) result
+        (member_lines level (data_of_list (in_turn (map pair_data pairs.now))))
+        (level + greatest_depth (data_of_list (in_turn (map pair_data pairs.now)))) }
+{
+    for pair in pairs {
+        if let Err(error) = write_value(&pair.0, level, writer) {
+            return Err(error);
+        }
+        if let Err(error) = write_value(&pair.1, level, writer) {
+            return Err(error);
+        }
+    }
+    Ok(())
+}
+
+/// Returns the result of a write as that of printing.
+fn printed(written: Result<(), DeviceFault>) -> Result<(), PrintError>
+    ensures { (before after : Option (List ℕ)) (failures failures' : ℕ) (text : List ℕ)
+        (levels : ℕ) → WritesText before after failures failures' written text →
+        Prints before after failures failures' result text levels }
+{
+    match written {
+        Ok(()) => Ok(()),
+        Err(_) => Err(PrintError::Write),
+    }
+}
+
+/// Writes the first line of an aggregate.
+fn write_first_line<W: Sink>(level: u64, words: &[u8], writer: &mut W) -> Result<(), PrintError>
+    ensures { Prints (W.written writer.old) (W.written writer.new) (W.failures writer.old)
+        (W.failures writer.new) result (first_line level words.now) 0 }
+{
+    printed(write_indented(level, words, writer))
+}
+
+/// Writes words two spaces deeper for each level.
+fn write_indented<W: Sink>(level: u64, words: &[u8], writer: &mut W) -> Result<(), DeviceFault>
+    ensures { WritesText (W.written writer.old) (W.written writer.new) (W.failures writer.old)
+        (W.failures writer.new) result (first_line level words.now) }
+{
+    write_indentation(writer, level)?;
+    write_text(writer, words)
+}
+
+/// Writes the last line of an aggregate of this many members or pairs.
+fn write_end_line<W: Sink>(level: u64, items: u64, writer: &mut W) -> Result<(), PrintError>
+    ensures { Prints (W.written writer.old) (W.written writer.new) (W.failures writer.old)
+        (W.failures writer.new) result (end_line level items) 0 }
+{
+    printed(write_end(level, items, writer))
+}
+
+/// Writes the word `end` two spaces deeper for each level, a number, and LF.
+fn write_end<W: Sink>(level: u64, items: u64, writer: &mut W) -> Result<(), DeviceFault>
+    ensures { WritesText (W.written writer.old) (W.written writer.new) (W.failures writer.old)
+        (W.failures writer.new) result (end_line level items) }
+{
+    write_indentation(writer, level)?;
+    write_number(writer, b"end ", items, b"\n")
+}
+
+/// Writes the line of a value without members. Of another value it writes no line.
+fn write_scalar<W: Sink>(value: &Value, level: u64, writer: &mut W) -> Result<(), DeviceFault>
+    ensures { IsScalar (datum_of value.now) →
+        WritesText (W.written writer.old) (W.written writer.new) (W.failures writer.old)
+        (W.failures writer.new) result (lines_on level (datum_of value.now)) }
+{
+    write_indentation(writer, level)?;
+    write_scalar_line(value, writer)
+}
+
+/// Writes the line of a value without members, on level 0.
+fn write_scalar_line<W: Sink>(value: &Value, writer: &mut W) -> Result<(), DeviceFault>
+    ensures { (s : d.Scalar) → datum_of value.now ≡ d.scalar s →
+        WritesText (W.written writer.old) (W.written writer.new) (W.failures writer.old)
+        (W.failures writer.new) result (scalar_line s) }
+{
+    match value {
+        Value::Null => write_text(writer, b"null\n"),
+        Value::Bool(true) => write_text(writer, b"true\n"),
+        Value::Bool(false) => write_text(writer, b"false\n"),
+        Value::Int(number) => write_number(writer, b"int ", *number, b"\n"),
+        Value::Simple(line) => write_string(b"simple \"", line.text(), writer),
+        Value::Error(line) => write_string(b"error \"", line.text(), writer),
+        Value::Double(text) => write_string(b"double \"", text.text(), writer),
+        Value::Bulk(content) => write_string(b"bulk \"", content.list(), writer),
+        Value::BulkError(content) => write_string(b"bulkerror \"", content.list(), writer),
+        Value::Verbatim(format, text) => write_verbatim(format, text.list(), writer),
+        Value::Big(digits) => write_big(digits, writer),
+        _ => Ok(()),
+    }
+}
+
+/// Writes a word and a quote, a text in quotes, and the number of its bytes.
+fn write_string<W: Sink>(word: &[u8], text: &[u8], writer: &mut W) -> Result<(), DeviceFault>
+    ensures { WritesText (W.written writer.old) (W.written writer.new) (W.failures writer.old)
+        (W.failures writer.new) result (word.now ++ (quoted_text text.now ++
+        (codes "\" " ++ decimal (length text.now) ++ codes "\n"))) }
+{
+    write_text(writer, word)?;
+    write_quoted(writer, text)?;
+    write_number(writer, b"\" ", text.len() as u64, b"\n")
+}
+
+/// Writes the line of a verbatim string.
+fn write_verbatim<W: Sink>(format: &[u8; 3], text: &[u8], writer: &mut W) -> Result<(), DeviceFault>
+    ensures { WritesText (W.written writer.old) (W.written writer.new) (W.failures writer.old)
+        (W.failures writer.new) result (codes "verbatim \"" ++ (quoted_text format.now ++
+        (codes "\" \"" ++ (quoted_text text.now ++
+        (codes "\" " ++ decimal (length text.now) ++ codes "\n"))))) }
+{
+    write_text(writer, b"verbatim \"")?;
+    write_quoted(writer, format)?;
+    write_string(b"\" \"", text, writer)
+}
+
+/// Writes the line of a big number.
+fn write_big<W: Sink>(digits: &Digits, writer: &mut W) -> Result<(), DeviceFault>
+    ensures { WritesText (W.written writer.old) (W.written writer.new) (W.failures writer.old)
+        (W.failures writer.new) result (big_word (is_negative digits.now) ++
+        (digits_text digits.now ++ codes "\n")) }
+{
+    let word = big_word(digits.is_negative());
+    write_text(writer, word)?;
+    write_text(writer, digits.digits())?;
+    write_text(writer, b"\n")
+}
+
+/// Returns the words before the digits of a big number.
+fn big_word(is_negative: bool) -> &'static [u8]
+    ensures { result.now ≡ big_word is_negative }
+{
+    if is_negative { b"big -" } else { b"big " }
+}
