@@ -526,14 +526,14 @@ static PyObject *pack(PyObject *module, PyObject *words) {
 
 static PyMethodDef READER_METHODS[] = {
     {"feed", (PyCFunction)reader_feed, METH_FASTCALL,
-     "feed(bytes, from=0, length=-1)\n--\n\nAdds bytes as they came, or a slice of them."},
+     "feed(bytes, from=0, length=-1)\n--\n\nAdds bytes that were received, or a slice of them."},
     {"gets", (PyCFunction)reader_gets, METH_FASTCALL,
-     "gets(shouldDecode=True)\n--\n\nThe next reply, or notEnoughData where it isn't whole. Raises protocolError at the first byte after\n"
-     "which nothing can follow, with the attributes cause and at, and for good."},
+     "gets(shouldDecode=True)\n--\n\nReturns the next reply, or notEnoughData if it isn't complete. Raises protocolError at the first byte\n"
+     "that no reply can contain there, with the attributes cause and at. Every later call raises it again."},
     {"has_data", (PyCFunction)reader_has_data, METH_NOARGS,
-     "has_data()\n--\n\nWhether bytes wait to be read, or a reply was begun."},
+     "has_data()\n--\n\nReturns whether bytes wait to be read, or a reply was begun."},
     {"set_protocol", (PyCFunction)reader_set_protocol, METH_VARARGS,
-     "set_protocol(protocol)\n--\n\nReads protocol 2 or 3 from the next reply on. Raises ValueError inside a reply."},
+     "set_protocol(protocol)\n--\n\nReads the next replies in protocol 2 or 3. Raises ValueError inside a reply."},
     {NULL, NULL, 0, NULL},
 };
 
@@ -545,7 +545,7 @@ static PyType_Slot READER_SLOTS[] = {
     {Py_tp_methods, READER_METHODS},
     {Py_tp_doc, "Reader(protocolError, replyError, encoding=None, errors='strict', notEnoughData=False, protocol=2, depth=32,\n"
                 "       length=536870912, total=1073741824, items=1099511627776, streamed=True, doubles=True)\n--\n\n"
-                "Reads replies of RESP2 or RESP3 from bytes, however they are cut."},
+                "Reads replies of RESP2 or RESP3 from pieces of any size."},
     {0, NULL},
 };
 
@@ -553,18 +553,18 @@ static PyType_Spec READER = {"resp.Reader", sizeof(struct reader), 0, Py_TPFLAGS
 
 static PyMethodDef PAIRING_METHODS[] = {
     {"feed", (PyCFunction)reader_feed, METH_FASTCALL,
-     "feed(bytes, from=0, length=-1)\n--\n\nAdds bytes as they came, or a slice of them."},
+     "feed(bytes, from=0, length=-1)\n--\n\nAdds bytes that were received, or a slice of them."},
     {"gets", (PyCFunction)reader_gets, METH_FASTCALL,
-     "gets(shouldDecode=True)\n--\n\nThe next reply with the number of its command, or None for a push: (number, reply). Else as\n"
-     "Reader.gets. Raises protocolError by the cause Unasked where no command asked for the value; it is then read once one\n"
-     "was queued."},
+     "gets(shouldDecode=True)\n--\n\nReturns (number, reply): the next reply with the number of its command, or None for a push. Else as\n"
+     "Reader.gets. Raises protocolError with the cause Unasked if no command asked for the value; after a command is queued\n"
+     "the value can be read."},
     {"has_data", (PyCFunction)reader_has_data, METH_NOARGS,
-     "has_data()\n--\n\nWhether bytes wait to be read, or a reply was begun."},
+     "has_data()\n--\n\nReturns whether bytes wait to be read, or a reply was begun."},
     {"queue", (PyCFunction)pairing_queue, METH_VARARGS,
-     "queue(hello=0)\n--\n\nQueues a command that is sent, or a HELLO that asks for protocol 2 or 3. The number of its reply, from\n"
-     "1 on. Raises ValueError for another protocol, and where such a HELLO waits already."},
+     "queue(hello=0)\n--\n\nCounts a command that is sent, or a HELLO that asks for protocol 2 or 3. Returns the number of its\n"
+     "reply, from 1. Raises ValueError for another protocol, or if another such HELLO waits."},
     {"protocol", (PyCFunction)pairing_protocol, METH_NOARGS,
-     "protocol()\n--\n\nThe protocol: 2, or what the last HELLO asked that was answered."},
+     "protocol()\n--\n\nReturns the protocol: 2, or the one of the last HELLO that was answered without an error."},
     {NULL, NULL, 0, NULL},
 };
 
@@ -574,15 +574,15 @@ static PyType_Slot PAIRING_SLOTS[] = {
     {Py_tp_traverse, reader_traverse},
     {Py_tp_clear, reader_clear},
     {Py_tp_methods, PAIRING_METHODS},
-    {Py_tp_doc, "Pairing(..)\n--\n\nA Reader that knows which command each reply answers, and reads each in its protocol. It takes\n"
-                "the same words; the protocol is 2 until a HELLO was answered."},
+    {Py_tp_doc, "Pairing(..)\n--\n\nA Reader that knows which command each reply answers, and reads each reply in its protocol. It\n"
+                "accepts the same arguments. The protocol is 2 until a HELLO is answered."},
     {0, NULL},
 };
 
 static PyType_Spec PAIRING = {"resp.Pairing", sizeof(struct reader), 0, Py_TPFLAGS_DEFAULT | Py_TPFLAGS_HAVE_GC, PAIRING_SLOTS};
 
 static PyMethodDef METHODS[] = {
-    {"pack", pack, METH_VARARGS, "pack(*words)\n--\n\nThe bytes of a command: bytes as they are, other words as their text."},
+    {"pack", pack, METH_VARARGS, "pack(*words)\n--\n\nReturns the bytes of a command. Words are bytes, or are converted to text."},
     {NULL, NULL, 0, NULL},
 };
 
