@@ -147,8 +147,8 @@ enum resp_text {
     RESP_TEXT_BULK_ERROR = 4,
     /* A verbatim string. `format` has its three bytes of format. */
     RESP_TEXT_VERBATIM = 5,
-    /* A big number. Its text is the digits without leading zeros; `number` is 1 if it is negative.
-     */
+    /* A big number. Its text is the digits without leading zeros, empty for zero; `number` is 1 if it
+     * is negative. */
     RESP_TEXT_BIG = 6
 };
 
