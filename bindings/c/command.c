@@ -1,4 +1,4 @@
-/* Prints the command of its words, as a client sends it. */
+/* Prints the command made of its arguments, as a client sends it. */
 #include "resp.h"
 
 #include <inttypes.h>

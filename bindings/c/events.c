@@ -1,4 +1,4 @@
-/* Prints the events of the RESP3 values on standard input, a line an event. */
+/* Prints the events of the RESP3 values on standard input, one event a line. */
 #include "resp.h"
 
 #include <inttypes.h>
@@ -40,7 +40,7 @@ static void print(const struct resp_event *event, const uint8_t *piece) {
     }
 }
 
-/* Prints the events of a piece, and answers RESP_OK or why it is refused. */
+/* Prints the events of a piece. Returns RESP_OK or the error. */
 static uint32_t scan(struct resp_scanner *scanner, const uint8_t *piece, size_t length) {
     struct resp_event event;
     uint32_t cause;

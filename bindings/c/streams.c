@@ -1,7 +1,6 @@
-/* Tells the events of many streams, to be compared with what the crate `stream_events` tells of them
- * by the scanner itself: for each stream a sum of the numbers that tell its steps. That crate says
- * how standard input has the streams. With an argument it asks for as many events at once, and takes
- * whole texts apart. */
+/* Prints a checksum of the events of each of many streams. tests/bindings compares it with that of the
+ * crate `stream_events`, which uses the scanner itself. That crate describes the format of standard
+ * input. With an argument N, it asks for N events at once and splits whole texts into their events. */
 #include "resp.h"
 
 #include <inttypes.h>
@@ -10,7 +9,7 @@
 
 static uint64_t sum;
 
-/* Adds a number to the sum of the stream: FNV-1a of 64 bits, a number at a time. */
+/* Adds a number to the checksum of the stream: FNV-1a of 64 bits, one number at a time. */
 static void add(uint64_t number) { sum = (sum ^ number) * UINT64_C(1099511628211); }
 
 static void add_bytes(const uint8_t *bytes, size_t count) {
@@ -18,7 +17,7 @@ static void add_bytes(const uint8_t *bytes, size_t count) {
         add(bytes[at]);
 }
 
-/* Adds what a step did, but for the bytes that it used. */
+/* Adds an event, without the number of bytes used. */
 static void add_event(const struct resp_event *event, const uint8_t *piece) {
     if (event->kind != RESP_MORE)
         add(event->kind);
@@ -48,13 +47,13 @@ static void add_event(const struct resp_event *event, const uint8_t *piece) {
     }
 }
 
-/* Adds a step, which began at this place of the piece. */
+/* Adds a step whose bytes begin at `piece`. */
 static void add_step(const struct resp_event *event, const uint8_t *piece) {
     add(event->used);
     add_event(event, piece);
 }
 
-/* Adds a whole text as the steps that it stands for. */
+/* Adds a whole text as the three steps that it replaces. */
 static void add_whole(const struct resp_event *event, const uint8_t *piece) {
     size_t head = event->used - event->part - 2;
     struct resp_event begins = {.kind = RESP_TEXT, .form = event->form, .used = head};
@@ -66,7 +65,7 @@ static void add_whole(const struct resp_event *event, const uint8_t *piece) {
     add_step(&ends, piece + (event->used - 2));
 }
 
-/* Adds the steps of a piece. Why a byte is refused, or RESP_OK. */
+/* Adds the steps of a piece. Returns RESP_OK or the error. */
 static uint32_t add_steps(struct resp_scanner *scanner, const uint8_t *piece, size_t length) {
     struct resp_event event;
     uint32_t cause;
@@ -80,10 +79,10 @@ static uint32_t add_steps(struct resp_scanner *scanner, const uint8_t *piece, si
     return cause;
 }
 
-/* The same by calls that tell as many events at once. */
+/* The same with calls that return up to `room` events. */
 static uint32_t add_many(struct resp_scanner *scanner, const uint8_t *piece, size_t length, size_t room) {
     for (;;) {
-        /* (in memory of their own, so that a write outside it is found) */
+        /* The array has exactly `room` events, which lets valgrind find a write outside it. */
         struct resp_event *events = malloc(room * sizeof *events), more = {.kind = RESP_MORE};
         struct resp_scanned scanned;
         if (!events)
@@ -105,9 +104,8 @@ static uint32_t add_many(struct resp_scanner *scanner, const uint8_t *piece, siz
     }
 }
 
-/* Adds the steps of a piece, and then what the scanner says of itself, or why it refuses a byte.
- * Whether it refuses none. The piece stands in memory of its own, so that a read outside it is
- * found. */
+/* Adds the steps of a piece, and then the state of the scanner or the error. Returns whether there was
+ * no error. The caller gives each piece its own memory, which lets valgrind find a read outside it. */
 static bool add_piece(struct resp_scanner *scanner, const uint8_t *piece, size_t length, size_t room) {
     uint32_t cause = room ? add_many(scanner, piece, length, room) : add_steps(scanner, piece, length);
     if (cause == RESP_OK) {

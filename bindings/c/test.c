@@ -1,6 +1,5 @@
-/* Rows of what the library tells of texts, each read whole, cut in two at each byte, and byte by
- * byte with an empty piece between, event by event and many at once; and what its other calls
- * answer. */
+/* Tests of the library in rows. Each text is read whole, cut in two at each byte, and byte by byte with
+ * an empty piece between, event by event and many events at once. The other calls are tested too. */
 #include "resp.h"
 
 #include <inttypes.h>
@@ -20,9 +19,9 @@ static void check(bool is_right, const char *what, const char *said) {
     printf("%s: %s\n", what, said);
 }
 
-/* A text and the events that it has to give: `_`, `#1`, `:7`, a text's type byte and its bytes in
- * quotes, an aggregate's with the number of its members, `]` for a close, `.` for done, and
- * `!cause@byte` for a refusal of a byte or of the end. */
+/* A text and its events: `_`, `#1`, `:7`, the type byte of a text and its bytes in quotes, the type byte
+ * of an aggregate with the number of its members, `]` for a close, `.` for done, and `!cause@byte` for
+ * an error of a byte or of the end. */
 struct row {
     uint32_t version;
     const char *text;
@@ -75,14 +74,14 @@ static const struct row ROWS[] = {
     {3, ",1.5\r\n,-inf\r\n", ",\"1.5\".,\"-inf\".", doubles},
     {2, ",1.5\r\n", "!3@0", doubles},
     {3, "*?", "!12@1", unstreamed},
-    /* After the fifth `*` a null may still come. */
+    /* After the fifth `*` a null is still possible. */
     {2, "*1\r\n*1\r\n*1\r\n*1\r\n*1\r\n", "*1*1*1*1!6@17", shallow},
     {2, "$65\r\n", "!7@2", short_content},
     {2, "$300\r\n", "!8@3", small},
     {2, "*17\r\n", "!13@2", few},
 };
 
-/* What a text said so far. */
+/* The events of a text so far. */
 struct story {
     char said[512];
     size_t length;
@@ -142,7 +141,7 @@ static void say_event(struct story *story, const struct resp_event *event, const
     }
 }
 
-/* Says the events of a piece one by one. Why it is refused, or RESP_OK. */
+/* Adds the events of a piece, one with each call. Returns RESP_OK or the error. */
 static uint32_t say_steps(struct story *story, struct resp_scanner *scanner, const uint8_t *piece, size_t length) {
     for (size_t at = 0;;) {
         struct resp_event event;
@@ -154,12 +153,12 @@ static uint32_t say_steps(struct story *story, struct resp_scanner *scanner, con
     }
 }
 
-/* The same by calls that tell as many as `room` at once. */
+/* The same with calls that return up to `room` events. */
 static uint32_t say_many(struct story *story, struct resp_scanner *scanner, const uint8_t *piece, size_t length,
                          size_t room) {
     const struct resp_event left = {.kind = 99, .number = 7};
     for (size_t at = 0;;) {
-        /* (in memory of their own, so that a write outside it is found) */
+        /* The array has exactly `room` events, which lets valgrind find a write outside it. */
         struct resp_event *events = malloc((room + 1) * sizeof *events);
         struct resp_scanned scanned = {99, 99};
         size_t from = at;
@@ -183,8 +182,8 @@ static uint32_t say_many(struct story *story, struct resp_scanner *scanner, cons
     }
 }
 
-/* Says the events of a piece, by steps where `room` is 0. Whether it isn't refused. The piece stands
- * in memory of its own, so that a read outside it is found. */
+/* Adds the events of a piece, by steps if `room` is 0. Returns whether there was no error. The piece has
+ * its own memory, which lets valgrind find a read outside it. */
 static bool say_piece(struct story *story, struct resp_scanner *scanner, const char *text, size_t length,
                       size_t room) {
     uint8_t *piece = malloc(length ? length : 1);
@@ -204,7 +203,7 @@ static bool say_piece(struct story *story, struct resp_scanner *scanner, const c
     return cause == RESP_OK;
 }
 
-/* Runs a row, cut before the byte `cut`; at its length and one more, byte by byte. */
+/* Runs a row, cut before the byte `cut`. If `cut` is the length or one more, runs it byte by byte. */
 static void run(const struct row *row, size_t cut, size_t room) {
     size_t length = strlen(row->text);
     struct story story = {"", 0};
@@ -263,7 +262,7 @@ static void calls(void) {
     free(scanner.memory);
 }
 
-/* What a call tells of several values, and of a refusal after them. */
+/* Tests a call that returns events of several values and an error after them. */
 static void many(void) {
     struct resp_limits limits;
     struct resp_event events[8];
@@ -290,7 +289,7 @@ static void many(void) {
     free(scanner.memory);
 }
 
-/* The calls that write, each with what the row gives it. */
+/* The calls that write, each with the arguments of a row. */
 static const char *LONG_BYTES;
 
 #define BYTES(text) (const uint8_t *)text, sizeof text - 1
@@ -343,7 +342,7 @@ static uint32_t command(uint8_t *room, size_t length, size_t *size, void (*limit
 WRITES(write_command, command(room, length, size, 0, 3))
 WRITES(write_no_words, command(room, length, size, 0, 0))
 
-/* A call that writes, and the text that it has to write or why it refuses. */
+/* A call that writes, and the text that it has to write or its error. */
 struct written {
     uint32_t (*write)(uint8_t *room, size_t length, size_t *size);
     const char *text;
@@ -385,14 +384,14 @@ static const struct written WRITTEN[] = {
     {write_kind_5, "", RESP_CAUSE_BAD_KIND},
 };
 
-/* Whether each byte is one that no text has. */
+/* Returns whether each byte still has the value that no text contains. */
 static bool is_blank(const uint8_t *room, size_t length) {
     while (length > 0 && room[length - 1] == 0xAA)
         length--;
     return length == 0;
 }
 
-/* Writes a row into room of its own of this length, so that a write outside it is found. */
+/* Writes a row into a buffer of exactly this length, which lets valgrind find a write outside it. */
 static void write_into(const struct written *row, size_t length) {
     size_t wanted = strlen(row->text), size = 999;
     uint8_t *room = malloc(length ? length : 1);
@@ -443,8 +442,8 @@ static void writes(void) {
     check(resp_command_size(&limits, lengths, 16, &size) == RESP_CAUSE_TOTAL && size == 999, "command", "over total");
 }
 
-/* A text that comes to a pairing that has queued these commands: each is the version of a HELLO, or 0. What is wanted has
- * the events, before each value's end the number of its reply, and the version then. */
+/* A text that a pairing reads after it has queued these commands: each is the version of a HELLO, or 0. The wanted text
+ * has the events, before each value's end the number of its reply, and the version then. */
 struct paired {
     const char *commands;
     const char *text;
@@ -493,7 +492,7 @@ static bool pair_piece(struct story *story, struct resp_pairing *pairing, struct
     return cause == RESP_OK;
 }
 
-/* Runs a row, cut before the byte `cut`; at its length and one more, byte by byte. */
+/* Runs a row, cut before the byte `cut`. If `cut` is the length or one more, runs it byte by byte. */
 static void pair(const struct paired *row, size_t cut) {
     size_t length = strlen(row->text);
     struct story story = {"", 0};
@@ -521,7 +520,7 @@ static void pair(const struct paired *row, size_t cut) {
     free(scanner.memory);
 }
 
-/* A text that was told with its end answers HELLO: whether the version moves. */
+/* Tests the version after a reply to HELLO that is a whole text. */
 static void pair_whole(uint32_t form, uint32_t wanted) {
     struct resp_pairing pairing;
     struct resp_event whole = {0}, done = {0};

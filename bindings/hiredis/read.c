@@ -1,8 +1,8 @@
-/* The functions of hiredis' read.h over the proved scanner, in the place of hiredis' own read.c.
+/* Implements the functions of hiredis' read.h with the proved scanner. Replaces hiredis' own read.c.
  *
- * Both versions of the protocol are read, doubles too. Streamed forms are refused, since createArray
- * is given the number of members first. Attributes are read over: what one annotates is the reply.
- * A reader answers its first error for good. */
+ * It reads both versions of the protocol, with doubles. It rejects streamed strings and aggregates,
+ * since createArray needs the number of members first. It skips attributes: the reply is the value
+ * that the attribute annotates. After an error a reader returns that error from every call. */
 #include "read.h"
 #include "resp.h"
 
@@ -14,7 +14,7 @@
 #include <stdlib.h>
 #include <string.h>
 
-/* The kinds of reply that an older read.h doesn't have are told by those that it has. */
+/* If read.h is older and lacks a type of reply, another type replaces it. */
 #ifdef REDIS_REPLY_DOUBLE
 #define REPLY_MAP REDIS_REPLY_MAP
 #define REPLY_SET REDIS_REPLY_SET
@@ -38,57 +38,57 @@
 #define REPLY_VERBATIM REDIS_REPLY_STRING
 #endif
 
-/* As deep as the greatest limit of depth. */
+/* The greatest limit of depth. */
 #define MOST_OPEN 128
 
-/* What is seldom wanted is kept apart from what is read for each value. */
+/* Keeps code for rare cases out of the code that runs for each value. */
 #ifdef __GNUC__
 #define APART __attribute__((noinline))
 #else
 #define APART
 #endif
 
-/* More bytes than a double needs. */
+/* The size of the buffer for a double, longer than any double. */
 #define MOST_DOUBLE 512
 
-/* As many events as are asked for at once. */
+/* The most events of one call to the scanner. */
 #define MOST_EVENTS 64
 
-/* So many bytes that a head names are believed to come. */
+/* The most memory that is reserved because of a length in a head. */
 #define MOST_BELIEVED 65536
 
-/* The top, or an aggregate that is open. */
+/* The top level, or an open aggregate. */
 struct frame {
-    /* What the functions are told of the value that comes next in it. */
+    /* The task that is passed to the create functions for the next value. */
     redisReadTask task;
-    /* How much further the next value after that stands: 1 in an aggregate that has places. */
+    /* By how much the index grows after a value: 1 in an aggregate. */
     int step;
-    /* Of an attribute, the values still to come before the one that it annotates. */
+    /* Of an attribute: how many values are left before the value that it annotates. */
     uint64_t before;
 };
 
 struct reader {
-    /* `buf` has `len` bytes, of which `pos` were read. */
+    /* `buf` has `len` bytes. The first `pos` of them have been read. */
     redisReader base;
     struct resp_scanner scanner;
     size_t room;
-    /* The events that were told and not yet read, from `pos` on, RESP_MORE after them, and where the
-     * bytes taken end. */
+    /* The events that haven't been read yet, for the bytes from `pos` on. RESP_MORE ends them. `taken`
+     * is the end of the bytes that the scanner has read. */
     const struct resp_event *next;
     size_t taken;
-    /* Why the byte after these is refused, or RESP_OK; and whether no more events had room. */
+    /* The error of the byte at `taken`, or RESP_OK; and whether the array of events was full. */
     uint32_t cause;
     bool is_full;
-    /* The innermost frame, and how many of the open attributes are before what they annotate. */
+    /* The innermost frame, and the number of open attributes whose pairs are still being read. */
     struct frame *frame;
     size_t unread;
-    /* How many bytes of a value had been taken when the events were asked for. */
+    /* How many bytes of the value the scanner had read before these events. */
     uint64_t before;
-    /* The first byte of the line that is being read, where an earlier call took it, or 0. */
+    /* The first byte of the current line, if an earlier call has read it, or 0. */
     char type;
-    /* The kind of the text that is being read. */
+    /* The kind of the current text. */
     uint32_t form;
-    /* Whether a text is being read, and its bytes that came: at `start` of `buf`, or in `gathered`. */
+    /* Whether a text is being read, and its bytes so far: at `start` of `buf`, or in `gathered`. */
     bool is_text;
     size_t start, length;
     bool is_gathered;
@@ -98,7 +98,7 @@ struct reader {
     struct frame frames[MOST_OPEN + 1];
 };
 
-/* Keeps the first error, and lets go of the reply that was begun. */
+/* Stores the error and frees the reply that was begun. Returns false. */
 static bool fail(struct reader *reader, int type, const char *text) {
     redisReader *base = &reader->base;
     if (base->reply && base->fn && base->fn->freeObject)
@@ -118,7 +118,7 @@ static bool is_out_of_range(struct reader *reader) {
     return fail(reader, REDIS_ERR_PROTOCOL, "Multi-bulk length out of range");
 }
 
-/* Gives at least `length` bytes at `*start`, which has `*room`. */
+/* Grows the buffer `*start` of `*room` bytes to at least `length` bytes. Returns false if memory is out. */
 static bool reserve(char **start, size_t *room, size_t length) {
     if (length <= *room)
         return true;
@@ -131,14 +131,14 @@ static bool reserve(char **start, size_t *room, size_t length) {
     return true;
 }
 
-/* What the functions are told of a value of this type. */
+/* Returns the task of the current value, with this type. */
 static inline redisReadTask *task_of(struct reader *reader, int type) {
     redisReadTask *task = &reader->frame->task;
     task->type = type;
     return task;
 }
 
-/* Keeps the object of a value at the top. Another was given its place by its parent. */
+/* Stores the object of a top-level value. Other objects were stored by their parents. */
 static inline bool keep(struct reader *reader, const redisReadTask *task, void *object) {
     if (!object)
         return out_of_memory(reader);
@@ -147,16 +147,16 @@ static inline bool keep(struct reader *reader, const redisReadTask *task, void *
     return true;
 }
 
-/* The object of a kind, where there is no function for it. */
+/* Returns the object of a value if there is no create function for it. */
 static void *kind(const redisReadTask *task) { return (void *)(size_t)task->type; }
 
-/* A value has ended: the next one has the next place. */
+/* Ends a value: the next value has the next index. */
 static inline void end(struct reader *reader) {
     struct frame *frame = reader->frame;
     frame->task.idx += frame->step;
 }
 
-/* So has one that was not read. */
+/* Ends a value that is skipped. */
 static void end_unread(struct reader *reader) {
     struct frame *frame = reader->frame;
     if (frame->before && !--frame->before)
@@ -192,7 +192,7 @@ static inline bool add_string(struct reader *reader, int type, char *start, size
     return keep(reader, task, fn && fn->createString ? fn->createString(task, start, length) : kind(task));
 }
 
-/* A double is a number, infinite or not a number, and nothing else. */
+/* Adds a double. Its text has to be a number, an infinity or a NaN. */
 static APART bool add_double(struct reader *reader, char *start, size_t length) {
 #ifdef REDIS_REPLY_DOUBLE
     redisReplyObjectFunctions *fn = reader->base.fn;
@@ -211,7 +211,7 @@ static APART bool add_double(struct reader *reader, char *start, size_t length) 
 #endif
 }
 
-/* Adds bytes to what is gathered of a text. */
+/* Appends bytes to the gathered text. */
 static bool gather(struct reader *reader, const void *more, size_t length) {
     if (!reserve(&reader->gathered, &reader->gathered_room, reader->length + length))
         return out_of_memory(reader);
@@ -220,7 +220,7 @@ static bool gather(struct reader *reader, const void *more, size_t length) {
     return true;
 }
 
-/* A text begins. That of a verbatim string has its format before it, and of a big number its sign. */
+/* Begins a text. The text of a verbatim string begins with its format, and of a big number with its sign. */
 static bool begin_text(struct reader *reader, const struct resp_event *event) {
     reader->form = event->form;
     reader->is_text = true;
@@ -234,14 +234,14 @@ static bool begin_text(struct reader *reader, const struct resp_event *event) {
 static bool add_part(struct reader *reader, const struct resp_event *event, size_t at) {
     if (reader->is_gathered)
         return gather(reader, resp_event_part(event, (const uint8_t *)reader->base.buf + at), event->part);
-    /* (the parts of a text lie side by side, and stay in the buffer until it has ended) */
+    /* The parts of a text are adjacent, and stay in the buffer until its end. */
     if (!reader->length)
         reader->start = at + (event->used - event->part);
     reader->length += event->part;
     return true;
 }
 
-/* A text of this kind has come, of a big number or a verbatim string with what stands before it. */
+/* Adds a complete text of this kind. A big number has its sign, a verbatim string its format. */
 static inline bool add_text(struct reader *reader, uint32_t form, char *start, size_t length) {
     static const int types[] = {
         [RESP_TEXT_SIMPLE] = REDIS_REPLY_STATUS, [RESP_TEXT_ERROR] = REDIS_REPLY_ERROR,
@@ -253,18 +253,18 @@ static inline bool add_text(struct reader *reader, uint32_t form, char *start, s
     return add_string(reader, types[form], start, length);
 }
 
-/* A text that came in parts has ended. */
+/* Ends a text that arrived in parts. */
 static bool end_text(struct reader *reader) {
     static char none[] = "";
     if (reader->form == RESP_TEXT_BIG && !reader->length && !gather(reader, "0", 1))
         return false;
     char *start = !reader->length ? none : reader->is_gathered ? reader->gathered : reader->base.buf + reader->start;
-    /* (a string has no format) */
+    /* If it becomes a string, leave out the format. */
     size_t front = reader->form == RESP_TEXT_VERBATIM && REPLY_VERBATIM == REDIS_REPLY_STRING ? 4 : 0;
     return add_text(reader, reader->form, start + front, reader->length - front);
 }
 
-/* Whether an array may have this number of members. */
+/* Returns whether an array may have this number of members. */
 static bool is_allowed(struct reader *reader, uint64_t members) {
 #ifdef REDIS_READER_MAX_ARRAY_ELEMENTS
     long long most = reader->base.maxelements;
@@ -275,13 +275,13 @@ static bool is_allowed(struct reader *reader, uint64_t members) {
 #endif
 }
 
-/* The frame of an aggregate whose values have places. */
+/* Begins the frame of an aggregate other than an attribute. */
 static inline void begin_places(struct reader *reader, redisReadTask *task) {
     struct frame *inner = ++reader->frame;
     *inner = (struct frame){.task = {.elements = -1, .parent = task, .privdata = reader->base.privdata}, .step = 1};
 }
 
-/* An aggregate other than an attribute opens. */
+/* Opens an aggregate other than an attribute. */
 static inline bool open(struct reader *reader, const struct resp_event *event) {
     static const int types[] = {
         [RESP_ARRAY] = REDIS_REPLY_ARRAY, [RESP_SET] = REPLY_SET, [RESP_MAP] = REPLY_MAP, [RESP_PUSH] = REPLY_PUSH,
@@ -297,7 +297,7 @@ static inline bool open(struct reader *reader, const struct resp_event *event) {
     return keep(reader, task, task->obj);
 }
 
-/* Takes an event that is seldom, whose bytes begin at `at`. */
+/* Processes an event of a rare kind, whose bytes begin at `at`. */
 static APART bool take_seldom(struct reader *reader, const struct resp_event *event, size_t at) {
     bool is_well = true;
     switch (event->kind) {
@@ -323,14 +323,14 @@ static APART bool take_seldom(struct reader *reader, const struct resp_event *ev
     return is_well;
 }
 
-/* The frame of an attribute. What it annotates is told as what stands in its place. */
+/* Begins the frame of an attribute. The value that it annotates takes the attribute's place. */
 static void begin_attribute(struct reader *reader, const struct resp_event *event) {
     redisReadTask task = reader->frame->task;
     *++reader->frame = (struct frame){.task = task, .before = 2 * event->members};
     reader->unread += event->members > 0;
 }
 
-/* Takes an event of an attribute's pairs, which are told to no function. */
+/* Skips an event of the pairs of an attribute. */
 static void pass(struct reader *reader, const struct resp_event *event) {
     switch (event->kind) {
     case RESP_TEXT:
@@ -355,7 +355,7 @@ static void pass(struct reader *reader, const struct resp_event *event) {
     }
 }
 
-/* Takes the events before the values that attributes annotate, from `pos` on. The event that comes next. */
+/* Skips the events of the pairs of attributes, from `pos` on. Returns the event after them. */
 static APART const struct resp_event *pass_all(struct reader *reader, const struct resp_event *event) {
     while (reader->unread && event->kind != RESP_MORE) {
         pass(reader, event);
@@ -364,14 +364,14 @@ static APART const struct resp_event *pass_all(struct reader *reader, const stru
     return event;
 }
 
-/* An attribute opens at `pos`. The event that comes next once its pairs were passed, or RESP_MORE. */
+/* Opens an attribute at `pos` and skips its pairs. Returns the event after them, or RESP_MORE. */
 static APART const struct resp_event *open_attribute(struct reader *reader, const struct resp_event *event) {
     begin_attribute(reader, event);
     reader->base.pos += event->used;
     return pass_all(reader, event + 1);
 }
 
-/* What is said of a byte that no reply goes on with, by the first byte of its line; NULL in a text. */
+/* Returns hiredis' text for a syntax error in a line that begins with `type`, or NULL in a text. */
 static const char *syntax_error(char type, bool is_digit) {
     switch (type) {
     case ':':
@@ -397,7 +397,7 @@ static const char *syntax_error(char type, bool is_digit) {
     }
 }
 
-/* The scanner has refused a byte of the buffer, in a line that begins at `pos` or earlier. */
+/* Fails with the text for the scanner's error. The line of the wrong byte begins at `pos` or earlier. */
 static bool refuse(struct reader *reader) {
     redisReader *base = &reader->base;
     uint32_t cause = reader->cause;
@@ -427,7 +427,7 @@ static bool refuse(struct reader *reader) {
     return fail(reader, REDIS_ERR_PROTOCOL, text);
 }
 
-/* Asks for more events, where all were read. The event that comes next, or NULL; an error may stand then. */
+/* Asks the scanner for more events. Returns the first, or NULL if there is none or after an error. */
 static APART const struct resp_event *scan(struct reader *reader) {
     redisReader *base = &reader->base;
     struct resp_scanned scanned;
@@ -438,7 +438,7 @@ static APART const struct resp_event *scan(struct reader *reader) {
     reader->next = reader->events;
     reader->events[0].kind = RESP_MORE;
     if (base->pos < reader->taken) {
-        /* (these bytes belong to no event yet) */
+        /* These bytes belong to no event yet. */
         if (!reader->type && !reader->is_text)
             reader->type = base->buf[base->pos];
         base->pos = reader->taken;
@@ -456,7 +456,7 @@ static APART const struct resp_event *scan(struct reader *reader) {
     return reader->unread ? pass_all(reader, reader->events) : reader->events;
 }
 
-/* Whether all events and all bytes were read. */
+/* Returns whether all events and all bytes have been read. */
 static inline bool is_read(struct reader *reader) {
     if (reader->base.pos < reader->base.len || reader->is_full)
         return false;
@@ -465,7 +465,7 @@ static inline bool is_read(struct reader *reader) {
     return true;
 }
 
-/* Reads on in the buffer. Whether a reply is whole; where it isn't, an error may stand. */
+/* Reads the buffer. Returns whether a reply is complete. If it isn't, `err` may be set. */
 static inline bool read_reply(struct reader *reader) {
     redisReader *base = &reader->base;
     const struct resp_event *event = reader->next;
@@ -541,7 +541,7 @@ void redisReaderFree(redisReader *base) {
     free(reader);
 }
 
-/* Drops the bytes that were read, but those of a text that hasn't ended. */
+/* Drops the bytes that have been read, except those of a text that hasn't ended. */
 static void drop_read(struct reader *reader) {
     redisReader *base = &reader->base;
     size_t read = reader->length && !reader->is_gathered ? reader->start : base->pos;
@@ -553,8 +553,8 @@ static void drop_read(struct reader *reader) {
     reader->start = 0;
 }
 
-/* Gives room for a piece, and where there is too little for much of a text that is being read, so that it isn't moved
- * again and again. */
+/* Makes room for a piece. If it has to grow inside a text, it makes room for more of that text, which avoids moving
+ * the text many times. */
 static bool reserve_piece(struct reader *reader, size_t length) {
     redisReader *base = &reader->base;
     if (base->len + length > reader->room && reader->is_text) {

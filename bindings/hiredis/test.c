@@ -1,4 +1,4 @@
-/* Rows of what the reader gives of texts, each fed whole, cut in two at each byte, and byte by byte. */
+/* Tests of the reader in rows. Each text is fed whole, cut in two at each byte, and byte by byte. */
 #include "read.h"
 
 #include <inttypes.h>
@@ -15,10 +15,10 @@ struct object {
     char text[400];
 };
 
-/* The objects that are not freed yet. */
+/* The number of objects that haven't been freed. */
 static int held;
 
-/* A new object for a value at the top. What stands below is added to that. */
+/* Makes a new object for a top-level value. Values inside it are added to that object. */
 static void *made(const redisReadTask *task, const char *text) {
     struct object *object = calloc(1, sizeof *object), *parent = task->parent ? task->parent->obj : NULL;
     held += !task->parent;
@@ -100,8 +100,8 @@ static redisReader *new_reader(void) {
     return reader;
 }
 
-/* A text, and its replies: each begins with the number of its type, and `.` stands after each at the top. `!` and the
- * error's text stand for a refusal. */
+/* A text and its replies. Each reply begins with the number of its type, and each top-level reply ends with `.`. An
+ * error is `!` and its text. */
 struct row {
     const char *text, *wanted;
 };
@@ -178,7 +178,7 @@ static const struct row ROWS[] = {
     {"!5\r\nERR x\r\n", "6\"ERR x\" ."},
 };
 
-/* Adds the replies to what was fed. */
+/* Adds the replies to the bytes fed so far. */
 static void hear(redisReader *reader, char *said, size_t room) {
     void *reply;
     size_t length;
@@ -222,7 +222,7 @@ static void check(const struct row *row, size_t first, bool by_bytes) {
     held = 0;
 }
 
-/* Counts whether a reply is this one, and frees it. */
+/* Checks that a reply is this one, and frees it. */
 static void expect(void *reply, const char *wanted, const char *what) {
     if (reply && !strcmp(((struct object *)reply)->text, wanted)) {
         passed++;
@@ -234,7 +234,8 @@ static void expect(void *reply, const char *wanted, const char *what) {
         on_free(reply);
 }
 
-/* Feeds pieces of so many bytes, asks for one reply after each, and for the others at the end, which is refused. */
+/* Feeds pieces of this many bytes, asks for one reply after each piece and for the rest at the end, where an error is.
+ */
 static void read_late(size_t size) {
     static const char *const wanted[] = {"5\"OK\" ", "2*2@-1 3:7 1\"abc\" ", "1\"\" "};
     static const char unit[] = "+OK\r\n*2\r\n:7\r\n$3\r\nabc\r\n$0\r\n\r\n";
@@ -261,7 +262,7 @@ static void read_late(size_t size) {
     redisReaderFree(reader);
 }
 
-/* Reads arrays in one another, which end all at one byte, and then a reply more. */
+/* Reads nested arrays that all end at the same byte, and then one more reply. */
 static void read_deep(void) {
     redisReader *reader = new_reader();
     void *reply = NULL;

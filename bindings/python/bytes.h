@@ -1,4 +1,4 @@
-/* Bytes that grow. */
+/* A buffer of bytes that grows. */
 #ifndef BYTES_H
 #define BYTES_H
 
@@ -8,7 +8,7 @@
 #include <stdint.h>
 #include <string.h>
 
-/* The room that is kept for the next bytes. */
+/* The most memory that is kept for the next bytes. */
 #define MOST_KEPT 65536
 
 struct bytes {
@@ -16,7 +16,7 @@ struct bytes {
     size_t length, room;
 };
 
-/* Gives room for `length` bytes more. Where there is no memory, nothing changes. */
+/* Makes room for `length` more bytes. If memory is out, nothing changes. */
 static bool reserve(struct bytes *bytes, size_t length) {
     if (length > bytes->room - bytes->length) {
         size_t room = bytes->length + length;
@@ -41,7 +41,7 @@ static bool append(struct bytes *bytes, const uint8_t *more, size_t length) {
     return true;
 }
 
-/* Forgets the bytes, and gives much room back. */
+/* Drops the bytes, and frees a large buffer. */
 static void empty(struct bytes *bytes) {
     bytes->length = 0;
     if (bytes->room > MOST_KEPT) {

@@ -1,10 +1,10 @@
-"""Talks to redis-server on a port by redis-py, which reads by the module resp: redis_py.py PORT"""
+"""Talks to redis-server on a port with redis-py, which reads with the module resp: redis_py.py PORT"""
 import sys
 import types
 
 import resp
 
-# redis-py takes this reader where it looks for hiredis'.
+# redis-py finds this reader when it looks for that of hiredis.
 hiredis = types.ModuleType("hiredis")
 hiredis.Reader, hiredis.__version__ = resp.Reader, "2.0.0"
 sys.modules["hiredis"] = hiredis

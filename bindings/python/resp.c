@@ -1,4 +1,4 @@
-/* The module resp for Python: a reader of RESP2 and RESP3 that makes Python's values from events. */
+/* The module resp for Python: readers of RESP2 and RESP3 that make Python's values from events. */
 #define PY_SSIZE_T_CLEAN
 #define Py_LIMITED_API 0x030b0000
 #include <Python.h>
@@ -7,31 +7,33 @@
 #include "resp.h"
 #include "values.h"
 
-/* As many events as are asked for at once. */
+/* The most events of one call to the scanner. */
 #define MOST_EVENTS 64
 
 struct reader {
     PyObject_HEAD
-    /* `length` bytes were fed, of which `pos` were read. They lie in `lent`, or in `kept` where that is NULL. */
+    /* `length` bytes were fed. The first `pos` of them have been read. They are in `lent`, or in `kept` if that is
+     * NULL. */
     const uint8_t *fed;
     size_t length, pos;
     PyObject *lent;
     struct bytes kept;
-    /* The events that were told and not yet read, from `pos` on, RESP_MORE after them; and where they were scanned to. */
+    /* The events that haven't been read yet, for the bytes from `pos` on. RESP_MORE ends them. `scanned` is the end of
+     * the bytes that the scanner has read. */
     const struct resp_event *next;
     size_t scanned;
-    /* Why the byte after that is refused, or RESP_OK; and whether no more events had room. */
+    /* The error of the byte at `scanned`, or RESP_OK; and whether the array of events was full. */
     uint32_t cause;
     bool is_full;
-    /* Whether a reply was begun, and whether a call is reading. */
+    /* Whether a reply was begun, and whether a call is reading now. */
     bool is_begun, is_reading;
-    /* The version in which was scanned, and the limits. */
+    /* The version of the scanner, and the limits. */
     uint32_t version;
     struct resp_limits limits;
     struct resp_scanner scanner;
     struct values values;
     PyObject *protocol_error, *not_enough_data;
-    /* Whether replies are paired with the commands that were queued; which wait, and the number of the reply. */
+    /* Whether replies are paired with commands; the commands that wait, and the number of the current reply. */
     bool pairs;
     struct resp_pairing pairing;
     uint64_t number;
@@ -40,7 +42,7 @@ struct reader {
 
 static PyObject *ProtocolError, *ReplyError;
 
-/* Raises the protocol's error, with the cause and the byte of the value as attributes. */
+/* Raises protocolError, with the name of the error and the byte of the value as attributes. */
 static PyObject *refuse(struct reader *reader, uint32_t cause, uint64_t at) {
     const char *name = resp_cause_name(cause);
     PyObject *error = PyObject_CallFunction(reader->protocol_error, "N",
@@ -57,7 +59,7 @@ static PyObject *refuse(struct reader *reader, uint32_t cause, uint64_t at) {
     return NULL;
 }
 
-/* Nothing was scanned beyond what was read. */
+/* Drops the events that haven't been read. */
 static void begin_scanning(struct reader *reader, uint32_t version) {
     reader->version = version;
     reader->events[0].kind = RESP_MORE;
@@ -67,18 +69,18 @@ static void begin_scanning(struct reader *reader, uint32_t version) {
     reader->is_full = false;
 }
 
-/* Scans what comes after a reply in another version, for which what was scanned of it says nothing. */
+/* Scans the bytes after a reply again in another version. */
 static APART void scan_again(struct reader *reader, uint32_t version) {
     resp_scanner_init(&reader->scanner, version, &reader->limits);
     begin_scanning(reader, version);
 }
 
-/* Asks for more events, where all were read. Whether there may be any. */
+/* Asks the scanner for more events after all have been read. Returns false if there are none. */
 static APART bool scan(struct reader *reader) {
     struct resp_scanned scanned;
     reader->next = reader->events;
     reader->events[0].kind = RESP_MORE;
-    /* (the bytes after the last event belong to no event yet) */
+    /* The bytes after the last event belong to no event yet. */
     reader->pos = reader->scanned;
     if (reader->cause != RESP_OK || (reader->pos == reader->length && !reader->is_full))
         return false;
@@ -90,7 +92,7 @@ static APART bool scan(struct reader *reader) {
     return true;
 }
 
-/* Lets go of what was fed, all of which was read. */
+/* Drops the bytes that were fed, after all have been read. */
 static void drop_fed(struct reader *reader) {
     Py_CLEAR(reader->lent);
     empty(&reader->kept);
@@ -98,7 +100,7 @@ static void drop_fed(struct reader *reader) {
     reader->length = reader->pos = reader->scanned = 0;
 }
 
-/* Moves what wasn't read to the front of memory of ours, which has room. */
+/* Moves the bytes that haven't been read to the front of our own buffer, which has room for them. */
 static void move_rest(struct reader *reader) {
     size_t rest = reader->length - reader->pos;
     memmove(reader->kept.start, reader->fed + reader->pos, rest);
@@ -109,12 +111,12 @@ static void move_rest(struct reader *reader) {
     Py_CLEAR(reader->lent);
 }
 
-/* Copies bytes into memory of ours, after those that weren't read. */
+/* Copies bytes into our own buffer, after the bytes that haven't been read. */
 static bool keep(struct reader *reader, const uint8_t *more, size_t length) {
     size_t rest = reader->length - reader->pos;
     if (reader->lent && !reserve(&reader->kept, rest + length))
         return false;
-    /* (the rest is moved where it is less than what was read) */
+    /* The rest is moved if it is shorter than the bytes before it. */
     if (reader->lent || reader->pos > rest)
         move_rest(reader);
     if (!append(&reader->kept, more, length))
@@ -124,8 +126,8 @@ static bool keep(struct reader *reader, const uint8_t *more, size_t length) {
     return true;
 }
 
-/* Whether a call may use the reader: not before it was begun, and not while one that reads calls back. It is asked once
- * the arguments, which may call too, were looked at. */
+/* Returns whether a call may use the reader: not before it was initialised, and not from a function that a read calls.
+ * Check this after the arguments have been converted, since that may run Python code too. */
 static bool is_ready(struct reader *reader) {
     if (reader->not_enough_data && !reader->is_reading)
         return true;
@@ -133,7 +135,7 @@ static bool is_ready(struct reader *reader) {
     return false;
 }
 
-/* The slice of so many bytes that the arguments after the first name. */
+/* Reads the slice of an object of `size` bytes from the arguments after the first. */
 static bool slice_of(PyObject *const *args, Py_ssize_t count, Py_ssize_t size, Py_ssize_t *from, Py_ssize_t *length) {
     *from = 0;
     *length = -1;
@@ -149,7 +151,7 @@ static bool slice_of(PyObject *const *args, Py_ssize_t count, Py_ssize_t size, P
     return false;
 }
 
-/* Feeds an object of the type bytes. It can't change, so nothing is copied where all before was read. */
+/* Feeds an object of the type bytes. It can't change, so it isn't copied if all bytes before it have been read. */
 static bool feed_bytes(struct reader *reader, PyObject *const *args, Py_ssize_t count) {
     Py_ssize_t from, length;
     if (!slice_of(args, count, PyBytes_Size(args[0]), &from, &length) || !is_ready(reader))
@@ -187,7 +189,7 @@ static PyObject *reader_feed(struct reader *reader, PyObject *const *args, Py_ss
     Py_RETURN_NONE;
 }
 
-/* No event is there: what was fed is read, or a byte is refused, for good. */
+/* Ends a read without a reply: raises the scanner's error, or returns notEnoughData. */
 static APART PyObject *stop(struct reader *reader) {
     if (reader->cause != RESP_OK) {
         forget(&reader->values);
@@ -198,7 +200,7 @@ static APART PyObject *stop(struct reader *reader) {
     return reader->not_enough_data;
 }
 
-/* The first byte of a value that is paired. Whether a command asked for the value, or it is a push. */
+/* Begins a value that is paired. Returns false, with an exception, if no command asked for it and it is no push. */
 static bool begin_paired(struct reader *reader) {
     uint32_t version = 0, cause = resp_pairing_first(&reader->pairing, reader->fed[reader->pos], &version);
     if (cause != RESP_OK) {
@@ -210,7 +212,7 @@ static bool begin_paired(struct reader *reader) {
     return true;
 }
 
-/* Reads on in the reply that was begun, of which the pairing is told where there is one. */
+/* Continues the reply that was begun, and passes its events to the pairing, if there is one. */
 static inline PyObject *read_on(struct reader *reader, bool pairs) {
     const struct resp_event *event = reader->next;
     const uint8_t *at = reader->fed + reader->pos;
@@ -233,7 +235,7 @@ static inline PyObject *read_on(struct reader *reader, bool pairs) {
     }
 }
 
-/* The next reply. */
+/* Returns the next reply. */
 static inline PyObject *read_reply(struct reader *reader) {
     if (!reader->is_begun && reader->pos == reader->length)
         return stop(reader);
@@ -241,7 +243,7 @@ static inline PyObject *read_reply(struct reader *reader) {
     return read_on(reader, false);
 }
 
-/* The next reply with the number of its command, or None for a push. */
+/* Returns the next reply with the number of its command, or with None for a push. */
 static APART PyObject *read_paired(struct reader *reader) {
     if (!reader->is_begun && reader->pos == reader->length)
         return stop(reader);
@@ -315,7 +317,7 @@ static PyObject *pairing_protocol(struct reader *reader, PyObject *args) {
     return PyLong_FromUnsignedLong(reader->pairing.version);
 }
 
-/* What a reader is begun with. */
+/* The arguments of a reader. */
 struct words {
     PyObject *protocol_error, *reply_error, *not_enough_data;
     const char *encoding, *errors;
@@ -342,7 +344,7 @@ static bool read_words(struct words *to, PyObject *args, PyObject *words) {
     return false;
 }
 
-/* Copies a text that may be NULL. Whether memory for it was found. */
+/* Copies a text that may be NULL. Returns false if memory is out. */
 static bool copy_text(char **to, const char *text) {
     size_t size = text ? strlen(text) + 1 : 0;
     *to = text ? PyMem_Malloc(size) : NULL;
@@ -353,7 +355,7 @@ static bool copy_text(char **to, const char *text) {
     return *to || !text;
 }
 
-/* How strings of this encoding are read. UTF-8 needs no look at the encoding each time. */
+/* Returns how strings of this encoding are read. UTF-8 has a faster way. */
 static enum reading reading_of(const char *encoding) {
     static const char *const names[] = {"utf-8", "utf8", "UTF-8", "UTF8"};
     for (size_t at = 0; encoding && at < sizeof names / sizeof *names; at++)
@@ -362,7 +364,7 @@ static enum reading reading_of(const char *encoding) {
     return encoding ? AS_ENCODED : AS_BYTES;
 }
 
-/* Begins the scanner. A refusal leaves it as it was. */
+/* Initialises the scanner. An error leaves it unchanged. */
 static bool begin_scanner(struct reader *reader, unsigned int version, const struct resp_limits *limits) {
     if (!reader->scanner.memory && !(reader->scanner.memory = PyMem_Malloc(resp_scanner_size()))) {
         PyErr_NoMemory();
@@ -380,9 +382,9 @@ static bool begin_scanner(struct reader *reader, unsigned int version, const str
     }
 }
 
-/* Begins with nothing fed and nothing read. */
+/* Resets the reader: nothing was fed. */
 static void begin(struct reader *reader, const struct words *given) {
-    /* (what is let go of may call) */
+    /* The objects that are released may run Python code. */
     reader->is_reading = true;
     reader->limits = given->limits;
     reader->is_begun = false;
@@ -427,7 +429,7 @@ static int pairing_init(struct reader *reader, PyObject *args, PyObject *words) 
     return 0;
 }
 
-/* These two show the collector of cycles what a reader holds, and let go of that. */
+/* The next two functions support Python's garbage collector. */
 
 static int reader_traverse(struct reader *reader, visitproc visit, void *arg) {
     Py_VISIT(Py_TYPE((PyObject *)reader));
@@ -441,7 +443,7 @@ static int reader_traverse(struct reader *reader, visitproc visit, void *arg) {
 }
 
 static int reader_clear(struct reader *reader) {
-    /* (without this no call may use the reader) */
+    /* Without this object no call may use the reader. */
     Py_CLEAR(reader->not_enough_data);
     forget(&reader->values);
     Py_CLEAR(reader->lent);
@@ -465,14 +467,14 @@ static void reader_dealloc(struct reader *reader) {
     Py_DECREF(type);
 }
 
-/* Adds the head of a command of this many words. */
+/* Appends the head of a command of this many words. */
 static bool append_head(struct bytes *bytes, size_t words) {
     uint8_t head[24];
     size_t size = 0;
     return resp_write_head(head, sizeof head, RESP_ARRAY, words, &size) == RESP_OK && append(bytes, head, size);
 }
 
-/* Adds a bulk string after the head. */
+/* Appends a bulk string after the head. */
 static bool append_bulk(struct bytes *bytes, const uint8_t *start, size_t length) {
     size_t size = 0, room = bytes->room - bytes->length;
     uint32_t cause = resp_write_bulk(bytes->start + bytes->length, room, start, length, &size);
@@ -485,7 +487,7 @@ static bool append_bulk(struct bytes *bytes, const uint8_t *start, size_t length
     return true;
 }
 
-/* Adds a word of a command: bytes as they are, and else its text in UTF-8. */
+/* Appends a word of a command: bytes as they are, and other objects as their text in UTF-8. */
 static bool append_word(struct bytes *bytes, PyObject *word) {
     PyObject *made = NULL;
     if (PyBytes_Check(word)) {
@@ -524,14 +526,14 @@ static PyObject *pack(PyObject *module, PyObject *words) {
 
 static PyMethodDef READER_METHODS[] = {
     {"feed", (PyCFunction)reader_feed, METH_FASTCALL,
-     "feed(bytes, from=0, length=-1)\n--\n\nAdds bytes as they came, or a slice of them."},
+     "feed(bytes, from=0, length=-1)\n--\n\nAdds bytes that were received, or a slice of them."},
     {"gets", (PyCFunction)reader_gets, METH_FASTCALL,
-     "gets(shouldDecode=True)\n--\n\nThe next reply, or notEnoughData where it isn't whole. Raises protocolError at the first byte after\n"
-     "which nothing can follow, with the attributes cause and at, and for good."},
+     "gets(shouldDecode=True)\n--\n\nReturns the next reply, or notEnoughData if it isn't complete. Raises protocolError at the first byte\n"
+     "that no reply can contain there, with the attributes cause and at. Every later call raises it again."},
     {"has_data", (PyCFunction)reader_has_data, METH_NOARGS,
-     "has_data()\n--\n\nWhether bytes wait to be read, or a reply was begun."},
+     "has_data()\n--\n\nReturns whether bytes wait to be read, or a reply was begun."},
     {"set_protocol", (PyCFunction)reader_set_protocol, METH_VARARGS,
-     "set_protocol(protocol)\n--\n\nReads protocol 2 or 3 from the next reply on. Raises ValueError inside a reply."},
+     "set_protocol(protocol)\n--\n\nReads the next replies in protocol 2 or 3. Raises ValueError inside a reply."},
     {NULL, NULL, 0, NULL},
 };
 
@@ -543,7 +545,7 @@ static PyType_Slot READER_SLOTS[] = {
     {Py_tp_methods, READER_METHODS},
     {Py_tp_doc, "Reader(protocolError, replyError, encoding=None, errors='strict', notEnoughData=False, protocol=2, depth=32,\n"
                 "       length=536870912, total=1073741824, items=1099511627776, streamed=True, doubles=True)\n--\n\n"
-                "Reads replies of RESP2 or RESP3 from bytes, however they are cut."},
+                "Reads replies of RESP2 or RESP3 from pieces of any size."},
     {0, NULL},
 };
 
@@ -551,18 +553,18 @@ static PyType_Spec READER = {"resp.Reader", sizeof(struct reader), 0, Py_TPFLAGS
 
 static PyMethodDef PAIRING_METHODS[] = {
     {"feed", (PyCFunction)reader_feed, METH_FASTCALL,
-     "feed(bytes, from=0, length=-1)\n--\n\nAdds bytes as they came, or a slice of them."},
+     "feed(bytes, from=0, length=-1)\n--\n\nAdds bytes that were received, or a slice of them."},
     {"gets", (PyCFunction)reader_gets, METH_FASTCALL,
-     "gets(shouldDecode=True)\n--\n\nThe next reply with the number of its command, or None for a push: (number, reply). Else as\n"
-     "Reader.gets. Raises protocolError by the cause Unasked where no command asked for the value; it is then read once one\n"
-     "was queued."},
+     "gets(shouldDecode=True)\n--\n\nReturns (number, reply): the next reply with the number of its command, or None for a push. Else as\n"
+     "Reader.gets. Raises protocolError with the cause Unasked if no command asked for the value; after a command is queued\n"
+     "the value can be read."},
     {"has_data", (PyCFunction)reader_has_data, METH_NOARGS,
-     "has_data()\n--\n\nWhether bytes wait to be read, or a reply was begun."},
+     "has_data()\n--\n\nReturns whether bytes wait to be read, or a reply was begun."},
     {"queue", (PyCFunction)pairing_queue, METH_VARARGS,
-     "queue(hello=0)\n--\n\nQueues a command that is sent, or a HELLO that asks for protocol 2 or 3. The number of its reply, from\n"
-     "1 on. Raises ValueError for another protocol, and where such a HELLO waits already."},
+     "queue(hello=0)\n--\n\nCounts a command that is sent, or a HELLO that asks for protocol 2 or 3. Returns the number of its\n"
+     "reply, from 1. Raises ValueError for another protocol, or if another such HELLO waits."},
     {"protocol", (PyCFunction)pairing_protocol, METH_NOARGS,
-     "protocol()\n--\n\nThe protocol: 2, or what the last HELLO asked that was answered."},
+     "protocol()\n--\n\nReturns the protocol: 2, or the one of the last HELLO that was answered without an error."},
     {NULL, NULL, 0, NULL},
 };
 
@@ -572,15 +574,15 @@ static PyType_Slot PAIRING_SLOTS[] = {
     {Py_tp_traverse, reader_traverse},
     {Py_tp_clear, reader_clear},
     {Py_tp_methods, PAIRING_METHODS},
-    {Py_tp_doc, "Pairing(..)\n--\n\nA Reader that knows which command each reply answers, and reads each in its protocol. It takes\n"
-                "the same words; the protocol is 2 until a HELLO was answered."},
+    {Py_tp_doc, "Pairing(..)\n--\n\nA Reader that knows which command each reply answers, and reads each reply in its protocol. It\n"
+                "accepts the same arguments. The protocol is 2 until a HELLO is answered."},
     {0, NULL},
 };
 
 static PyType_Spec PAIRING = {"resp.Pairing", sizeof(struct reader), 0, Py_TPFLAGS_DEFAULT | Py_TPFLAGS_HAVE_GC, PAIRING_SLOTS};
 
 static PyMethodDef METHODS[] = {
-    {"pack", pack, METH_VARARGS, "pack(*words)\n--\n\nThe bytes of a command: bytes as they are, other words as their text."},
+    {"pack", pack, METH_VARARGS, "pack(*words)\n--\n\nReturns the bytes of a command. Words are bytes, or are converted to text."},
     {NULL, NULL, 0, NULL},
 };
 
@@ -588,7 +590,7 @@ static struct PyModuleDef MODULE = {
     PyModuleDef_HEAD_INIT, "resp", "Reads RESP2 and RESP3, the wire protocol of Redis.", -1, METHODS, NULL, NULL, NULL, NULL,
 };
 
-/* Adds a name to the module, and keeps a reference of ours. */
+/* Adds a name to the module, and keeps our own reference. */
 static bool add_name(PyObject *module, const char *name, PyObject *value) {
     if (!value)
         return false;

@@ -1,4 +1,4 @@
-"""Rows of what the module resp makes of texts, each at every cut, and of its other calls."""
+"""Tests of the module resp in rows: texts and their replies, at every cut; and of its other calls."""
 import contextlib
 import gc
 import math
@@ -18,11 +18,11 @@ except ImportError:
 
 
 def nested(value, depth):
-    """The value inside so many lists."""
+    """Returns the value inside this many lists."""
     return [nested(value, depth - 1)] if depth else value
 
 
-# The protocol, a text, and what its replies are.
+# The protocol, a text, and its replies.
 ROWS = [
     (2, b"+OK\r\n", [b"OK"]),
     (2, b"+\r\n", [b""]),
@@ -56,14 +56,14 @@ ROWS = [
 
 
 def cuts(text):
-    """The pieces of a text: whole, cut in two at each byte, and byte by byte with empty pieces between."""
+    """Returns the pieces of a text: whole, cut in two at each byte, and byte by byte with empty pieces between."""
     yield [text]
     yield from ([text[:at], text[at:]] for at in range(1, len(text)))
     yield [piece for at in range(len(text)) for piece in (text[at : at + 1], b"")]
 
 
 def replies(reader, pieces):
-    """What a reader gives as the pieces come."""
+    """Returns the replies of a reader that is fed the pieces."""
     given = []
     for piece in pieces:
         reader.feed(piece)
@@ -80,7 +80,7 @@ def reader(**words):
 
 
 def mixed(chance, count):
-    """A text of so many values of RESP3, and the values."""
+    """Returns a text of this many values of RESP3, and the values."""
     kinds = [(b"+OK\r\n", b"OK"), (b":%d\r\n", None), (b"$16\r\n" + b"x" * 16 + b"\r\n", b"x" * 16), (b"_\r\n", None),
              (b"*3\r\n:1\r\n+a\r\n$2\r\nOK\r\n", [1, b"a", b"OK"]), (b"%1\r\n+k\r\n*0\r\n", {b"k": []}),
              (b"$300\r\n" + b"y" * 300 + b"\r\n", b"y" * 300), (b"=5\r\ntxt:z\r\n", b"z"), (b"(-1\r\n", -1)]
@@ -94,7 +94,7 @@ def mixed(chance, count):
     return b"".join(texts), values
 
 
-# The protocols that commands ask for, 0 for none; what comes, the pairs of it, and the protocol after it.
+# The protocol that each command asks for, or 0; the text received, its pairs, and the protocol after it.
 CONVERSATIONS = [
     ((0, 0), b"+OK\r\n$-1\r\n", [(1, b"OK"), (2, None)], 2),
     ((0, 3, 0), b"$-1\r\n%1\r\n+a\r\n_\r\n#t\r\n", [(1, None), (2, {b"a": None}), (3, True)], 3),
@@ -217,7 +217,7 @@ class Rows(unittest.TestCase):
                 read.set_protocol(3)
 
     def test_the_protocol_changes_between_two_replies_of_a_buffer(self):
-        # After how many replies which protocol is set, what comes, and the replies with the refusal that ends them.
+        # After how many replies which protocol is set, the text received, and the replies with the error that ends them.
         for changes, text, wanted in [
             ({2: 3}, b"$-1\r\n+a\r\n_\r\n#t\r\n", [None, b"a", None, True]),
             ({1: 3}, b"+a\r\n*2\r\n:1\r\n_\r\n+b\r\n", [b"a", [1, None], b"b"]),
@@ -234,7 +234,7 @@ class Rows(unittest.TestCase):
                         reply = None
                         while reply is not reader_waits:
                             with contextlib.suppress(ValueError):
-                                # (it was set before where a reply was begun)
+                                # If a reply was begun, the protocol was set before.
                                 read.set_protocol(changes.get(len(given), 4))
                             reply = read.gets()
                             given += [reply] * (reply is not reader_waits)
@@ -383,8 +383,8 @@ class Rows(unittest.TestCase):
         self.assertGreater(losses, 50)
 
     def given_without(self, number, pieces, count):
-        """What a reader gives while the piece of memory of this number is refused, with MemoryError where that loses a
-        reply, and whether any was. A feed that is refused is made again."""
+        """Returns the replies of a reader while the allocation of this number fails, with MemoryError if a reply is lost,
+        and whether any allocation failed. A feed that fails is repeated."""
         read, given = reader(protocol=3), [None] * count
         feeds, replies, was_fed, was_refused = 0, 0, False, False
         _testcapi.set_nomemory(number, number + 1)

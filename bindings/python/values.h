@@ -1,4 +1,4 @@
-/* Python's values, as events tell them. */
+/* Makes Python's values from events. */
 #ifndef VALUES_H
 #define VALUES_H
 
@@ -7,25 +7,26 @@
 #include "bytes.h"
 #include "resp.h"
 
-/* As deep as the greatest limit of depth. */
+/* The greatest limit of depth. */
 #define MOST_OPEN 128
 
-/* The values whose room is kept for the next reply. */
+/* The most values whose memory is kept for the next reply. */
 #define MOST_VALUES 4096
 
-/* What is seldom wanted is kept apart from what is read for each value. */
+/* Keeps code for rare cases out of the code that runs for each value. */
 #ifdef __GNUC__
 #define APART __attribute__((noinline))
 #else
 #define APART
 #endif
 
-/* An array of so many members is made where it opens. Of how many others have, no head is believed. */
+/* An array with a number of members in this range is allocated when it opens. Larger numbers in a head allocate
+ * nothing. */
 #define LEAST_FILLED 8
 #define MOST_FILLED 1024
 
-/* An aggregate that is open: its kind, and where its members begin among the values; or the list that is filled with
- * them, and how many it has. The list is hidden from the collector, and so from everyone, until it has all. */
+/* An open aggregate: its kind, and the index of its first member among the values; or the list that is filled with the
+ * members, and how many it has. The list is hidden from the garbage collector until it is complete. */
 struct open {
     uint32_t form;
     size_t first;
@@ -37,20 +38,21 @@ struct open {
 enum reading { AS_BYTES, AS_UTF8, AS_ENCODED };
 
 struct values {
-    /* What is whole: the members of the open aggregates, one after another, or the value at the top. */
+    /* The complete values: the members of the open aggregates, in order, or the top-level value. */
     PyObject **start;
     size_t count, room;
     struct open open[MOST_OPEN];
     size_t depth;
-    /* The innermost aggregate, where it is a list that is filled. */
+    /* The innermost aggregate, if it is a list that is filled. */
     struct open *filling;
-    /* The text that comes in parts: its kind, whether it is a big number below zero, and its bytes. */
+    /* A text that arrives in parts: its kind, whether it is a negative big number, and its bytes. */
     uint32_t form;
     bool is_negative;
     struct bytes text;
-    /* Why a value can't be made. It is raised once the value was read, so that the next can be. */
+    /* The exception of a value that can't be made. It is raised after the value has been read. The next value can then
+     * be read. */
     PyObject *failure;
-    /* What makes errors of their texts; how strings are read by the encoding, and how by this call. */
+    /* The function that makes errors from texts; how strings are read with the encoding, and how in this call. */
     PyObject *reply_error;
     char *encoding, *errors;
     enum reading reads, reads_now;
@@ -58,11 +60,11 @@ struct values {
 
 static PyObject *Push;
 
-/* What redis-server answers most: `OK` as bytes, and the least integers. */
+/* The most frequent replies of redis-server: `OK` as bytes, and small integers. */
 #define MOST_SMALL 256
 static PyObject *OK, *Small[MOST_SMALL];
 
-/* Makes these. Whether memory for them was found. */
+/* Makes them. Returns false if memory is out. */
 static bool make_usual(void) {
     OK = PyBytes_FromString("OK");
     for (long at = 0; at < MOST_SMALL; at++)
@@ -71,14 +73,14 @@ static bool make_usual(void) {
     return OK;
 }
 
-/* Puts a value, which it takes, in the place of another. */
+/* Replaces a value by another. Steals the reference to the new one. */
 static void replace(PyObject **place, PyObject *value) {
     PyObject *before = *place;
     *place = value;
     Py_XDECREF(before);
 }
 
-/* The exception that is set, as an object. */
+/* Returns the exception that is set, and clears it. */
 static PyObject *take_exception(void) {
     PyObject *type, *value, *traceback;
     PyErr_Fetch(&type, &value, &traceback);
@@ -88,7 +90,7 @@ static PyObject *take_exception(void) {
     return value;
 }
 
-/* Keeps the exception that is set, if it is the first of this reply. */
+/* Stores the exception that is set, if it is the first of this reply. */
 static APART void fail(struct values *values) {
     PyObject *exception = take_exception();
     if (!values->failure)
@@ -99,7 +101,7 @@ static APART void fail(struct values *values) {
 
 static inline PyObject *hashable(PyObject *value);
 
-/* A tuple of what can be hashed in a sequence. */
+/* Returns a tuple of hashable copies of the members. */
 static PyObject *hashable_tuple(PyObject *members) {
     PyObject *tuple = PySequence_Tuple(members);
     if (!tuple)
@@ -115,7 +117,7 @@ static PyObject *hashable_tuple(PyObject *members) {
     return made;
 }
 
-/* The same value as a key: lists are tuples, sets are frozen, and a dict is the tuple of its pairs. */
+/* Returns a copy that can be hashed: a list becomes a tuple, a set a frozenset, and a dict the tuple of its pairs. */
 static APART PyObject *hashable_copy(PyObject *value) {
     if (PyList_Check(value) || PyTuple_Check(value))
         return hashable_tuple(value);
@@ -131,7 +133,7 @@ static APART PyObject *hashable_copy(PyObject *value) {
     return value;
 }
 
-/* (most keys are strings or integers) */
+/* The same for any value. Most keys are strings or integers. */
 static inline PyObject *hashable(PyObject *value) {
     PyTypeObject *type = Py_TYPE(value);
     if (type != &PyBytes_Type && type != &PyUnicode_Type && type != &PyLong_Type)
@@ -147,7 +149,7 @@ static inline PyObject *integer_of(int64_t number) {
     return Small[number];
 }
 
-/* The calls that follow make the value of a text. */
+/* The functions that follow make the value of a text. */
 
 static PyObject *error_of(struct values *values, const char *start, Py_ssize_t length) {
     PyObject *text = PyUnicode_DecodeUTF8(start, length, "replace");
@@ -172,7 +174,7 @@ static PyObject *big_of(const char *start, Py_ssize_t length, bool is_negative) 
     return value;
 }
 
-/* A text that is no string. */
+/* Makes the value of a text that is no string. */
 static APART PyObject *other_of(struct values *values, uint32_t form, const char *start, Py_ssize_t length) {
     switch (form) {
     case RESP_TEXT_DOUBLE:
@@ -203,7 +205,7 @@ static inline PyObject *text_of(struct values *values, uint32_t form, const uint
     return PyBytes_FromStringAndSize(start, length);
 }
 
-/* The calls that follow make an aggregate of its members, which they take. */
+/* The functions that follow make an aggregate from its members. They steal the references to the members. */
 
 static void let_go(PyObject **members, size_t count) {
     for (size_t at = 0; at < count; at++)
@@ -221,7 +223,7 @@ static PyObject *list_of(PyObject **members, size_t count) {
     return list;
 }
 
-/* A list that is a push has a type of its own. */
+/* Makes a push, which has a type of its own. */
 static PyObject *push_of(PyObject **members, size_t count) {
     PyObject *list = list_of(members, count);
     PyObject *push = list ? PyObject_CallFunctionObjArgs(Push, list, NULL) : NULL;
@@ -253,7 +255,7 @@ static PyObject *dict_of(PyObject **members, size_t count) {
     return dict;
 }
 
-/* Attributes are read over: the value that one annotates stands last. */
+/* Skips an attribute: the last member is the value that it annotates. */
 static PyObject *annotated(PyObject **members, size_t count) {
     PyObject *value = count ? members[count - 1] : Py_None;
     Py_INCREF(value);
@@ -276,7 +278,7 @@ static PyObject *aggregate_of(uint32_t form, PyObject **members, size_t count) {
     }
 }
 
-/* Gives room for more values. */
+/* Makes room for more values. */
 static APART bool reserve_values(struct values *values) {
     size_t room = values->room ? 2 * values->room : 64;
     PyObject **start = PyMem_Realloc(values->start, room * sizeof *start);
@@ -289,7 +291,7 @@ static APART bool reserve_values(struct values *values) {
     return true;
 }
 
-/* Adds a value that is whole, which it takes, or None where it couldn't be made. */
+/* Adds a complete value, and steals the reference to it. Adds None if it couldn't be made. */
 static inline void add(struct values *values, PyObject *value) {
     if (!value) {
         fail(values);
@@ -319,7 +321,7 @@ static APART void begin_values(struct values *values, const struct resp_event *e
     values->filling = open->list ? open : NULL;
 }
 
-/* The innermost aggregate has all its members. */
+/* Ends the innermost aggregate. */
 static APART void end(struct values *values) {
     struct open *open = &values->open[--values->depth];
     values->filling = values->depth && open[-1].list ? open - 1 : NULL;
@@ -330,12 +332,12 @@ static APART void end(struct values *values) {
     }
     PyObject **members = values->start + open->first;
     size_t count = values->count - open->first;
-    /* (from now on the collector of cycles sees the members where they come to lie) */
+    /* From here on the garbage collector sees the members in their new place. */
     values->count = open->first;
     add(values, aggregate_of(open->form, members, count));
 }
 
-/* Takes an event that is seldom, whose bytes begin at `at`. */
+/* Processes an event of a rare kind, whose bytes begin at `at`. */
 static APART void take_seldom(struct values *values, const struct resp_event *event, const uint8_t *at) {
     switch (event->kind) {
     case RESP_NULL:
@@ -362,7 +364,7 @@ static APART void take_seldom(struct values *values, const struct resp_event *ev
     }
 }
 
-/* Takes an event, whose bytes begin at `at`; but not RESP_DONE and RESP_MORE, of which it answers false. */
+/* Processes an event, whose bytes begin at `at`. Returns false for RESP_DONE and RESP_MORE. */
 static inline bool take(struct values *values, const struct resp_event *event, const uint8_t *at) {
     if (event->kind == RESP_WHOLE)
         add(values, text_of(values, event->form, resp_event_whole(event, at), event->part));
@@ -379,7 +381,7 @@ static inline bool take(struct values *values, const struct resp_event *event, c
     return true;
 }
 
-/* Lets go of what was taken, and gives much room back. */
+/* Drops all values, and frees large buffers. */
 static void forget(struct values *values) {
     values->filling = NULL;
     while (values->depth)
@@ -394,7 +396,7 @@ static void forget(struct values *values) {
     }
 }
 
-/* The value that has ended, or the exception that it couldn't be made by. */
+/* Returns the complete value, or raises the exception that was stored for it. */
 static inline PyObject *whole(struct values *values) {
     if (values->failure) {
         PyObject *failure = values->failure;

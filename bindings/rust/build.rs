@@ -1,4 +1,4 @@
-//! Links the library that `./build c` installs in `out/c`, or below the folder that `PREFIX` names.
+//! Links the library that `./build c` installs in `out/c`, or in the folder that `PREFIX` names.
 
 use std::env;
 use std::path::PathBuf;

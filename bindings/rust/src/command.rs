@@ -4,16 +4,16 @@ use crate::{raw, Limits};
 use std::error::Error;
 use std::fmt;
 
-/// Why there is no text of a command.
+/// The error of [`command`].
 #[derive(Clone, Copy, Debug, PartialEq, Eq)]
 pub enum CommandError {
     /// A limit is outside its range.
     BadLimits,
     /// A word is over the limit of length.
     Length,
-    /// There are more words than the limit of items, and none is over that of length.
+    /// There are more words than the limit of items, and no word is over the limit of length.
     Items,
-    /// The text is over the limit of total, and the command over no other.
+    /// The text is over the limit of total, and the command is over no other limit.
     Total,
 }
 
@@ -30,8 +30,13 @@ impl fmt::Display for CommandError {
 
 impl Error for CommandError {}
 
-/// The text of a command: an array of its words as bulk strings. Refuses a command over the limits,
-/// and names the first that it breaks.
+/// Returns the bytes of a command: an array of its words as bulk strings.
+///
+/// # Errors
+///
+/// The first limit that the command is over, or [`CommandError::BadLimits`].
+///
+/// # Examples
 ///
 /// ```
 /// use resp::{command, Limits};
@@ -46,13 +51,13 @@ pub fn command<W: AsRef<[u8]>>(limits: &Limits, words: &[W]) -> Result<Vec<u8>, 
     let mut text = vec![0; size(limits, &lengths)?];
     let mut rest: &mut [u8] = &mut text;
     let mut used = 0;
-    // SAFETY: the room is ours, of this length.
+    // SAFETY: we own the buffer, which has this length.
     let cause =
         unsafe { raw::resp_write_head(rest.as_mut_ptr(), rest.len(), raw::ARRAY, words.len() as u64, &mut used) };
     assert_eq!(cause, raw::OK);
     for word in words {
         rest = &mut rest[used..];
-        // SAFETY: the room is ours, of this length, and the word, of that length, lies elsewhere.
+        // SAFETY: we own the buffer, which has this length. The word has that length and lies elsewhere.
         let cause =
             unsafe { raw::resp_write_bulk(rest.as_mut_ptr(), rest.len(), word.as_ptr(), word.len(), &mut used) };
         assert_eq!(cause, raw::OK);
@@ -60,11 +65,11 @@ pub fn command<W: AsRef<[u8]>>(limits: &Limits, words: &[W]) -> Result<Vec<u8>, 
     Ok(text)
 }
 
-/// The bytes of the text of a command by the lengths of its words.
+/// Returns the number of bytes of a command, from the lengths of its words.
 fn size(limits: &Limits, lengths: &[usize]) -> Result<usize, CommandError> {
     let mut size = 0;
     let limits = raw::Limits::from(limits);
-    // SAFETY: each pointer is to what we have, and the lengths are so many.
+    // SAFETY: each pointer is to our own data, and there are `len()` lengths.
     match unsafe { raw::resp_command_size(&limits, lengths.as_ptr(), lengths.len(), &mut size) } {
         raw::OK => Ok(size),
         raw::LENGTH => Err(CommandError::Length),

@@ -1,9 +1,11 @@
-//! Reads RESP2 and RESP3, the wire protocol of Redis, as bytes come: values as events. And writes
-//! commands.
+//! Reads RESP2 and RESP3, the wire protocol of Redis, from pieces of any size, and returns values as
+//! events. Writes commands, and pairs replies with them.
 //!
-//! What stands in the bytes, which byte is refused and why is proved, as of the crate `resp_scan`
-//! that the library is built from. A [`Scanner`] copies nothing: a part of a text is lent from the
-//! piece.
+//! This crate wraps the C library `libresp`. Its scanner is proved: the events are those of the
+//! grammar, and the first byte that no valid value can contain there is an error. The crate itself is
+//! tested. A [`Scanner`] copies nothing: each part of a text is borrowed from your input.
+//!
+//! # Examples
 //!
 //! ```
 //! use resp::{Event, Limits, Scanner, Version};
@@ -35,79 +37,79 @@ use std::fmt;
 pub enum Version {
     /// RESP2, in which a connection begins.
     Two = 2,
-    /// RESP3, which a client asks for by HELLO.
+    /// RESP3, which a client asks for with HELLO.
     Three = 3,
 }
 
-/// How deep, long and large a value may be. The default is the standard limits.
+/// The limits within which values are read. The default is the limits of `resp_limits_standard`.
 #[derive(Clone, Copy, Debug, PartialEq, Eq)]
 pub struct Limits {
     /// The most aggregates inside one another, 4 to 128.
     pub depth: u64,
-    /// The most bytes of one content, 64 to 1,073,741,824.
+    /// The most bytes of one text, 64 to 1,073,741,824.
     pub length: u64,
-    /// The most bytes of one value as spelled, 256 to 1,099,511,627,776.
+    /// The most bytes of one top-level value, 256 to 1,099,511,627,776.
     pub total: u64,
     /// The most members of an array, set or push, or pairs of a map or attribute, 16 to
     /// 1,099,511,627,776.
     pub items: u64,
-    /// Whether streamed strings and aggregates are read.
+    /// Whether streamed strings and aggregates are accepted.
     pub streamed: bool,
-    /// Whether doubles are read, in version 3.
+    /// Whether doubles are accepted, in version 3.
     pub doubles: bool,
 }
 
 impl Default for Limits {
     fn default() -> Limits {
         let mut limits = raw::Limits::default();
-        // SAFETY: the pointer is to limits of ours.
+        // SAFETY: the pointer is to our own limits.
         unsafe { raw::resp_limits_standard(&mut limits) };
         let raw::Limits { depth, length, total, items, streamed, doubles } = limits;
         Limits { depth, length, total, items, streamed, doubles }
     }
 }
 
-/// The refusal of limits: one is outside its range.
+/// The error of limits: a limit is outside its range.
 #[derive(Clone, Copy, Debug, PartialEq, Eq)]
 pub struct BadLimits;
 
-/// The refusal of a change of version: a value was begun, or a byte was refused.
+/// The error of [`Scanner::set_version`]: a value was begun, or there was a fault. Nothing changes.
 #[derive(Clone, Copy, Debug, PartialEq, Eq)]
 pub struct Busy;
 
-/// Why a byte is refused, or the end of the input.
+/// The reason of a [`Fault`].
 #[derive(Clone, Copy, Debug, PartialEq, Eq)]
 pub enum Cause {
-    /// The bytes begin no value of any version.
+    /// No value of version 2 or 3 can contain this byte here.
     Syntax,
-    /// A double came while these are switched off.
+    /// A double, while the limits don't allow doubles.
     Double,
-    /// A form of version 3 came while version 2 is read.
+    /// A type of version 3, while version 2 is read.
     Version,
-    /// A push came below the top level.
+    /// A push inside another value.
     NestedPush,
-    /// An integer is outside the range of signed 64 bits.
+    /// An integer doesn't fit into signed 64 bits.
     Range,
-    /// The value is over the limit of depth.
+    /// Aggregates are nested deeper than the limit.
     Depth,
-    /// A content is over the limit of length.
+    /// A text is longer than the limit.
     Length,
-    /// The value can't end within the limit of total.
+    /// The value can't end within the limit of its bytes.
     Total,
     /// The input ended inside a value.
     Truncated,
-    /// A streamed form came while these are switched off.
+    /// A streamed string or aggregate, while the limits don't allow them.
     Streamed,
-    /// An aggregate is over the limit of items.
+    /// An aggregate has more members or pairs than the limit.
     Items,
 }
 
-/// The refusal of a byte, or of an input that ends inside a value.
+/// The error of a wrong byte, or of an input that ends inside a value.
 #[derive(Clone, Copy, Debug, PartialEq, Eq)]
 pub struct Fault {
-    /// Why.
+    /// The reason.
     pub cause: Cause,
-    /// The number of bytes of the value that were taken before.
+    /// The index of the byte in its value: the number of bytes of the value before it.
     pub at: u64,
 }
 
@@ -140,7 +142,7 @@ pub enum Text {
     Simple,
     /// A simple error.
     Error,
-    /// A double, as its line came. It comes only where the limits allow doubles.
+    /// A double, as the text that was received. Only if the limits allow doubles.
     Double,
     /// A bulk string, counted or streamed.
     Bulk,
@@ -148,9 +150,9 @@ pub enum Text {
     BulkError,
     /// A verbatim string, with the three bytes of its format.
     Verbatim([u8; 3]),
-    /// A big number, whose text is its digits without leading zeros; zero has none.
+    /// A big number. Its text is the digits without leading zeros; the text of zero is empty.
     Big {
-        /// Whether it is below zero.
+        /// Whether it is negative.
         negative: bool,
     },
 }
@@ -162,63 +164,65 @@ pub enum Aggregate {
     Array,
     /// A set.
     Set,
-    /// A map, whose keys and values come in turn.
+    /// A map. Keys and values alternate.
     Map,
-    /// An attribute: keys and values in turn, and last the value that it annotates.
+    /// An attribute: keys and values alternate, and the value that it annotates follows.
     Attribute,
-    /// A push, at the top alone.
+    /// A push, only at the top level.
     Push,
 }
 
-/// What stands in the bytes, in order.
+/// An event.
 #[derive(Clone, Copy, Debug, PartialEq, Eq)]
 pub enum Event<'a> {
-    /// The null, in any of its spellings.
+    /// Null, in any of its encodings.
     Null,
-    /// A truth value.
+    /// A boolean.
     Bool(bool),
     /// An integer.
     Int(i64),
-    /// A text begins. Its parts follow, and then [`Event::TextEnd`].
+    /// A text begins. Its parts follow, then [`Event::TextEnd`].
     Text(Text),
-    /// A run of the text's bytes, never empty.
+    /// Some bytes of the text, never empty.
     Part(&'a [u8]),
     /// The text has ended.
     TextEnd,
-    /// An aggregate begins, with the number of its members, or of its pairs in a map or an
-    /// attribute; none where it is streamed. Its members follow, and then [`Event::Close`].
+    /// An aggregate begins, with the number of its members, or of its pairs in a map or an attribute, or
+    /// `None` if it is streamed. Its members follow, then [`Event::Close`].
     Open(Aggregate, Option<u64>),
     /// The innermost aggregate has ended. An attribute ends after the value that it annotates.
     Close,
-    /// The value at the top is whole.
+    /// The top-level value is complete.
     Done,
 }
 
-/// What one step did.
+/// The result of [`Scanner::step`].
 #[derive(Clone, Copy, Debug, PartialEq, Eq)]
 pub struct Step<'a> {
-    /// The number of bytes taken from the front of the piece; the whole piece where there is no
-    /// event.
+    /// The number of bytes read from the front of the piece; the whole piece if there is no event.
     pub used: usize,
-    /// The event that stands after them.
+    /// The event, if there is one.
     pub event: Option<Event<'a>>,
 }
 
-/// Reads values one after another, in pieces of any size. It takes memory once, where it is made.
+/// Reads values one after another, from pieces of any size. It allocates only in [`Scanner::new`].
 pub struct Scanner {
     memory: Box<[u64]>,
-    /// Room for the events that a call tells.
+    /// The array for the events of one call.
     events: Box<[raw::Event]>,
 }
 
-/// As many events as are asked for by one call.
+/// The most events of one call.
 const MOST_EVENTS: usize = 64;
 
 impl Scanner {
-    /// A scanner of this version within these limits, between two values. Refuses limits of which
-    /// one is outside its range.
+    /// Creates a scanner of this version with these limits.
+    ///
+    /// # Errors
+    ///
+    /// [`BadLimits`] if a limit is outside its range.
     pub fn new(version: Version, limits: &Limits) -> Result<Scanner, BadLimits> {
-        // SAFETY: these two take nothing.
+        // SAFETY: these two calls have no arguments.
         let (size, align) = unsafe { (raw::resp_scanner_size(), raw::resp_scanner_align()) };
         assert!(align <= std::mem::align_of::<u64>());
         let mut scanner = Scanner {
@@ -226,7 +230,7 @@ impl Scanner {
             events: vec![raw::Event::default(); MOST_EVENTS].into_boxed_slice(),
         };
         let limits = raw::Limits::from(limits);
-        // SAFETY: the memory has the size and the alignment, and stays where it is.
+        // SAFETY: the memory has the size and the alignment, and is not moved.
         match unsafe { raw::resp_scanner_init(&mut scanner.raw(), version as u32, &limits) } {
             raw::OK => Ok(scanner),
             _ => Err(BadLimits),
@@ -237,13 +241,17 @@ impl Scanner {
         raw::Scanner { memory: self.memory.as_mut_ptr().cast() }
     }
 
-    /// Takes the whole piece, and gives its events, one after another: those that steps give, until
-    /// these answer that there is none. It is faster than steps.
+    /// Reads the whole piece, and returns an iterator over its events. They are the events of
+    /// [`Scanner::step`], and the iterator is faster.
     ///
-    /// Gives last, in place of an event, the fault of the first byte after which nothing can follow.
-    /// Every later call gives that fault alone.
+    /// All values of the piece are read in one version. To change it after a value, use steps.
     ///
-    /// All values of the piece are read in one version. Who may change it after a value takes steps.
+    /// # Errors
+    ///
+    /// The last item is the fault of the first byte that no valid value can contain there. Every later
+    /// call returns only that fault.
+    ///
+    /// # Examples
     ///
     /// ```
     /// use resp::{Event, Limits, Scanner, Text, Version};
@@ -266,12 +274,12 @@ impl Scanner {
         Scan::new(self, piece)
     }
 
-    /// Tells events of the piece to the room for them: how many, how many bytes were taken, and why
-    /// the byte after these is refused, or `raw::OK`.
+    /// Writes events of the piece to the array. Returns how many, the number of bytes read, and the error
+    /// of the byte after them or `raw::OK`.
     fn raw_scan(&mut self, piece: &[u8]) -> (raw::Scanned, u32) {
         let mut scanned = raw::Scanned::default();
         let (mut scanner, room) = (self.raw(), self.events.len());
-        // SAFETY: `new` has initialised the scanner, and the piece and the room have these lengths.
+        // SAFETY: `new` has initialised the scanner, and the piece and the array have these lengths.
         let cause = unsafe {
             let events = self.events.as_mut_ptr();
             raw::resp_scanner_scan(&mut scanner, piece.as_ptr(), piece.len(), events, room, &mut scanned)
@@ -279,11 +287,13 @@ impl Scanner {
         (scanned, cause)
     }
 
-    /// Takes bytes of the piece until an event is there or the piece ends. An event may be owed at
-    /// bytes that were taken before, and comes then by a step that uses no byte, for an empty piece
-    /// too.
+    /// Reads the piece up to the next event or its end. A step may return an event without reading a
+    /// byte, so call it until it returns no event, with an empty piece too.
     ///
-    /// Refuses the first byte after which nothing can follow. Every later step answers the same.
+    /// # Errors
+    ///
+    /// The fault of the first byte that no valid value can contain there. Every later step returns the
+    /// same fault.
     pub fn step<'a>(&mut self, piece: &'a [u8]) -> Result<Step<'a>, Fault> {
         let event = self.raw_step(piece)?;
         Ok(Step { used: event.used, event: event.told(piece) })
@@ -300,8 +310,11 @@ impl Scanner {
         }
     }
 
-    /// The end of the input. Refuses it by [`Cause::Truncated`] inside a value, and by the fault
-    /// that stands after a refused byte.
+    /// Reports the end of the input.
+    ///
+    /// # Errors
+    ///
+    /// [`Cause::Truncated`] inside a value, and the fault of an earlier call again.
     pub fn finish(&mut self) -> Result<(), Fault> {
         // SAFETY: `new` has initialised the scanner.
         match unsafe { raw::resp_scanner_finish(&mut self.raw()) } {
@@ -314,8 +327,11 @@ impl Scanner {
         Fault { cause: raw::cause(cause), at: self.taken() }
     }
 
-    /// Reads this version from the next value on. Refuses, and changes nothing, from a value's first
-    /// byte until its [`Event::Done`] was given, and after a fault.
+    /// Sets the version of the next values.
+    ///
+    /// # Errors
+    ///
+    /// [`Busy`] between the first byte of a value and its [`Event::Done`], and after a fault.
     pub fn set_version(&mut self, version: Version) -> Result<(), Busy> {
         // SAFETY: `new` has initialised the scanner.
         match unsafe { raw::resp_scanner_set_version(&mut self.raw(), version as u32) } {
@@ -324,20 +340,20 @@ impl Scanner {
         }
     }
 
-    /// The number of aggregates whose open was given and whose close wasn't.
+    /// Returns the number of open aggregates: [`Event::Open`] was returned, and [`Event::Close`] not yet.
     pub fn depth(&mut self) -> usize {
         // SAFETY: `new` has initialised the scanner.
         unsafe { raw::resp_scanner_depth(&mut self.raw()) }
     }
 
-    /// The number of bytes taken of the value, 0 between values. A refused byte isn't among them.
+    /// Returns the number of bytes read of the current value, 0 between values. A wrong byte isn't counted.
     pub fn taken(&mut self) -> u64 {
         // SAFETY: `new` has initialised the scanner.
         unsafe { raw::resp_scanner_taken(&mut self.raw()) }
     }
 
-    /// The least number of bytes that complete the value, whatever the limit of total: 3 between
-    /// values, and 0 where only events are owed. It says nothing after a fault.
+    /// Returns the smallest number of bytes that can complete the value, whatever the limit of total: 3
+    /// between values, and 0 if only events remain. After a fault the result has no meaning.
     pub fn needed(&mut self) -> u64 {
         // SAFETY: `new` has initialised the scanner.
         unsafe { raw::resp_scanner_needed(&mut self.raw()) }

@@ -1,25 +1,25 @@
-//! Which command each reply answers, and in which version it is read.
+//! Pairs replies with commands, and reads each reply in its version.
 
 use crate::{raw, BadLimits, Event, Fault, Limits, Scanner, Version};
 use std::error::Error;
 use std::fmt;
 
-/// Why a command isn't queued.
+/// The error of [`Pairing::queue`] and [`Pairing::hello`]. Nothing changes.
 #[derive(Clone, Copy, Debug, PartialEq, Eq)]
 pub enum QueueError {
-    /// A HELLO that asks for a version waits already.
+    /// Another HELLO that asks for a version waits for its reply.
     HelloWaits,
     /// 2^63 commands were queued.
     TooMany,
 }
 
-/// Why a step is refused.
+/// The error of [`Pairing::step`].
 #[derive(Clone, Copy, Debug, PartialEq, Eq)]
 pub enum PairError {
-    /// A value that is no push came while no command waits. Nothing was read, and the same bytes may
-    /// come again once a command was queued.
+    /// A value other than a push arrived while no command waits. Nothing was read. Queue the command,
+    /// and give the same bytes again.
     Unasked,
-    /// A byte is refused, for good.
+    /// A wrong byte. Every later step returns the same fault.
     Fault(Fault),
 }
 
@@ -44,19 +44,19 @@ impl fmt::Display for PairError {
 impl Error for QueueError {}
 impl Error for PairError {}
 
-/// What one step did.
+/// The result of [`Pairing::step`].
 #[derive(Clone, Copy, Debug, PartialEq, Eq)]
 pub struct Paired<'a> {
-    /// The number of bytes taken from the front of the piece; the whole piece where there is no
-    /// event.
+    /// The number of bytes read from the front of the piece; the whole piece if there is no event.
     pub used: usize,
-    /// The event that stands after them, with the number of the reply to which it belongs, from 1
-    /// on, or none for a push.
+    /// The event, with the number of the reply that it belongs to, from 1, or `None` for a push.
     pub event: Option<(Option<u64>, Event<'a>)>,
 }
 
-/// A client without its values: it reads the replies to the commands that were queued, each in its
-/// version, and says which command an event answers.
+/// Reads the replies to the commands that were queued, each in its version, and returns their events
+/// with the numbers of the commands.
+///
+/// # Examples
 ///
 /// ```
 /// use resp::{Event, Limits, Pairing, Version};
@@ -83,28 +83,32 @@ pub struct Pairing {
 }
 
 impl Pairing {
-    /// Nothing waits, and the version is 2. Refuses limits of which one is outside its range.
+    /// Creates a pairing of version 2. No command waits.
+    ///
+    /// # Errors
+    ///
+    /// [`BadLimits`] if a limit is outside its range.
     pub fn new(limits: &Limits) -> Result<Pairing, BadLimits> {
         let mut pairing = raw::Pairing::default();
-        // SAFETY: the pointer is to a pairing of ours.
+        // SAFETY: the pointer is to our own pairing.
         unsafe { raw::resp_pairing_init(&mut pairing) };
         Ok(Pairing { scanner: Scanner::new(Version::Two, limits)?, pairing })
     }
 
-    /// Queues a command that asks for no version. Answers the number of its reply.
+    /// Counts a command that is sent, and returns the number of its reply.
     pub fn queue(&mut self) -> Result<u64, QueueError> {
         self.queue_asking(0)
     }
 
-    /// Queues a HELLO that asks for this version. Once its reply came, and is no error, values are
-    /// read in it.
+    /// Counts a HELLO that asks for this version, and returns the number of its reply. After the reply,
+    /// unless it is an error, values are read in that version.
     pub fn hello(&mut self, version: Version) -> Result<u64, QueueError> {
         self.queue_asking(version as u32)
     }
 
     fn queue_asking(&mut self, hello: u32) -> Result<u64, QueueError> {
         let mut number = 0;
-        // SAFETY: `new` has initialised the pairing, and the other pointer is to a number of ours.
+        // SAFETY: `new` has initialised the pairing, and the other pointer is to our own number.
         match unsafe { raw::resp_pairing_queue(&mut self.pairing, hello, &mut number) } {
             raw::OK => Ok(number),
             raw::HELLO_WAITS => Err(QueueError::HelloWaits),
@@ -112,7 +116,7 @@ impl Pairing {
         }
     }
 
-    /// The version: 2, or what the last HELLO asked that was answered.
+    /// Returns the version: 2, or the one of the last HELLO that was answered without an error.
     pub fn version(&self) -> Version {
         match self.pairing.version {
             3 => Version::Three,
@@ -120,26 +124,34 @@ impl Pairing {
         }
     }
 
-    /// Takes bytes of the piece until an event is there or the piece ends, as [`Scanner::step`].
+    /// Reads the piece up to the next event or its end, like [`Scanner::step`].
+    ///
+    /// # Errors
+    ///
+    /// [`PairError::Unasked`] for a value that no command asked for, and the faults of [`Scanner::step`].
     pub fn step<'a>(&mut self, piece: &'a [u8]) -> Result<Paired<'a>, PairError> {
         if let Some(first) = piece.first().filter(|_| self.scanner.taken() == 0) {
             let mut version = 0;
-            // SAFETY: `new` has initialised the pairing, and the other pointer is to a number of ours.
+            // SAFETY: `new` has initialised the pairing, and the other pointer is to our own number.
             if unsafe { raw::resp_pairing_first(&mut self.pairing, *first, &mut version) } != raw::OK {
                 return Err(PairError::Unasked);
             }
-            // A scanner that has refused a byte keeps its version, and refuses again.
+            // After a fault the scanner keeps its version, and the step returns the fault again.
             let _ = self.scanner.set_version(if version == 3 { Version::Three } else { Version::Two });
         }
         let event = self.scanner.raw_step(piece).map_err(PairError::Fault)?;
         let mut number = 0;
-        // SAFETY: as above, and the event is of ours.
+        // SAFETY: as above, and the event is our own.
         unsafe { raw::resp_pairing_take(&mut self.pairing, &event, &mut number) };
         let told = event.told(piece).map(|it| ((number > 0).then_some(number), it));
         Ok(Paired { used: event.used, event: told })
     }
 
-    /// The end of the input. Refuses it inside a value, and by the fault that stands.
+    /// Reports the end of the input.
+    ///
+    /// # Errors
+    ///
+    /// [`crate::Cause::Truncated`] inside a value, and the fault of an earlier step again.
     pub fn finish(&mut self) -> Result<(), Fault> {
         self.scanner.finish()
     }

@@ -1,4 +1,4 @@
-//! The library as its header `resp.h` declares it.
+//! The declarations of `resp.h`.
 
 use crate::{Aggregate, Cause, Event as Told, Limits as Given, Text};
 use std::ffi::c_void;
@@ -9,7 +9,7 @@ pub const TOTAL: u32 = 8;
 pub const ITEMS: u32 = 13;
 pub const HELLO_WAITS: u32 = 67;
 
-/// The number of an array among the kinds of aggregate.
+/// `RESP_ARRAY`.
 pub const ARRAY: u32 = 0;
 
 #[repr(C)]
@@ -102,20 +102,20 @@ impl From<&Given> for Limits {
     }
 }
 
-/// The digit of a part at no byte.
+/// The digits that a part may consist of if it used no byte.
 static DIGITS: [u8; 10] = *b"0123456789";
 
-/// The number of a whole text among the kinds of event.
+/// `RESP_WHOLE`.
 const WHOLE: u32 = 10;
 
 impl Event {
-    /// The bytes of a whole text, which lie in the piece before CR LF; none of another event.
+    /// Returns the bytes of a whole text, which are in the piece before CR LF, or `None` for another event.
     pub fn whole<'a>(&self, piece: &'a [u8]) -> Option<&'a [u8]> {
         let end = (self.kind == WHOLE).then(|| self.used - 2)?;
         Some(&piece[end - self.part..end])
     }
 
-    /// The event, whose part lends the piece. Of a whole text the beginning.
+    /// Returns the event, whose part borrows from the piece. For a whole text this is its beginning.
     pub fn told<'a>(&self, piece: &'a [u8]) -> Option<Told<'a>> {
         Some(match self.kind {
             0 => return None,
@@ -158,7 +158,7 @@ impl Event {
     }
 }
 
-/// The cause of this number, of those that a step and the end have.
+/// Returns the cause with this number. Only the causes of a step and of the end occur.
 pub fn cause(number: u32) -> Cause {
     match number {
         1 => Cause::Syntax,

@@ -1,27 +1,28 @@
-//! The events of a piece, of which many come by one call of the library.
+//! The iterator over the events of a piece. One call of the library returns many events.
 
 use crate::{raw, Event, Fault, Scanner};
 
-/// The events of a piece, as [`Scanner::scan`] gives them. They lend the piece, and not the scanner.
+/// The iterator over the events of a piece, made by [`Scanner::scan`]. Events borrow from the piece, and
+/// not from the scanner.
 ///
-/// Where it is dropped the events that were not asked for are lost: the scanner has taken the whole
-/// piece then, or refused a byte of it.
+/// If the iterator is dropped early, its other events are lost: the scanner has then read the whole
+/// piece, or up to a wrong byte.
 pub struct Scan<'s, 'a> {
     scanner: &'s mut Scanner,
-    /// The piece after the bytes of the events given, and how many of it were taken.
+    /// The piece after the bytes of the returned events, and how many bytes of it the scanner has read.
     rest: &'a [u8],
     taken: usize,
-    /// The events that were told: the number of them, and of those given.
+    /// The number of events from the last call of the library, and how many of them were returned.
     told: usize,
     given: usize,
-    /// What is still to be given of a whole text.
+    /// The events of a whole text that are still to be returned.
     whole: Whole<'a>,
-    /// Whether more events may come after those told, and the cause of a refusal after them.
+    /// Whether the array of events was full, and the error after its events.
     is_full: bool,
     cause: u32,
 }
 
-/// What is still to be given of a whole text.
+/// The events of a whole text that are still to be returned.
 enum Whole<'a> {
     Nothing,
     Part(&'a [u8]),
@@ -33,7 +34,7 @@ impl<'s, 'a> Scan<'s, 'a> {
         Scan { scanner, rest: piece, taken: 0, told: 0, given: 0, whole: Whole::Nothing, is_full: true, cause: raw::OK }
     }
 
-    /// What comes next of a whole text that was begun.
+    /// Returns the next event of a whole text that was begun.
     fn whole_next(&mut self) -> Option<Event<'a>> {
         match std::mem::replace(&mut self.whole, Whole::Nothing) {
             Whole::Nothing => None,
@@ -45,7 +46,7 @@ impl<'s, 'a> Scan<'s, 'a> {
         }
     }
 
-    /// Asks for more events, where all that were told were given.
+    /// Asks the library for more events, after all events were returned.
     fn tell(&mut self) {
         self.rest = &self.rest[self.taken..];
         let (scanned, cause) = self.scanner.raw_scan(self.rest);

@@ -3,7 +3,7 @@
 use resp::{Cause, Event, Fault, Limits, PairError, Pairing, QueueError, Version};
 use std::fmt::Write;
 
-/// The ends of the values in pieces, each as `number.` or `push.`, nulls as `_`, and a refusal.
+/// Returns the ends of the values in pieces, as `number.` or `push.`, nulls as `_`, and the error.
 fn said(pairing: &mut Pairing, pieces: &[&[u8]]) -> String {
     let mut said = String::new();
     for piece in pieces {
@@ -30,7 +30,8 @@ fn said(pairing: &mut Pairing, pieces: &[&[u8]]) -> String {
     said
 }
 
-/// Runs a conversation whole, cut in two at each byte, and byte by byte. A command is 0, or the version that HELLO asks.
+/// Runs a conversation whole, cut in two at each byte, and byte by byte. A command is 0, or the version that a HELLO
+/// asks for.
 fn check(commands: &[u32], text: &[u8], wanted: &str, version: Version) {
     let mut cuts: Vec<Vec<&[u8]>> = (0..=text.len()).map(|at| vec![&text[..at], &text[at..]]).collect();
     cuts.push(text.chunks(1).collect());

@@ -1,10 +1,10 @@
-//! Rows of what the scanner tells of texts, each at every cut, and of its other calls.
+//! Tests of the scanner in rows: texts and their events, at every cut; and of its other calls.
 
 use resp::{command, Aggregate, BadLimits, Busy, Cause, CommandError, Event, Fault, Limits, Scanner, Text, Version};
 use std::fmt::Write;
 
-/// The events of pieces: `_`, `#1`, `:7`, a text's type byte and its bytes in quotes, an aggregate's with the number of
-/// its members, `]` for a close, `.` for done, and a fault.
+/// Returns the events of pieces: `_`, `#1`, `:7`, the type byte of a text and its bytes in quotes, the type byte of an
+/// aggregate with the number of its members, `]` for a close, `.` for done, and a fault.
 fn said(version: Version, limits: &Limits, pieces: &[&[u8]]) -> String {
     let mut scanner = Scanner::new(version, limits).expect("limits");
     let mut said = String::new();
@@ -34,7 +34,7 @@ fn said(version: Version, limits: &Limits, pieces: &[&[u8]]) -> String {
     said
 }
 
-/// The same by a scan of each piece.
+/// The same with `scan` for each piece.
 fn said_by_scans(version: Version, limits: &Limits, pieces: &[&[u8]]) -> String {
     let mut scanner = Scanner::new(version, limits).expect("limits");
     let mut said = String::new();

@@ -160,7 +160,7 @@ fn resp<'a>(alloc: Global) -> Result<Command<'a>, clap::Error>
     Ok(
         Command::new(alloc, "resp")
             .bin_name("resp")?
-            .version("0.1.0")
+            .version("0.2.0")
             .about("Reads a stream of the Redis wire protocol from a file or standard input")
             .subcommand_required(true),
     )
