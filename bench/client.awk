@@ -1,5 +1,5 @@
-# Reads the lines `NAME: COUNTS; N us` of two files. Prints for each file the least time for a command with its reply, and
-# the ratio of the first file to the second. Fails if the counts differ.
+# Reads the lines `NAME: COUNTS; N us` of two files. Prints for each file the least time for a command with its reply,
+# and the ratio of the first file to the second. Fails if the counts differ.
 
 {
     split($0, half, "; ")

@@ -1,6 +1,6 @@
-# Reads the lines `TEXT: COUNTS; N` of several files. Prints the least number for each text in each file, and the ratios to
-# the last file. `names` has a name for each file. Instructions are divided by the number of replies. Fails if the counts
-# differ.
+# Reads the lines `TEXT: COUNTS; N` of several files. Prints the least number for each text in each file, and the ratios
+# to the last file. `names` has a name for each file. Instructions are divided by the number of replies. Fails if the
+# counts differ.
 
 {
     split($0, half, "; ")

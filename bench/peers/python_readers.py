@@ -1,8 +1,8 @@
 """Measures Python modules that read replies as Python objects, each with a Reader like that of hiredis.
 
-python_readers.py times NAMES..               prints nanoseconds of processor time for a reply: the least of the turns that
-                                              the modules make alternately.
-python_readers.py once NAME TEXT PIECE ROUNDS reads one text that many times and prints the number of replies."""
+python_readers.py times NAMES.. prints nanoseconds of processor time for a reply, the least of the turns that the modules
+make alternately. python_readers.py once NAME TEXT PIECE ROUNDS reads one text ROUNDS times and prints the number of
+replies."""
 import importlib
 import sys
 import time
