@@ -1,5 +1,5 @@
-# Of the lines `NAME: COUNTS; N us` of two files, the least time of each for a command with its reply, and the ratio of
-# the first to the last. Stops where two counted differently.
+# Reads the lines `NAME: COUNTS; N us` of two files. Prints for each file the least time for a command with its reply,
+# and the ratio of the first file to the second. Fails if the counts differ.
 
 {
     split($0, half, "; ")

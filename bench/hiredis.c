@@ -1,10 +1,11 @@
-/* How long the reader of hiredis takes the texts of bench scan, by object functions that build nothing, or with the
- * argument `trees` by its own, each reply freed.
+/* Measures hiredis' reader on the texts of bench scan. Its object functions build nothing; with the argument `trees`
+ * hiredis' own functions build replies, and each reply is freed.
  *
- * It prints the lines of bench scan, of the same texts in the same pieces: with no other argument of short texts, and
- * with `times` of longer ones, 32 MiB in all for each, with microseconds, or with `once` of these read a single time.
- * With `peak` it reads one array of a million bulk strings. Where the counts differ, the two didn't read the same. With
- * `stdin` and a number it reads standard input in pieces of so many bytes, and prints the number of replies. */
+ * It prints the lines of bench scan, for the same texts in the same pieces. Without another argument it reads short
+ * texts. With `times` it reads 32 MiB of each text and prints microseconds; with `once` it reads the text of `times` a
+ * single time. If the counts differ from those of bench scan, the two did not read the same. With `peak` it reads one
+ * array of a million bulk strings. With `stdin` and a number it reads standard input in pieces of that many bytes, and
+ * prints the number of replies. */
 
 #include <hiredis/hiredis.h>
 #include <stdio.h>
@@ -19,7 +20,7 @@ typedef size_t member_count;
 typedef int member_count;
 #endif
 
-/* A hiredis that knows no RESP3 reads the members of a map as those of an array, whose head is as long. */
+/* A hiredis without RESP3 reads an array in place of a map; its head has the same length. */
 #ifdef REDIS_REPLY_MAP
 #define MAP_HEAD "%10\r\n"
 #else
@@ -28,13 +29,13 @@ typedef int member_count;
 
 enum { SHORT_TEXT = 4096, LONG_TEXT = 262144, ROUNDS = 128, UNIT_ROOM = 70000 };
 
-/* In this order no two of them are changed as one by a wider instruction, which the next change would wait for. */
+/* In this order the compiler does not combine two additions into one wider instruction, which would slow the next. */
 static struct {
 	unsigned long long values, replies, content;
 	long long sum;
 } tally;
 
-/* What stands for every reply. */
+/* The object of every reply. */
 static char built;
 
 static void *on_string(const redisReadTask *task, char *text, size_t length)
@@ -91,7 +92,7 @@ static void stop(const char *why)
 /* Whether replies are built. */
 static int trees;
 
-/* Counts of a reply that was built what lies in itself, and how many members it has, and frees it. */
+/* Counts a reply and its members, without the content of members, and frees it. */
 static void count_built(redisReply *reply)
 {
 	tally.values += 1 + reply->elements;
@@ -133,7 +134,7 @@ __attribute__((noinline)) static void read_text(redisReader *reader, const char 
 	}
 }
 
-/* Reads the text in pieces of so many bytes, so often, and prints what it counted. */
+/* Reads the text `rounds` times in pieces of `size` bytes, and prints the counts. */
 static void count(const char *name, const char *text, size_t length, size_t size, int rounds)
 {
 	redisReader *reader = new_reader();
@@ -150,7 +151,7 @@ static void count(const char *name, const char *text, size_t length, size_t size
 	printf("\n");
 }
 
-/* Reads a text that is this one over and over, in pieces of each size. */
+/* Reads repetitions of this text, in pieces of each size. */
 static void run(const char *name, const char *unit, size_t length, int rounds)
 {
 	static const size_t sizes[] = {1, 7, 1000, 4096, 16384};
@@ -168,7 +169,7 @@ static void run(const char *name, const char *unit, size_t length, int rounds)
 	free(all);
 }
 
-/* Reads texts of so many bytes of content after this head. */
+/* Reads texts with this head and so many bytes of content. */
 static void run_filled(const char *name, const char *head, size_t length, int rounds)
 {
 	static char unit[UNIT_ROOM];
@@ -179,7 +180,7 @@ static void run_filled(const char *name, const char *head, size_t length, int ro
 	run(name, unit, used + length + 2, rounds);
 }
 
-/* Reads texts of so many equal members after this head. */
+/* Reads texts with this head and so many equal members. */
 static void run_members(const char *name, const char *head, const char *member, int members, int rounds)
 {
 	static char unit[UNIT_ROOM];
@@ -203,7 +204,7 @@ static void read_million(void)
 	printf("%llu replies, %llu values\n", tally.replies, tally.values);
 }
 
-/* Reads standard input in pieces of so many bytes. */
+/* Reads standard input in pieces of this size. */
 static void read_input(size_t size)
 {
 	static char piece[UNIT_ROOM];

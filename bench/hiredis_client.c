@@ -1,7 +1,7 @@
-/* How long hiredis takes to queue commands and to give their replies, over bytes from memory.
+/* Measures how long hiredis needs to queue commands and to return their replies, with bytes from memory.
  *
- * It prints the line of bench client, of the same commands in the same pipelines: with no argument of one pipeline, and
- * with the argument `times` of 10,000, with microseconds, or with `once` of one in the same form. */
+ * It prints the line of bench client, for the same commands in the same pipelines: one pipeline without an argument,
+ * 10,000 with `times`, which also prints microseconds, and one in the format of `times` with `once`. */
 
 #include <hiredis/hiredis.h>
 #include <hiredis/sds.h>
@@ -30,7 +30,7 @@ static void stop(const char *why)
 	exit(1);
 }
 
-/* Queues the commands, and drops their texts as the library does when all was written. */
+/* Queues the commands, and drops their texts as the library does after writing them. */
 static void queue(redisContext *context)
 {
 	for (int i = 0; i < PIPELINE; i++) {
@@ -44,7 +44,7 @@ static void queue(redisContext *context)
 	context->obuf = hi_sdsempty();
 }
 
-/* Takes all replies of the text. */
+/* Reads all replies of the text. */
 static void hear(redisContext *context, const char *text, size_t length)
 {
 	void *answer;

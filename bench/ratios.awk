@@ -1,5 +1,6 @@
-# Of the lines `TEXT: COUNTS; N` of several files, the least number of each text in each file, and the ratios of each to
-# the last. `names` has a name for each file. Instructions are those for a reply. Stops where two counted differently.
+# Reads the lines `TEXT: COUNTS; N` of several files. Prints the least number for each text in each file, and the ratios
+# to the last file. `names` has a name for each file. Instructions are divided by the number of replies. Fails if the
+# counts differ.
 
 {
     split($0, half, "; ")

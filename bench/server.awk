@@ -1,5 +1,5 @@
-# Of the lines `NAME: N commands, ..; N us` of bench server, and the lines `NAME RATE SECONDS` of redis-benchmark for a
-# million commands, the most commands a second of each kind and their ratio.
+# Reads the lines `NAME: N commands, ..; N us` of bench server, and the lines `NAME RATE SECONDS` of redis-benchmark for
+# a million commands. Prints for each kind the most commands a second of each and their ratio.
 
 / us$/ {
     kind = tolower($1)

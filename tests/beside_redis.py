@@ -1,4 +1,4 @@
-"""Talks to a server of ours by python3-redis: beside_redis.py PORT. It fails where an answer is another."""
+"""Tests a server of this repository with python3-redis: beside_redis.py PORT"""
 
 import sys
 

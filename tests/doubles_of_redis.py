@@ -1,7 +1,8 @@
-"""Reads what redis-server answers in version 3, doubles included: doubles_of_redis.py PORT PROGRAM.
+"""Reads replies of redis-server in version 3, with doubles: doubles_of_redis.py PORT PROGRAM
 
-It runs more than 200 commands in one pipeline, and gives the bytes of their replies to `PROGRAM canon`, `check` and `show`:
-none is refused, what is written back reads as the same values, and without `--doubles` the first double is refused.
+It sends more than 200 commands in one pipeline and gives the replies to `PROGRAM canon`, `check` and `show`. With
+`--doubles` all replies must be accepted, and the output of `canon` must read as the same values. Without it the first
+double must be rejected.
 """
 
 import socket
@@ -191,7 +192,7 @@ OTHERS = [
 
 
 def words_of(line):
-    """The words of a line, of which one in quotes has spaces."""
+    """Returns the words of a line. One word may be in quotes and contain spaces."""
     front, quote, rest = line.partition("'")
     inside, _, back = rest.partition("'")
     return front.split() + ([inside] if quote else []) + back.split()
@@ -203,7 +204,7 @@ def text_of(line):
 
 
 def replies(lines):
-    """The bytes that the server sends for these commands."""
+    """Returns the bytes that the server sends for these commands."""
     end = b"$20\r\nthe end of all lines\r\n"
     with socket.create_connection(("127.0.0.1", port), timeout=60) as peer:
         peer.sendall(b"".join(map(text_of, lines)) + text_of("ECHO 'the end of all lines'"))

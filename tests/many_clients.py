@@ -1,6 +1,7 @@
-"""Talks to `resp serve` by many connections at once: many_clients.py PORT PID MOST, where it serves MOST clients at most.
+"""Tests `resp serve --clients MOST` with many connections at once: many_clients.py PORT PID MOST
 
-It fails where an answer is another, where one client waits for another, or where the server keeps what is gone.
+It fails if a reply is wrong, if one client waits for another, or if the server keeps memory or descriptors of closed
+connections.
 """
 
 import os
@@ -27,7 +28,7 @@ def connect():
 
 
 def hear(stream, text):
-    """Reads as many bytes as the text has, and compares."""
+    """Reads as many bytes as the text has, and compares them with it."""
     heard = b""
     while len(heard) < len(text):
         piece = stream.recv(len(text) - len(heard))
@@ -45,7 +46,7 @@ def hear_end(stream):
 
 
 def held():
-    """The kilobytes that the server holds, and its open descriptors."""
+    """Returns the kilobytes that the server holds, and the number of its open descriptors."""
     with open(f"/proc/{PID}/status", encoding="ascii") as file:
         size = next(int(line.split()[1]) for line in file if line.startswith("VmRSS:"))
     return size, len(os.listdir(f"/proc/{PID}/fd"))
@@ -59,7 +60,7 @@ def until(holds, what):
 
 
 def send_slowly(answers):
-    """A byte a second, from the begin of all tests on."""
+    """Sends one byte a second while all other tests run."""
     with connect() as slow:
         for byte in PING:
             slow.sendall(bytes([byte]))
@@ -69,7 +70,7 @@ def send_slowly(answers):
 
 
 def half_are_silent(count):
-    """So many connections, of which every other one says nothing."""
+    """Opens this many connections, every second one of which sends nothing."""
     streams = [connect() for _ in range(count)]
     talking = streams[::2]
     for turn in range(5):
@@ -81,7 +82,7 @@ def half_are_silent(count):
 
 
 def over_the_most(streams):
-    """The connection over the most is refused, and another is served once one has gone."""
+    """A connection over the maximum is rejected, and a new one is served after another was closed."""
     with connect() as one_more:
         assert hear_end(one_more) == TOO_MANY
     for stream in streams[1::2]:
@@ -104,7 +105,7 @@ def over_the_most(streams):
 
 
 def one_never_reads():
-    """One client asks and never reads, and another is answered 100,000 times meanwhile."""
+    """One client sends commands and never reads, while another gets 100,000 replies."""
     size = 16_384
     with connect() as greedy, connect() as other:
         other.sendall(command(b"SET", b"great", bytes(size)))
@@ -114,7 +115,7 @@ def one_never_reads():
         greedy.setblocking(False)
         sent, begun = 0, time.monotonic()
         for _ in range(1_000):
-            # What the socket takes of it; once the server reads no more, it takes nothing.
+            # Sends as much as the socket accepts: nothing, after the server has stopped reading.
             try:
                 sent += greedy.send(asked[sent % len(asked) :])
             except BlockingIOError:
@@ -123,12 +124,12 @@ def one_never_reads():
             hear(other, b"$-1\r\n" * 100)
         assert time.monotonic() - begun < LIMIT, "100,000 commands took too long"
         after, _ = held()
-        # A piece of 16,384 bytes has 655 commands, whose replies are 10 MB; what the buffer had grown by is as much.
+        # A piece of 16,384 bytes has 655 commands, whose replies are 10 MB; the buffer may have grown to twice that.
         assert after - before < 48_000, f"{after - before} kB for a client that doesn't read"
 
 
 def cut_in_mid_command(count):
-    """Connections that go within a command: some end, and some are broken off."""
+    """Closes connections in the middle of a command, some of them by a reset."""
     text = b"*3\r\n$3\r\nSET\r\n$3\r\nkey\r\n$100000\r\n" + bytes(10_000)
     streams = [connect() for _ in range(count)]
     for number, stream in enumerate(streams):
@@ -140,7 +141,7 @@ def cut_in_mid_command(count):
 
 
 def nothing_is_kept(count, descriptors):
-    """What the server holds after many connections have gone is what it held before."""
+    """After many connections were closed, the server holds as much as before."""
     for _ in range(2):
         cut_in_mid_command(count)
         until(lambda: held()[1] == descriptors, "descriptors of connections that have gone are open")
@@ -153,7 +154,7 @@ def nothing_is_kept(count, descriptors):
 
 
 def refused_byte():
-    """A session that is closing is sent its error, and the connection is closed, whatever else has come."""
+    """A session with an error sends its error line, and the connection is closed, whatever else was received."""
     with connect() as stream:
         stream.sendall(PING + b"?" + PING * 1_000)
         heard = hear_end(stream)
@@ -161,7 +162,7 @@ def refused_byte():
 
 
 def halves_of_a_close():
-    """A client that has said all may still read its answers."""
+    """A client that has closed its sending side still gets its replies."""
     with connect() as stream:
         stream.sendall(PING * 10_000)
         stream.shutdown(socket.SHUT_WR)

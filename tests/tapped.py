@@ -1,10 +1,13 @@
-"""Talks to redis-server through `resp tap`: tapped.py SERVER TAP LOG TIMED TIMED_LOG, the ports of the server, of a tap
-and of one that tells times, and what the taps print.
+"""Tests `resp tap` in front of redis-server: tapped.py SERVER TAP LOG TIMED TIMED_LOG
 
-redis-cli prints the same with the tap and without it, in both versions, and the tap prints its commands and replies; a
-HELLO 3 in mid-pipeline moves the version of what follows; after SUBSCRIBE values are unpaired; where times are told they
-go on in the order of the lines, and a reply waited as long as its command blocked; and redis-benchmark in pipelines of
-16 doesn't stall: it reaches a tenth at least of what it reaches without the tap."""
+SERVER, TAP and TIMED are the ports of the server, of a tap, and of a tap with --time. LOG and TIMED_LOG are the files
+to which the two taps print. It tests that
+
+- redis-cli prints the same with and without the tap, in both versions, and the tap prints its commands and replies;
+- a HELLO 3 in the middle of a pipeline changes the version of the later replies;
+- values after SUBSCRIBE are not paired;
+- printed times ascend, and the delay of a reply is at least as long as its command blocked;
+- redis-benchmark in pipelines of 16 reaches at least a tenth of its speed without the tap."""
 import re
 import socket
 import subprocess
@@ -15,7 +18,7 @@ server, tap, timed = int(sys.argv[1]), int(sys.argv[2]), int(sys.argv[4])
 
 
 def printed(log=sys.argv[3]):
-    """What a tap has printed so far."""
+    """Returns what a tap has printed so far."""
     with open(log, encoding="utf-8") as file:
         return file.read()
 
@@ -30,13 +33,13 @@ def waits_for(text, log=sys.argv[3]):
 
 
 def command(*words):
-    """The text of a command."""
+    """Returns the encoding of a command."""
     parts = [f"*{len(words)}\r\n"] + [f"${len(word)}\r\n{word}\r\n" for word in words]
     return "".join(parts).encode()
 
 
 def talk(port, sent, end):
-    """Sends bytes, and returns what is answered up to and with this end."""
+    """Sends bytes, and returns the reply up to and including this end."""
     with socket.create_connection(("127.0.0.1", port), 10) as peer:
         peer.sendall(sent)
         heard = b""
@@ -48,7 +51,7 @@ def talk(port, sent, end):
 
 
 def cli(port, *words):
-    """What redis-cli prints."""
+    """Returns the output of redis-cli."""
     return subprocess.run(["redis-cli", "-p", str(port), *words], capture_output=True, timeout=20, check=True).stdout
 
 
@@ -63,7 +66,7 @@ for words in (["SET", "tapped", "1"], ["-3", "GET", "tapped"], ["INCR", "tapped"
 waits_for('  "SET" "tapped" "1"\n')
 waits_for('client 3 command 1\n  "INCR" "tapped"\nclient 3 reply 1\n  int 2\nclient 3 gone\n')
 
-# A pipeline with HELLO 3 in its midst, in which a null and a double show the version.
+# A pipeline with HELLO 3 in the middle. A null and a double show the version.
 pipeline = [command("ZADD", "scores", "1.5", "m"), command("GET", "no such key"), command("HELLO", "3"),
             command("GET", "no such key"), command("ZSCORE", "scores", "m")]
 heard = talk(tap, b"".join(pipeline), b",1.5\r\n")
@@ -71,22 +74,22 @@ assert b"\r\n$-1\r\n%" in heard and heard.endswith(b"_\r\n,1.5\r\n"), heard
 waits_for("client 7 reply 2\n  null\nclient 7 reply 3\n  map\n")
 waits_for('client 7 reply 4\n  null\nclient 7 reply 5\n  double "1.5" 3\nclient 7 gone\n')
 
-# After SUBSCRIBE values are paired with no command.
+# Values after SUBSCRIBE are not paired with commands.
 talk(tap, command("PING") + command("SUBSCRIBE", "channel"), b":1\r\n")
 waits_for('client 8 reply 1\n  simple "PONG" 4\nclient 8 value\n  array\n    bulk "subscribe" 9\n')
 
-# An inline command is handed on, and the connection isn't read from there on.
+# An inline command is forwarded, and the tap reads nothing more of the connection.
 assert talk(tap, b"PING\r\n", b"\r\n") == b"+PONG\r\n"
 waits_for("client 9 refused Syntax at byte 0 of command 1\n")
 
-# A reply of 16 MiB, over many pieces, is handed on unchanged.
+# A reply of 16 MiB, in many pieces, is forwarded unchanged.
 cli(server, "SETRANGE", "large", str((1 << 24) - 1), "x")
 whole = talk(server, command("GET", "large"), b"x\r\n")
 assert talk(tap, command("GET", "large"), b"x\r\n") == whole
 
 
 def told(line, text):
-    """The microseconds of the day and of the delay, if there is one, that a line tells after a text."""
+    """Returns the time of day and the delay, or None, that a line has after this text, in microseconds."""
     found = re.fullmatch(re.escape(text) + r" at (\d\d):(\d\d):(\d\d)\.(\d{6})(?: after (\d+)\.(\d{6}) s)?", line)
     assert found, (line, text)
     hours, minutes, seconds, micros, whole, part = (int(it) if it else 0 for it in found.groups())
@@ -95,7 +98,7 @@ def told(line, text):
     return 1000000 * (3600 * hours + 60 * minutes + seconds) + micros, delay
 
 
-# Where times are told, a command that blocks for 0.2 seconds and one after it in the same pipeline wait as long.
+# A command that blocks for 0.2 seconds and the next command of its pipeline both have this delay.
 before = time.time()
 talk(timed, command("BLPOP", "no such list", "0.2") + command("PING"), b"+PONG\r\n")
 waits_for("client 1 gone", sys.argv[5])
@@ -105,23 +108,23 @@ wanted = ["client 1 command 1", "client 1 command 2", "client 1 reply 1", "clien
 assert len(lines) == len(wanted), lines
 moments = [told(line, text) for line, text in zip(lines, wanted)]
 DAY = 86400000000
-# How long after the first of these times each came, which may be over midnight.
+# The age of each time since the test began, which may have been before midnight.
 ages = [(of_day - int(before * 1000000)) % DAY for of_day, _ in moments]
 assert ages == sorted(ages) and ages[-1] <= (after - before) * 1000000 + 1, (ages, lines)
 assert [delay is not None for _, delay in moments] == [False, False, True, True, False], lines
-# A timer of the server may be a tick early.
+# The server's timer may be a tick early.
 assert all(delay >= 180000 for _, delay in moments if delay is not None), lines
 assert not re.search(r" at \d\d:\d\d:", printed()), "a time that wasn't asked for"
 
 
 def rate(port):
-    """How many GETs a second redis-benchmark counts."""
+    """Returns the GETs a second that redis-benchmark reports."""
     words = ["redis-benchmark", "-p", str(port), "-P", "16", "-n", "200000", "-q", "-t", "get"]
     said = subprocess.run(words, capture_output=True, timeout=80, check=True).stdout.decode()
     return float(re.findall(r"GET: ([0-9.]+) requests per second", said.replace("\r", "\n"))[-1])
 
 
-# The best of three, since other work on the machine slows one of them more than the other.
+# The best of three runs, because other load on the machine may slow one of them.
 alone = max(rate(server) for _ in range(3))
 through = max(rate(tap) for _ in range(3))
 assert 10 * through >= alone, f"{through} commands a second through the tap, and {alone} without it"

@@ -1,5 +1,5 @@
-"""How long hiredis for Python takes: reads standard input in pieces of 16,384 bytes, gets each reply as Python objects,
-and prints their number."""
+"""Measures hiredis for Python: reads standard input in pieces of 16,384 bytes, gets each reply as a Python object, and
+prints the number of replies."""
 import sys
 
 import hiredis

@@ -1,11 +1,13 @@
-"""How long modules for Python take to read replies as Python objects, of which each has a Reader as hiredis has:
-python_readers.py times NAMES.. prints nanoseconds of the processor a reply, the least of turns taken one after another; and
-python_readers.py once NAME TEXT PIECE ROUNDS reads one text so often and prints the number of replies."""
+"""Measures Python modules that read replies as Python objects, each with a Reader like that of hiredis.
+
+python_readers.py times NAMES.. prints nanoseconds of processor time for a reply, the least of the turns that the modules
+make alternately. python_readers.py once NAME TEXT PIECE ROUNDS reads one text ROUNDS times and prints the number of
+replies."""
 import importlib
 import sys
 import time
 
-# hiredis' reader of Debian knows no maps: an array of twenty stands in the place of a map of ten pairs.
+# Debian's hiredis for Python knows no maps, so both modules read an array of twenty in place of a map of ten pairs.
 PAIRS = b"$8\r\nxxxxxxxx\r\n:7\r\n" * 10
 TEXTS = {
     "simple string `OK`": b"+OK\r\n",
@@ -17,13 +19,13 @@ TEXTS = {
     "array of three bulk strings of three bytes": b"*3\r\n" + b"$3\r\nxxx\r\n" * 3,
     "array of ten bulk strings of eight bytes and integers": b"*20\r\n" + PAIRS,
 }
-# The bytes of a piece; 0 for a reply a piece.
+# The bytes of a piece; 0 for one reply a piece.
 PIECES = (4096, 16384, 0)
 LEAST, TURNS = 262144, 40
 
 
 def pieces_of(value, size):
-    """The value over and over, in pieces of so many bytes, and how often it stands in them."""
+    """Returns pieces of this size with the value repeated, and the number of repetitions."""
     count = -(-LEAST // len(value))
     text = value * count
     size = size or len(value)

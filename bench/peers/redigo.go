@@ -1,4 +1,4 @@
-// How long redigo takes: receives the replies that stand on standard input, each as Go values, and prints their number.
+// Measures redigo: receives the replies on standard input as Go values, and prints the number of replies.
 package main
 
 import (
@@ -11,7 +11,7 @@ import (
 	"github.com/gomodule/redigo/redis"
 )
 
-// input is a connection of which standard input is what comes.
+// input is a connection that reads from standard input.
 type input struct{}
 
 func (input) Read(b []byte) (int, error)       { return os.Stdin.Read(b) }

@@ -1,5 +1,5 @@
-/* How long redis' own resp_parser.c takes: reads standard input whole, parses it reply by reply with callbacks that
- * count and build nothing, and prints the number of replies. */
+/* Measures redis' own resp_parser.c: reads all of standard input, parses it reply by reply with callbacks that build
+ * nothing, and prints the number of replies. */
 #include "resp_parser.h"
 #include <stdio.h>
 #include <stdlib.h>
