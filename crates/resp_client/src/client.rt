@@ -67,6 +67,19 @@ impl Client {
 
     /// Removes the first `count` bytes of [`Client::out`] after they were written. `count` is at
     /// most the length of [`Client::out`]. Does not copy the other bytes.
+    ///
+    /// # Examples
+    ///
+    /// From [samples](../../samples/src/pipelining.rt):
+    ///
+    /// ```rust
+    /// client.send(&Command::new(vec![in alloc; b"PING".to_vec(alloc)?]?)?)?;
+    /// // The socket accepted only the first four bytes.
+    /// client.sent(4);
+    /// println!(rt; "{}", client.out().escape_ascii())?;
+    /// ```
+    ///
+    /// This prints `$4\r\nPING\r\n`.
     pub fn sent(&mut self, count: usize)
         requires { count ≤ length (state_of self.old).out }
         ensures dropped { state_of self.new ≡ without_front count (state_of self.old) }

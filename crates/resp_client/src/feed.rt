@@ -111,9 +111,12 @@ impl Client {
     /// From [samples](../../samples/src/pipelining.rt):
     ///
     /// ```rust
+    /// let mut sink: Box<dyn PushSink> = Box::new(alloc, PushList::new(alloc))?;
     /// let heard = client.feed_with(b">1\r\n+tick\r\n", &mut sink)?;
     /// println!(rt; "{:?}, {} stored", heard.what, sink.shown().len())?;
     /// ```
+    ///
+    /// This prints `Shown, 1 stored`.
     pub fn feed_with(&mut self, piece: &[u8], sink: &mut Box<dyn PushSink>) -> Result<Heard, Fault>
         ensures heard { WhereTaken self.old (λ front. IfOk result (λ heard.
             HearsAndShows self.old self.new (pushes sink.old) (pushes sink.new) front piece.now

@@ -155,6 +155,8 @@ impl Client {
     /// println!(rt; "{number}, {} bytes to write", client.out().len())?;
     /// println!(rt; "{:?}", client.feed(b":8\r\n")?.what)?;
     /// ```
+    ///
+    /// This prints `1, 0 bytes to write` and `Reply { number: 1, value: Int(8) }`.
     pub fn expect(&mut self, asked: Option<Version>) -> Result<u64, SendError>
         ensures number { IfOk result (λ number. number ≡ queued (state_of self.old) + 1) }
         ensures waits { OnOk result (state_of self.new ≡ with_ask asked (state_of self.old)) }

@@ -3,6 +3,17 @@
 use thiserror::Error;
 
 /// Why a command is not queued. If several errors apply, it is the first in this order.
+///
+/// # Examples
+///
+/// From [samples](../../samples/src/pipelining.rt):
+///
+/// ```rust
+/// let words = vec![in alloc; b"SUBSCRIBE".to_vec(alloc)?, b"news".to_vec(alloc)?]?;
+/// println!(rt; "{:?}", client.send(&Command::new(words)?))?;
+/// ```
+///
+/// This prints `Err(BadCommand)`.
 #[derive(Clone, Copy, Debug, PartialEq, Eq, Error)]
 pub enum SendError {
     /// The command does not have exactly one reply, or it changes the version: HELLO, SUBSCRIBE,

@@ -45,6 +45,8 @@ pub struct AllFault {
 ///     println!(rt; "{error}")?;
 /// }
 /// ```
+///
+/// This prints `2` and `value 2: Syntax at byte 2 of the value`.
 pub fn decode_all(
     alloc: Global,
     version: Version,

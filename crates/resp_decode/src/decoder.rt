@@ -33,6 +33,22 @@ impl Decoder {
 
     /// Makes a decoder of this version with these limits, before the first value. Does not
     /// allocate.
+    ///
+    /// # Examples
+    ///
+    /// The default limits do not allow doubles. From [samples](../../samples/src/decoding.rt):
+    ///
+    /// ```rust
+    /// let mut decoder = Decoder::new(alloc, Version::Three, &Limits::standard());
+    /// if let Err(fault) = decoder.feed(b",3.14\r\n") {
+    ///     println!(rt; "{fault}")?;
+    /// }
+    /// let limits = Limits::standard().with_doubles(true);
+    /// let mut decoder = Decoder::new(alloc, Version::Three, &limits);
+    /// println!(rt; "{}", decoder.feed(b",3.14\r\n")?.value.is_some())?;
+    /// ```
+    ///
+    /// This prints `Double at byte 0 of the value` and `true`.
     pub fn new(alloc: Global, version: Version, limits: &Limits) -> Decoder
         ensures nothing_taken { HasTaken result [] }
         ensures rules { rules_of result ≡ rules_under version limits.now }
@@ -131,12 +147,12 @@ impl Decoder {
     /// ```rust
     /// let mut decoder = Decoder::new(alloc, Version::Two, &Limits::standard());
     /// let fed = decoder.feed(b"+OK\r\n$3\r\n")?;
-    /// println!(rt; "{} {:?}", fed.used, decoder.finish().is_ok())?;
+    /// println!(rt; "{} {:?}", fed.used, decoder.finish())?;
     /// let fed = decoder.feed(b"$3\r\n")?;
-    /// println!(rt; "{} {:?}", fed.used, decoder.finish().is_ok())?;
+    /// println!(rt; "{} {:?}", fed.used, decoder.finish())?;
     /// ```
     ///
-    /// This prints `5 true` and `4 false`.
+    /// This prints `5 Ok(())` and `4 Err(Fault { cause: Truncated, at: 4 })`.
     pub fn finish(&self) -> Result<(), Fault>
         ensures only_between_values { WhereTaken self.now (λ front. IsOk result ↔ (front ≡ [])) }
         ensures truncated_inside_a_value { WhereTaken self.now (λ front.

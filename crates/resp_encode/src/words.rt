@@ -77,6 +77,18 @@ fn checked_words_size(limits: &Limits, words: &[Vec<u8>]) -> Result<usize, Encod
 /// # Errors
 ///
 /// Those of [`encode_words`], except `OutOfMemory`.
+///
+/// # Examples
+///
+/// From [samples](../../samples/src/encoding.rt):
+///
+/// ```rust
+/// let limits = Limits::new(4, 64, 256)?;
+/// let words = [b"SET".to_vec(alloc)?, Vec::from_slice(alloc, &[b'x'; 65])?];
+/// println!(rt; "{:?}", check_words(&limits, words.as_slice()))?;
+/// ```
+///
+/// This prints `Err(OverLimits(Length))`.
 pub fn check_words(limits: &Limits, words: &[Vec<u8>]) -> Result<(), EncodeError>
     ensures verdict { IsVerdict (rules_under Two limits.now) (command_of (texts_of words.now))
         result }

@@ -16,6 +16,27 @@ use resp_value::kind::OpenKind;
 /// The ghost members state what a listener knows of the events, so that it does not have to store
 /// them. For example, a decoder states that it holds their values, a counter that it has their
 /// number, and a writer that their text was written after its earlier contents.
+///
+/// # Examples
+///
+/// A listener that counts integers and states nothing, from
+/// [samples](../../samples/src/scanning.rt). The functions for the other events return true.
+///
+/// ```rust
+/// impl Listener for Counter {
+///     ghost Origin = { Unit {0} };
+///
+///     ghost has_heard = { λ _ _ _. Unit {0} };
+///
+///     ghost has_stopped = { λ _ _ _. Unit {0} };
+///     // ..
+///     fn int(&mut self, _number: i64) -> bool {
+///         self.integers = self.integers.saturating_add(1);
+///         true
+///     }
+///     // ..
+/// }
+/// ```
 pub trait Listener {
     /// The state before the value began that the listener has to remember, such as the text that
     /// was already written.

@@ -177,6 +177,19 @@ impl Scanner {
     /// # Errors
     ///
     /// Those of [`Scanner::step`]. If there is no event, the slot is not called.
+    ///
+    /// # Examples
+    ///
+    /// A slot that keeps the length of a text, from [samples](../../samples/src/scanning.rt):
+    ///
+    /// ```rust
+    /// let mut scanner = Scanner::new(Version::Two, &Limits::standard());
+    /// let mut length = Length { bytes: 0 };
+    /// let used = scanner.step_into(b"$5\r\nhello\r\n", &mut length)?;
+    /// println!(rt; "{used:?} {}", length.bytes)?;
+    /// ```
+    ///
+    /// This prints `Some(11) 5`.
     #[inline(always)]
     pub fn step_into<S: Slot>(&mut self, piece: &[u8], slot: &mut S) -> Result<Option<usize>, Fault>
         // The slot has received the event of a step, or a text whose events come next.
@@ -208,12 +221,13 @@ impl Scanner {
     ///
     /// # Examples
     ///
-    /// A listener that counts members, from [samples](../../samples/src/scanning.rt):
+    /// A listener that counts integers, from [samples](../../samples/src/scanning.rt):
     ///
     /// ```rust
-    /// let mut counter = Counter { ints: 0 };
+    /// let mut scanner = Scanner::new(Version::Two, &Limits::standard());
+    /// let mut counter = Counter { integers: 0 };
     /// let scanned = scanner.scan(b"*2\r\n:1\r\n:2\r\n+next", &mut counter)?;
-    /// println!(rt; "{} {} {}", counter.ints, scanned.used, scanned.is_whole)?;
+    /// println!(rt; "{} {} {}", counter.integers, scanned.used, scanned.is_whole)?;
     /// ```
     ///
     /// This prints `2 12 true`.
@@ -276,10 +290,12 @@ impl Scanner {
     ///
     /// ```rust
     /// let mut scanner = Scanner::new(Version::Two, &Limits::standard());
-    /// let step = scanner.step(b"$5\r\nhel")?;
-    /// println!(rt; "{:?} {}", step.event, scanner.needed())?;
+    /// scanner.step(b"$5\r\n")?;
+    /// println!(rt; "{} {}", scanner.taken(), scanner.needed())?;
     /// println!(rt; "{:?}", scanner.finish())?;
     /// ```
+    ///
+    /// This prints `4 7` and `Err(Fault { cause: Truncated, at: 4 })`.
     pub fn finish(&self) -> Result<(), Fault>
         ensures may_end { WhereRead self.now (λ front given.
             IsOk result ↔ MayEnd (rules_of self.now) front) }
@@ -323,6 +339,19 @@ impl Scanner {
     ///
     /// `Busy` from the first byte of a value until its [`Event::Done`] was given, and after a
     /// fault. Then nothing is changed.
+    ///
+    /// # Examples
+    ///
+    /// From [samples](../../samples/src/scanning.rt):
+    ///
+    /// ```rust
+    /// let mut scanner = Scanner::new(Version::Two, &Limits::standard());
+    /// println!(rt; "{:?}", scanner.set_version(Version::Three))?;
+    /// scanner.step(b"*1\r\n")?;
+    /// println!(rt; "{:?}", scanner.set_version(Version::Two))?;
+    /// ```
+    ///
+    /// This prints `Ok(())` and `Err(Busy)`.
     pub fn set_version(&mut self, version: Version) -> Result<(), Busy>
         ensures only_between_values { WhereRead self.old (λ front given.
             IsOk result ↔ (front ≡ [])) }

@@ -273,6 +273,8 @@ impl<S: BuildHasher> Hub<S> {
     /// println!(rt; "{}", hub.out(id)?.escape_ascii())?;
     /// println!(rt; "{}", hub.is_closing(id)?)?;
     /// ```
+    ///
+    /// This prints `0 1`, `+PONG\r\n-ERR Protocol error: Syntax at byte 0\r\n` and `true`.
     pub fn bytes(&mut self, id: u64, piece: &[u8]) -> Result<Handled, HubError>
         // The queued replies, the store, the version and whether the session is closing are the
         // answer to the bytes read before of a value together with the piece.
@@ -323,14 +325,15 @@ impl<S: BuildHasher> Hub<S> {
     /// From [samples](../../samples/src/serving.rt):
     ///
     /// ```rust
-    /// let refused = hub.push(id, &[Value::Int(1)]);
-    /// println!(rt; "{refused:?}")?;
+    /// println!(rt; "{:?}", hub.push(id, &[Value::Int(1)]))?;
     /// hub.bytes(id, b"*2\r\n$5\r\nHELLO\r\n$1\r\n3\r\n")?;
     /// let length = hub.out(id)?.len();
     /// hub.sent(id, length)?;
     /// hub.push(id, &[Value::Int(1)])?;
     /// println!(rt; "{}", hub.out(id)?.escape_ascii())?;
     /// ```
+    ///
+    /// This prints `Err(NotInVersion)` and `>1\r\n:1\r\n`.
     pub fn push(&mut self, id: u64, items: &[Value]) -> Result<(), PushError>
         ensures queued { OnOk result (IfSome (seat_at self.old id) (λ (s : Seat).
             self.new ≡ seated self.old id

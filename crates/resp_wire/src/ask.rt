@@ -23,7 +23,7 @@ use resp_session::laws;
 use resp_value::device::{Sink, Source};
 
 /// Queues the requests, writes all waiting bytes, and reads until no command waits for a reply. The
-/// replies and pushes of each piece that was read are added to `asked`, even if the call fails.
+/// replies and pushes of each piece that was read are added to `heard`, even if the call fails.
 ///
 /// Each read and each write is a turn, and the call makes at most `turns` of them.
 ///
@@ -63,9 +63,9 @@ use resp_value::device::{Sink, Source};
 /// let mut reader = MemorySource::new(b"+OK\r\n:1\r\n", 4);
 /// let mut writer = MemorySink::new(alloc, 16, 256)?;
 /// let mut client = Client::new(alloc, &Limits::standard());
-/// let mut asked = Asked::new(alloc);
-/// ask(&mut reader, &mut writer, &mut client, requests, &mut asked, 100)?;
-/// for (number, value) in asked.replies.iter() {
+/// let mut heard = Asked::new(alloc);
+/// ask(&mut reader, &mut writer, &mut client, requests, &mut heard, 100)?;
+/// for (number, value) in heard.replies.iter() {
 ///     println!(rt; "reply {number}: {value:?}")?;
 /// }
 /// ```
