@@ -14,7 +14,8 @@ type TestWorld = World<MemoryLink, BuildHasherDefault<FoldHasher>>;
 /// More bytes than wait.
 const ALL: u64 = 1_000_000;
 
-/// Returns a key is read before it is set, and then all replies reach their clients.
+/// Returns events in which a key is read before it is set, and then all replies reach their
+/// clients.
 fn events(alloc: Global) -> Result<Vec<Event>, AllocError> {
     let mut events = Vec::new(alloc);
     events.push(Event::Send(1, command(alloc, &[b"SET", b"a", b"1"])?))?;

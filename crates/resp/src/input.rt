@@ -1,5 +1,5 @@
-//! Reads the script of `loop` from the input. Of a script that is too long only the part that
-//! decides the error is kept.
+//! Reads the script of `loop` from the input. If a script is too long, only the part that decides
+//! the error is kept.
 
 use resp_script::script::MOST_BYTES;
 use resp_tool::tool_error::ToolError;
@@ -44,9 +44,9 @@ impl Search {
     }
 }
 
-/// Returns the bytes of the input. Of a script that is too long it returns the first bytes, with a
-/// line that names clients if the input has such a line. This is enough to report the same first
-/// bad line as the whole script.
+/// Returns the bytes of the input. If a script is too long, returns its first bytes, with a line
+/// that names clients if the input has such a line. This is enough to report the same first bad
+/// line as the whole script.
 ///
 /// # Errors
 ///

@@ -369,7 +369,7 @@ impl Machine {
         }
     }
 
-    /// Passes the event that the result of a token stands for.
+    /// Passes the event for the result of a token.
     #[inline(always)]
     fn tell<L: Listener>(&mut self, rest: &[u8], taken: Taken, listener: &mut L) -> Turned
         requires { (s : Place) × IsSound s × (out_of taken self.old ≡ out_from s rest.now) }

@@ -1,4 +1,4 @@
-//! The command that a value received by a server stands for.
+//! The request that a value received by a server makes.
 
 ghost use Rattle.std.specs.Prelude.{◌≡◌, ◌<◌, [], ◌∷◌, ◌++◌, ◌↔◌, length, slice_index_or, map, None, IsSome, IfSome, IfNone};
 ghost use Rattle.std.specs.Bool.{MatchBool};

@@ -36,7 +36,7 @@ pub fn no_spelling_is_empty()
     ensures { NoSpellingIsEmpty }
 {}
 
-/// A spelling begins with `>` exactly where its value is a push.
+/// A spelling begins with `>` if and only if its value is a push.
 pub fn a_push_begins_with_its_byte()
     ensures { APushBeginsWithItsByte }
 {}
