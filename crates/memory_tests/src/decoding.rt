@@ -111,7 +111,7 @@ fn takes_head(alloc: Global, limits: &Limits, head: &[u8]) -> bool {
     goes_on(&mut decoder, head) && decoder.taken() == head.len() as u64
 }
 
-/// Returns the number in a head allocates nothing for members that have not been received, so no
+/// The number in a head allocates nothing for members that have not been received, so no
 /// failed allocation can affect it.
 pub(crate) fn of_heads(alloc: Global) -> Outcome {
     let Ok(great) = Limits::new(128, 536_870_912, 1_099_511_627_776) else {

@@ -100,7 +100,7 @@ fn hears(alloc: Global, client: &mut Client) -> Outcome {
     }
 }
 
-/// Returns the reply to HELLO was received whole.
+/// The reply to HELLO was received whole.
 fn hears_reply(alloc: Global, client: &mut Client) -> Outcome {
     match hear(client, REPLY) {
         Ok(What::Reply { number: 1, value }) => greeted(alloc, client.version(), &value),
@@ -182,7 +182,7 @@ fn goes_on(client: &mut Client, piece: &[u8]) -> bool {
     }
 }
 
-/// Returns a reply of one line does not allocate, so no failed allocation can affect it.
+/// A reply of one line does not allocate, so no failed allocation can affect it.
 fn hears_integer(client: &mut Client) -> bool {
     if !goes_on(client, b":") || !goes_on(client, b"7") || !goes_on(client, b"\r") {
         return false;

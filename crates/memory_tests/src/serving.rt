@@ -96,7 +96,7 @@ fn of_piece(alloc: Global, before: &[u8], piece: &[u8], after: &[Standing<'_>]) 
     }
 }
 
-/// Returns a session whose allocation failed does not exist, and its id is not used up.
+/// A session whose allocation failed does not exist, and its id is not used up.
 fn is_opened(hub: &mut TestHub) -> Outcome {
     match hub.open() {
         Ok(id) => Outcome::of(id == 1 && stands(hub, in_two(b"", b""), false)),
@@ -204,7 +204,7 @@ fn long_items(alloc: Global) -> Option<Vec<Value>> {
     values(alloc, &text).ok()
 }
 
-/// Returns a long push is queued whole or not at all.
+/// A long push is queued whole or not at all.
 pub(crate) fn of_push(alloc: Global) -> Outcome {
     let mut hub = new_hub(alloc);
     if !opens(&mut hub, HELLO) {
