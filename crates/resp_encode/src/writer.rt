@@ -24,7 +24,7 @@ use std::alloc::Global;
 ///
 /// # Errors
 ///
-/// - `Encode`: an error of [`encode`](crate::encode). Nothing was written.
+/// - `Refused`: an error of [`encode`](crate::encode). Nothing was written.
 /// - `Write`: a write failed or wrote no byte. The bytes written before are the first bytes of the
 ///   text, and the error has their number. No further write is made.
 ///

@@ -5,7 +5,9 @@ use resp_value::kind::OpenKind;
 /// An open aggregate.
 #[derive(Clone, Copy)]
 pub struct Frame {
+    /// Its kind.
     pub kind: OpenKind,
+    /// The members that it counts.
     pub shape: Shape,
 }
 

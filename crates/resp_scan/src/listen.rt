@@ -30,7 +30,9 @@ pub enum Turn {
 /// The number of bytes that one turn used, and its result.
 #[derive(Clone, Copy)]
 pub struct Turned {
+    /// The number of bytes used.
     pub used: usize,
+    /// The result.
     pub turn: Turn,
 }
 

@@ -261,8 +261,8 @@ impl Scanner {
             IfStopped result (StopsAfter (rules_of self.old) (L.has_stopped listener.new since)
             front piece.now)) }
 
-        // The value did not end before this call, so a call with a piece that is not empty uses at
-        // least one byte.
+        // If no value has ended in the bytes read before, a call with a piece that is not empty
+        // uses at least one byte.
         ensures uses_bytes { WhereHeard self.old (L.has_heard listener.old) (λ since front.
             HasNoValue front → IfOk result (λ scanned. 0 < length piece.now → 0 < scanned.used)) }
 
@@ -281,7 +281,8 @@ impl Scanner {
     ///
     /// # Errors
     ///
-    /// - `Truncated` inside a value, at the number of its bytes that were read.
+    /// - `Truncated` if a value has begun and some of its bytes are missing, at the number of its
+    ///   bytes that were read.
     /// - The earlier fault, after a byte was rejected or a listener has stopped.
     ///
     /// # Examples

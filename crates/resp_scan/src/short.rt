@@ -139,7 +139,9 @@ fn few_digits(piece: &[u8], first: u64) -> Option<Digits>
 /// A number of one or two digits after the first byte of a piece, and the index after its CR LF.
 #[derive(Clone, Copy)]
 pub struct Short {
+    /// The index after the CR LF.
     pub head: usize,
+    /// The number.
     pub count: u64,
 }
 

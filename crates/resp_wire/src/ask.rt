@@ -33,9 +33,11 @@ use resp_value::device::{Sink, Source};
 ///
 /// - If a request is refused, nothing was written, and the requests before it stay queued.
 /// - If a write fails or no turn is left for it, the bytes that were not written wait in the
-///   client.
+///   client, and nothing was read.
 /// - If a read fails, no turn is left for it, or the input ends, the replies received before are
 ///   added, and the other commands still wait.
+/// - If a byte received is not valid or was not requested, the replies before it are added, and the
+///   client returns the fault from then on.
 /// - After `OutOfMemory`, bytes that were read may be lost. Close the connection.
 ///
 /// # Examples

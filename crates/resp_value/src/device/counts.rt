@@ -6,7 +6,9 @@ ghost use Rattle.resp_value.specs.Devices.{count_after};
 /// Two counts. A count that has reached its greatest value stays there.
 #[derive(Clone, Copy, Debug, Default)]
 pub struct Counts {
+    /// The number of calls.
     pub calls: u64,
+    /// The number of calls that failed.
     pub failures: u64,
 }
 
