@@ -75,7 +75,8 @@ impl Client {
     /// ```rust
     /// client.send(&Command::new(vec![in alloc; b"PING".to_vec(alloc)?]?)?)?;
     /// // The socket accepted only the first four bytes.
-    /// client.sent(4);
+    /// let written = client.out().len().min(4);
+    /// client.sent(written);
     /// println!(rt; "{}", client.out().escape_ascii())?;
     /// ```
     ///
