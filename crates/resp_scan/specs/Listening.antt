@@ -17,8 +17,8 @@ use Rattle.resp_scan.specs.Kinds.{content_events, rules_of, text_kind_of}
 use Rattle.resp_scan.specs.Machine.Tokens.{Place}
 use Rattle.resp_scan.specs.Reading.{AreDue, BeginDue, Events, HasNoValue, HasRead, IsRefused, IsValue}
 
--- These events may be given: they are the first events of a front that is viable under some rules. There are no more of
--- them than there may be bytes, and they leave no more aggregates open than the limit of depth allows.
+-- These events may be given: they are a prefix of the events of a front that is viable under some rules. There are no
+-- more of them than there may be bytes, and they leave no more aggregates open than the limit of depth allows.
 pub record MayBeGiven (given : Events) : Type 0 where
   pub rules : Rules
   pub front : List ℕ

@@ -55,7 +55,7 @@ abbrev pub AreDue : List ℕ → Events → Type 0
 AreDue front es = (rest : List ℕ) (whole : Tree) → Spells whole (front ++ rest) →
     events_due (length front) (all_events whole) ≡ es
 
--- these are the first of the events so far of every tree whose text begins with the front
+-- these events are a prefix of the events so far of every tree whose text begins with the front
 abbrev pub BeginDue : List ℕ → Events → Type 0
 BeginDue front es = (rest : List ℕ) (whole : Tree) → Spells whole (front ++ rest) →
     (later : Events) × (events_due (length front) (all_events whole) ≡ es ++ later)

@@ -255,8 +255,8 @@ impl Scanner {
             IfRefused result (HearsRefusal (rules_of self.old) (L.has_heard listener.new since)
             front piece.now)) }
 
-        // The listener stopped. The events that it received are the first of those that were to
-        // come.
+        // The listener stopped. The events that it received are a prefix of the events of the bytes
+        // read.
         ensures stopped { WhereHeard self.old (L.has_heard listener.old) (λ since front.
             IfStopped result (StopsAfter (rules_of self.old) (L.has_stopped listener.new since)
             front piece.now)) }

@@ -64,7 +64,7 @@ pub record Agrees (w : World) (r : Replay) : Type 0 where
   pub replies : (i : ℕ) (c : Connection) → connection_at w.connections i ≡ Some c → sent_replies c ≡ r.replies i
 
 -- one order of all commands of this many clients: store, versions and replies are those of the commands run one after
--- another, and the commands of each client are the first of its requests
+-- another, and the commands of each client are a prefix of its requests
 pub record OneOrder (n : ℕ) (w : World) : Type 0 where
   pub count : length w.connections ≡ n
   pub clients : AllByRecursion (λ (c : ℕ × List (List ℕ)). (1 ≤ c.0) × (c.0 ≤ n)) w.order

@@ -36,7 +36,7 @@ PushesAreOfEvents = (limits : Bounds) (n : ℕ) (events : List WorldEvent) (w : 
     (run : Run limits (new_world n) events w) (i : ℕ) (c : Connection) → connection_at w.connections i ≡ Some c →
     pushes_of (values_of c.messages) ≡ pushed_in i limits (new_world n) events w run
 
--- the pushes that are shown to a client are the first of them
+-- the pushes that are shown to a client are a prefix of them
 abbrev pub ShownPushesAreOfEvents : Type 0
 ShownPushesAreOfEvents = (limits : Bounds) (n : ℕ) (events : List WorldEvent) (w : World)
     (run : Run limits (new_world n) events w) (i : ℕ) (c : Connection) → connection_at w.connections i ≡ Some c →

@@ -20,7 +20,7 @@ use Rattle.resp_session.specs.Runs.{Run}
 use Rattle.resp_session.specs.Orders.{OneOrder, IsBeginning, part_of_client}
 
 -- whatever happens, one order of all commands explains the store, the versions and the replies, and the commands of
--- each client in it are the first of its requests
+-- each client in it are a prefix of its requests
 abbrev pub AWorldHasOneOrder : Type 0
 AWorldHasOneOrder = (limits : Bounds) (n : ℕ) (events : List WorldEvent) (w : World) →
     Run limits (new_world n) events w →
@@ -43,7 +43,7 @@ ShownRepliesAreOfTheOrder = (limits : Bounds) (n : ℕ) (events : List WorldEven
     Run limits (new_world n) events w → (i : ℕ) (c : Connection) → connection_at w.connections i ≡ Some c →
     length (shown_replies c) ≤ length (part_of_client i w.order)
 
--- the messages shown to a client are the first of those that its session has sent
+-- the messages shown to a client are a prefix of those that its session has sent
 abbrev pub WhatIsShownWasSent : Type 0
 WhatIsShownWasSent = (c : Connection) → IsBeginning (shown_replies c) (replies_of (values_of c.messages)) ×
     IsBeginning (shown_pushes c) (pushes_of (values_of c.messages))

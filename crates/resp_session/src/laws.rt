@@ -115,7 +115,7 @@ pub fn hearing_goes_on()
 
 /// Whatever happens, there is one order of all commands that explains the store, the versions and
 /// the replies. Each command belongs to a client of the world and runs on the state that all
-/// commands before it left. The commands of each client in this order are the first of the commands
+/// commands before it left. The commands of each client in this order are a prefix of the commands
 /// that the client sent.
 pub fn a_world_has_one_order()
     ensures { AWorldHasOneOrder }
@@ -130,14 +130,14 @@ pub fn the_order_goes_on()
     ensures holds_what_is_shown { ShownRepliesAreOfTheOrder }
 {}
 
-/// The messages shown to a client are the first of those that its session has sent, for replies and
+/// The messages shown to a client are a prefix of those that its session has sent, for replies and
 /// for pushes separately.
 pub fn what_is_shown_was_sent()
     ensures { WhatIsShownWasSent }
 {}
 
 /// The pushes that a session has sent are, in order, those of the push events that were neither
-/// refused nor for a client that does not exist. The pushes shown to the client are the first of
+/// refused nor for a client that does not exist. The pushes shown to the client are a prefix of
 /// them.
 pub fn pushes_are_of_events()
     ensures sent { PushesAreOfEvents }
@@ -317,7 +317,8 @@ pub fn commands_that_are_not_sent()
     ensures another_word { is_unsent (codes "get" ∷ codes "reset" ∷ []) ≡ false }
 {}
 
-/// A client has no number left after 2^63 commands, which are numbered from 0 to 2^63 - 1.
+/// A client that has queued 0 to 2^63 - 1 commands has a number left for another command, and a
+/// client that has queued 2^63 commands has no number left.
 pub fn numbers_of_commands()
     ensures last { HasNumberAfter (2 ^ 63 - 1) }
     ensures none_left { HasNoNumberAfter (2 ^ 63) }

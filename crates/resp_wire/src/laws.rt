@@ -6,7 +6,7 @@ ghost use Rattle.resp_wire.specs.WorldOrders.{WhatIsShownHasOneOrder, WhatIsShow
 use resp_session::laws;
 
 /// There is one order of all commands that explains what a world shows: the store, the versions and
-/// the replies follow from it. The commands of each client in this order are the first of the
+/// the replies follow from it. The commands of each client in this order are a prefix of the
 /// commands that the client sent.
 pub fn what_a_world_shows_has_one_order()
     ensures { WhatIsShownHasOneOrder }
